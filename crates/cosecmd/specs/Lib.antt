@@ -1,0 +1,2 @@
+pub mod FedHmac
+pub mod Hmac

@@ -1,0 +1,6 @@
+//! The program `cosecmd`.
+#![tactic(auto)]
+
+mod hmac;
+
+fn main() {}
