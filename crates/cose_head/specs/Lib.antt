@@ -1,2 +1,5 @@
 pub mod Reason
 pub mod Head
+pub mod Item
+pub mod Reading
+pub mod Shortest

@@ -2,7 +2,13 @@
 #![tactic(auto)]
 
 mod head;
+mod item;
+mod kind;
 mod reason;
+mod refusal;
 
 pub use head::{Head, HeadStep, parse_head, write_head};
+pub use item::Span;
+pub use kind::Kind;
 pub use reason::Reason;
+pub use refusal::Refusal;

@@ -1,0 +1,102 @@
+-- Reading on examples, by computing.
+use Rattle.std.proofs.Common.{◌≡◌, ℕ, List, [], ◌∷◌, Ok, Err, Result, refl}
+use Rattle.cose_head.specs.declared.item.Span.{Span}
+use Rattle.cose_head.specs.declared.reason.Reason.{Reason}
+use Rattle.cose_head.specs.declared.reason.Reason.TheVariants.{Truncated, Reserved, Indefinite, BadSimple, TooDeep, PastRoom}
+use Rattle.cose_head.specs.declared.refusal.Refusal.{Refusal}
+use Rattle.cose_head.specs.Item.{depth_of}
+use Rattle.cose_head.specs.Reading.{read, head, span_of}
+
+unfoldable answer : List ℕ → ℕ → ℕ → Result Span Refusal
+unfolding read head depth_of
+answer bytes room depth = span_of (read depth (record { bytes = bytes; room = room; place = 0 }))
+
+abbrev whole : ℕ → ℕ → Result Span Refusal
+whole length depth = Ok (record { length = length; depth = depth })
+
+abbrev fault : Reason → ℕ → Result Span Refusal
+fault reason place = Err (record { reason = reason; place = place })
+
+no_room : answer [] 0 0 ≡ fault PastRoom 0
+unfolding answer
+no_room = refl
+
+no_bytes : answer [] 1 0 ≡ fault Truncated 0
+unfolding answer
+no_bytes = refl
+
+wide_argument : answer (0x18 ∷ 0 ∷ []) 2 0 ≡ whole 2 0
+unfolding answer
+wide_argument = refl
+
+nested : answer (0x81 ∷ 0x81 ∷ 0 ∷ []) 3 2 ≡ whole 3 2
+unfolding answer
+nested = refl
+
+nested_too_deep : answer (0x81 ∷ 0x81 ∷ 0 ∷ []) 3 1 ≡ fault TooDeep 1
+unfolding answer
+nested_too_deep = refl
+
+empty_array : answer (0x80 ∷ []) 1 1 ≡ whole 1 1
+unfolding answer
+empty_array = refl
+
+empty_array_too_deep : answer (0x80 ∷ []) 1 0 ≡ fault TooDeep 0
+unfolding answer
+empty_array_too_deep = refl
+
+bad_simple : answer (0xf8 ∷ 0x1f ∷ []) 2 0 ≡ fault BadSimple 0
+unfolding answer
+bad_simple = refl
+
+simple_32 : answer (0xf8 ∷ 0x20 ∷ []) 2 0 ≡ whole 2 0
+unfolding answer
+simple_32 = refl
+
+half_float : answer (0xf9 ∷ []) 3 0 ≡ fault Truncated 1
+unfolding answer
+half_float = refl
+
+float_past_room : answer (0xf9 ∷ []) 2 0 ≡ fault PastRoom 0
+unfolding answer
+float_past_room = refl
+
+reserved : answer (0x1c ∷ []) 1 0 ≡ fault Reserved 0
+unfolding answer
+reserved = refl
+
+endless_number : answer (0x1f ∷ []) 1 0 ≡ fault Reserved 0
+unfolding answer
+endless_number = refl
+
+endless_tag : answer (0xdf ∷ []) 1 0 ≡ fault Reserved 0
+unfolding answer
+endless_tag = refl
+
+endless_string : answer (0x5f ∷ []) 1 0 ≡ fault Indefinite 0
+unfolding answer
+endless_string = refl
+
+break_alone : answer (0xff ∷ []) 1 0 ≡ fault Indefinite 0
+unfolding answer
+break_alone = refl
+
+half_string : answer (0x44 ∷ 1 ∷ 2 ∷ []) 5 0 ≡ fault Truncated 3
+unfolding answer
+half_string = refl
+
+string_past_room : answer (0x44 ∷ 1 ∷ 2 ∷ []) 4 0 ≡ fault PastRoom 0
+unfolding answer
+string_past_room = refl
+
+missing_child : answer (0x82 ∷ 0 ∷ []) 3 1 ≡ fault Truncated 2
+unfolding answer
+missing_child = refl
+
+children_past_room : answer (0x82 ∷ 0 ∷ []) 2 1 ≡ fault PastRoom 0
+unfolding answer
+children_past_room = refl
+
+pairs_past_room : answer (0xbb ∷ 0x80 ∷ 0 ∷ 0 ∷ 0 ∷ 0 ∷ 0 ∷ 0 ∷ 0 ∷ []) 65535 1 ≡ fault PastRoom 0
+unfolding answer
+pairs_past_room = refl

@@ -1,0 +1,21 @@
+-- The spelling of an item in which every head has the least width that holds its argument (RFC 8949 section 4.2.1,
+-- RFC 9052 section 9). It is meant for items without simple values and floats, which structures to be signed don't have.
+use Rattle.std.specs.Prelude.{ℕ, ◌/◌, List, [], ◌++◌, length}
+use Rattle.cose_head.specs.Head.{shortest_head}
+use Rattle.cose_head.specs.Item.{Item, unsigned, negative, byte_string, text_string, array, map, tag, simple, float, Items, no_items, item, count_of}
+
+unfoldable mutual
+  pub shortest : Item → List ℕ
+  shortest (unsigned n) = shortest_head 0 n
+  shortest (negative n) = shortest_head 1 n
+  shortest (byte_string content) = shortest_head 2 (length content) ++ content
+  shortest (text_string content) = shortest_head 3 (length content) ++ content
+  shortest (array items) = shortest_head 4 (count_of items) ++ shortest_all items
+  shortest (map items) = shortest_head 5 (count_of items / 2) ++ shortest_all items
+  shortest (tag n content) = shortest_head 6 n ++ shortest content
+  shortest (simple n) = []
+  shortest (float width bits) = []
+
+  pub shortest_all : Items → List ℕ
+  shortest_all no_items = []
+  shortest_all (item first others) = shortest first ++ shortest_all others
