@@ -1,1 +1,2 @@
 pub mod HmacLemmas
+pub mod PhaseLemmas

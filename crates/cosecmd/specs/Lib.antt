@@ -1,2 +1,9 @@
 pub mod FedHmac
+pub mod FirstVerdict
 pub mod Hmac
+pub mod Intake
+pub mod MacStructure
+pub mod Machine
+pub mod Phases
+pub mod Sink
+pub mod Worked

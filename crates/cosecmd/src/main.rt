@@ -1,6 +1,7 @@
 //! The program `cosecmd`.
 #![tactic(auto)]
 
+mod first;
 mod hmac;
 
 fn main() {}

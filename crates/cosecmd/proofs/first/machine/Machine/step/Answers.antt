@@ -1,0 +1,8 @@
+use Rattle.std.proofs.lemmas.List.{append-nil}
+use Rattle.cosecmd.proofs.first.machine.Machine.step.Goals as goal
+
+pub returns-in-Front-clause-goes : goal.returns-in-Front-clause-goes
+returns-in-Front-clause-goes c = λ key so_far f. rw (c.in-Front.is, append-nil) (c.step.ensures.goes key so_far (rw c.in-Front.is at f))
+
+pub returns-in-PayloadHead-clause-goes : goal.returns-in-PayloadHead-clause-goes
+returns-in-PayloadHead-clause-goes c = λ key so_far f. rw (c.in-PayloadHead.is, append-nil) (c.step-in-PayloadHead.ensures.goes key so_far (rw c.in-PayloadHead.is at f))

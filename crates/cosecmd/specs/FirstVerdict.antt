@@ -1,0 +1,89 @@
+-- The verdict of the first path: a tagged COSE_Mac0 under HMAC 256/256, whose protected header is {1: 5} and whose
+-- unprotected header is empty (RFC 9052 section 6.2), in this profile's order of phases.
+use Rattle.std.specs.Prelude.{ℕ, ◌^◌, Bool, true, List, [], ◌∷◌, length, Option, None, Some, nat_le, ◌==◌, ◌&&◌, not, if◌then◌else◌}
+use Rattle.std.specs.Str.{bytes_eq}
+use Rattle.cose_head.specs.declared.head.Head.{Head}
+use Rattle.cose_head.specs.declared.kind.Kind.TheVariants.{Mac0}
+use Rattle.cose_head.specs.declared.reason.Reason.{Reason}
+use Rattle.cose_head.specs.declared.reason.Reason.TheVariants.{WrongType, Detached, BadAuthLength, BadAuth, PayloadTooLong}
+use Rattle.cosecmd.specs.declared.first.verdict.Alg.TheVariants.{Hmac256}
+use Rattle.cosecmd.specs.declared.first.verdict.Verdict.{Verdict}
+use Rattle.cosecmd.specs.declared.first.verdict.Verdict.TheVariants.{Authentic}
+use Rattle.cosecmd.specs.Hmac.{hmac}
+use Rattle.cosecmd.specs.MacStructure.{mac_structure}
+use Rattle.cosecmd.specs.Phases.{Reading, Phase, refused, with_front, with_head, with_string}
+
+-- tag 17, an array of four, the protected header {1: 5} as a byte string, an empty map
+abbrev pub front : List ℕ
+front = 0xd1 ∷ 0x84 ∷ 0x43 ∷ 0xa1 ∷ 0x01 ∷ 0x05 ∷ 0xa0 ∷ []
+
+-- the protected header, {1: 5}
+abbrev pub protected : List ℕ
+protected = 0xa1 ∷ 0x01 ∷ 0x05 ∷ []
+
+-- A tag of HMAC 256/256 has 32 bytes (RFC 9053 section 3.1).
+abbrev pub tag_length : ℕ
+tag_length = 32
+
+abbrev pub tag_of : List ℕ → List ℕ → List ℕ
+tag_of key payload = hmac key (mac_structure protected [] payload)
+
+abbrev pub authentic : List ℕ → ℕ → Reading
+authentic payload place = record {
+    verdict = Authentic Mac0 Hmac256 (length payload) place;
+    settled = true;
+    payload = payload;
+  }
+
+-- The comparison. Its fault stands at the head of the tag.
+abbrev pub comparison : List ℕ → List ℕ → ℕ → List ℕ → Phase
+comparison key payload at tag place bytes =
+    if bytes_eq tag (tag_of key payload) then authentic payload place else refused payload BadAuth at
+
+abbrev pub tag : List ℕ → List ℕ → ℕ → Phase
+tag key payload at = with_string (λ bytes. payload) tag_length (comparison key payload at)
+
+abbrev pub tag_fault : Head → Option Reason
+tag_fault head =
+    if not (head.major == 2) then Some WrongType else
+    if head.arg == tag_length then None else Some BadAuthLength
+
+abbrev pub past_tag_fault : Option Reason → List ℕ → List ℕ → ℕ → Phase
+past_tag_fault (Some reason) key payload at place bytes = refused payload reason at
+past_tag_fault None key payload at place bytes = tag key payload at place bytes
+
+abbrev pub past_tag_head : List ℕ → List ℕ → Head → ℕ → Phase
+past_tag_head key payload head = past_tag_fault (tag_fault head) key payload
+
+abbrev pub tag_head : List ℕ → List ℕ → Phase
+tag_head key payload = with_head payload (past_tag_head key payload)
+
+abbrev pub payload : List ℕ → ℕ → Phase
+payload key n = with_string (λ bytes. bytes) n (tag_head key)
+
+-- nil in the payload's place is a detached payload (RFC 9052 section 6.2)
+abbrev pub is_nil : Head → Bool
+is_nil head = head.major == 7 && (head.width == 1 && head.arg == 22)
+
+abbrev pub payload_fault : Head → Option Reason
+payload_fault head =
+    if is_nil head then Some Detached else
+    if not (head.major == 2) then Some WrongType else
+    if nat_le (2 ^ 56) head.arg then Some PayloadTooLong else None
+
+abbrev pub past_payload_fault : Option Reason → List ℕ → ℕ → ℕ → Phase
+past_payload_fault (Some reason) key n at place bytes = refused [] reason at
+past_payload_fault None key n at place bytes = payload key n place bytes
+
+abbrev pub past_payload_head : List ℕ → Head → ℕ → Phase
+past_payload_head key head = past_payload_fault (payload_fault head) key head.arg
+
+abbrev pub payload_head : List ℕ → Phase
+payload_head key = with_head [] (past_payload_head key)
+
+unfoldable pub first_reading : List ℕ → List ℕ → Reading
+first_reading key bytes = with_front front (payload_head key) 0 bytes
+
+-- The verdict of all the bytes of a message, under a key.
+abbrev pub first_verdict : List ℕ → List ℕ → Verdict
+first_verdict key bytes = (first_reading key bytes).verdict

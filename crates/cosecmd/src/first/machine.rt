@@ -1,0 +1,91 @@
+//! The verifier of the first path, one byte at a time.
+
+ghost use Rattle.std.specs.Prelude.{◌≡◌, ◌<◌, ◌≤◌, ◌+◌, ◌^◌, ℕ, List, [], ◌∷◌, ◌++◌, length, if◌then◌else◌};
+
+use crate::first::phases::{Front, Payload, PayloadHead, Tag, TagHead};
+use crate::first::verdict::Verdict;
+use crate::hmac::RunningHmac;
+use cose_head::{Reason, Refusal};
+
+/// The MAC_structure (RFC 9052 section 6.3) up to the head of the payload: an array of four, the text `MAC0`, the
+/// protected header `{1: 5}`, no external data.
+const STRUCTURE_BEFORE_PAYLOAD_HEAD: [u8; 11] = [
+    0x84, 0x64, 0x4d, 0x41, 0x43, 0x30, 0x43, 0xa1, 0x01, 0x05, 0x40,
+];
+
+/// A message of which bytes are still to come: the phase that they are in.
+#[derive(Drop)]
+pub enum Machine {
+    Front(Front),
+    PayloadHead(PayloadHead),
+    Payload(Payload),
+    TagHead(TagHead),
+    Tag(Tag),
+}
+
+/// What a byte comes to.
+#[derive(Drop)]
+pub enum Progress {
+    Open(Machine),
+    Settled(Verdict),
+}
+
+/// The message is refused, for this reason and at this place.
+pub fn refused(reason: Reason, place: u64) -> Progress
+    ensures { result ≡ Progress.Settled (Verdict.Refused (record { reason = reason; place = place })) }
+{
+    Progress::Settled(Verdict::Refused(Refusal { reason, place }))
+}
+
+impl Machine {
+    ghost use Rattle.cosecmd.specs.Machine.{Continues, Feeds, IfOpen, StandsFor, begun, budget, left_of, payload_byte, place_of};
+    ghost use Rattle.cosecmd.specs.FirstVerdict.{first_reading};
+
+    /// The machine before the first byte, under a key.
+    pub fn new(key: &[u8]) -> Self
+        ensures { StandsFor key.now [] result (first_reading key.now) }
+    {
+        let mut mac = RunningHmac::new(key);
+        mac.update(&STRUCTURE_BEFORE_PAYLOAD_HEAD);
+        Machine::Front(Front { position: 0, mac })
+    }
+
+    /// Whether the next byte is one of the payload.
+    pub fn is_in_payload(&self) -> bool
+        ensures { (byte : ℕ) → payload_byte self.now byte ≡ (if result then byte ∷ [] else []) }
+    {
+        matches!(self, Machine::Payload(_))
+    }
+
+    /// The machine after one more byte, or the verdict.
+    pub fn step(self, byte: u8) -> Progress
+        ensures goes { (key so_far : List ℕ) → Feeds key so_far self
+            → Continues key (so_far ++ payload_byte self byte) result (λ bytes. left_of key so_far self (byte ∷ bytes)) }
+        ensures nearer { IfOpen result (λ machine. budget machine < budget self) }
+    {
+        match self {
+            Machine::Front(front) => front.step(byte),
+            Machine::PayloadHead(head) => head.step(byte),
+            Machine::Payload(payload) => payload.step(byte),
+            Machine::TagHead(head) => head.step(byte),
+            Machine::Tag(tag) => tag.step(byte),
+        }
+    }
+
+    /// The verdict where the bytes end here.
+    pub fn truncated(&self) -> Verdict
+        ensures { result ≡ Verdict.Refused (record { reason = Reason.Truncated; place = place_of self.now }) }
+    {
+        let place = match self {
+            Machine::Front(front) => front.position as u64,
+            Machine::PayloadHead(head) => 7 + head.held.len() as u64,
+            Machine::Payload(payload) => payload.at + (payload.length - payload.left),
+            Machine::TagHead(head) => head.at + head.held.len() as u64,
+            Machine::Tag(tag) => tag.at + tag.held.len() as u64,
+        };
+        Verdict::Refused(Refusal {
+            reason: Reason::Truncated,
+            place,
+        })
+    }
+}

@@ -1,0 +1,309 @@
+//! The phases of a message, each with what it holds while bytes of it are to come.
+
+ghost use Rattle.std.specs.Prelude.{◌≡◌, ◌<◌, ◌≤◌, ◌+◌, ◌^◌, ℕ, List, [], ◌∷◌, ◌++◌, length};
+ghost use Rattle.arrayvec.specs.ArrayVec.{array_vec_len};
+
+use crate::first::machine::{Machine, Progress, refused};
+use crate::first::verdict::{Alg, Verdict};
+use crate::hmac::RunningHmac;
+use arrayvec::ArrayVec;
+use cose_head::{Head, HeadStep, Kind, Reason, parse_head, write_head};
+
+/// The bytes that a message begins with: tag 17, an array of four, the protected header `{1: 5}`, an empty map.
+const FRONT: [u8; 7] = [0xd1, 0x84, 0x43, 0xa1, 0x01, 0x05, 0xa0];
+
+/// The number of bytes of a tag of HMAC 256/256 (RFC 9053 section 3.1).
+const TAG: usize = 32;
+
+/// The bytes of the front.
+#[derive(Drop)]
+pub struct Front {
+    pub position: usize,
+    pub mac: RunningHmac,
+    ghost within: { position < 7 },
+}
+
+/// The head of the payload.
+#[derive(Drop)]
+pub struct PayloadHead {
+    pub held: ArrayVec<u8, 9>,
+    pub mac: RunningHmac,
+    ghost half: { array_vec_len held < 9 },
+}
+
+/// The payload, at least one byte of which is to come.
+#[derive(Drop)]
+pub struct Payload {
+    pub at: u64,
+    pub length: u64,
+    pub left: u64,
+    pub mac: RunningHmac,
+    ghost some_left: { 0 < left },
+    ghost within: { left ≤ length },
+    ghost limit: { length < 2 ^ 56 },
+    ghost early: { at ≤ 16 },
+}
+
+/// The head of the tag.
+#[derive(Drop)]
+pub struct TagHead {
+    pub at: u64,
+    pub held: ArrayVec<u8, 9>,
+    pub payload: u64,
+    pub mac: RunningHmac,
+    ghost half: { array_vec_len held < 9 },
+    ghost early: { at < 2 ^ 57 },
+}
+
+/// The tag.
+#[derive(Drop)]
+pub struct Tag {
+    pub head_at: u64,
+    pub at: u64,
+    pub held: ArrayVec<u8, 32>,
+    pub payload: u64,
+    pub mac: RunningHmac,
+    ghost short: { array_vec_len held < 32 },
+    ghost early: { at < 2 ^ 58 },
+}
+
+impl Front {
+    ghost use Rattle.cosecmd.specs.Machine.{Continues, FeedsFront, IfOpen, budget, left_in_front};
+
+    /// The next byte of the front.
+    pub fn step(self, byte: u8) -> Progress
+        ensures goes { (key so_far : List ℕ) → FeedsFront key so_far self
+            → Continues key so_far result (λ bytes. left_in_front key self (byte ∷ bytes)) }
+        ensures nearer { IfOpen result (λ machine. budget machine < budget (Machine.Front self)) }
+    {
+        let Front { position, mac } = self;
+        if byte != FRONT[position] {
+            return refused(Reason::WrongType, position as u64);
+        }
+        let position = position + 1;
+        if position < FRONT.len() {
+            return Progress::Open(Machine::Front(Front { position, mac }));
+        }
+        let held = ArrayVec::new();
+        Progress::Open(Machine::PayloadHead(PayloadHead { held, mac }))
+    }
+}
+
+impl PayloadHead {
+    ghost use Rattle.cosecmd.specs.Machine.{Continues, FeedsPayloadHead, IfOpen, budget, left_in_payload_head};
+
+    /// The next byte of the payload's head.
+    pub fn step(self, byte: u8) -> Progress
+        ensures goes { (key so_far : List ℕ) → FeedsPayloadHead key so_far self
+            → Continues key so_far result (λ bytes. left_in_payload_head key self (byte ∷ bytes)) }
+        ensures nearer { IfOpen result (λ machine. budget machine < budget (Machine.PayloadHead self)) }
+    {
+        let PayloadHead { mut held, mac } = self;
+        held.push(byte);
+        match parse_head(held.as_slice()) {
+            HeadStep::More(_) => Progress::Open(Machine::PayloadHead(PayloadHead { held, mac })),
+            HeadStep::Fault(reason) => refused(reason, FRONT.len() as u64),
+            HeadStep::Got(head, used) => Payload::after_head(head, used, mac),
+        }
+    }
+}
+
+impl Payload {
+    ghost use Rattle.cosecmd.specs.FedHmac.{Fed};
+    ghost use Rattle.cosecmd.specs.FirstVerdict.{past_payload_head, payload, payload_fault};
+    ghost use Rattle.cosecmd.specs.Machine.{Continues, FeedsPayload, IfOpen, after_payload, begun, budget, left_in_payload, opened};
+
+    /// What is wrong with a payload's head.
+    fn fault_of_head(head: &Head) -> Option<Reason>
+        ensures { result ≡ payload_fault head.now }
+    {
+        if head.major == 7 && head.width == 1 && head.arg == 22 {
+            return Some(Reason::Detached);
+        }
+        if head.major != 2 {
+            return Some(Reason::WrongType);
+        }
+        if head.arg >= 1 << 56 {
+            return Some(Reason::PayloadTooLong);
+        }
+        None
+    }
+
+    /// What follows the payload's head, which has `used` bytes.
+    fn after_head(head: Head, used: usize, mac: RunningHmac) -> Progress
+        requires { used ≤ 9 }
+        ensures goes { (key : List ℕ) → Fed mac key begun
+            → Continues key [] result (λ bytes. past_payload_head key head 7 (7 + used) bytes) }
+        ensures nearer { IfOpen result (λ machine. budget machine < 2 ^ 56 + after_payload) }
+    {
+        match Payload::fault_of_head(&head) {
+            Some(reason) => refused(reason, FRONT.len() as u64),
+            None => Payload::begin(FRONT.len() as u64 + used as u64, head.arg, mac),
+        }
+    }
+
+    /// The payload's first byte is at this place, or the tag's, where the payload is empty.
+    fn begin(at: u64, length: u64, mut mac: RunningHmac) -> Progress
+        requires early { at ≤ 16 }
+        requires limit { length < 2 ^ 56 }
+        ensures goes { (key : List ℕ) → Fed mac key begun
+            → Continues key [] result (λ bytes. payload key length at bytes) }
+        ensures nearer { IfOpen result (λ machine. budget machine < 2 ^ 56 + after_payload) }
+    {
+        mac.update(write_head(2, length).as_slice());
+        if length == 0 {
+            return TagHead::begin(at, 0, mac);
+        }
+        Progress::Open(Machine::Payload(Payload {
+            at,
+            length,
+            left: length,
+            mac,
+        }))
+    }
+
+    /// The next byte of the payload.
+    pub fn step(self, byte: u8) -> Progress
+        ensures goes { (key so_far : List ℕ) → FeedsPayload key so_far self
+            → Continues key (so_far ++ byte ∷ []) result (λ bytes. left_in_payload key so_far self (byte ∷ bytes)) }
+        ensures nearer { IfOpen result (λ machine. budget machine < budget (Machine.Payload self)) }
+    {
+        let Payload {
+            at,
+            length,
+            left,
+            mut mac,
+        } = self;
+        mac.update(&[byte]);
+        if left == 1 {
+            return TagHead::begin(at + length, length, mac);
+        }
+        Progress::Open(Machine::Payload(Payload {
+            at,
+            length,
+            left: left - 1,
+            mac,
+        }))
+    }
+}
+
+impl TagHead {
+    ghost use Rattle.cosecmd.specs.FedHmac.{Fed};
+    ghost use Rattle.cosecmd.specs.FirstVerdict.{protected, tag_head};
+    ghost use Rattle.cosecmd.specs.MacStructure.{mac_structure};
+    ghost use Rattle.cosecmd.specs.Machine.{Continues, FeedsTagHead, IfOpen, after_payload, budget, left_in_tag_head};
+
+    /// The tag's head begins at this place, behind a payload of so many bytes.
+    fn begin(at: u64, payload: u64, mac: RunningHmac) -> Progress
+        requires { at < 2 ^ 57 }
+        ensures goes { (key so_far : List ℕ) → length so_far ≡ payload → Fed mac key (mac_structure protected [] so_far)
+            → Continues key so_far result (λ bytes. tag_head key so_far at bytes) }
+        ensures nearer { IfOpen result (λ machine. budget machine ≤ after_payload) }
+    {
+        Progress::Open(Machine::TagHead(TagHead {
+            at,
+            held: ArrayVec::new(),
+            payload,
+            mac,
+        }))
+    }
+
+    /// The next byte of the tag's head.
+    pub fn step(self, byte: u8) -> Progress
+        ensures goes { (key so_far : List ℕ) → FeedsTagHead key so_far self
+            → Continues key so_far result (λ bytes. left_in_tag_head key so_far self (byte ∷ bytes)) }
+        ensures nearer { IfOpen result (λ machine. budget machine < budget (Machine.TagHead self)) }
+    {
+        let TagHead {
+            at,
+            mut held,
+            payload,
+            mac,
+        } = self;
+        held.push(byte);
+        match parse_head(held.as_slice()) {
+            HeadStep::More(_) => Progress::Open(Machine::TagHead(TagHead {
+                at,
+                held,
+                payload,
+                mac,
+            })),
+            HeadStep::Fault(reason) => refused(reason, at),
+            HeadStep::Got(head, used) => Tag::after_head(head, at, at + used as u64, payload, mac),
+        }
+    }
+}
+
+impl Tag {
+    ghost use Rattle.cosecmd.specs.FedHmac.{Fed};
+    ghost use Rattle.cosecmd.specs.FirstVerdict.{past_tag_head, protected, tag_fault};
+    ghost use Rattle.cosecmd.specs.MacStructure.{mac_structure};
+    ghost use Rattle.cosecmd.specs.Machine.{Continues, FeedsTag, IfOpen, budget, left_in_tag};
+
+    /// What is wrong with a tag's head.
+    fn fault_of_head(head: &Head) -> Option<Reason>
+        ensures { result ≡ tag_fault head.now }
+    {
+        if head.major != 2 {
+            return Some(Reason::WrongType);
+        }
+        if head.arg != TAG as u64 {
+            return Some(Reason::BadAuthLength);
+        }
+        None
+    }
+
+    /// What follows the tag's head. The tag's bytes begin at `at`.
+    fn after_head(head: Head, head_at: u64, at: u64, payload: u64, mac: RunningHmac) -> Progress
+        requires { at < 2 ^ 58 }
+        ensures goes { (key so_far : List ℕ) → length so_far ≡ payload → Fed mac key (mac_structure protected [] so_far)
+            → Continues key so_far result (λ bytes. past_tag_head key so_far head head_at at bytes) }
+        ensures nearer { IfOpen result (λ machine. budget machine ≤ 32) }
+    {
+        match Tag::fault_of_head(&head) {
+            Some(reason) => refused(reason, head_at),
+            None => Progress::Open(Machine::Tag(Tag {
+                head_at,
+                at,
+                held: ArrayVec::new(),
+                payload,
+                mac,
+            })),
+        }
+    }
+
+    /// The next byte of the tag. With the last one comes the verdict.
+    pub fn step(self, byte: u8) -> Progress
+        ensures goes { (key so_far : List ℕ) → FeedsTag key so_far self
+            → Continues key so_far result (λ bytes. left_in_tag key so_far self (byte ∷ bytes)) }
+        ensures nearer { IfOpen result (λ machine. budget machine < budget (Machine.Tag self)) }
+    {
+        let Tag {
+            head_at,
+            at,
+            mut held,
+            payload,
+            mac,
+        } = self;
+        held.push(byte);
+        if held.len() < TAG {
+            return Progress::Open(Machine::Tag(Tag {
+                head_at,
+                at,
+                held,
+                payload,
+                mac,
+            }));
+        }
+        let computed = mac.finish();
+        if held.as_slice() == computed.as_slice() {
+            return Progress::Settled(Verdict::Authentic {
+                kind: Kind::Mac0,
+                alg: Alg::Hmac256,
+                payload,
+                taken: at + TAG as u64,
+            });
+        }
+        refused(Reason::BadAuth, head_at)
+    }
+}
