@@ -1,2 +1,4 @@
 pub mod HmacLemmas
+pub mod MachineLemmas
 pub mod PhaseLemmas
+pub mod RunLemmas

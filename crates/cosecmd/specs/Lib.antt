@@ -1,9 +1,11 @@
 pub mod FedHmac
 pub mod FirstVerdict
+pub mod FirstRun
 pub mod Hmac
 pub mod Intake
 pub mod MacStructure
 pub mod Machine
 pub mod Phases
 pub mod Sink
+pub mod TakenByte
 pub mod Worked

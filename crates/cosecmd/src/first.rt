@@ -4,6 +4,7 @@ mod intake;
 mod machine;
 mod phases;
 mod sink;
+mod verify;
 mod verdict;
 
 pub use intake::{Intake, IntakeFault, ReadIntake, SliceIntake};

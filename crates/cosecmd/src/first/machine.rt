@@ -38,6 +38,7 @@ pub fn refused(reason: Reason, place: u64) -> Progress
 }
 
 impl Machine {
+    ghost use Rattle.cosecmd.specs.TakenByte.{payload_piece};
     ghost use Rattle.cosecmd.specs.Machine.{Continues, Feeds, IfOpen, StandsFor, begun, budget, left_of, payload_byte, place_of};
     ghost use Rattle.cosecmd.specs.FirstVerdict.{first_reading};
 
@@ -52,7 +53,7 @@ impl Machine {
 
     /// Whether the next byte is one of the payload.
     pub fn is_in_payload(&self) -> bool
-        ensures { (byte : ℕ) → payload_byte self.now byte ≡ (if result then byte ∷ [] else []) }
+        ensures { (byte : ℕ) → payload_byte self.now byte ≡ payload_piece result byte }
     {
         matches!(self, Machine::Payload(_))
     }
