@@ -3,9 +3,11 @@ pub mod FirstVerdict
 pub mod FirstRun
 pub mod Hmac
 pub mod Intake
+pub mod KeyWord
 pub mod MacStructure
 pub mod Machine
 pub mod Phases
+pub mod Printed
 pub mod Sink
 pub mod TakenByte
 pub mod Worked

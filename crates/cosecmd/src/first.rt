@@ -1,12 +1,10 @@
 //! The first path: one COSE_Mac0 message from its bytes to its verdict.
 
-mod intake;
+pub mod intake;
 mod machine;
 mod phases;
-mod sink;
+pub mod sink;
+pub mod verdict;
 mod verify;
-mod verdict;
 
-pub use intake::{Intake, IntakeFault, ReadIntake, SliceIntake};
-pub use sink::{Nothing, Sink, SinkFault, Store};
-pub use verdict::{Alg, Stop, Verdict};
+pub use verify::verify_first;

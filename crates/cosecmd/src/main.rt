@@ -1,7 +1,61 @@
-//! The program `cosecmd`.
+//! The program `cosecmd`: verifies COSE messages (RFC 9052).
 #![tactic(auto)]
 
+mod fault;
 mod first;
 mod hmac;
+mod key_word;
+mod reply;
+mod run;
+mod words;
 
-fn main() {}
+use run::run;
+use std::alloc::{AllocError, Global};
+use std::io::{ErrorKind, Write};
+use std::process::ExitCode;
+use std::rt::Env;
+use std::{env, io};
+
+/// The words of the command line, each of them text.
+fn owned_words(rt: &(impl Env + Alloc<A = Global>)) -> io::Result<Vec<String>> {
+    let args = env::args(rt)?;
+    let mut words = Vec::with_capacity(rt.alloc(), args.len())?;
+    for word in args {
+        words.push(word)?;
+    }
+    Ok(words)
+}
+
+/// The words as `run` takes them.
+fn borrowed_words(alloc: Global, owned: &[String]) -> Result<Vec<&str>, AllocError> {
+    let mut words = Vec::with_capacity(alloc, owned.len())?;
+    for word in owned {
+        words.push(word.as_str())?;
+    }
+    Ok(words)
+}
+
+/// Writes what is wrong with the words themselves.
+fn complain<W: Write>(output: &mut W, text: &str) -> ExitCode {
+    let _ = output.write_all(text.as_bytes());
+    ExitCode::from(2)
+}
+
+fn main(rt: HostRuntime) -> ExitCode {
+    let mut output = rt.stdout();
+    let owned = match owned_words(&rt) {
+        Ok(owned) => owned,
+        Err(error) if matches!(error.kind(), ErrorKind::InvalidData) => {
+            let text = "error: invalid UTF-8 was detected in one or more arguments\n";
+            return complain(&mut output, text);
+        }
+        Err(_) => return complain(&mut output, "fault memory\n"),
+    };
+    match borrowed_words(rt.alloc(), owned.as_slice()) {
+        Ok(words) => {
+            let status = run(rt.alloc(), words.as_slice(), &mut rt.stdin(), &mut output);
+            ExitCode::from(status)
+        }
+        Err(_) => complain(&mut output, "fault memory\n"),
+    }
+}

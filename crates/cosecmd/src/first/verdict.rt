@@ -1,12 +1,27 @@
 //! What came of a message.
 
+ghost use Rattle.std.specs.Prelude.{◌≡◌, Some};
+ghost use Rattle.cosecmd.specs.Printed.{number_of_alg, word_of_kind, verdict_line};
+
 use cose_head::{Kind, Refusal};
+use std::fmt;
 
 /// The algorithms of the first path (RFC 9053 section 3.1).
 #[derive(Clone, Copy, Debug, PartialEq, Eq)]
 pub enum Alg {
     /// HMAC 256/256: HMAC with SHA-256, uncut.
     Hmac256,
+}
+
+impl Alg {
+    /// The algorithm's number in the registry of COSE algorithms.
+    pub fn number(self) -> i32
+        ensures { result ≡ number_of_alg self }
+    {
+        match self {
+            Alg::Hmac256 => 5,
+        }
+    }
 }
 
 /// What came of a message.
@@ -34,4 +49,36 @@ pub enum Stop {
     Intake,
     /// The sink failed.
     Sink,
+}
+
+/// The word that the program prints for a kind.
+fn word_of(kind: Kind) -> &'static str
+    ensures { result.now ≡ word_of_kind kind }
+{
+    match kind {
+        Kind::Mac0 => "mac0",
+        Kind::Sign1 => "sign1",
+    }
+}
+
+impl fmt::Display for Verdict {
+    ghost output = { λ verdict. Some (verdict_line verdict) };
+
+    fn fmt<W: fmt::Write>(&self, f: &mut fmt::Formatter<W>) -> fmt::Result {
+        match *self {
+            Verdict::Authentic {
+                kind,
+                alg,
+                payload,
+                taken,
+            } => {
+                let kind = word_of(kind);
+                let alg = alg.number();
+                write!(f, "authentic {kind} alg {alg} payload {payload} taken {taken}")
+            }
+            Verdict::Refused(Refusal { reason, place }) => {
+                write!(f, "refused {reason} at {place}")
+            }
+        }
+    }
 }

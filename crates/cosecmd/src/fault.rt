@@ -1,0 +1,50 @@
+//! The faults of the line, the words, memory and the input, each with the line that is printed for it.
+
+use cose_head::{Reason, Refusal};
+use hex::FromHexError;
+use std::alloc::AllocError;
+use thiserror::Error;
+
+/// Why a run has no verdict. The program ends with status 2.
+#[derive(Debug, Drop, Error)]
+pub enum Fault {
+    /// A request for memory was refused.
+    #[error("fault memory")]
+    Memory,
+    /// The word of this option is no hexadecimal.
+    #[error("fault line {0}")]
+    Line(&'static str),
+    /// The key set is refused.
+    #[error("fault keys {reason} at {place}")]
+    Keys {
+        /// Why.
+        reason: Reason,
+        /// Where, in bytes from its first.
+        place: u64,
+    },
+    /// The input failed.
+    #[error("fault input")]
+    Input,
+}
+
+impl From<AllocError> for Fault {
+    fn from(_: AllocError) -> Fault {
+        Fault::Memory
+    }
+}
+
+impl Fault {
+    /// A refused key set.
+    pub fn keys(refusal: Refusal) -> Fault {
+        let Refusal { reason, place } = refusal;
+        Fault::Keys { reason, place }
+    }
+
+    /// The word of an option that couldn't be read as hexadecimal.
+    pub fn hexadecimal(option: &'static str, error: FromHexError) -> Fault {
+        match error {
+            FromHexError::OutOfMemory => Fault::Memory,
+            _ => Fault::Line(option),
+        }
+    }
+}
