@@ -1,2 +1,5 @@
 pub mod HeadLemmas
 pub mod WorkedItems
+pub mod Heads
+pub mod Measuring
+pub mod ItemSteps

@@ -3,3 +3,4 @@ pub mod Head
 pub mod Item
 pub mod Reading
 pub mod Shortest
+pub mod Measured

@@ -8,7 +8,7 @@ mod reason;
 mod refusal;
 
 pub use head::{Head, HeadStep, parse_head, write_head};
-pub use item::Span;
+pub use item::{Span, read_item};
 pub use kind::Kind;
 pub use reason::Reason;
 pub use refusal::Refusal;
