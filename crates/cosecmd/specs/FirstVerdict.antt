@@ -30,10 +30,10 @@ tag_of key payload = hmac key (mac_structure protected [] payload)
 
 abbrev pub authentic : List ℕ → ℕ → Reading
 authentic payload place = record {
-    verdict = Authentic Mac0 Hmac256 (length payload) place;
-    settled = true;
-    payload = payload;
-  }
+  verdict = Authentic Mac0 Hmac256 (length payload) place;
+  settled = true;
+  payload = payload;
+}
 
 -- The comparison. Its fault stands at the head of the tag.
 abbrev pub comparison : List ℕ → List ℕ → ℕ → List ℕ → Phase

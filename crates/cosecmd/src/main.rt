@@ -59,3 +59,6 @@ fn main(rt: HostRuntime) -> ExitCode {
         Err(_) => complain(&mut output, "fault memory\n"),
     }
 }
+
+#[cfg(test)]
+mod tests;

@@ -74,7 +74,10 @@ impl fmt::Display for Verdict {
             } => {
                 let kind = word_of(kind);
                 let alg = alg.number();
-                write!(f, "authentic {kind} alg {alg} payload {payload} taken {taken}")
+                write!(
+                    f,
+                    "authentic {kind} alg {alg} payload {payload} taken {taken}"
+                )
             }
             Verdict::Refused(Refusal { reason, place }) => {
                 write!(f, "refused {reason} at {place}")

@@ -8,8 +8,7 @@ loop-byte-init c = (xor_pad-nil c.args.pad, λ k le. refl)
 pub loop-byte-preserved : goal.loop-byte-preserved
 loop-byte-preserved c =
     let i = c.loop-byte.byte-index in
-    let held = c.loop-byte.invariant in
-    (
+    let held = c.loop-byte.invariant in (
       take-xor_pad-more c.args.pad c.loop-byte.block c.args.block.now i (omega arith) (omega arith) held.0 (held.1 i (omega arith)),
       after-set c.loop-byte.block c.args.block.now i _ held.1,
     )
