@@ -1,0 +1,5 @@
+pub mod Hash
+pub mod Hmac
+pub mod Algorithm
+pub mod Hasher
+pub mod Fed
