@@ -28,3 +28,9 @@ pub record FedDigest (running : Running) (alg : Alg) (message : List ℕ) : Type
   pub signature_algorithm : IsFalse (is_mac_of alg)
   pub is_digest : IsFalse (makes_mac running)
   pub held : Holds (hash_of alg) running.hasher message
+
+-- A piece was appended to whatever message was fed before.
+pub record Appends (old new : Running) (piece : List ℕ) : Type 0 where
+  pub kind : makes_mac new ≡ makes_mac old
+  pub mac : (alg : Alg) (key message : List ℕ) → FedMac old alg key message → FedMac new alg key (message ++ piece)
+  pub digest : (alg : Alg) (message : List ℕ) → FedDigest old alg message → FedDigest new alg (message ++ piece)

@@ -3,3 +3,4 @@ pub mod Hmac
 pub mod Algorithm
 pub mod Hasher
 pub mod Fed
+pub mod Structure

@@ -6,7 +6,11 @@ mod alg;
 mod hasher;
 mod hmac;
 mod running;
+mod structure;
+#[cfg(test)]
+mod tests;
 
 pub use alg::Alg;
 pub use cose_head::Kind;
 pub use running::Running;
+pub use structure::structure_front;

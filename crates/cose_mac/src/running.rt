@@ -21,7 +21,7 @@ pub struct Running {
 }
 
 impl Running {
-    ghost use Rattle.cose_mac.specs.Fed.{FedMac, FedDigest, makes_mac};
+    ghost use Rattle.cose_mac.specs.Fed.{FedMac, FedDigest, Appends, makes_mac};
 
     /// The MAC of the empty message under a key of any length (RFC 2104).
     ///
@@ -64,11 +64,7 @@ impl Running {
 
     /// Appends a piece, of any length, to the message.
     pub fn update(&mut self, piece: &[u8])
-        ensures kind { makes_mac self.new ≡ makes_mac self.old }
-        ensures mac { (alg : Alg) (key message : List ℕ)
-            → FedMac self.old alg key message → FedMac self.new alg key (message ++ piece.now) }
-        ensures digest { (alg : Alg) (message : List ℕ)
-            → FedDigest self.old alg message → FedDigest self.new alg (message ++ piece.now) }
+        ensures { Appends self.old self.new piece.now }
     {
         self.hasher.update(piece);
     }
