@@ -31,10 +31,15 @@ abbrev pub context_of : Kind → List ℕ
 context_of Mac0 = codes "MAC0"
 context_of Sign1 = codes "Signature1"
 
-abbrev pub string : ℕ → List ℕ → List ℕ
-string major content = shortest_head major (length content) ++ content
+-- a string of this major type: its shortest head, and its content
+abbrev pub encoded_string : ℕ → List ℕ → List ℕ
+encoded_string major content = shortest_head major (length content) ++ content
 
 -- all bytes of the structure before those of a payload of this length
 unfoldable pub structure_front : Kind → List ℕ → List ℕ → ℕ → List ℕ
 structure_front kind protected aad payload_length =
-    shortest_head 4 4 ++ (string 3 (context_of kind) ++ (string 2 protected ++ (string 2 aad ++ shortest_head 2 payload_length)))
+    shortest_head 4 4
+    ++ (encoded_string 3 (context_of kind)
+    ++ (encoded_string 2 protected
+    ++ (encoded_string 2 aad
+    ++ shortest_head 2 payload_length)))

@@ -8,7 +8,7 @@ use arrayvec::ArrayVec;
 use sha2::{Digest, Sha256, Sha384, Sha512};
 
 /// A hash function of FIPS 180-4.
-#[derive(Clone, Copy, Debug, PartialEq, Eq)]
+#[derive(Clone, Copy)]
 pub(crate) enum Hash {
     Sha256,
     Sha384,

@@ -1,6 +1,7 @@
 //! The structures that are authenticated (RFC 9052 sections 4.4 and 6.3).
 
 ghost use Rattle.std.specs.Prelude.{◌≡◌, ◌≤◌, ℕ, List, ◌++◌, length};
+ghost use Rattle.cose_head.specs.Head.{shortest_head};
 ghost use Rattle.cose_mac.specs.Fed.{Appends};
 ghost use Rattle.cose_mac.specs.Structure as spec;
 
@@ -23,12 +24,21 @@ fn context(kind: Kind) -> &'static [u8]
     }
 }
 
+/// Appends the shortest head of this major type and argument.
+fn update_head(into: &mut Running, major: u8, argument: u64)
+    requires { major ≤ 6 }
+    ensures { Appends into.old into.new (shortest_head major argument) }
+{
+    into.update(&write_head(major, argument));
+}
+
 /// Appends a string with its shortest head.
+#[tactic(auto, using(crate::proofs::Appending::append_both))]
 fn update_string(into: &mut Running, major: u8, content: &[u8])
     requires { major ≤ 6 }
-    ensures { Appends into.old into.new (spec.string major content.now) }
+    ensures { Appends into.old into.new (spec.encoded_string major content.now) }
 {
-    into.update(&write_head(major, content.len() as u64));
+    update_head(into, major, content.len() as u64);
     into.update(content);
 }
 
@@ -37,6 +47,7 @@ fn update_string(into: &mut Running, major: u8, content: &[u8])
 ///
 /// `protected` is the content of the protected bucket as received, or empty where the bucket has no
 /// parameters; `aad` is the externally supplied data; `payload_length` counts bytes.
+#[tactic(auto, using(crate::proofs::Front::front_with_payload))]
 pub fn structure_front(
     kind: Kind,
     protected: &[u8],
@@ -51,9 +62,9 @@ pub fn structure_front(
         → spec.structure_front kind protected.now aad.now payload_length ++ payload
         ≡ spec.structure_of kind protected.now aad.now payload }
 {
-    into.update(&write_head(ARRAY, 4));
+    update_head(into, ARRAY, 4);
     update_string(into, TEXT_STRING, context(kind));
     update_string(into, BYTE_STRING, protected);
     update_string(into, BYTE_STRING, aad);
-    into.update(&write_head(BYTE_STRING, payload_length));
+    update_head(into, BYTE_STRING, payload_length);
 }
