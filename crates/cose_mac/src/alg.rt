@@ -84,6 +84,7 @@ impl Alg {
         self.row().hash
     }
 
+    /// The algorithm's row of these tables.
     fn row(self) -> Row
         ensures { result ≡ row_of self }
     {

@@ -74,6 +74,7 @@ impl Hasher {
         ensures { (hash : Hash) (message : List ℕ) → Holds hash self message → result.items ≡ (function_of hash).digest message }
     {
         let mut digest = ArrayVec::new();
+        // No digest is longer than 64 bytes.
         let _ = match self {
             Hasher::Sha256(hasher) => digest.try_extend_from_slice(&hasher.finalize()),
             Hasher::Sha384(hasher) => digest.try_extend_from_slice(&hasher.finalize()),

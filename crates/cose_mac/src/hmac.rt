@@ -23,6 +23,7 @@ pub(crate) fn key_block(hash: Hash, key: &[u8]) -> Block
 {
     let length = hash.block_length();
     let mut block = Block::new();
+    // What is at most as long as a block fits into it.
     let _ = if length < key.len() {
         block.try_extend_from_slice(&hash.digest(key))
     } else {
