@@ -3,7 +3,6 @@
 
 mod fault;
 mod first;
-mod hmac;
 mod key_word;
 mod reply;
 mod run;

@@ -2,10 +2,11 @@
 
 use crate::first::intake::{ReadIntake, SliceIntake};
 use crate::first::sink::Store;
-use crate::first::verdict::{Alg, Verdict};
+use crate::first::verdict::Verdict;
 use crate::first::verify_first;
 use crate::tests::{BEFORE_TAG, KEY, STRUCTURE, hmac, joined, message};
 use cose_head::{Kind, Reason, Refusal};
+use cose_mac::Alg;
 use std::test::Fail;
 
 const fn authentic(taken: u64) -> Verdict {
