@@ -13,10 +13,11 @@ const KEY: &[u8] = b"Jefe";
 /// The key set of that key alone, in hexadecimal.
 const KEYS: &str = "a2010420444a656665";
 
-/// A message up to its tag: the payload is `hi`.
-const BEFORE_TAG: &[u8] = &[
-    0xd1, 0x84, 0x43, 0xa1, 0x01, 0x05, 0xa0, 0x42, 0x68, 0x69, 0x58, 0x20,
-];
+/// The bytes before the payload's head.
+const FRONT: &[u8] = &[0xd1, 0x84, 0x43, 0xa1, 0x01, 0x05, 0xa0];
+
+/// The payload `hi`, and the head of a tag of 32 bytes.
+const PAYLOAD: &[u8] = &[0x42, 0x68, 0x69, 0x58, 0x20];
 
 /// The MAC_structure of that message (RFC 9052 section 6.3).
 const STRUCTURE: &[u8] = &[
@@ -49,5 +50,5 @@ fn joined(alloc: Global, pieces: &[&[u8]]) -> Result<Vec<u8>, AllocError> {
 /// The message of 44 bytes.
 fn message(alloc: Global) -> Result<Vec<u8>, AllocError> {
     let tag = hmac(alloc, KEY, STRUCTURE)?;
-    joined(alloc, &[BEFORE_TAG, &tag])
+    joined(alloc, &[FRONT, PAYLOAD, &tag])
 }

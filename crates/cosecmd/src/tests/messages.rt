@@ -4,9 +4,11 @@ use crate::first::intake::{ReadIntake, SliceIntake};
 use crate::first::sink::Store;
 use crate::first::verdict::Verdict;
 use crate::first::verify_first;
-use crate::tests::{BEFORE_TAG, KEY, STRUCTURE, hmac, joined, message};
+use crate::tests::{FRONT, KEY, STRUCTURE, hmac, joined, message};
 use cose_head::{Kind, Reason, Refusal};
 use cose_mac::Alg;
+use std::alloc::{AllocError, Global};
+use std::process::Abort;
 use std::test::Fail;
 
 const fn authentic(taken: u64) -> Verdict {
@@ -35,85 +37,68 @@ fn takes_the_message_in_any_pieces(rt: HostRuntime) -> Result<(), Fail> {
     Ok(())
 }
 
+/// The message with these bytes behind its front gets this verdict, and so many of its bytes are taken.
+fn answers(
+    rt: &(impl Abort + Alloc<A = Global>),
+    payload: &[u8],
+    tag: &[u8],
+    verdict: Verdict,
+    taken: usize,
+) -> Result<(), AllocError> {
+    let bytes = joined(rt.alloc(), &[FRONT, payload, tag])?;
+    let mut reader = bytes.as_slice();
+    let mut store = Store::<16>::new();
+    let answer = verify_first(KEY, &mut ReadIntake::new(&mut reader), &mut store);
+    assert_eq!(rt; answer, Ok(verdict), "{bytes:?}");
+    assert_eq!(rt;
+        bytes.len(),
+        reader.len().saturating_add(taken),
+        "{bytes:?}"
+    );
+    Ok(())
+}
+
+/// The tag with its last byte changed.
+fn changed(mut tag: [u8; 32]) -> [u8; 32] {
+    tag[31] ^= 1;
+    tag
+}
+
+/// The tag without its last byte.
+fn cut(tag: &[u8; 32]) -> &[u8] {
+    &tag[..31]
+}
+
 #[test]
-fn answers_each_message(rt: HostRuntime) -> Result<(), Fail> {
-    let alloc = rt.alloc();
-    let tag = hmac(alloc, KEY, STRUCTURE)?;
-    let whole = joined(alloc, &[BEFORE_TAG, &tag])?;
-    let (uncut, _) = whole.split_at(43);
-    let front = &BEFORE_TAG[..7];
-    let rows: [(&str, &[&[u8]], Verdict, usize); 13] = [
-        ("whole", &[BEFORE_TAG, &tag], authentic(44), 44),
-        (
-            "payload head of three bytes",
-            &[front, b"\x59\x00\x02hi\x58\x20", &tag],
-            authentic(46),
-            46,
-        ),
-        (
-            "last byte changed",
-            &[uncut, &[!tag[31]]],
-            refused(Reason::BadAuth, 10),
-            44,
-        ),
-        (
-            "tag of eight bytes",
-            &[front, b"\x42hi\x48", &tag],
-            refused(Reason::BadAuthLength, 10),
-            11,
-        ),
-        (
-            "a byte behind it",
-            &[BEFORE_TAG, &tag, b"\xff"],
-            authentic(44),
-            44,
-        ),
-        ("no byte", &[], refused(Reason::Truncated, 0), 0),
-        (
-            "nine bytes",
-            &[front, b"\x42h"],
-            refused(Reason::Truncated, 9),
-            9,
-        ),
-        (
-            "indefinite length",
-            &[front, b"\x5f\xff"],
-            refused(Reason::Indefinite, 7),
-            8,
-        ),
-        (
-            "2^56 bytes",
-            &[front, b"\x5b\x01\0\0\0\0\0\0\0\0"],
-            refused(Reason::PayloadTooLong, 7),
-            16,
-        ),
-        (
-            "nil",
-            &[front, b"\xf6\x00"],
-            refused(Reason::Detached, 7),
-            8,
-        ),
-        ("text", &[front, b"\x61a"], refused(Reason::WrongType, 7), 8),
-        (
-            "nil in two bytes",
-            &[front, b"\xf8\x16\x00"],
-            refused(Reason::BadSimple, 7),
-            9,
-        ),
-        (
-            "another tag",
-            &[b"\xd2\x84"],
-            refused(Reason::WrongType, 0),
-            1,
-        ),
-    ];
-    for (name, pieces, verdict, taken) in rows {
-        let bytes = joined(alloc, pieces)?;
-        let mut reader = bytes.as_slice();
-        let mut store = Store::<16>::new();
-        let answer = verify_first(KEY, &mut ReadIntake::new(&mut reader), &mut store);
-        assert_eq!(rt; answer, Ok(verdict), "{name}");
-        assert_eq!(rt; bytes.len(), taken + reader.len(), "{name}");
-    }
+fn compares_tags(rt: HostRuntime) -> Result<(), Fail> {
+    let tag = hmac(rt.alloc(), KEY, STRUCTURE)?;
+    let other = changed(tag);
+    let payload = b"\x42hi\x58\x20";
+    answers(&rt, payload, &tag, authentic(44), 44)?;
+    answers(&rt, b"\x59\x00\x02hi\x58\x20", &tag, authentic(46), 46)?;
+    answers(&rt, payload, &other, refused(Reason::BadAuth, 10), 44)?;
+    answers(
+        &rt,
+        b"\x42hi\x48",
+        &tag,
+        refused(Reason::BadAuthLength, 10),
+        11,
+    )?;
+    answers(&rt, payload, cut(&tag), refused(Reason::Truncated, 43), 43)?;
+    let mut longer = Vec::from_slice(rt.alloc(), &tag)?;
+    longer.push(0xff)?;
+    answers(&rt, payload, longer.as_slice(), authentic(44), 44)?;
+    Ok(())
+}
+
+#[test]
+fn refuses_other_payloads(rt: HostRuntime) -> Result<(), Fail> {
+    let long = b"\x5b\x01\0\0\0\0\0\0\0\0";
+    answers(&rt, b"\x42h", b"", refused(Reason::Truncated, 9), 9)?;
+    answers(&rt, b"\x5f\xff", b"", refused(Reason::Indefinite, 7), 8)?;
+    answers(&rt, long, b"", refused(Reason::PayloadTooLong, 7), 16)?;
+    answers(&rt, b"\xf6\x00", b"", refused(Reason::Detached, 7), 8)?;
+    answers(&rt, b"\x61a", b"", refused(Reason::WrongType, 7), 8)?;
+    answers(&rt, b"\xf8\x16\x00", b"", refused(Reason::BadSimple, 7), 9)?;
     Ok(())
 }
