@@ -1,8 +1,8 @@
 //! Verdicts, and how many bytes they took.
 
 use crate::first::intake::{ReadIntake, SliceIntake};
-use crate::first::sink::Store;
-use crate::first::verdict::Verdict;
+use crate::first::sink::{Sink, Store};
+use crate::first::verdict::{Stop, Verdict};
 use crate::first::verify_first;
 use crate::tests::{FRONT, KEY, STRUCTURE, hmac, joined, message};
 use cose_head::{Kind, Reason, Refusal};
@@ -100,5 +100,20 @@ fn refuses_other_payloads(rt: HostRuntime) -> Result<(), Fail> {
     answers(&rt, b"\xf6\x00", b"", refused(Reason::Detached, 7), 8)?;
     answers(&rt, b"\x61a", b"", refused(Reason::WrongType, 7), 8)?;
     answers(&rt, b"\xf8\x16\x00", b"", refused(Reason::BadSimple, 7), 9)?;
+    Ok(())
+}
+
+#[test]
+fn stops_where_the_store_is_full(rt: HostRuntime) -> Result<(), Fail> {
+    let bytes = message(rt.alloc())?;
+    let mut store = Store::<1>::new();
+    let mut intake = SliceIntake::new(bytes.as_slice(), 64);
+    let answer = verify_first(KEY, &mut intake, &mut store);
+    assert_eq!(rt; answer, Err(Stop::Sink));
+    assert_eq!(rt; store.bytes(), b"h".as_slice());
+    // Once it failed it takes nothing, not even a piece that would fit.
+    assert!(rt; Store::<4>::new().put(b"four").is_ok());
+    assert!(rt; store.put(b"i").is_err());
+    assert_eq!(rt; store.bytes(), b"h".as_slice());
     Ok(())
 }
