@@ -4,6 +4,7 @@
 mod head;
 mod item;
 mod kind;
+pub mod laws;
 mod reason;
 mod refusal;
 
