@@ -13,3 +13,6 @@ pub use item::{Span, read_item};
 pub use kind::Kind;
 pub use reason::Reason;
 pub use refusal::Refusal;
+
+#[cfg(test)]
+mod tests;
