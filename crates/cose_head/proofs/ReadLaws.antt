@@ -5,14 +5,14 @@ use Rattle.cose_head.specs.declared.reason.Reason.TheVariants.{Truncated}
 use Rattle.cose_head.specs.declared.refusal.Refusal.{Refusal}
 use Rattle.cose_head.specs.Item.{Item}
 use Rattle.cose_head.specs.Reading.{Left, read}
-use Rattle.cose_head.specs.Laws.{AreBytes, IsSpelled, IsSettled, IsStep, IsRefusal, more, more_after}
+use Rattle.cose_head.specs.Laws.{IsSpelled, IsSettled, IsStep, IsRefusal, more, more_after}
 use Rattle.cose_head.proofs.Steps.{read_steps}
 use Rattle.cose_head.proofs.Stable.{read_same}
 use Rattle.cose_head.proofs.Sound.{read_sound}
 use Rattle.cose_head.proofs.Complete.{complete}
 
-pub sound : (depth : ℕ) (l : Left) (content : Item) (rest : Left) → AreBytes l.bytes → read depth l ≡ Ok (content, rest) → IsSpelled depth l content rest
-sound depth l content rest bytes e = rw e at (read_sound depth l bytes)
+pub sound : (depth : ℕ) (l : Left) (content : Item) (rest : Left) → read depth l ≡ Ok (content, rest) → IsSpelled depth l content rest
+sound depth l content rest e = rw e at (read_sound depth l)
 
 pub spelled_is_read : (depth : ℕ) (l : Left) (content : Item) (rest : Left) → IsSpelled depth l content rest → read depth l ≡ Ok (content, rest)
 spelled_is_read depth l content rest s = complete content depth l rest s.0 s.1

