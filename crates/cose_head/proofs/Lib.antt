@@ -10,4 +10,5 @@ pub mod Sound
 pub mod Complete
 pub mod BareHeads
 pub mod ShortHeads
+pub mod ShortItems
 pub mod ReadLaws

@@ -1,5 +1,5 @@
 -- What holds of reading, in the terms of the grammar.
-use Rattle.std.specs.Prelude.{◌≡◌, ℕ, ◌+◌, ◌<◌, ◌≤◌, ◌^◌, ◌↔◌, List, [], ◌∷◌, ◌++◌, length, false, Ok, Err, ⊤}
+use Rattle.std.specs.Prelude.{◌≡◌, ℕ, ◌+◌, ◌-◌, ◌<◌, ◌≤◌, ◌^◌, ◌↔◌, List, [], ◌∷◌, ◌++◌, length, take, false, Ok, Err, ⊤}
 use Rattle.cose_head.specs.declared.head.Head.{Head}
 use Rattle.cose_head.specs.declared.head.HeadStep.TheVariants.{Got, More}
 use Rattle.cose_head.specs.declared.reason.Reason.TheVariants.{Truncated}
@@ -65,6 +65,15 @@ pub record SpellsHead (bytes : List ℕ) (h : Head) (used : ℕ) : Type 0 where
 abbrev pub ReadIsSpelled : Type 0
 ReadIsSpelled = (depth : ℕ) (l : Left) (content : Item) (rest : Left) → (read depth l ≡ Ok (content, rest)) ↔ IsSpelled depth l content rest
 
+-- So one list begins with at most one item.
+abbrev pub OneItem : Type 0
+OneItem = (a b rest others : List ℕ) (content other : Item) → Spells a content → Spells b other → a ++ rest ≡ b ++ others → (a ≡ b) × (content ≡ other)
+
+-- And it is the same item before other bytes, in another room, at another place and with more nesting allowed.
+abbrev pub ReadElsewhere : Type 0
+ReadElsewhere = (depth deeper : ℕ) (l rest m last : Left) (content : Item) → depth ≤ deeper → read depth l ≡ Ok (content, rest) →
+    Between m last (λ part. part ≡ take (rest.place - l.place) l.bytes) → read deeper m ≡ Ok (content, last)
+
 -- An answer that isn't Truncated stays when bytes follow.
 abbrev pub ReadStays : Type 0
 ReadStays = (depth : ℕ) (l : Left) (bytes : List ℕ) → IsSettled (read depth l) → read depth (more bytes l) ≡ more_after bytes (read depth l)
@@ -93,11 +102,11 @@ abbrev pub HeadIsSpelled : Type 0
 HeadIsSpelled = (bytes : List ℕ) (h : Head) (used : ℕ) → (bare_head bytes ≡ Got h used) ↔ SpellsHead bytes h used
 
 abbrev pub HeadStays : Type 0
-HeadStays = (bytes more : List ℕ) → IsWhole (bare_head bytes) → bare_head (bytes ++ more) ≡ bare_head bytes
+HeadStays = (bytes next : List ℕ) → IsWhole (bare_head bytes) → bare_head (bytes ++ next) ≡ bare_head bytes
 
 -- Fewer bytes than More says leave it incomplete.
 abbrev pub HeadWants : Type 0
-HeadWants = (bytes more : List ℕ) (wanted : ℕ) → bare_head bytes ≡ More wanted → length more < wanted → IsMore (bare_head (bytes ++ more))
+HeadWants = (bytes next : List ℕ) (wanted : ℕ) → bare_head bytes ≡ More wanted → length next < wanted → IsMore (bare_head (bytes ++ next))
 
 -- The byte that completes a half head is its last.
 abbrev pub HeadEnds : Type 0
