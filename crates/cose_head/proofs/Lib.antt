@@ -12,3 +12,4 @@ pub mod BareHeads
 pub mod ShortHeads
 pub mod ShortItems
 pub mod ReadLaws
+pub mod Spans
