@@ -49,16 +49,21 @@ truncated_has_room depth l refusal e short =
     s.ended short
 
 -- an item at the front of a list, in all of it
-whole_list : (part rest : List ℕ) (content : Item) → Spells part content → IsSpelled (depth_of content) (left_of (part ++ rest) (length (part ++ rest)) 0) content (left_of rest (length rest) (length part))
-whole_list part rest content s = (record { part = part; whole = refl; room = length-append part rest; place = sym (zero-add (length part)); is_part = s }, omega arith)
+whole_list : (part rest : List ℕ) (content : Item) → Spells part content →
+    IsSpelled (depth_of content) (left_of (part ++ rest) (length (part ++ rest)) 0) content (left_of rest (length rest) (length part))
+whole_list part rest content s =
+    (record { part = part; whole = refl; room = length-append part rest; place = sym (zero-add (length part)); is_part = s }, omega arith)
 
-pub one_item : (a b rest others : List ℕ) (content other : Item) → Spells a content → Spells b other → a ++ rest ≡ b ++ others → (a ≡ b) × (content ≡ other)
+pub one_item : (a b rest others : List ℕ) (content other : Item) → Spells a content → Spells b other → a ++ rest ≡ b ++ others → (a ≡ b)
+    × (content ≡ other)
 one_item a b rest others content other s t e =
     let depth : ℕ = max (depth_of content) (depth_of other) in
     let p = whole_list a rest content s in
     let q = whole_list b others other t in
-    let f : read depth (left_of (a ++ rest) (length (a ++ rest)) 0) ≡ Ok (content, left_of rest (length rest) (length a)) = spelled_is_read depth _ content _ (p.0, omega arith) in
-    let g : read depth (left_of (b ++ others) (length (b ++ others)) 0) ≡ Ok (other, left_of others (length others) (length b)) = spelled_is_read depth _ other _ (q.0, omega arith) in
+    let f : read depth (left_of (a ++ rest) (length (a ++ rest)) 0) ≡ Ok (content, left_of rest (length rest) (length a)) =
+    spelled_is_read depth _ content _ (p.0, omega arith) in
+    let g : read depth (left_of (b ++ others) (length (b ++ others)) 0) ≡ Ok (other, left_of others (length others) (length b)) =
+    spelled_is_read depth _ other _ (q.0, omega arith) in
     let same : (content, left_of rest (length rest) (length a)) ≡ (other, left_of others (length others) (length b)) =
     same_ok _ _ (sym f ∙ ap (λ bytes. read depth (left_of bytes (length bytes) 0)) e ∙ g) in
     let n : length a ≡ length b = ap (λ x. x.1.place) same in
@@ -70,6 +75,8 @@ read_elsewhere depth deeper l rest m last content deep e p =
     let s = sound depth l content rest e in
     let place = s.0.place in
     let n : rest.place - l.place ≡ length s.0.part = omega arith in
-    let part : p.part ≡ s.0.part = p.is_part ∙ ap (λ k. take k l.bytes) n ∙ ap (take (length s.0.part)) s.0.whole ∙ take-append_seam s.0.part rest.bytes in
+    let part : p.part ≡ s.0.part = p.is_part ∙ ap (λ k. take k l.bytes) n ∙ ap (take (length s.0.part)) s.0.whole
+    ∙ take-append_seam s.0.part rest.bytes in
     let shallow = s.1 in
-    spelled_is_read deeper m content last (record { part = p.part; whole = p.whole; room = p.room; place = p.place; is_part = rw part s.0.is_part }, omega arith)
+    spelled_is_read deeper m content last
+    (record { part = p.part; whole = p.whole; room = p.room; place = p.place; is_part = rw part s.0.is_part }, omega arith)

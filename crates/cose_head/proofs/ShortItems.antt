@@ -12,9 +12,21 @@ mutual
   shortest_spells (unsigned n) fits = short_head_is 0 n (omega arith) fits
   shortest_spells (negative n) fits = short_head_is 1 n (omega arith) fits
   shortest_spells (byte_string content) fits =
-      record { head = shortest_head 2 (length content); rest = content; whole = refl; is_head = short_head_is 2 (length content) (omega arith) fits; is_rest = refl }
+      record {
+        head = shortest_head 2 (length content);
+        rest = content;
+        whole = refl;
+        is_head = short_head_is 2 (length content) (omega arith) fits;
+        is_rest = refl;
+      }
   shortest_spells (text_string content) fits =
-      record { head = shortest_head 3 (length content); rest = content; whole = refl; is_head = short_head_is 3 (length content) (omega arith) fits; is_rest = refl }
+      record {
+        head = shortest_head 3 (length content);
+        rest = content;
+        whole = refl;
+        is_head = short_head_is 3 (length content) (omega arith) fits;
+        is_rest = refl;
+      }
   shortest_spells (array items) fits =
       record {
         head = shortest_head 4 (count_of items);
@@ -38,10 +50,17 @@ mutual
         },
       )
   shortest_spells (tag n content) fits =
-      record { head = shortest_head 6 n; rest = shortest content; whole = refl; is_head = short_head_is 6 n (omega arith) fits.0; is_rest = shortest_spells content fits.1 }
+      record {
+        head = shortest_head 6 n;
+        rest = shortest content;
+        whole = refl;
+        is_head = short_head_is 6 n (omega arith) fits.0;
+        is_rest = shortest_spells content fits.1;
+      }
   shortest_spells (simple n) fits = absurd fits
   shortest_spells (float width bits) fits = absurd fits
 
   pub shortest_all_spells : (items : Items) → HaveShortest items → SpellsAll (shortest_all items) items
   shortest_all_spells no_items fits = refl
-  shortest_all_spells (item first others) fits = (shortest first, shortest_all others, refl, shortest_spells first fits.0, shortest_all_spells others fits.1)
+  shortest_all_spells (item first others) fits =
+      (shortest first, shortest_all others, refl, shortest_spells first fits.0, shortest_all_spells others fits.1)

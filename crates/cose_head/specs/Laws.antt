@@ -67,7 +67,8 @@ ReadIsSpelled = (depth : ℕ) (l : Left) (content : Item) (rest : Left) → (rea
 
 -- So one list begins with at most one item.
 abbrev pub OneItem : Type 0
-OneItem = (a b rest others : List ℕ) (content other : Item) → Spells a content → Spells b other → a ++ rest ≡ b ++ others → (a ≡ b) × (content ≡ other)
+OneItem = (a b rest others : List ℕ) (content other : Item) → Spells a content → Spells b other → a ++ rest ≡ b ++ others → (a ≡ b)
+    × (content ≡ other)
 
 -- And it is the same item before other bytes, in another room, at another place and with more nesting allowed.
 abbrev pub ReadElsewhere : Type 0
@@ -110,7 +111,8 @@ HeadWants = (bytes next : List ℕ) (wanted : ℕ) → bare_head bytes ≡ More 
 
 -- The byte that completes a half head is its last.
 abbrev pub HeadEnds : Type 0
-HeadEnds = (bytes : List ℕ) (byte : ℕ) (h : Head) (used : ℕ) → IsMore (bare_head bytes) → bare_head (bytes ++ byte ∷ []) ≡ Got h used → used ≡ length bytes + 1
+HeadEnds = (bytes : List ℕ) (byte : ℕ) (h : Head) (used : ℕ) → IsMore (bare_head bytes) → bare_head (bytes ++ byte ∷ []) ≡ Got h used →
+    used ≡ length bytes + 1
 
 -- The shortest head of an argument is a head of it, whatever follows.
 abbrev pub ShortestIsHead : Type 0
