@@ -3,3 +3,13 @@ pub mod WorkedItems
 pub mod Heads
 pub mod Measuring
 pub mod ItemSteps
+pub mod HeadCases
+pub mod Steps
+pub mod Stable
+pub mod Sound
+pub mod Complete
+pub mod BareHeads
+pub mod ShortHeads
+pub mod ShortItems
+pub mod ReadLaws
+pub mod Spans

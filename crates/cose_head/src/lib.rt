@@ -4,6 +4,7 @@
 mod head;
 mod item;
 mod kind;
+pub mod laws;
 mod reason;
 mod refusal;
 
@@ -12,3 +13,6 @@ pub use item::{Span, read_item};
 pub use kind::Kind;
 pub use reason::Reason;
 pub use refusal::Refusal;
+
+#[cfg(test)]
+mod tests;
