@@ -3,3 +3,5 @@ pub mod Head
 pub mod Item
 pub mod Reading
 pub mod Shortest
+pub mod Walking
+pub mod Walker

@@ -6,9 +6,11 @@ mod item;
 mod kind;
 mod reason;
 mod refusal;
+mod walker;
 
 pub use head::{Head, HeadStep, parse_head, write_head};
 pub use item::Span;
 pub use kind::Kind;
 pub use reason::Reason;
 pub use refusal::Refusal;
+pub use walker::{Step, Walker};

@@ -1,0 +1,122 @@
+-- Reading an item byte by byte: what is open where the bytes end, and what is left to be read.
+use Rattle.std.specs.Prelude.{◌≡◌, ℕ, zero, suc, ◌+◌, ◌-◌, ◌≤◌, Bool, true, false, List, [], ◌∷◌, ◌++◌, length, Option, Some, None, Result, Ok, Err, nat_lt, if◌then◌else◌}
+use Rattle.cose_head.specs.declared.head.Head.{Head}
+use Rattle.cose_head.specs.declared.head.HeadStep.{HeadStep}
+use Rattle.cose_head.specs.declared.head.HeadStep.TheVariants.{Got, More, Fault}
+use Rattle.cose_head.specs.declared.reason.Reason.{Reason}
+use Rattle.cose_head.specs.declared.reason.Reason.TheVariants.{Truncated}
+use Rattle.cose_head.specs.declared.refusal.Refusal.{Refusal}
+use Rattle.cose_head.specs.declared.walker.Follows.{Follows}
+use Rattle.cose_head.specs.declared.walker.Follows.TheVariants.{Nothing, Content, Children}
+use Rattle.cose_head.specs.Head.{bare_head}
+use Rattle.cose_head.specs.Item.{Item}
+use Rattle.cose_head.specs.Reading.{Left, Outcome, Reader, refuse, after, head, is_string, is_parent, child_count, read, read_all}
+
+-- What is open where the bytes end: how many arrays, maps and tags whose head is there and whose end isn't,
+-- and how many bytes are to come of a string whose head is there.
+pub record Open : Type 0 where
+  pub items : ℕ
+  pub content : ℕ
+
+abbrev pub nothing_open : Open
+nothing_open = record { items = 0; content = 0 }
+
+abbrev pub in_parent : Open → Open
+in_parent o = record { items = 1 + o.items; content = o.content }
+
+-- Of the children of an open item those that are whole are past. The first that isn't says what is open in it.
+abbrev pub open_child : Outcome Item → Open → (Left → Open) → Open
+open_child (Ok found) inside next = next found.1
+open_child (Err refusal) inside next = in_parent inside
+
+abbrev pub open_all : Reader Item → (Left → Open) → ℕ → Left → Open
+open_all one inside zero l = nothing_open
+open_all one inside (suc n) l = open_child (one l) (inside l) (open_all one inside n)
+
+abbrev pub past_head : (ℕ → Left → Open) → Outcome Head → Open
+past_head children (Err refusal) = nothing_open
+past_head children (Ok h) =
+    if is_string h.0 then record { items = 0; content = h.0.arg - length h.1.bytes } else
+    if is_parent h.0 then children (child_count h.0) h.1 else nothing_open
+
+-- What is open of an item where read says that the bytes end too early.
+unfoldable pub open_in : ℕ → Left → Open
+open_in zero l = past_head (λ n rest. nothing_open) (head l)
+open_in (suc depth) l = past_head (open_all (read depth) (open_in depth)) (head l)
+
+-- Reading without the value: where the item ends, or why it is refused, and what is open where the bytes end.
+pub record Walk : Type 0 where
+  pub end : Result Left Refusal
+  pub opened : Open
+
+abbrev pub end_of : {A : Type 0} → Outcome A → Result Left Refusal
+end_of (Ok found) = Ok found.1
+end_of (Err refusal) = Err refusal
+
+abbrev pub ends : Left → Walk
+ends l = record { end = Ok l; opened = nothing_open }
+
+unfoldable pub walk : ℕ → Left → Walk
+walk depth l = record { end = end_of (read depth l); opened = open_in depth l }
+
+unfoldable pub walk_all : ℕ → ℕ → Left → Walk
+walk_all depth n l = record { end = end_of (read_all (read depth) n l); opened = open_all (read depth) (open_in depth) n l }
+
+-- A string of which n bytes are to come.
+abbrev pub walk_content : ℕ → Left → Walk
+walk_content n l = record {
+  end = if nat_lt (length l.bytes) n then Err (record { reason = Truncated; place = l.place + length l.bytes }) else Ok (after n l);
+  opened = record { items = 0; content = n - length l.bytes };
+}
+
+-- What is left of an open item: of the child that is being read, and then of the children after it.
+abbrev pub past_child : Result Left Refusal → Open → (Left → Walk) → Walk
+past_child (Ok l) opened next = next l
+past_child (Err refusal) opened next = record { end = Err refusal; opened = in_parent opened }
+
+abbrev pub within : Walk → (Left → Walk) → Walk
+within child next = past_child child.end child.opened next
+
+-- What is left of the open items after the child that is being read in the innermost. The counts are the numbers of
+-- children that haven't begun, the outermost item first.
+unfoldable pub finish : ℕ → List ℕ → Walk → Walk
+finish depth [] child = child
+finish depth (n ∷ counts) child = within (finish (depth - 1) counts child) (walk_all (depth - 1) n)
+
+-- What is left of the item that is being read: of its string, or of its head, of which some bytes are there.
+abbrev pub rest_of_item : ℕ → List ℕ → ℕ → Left → Walk
+rest_of_item depth half zero l = walk depth (record { bytes = half ++ l.bytes; room = l.room; place = l.place })
+rest_of_item depth half (suc n) l = walk_content (suc n) l
+
+-- No byte of a head is there, or some and not all.
+abbrev pub is_more : HeadStep → Bool
+is_more (Got h used) = false
+is_more (More wanted) = true
+is_more (Fault reason) = false
+
+abbrev pub is_half : List ℕ → Bool
+is_half bytes = is_more (bare_head bytes)
+
+-- The head at the front of an item, whatever follows it.
+abbrev pub IsHeadAt : List ℕ → ℕ → ℕ → Head → Type 0
+IsHeadAt first room place h = (bytes : List ℕ) → head (record { bytes = first ++ bytes; room = room; place = place })
+    ≡ Ok (h, record { bytes = bytes; room = room - h.width; place = place + h.width })
+
+-- What the first bytes of an item come to, whatever follows them: its head, the head's fault, or nothing yet.
+abbrev pub HeadSoFar : List ℕ → ℕ → Result (Option Head) Reason → Type 0
+HeadSoFar first room (Ok (Some h)) = (length first ≡ h.width) × (h.width ≤ room) × ((place : ℕ) → IsHeadAt first room place h)
+HeadSoFar first room (Ok None) = (is_half first ≡ true) × ((place : ℕ)
+    → head (record { bytes = first; room = room; place = place }) ≡ refuse Truncated (place + length first))
+HeadSoFar first room (Err reason) = (reason ≡ Truncated → ⊥) × ((place : ℕ) (bytes : List ℕ)
+    → head (record { bytes = first ++ bytes; room = room; place = place }) ≡ refuse reason place)
+
+-- The bytes of a head that are kept: all of them until it is whole.
+abbrev pub half_after : Result (Option Head) Reason → List ℕ → List ℕ
+half_after (Ok None) first = first
+half_after (Ok (Some h)) first = []
+half_after (Err reason) first = []
+
+abbrev pub FollowsHead : Head → Follows → Type 0
+FollowsHead h Nothing = (is_string h ≡ false) × (is_parent h ≡ false)
+FollowsHead h (Content n) = (is_string h ≡ true) × (h.arg ≡ n)
+FollowsHead h (Children n) = (is_string h ≡ false) × (is_parent h ≡ true) × (child_count h ≡ n)
