@@ -1,8 +1,10 @@
 pub mod HeadLemmas
 pub mod WorkedItems
+pub mod Heads
+pub mod Measuring
+pub mod ItemSteps
+pub mod HalfHeads
 pub mod Walks
-pub mod HeadsByByte
 pub mod WalkedHeads
-pub mod Steps
-pub mod Leading
-pub mod Putting
+pub mod WalkSteps
+pub mod WalkerSteps

@@ -9,7 +9,7 @@ use Rattle.cose_head.specs.declared.refusal.Refusal.{Refusal}
 use Rattle.cose_head.specs.Item.{Item, no_items, item, tag}
 use Rattle.cose_head.specs.Reading.{Left, Outcome, Reader, refuse, after, is_string, is_parent, child_count, string_item, list_item, children, string, body, read, read_all, head, ◌>>=◌}
 use Rattle.cose_head.specs.Walking.{Open, nothing_open, open_all, past_head, open_in, end_of, ends, walk, walk_all, walk_content}
-use Rattle.cose_head.proofs.HeadsByByte.{lt_true, lt_false}
+use Rattle.cose_head.proofs.HalfHeads.{lt_true, lt_false}
 use Rattle.cose_head.proofs.Walks.{end_of-made}
 
 abbrev pub refused : Reason → ℕ → Result Left Refusal

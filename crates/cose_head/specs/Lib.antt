@@ -3,5 +3,7 @@ pub mod Head
 pub mod Item
 pub mod Reading
 pub mod Shortest
+pub mod Measured
+pub mod HalfHead
 pub mod Walking
 pub mod Walker

@@ -1,5 +1,5 @@
 -- What a walker stands for.
-use Rattle.std.specs.Prelude.{◌≡◌, ℕ, ◌+◌, ◌-◌, ◌<◌, List, [], ◌++◌, length, Result, Ok, Err}
+use Rattle.std.specs.Prelude.{◌≡◌, ℕ, ◌+◌, ◌-◌, ◌<◌, ◌≤◌, List, [], ◌++◌, length, Result, Ok, Err}
 use Rattle.cose_head.specs.declared.reason.Reason.{Reason}
 use Rattle.cose_head.specs.declared.reason.Reason.TheVariants.{Truncated}
 use Rattle.cose_head.specs.declared.walker.Walker.{Walker}
@@ -8,12 +8,9 @@ use Rattle.cose_head.specs.declared.walker.Progress.TheVariants.{Open, Whole}
 use Rattle.cose_head.specs.declared.walker.Step.{Step}
 use Rattle.cose_head.specs.declared.walker.Step.TheVariants.{Going, Done, Fault}
 use Rattle.cose_head.specs.Item.{Item}
+use Rattle.cose_head.specs.Measured.{left_of}
 use Rattle.cose_head.specs.Reading.{Left, Outcome}
 use Rattle.cose_head.specs.Walking.{Walk, walk, finish, rest_of_item}
-
--- All that a reader is given: bytes from place 0 on, and a room.
-abbrev pub given : ℕ → List ℕ → Left
-given room bytes = record { bytes = bytes; room = room; place = 0 }
 
 -- The last answer.
 abbrev pub last_step : {D : ℕ} → Walker D → Step
@@ -23,15 +20,15 @@ last_step w = w.step
 abbrev pub go_on : ℕ → List ℕ → List ℕ → ℕ → Left → Walk
 go_on depth counts half string l = finish depth counts (rest_of_item (depth - length counts) half string l)
 
-abbrev pub left_of : {D : ℕ} → Walker D → List ℕ → Left
-left_of w bytes = record { bytes = bytes; room = w.room; place = w.place }
+abbrev pub left_at : {D : ℕ} → Walker D → List ℕ → Left
+left_at w bytes = left_of bytes w.room w.place
 
 unfoldable pub resume : {D : ℕ} → Walker D → List ℕ → Walk
-resume {D} w bytes = go_on D w.counts.items w.half.items w.string (left_of w bytes)
+resume {D} w bytes = go_on D w.counts.items w.half.items w.string (left_at w bytes)
 
--- The bytes that were put end too early.
+-- The bytes that were put end too early, and there is room for a further byte.
 abbrev pub Waits : {D : ℕ} → Walker D → Type 0
-Waits w = (resume w []).end ≡ Err (record { reason = Truncated; place = w.place + length w.half.items })
+Waits w = ((resume w []).end ≡ Err (record { reason = Truncated; place = w.place + length w.half.items })) × (length w.half.items < w.room)
 
 -- Some bytes were passed over, and nothing else has changed.
 pub record Passes {D : ℕ} (old new : Walker D) (count : ℕ) : Type 0 where
@@ -50,12 +47,12 @@ pub record Stands {D : ℕ} (rest at : ℕ) (w : Walker D) : Type 0 where
 -- What is left before a byte is put is what the walker stands for after it.
 abbrev pub Leads : {D : ℕ} → (List ℕ → Walk) → Result Progress Reason → Walker D → Type 0
 Leads before (Ok Open) w = ((bytes : List ℕ) → before bytes ≡ resume w bytes) × Waits w
-Leads before (Ok Whole) w = (length w.half.items ≡ 0) × ((bytes : List ℕ) → (before bytes).end ≡ Ok (left_of w bytes))
+Leads before (Ok Whole) w = (length w.half.items ≡ 0) × ((bytes : List ℕ) → (before bytes).end ≡ Ok (left_at w bytes))
 Leads before (Err reason) w = (reason ≡ Truncated → ⊥) × ((bytes : List ℕ) → (before bytes).end ≡ Err (record { reason = reason; place = w.place }))
 
 -- The walker was put these bytes: with whatever bytes follow, reading them all is what is left after them.
 pub record HasPut (room : ℕ) (put : List ℕ) {D : ℕ} (w : Walker D) : Type 0 where
-  pub rest : (bytes : List ℕ) → walk D (given room (put ++ bytes)) ≡ resume w bytes
+  pub rest : (bytes : List ℕ) → walk D (left_of (put ++ bytes) room 0) ≡ resume w bytes
   pub taken : w.place + length w.half.items ≡ length put
   pub left : w.place + w.room ≡ room
   pub waits : 0 < room → Waits w
@@ -63,5 +60,11 @@ pub record HasPut (room : ℕ) (put : List ℕ) {D : ℕ} (w : Walker D) : Type 
 -- Which answer of reading a step tells.
 abbrev pub Answers : ℕ → List ℕ → Step → Outcome Item → Type 0
 Answers room bytes Going read = read ≡ Err (record { reason = Truncated; place = length bytes })
-Answers room bytes Done read = (t : Item) × (read ≡ Ok (t, record { bytes = []; room = room - length bytes; place = length bytes }))
+Answers room bytes Done read = (found : Item) × (read ≡ Ok (found, left_of [] (room - length bytes) (length bytes)))
 Answers room bytes (Fault refusal) read = (read ≡ Err refusal) × (refusal.reason ≡ Truncated → ⊥)
+
+-- A place stands among the bytes, a whole item has fitted in the room, and there is room for more where more is wanted.
+abbrev pub StandsAmong : ℕ → List ℕ → Step → Type 0
+StandsAmong room bytes Going = length bytes < room
+StandsAmong room bytes Done = length bytes ≤ room
+StandsAmong room bytes (Fault refusal) = refusal.place ≤ length bytes

@@ -1,16 +1,13 @@
 -- Reading an item byte by byte: what is open where the bytes end, and what is left to be read.
-use Rattle.std.specs.Prelude.{◌≡◌, ℕ, zero, suc, ◌+◌, ◌-◌, ◌≤◌, Bool, true, false, List, [], ◌∷◌, ◌++◌, length, Option, Some, None, Result, Ok, Err, nat_lt, if◌then◌else◌}
+use Rattle.std.specs.Prelude.{◌≡◌, ℕ, zero, suc, ◌+◌, ◌-◌, true, false, List, [], ◌∷◌, ◌++◌, length, Result, Ok, Err, nat_lt, if◌then◌else◌}
 use Rattle.cose_head.specs.declared.head.Head.{Head}
-use Rattle.cose_head.specs.declared.head.HeadStep.{HeadStep}
-use Rattle.cose_head.specs.declared.head.HeadStep.TheVariants.{Got, More, Fault}
-use Rattle.cose_head.specs.declared.reason.Reason.{Reason}
 use Rattle.cose_head.specs.declared.reason.Reason.TheVariants.{Truncated}
 use Rattle.cose_head.specs.declared.refusal.Refusal.{Refusal}
 use Rattle.cose_head.specs.declared.walker.Follows.{Follows}
 use Rattle.cose_head.specs.declared.walker.Follows.TheVariants.{Nothing, Content, Children}
-use Rattle.cose_head.specs.Head.{bare_head}
 use Rattle.cose_head.specs.Item.{Item}
-use Rattle.cose_head.specs.Reading.{Left, Outcome, Reader, refuse, after, head, is_string, is_parent, child_count, read, read_all}
+use Rattle.cose_head.specs.Measured.{left_of}
+use Rattle.cose_head.specs.Reading.{Left, Outcome, Reader, after, head, is_string, is_parent, child_count, read, read_all}
 
 -- What is open where the bytes end: how many arrays, maps and tags whose head is there and whose end isn't,
 -- and how many bytes are to come of a string whose head is there.
@@ -85,37 +82,10 @@ finish depth (n ∷ counts) child = within (finish (depth - 1) counts child) (wa
 
 -- What is left of the item that is being read: of its string, or of its head, of which some bytes are there.
 abbrev pub rest_of_item : ℕ → List ℕ → ℕ → Left → Walk
-rest_of_item depth half zero l = walk depth (record { bytes = half ++ l.bytes; room = l.room; place = l.place })
+rest_of_item depth half zero l = walk depth (left_of (half ++ l.bytes) l.room l.place)
 rest_of_item depth half (suc n) l = walk_content (suc n) l
 
--- No byte of a head is there, or some and not all.
-abbrev pub is_more : HeadStep → Bool
-is_more (Got h used) = false
-is_more (More wanted) = true
-is_more (Fault reason) = false
-
-abbrev pub is_half : List ℕ → Bool
-is_half bytes = is_more (bare_head bytes)
-
--- The head at the front of an item, whatever follows it.
-abbrev pub IsHeadAt : List ℕ → ℕ → ℕ → Head → Type 0
-IsHeadAt first room place h = (bytes : List ℕ) → head (record { bytes = first ++ bytes; room = room; place = place })
-    ≡ Ok (h, record { bytes = bytes; room = room - h.width; place = place + h.width })
-
--- What the first bytes of an item come to, whatever follows them: its head, the head's fault, or nothing yet.
-abbrev pub HeadSoFar : List ℕ → ℕ → Result (Option Head) Reason → Type 0
-HeadSoFar first room (Ok (Some h)) = (length first ≡ h.width) × (h.width ≤ room) × ((place : ℕ) → IsHeadAt first room place h)
-HeadSoFar first room (Ok None) = (is_half first ≡ true) × ((place : ℕ)
-    → head (record { bytes = first; room = room; place = place }) ≡ refuse Truncated (place + length first))
-HeadSoFar first room (Err reason) = (reason ≡ Truncated → ⊥) × ((place : ℕ) (bytes : List ℕ)
-    → head (record { bytes = first ++ bytes; room = room; place = place }) ≡ refuse reason place)
-
--- The bytes of a head that are kept: all of them until it is whole.
-abbrev pub half_after : Result (Option Head) Reason → List ℕ → List ℕ
-half_after (Ok None) first = first
-half_after (Ok (Some h)) first = []
-half_after (Err reason) first = []
-
+-- What follows a head.
 abbrev pub FollowsHead : Head → Follows → Type 0
 FollowsHead h Nothing = (is_string h ≡ false) × (is_parent h ≡ false)
 FollowsHead h (Content n) = (is_string h ≡ true) × (h.arg ≡ n)

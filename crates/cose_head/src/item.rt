@@ -1,5 +1,13 @@
 //! Whole data items (RFC 8949 section 3).
 
+ghost use Rattle.std.specs.Prelude.{◌≡◌, ℕ, ◌+◌, ◌<◌, ◌≤◌, ◌^◌, length, IfOk};
+ghost use Rattle.cose_head.specs.Reading.{read, read_all, head, string, child_count, span_of, is_string as head_of_string, is_parent as head_of_parent};
+ghost use Rattle.cose_head.specs.Measured.{left_of, head_found, span_found, nesting, nesting_all, children_allowed};
+
+use crate::head::{Head, HeadStep, parse_head};
+use crate::reason::Reason;
+use crate::refusal::Refusal;
+
 /// How far an item reaches, and how deep its nesting is.
 #[derive(Clone, Copy, Debug, PartialEq, Eq)]
 pub struct Span {
@@ -7,4 +15,165 @@ pub struct Span {
     pub length: usize,
     /// The nesting of the item: 0 for an item without children, else 1 more than its deepest child.
     pub depth: usize,
+}
+
+/// The refusal of a head, or of what it announces, at its place.
+fn refused(reason: Reason, place: u64) -> Refusal
+    ensures { result ≡ record { reason = reason; place = place } }
+{
+    Refusal { reason, place }
+}
+
+/// The head at the front of `bytes`, which stand at `place`, within `room` bytes.
+fn head_at(bytes: &[u8], room: usize, place: u64) -> Result<Head, Refusal>
+    requires { place + length bytes.now < 2 ^ 64 }
+    ensures exact { let l = left_of bytes.now room place in head_found l result ≡ head l }
+    ensures within { IfOk result (λ found. (0 < found.width) × (found.width ≤ length bytes.now) × (found.width ≤ room)) }
+{
+    let seen = &bytes[..room.min(bytes.len())];
+    match parse_head(seen) {
+        HeadStep::Got(found, _) => Ok(found),
+        HeadStep::More(wanted) if wanted > room - seen.len() => Err(refused(
+            Reason::PastRoom,
+            place,
+        )),
+        HeadStep::More(_) => Err(refused(Reason::Truncated, place + bytes.len() as u64)),
+        HeadStep::Fault(reason) => Err(refused(reason, place)),
+    }
+}
+
+/// Whether a string follows the head.
+fn is_string(head: Head) -> bool
+    ensures { result ≡ head_of_string head }
+{
+    head.major == 2 || head.major == 3
+}
+
+/// Whether children follow the head, if only none.
+fn is_parent(head: Head) -> bool
+    ensures { result ≡ head_of_parent head }
+{
+    head.major == 4 || head.major == 5 || head.major == 6
+}
+
+/// The string that a head at `start` announces, at the front of `bytes`.
+fn string_at(
+    announced: Head,
+    start: u64,
+    bytes: &[u8],
+    room: usize,
+    place: u64,
+) -> Result<Span, Refusal>
+    requires { place + length bytes.now < 2 ^ 64 }
+    ensures exact { let l = left_of bytes.now room place in span_found l result ≡ nesting (string start announced l) }
+    ensures within { IfOk result (λ span. (span.length ≤ length bytes.now) × (span.length ≤ room) × (span.depth ≡ 0)) }
+{
+    if announced.arg > room as u64 {
+        return Err(refused(Reason::PastRoom, start));
+    }
+    if announced.arg > bytes.len() as u64 {
+        return Err(refused(Reason::Truncated, place + bytes.len() as u64));
+    }
+    Ok(Span {
+        length: announced.arg as usize,
+        depth: 0,
+    })
+}
+
+/// The number of children that a head at `start` announces, where room and nesting are left for them.
+fn allowed_children(
+    announced: Head,
+    start: u64,
+    room: usize,
+    depth: usize,
+) -> Result<usize, Refusal>
+    ensures { result ≡ children_allowed announced room depth start }
+{
+    if depth == 0 {
+        return Err(refused(Reason::TooDeep, start));
+    }
+    let count = match announced.major {
+        4 => u128::from(announced.arg),
+        5 => 2 * u128::from(announced.arg),
+        _ => 1,
+    };
+    if count > room as u128 {
+        return Err(refused(Reason::PastRoom, start));
+    }
+    Ok(count as usize)
+}
+
+/// So many items, one after another: their length, and the nesting of the deepest.
+#[cycle(item)]
+fn items_at(
+    count: usize,
+    bytes: &[u8],
+    room: usize,
+    place: u64,
+    depth: usize,
+) -> Result<Span, Refusal>
+    requires in_range { place + length bytes.now < 2 ^ 64 }
+    requires shallow { depth < 32 }
+    ensures exact { let l = left_of bytes.now room place in span_found l result ≡ nesting_all (read_all (read depth) count l) }
+    ensures within { IfOk result (λ span. (span.length ≤ length bytes.now) × (span.length ≤ room) × (span.depth ≤ depth)) }
+{
+    let mut length = 0;
+    let mut deepest = 0;
+    'items: for _index in 0..count {
+        let rest = &bytes[length..];
+        let one = item_at(rest, room - length, place + length as u64, depth)?;
+        length += one.length;
+        deepest = deepest.max(one.depth);
+    }
+    Ok(Span {
+        length,
+        depth: deepest,
+    })
+}
+
+/// The item at the front of `bytes`, which stand at `place`.
+#[cycle(item)]
+fn item_at(bytes: &[u8], room: usize, place: u64, depth: usize) -> Result<Span, Refusal>
+    requires in_range { place + length bytes.now < 2 ^ 64 }
+    requires shallow { depth ≤ 32 }
+    ensures exact { let l = left_of bytes.now room place in span_found l result ≡ nesting (read depth l) }
+    ensures within { IfOk result (λ span. (0 < span.length) × (span.length ≤ length bytes.now) × (span.length ≤ room) × (span.depth ≤ depth)) }
+{
+    let found = head_at(bytes, room, place)?;
+    let width = usize::from(found.width);
+    let rest = &bytes[width..];
+    let rest_place = place + width as u64;
+    if is_string(found) {
+        let string = string_at(found, place, rest, room - width, rest_place)?;
+        return Ok(Span {
+            length: width + string.length,
+            depth: 0,
+        });
+    }
+    if !is_parent(found) {
+        return Ok(Span {
+            length: width,
+            depth: 0,
+        });
+    }
+    let count = allowed_children(found, place, room - width, depth)?;
+    let items = items_at(count, rest, room - width, rest_place, depth - 1)?;
+    Ok(Span {
+        length: width + items.length,
+        depth: 1 + items.depth,
+    })
+}
+
+/// Reads the item at the front of `bytes`, of at most `room` bytes and a nesting of at most `depth`
+/// (RFC 8949 section 3). Bytes may follow it.
+///
+/// The refusal is the first fault from the left: [`Reason::PastRoom`], [`Reason::Truncated`], [`Reason::Reserved`],
+/// [`Reason::Indefinite`], [`Reason::BadSimple`] or [`Reason::TooDeep`], with its place in `bytes`. No memory is taken.
+pub fn read_item(bytes: &[u8], room: usize, depth: usize) -> Result<Span, Refusal>
+    requires { depth ≤ 32 }
+    // The length and the nesting of the item that `read` gives, or its refusal.
+    ensures exact { result ≡ span_of (read depth (left_of bytes.now room 0)) }
+    ensures within { IfOk result (λ span. (0 < span.length) × (span.length ≤ length bytes.now) × (span.length ≤ room) × (span.depth ≤ depth)) }
+{
+    item_at(bytes, room, 0, depth)
 }

@@ -1,11 +1,13 @@
 //! One data item, a byte at a time (RFC 8949 section 3), with nothing held but a count for each open item.
 
 ghost use Rattle.std.specs.Prelude.{◌≡◌, ◌<◌, ◌≤◌, ◌+◌, ◌-◌, ◌*◌, ◌^◌, ℕ, List, [], ◌∷◌, ◌++◌, length, true, if◌then◌else◌, max, OnOk};
-ghost use Rattle.cose_head.specs.Head.{bare_head};
+ghost use Rattle.cose_head.specs.HalfHead.{is_half, IsHeadAt};
+ghost use Rattle.cose_head.specs.Measured.{left_of};
 ghost use Rattle.cose_head.specs.Reading.{Left, read};
-ghost use Rattle.cose_head.specs.Walking.{is_half, ends, walk, walk_all, walk_content, finish, open_in, FollowsHead, HeadSoFar, IsHeadAt, half_after};
+ghost use Rattle.cose_head.specs.Walking.{ends, walk, walk_all, walk_content, finish, open_in, FollowsHead};
 
-use crate::head::{Head, HeadStep, parse_head};
+use crate::half_head::take_head_byte;
+use crate::head::Head;
 use crate::reason::Reason;
 use crate::refusal::Refusal;
 use arrayvec::ArrayVec;
@@ -49,43 +51,6 @@ fn follows_head(head: Head) -> Follows
     }
 }
 
-/// The head that these bytes of an item are, or nothing where it isn't whole yet.
-fn head_so_far(half: &[u8], room: usize) -> Result<Option<Head>, Reason>
-    requires { (front : List ℕ) × (byte : ℕ) × (half.now ≡ front ++ byte ∷ []) × (is_half front ≡ true) }
-    ensures { HeadSoFar half.now room result }
-{
-    if room < half.len() {
-        return Err(Reason::PastRoom);
-    }
-    match parse_head(half) {
-        HeadStep::Got(head, _) => Ok(Some(head)),
-        HeadStep::More(wanted) => {
-            if room - half.len() < wanted {
-                return Err(Reason::PastRoom);
-            }
-            Ok(None)
-        }
-        HeadStep::Fault(reason) => Err(reason),
-    }
-}
-
-/// Takes the next byte of a head, and gives the head if it is whole.
-#[tactic(auto, using(crate::proofs::HeadsByByte::half_is_short))]
-fn take_head_byte(half: &mut ArrayVec<u8, 9>, byte: u8, room: usize) -> Result<Option<Head>, Reason>
-    requires { is_half half.old.items ≡ true }
-    ensures head { HeadSoFar (half.old.items ++ byte ∷ []) room result }
-    ensures half { half.new.items ≡ half_after result (half.old.items ++ byte ∷ []) }
-    ensures begun { is_half half.new.items ≡ true }
-{
-    half.push(byte);
-    let head = head_so_far(half, room);
-    match head {
-        Ok(None) => {}
-        Ok(Some(_)) | Err(_) => half.clear(),
-    }
-    head
-}
-
 /// Goes on, where an item has ended, to the next child of the innermost open item that has one, and closes the open items
 /// that have none. It says whether there is such a child.
 fn next_child<const D: usize>(counts: &mut ArrayVec<usize, D>) -> bool
@@ -124,7 +89,7 @@ pub struct Walker<const D: usize> {
 }
 
 impl<const D: usize> Walker<D> {
-    ghost use Rattle.cose_head.specs.Walker.{last_step, given, left_of, resume, go_on, HasPut, Answers, Leads, Passes, Stands};
+    ghost use Rattle.cose_head.specs.Walker.{last_step, left_at, resume, go_on, HasPut, Answers, StandsAmong, Leads, Passes, Stands};
 
     /// A walker of an item that may use `room` bytes.
     pub fn new(room: usize) -> Self
@@ -145,7 +110,7 @@ impl<const D: usize> Walker<D> {
     pub fn open_items(&self) -> usize
         ensures limit { result ≤ D }
         ensures open { (room : ℕ) (bytes : List ℕ) → last_step self.now ≡ Step.Going → HasPut room bytes self.now
-            → result ≡ (open_in D (given room bytes)).items }
+            → result ≡ (open_in D (left_of bytes room 0)).items }
         ensures settled { (last_step self.now ≡ Step.Going → ⊥) → result ≡ 0 }
     {
         match self.step {
@@ -157,10 +122,12 @@ impl<const D: usize> Walker<D> {
     /// How many bytes are left of the open string, 1 where none is open, and 0 once the item is whole or refused.
     pub fn want(&self) -> usize
         ensures content { (room : ℕ) (bytes : List ℕ) → last_step self.now ≡ Step.Going → HasPut room bytes self.now
-            → result ≡ max 1 (open_in D (given room bytes)).content }
+            → result ≡ max 1 (open_in D (left_of bytes room 0)).content }
         // Fewer further bytes neither end the item nor refuse it.
         ensures early { (room : ℕ) (bytes more : List ℕ) → last_step self.now ≡ Step.Going → HasPut room bytes self.now
-            → 0 < room → length more < result → Answers room (bytes ++ more) Step.Going (read D (given room (bytes ++ more))) }
+            → 0 < room → length more < result → Answers room (bytes ++ more) Step.Going (read D (left_of (bytes ++ more) room 0)) }
+        ensures fits { (room : ℕ) (bytes : List ℕ) → last_step self.now ≡ Step.Going → HasPut room bytes self.now
+            → 0 < room → length bytes + result ≤ room }
         ensures settled { (last_step self.now ≡ Step.Going → ⊥) → result ≡ 0 }
     {
         match self.step {
@@ -186,9 +153,11 @@ impl<const D: usize> Walker<D> {
     /// The answer is that of reading all bytes that were put. Once the item is whole or refused, it is the same again and nothing changes.
     pub fn put(&mut self, byte: u8) -> Step
         ensures answer { (room : ℕ) (bytes : List ℕ) → last_step self.old ≡ Step.Going → HasPut room bytes self.old
-            → Answers room (bytes ++ byte ∷ []) result (read D (given room (bytes ++ byte ∷ []))) }
+            → Answers room (bytes ++ byte ∷ []) result (read D (left_of (bytes ++ byte ∷ []) room 0)) }
         ensures put { (room : ℕ) (bytes : List ℕ) → last_step self.old ≡ Step.Going → HasPut room bytes self.old
             → result ≡ Step.Going → HasPut room (bytes ++ byte ∷ []) self.new }
+        ensures among { (room : ℕ) (bytes : List ℕ) → last_step self.old ≡ Step.Going → HasPut room bytes self.old
+            → StandsAmong room (bytes ++ byte ∷ []) result }
         ensures step { last_step self.new ≡ result }
         ensures kept { (last_step self.old ≡ Step.Going → ⊥) → self.new ≡ self.old }
     {
@@ -213,6 +182,7 @@ impl<const D: usize> Walker<D> {
         ensures leads { Leads (λ bytes. resume self.old (byte ∷ bytes)) result self.new }
         ensures taken { OnOk result (self.new.place + length self.new.half.items ≡ self.old.place + length self.old.half.items + 1) }
         ensures left { OnOk result (self.new.place + self.new.room ≡ self.old.place + self.old.room) }
+        ensures among { self.new.place ≤ self.old.place + length self.old.half.items + 1 }
     {
         if self.string > 0 {
             return self.advance_content();
@@ -243,8 +213,9 @@ impl<const D: usize> Walker<D> {
         requires half { length self.old.half.items ≡ 0 }
         requires fits { head.width ≤ self.old.room }
         ensures leads { (first : List ℕ) → IsHeadAt first self.old.room self.old.place head
-            → Leads (λ bytes. go_on D self.old.counts.items first 0 (left_of self.old bytes)) result self.new }
+            → Leads (λ bytes. go_on D self.old.counts.items first 0 (left_at self.old bytes)) result self.new }
         ensures stands { OnOk result (Stands (self.old.room - head.width) (self.old.place + head.width) self.new) }
+        ensures among { self.new.place ≤ self.old.place + head.width }
     {
         let width = usize::from(head.width);
         let room = self.room - width;
@@ -278,7 +249,7 @@ impl<const D: usize> Walker<D> {
         requires string { self.old.string ≡ 0 }
         requires half { length self.old.half.items ≡ 0 }
         requires fits { count ≤ self.old.room }
-        ensures leads { Leads (λ bytes. finish D self.old.counts.items (walk_content count (left_of self.old bytes))) result self.new }
+        ensures leads { Leads (λ bytes. finish D self.old.counts.items (walk_content count (left_at self.old bytes))) result self.new }
         ensures stands { Stands self.old.room self.old.place self.new }
     {
         if count == 0 {
@@ -293,7 +264,7 @@ impl<const D: usize> Walker<D> {
         requires string { self.old.string ≡ 0 }
         requires half { length self.old.half.items ≡ 0 }
         requires nesting { length self.old.counts.items < D }
-        ensures leads { Leads (λ bytes. finish D self.old.counts.items (walk_all (D - length self.old.counts.items - 1) count (left_of self.old bytes))) result self.new }
+        ensures leads { Leads (λ bytes. finish D self.old.counts.items (walk_all (D - length self.old.counts.items - 1) count (left_at self.old bytes))) result self.new }
         ensures stands { Stands self.old.room self.old.place self.new }
     {
         self.counts.push(count);
@@ -304,7 +275,7 @@ impl<const D: usize> Walker<D> {
     fn end_item(&mut self) -> Result<Progress, Reason>
         requires string { self.old.string ≡ 0 }
         requires half { length self.old.half.items ≡ 0 }
-        ensures leads { Leads (λ bytes. finish D self.old.counts.items (ends (left_of self.old bytes))) result self.new }
+        ensures leads { Leads (λ bytes. finish D self.old.counts.items (ends (left_at self.old bytes))) result self.new }
         ensures stands { Stands self.old.room self.old.place self.new }
     {
         if !next_child(&mut self.counts) {

@@ -1,6 +1,6 @@
 use Rattle.std.proofs.Common.{◌∙◌, sym, ap}
 use Rattle.cose_head.specs.Walking.{Open}
-use Rattle.cose_head.proofs.Putting.{open_so_far}
+use Rattle.cose_head.proofs.WalkerSteps.{open_so_far}
 use Rattle.cose_head.proofs.walker.Walker.open_items.Goals as goal
 
 pub returns-in-Going-clause-open : goal.returns-in-Going-clause-open

@@ -1,7 +1,7 @@
 use Rattle.std.proofs.Common.{◌≡◌, sym, ◌∙◌}
 use Rattle.cose_head.specs.declared.walker.Step.TheVariants.{Going, Done}
 use Rattle.cose_head.specs.Walker.{resume}
-use Rattle.cose_head.proofs.Putting.{answers_open, answers_whole, answers_fault, put_rest, put_taken}
+use Rattle.cose_head.proofs.WalkerSteps.{answers_open, answers_whole, answers_fault, put_rest, put_taken}
 use Rattle.cose_head.proofs.walker.Walker.put.Goals as goal
 use Rattle.cose_head.proofs.walker.Walker.put.Goals.{in-Ok-Open, in-Ok-Whole, in-Err}
 

@@ -8,9 +8,10 @@ use Rattle.cose_head.specs.declared.reason.Reason.{Reason}
 use Rattle.cose_head.specs.declared.reason.Reason.TheVariants.{Truncated, TooDeep, PastRoom}
 use Rattle.cose_head.specs.declared.refusal.Refusal.{Refusal}
 use Rattle.cose_head.specs.Reading.{Left, refuse, is_string, is_parent, child_count, head}
-use Rattle.cose_head.specs.Walking.{Walk, is_half, nothing_open, ends, walk, walk_all, walk_content, finish, IsHeadAt}
+use Rattle.cose_head.specs.HalfHead.{is_half, IsHeadAt}
+use Rattle.cose_head.specs.Walking.{Walk, nothing_open, ends, walk, walk_all, walk_content, finish}
 use Rattle.cose_head.specs.Walker.{go_on}
-use Rattle.cose_head.proofs.HeadsByByte.{lt_true, lt_false, half_is_more, head-more, head-past_room}
+use Rattle.cose_head.proofs.HalfHeads.{lt_true, lt_false, half_is_more, head-more, head-past_room}
 use Rattle.cose_head.proofs.Walks.{finish-refused, finish-open}
 use Rattle.cose_head.proofs.WalkedHeads.{refused, walk-refused, walk-leaf, walk-content, walk-content_past, walk-deep, walk-children_past, walk-children}
 

@@ -10,7 +10,7 @@ use Rattle.cose_head.specs.declared.reason.Reason.{Reason}
 use Rattle.cose_head.specs.declared.reason.Reason.TheVariants.{Truncated, Reserved, Indefinite, BadSimple, PastRoom}
 use Rattle.cose_head.specs.Head.{major_of, low_of, low_fault, argument_length, head_of, is_bad_simple, simple_checked, after_initial, bare_head, IsMore}
 use Rattle.cose_head.specs.Reading.{Left, Outcome, after, refuse, checked, past_initial, head}
-use Rattle.cose_head.specs.Walking.{is_more, is_half, IsHeadAt}
+use Rattle.cose_head.specs.HalfHead.{is_more, is_half, IsHeadAt}
 
 -- which way a test went
 pub chosen : {A : Type 0} (b : Bool) (x y z : A) → (if b then x else y) ≡ z → ((b ≡ true) × (x ≡ z)) ⊎ ((b ≡ false) × (y ≡ z))

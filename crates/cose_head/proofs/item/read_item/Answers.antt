@@ -1,0 +1,7 @@
+use Rattle.cose_head.proofs.ItemSteps.{whole_span}
+use Rattle.cose_head.specs.Measured.{left_of}
+use Rattle.cose_head.specs.Reading.{read}
+use Rattle.cose_head.proofs.item.read_item.Goals as goal
+
+pub returns-clause-exact : goal.returns-clause-exact
+returns-clause-exact c = whole_span c.args.bytes.now c.args.room c.item_at.result (read c.args.depth (left_of c.args.bytes.now c.args.room 0)) c.item_at.ensures.exact
