@@ -50,12 +50,13 @@ Leads before (Ok Open) w = ((bytes : List ℕ) → before bytes ≡ resume w byt
 Leads before (Ok Whole) w = (length w.half.items ≡ 0) × ((bytes : List ℕ) → (before bytes).end ≡ Ok (left_at w bytes))
 Leads before (Err reason) w = (reason ≡ Truncated → ⊥) × ((bytes : List ℕ) → (before bytes).end ≡ Err (record { reason = reason; place = w.place }))
 
--- The walker was put these bytes: with whatever bytes follow, reading them all is what is left after them.
+-- The walker was put these bytes, and goes on: with whatever bytes follow, reading them all is what is left after them.
 pub record HasPut (room : ℕ) (put : List ℕ) {D : ℕ} (w : Walker D) : Type 0 where
   pub rest : (bytes : List ℕ) → walk D (left_of (put ++ bytes) room 0) ≡ resume w bytes
   pub taken : w.place + length w.half.items ≡ length put
   pub left : w.place + w.room ≡ room
   pub waits : 0 < room → Waits w
+  pub going : last_step w ≡ Going
 
 -- Which answer of reading a step tells.
 abbrev pub Answers : ℕ → List ℕ → Step → Outcome Item → Type 0

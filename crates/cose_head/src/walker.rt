@@ -109,8 +109,7 @@ impl<const D: usize> Walker<D> {
     /// How many arrays, maps and tags are open: their head was put, and their end wasn't.
     pub fn open_items(&self) -> usize
         ensures limit { result ≤ D }
-        ensures open { (room : ℕ) (bytes : List ℕ) → last_step self.now ≡ Step.Going → HasPut room bytes self.now
-            → result ≡ (open_in D (left_of bytes room 0)).items }
+        ensures open { (room : ℕ) (bytes : List ℕ) → HasPut room bytes self.now → result ≡ (open_in D (left_of bytes room 0)).items }
         ensures settled { (last_step self.now ≡ Step.Going → ⊥) → result ≡ 0 }
     {
         match self.step {
@@ -121,13 +120,10 @@ impl<const D: usize> Walker<D> {
 
     /// How many bytes are left of the open string, 1 where none is open, and 0 once the item is whole or refused.
     pub fn want(&self) -> usize
-        ensures content { (room : ℕ) (bytes : List ℕ) → last_step self.now ≡ Step.Going → HasPut room bytes self.now
-            → result ≡ max 1 (open_in D (left_of bytes room 0)).content }
+        ensures content { (room : ℕ) (bytes : List ℕ) → HasPut room bytes self.now → result ≡ max 1 (open_in D (left_of bytes room 0)).content }
         // Fewer further bytes neither end the item nor refuse it.
-        ensures early { (room : ℕ) (bytes more : List ℕ) → last_step self.now ≡ Step.Going → HasPut room bytes self.now
-            → 0 < room → length more < result → Answers room (bytes ++ more) Step.Going (read D (left_of (bytes ++ more) room 0)) }
-        ensures fits { (room : ℕ) (bytes : List ℕ) → last_step self.now ≡ Step.Going → HasPut room bytes self.now
-            → 0 < room → length bytes + result ≤ room }
+        ensures early { (room : ℕ) (bytes more : List ℕ) → HasPut room bytes self.now → 0 < room → length more < result → Answers room (bytes ++ more) Step.Going (read D (left_of (bytes ++ more) room 0)) }
+        ensures fits { (room : ℕ) (bytes : List ℕ) → HasPut room bytes self.now → 0 < room → length bytes + result ≤ room }
         ensures settled { (last_step self.now ≡ Step.Going → ⊥) → result ≡ 0 }
     {
         match self.step {
@@ -152,12 +148,9 @@ impl<const D: usize> Walker<D> {
     ///
     /// The answer is that of reading all bytes that were put. Once the item is whole or refused, it is the same again and nothing changes.
     pub fn put(&mut self, byte: u8) -> Step
-        ensures answer { (room : ℕ) (bytes : List ℕ) → last_step self.old ≡ Step.Going → HasPut room bytes self.old
-            → Answers room (bytes ++ byte ∷ []) result (read D (left_of (bytes ++ byte ∷ []) room 0)) }
-        ensures put { (room : ℕ) (bytes : List ℕ) → last_step self.old ≡ Step.Going → HasPut room bytes self.old
-            → result ≡ Step.Going → HasPut room (bytes ++ byte ∷ []) self.new }
-        ensures among { (room : ℕ) (bytes : List ℕ) → last_step self.old ≡ Step.Going → HasPut room bytes self.old
-            → StandsAmong room (bytes ++ byte ∷ []) result }
+        ensures answer { (room : ℕ) (bytes : List ℕ) → HasPut room bytes self.old → Answers room (bytes ++ byte ∷ []) result (read D (left_of (bytes ++ byte ∷ []) room 0)) }
+        ensures put { (room : ℕ) (bytes : List ℕ) → HasPut room bytes self.old → result ≡ Step.Going → HasPut room (bytes ++ byte ∷ []) self.new }
+        ensures among { (room : ℕ) (bytes : List ℕ) → HasPut room bytes self.old → StandsAmong room (bytes ++ byte ∷ []) result }
         ensures step { last_step self.new ≡ result }
         ensures kept { (last_step self.old ≡ Step.Going → ⊥) → self.new ≡ self.old }
     {
@@ -200,7 +193,7 @@ impl<const D: usize> Walker<D> {
         ensures stands { Stands (self.old.room - 1) (self.old.place + 1) self.new }
     {
         self.string -= 1;
-        self.pass(1);
+        self.pass_over(1);
         if self.string > 0 {
             return Ok(Progress::Open);
         }
@@ -221,14 +214,14 @@ impl<const D: usize> Walker<D> {
         let room = self.room - width;
         match follows_head(head) {
             Follows::Nothing => {
-                self.pass(width);
+                self.pass_over(width);
                 self.end_item()
             }
             Follows::Content(length) => {
                 if length > room as u64 {
                     return Err(Reason::PastRoom);
                 }
-                self.pass(width);
+                self.pass_over(width);
                 self.begin_content(length as usize)
             }
             Follows::Children(count) => {
@@ -238,7 +231,7 @@ impl<const D: usize> Walker<D> {
                 if count > room as u128 {
                     return Err(Reason::PastRoom);
                 }
-                self.pass(width);
+                self.pass_over(width);
                 self.begin_children(count as usize)
             }
         }
@@ -288,7 +281,7 @@ impl<const D: usize> Walker<D> {
     }
 
     /// Passes over bytes that were used.
-    fn pass(&mut self, count: usize)
+    fn pass_over(&mut self, count: usize)
         requires { self.old.string + count ≤ self.old.room }
         ensures { Passes self.old self.new count }
     {
@@ -296,3 +289,6 @@ impl<const D: usize> Walker<D> {
         self.place += count;
     }
 }
+
+#[cfg(test)]
+mod tests;

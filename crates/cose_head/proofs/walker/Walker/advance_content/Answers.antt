@@ -9,12 +9,12 @@ pub returns-then-self-gt0-clause-leads : goal.returns-then-self-gt0-clause-leads
 unfolding resume
 returns-then-self-gt0-clause-leads g c =
     let now = c.args.self.now in
-    let then = c.pass.new.self in
+    let then = c.pass_over.new.self in
     let no_half : length then.half.items ≡ 0 = then.one_part c.if-self-gt0.true in
     λ byte. (
       λ bytes. content_taken g.row.D now.counts.items now.half.items now.string byte now.room now.place bytes c.requires
-          ∙ passed (λ counts l. finish g.row.D counts (walk_content (now.string - 1) l)) _ then 1 c.pass.ensures bytes
-          ∙ ap (λ n. finish g.row.D then.counts.items (walk_content n (left_at then bytes))) (sym c.pass.ensures.string)
+          ∙ passed (λ counts l. finish g.row.D counts (walk_content (now.string - 1) l)) _ then 1 c.pass_over.ensures bytes
+          ∙ ap (λ n. finish g.row.D then.counts.items (walk_content n (left_at then bytes))) (sym c.pass_over.ensures.string)
           ∙ sym (go_on-content g.row.D then.counts.items then.half.items then.string (left_at then bytes) c.if-self-gt0.true),
       (
         waits-content g.row.D then.counts.items then.half.items then.string then.room then.place c.if-self-gt0.true no_half,
@@ -26,10 +26,10 @@ pub returns-clause-leads : goal.returns-clause-leads
 unfolding resume
 returns-clause-leads g c =
     let now = c.args.self.now in
-    let then = c.pass.new.self in
-    let last : now.string - 1 ≡ 0 = omega (arith, c.pass.ensures.string) in
+    let then = c.pass_over.new.self in
+    let last : now.string - 1 ≡ 0 = omega (arith, c.pass_over.ensures.string) in
     λ byte. leads_same _ (λ bytes. finish g.row.D then.counts.items (ends (left_at then bytes))) c.end_item.result c.end_item.new.self
     (λ bytes. content_taken g.row.D now.counts.items now.half.items now.string byte now.room now.place bytes c.requires
-    ∙ passed (λ counts l. finish g.row.D counts (walk_content (now.string - 1) l)) _ then 1 c.pass.ensures bytes
+    ∙ passed (λ counts l. finish g.row.D counts (walk_content (now.string - 1) l)) _ then 1 c.pass_over.ensures bytes
     ∙ ap (finish g.row.D then.counts.items) (walk_content-none (now.string - 1) (left_at then bytes) last))
     c.end_item.ensures.leads

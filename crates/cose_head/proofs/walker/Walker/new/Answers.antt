@@ -21,4 +21,5 @@ returns-clause-put g c =
       taken = omega arith;
       left = omega arith;
       waits = λ some. (waits-begins g.row.D c.new.result.items c.new-2.result.items 0 c.args.room 0 refl none (λ e. omega arith), omega arith);
+      going = refl;
     }

@@ -6,7 +6,7 @@ use Rattle.cose_head.proofs.walker.Walker.put.Goals as goal
 use Rattle.cose_head.proofs.walker.Walker.put.Goals.{in-Ok-Open, in-Ok-Whole, in-Err}
 
 pub returns-after-advance-clause-answer : goal.returns-after-advance-clause-answer
-returns-after-advance-clause-answer g c = λ room put going has. elim c.match-advance.branch [
+returns-after-advance-clause-answer g c = λ room put has. elim c.match-advance.branch [
   | in-Ok-Open w ↦
       (let leads = rw w.in-Ok-Open.field-0-is at w.in-Ok-Open.ensures.leads in
       rw w.self-is (answers_open c.args.self.now c.advance.new.self room put c.args.byte has leads w.in-Ok-Open.ensures.taken))
@@ -18,7 +18,7 @@ returns-after-advance-clause-answer g c = λ room put going has. elim c.match-ad
 
 pub returns-after-advance-clause-put : goal.returns-after-advance-clause-put
 unfolding resume
-returns-after-advance-clause-put g c = λ room put going has next. elim c.match-advance.branch [
+returns-after-advance-clause-put g c = λ room put has next. elim c.match-advance.branch [
   | in-Ok-Open w ↦
       (let leads = rw w.in-Ok-Open.field-0-is at w.in-Ok-Open.ensures.leads in
       record {
@@ -26,6 +26,7 @@ returns-after-advance-clause-put g c = λ room put going has next. elim c.match-
         taken = put_taken c.args.self.now c.advance.new.self room put c.args.byte has w.in-Ok-Open.ensures.taken;
         left = w.in-Ok-Open.ensures.left ∙ has.left;
         waits = λ some. leads.1;
+        going = next;
       })
   | in-Ok-Whole w ↦ (let other : Done ≡ Going = sym w.self-is ∙ next in cc)
   | in-Err w ↦ (let other = sym w.self-is ∙ next in cc)
