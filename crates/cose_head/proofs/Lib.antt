@@ -8,3 +8,11 @@ pub mod Walks
 pub mod WalkedHeads
 pub mod WalkSteps
 pub mod WalkerSteps
+pub mod HeadCases
+pub mod Steps
+pub mod Stable
+pub mod Sound
+pub mod Complete
+pub mod BareHeads
+pub mod ShortHeads
+pub mod ReadLaws

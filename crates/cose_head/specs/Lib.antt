@@ -7,3 +7,4 @@ pub mod Measured
 pub mod HalfHead
 pub mod Walking
 pub mod Walker
+pub mod Laws

@@ -5,6 +5,7 @@ mod half_head;
 mod head;
 mod item;
 mod kind;
+pub mod laws;
 mod reason;
 mod refusal;
 mod walker;
