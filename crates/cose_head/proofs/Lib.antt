@@ -1,5 +1,6 @@
 pub mod HeadLemmas
 pub mod WorkedItems
+pub mod WorkedOpen
 pub mod Heads
 pub mod Measuring
 pub mod ItemSteps

@@ -1,6 +1,6 @@
 -- What is left after a byte, one lemma for each way in which a byte leads on.
-use Rattle.std.proofs.Common.{◌≡◌, ℕ, zero, suc, ◌+◌, ◌-◌, ◌<◌, ◌≤◌, List, [], ◌∷◌, ◌++◌, length, Err, refl, sym, ap, ◌∙◌, arith, append_assoc, append-nil, inl, inr}
-use Rattle.std.proofs.lemmas.Bool.{cases_lt}
+use Rattle.std.proofs.Common.{◌≡◌, ℕ, zero, suc, ◌+◌, ◌-◌, ◌<◌, ◌≤◌, List, [], ◌∷◌, ◌++◌, length, Err, refl, sym, ap, ◌∙◌, arith, append_assoc, append-nil}
+use Rattle.std.proofs.lemmas.Bool.{lt-ltb, le-ltb}
 use Rattle.std.proofs.lemmas.Bool.Decides.{nat_tests}
 use Rattle.std.specs.Prelude.{◌==◌, nat_lt, true, false}
 use Rattle.cose_head.specs.declared.head.Head.{Head}
@@ -9,9 +9,10 @@ use Rattle.cose_head.specs.declared.reason.Reason.TheVariants.{Truncated, TooDee
 use Rattle.cose_head.specs.declared.refusal.Refusal.{Refusal}
 use Rattle.cose_head.specs.Reading.{Left, refuse, is_string, is_parent, child_count, head}
 use Rattle.cose_head.specs.HalfHead.{is_half, IsHeadAt}
-use Rattle.cose_head.specs.Walking.{Walk, nothing_open, ends, walk, walk_all, walk_content, finish}
+use Rattle.cose_head.specs.Open.{nothing_open}
+use Rattle.cose_head.specs.Walking.{Walk, ends, walk, walk_all, walk_content, finish}
 use Rattle.cose_head.specs.Walker.{go_on}
-use Rattle.cose_head.proofs.HalfHeads.{lt_true, lt_false, half_is_more, head-more, head-past_room}
+use Rattle.cose_head.proofs.HalfHeads.{head-half}
 use Rattle.cose_head.proofs.Walks.{finish-refused, finish-open}
 use Rattle.cose_head.proofs.WalkedHeads.{refused, walk-refused, walk-leaf, walk-content, walk-content_past, walk-deep, walk-children_past, walk-children}
 
@@ -46,7 +47,7 @@ waits-begins depth counts half string room place none no_half some =
 -- a string
 pub walk_content-none : (n : ℕ) (l : Left) → n ≡ 0 → walk_content n l ≡ ends l
 walk_content-none n l none =
-    let whole : nat_lt (length l.bytes) 0 ≡ false = lt_false _ _ (omega arith) in
+    let whole : nat_lt (length l.bytes) 0 ≡ false = le-ltb _ _ (omega arith) in
     let nothing : 0 - length l.bytes ≡ 0 = omega arith in
     let room : l.room - 0 ≡ l.room = omega arith in
     let place : l.place + 0 ≡ l.place = omega arith in
@@ -58,7 +59,7 @@ go_on-content depth counts half zero l some = absurd (omega arith)
 go_on-content depth counts half (suc n) l some = refl
 
 content_short : (n room place : ℕ) → 0 < n → (walk_content n (record { bytes = []; room = room; place = place })).end ≡ refused Truncated (place + 0)
-content_short n room place some = let short : nat_lt 0 n ≡ true = lt_true _ _ some in rw short refl
+content_short n room place some = let short : nat_lt 0 n ≡ true = lt-ltb _ _ some in rw short refl
 
 pub refused_child : (depth : ℕ) (counts : List ℕ) (child : Walk) (refusal : Refusal) → child.end ≡ Err refusal → (finish depth counts child).end ≡ Err refusal
 refused_child depth counts child refusal e =
@@ -158,23 +159,15 @@ refused-half depth counts half string room place reason none fault bytes =
     rw none (refused_head depth (depth - length counts) counts (record { bytes = half ++ bytes; room = room; place = place }) (record { reason = reason; place = place }) (fault place bytes))
 
 -- what is open where the bytes end
-half_refused : (half : List ℕ) (room place : ℕ) → is_half half ≡ true → (refusal : Refusal) × (head (record { bytes = half; room = room; place = place }) ≡ Err refusal)
-half_refused half room place is =
-    let more = half_is_more half is in
-    elim (cases_lt room (length half + more.0)) [
-      | inl past ↦ (record { reason = PastRoom; place = place }, rw append-nil at (head-past_room half room more.0 more.1 past place []))
-      | inr fits ↦ (record { reason = Truncated; place = place + length half }, head-more half room more.0 more.1 fits place)
-    ]
-
-pub go_on-open : (depth : ℕ) (counts half : List ℕ) (string room place : ℕ) → is_half half ≡ true
+pub go_on-open : (depth : ℕ) (counts half : List ℕ) (string room place : ℕ) → is_half half ≡ true → length half ≤ room
     → (go_on depth counts half string (record { bytes = []; room = room; place = place })).opened ≡ record { items = length counts; content = string }
-go_on-open depth counts half zero room place is =
-    let fault = half_refused half room place is in
+go_on-open depth counts half zero room place is fits =
+    let fault = head-half half room place is fits in
     let none : length counts + 0 ≡ length counts = omega arith in
     rw append-nil (ap (λ child. (finish depth counts child).opened) (walk-refused (depth - length counts) (record { bytes = half; room = room; place = place }) fault.0 fault.1)
     ∙ finish-open depth counts fault.0 nothing_open ∙ ap (λ n. record { items = n; content = 0 }) none)
-go_on-open depth counts half (suc n) room place is =
-    let short : nat_lt 0 (suc n) ≡ true = lt_true _ _ (omega arith) in
+go_on-open depth counts half (suc n) room place is fits =
+    let short : nat_lt 0 (suc n) ≡ true = lt-ltb _ _ (omega arith) in
     let none : length counts + 0 ≡ length counts = omega arith in
     let all : suc n - 0 ≡ suc n = omega arith in
     rw (short, all) (finish-open depth counts (record { reason = Truncated; place = place + 0 }) (record { items = 0; content = suc n })
@@ -185,7 +178,7 @@ pub go_on-short : (depth : ℕ) (counts half : List ℕ) (string room place : �
     → (go_on depth counts half string (record { bytes = bytes; room = room; place = place })).end ≡ refused Truncated (place + length bytes)
 go_on-short depth counts half string room place bytes short =
     let l : Left = record { bytes = bytes; room = room; place = place } in
-    let test : nat_lt (length bytes) string ≡ true = lt_true _ _ short in
+    let test : nat_lt (length bytes) string ≡ true = lt-ltb _ _ short in
     let some : 0 < string = omega arith in
     ap (λ (w : Walk). w.end) (go_on-content depth counts half string l some)
     ∙ refused_child depth counts (walk_content string l) (record { reason = Truncated; place = place + length bytes }) (rw test refl)

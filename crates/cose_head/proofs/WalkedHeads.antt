@@ -1,5 +1,6 @@
 -- A walk by what follows the head.
 use Rattle.std.proofs.Common.{◌≡◌, ℕ, zero, suc, ◌+◌, ◌<◌, ◌≤◌, Bool, true, false, length, take, Option, Some, None, Ok, Err, Result, refl, sym, ap, ◌∙◌, arith}
+use Rattle.std.proofs.lemmas.Bool.{lt-ltb, le-ltb}
 use Rattle.std.proofs.lemmas.Bool.Decides.{nat_tests}
 use Rattle.std.specs.Prelude.{nat_lt, ◌==◌, if◌then◌else◌}
 use Rattle.cose_head.specs.declared.head.Head.{Head}
@@ -8,8 +9,8 @@ use Rattle.cose_head.specs.declared.reason.Reason.TheVariants.{Truncated, TooDee
 use Rattle.cose_head.specs.declared.refusal.Refusal.{Refusal}
 use Rattle.cose_head.specs.Item.{Item, no_items, item, tag}
 use Rattle.cose_head.specs.Reading.{Left, Outcome, Reader, refuse, after, is_string, is_parent, child_count, string_item, list_item, children, string, body, read, read_all, head, ◌>>=◌}
-use Rattle.cose_head.specs.Walking.{Open, nothing_open, open_all, past_head, open_in, end_of, ends, walk, walk_all, walk_content}
-use Rattle.cose_head.proofs.HalfHeads.{lt_true, lt_false}
+use Rattle.cose_head.specs.Open.{Open, nothing_open, open_all, past_head, open_in}
+use Rattle.cose_head.specs.Walking.{end_of, ends, walk, walk_all, walk_content}
 use Rattle.cose_head.proofs.Walks.{end_of-made}
 
 abbrev pub refused : Reason → ℕ → Result Left Refusal
@@ -33,7 +34,7 @@ end_of-string false place t l = refl
 
 string_walk : (place : ℕ) (h : Head) (l : Left) → h.arg ≤ l.room → end_of (string place h l) ≡ (walk_content h.arg l).end
 string_walk place h l fits =
-    let roomy : nat_lt l.room h.arg ≡ false = lt_false _ _ fits in
+    let roomy : nat_lt l.room h.arg ≡ false = le-ltb _ _ fits in
     rw roomy (end_of-string (nat_lt (length l.bytes) h.arg) (l.place + length l.bytes) (string_item h (take h.arg l.bytes)) (after h.arg l))
 
 content_walk : (place : ℕ) (h : Head) (l : Left) (one : Option (Reader Item)) (open_children : ℕ → Left → Open) → is_string h ≡ true → h.arg ≤ l.room
@@ -51,8 +52,8 @@ walk-content (suc depth) l rest h e is fits = rw e (content_walk l.place h rest 
 pub walk-content_past : (depth : ℕ) (l rest : Left) (h : Head) → head l ≡ Ok (h, rest) → is_string h ≡ true → rest.room < h.arg
     → (walk depth l).end ≡ refused PastRoom l.place
 unfolding walk read
-walk-content_past zero l rest h e is past = let tight : nat_lt rest.room h.arg ≡ true = lt_true _ _ past in rw (e, is, tight) refl
-walk-content_past (suc depth) l rest h e is past = let tight : nat_lt rest.room h.arg ≡ true = lt_true _ _ past in rw (e, is, tight) refl
+walk-content_past zero l rest h e is past = let tight : nat_lt rest.room h.arg ≡ true = lt-ltb _ _ past in rw (e, is, tight) refl
+walk-content_past (suc depth) l rest h e is past = let tight : nat_lt rest.room h.arg ≡ true = lt-ltb _ _ past in rw (e, is, tight) refl
 
 -- children
 pub walk-deep : (l rest : Left) (h : Head) → head l ≡ Ok (h, rest) → is_string h ≡ false → is_parent h ≡ true
@@ -64,7 +65,7 @@ pub walk-children_past : (depth : ℕ) (l rest : Left) (h : Head) → head l ≡
     → rest.room < child_count h → (walk (suc depth) l).end ≡ refused PastRoom l.place
 unfolding walk read
 walk-children_past depth l rest h e no_string is past =
-    let tight : nat_lt rest.room (child_count h) ≡ true = lt_true _ _ past in rw (e, no_string, is, tight) refl
+    let tight : nat_lt rest.room (child_count h) ≡ true = lt-ltb _ _ past in rw (e, no_string, is, tight) refl
 
 by_child : (r : Outcome Item) → end_of (r >>= λ first. Ok (item first.0 no_items, first.1)) ≡ end_of r
 by_child r = end_of-made r (λ t. item t no_items)
@@ -88,6 +89,6 @@ pub walk-children : (depth : ℕ) (l rest : Left) (h : Head) → head l ≡ Ok (
     → child_count h ≤ rest.room → walk (suc depth) l ≡ walk_all depth (child_count h) rest
 unfolding walk walk_all read open_in
 walk-children depth l rest h e no_string is fits =
-    let roomy : nat_lt rest.room (child_count h) ≡ false = lt_false _ _ fits in
+    let roomy : nat_lt rest.room (child_count h) ≡ false = le-ltb _ _ fits in
     let same = children_walk (read depth) h rest in
     rw (e, no_string, is, roomy, same) refl

@@ -10,7 +10,8 @@ use Rattle.cose_head.specs.declared.walker.Progress.TheVariants.{Open, Whole}
 use Rattle.cose_head.specs.declared.walker.Step.TheVariants.{Going, Done, Fault}
 use Rattle.cose_head.specs.Measured.{left_of}
 use Rattle.cose_head.specs.Reading.{Left, Outcome, read}
-use Rattle.cose_head.specs.Walking.{Walk, open_in, end_of, walk}
+use Rattle.cose_head.specs.Open.{open_in}
+use Rattle.cose_head.specs.Walking.{Walk, end_of, walk}
 use Rattle.cose_head.specs.Walker.{left_at, go_on, resume, HasPut, Answers, Leads, Passes}
 use Rattle.cose_head.proofs.Walks.{finish-none}
 use Rattle.cose_head.proofs.WalkSteps.{go_on-open, go_on-short}
@@ -94,7 +95,7 @@ module _ {D : ℕ} (w : Walker D) (room : ℕ) (put : List ℕ) (has : HasPut ro
 
   pub open_so_far : open_in D (left_of put room 0) ≡ record { items = length w.counts.items; content = w.string }
   unfolding resume
-  open_so_far = opened_so_far ∙ go_on-open D w.counts.items w.half.items w.string w.room w.place w.begun
+  open_so_far = opened_so_far ∙ go_on-open D w.counts.items w.half.items w.string w.room w.place w.begun (omega (arith, w.fits))
 
   read_more : (more : List ℕ) → end_of (read D (left_of (put ++ more) room 0)) ≡ (resume w more).end
   read_more more = sym (end_of_walk D (left_of (put ++ more) room 0)) ∙ ap (λ (k : Walk). k.end) (has.rest more)

@@ -4,7 +4,8 @@ use Rattle.std.proofs.lemmas.List.{length-append}
 use Rattle.cose_head.specs.declared.refusal.Refusal.{Refusal}
 use Rattle.cose_head.specs.Item.{Item, Items, item}
 use Rattle.cose_head.specs.Reading.{Left, Outcome, Reader, read, read_all, ◌>>=◌}
-use Rattle.cose_head.specs.Walking.{Open, open_child, open_all, open_in, Walk, end_of, ends, walk, walk_all, past_child, within, finish}
+use Rattle.cose_head.specs.Open.{Open, open_child, open_all, open_in}
+use Rattle.cose_head.specs.Walking.{Walk, end_of, ends, walk, walk_all, past_child, within, finish}
 
 -- what is made of a value doesn't change where it ends
 pub end_of-made : {A B : Type 0} (r : Outcome A) (make : A → B) → end_of (r >>= λ x. Ok (make x.0, x.1)) ≡ end_of r

@@ -5,6 +5,7 @@ pub mod Reading
 pub mod Shortest
 pub mod Measured
 pub mod HalfHead
+pub mod Open
 pub mod Walking
 pub mod Walker
 pub mod Laws

@@ -1,45 +1,13 @@
--- Reading an item byte by byte: what is open where the bytes end, and what is left to be read.
+-- What is left to be read of an item of which some bytes were read.
 use Rattle.std.specs.Prelude.{◌≡◌, ℕ, zero, suc, ◌+◌, ◌-◌, true, false, List, [], ◌∷◌, ◌++◌, length, Result, Ok, Err, nat_lt, if◌then◌else◌}
 use Rattle.cose_head.specs.declared.head.Head.{Head}
 use Rattle.cose_head.specs.declared.reason.Reason.TheVariants.{Truncated}
 use Rattle.cose_head.specs.declared.refusal.Refusal.{Refusal}
 use Rattle.cose_head.specs.declared.walker.Follows.{Follows}
 use Rattle.cose_head.specs.declared.walker.Follows.TheVariants.{Nothing, Content, Children}
-use Rattle.cose_head.specs.Item.{Item}
 use Rattle.cose_head.specs.Measured.{left_of}
-use Rattle.cose_head.specs.Reading.{Left, Outcome, Reader, after, head, is_string, is_parent, child_count, read, read_all}
-
--- What is open where the bytes end: how many arrays, maps and tags whose head is there and whose end isn't,
--- and how many bytes are to come of a string whose head is there.
-pub record Open : Type 0 where
-  pub items : ℕ
-  pub content : ℕ
-
-abbrev pub nothing_open : Open
-nothing_open = record { items = 0; content = 0 }
-
-abbrev pub in_parent : Open → Open
-in_parent o = record { items = 1 + o.items; content = o.content }
-
--- Of the children of an open item those that are whole are past. The first that isn't says what is open in it.
-abbrev pub open_child : Outcome Item → Open → (Left → Open) → Open
-open_child (Ok found) inside next = next found.1
-open_child (Err refusal) inside next = in_parent inside
-
-abbrev pub open_all : Reader Item → (Left → Open) → ℕ → Left → Open
-open_all one inside zero l = nothing_open
-open_all one inside (suc n) l = open_child (one l) (inside l) (open_all one inside n)
-
-abbrev pub past_head : (ℕ → Left → Open) → Outcome Head → Open
-past_head children (Err refusal) = nothing_open
-past_head children (Ok h) =
-    if is_string h.0 then record { items = 0; content = h.0.arg - length h.1.bytes } else
-    if is_parent h.0 then children (child_count h.0) h.1 else nothing_open
-
--- What is open of an item where read says that the bytes end too early.
-unfoldable pub open_in : ℕ → Left → Open
-open_in zero l = past_head (λ n rest. nothing_open) (head l)
-open_in (suc depth) l = past_head (open_all (read depth) (open_in depth)) (head l)
+use Rattle.cose_head.specs.Open.{Open, nothing_open, in_parent, open_all, open_in}
+use Rattle.cose_head.specs.Reading.{Left, Outcome, after, is_string, is_parent, child_count, read, read_all}
 
 -- Reading without the value: where the item ends, or why it is refused, and what is open where the bytes end.
 pub record Walk : Type 0 where

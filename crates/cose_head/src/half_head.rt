@@ -1,6 +1,6 @@
 //! Heads whose bytes come one by one.
 
-ghost use Rattle.std.specs.Prelude.{◌≡◌, ℕ, List, [], ◌∷◌, ◌++◌, true};
+ghost use Rattle.std.specs.Prelude.{◌≡◌, ◌≤◌, ℕ, length, List, [], ◌∷◌, ◌++◌, true};
 ghost use Rattle.cose_head.specs.HalfHead.{is_half, HeadSoFar, kept_of};
 
 use crate::head::{Head, HeadStep, parse_head};
@@ -9,7 +9,7 @@ use arrayvec::ArrayVec;
 
 /// The head that these first bytes of an item are, or nothing where it isn't whole yet.
 fn head_so_far(first: &[u8], room: usize) -> Result<Option<Head>, Reason>
-    requires { (half : List ℕ) × (byte : ℕ) × (first.now ≡ half ++ byte ∷ []) × (is_half half ≡ true) }
+    requires { (half : List ℕ) × (byte : ℕ) × (first.now ≡ half ++ byte ∷ []) × (is_half half ≡ true) × (length half ≤ room) }
     ensures { HeadSoFar first.now room result }
 {
     if room < first.len() {
@@ -34,10 +34,12 @@ pub(crate) fn take_head_byte(
     byte: u8,
     room: usize,
 ) -> Result<Option<Head>, Reason>
-    requires { is_half half.old.items ≡ true }
+    requires begun { is_half half.old.items ≡ true }
+    requires fits { length half.old.items ≤ room }
     ensures head { HeadSoFar (half.old.items ++ byte ∷ []) room result }
     ensures kept { half.new.items ≡ kept_of result (half.old.items ++ byte ∷ []) }
     ensures begun { is_half half.new.items ≡ true }
+    ensures fits { length half.new.items ≤ room }
 {
     half.push(byte);
     let head = head_so_far(half, room);

@@ -3,8 +3,9 @@
 ghost use Rattle.std.specs.Prelude.{◌≡◌, ◌<◌, ◌≤◌, ◌+◌, ◌-◌, ◌*◌, ◌^◌, ℕ, List, [], ◌∷◌, ◌++◌, length, true, if◌then◌else◌, max, OnOk};
 ghost use Rattle.cose_head.specs.HalfHead.{is_half, IsHeadAt};
 ghost use Rattle.cose_head.specs.Measured.{left_of};
+ghost use Rattle.cose_head.specs.Open.{open_in};
 ghost use Rattle.cose_head.specs.Reading.{Left, read};
-ghost use Rattle.cose_head.specs.Walking.{ends, walk, walk_all, walk_content, finish, open_in, FollowsHead};
+ghost use Rattle.cose_head.specs.Walking.{ends, walk, walk_all, walk_content, finish, FollowsHead};
 
 use crate::half_head::take_head_byte;
 use crate::head::Head;
@@ -84,7 +85,7 @@ pub struct Walker<const D: usize> {
     step: Step,
     ghost begun: { is_half half.items ≡ true },
     ghost one_part: { 0 < string → length half.items ≡ 0 },
-    ghost string_fits: { string ≤ room },
+    ghost fits: { length half.items + string ≤ room },
     ghost room_fits: { place + room < 2 ^ 64 },
 }
 
@@ -109,7 +110,8 @@ impl<const D: usize> Walker<D> {
     /// How many arrays, maps and tags are open: their head was put, and their end wasn't.
     pub fn open_items(&self) -> usize
         ensures limit { result ≤ D }
-        ensures open { (room : ℕ) (bytes : List ℕ) → HasPut room bytes self.now → result ≡ (open_in D (left_of bytes room 0)).items }
+        ensures open { (room : ℕ) (bytes : List ℕ) → HasPut room bytes self.now
+            → result ≡ (open_in D (left_of bytes room 0)).items }
         ensures settled { (last_step self.now ≡ Step.Going → ⊥) → result ≡ 0 }
     {
         match self.step {
@@ -120,10 +122,13 @@ impl<const D: usize> Walker<D> {
 
     /// How many bytes are left of the open string, 1 where none is open, and 0 once the item is whole or refused.
     pub fn want(&self) -> usize
-        ensures content { (room : ℕ) (bytes : List ℕ) → HasPut room bytes self.now → result ≡ max 1 (open_in D (left_of bytes room 0)).content }
+        ensures content { (room : ℕ) (bytes : List ℕ) → HasPut room bytes self.now
+            → result ≡ max 1 (open_in D (left_of bytes room 0)).content }
         // Fewer further bytes neither end the item nor refuse it.
-        ensures early { (room : ℕ) (bytes more : List ℕ) → HasPut room bytes self.now → 0 < room → length more < result → Answers room (bytes ++ more) Step.Going (read D (left_of (bytes ++ more) room 0)) }
-        ensures fits { (room : ℕ) (bytes : List ℕ) → HasPut room bytes self.now → 0 < room → length bytes + result ≤ room }
+        ensures early { (room : ℕ) (bytes more : List ℕ) → HasPut room bytes self.now
+            → 0 < room → length more < result → Answers room (bytes ++ more) Step.Going (read D (left_of (bytes ++ more) room 0)) }
+        ensures fits { (room : ℕ) (bytes : List ℕ) → HasPut room bytes self.now
+            → 0 < room → length bytes + result ≤ room }
         ensures settled { (last_step self.now ≡ Step.Going → ⊥) → result ≡ 0 }
     {
         match self.step {
@@ -148,9 +153,12 @@ impl<const D: usize> Walker<D> {
     ///
     /// The answer is that of reading all bytes that were put. Once the item is whole or refused, it is the same again and nothing changes.
     pub fn put(&mut self, byte: u8) -> Step
-        ensures answer { (room : ℕ) (bytes : List ℕ) → HasPut room bytes self.old → Answers room (bytes ++ byte ∷ []) result (read D (left_of (bytes ++ byte ∷ []) room 0)) }
-        ensures put { (room : ℕ) (bytes : List ℕ) → HasPut room bytes self.old → result ≡ Step.Going → HasPut room (bytes ++ byte ∷ []) self.new }
-        ensures among { (room : ℕ) (bytes : List ℕ) → HasPut room bytes self.old → StandsAmong room (bytes ++ byte ∷ []) result }
+        ensures answer { (room : ℕ) (bytes : List ℕ) → HasPut room bytes self.old
+            → Answers room (bytes ++ byte ∷ []) result (read D (left_of (bytes ++ byte ∷ []) room 0)) }
+        ensures put { (room : ℕ) (bytes : List ℕ) → HasPut room bytes self.old
+            → result ≡ Step.Going → HasPut room (bytes ++ byte ∷ []) self.new }
+        ensures among { (room : ℕ) (bytes : List ℕ) → HasPut room bytes self.old
+            → StandsAmong room (bytes ++ byte ∷ []) result }
         ensures step { last_step self.new ≡ result }
         ensures kept { (last_step self.old ≡ Step.Going → ⊥) → self.new ≡ self.old }
     {
@@ -282,7 +290,7 @@ impl<const D: usize> Walker<D> {
 
     /// Passes over bytes that were used.
     fn pass_over(&mut self, count: usize)
-        requires { self.old.string + count ≤ self.old.room }
+        requires { length self.old.half.items + self.old.string + count ≤ self.old.room }
         ensures { Passes self.old self.new count }
     {
         self.room -= count;

@@ -18,7 +18,7 @@ returns-then-self-gt0-clause-leads g c =
           ∙ sym (go_on-content g.row.D then.counts.items then.half.items then.string (left_at then bytes) c.if-self-gt0.true),
       (
         waits-content g.row.D then.counts.items then.half.items then.string then.room then.place c.if-self-gt0.true no_half,
-        omega (arith, then.string_fits),
+        omega (arith, then.fits),
       ),
     )
 

@@ -1,5 +1,5 @@
 use Rattle.std.proofs.Common.{◌∙◌, sym, ap}
-use Rattle.cose_head.specs.Walking.{Open}
+use Rattle.cose_head.specs.Open.{Open}
 use Rattle.cose_head.proofs.WalkerSteps.{open_so_far}
 use Rattle.cose_head.proofs.walker.Walker.open_items.Goals as goal
 
