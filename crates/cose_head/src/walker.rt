@@ -164,7 +164,7 @@ impl<const D: usize> Walker<D> {
     {
         match self.step {
             Step::Going => {
-                self.step = match self.advance(byte) {
+                let step = match self.advance(byte) {
                     Ok(Progress::Open) => Step::Going,
                     Ok(Progress::Whole) => Step::Done,
                     Err(reason) => Step::Fault(Refusal {
@@ -172,7 +172,8 @@ impl<const D: usize> Walker<D> {
                         place: self.place as u64,
                     }),
                 };
-                self.step
+                self.step = step;
+                step
             }
             Step::Done | Step::Fault(_) => self.step,
         }
@@ -282,10 +283,10 @@ impl<const D: usize> Walker<D> {
         if !next_child(&mut self.counts) {
             return Ok(Progress::Whole);
         }
-        if self.room == 0 {
-            return Err(Reason::PastRoom);
+        if self.room > 0 {
+            return Ok(Progress::Open);
         }
-        Ok(Progress::Open)
+        Err(Reason::PastRoom)
     }
 
     /// Passes over bytes that were used.

@@ -9,11 +9,11 @@ pub returns-after-advance-clause-answer : goal.returns-after-advance-clause-answ
 returns-after-advance-clause-answer g c = λ room put has. elim c.match-advance.branch [
   | in-Ok-Open w ↦
       (let leads = rw w.in-Ok-Open.field-0-is at w.in-Ok-Open.ensures.leads in
-      rw w.self-is (answers_open c.args.self.now c.advance.new.self room put c.args.byte has leads w.in-Ok-Open.ensures.taken))
+      rw w.step-is (answers_open c.args.self.now c.advance.new.self room put c.args.byte has leads w.in-Ok-Open.ensures.taken))
   | in-Ok-Whole w ↦
       (let leads = rw w.in-Ok-Whole.field-0-is at w.in-Ok-Whole.ensures.leads in
-      rw w.self-is (answers_whole c.args.self.now c.advance.new.self room put c.args.byte has leads w.in-Ok-Whole.ensures.taken w.in-Ok-Whole.ensures.left))
-  | in-Err w ↦ rw w.self-is (answers_fault c.args.self.now c.advance.new.self room put c.args.byte has w.in-Err.reason w.in-Err.ensures.leads)
+      rw w.step-is (answers_whole c.args.self.now c.advance.new.self room put c.args.byte has leads w.in-Ok-Whole.ensures.taken w.in-Ok-Whole.ensures.left))
+  | in-Err w ↦ rw w.step-is (answers_fault c.args.self.now c.advance.new.self room put c.args.byte has w.in-Err.reason w.in-Err.ensures.leads)
 ]
 
 pub returns-after-advance-clause-put : goal.returns-after-advance-clause-put
@@ -28,6 +28,6 @@ returns-after-advance-clause-put g c = λ room put has next. elim c.match-advanc
         waits = λ some. leads.1;
         going = next;
       })
-  | in-Ok-Whole w ↦ (let other : Done ≡ Going = sym w.self-is ∙ next in cc)
-  | in-Err w ↦ (let other = sym w.self-is ∙ next in cc)
+  | in-Ok-Whole w ↦ (let other : Done ≡ Going = sym w.step-is ∙ next in cc)
+  | in-Err w ↦ (let other = sym w.step-is ∙ next in cc)
 ]
