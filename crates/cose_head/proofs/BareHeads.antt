@@ -16,7 +16,7 @@ use Rattle.cose_head.proofs.HeadCases.{low_cases}
 use Rattle.cose_head.proofs.Sound.{head_part}
 
 -- what isn't More stays
-checked_whole : (h : Head) → IsWhole (simple_checked h)
+pub checked_whole : (h : Head) → IsWhole (simple_checked h)
 checked_whole h = cond_both (is_bad_simple h) (Fault BadSimple) (Got h h.width) IsWhole (λ e. tt) (λ e. tt)
 
 past_stays : (fault : Option Reason) (wanted initial : ℕ) (rest more : List ℕ) → IsWhole (after_initial fault wanted initial rest) →

@@ -1,8 +1,14 @@
 pub mod HeadLemmas
 pub mod WorkedItems
+pub mod WorkedOpen
 pub mod Heads
 pub mod Measuring
 pub mod ItemSteps
+pub mod HalfHeads
+pub mod Walks
+pub mod WalkedHeads
+pub mod WalkSteps
+pub mod WalkerSteps
 pub mod HeadCases
 pub mod Steps
 pub mod Stable

@@ -4,4 +4,8 @@ pub mod Item
 pub mod Reading
 pub mod Shortest
 pub mod Measured
+pub mod HalfHead
+pub mod Open
+pub mod Walking
+pub mod Walker
 pub mod Laws
