@@ -3,3 +3,4 @@ pub mod WorkedItems
 pub mod Heads
 pub mod Measuring
 pub mod ItemSteps
+pub mod WorkedPlaced

@@ -4,3 +4,4 @@ pub mod Item
 pub mod Reading
 pub mod Shortest
 pub mod Measured
+pub mod Placed
