@@ -19,3 +19,5 @@ pub mod ShortHeads
 pub mod ShortItems
 pub mod ReadLaws
 pub mod Spans
+pub mod WorkedPlaced
+pub mod Looks

@@ -9,3 +9,6 @@ pub mod Open
 pub mod Walking
 pub mod Walker
 pub mod Laws
+pub mod Placed
+pub mod ItemRef
+pub mod Items

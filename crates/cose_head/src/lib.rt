@@ -4,6 +4,8 @@
 mod half_head;
 mod head;
 mod item;
+mod item_ref;
+mod items;
 mod kind;
 pub mod laws;
 mod reason;
@@ -12,6 +14,8 @@ mod walker;
 
 pub use head::{Head, HeadStep, parse_head, write_head};
 pub use item::{Span, read_item};
+pub use item_ref::ItemRef;
+pub use items::Items;
 pub use kind::Kind;
 pub use reason::Reason;
 pub use refusal::Refusal;

@@ -1,0 +1,77 @@
+-- Items, what they are, and their children, on examples, by computing.
+use Rattle.std.proofs.Common.{◌≡◌, ℕ, pos, negsuc, true, false, List, [], ◌∷◌, refl}
+use Rattle.cose_head.specs.Head.{bare_head}
+use Rattle.cose_head.specs.Placed.{Placed, Look, integer, byte_content, text_content, an_array, a_map, a_tag, truth, a_float, other, look, children_of, items_from, head_of_item}
+use Rattle.cose_head.specs.Reading.{read, head}
+use Rattle.cose_head.specs.Item.{depth_of}
+
+abbrev at : ℕ → List ℕ → Placed
+at place bytes = record { bytes = bytes; place = place }
+
+unfoldable seen : List ℕ → Look
+unfolding look head_of_item bare_head
+seen bytes = look (at 0 bytes)
+
+unfoldable children : ℕ → List ℕ → List Placed
+unfolding children_of items_from head_of_item bare_head read head depth_of
+children place bytes = children_of (at place bytes)
+
+wide_number : seen (0x18 ∷ 1 ∷ []) ≡ integer (pos 1)
+unfolding seen
+wide_number = refl
+
+minus_one : seen (0x38 ∷ 0 ∷ []) ≡ integer (negsuc 0)
+unfolding seen
+minus_one = refl
+
+bytes : seen (0x42 ∷ 1 ∷ 2 ∷ []) ≡ byte_content (1 ∷ 2 ∷ [])
+unfolding seen
+bytes = refl
+
+text : seen (0x61 ∷ 0x31 ∷ []) ≡ text_content (0x31 ∷ [])
+unfolding seen
+text = refl
+
+array : seen (0x80 ∷ []) ≡ an_array
+unfolding seen
+array = refl
+
+map : seen (0xa0 ∷ []) ≡ a_map
+unfolding seen
+map = refl
+
+date : seen (0xc1 ∷ 0 ∷ []) ≡ a_tag 1
+unfolding seen
+date = refl
+
+yes_value : seen (0xf5 ∷ []) ≡ truth true
+unfolding seen
+yes_value = refl
+
+no_value : seen (0xf4 ∷ []) ≡ truth false
+unfolding seen
+no_value = refl
+
+half_float : seen (0xf9 ∷ 0x3c ∷ 0 ∷ []) ≡ a_float
+unfolding seen
+half_float = refl
+
+nil : seen (0xf6 ∷ []) ≡ other
+unfolding seen
+nil = refl
+
+no_bytes : seen [] ≡ other
+unfolding seen
+no_bytes = refl
+
+pairs : children 3 (0xa2 ∷ 1 ∷ 5 ∷ 2 ∷ 0x81 ∷ 1 ∷ []) ≡ at 4 (1 ∷ []) ∷ at 5 (5 ∷ []) ∷ at 6 (2 ∷ []) ∷ at 7 (0x81 ∷ 1 ∷ []) ∷ []
+unfolding children
+pairs = refl
+
+elements : children 0 (0x98 ∷ 2 ∷ 0x41 ∷ 7 ∷ 0 ∷ []) ≡ at 2 (0x41 ∷ 7 ∷ []) ∷ at 4 (0 ∷ []) ∷ []
+unfolding children
+elements = refl
+
+not_a_parent : children 0 (0xc1 ∷ 0 ∷ []) ≡ []
+unfolding children
+not_a_parent = refl

@@ -1,0 +1,123 @@
+-- Items above the grammar (RFC 8949 section 3): an item is its bytes and their place. What it is comes from its head,
+-- and its children from the bytes after the head. Each word answers for every list of bytes.
+use Rattle.std.specs.Prelude.{ℕ, zero, suc, ◌+◌, ◌*◌, ℤ, pos, negsuc, Bool, true, false, List, [], ◌∷◌, length, take, drop, Option, Some, None, Result, Ok, Err, nat_lt, ◌==◌, ◌||◌, if◌then◌else◌}
+use Rattle.std.specs.Str.{is_utf8}
+use Rattle.cose_head.specs.declared.head.Head.{Head}
+use Rattle.cose_head.specs.declared.head.HeadStep.{HeadStep}
+use Rattle.cose_head.specs.declared.head.HeadStep.TheVariants.{Got}
+use Rattle.cose_head.specs.declared.item.Span.{Span}
+use Rattle.cose_head.specs.declared.refusal.Refusal.{Refusal}
+use Rattle.cose_head.specs.Head.{bare_head}
+use Rattle.cose_head.specs.Reading.{read, span_of}
+use Rattle.cose_head.specs.Measured.{left_of}
+
+pub record Placed : Type 0 where
+  pub bytes : List ℕ
+  pub place : ℕ
+
+-- The head of an item. Bytes that begin with none count as the simple value undefined (section 3.3).
+abbrev pub undefined : Head
+undefined = record { major = 7; arg = 23; width = 1 }
+
+abbrev pub head_or_undefined : HeadStep → Head
+head_or_undefined (Got head used) = head
+head_or_undefined _ = undefined
+
+unfoldable pub head_of_item : Placed → Head
+head_of_item p = head_or_undefined (bare_head p.bytes)
+
+-- What an item is: an integer, the content of a string, an array, a map, a tag with its number, a truth value, a float,
+-- or another simple value. The argument n of major 1 is the number -1 - n.
+pub data Look : Type 0 where
+  integer : ℤ → Look
+  byte_content : List ℕ → Look
+  text_content : List ℕ → Look
+  an_array : Look
+  a_map : Look
+  a_tag : ℕ → Look
+  truth : Bool → Look
+  a_float : Look
+  other : Look
+
+abbrev pub simple_look : Head → Look
+simple_look h =
+    if nat_lt 2 h.width then a_float else
+    if h.arg == 20 then truth false else
+    if h.arg == 21 then truth true else other
+
+abbrev pub look_with : Head → List ℕ → Look
+look_with h rest =
+    if h.major == 0 then integer (pos h.arg) else
+    if h.major == 1 then integer (negsuc h.arg) else
+    if h.major == 2 then byte_content (take h.arg rest) else
+    if h.major == 3 then text_content (take h.arg rest) else
+    if h.major == 4 then an_array else
+    if h.major == 5 then a_map else
+    if h.major == 6 then a_tag h.arg else simple_look h
+
+-- The bytes after the head, and their place.
+abbrev pub past_head : Head → Placed → Placed
+past_head h p = record { bytes = drop h.width p.bytes; place = p.place + h.width }
+
+unfoldable pub look : Placed → Look
+look p = look_with (head_of_item p) (past_head (head_of_item p) p).bytes
+
+-- The integer that an item is, the content of a byte string, and the content of a text that is UTF-8 (section 3.1).
+abbrev pub integer_in : Look → Option ℤ
+integer_in (integer z) = Some z
+integer_in _ = None
+
+abbrev pub bytes_in : Look → Option (List ℕ)
+bytes_in (byte_content content) = Some content
+bytes_in _ = None
+
+abbrev pub if_utf8 : List ℕ → Option (List ℕ)
+if_utf8 content = if is_utf8 content then Some content else None
+
+abbrev pub text_in : Look → Option (List ℕ)
+text_in (text_content content) = if_utf8 content
+text_in _ = None
+
+abbrev pub is_an_array : Look → Bool
+is_an_array an_array = true
+is_an_array _ = false
+
+abbrev pub is_a_map : Look → Bool
+is_a_map a_map = true
+is_a_map _ = false
+
+abbrev pub is_a_float : Look → Bool
+is_a_float a_float = true
+is_a_float _ = false
+
+-- The item at the front of the bytes, of any nesting that the library reads.
+abbrev pub span_at : List ℕ → Result Span Refusal
+span_at bytes = span_of (read 32 (left_of bytes (length bytes) 0))
+
+-- So many items, one after another, and none from where no item is.
+abbrev pub first_of : (Placed → List Placed) → Placed → Result Span Refusal → List Placed
+first_of others p (Ok span) =
+    record { bytes = take span.length p.bytes; place = p.place } ∷
+    others (record { bytes = drop span.length p.bytes; place = p.place + span.length })
+first_of others p (Err refusal) = []
+
+unfoldable pub items_from : ℕ → Placed → List Placed
+items_from zero p = []
+items_from (suc n) p = first_of (items_from n) p (span_at p.bytes)
+
+-- The direct children of an array or a map, in their order. A map's are label, value, label, value.
+abbrev pub has_children : Head → Bool
+has_children h = h.major == 4 || h.major == 5
+
+abbrev pub children_announced : Head → ℕ
+children_announced h = if h.major == 4 then h.arg else 2 * h.arg
+
+abbrev pub children_with : Head → Placed → List Placed
+children_with h p = if has_children h then items_from (children_announced h) (past_head h p) else []
+
+unfoldable pub children_of : Placed → List Placed
+children_of p = children_with (head_of_item p) p
+
+-- The children of an item that is an array or a map, if only none.
+abbrev pub children_if_any : Placed → Option (List Placed)
+children_if_any p = if has_children (head_of_item p) then Some (children_of p) else None

@@ -1,0 +1,4 @@
+pub mod Label
+pub mod Maps
+pub mod Bucket
+pub mod PairFault
