@@ -21,3 +21,4 @@ pub mod ReadLaws
 pub mod Spans
 pub mod WorkedPlaced
 pub mod Looks
+pub mod PlacedTrees
