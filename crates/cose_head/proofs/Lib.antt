@@ -22,3 +22,4 @@ pub mod ReadLaws
 pub mod Spans
 pub mod WorkedPlaced
 pub mod Looks
+pub mod PlacedTrees

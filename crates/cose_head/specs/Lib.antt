@@ -10,5 +10,6 @@ pub mod Walking
 pub mod Walker
 pub mod Laws
 pub mod Placed
+pub mod PlacedLaws
 pub mod ItemRef
 pub mod Items
