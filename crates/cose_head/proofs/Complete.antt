@@ -22,31 +22,43 @@ rest_is l rest P p =
     rw (b, m, ← p.place) refl
 
 -- a part of two parts
-split : (l rest : Left) (P Q R : List ℕ → Type 0) (p : Between l rest R) (a b : List ℕ) → p.part ≡ a ++ b → P a → Q b → (middle : Left) × Between l middle P × Between middle rest Q
+split : (l rest : Left) (P Q R : List ℕ → Type 0) (p : Between l rest R) (a b : List ℕ) → p.part ≡ a ++ b → P a → Q b → (middle : Left)
+    × Between l middle P × Between middle rest Q
 split l rest P Q R p a b e is_first is_second =
     let n = length-append a b in
     let c : length p.part ≡ length (a ++ b) = ap length e in
     let r = p.room in let s = p.place in (
       left_of (b ++ rest.bytes) (l.room - length a) (l.place + length a),
-      record { part = a; whole = p.whole ∙ ap (λ x. x ++ rest.bytes) e ∙ append_assoc a b rest.bytes; room = omega arith; place = refl; is_part = is_first },
+      record {
+        part = a;
+        whole = p.whole ∙ ap (λ x. x ++ rest.bytes) e ∙ append_assoc a b rest.bytes;
+        room = omega arith;
+        place = refl;
+        is_part = is_first;
+      },
       record { part = b; whole = refl; room = omega arith; place = omega arith; is_part = is_second },
     )
 
 -- a head that is spelled is read
-head_spelled : (initial : ℕ) (argument rest : List ℕ) (room place : ℕ) → low_of initial < 28 → length argument ≡ argument_length (low_of initial) → length argument < room →
+head_spelled : (initial : ℕ) (argument rest : List ℕ) (room place : ℕ) → low_of initial < 28 →
+    length argument ≡ argument_length (low_of initial) → length argument < room →
     is_bad_simple (head_of initial argument) ≡ false →
-    head (left_of (initial ∷ (argument ++ rest)) room place) ≡ Ok (head_of initial argument, after (1 + length argument) (left_of (initial ∷ (argument ++ rest)) room place))
+    head (left_of (initial ∷ (argument ++ rest)) room place) ≡ Ok
+    (head_of initial argument, after (1 + length argument) (left_of (initial ∷ (argument ++ rest)) room place))
 unfolding head
 head_spelled initial argument rest room place definite wide fits good =
     let n = length-append argument rest in
     let some : room == 0 ≡ false = ne_eqb room 0 (λ e. absurd (omega arith)) in
     let low : nat_lt (low_of initial) 28 ≡ true = lt-ltb (low_of initial) 28 definite in
     let in_room : nat_lt (room - 1) (argument_length (low_of initial)) ≡ false = le-ltb (room - 1) (argument_length (low_of initial)) (omega arith) in
-    let there : nat_lt (length (argument ++ rest)) (argument_length (low_of initial)) ≡ false = le-ltb (length (argument ++ rest)) (argument_length (low_of initial)) (omega arith) in
-    let seam : take (argument_length (low_of initial)) (argument ++ rest) ≡ argument = ap (λ m. take m (argument ++ rest)) (sym wide) ∙ take-append_seam argument rest in
+    let there : nat_lt (length (argument ++ rest)) (argument_length (low_of initial)) ≡ false = le-ltb (length (argument ++ rest))
+    (argument_length (low_of initial)) (omega arith) in
+    let seam : take (argument_length (low_of initial)) (argument ++ rest) ≡ argument = ap (λ m. take m (argument ++ rest)) (sym wide)
+    ∙ take-append_seam argument rest in
     rw (some, low, in_room, there, seam, good) refl
 
-pub head_again : (l rest : Left) (major argument : ℕ) (p : Between l rest (λ part. IsHead part major argument)) → is_bad_simple (record { major = major; arg = argument; width = length p.part }) ≡ false →
+pub head_again : (l rest : Left) (major argument : ℕ) (p : Between l rest (λ part. IsHead part major argument)) →
+    is_bad_simple (record { major = major; arg = argument; width = length p.part }) ≡ false →
     head l ≡ Ok (record { major = major; arg = argument; width = length p.part }, rest)
 head_again l rest major argument p good =
     let s : IsHead p.part major argument = p.is_part in
@@ -57,7 +69,8 @@ head_again l rest major argument p good =
     let r = p.room in
     let same : head_of s.initial s.argument_bytes ≡ found = rw (s.has_major, s.has_argument, w) refl in
     let left : after (1 + length s.argument_bytes) (left_of (s.initial ∷ (s.argument_bytes ++ rest.bytes)) l.room l.place) ≡ rest =
-    ap (λ m. after m (left_of (s.initial ∷ (s.argument_bytes ++ rest.bytes)) l.room l.place)) w ∙ ap (λ b. after (length p.part) (left_of b l.room l.place)) (sym bytes) ∙ rest_is l rest (λ part. IsHead part major argument) p in
+    ap (λ m. after m (left_of (s.initial ∷ (s.argument_bytes ++ rest.bytes)) l.room l.place)) w
+    ∙ ap (λ b. after (length p.part) (left_of b l.room l.place)) (sym bytes) ∙ rest_is l rest (λ part. IsHead part major argument) p in
     let result : Head → Left → Outcome Head = λ h m. Ok (h, m) in
     ap (λ b. head (left_of b l.room l.place)) bytes
     ∙ head_spelled s.initial s.argument_bytes rest.bytes l.room l.place s.is_definite s.has_width (omega arith) (ap is_bad_simple same ∙ good)
@@ -97,12 +110,15 @@ count_fits (item first others) part s =
 
 -- what follows a head
 leaf_again : (depth : ℕ) (l rest : Left) (major argument : ℕ) (content : Item) (p : Between l rest (λ part. IsHead part major argument)) (h : Head) →
-    h ≡ record { major = major; arg = argument; width = length p.part } → is_bad_simple h ≡ false → is_string h ≡ false → is_parent h ≡ false → leaf h ≡ content → read depth l ≡ Ok (content, rest)
+    h ≡ record { major = major; arg = argument; width = length p.part } → is_bad_simple h ≡ false → is_string h ≡ false →
+    is_parent h ≡ false → leaf h ≡ content → read depth l ≡ Ok (content, rest)
 leaf_again depth l rest major argument content p h e good no_string no_parent made =
     let result : Item → Outcome Item = λ c. Ok (c, rest) in
-    read_past_head depth l h rest (head_again l rest major argument p (ap is_bad_simple (sym e) ∙ good) ∙ ap {B = Outcome Head} (λ g. Ok (g, rest)) (sym e)) ∙ rw (no_string, no_parent) (ap result made)
+    read_past_head depth l h rest (head_again l rest major argument p (ap is_bad_simple (sym e) ∙ good)
+    ∙ ap {B = Outcome Head} (λ g. Ok (g, rest)) (sym e)) ∙ rw (no_string, no_parent) (ap result made)
 
-string_body : (l rest : Left) (place : ℕ) (h : Head) (content : List ℕ) → Between l rest (λ part. part ≡ content) → h.arg ≡ length content → string place h l ≡ Ok (string_item h content, rest)
+string_body : (l rest : Left) (place : ℕ) (h : Head) (content : List ℕ) → Between l rest (λ part. part ≡ content) → h.arg ≡ length content →
+    string place h l ≡ Ok (string_item h content, rest)
 string_body l rest place h content p e =
     let c : length p.part ≡ length content = ap length p.is_part in
     let r = p.room in
@@ -110,37 +126,47 @@ string_body l rest place h content p e =
     let a : nat_lt l.room h.arg ≡ false = le-ltb l.room h.arg (omega arith) in
     let b : nat_lt (length l.bytes) h.arg ≡ false = le-ltb (length l.bytes) h.arg (omega arith) in
     let m : h.arg ≡ length p.part = e ∙ sym c in
-    let t : take h.arg l.bytes ≡ content = ap (λ k. take k l.bytes) m ∙ ap (take (length p.part)) p.whole ∙ take-append_seam p.part rest.bytes ∙ p.is_part in
+    let t : take h.arg l.bytes ≡ content = ap (λ k. take k l.bytes) m ∙ ap (take (length p.part)) p.whole ∙ take-append_seam p.part rest.bytes
+    ∙ p.is_part in
     let left : after h.arg l ≡ rest = ap (λ k. after k l) m ∙ rest_is l rest (λ part. part ≡ content) p in
     let result : List ℕ → Left → Outcome Item = λ k o. Ok (string_item h k, o) in
     rw (a, b) (ap (λ k. result k (after h.arg l)) t ∙ ap (result content) left)
 
-list_body : (one : Reader Item) (place n : ℕ) (h : Head) (l rest : Left) (items : Items) → h.major == 6 ≡ false → child_count h ≡ n → n ≤ l.room → read_all one n l ≡ Ok (items, rest) →
+list_body : (one : Reader Item) (place n : ℕ) (h : Head) (l rest : Left) (items : Items) → h.major == 6 ≡ false → child_count h ≡ n →
+    n ≤ l.room → read_all one n l ≡ Ok (items, rest) →
     parent (Some one) place h l ≡ Ok (list_item h items, rest)
 list_body one place n h l rest items six count fits all =
     let a : nat_lt l.room n ≡ false = le-ltb l.room n fits in
     rw (count, a, six, all) refl
 
-tag_body : (one : Reader Item) (place : ℕ) (h : Head) (l rest : Left) (content : Item) → h.major == 6 ≡ true → child_count h ≡ 1 → 0 < l.room → one l ≡ Ok (content, rest) →
+tag_body : (one : Reader Item) (place : ℕ) (h : Head) (l rest : Left) (content : Item) → h.major == 6 ≡ true → child_count h ≡ 1 →
+    0 < l.room → one l ≡ Ok (content, rest) →
     parent (Some one) place h l ≡ Ok (tag h.arg content, rest)
 tag_body one place h l rest content six count fits read_one =
     let a : nat_lt l.room 1 ≡ false = le-ltb l.room 1 (omega arith) in
     rw (count, a, six, read_one) refl
 
-string_again : (depth : ℕ) (l rest : Left) (major : ℕ) (content : List ℕ) (made : Item) (p : Between l rest (λ part. Begins part major (length content) (λ q. q ≡ content))) →
-    ((width : ℕ) → is_bad_simple (record { major = major; arg = length content; width = width }) ≡ false) → ((width : ℕ) → is_string (record { major = major; arg = length content; width = width }) ≡ true) →
+string_again : (depth : ℕ) (l rest : Left) (major : ℕ) (content : List ℕ) (made : Item)
+    (p : Between l rest (λ part. Begins part major (length content) (λ q. q ≡ content))) →
+    ((width : ℕ) → is_bad_simple (record { major = major; arg = length content; width = width }) ≡ false) →
+    ((width : ℕ) → is_string (record { major = major; arg = length content; width = width }) ≡ true) →
     ((width : ℕ) → string_item (record { major = major; arg = length content; width = width }) content ≡ made) → read depth l ≡ Ok (made, rest)
 string_again depth l rest major content made p good is_text makes =
     let b = p.is_part in
-    let s = split l rest (λ q. IsHead q major (length content)) (λ q. q ≡ content) (λ q. Begins q major (length content) (λ r. r ≡ content)) p b.head b.rest b.whole b.is_head b.is_rest in
+    let s = split l rest (λ q. IsHead q major (length content)) (λ q. q ≡ content)
+    (λ q. Begins q major (length content) (λ r. r ≡ content)) p b.head b.rest b.whole b.is_head b.is_rest in
     let h : Head = record { major = major; arg = length content; width = length s.1.part } in
     read_past_head depth l h s.0 (head_again l s.0 major (length content) s.1 (good (length s.1.part)))
-    ∙ rw (is_text (length s.1.part)) (string_body s.0 rest l.place h content s.2 refl ∙ ap {B = Outcome Item} (λ c. Ok (c, rest)) (makes (length s.1.part)))
+    ∙ rw (is_text (length s.1.part))
+    (string_body s.0 rest l.place h content s.2 refl ∙ ap {B = Outcome Item} (λ c. Ok (c, rest)) (makes (length s.1.part)))
 
-parent_again : (depth : ℕ) (l middle : Left) (major argument : ℕ) (p : Between l middle (λ part. IsHead part major argument)) (h : Head) → h ≡ record { major = major; arg = argument; width = length p.part } →
+parent_again : (depth : ℕ) (l middle : Left) (major argument : ℕ) (p : Between l middle (λ part. IsHead part major argument)) (h : Head) →
+    h ≡ record { major = major; arg = argument; width = length p.part } →
     is_bad_simple h ≡ false → is_string h ≡ false → is_parent h ≡ true → read (suc depth) l ≡ parent (Some (read depth)) l.place h middle
 parent_again depth l middle major argument p h e good no_string is_list =
-    read_past_head (suc depth) l h middle (head_again l middle major argument p (ap is_bad_simple (sym e) ∙ good) ∙ ap {B = Outcome Head} (λ g. Ok (g, middle)) (sym e)) ∙ rw (no_string, is_list) refl
+    read_past_head (suc depth) l h middle
+    (head_again l middle major argument p (ap is_bad_simple (sym e) ∙ good) ∙ ap {B = Outcome Head} (λ g. Ok (g, middle)) (sym e))
+    ∙ rw (no_string, is_list) refl
 
 simple_good : (n width : ℕ) → (width ≡ 1) ⊎ ((width ≡ 2) × (32 ≤ n)) → (width == 2 && nat_lt n 32) ≡ false
 simple_good n width (inl e) = rw e refl
@@ -158,15 +184,21 @@ float_large width bytes e (inr (inr w)) = let f : bytes ≡ 9 = omega arith in r
 mutual
   unfolding Spells depth_of
 
-  pub complete : (content : Item) (depth : ℕ) (l rest : Left) → Between l rest (λ part. Spells part content) → depth_of content ≤ depth → read depth l ≡ Ok (content, rest)
-  complete (unsigned n) depth l rest p shallow = leaf_again depth l rest 0 n (unsigned n) p (record { major = 0; arg = n; width = length p.part }) refl refl refl refl refl
-  complete (negative n) depth l rest p shallow = leaf_again depth l rest 1 n (negative n) p (record { major = 1; arg = n; width = length p.part }) refl refl refl refl refl
-  complete (byte_string content) depth l rest p shallow = string_again depth l rest 2 content (byte_string content) p (λ w. refl) (λ w. refl) (λ w. refl)
-  complete (text_string content) depth l rest p shallow = string_again depth l rest 3 content (text_string content) p (λ w. refl) (λ w. refl) (λ w. refl)
+  pub complete : (content : Item) (depth : ℕ) (l rest : Left) → Between l rest (λ part. Spells part content) → depth_of content ≤ depth →
+      read depth l ≡ Ok (content, rest)
+  complete (unsigned n) depth l rest p shallow = leaf_again depth l rest 0 n (unsigned n) p
+      (record { major = 0; arg = n; width = length p.part }) refl refl refl refl refl
+  complete (negative n) depth l rest p shallow = leaf_again depth l rest 1 n (negative n) p
+      (record { major = 1; arg = n; width = length p.part }) refl refl refl refl refl
+  complete (byte_string content) depth l rest p shallow = string_again depth l rest 2 content (byte_string content) p (λ w. refl) (λ w. refl)
+      (λ w. refl)
+  complete (text_string content) depth l rest p shallow = string_again depth l rest 3 content (text_string content) p (λ w. refl) (λ w. refl)
+      (λ w. refl)
   complete (array items) zero l rest p shallow = absurd (omega arith)
   complete (array items) (suc depth) l rest p shallow =
       let b : Begins p.part 4 (count_of items) (λ q. SpellsAll q items) = p.is_part in
-      let s = split l rest (λ q. IsHead q 4 (count_of items)) (λ q. SpellsAll q items) (λ q. Spells q (array items)) p b.head b.rest b.whole b.is_head b.is_rest in
+      let s = split l rest (λ q. IsHead q 4 (count_of items)) (λ q. SpellsAll q items)
+      (λ q. Spells q (array items)) p b.head b.rest b.whole b.is_head b.is_rest in
       let h : Head = record { major = 4; arg = count_of items; width = length s.1.part } in
       let n = count_fits items s.2.part s.2.is_part in
       let r = s.2.room in
@@ -196,15 +228,20 @@ mutual
       let widths : (length p.part ≡ 1) ⊎ ((length p.part ≡ 2) × (32 ≤ n)) = p.is_part.1 in
       let small : nat_lt (length p.part) 3 ≡ true = simple_small n (length p.part) widths in
       let h : Head = record { major = 7; arg = n; width = length p.part } in
-      leaf_again depth l rest 7 n (simple n) (record { part = p.part; whole = p.whole; room = p.room; place = p.place; is_part = p.is_part.0 }) h refl (simple_good n (length p.part) widths) refl refl (rw small refl)
+      leaf_again depth l rest 7 n (simple n)
+      (record { part = p.part; whole = p.whole; room = p.room; place = p.place; is_part = p.is_part.0 }) h refl
+      (simple_good n (length p.part) widths) refl refl (rw small refl)
   complete (float width bits) depth l rest p shallow =
       let n : length p.part ≡ 1 + width = p.is_part.1 in
       let large = float_large width (length p.part) n p.is_part.2 in
       let w : length p.part - 1 ≡ width = omega arith in
       let h : Head = record { major = 7; arg = bits; width = length p.part } in
-      leaf_again depth l rest 7 bits (float width bits) (record { part = p.part; whole = p.whole; room = p.room; place = p.place; is_part = p.is_part.0 }) h refl (rw (large.0) refl) refl refl (rw (large.1, w) refl)
+      leaf_again depth l rest 7 bits (float width bits)
+      (record { part = p.part; whole = p.whole; room = p.room; place = p.place; is_part = p.is_part.0 }) h refl
+      (rw (large.0) refl) refl refl (rw (large.1, w) refl)
 
-  pub complete_all : (items : Items) (depth : ℕ) (l rest : Left) → Between l rest (λ part. SpellsAll part items) → deepest items ≤ depth → read_all (read depth) (count_of items) l ≡ Ok (items, rest)
+  pub complete_all : (items : Items) (depth : ℕ) (l rest : Left) → Between l rest (λ part. SpellsAll part items) → deepest items ≤ depth →
+      read_all (read depth) (count_of items) l ≡ Ok (items, rest)
   complete_all no_items depth l rest p shallow =
       let none : length p.part ≡ 0 = ap length p.is_part in
       let same : l ≡ rest = sym (after-zero l) ∙ ap (λ m. after m l) (sym none) ∙ rest_is l rest (λ part. SpellsAll part no_items) p in

@@ -11,7 +11,8 @@ use Rattle.cose_head.specs.Measured.{left_of}
 
 pub low_cases : (major low : ℕ) (P : Option Reason → Type 0) → (low < 28 → P None) → P (Some Reserved) → P (Some Indefinite) → P (low_fault major low)
 low_cases major low P definite reserved indefinite =
-    cond_both (nat_lt low 28) None (if nat_lt low 31 || (nat_lt major 2 || major == 6) then Some Reserved else Some Indefinite) P (λ e. definite (ltb-true low 28 e))
+    cond_both (nat_lt low 28) None (if nat_lt low 31 || (nat_lt major 2 || major == 6) then Some Reserved else Some Indefinite) P
+    (λ e. definite (ltb-true low 28 e))
     (λ e. cond_both (nat_lt low 31 || (nat_lt major 2 || major == 6)) (Some Reserved) (Some Indefinite) P (λ f. reserved) (λ f. indefinite))
 
 -- a head that is there whole
@@ -26,7 +27,8 @@ pub record HasHead (bytes : List ℕ) (room : ℕ) (h : Head) : Type 0 where
   pub good : is_bad_simple h ≡ false
 
 module _ (room place : ℕ) (P : Outcome Head → Type 0) (refused : (reason : Reason) → (reason ≡ Truncated → ⊥) → P (refuse reason place)) where
-  past_cases : (initial : ℕ) (rest : List ℕ) → 0 < room → low_of initial < 28 → (length (initial ∷ rest) < room → P (truncated (left_of (initial ∷ rest) room place))) →
+  past_cases : (initial : ℕ) (rest : List ℕ) → 0 < room → low_of initial < 28 →
+      (length (initial ∷ rest) < room → P (truncated (left_of (initial ∷ rest) room place))) →
       ((h : Head) → HasHead (initial ∷ rest) room h → P (Ok (h, after h.width (left_of (initial ∷ rest) room place)))) →
       P (past_initial None (argument_length (low_of initial)) initial rest (left_of (initial ∷ rest) room place))
   past_cases initial rest some definite short got =
@@ -39,7 +41,16 @@ module _ (room place : ℕ) (P : Outcome Head → Type 0) (refused : (reason : R
       (λ missing. let b = ltb-true _ _ missing in short (omega arith))
       (λ whole. let b = ltb-false _ _ whole in cond_both (is_bad_simple h) (refuse BadSimple place) (Ok (h, after h.width l)) P
       (λ bad. refused BadSimple (λ f. cc))
-      (λ good. got h (record { initial = initial; rest = rest; front = refl; definite = definite; there = b; fits = omega arith; is_head = refl; good = good }))))
+      (λ good. got h (record {
+        initial = initial;
+        rest = rest;
+        front = refl;
+        definite = definite;
+        there = b;
+        fits = omega arith;
+        is_head = refl;
+        good = good;
+      }))))
 
   pub head_cases : (bytes : List ℕ) → (length bytes < room → P (truncated (left_of bytes room place))) →
       ((h : Head) → HasHead bytes room h → P (Ok (h, after h.width (left_of bytes room place)))) → P (head (left_of bytes room place))
@@ -52,6 +63,7 @@ module _ (room place : ℕ) (P : Outcome Head → Type 0) (refused : (reason : R
       cond_both (room == 0) (refuse PastRoom place) (at_initial (initial ∷ rest) (left_of (initial ∷ rest) room place)) P
       (λ e. refused PastRoom (λ f. cc))
       (λ e. let some = eqb-false room 0 e in
-      low_cases (major_of initial) (low_of initial) (λ fault. P (past_initial fault (argument_length (low_of initial)) initial rest (left_of (initial ∷ rest) room place)))
+      low_cases (major_of initial) (low_of initial)
+      (λ fault. P (past_initial fault (argument_length (low_of initial)) initial rest (left_of (initial ∷ rest) room place)))
       (λ definite. past_cases initial rest (omega arith) definite short got)
       (refused Reserved (λ f. cc)) (refused Indefinite (λ f. cc)))

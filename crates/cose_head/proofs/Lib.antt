@@ -16,4 +16,6 @@ pub mod Sound
 pub mod Complete
 pub mod BareHeads
 pub mod ShortHeads
+pub mod ShortItems
 pub mod ReadLaws
+pub mod Spans

@@ -18,10 +18,11 @@ four_cells : (a b c d : ℕ) → from_be_bytes w32 (a ∷ b ∷ c ∷ d ∷ []) 
 four_cells a b c d = omega arith
 
 -- a head with so many argument bytes, announced by 24 to 27
-wide_head : (major low n : ℕ) (bytes : List ℕ) → low < 28 → length bytes ≡ argument_length low → argument_of low bytes ≡ n → IsHead ((32 * major + low) ∷ bytes) major n
-wide_head major low n bytes definite wide spelled =
+wide_head : (major low n : ℕ) (bytes : List ℕ) → major < 8 → low < 28 → length bytes ≡ argument_length low → argument_of low bytes ≡ n →
+    IsHead ((32 * major + low) ∷ bytes) major n
+wide_head major low n bytes small definite wide spelled =
     let l : (32 * major + low) % 32 ≡ low = omega arith in
-    let m : (32 * major + low) / 32 ≡ major = omega arith in
+    let m : (32 * major + low) / 32 % 8 ≡ major = omega arith in
     record {
       initial = 32 * major + low;
       argument_bytes = bytes;
@@ -32,21 +33,26 @@ wide_head major low n bytes definite wide spelled =
       has_argument = rw l spelled;
     }
 
-pub short_head_is : (major n : ℕ) → n < 2 ^ 64 → IsHead (shortest_head major n) major n
+pub short_head_is : (major n : ℕ) → major < 8 → n < 2 ^ 64 → IsHead (shortest_head major n) major n
 unfolding shortest_head
-short_head_is major n fits =
+short_head_is major n small fits =
     let P : List ℕ → Type 0 = λ bytes. IsHead bytes major n in
-    cond_both (nat_lt n 24) ((32 * major + n) ∷ []) (if nat_lt n (2 ^ 8) then (32 * major + 24) ∷ n ∷ [] else if nat_lt n (2 ^ 16) then (32 * major + 25) ∷ to_be_bytes w16 n else
+    cond_both (nat_lt n 24) ((32 * major + n) ∷ [])
+    (if nat_lt n (2 ^ 8) then (32 * major + 24) ∷ n ∷ [] else if nat_lt n (2 ^ 16) then (32 * major + 25) ∷ to_be_bytes w16 n else
     if nat_lt n (2 ^ 32) then (32 * major + 26) ∷ to_be_bytes w32 n else (32 * major + 27) ∷ to_be_bytes w64 n) P
-    (λ e. let s = ltb-true n 24 e in wide_head major n n [] (omega arith) (rw e refl) (rw e refl))
+    (λ e. let s = ltb-true n 24 e in wide_head major n n [] small (omega arith) (rw e refl) (rw e refl))
     (λ e. cond_both (nat_lt n (2 ^ 8)) ((32 * major + 24) ∷ n ∷ []) (if nat_lt n (2 ^ 16) then (32 * major + 25) ∷ to_be_bytes w16 n else
     if nat_lt n (2 ^ 32) then (32 * major + 26) ∷ to_be_bytes w32 n else (32 * major + 27) ∷ to_be_bytes w64 n) P
-    (λ f. wide_head major 24 n (n ∷ []) (omega arith) refl (omega arith))
-    (λ f. cond_both (nat_lt n (2 ^ 16)) ((32 * major + 25) ∷ to_be_bytes w16 n) (if nat_lt n (2 ^ 32) then (32 * major + 26) ∷ to_be_bytes w32 n else (32 * major + 27) ∷ to_be_bytes w64 n) P
-    (λ g. wide_head major 25 n (to_be_bytes w16 n) (omega arith) refl (sym (two_cells _ _) ∙ from_be_bytes-to_be_bytes_2 n (ltb-true n (2 ^ 16) g)))
+    (λ f. wide_head major 24 n (n ∷ []) small (omega arith) refl (omega arith))
+    (λ f. cond_both (nat_lt n (2 ^ 16)) ((32 * major + 25) ∷ to_be_bytes w16 n)
+    (if nat_lt n (2 ^ 32) then (32 * major + 26) ∷ to_be_bytes w32 n else (32 * major + 27) ∷ to_be_bytes w64 n) P
+    (λ g. wide_head major 25 n (to_be_bytes w16 n) small (omega arith) refl
+    (sym (two_cells _ _) ∙ from_be_bytes-to_be_bytes_2 n (ltb-true n (2 ^ 16) g)))
     (λ g. cond_both (nat_lt n (2 ^ 32)) ((32 * major + 26) ∷ to_be_bytes w32 n) ((32 * major + 27) ∷ to_be_bytes w64 n) P
-    (λ k. wide_head major 26 n (to_be_bytes w32 n) (omega arith) refl (sym (four_cells _ _ _ _) ∙ from_be_bytes-to_be_bytes_4 n (ltb-true n (2 ^ 32) k)))
-    (λ k. wide_head major 27 n (to_be_bytes w64 n) (omega arith) refl (sym (eight_cells _ _ _ _ _ _ _ _) ∙ from_be_bytes-to_be_bytes_8 n fits)))))
+    (λ k. wide_head major 26 n (to_be_bytes w32 n) small (omega arith) refl
+    (sym (four_cells _ _ _ _) ∙ from_be_bytes-to_be_bytes_4 n (ltb-true n (2 ^ 32) k)))
+    (λ k. wide_head major 27 n (to_be_bytes w64 n) small (omega arith) refl
+    (sym (eight_cells _ _ _ _ _ _ _ _) ∙ from_be_bytes-to_be_bytes_8 n fits)))))
 
 plain_good : (major argument width : ℕ) → major ≤ 6 → is_bad_simple (record { major = major; arg = argument; width = width }) ≡ false
 plain_good major argument width plain = let e : major == 7 ≡ false = grind (arith, nat_tests) in rw e refl
@@ -55,4 +61,5 @@ pub shortest_is_head : (major argument : ℕ) (rest : List ℕ) → major ≤ 6 
     let width = length (shortest_head major argument) in
     bare_head (shortest_head major argument ++ rest) ≡ Got (record { major = major; arg = argument; width = width }) width
 shortest_is_head major argument rest plain fits =
-    head_complete (shortest_head major argument) rest major argument (short_head_is major argument fits) (plain_good major argument (length (shortest_head major argument)) plain)
+    head_complete (shortest_head major argument) rest major argument (short_head_is major argument (omega arith) fits)
+    (plain_good major argument (length (shortest_head major argument)) plain)

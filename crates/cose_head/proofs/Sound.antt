@@ -1,15 +1,15 @@
 -- What is read is spelled.
-use Rattle.std.proofs.Common.{◌≡◌, ℕ, zero, suc, ◌+◌, ◌-◌, ◌*◌, ◌/◌, ◌<◌, ◌≤◌, ◌⊎◌, inl, inr, false, List, [], ◌∷◌, ◌++◌, length, take, drop, get_or, Option, Some, None, Ok, Err, if◌then◌else◌, refl, sym, ap, ◌∙◌, arith, append_assoc, append-nil, one-add}
+use Rattle.std.proofs.Common.{◌≡◌, ℕ, zero, suc, ◌+◌, ◌-◌, ◌*◌, ◌/◌, ◌%◌, ◌<◌, ◌≤◌, ◌⊎◌, inl, inr, false, List, [], ◌∷◌, ◌++◌, length, take, drop, Option, Some, None, Ok, Err, if◌then◌else◌, refl, sym, ap, ◌∙◌, arith, append_assoc, append-nil, one-add}
 use Rattle.std.proofs.lemmas.Bool.Decides.{nat_tests}
 use Rattle.std.proofs.lemmas.Bool.{cond_both, ltb-true, ltb-false}
-use Rattle.std.proofs.lemmas.List.{take-append-drop, length-take-le, length-append, get_or-append-add}
+use Rattle.std.proofs.lemmas.List.{take-append-drop, length-take-le, length-append}
 use Rattle.std.specs.Prelude.{nat_lt, ◌==◌, ◌&&◌, ⊤}
 use Rattle.cose_head.specs.declared.head.Head.{Head}
 use Rattle.cose_head.specs.declared.reason.Reason.TheVariants.{PastRoom}
 use Rattle.cose_head.specs.Head.{low_of, argument_length, is_bad_simple}
 use Rattle.cose_head.specs.Item.{Item, unsigned, negative, byte_string, text_string, array, map, tag, simple, float, Items, no_items, item, count_of, depth_of, deepest, IsHead, Spells, SpellsAll}
 use Rattle.cose_head.specs.Reading.{Left, Outcome, Reader, ◌>>=◌, after, refuse, truncated, body, parent, children, child_count, read_all, read_with, read, head}
-use Rattle.cose_head.specs.Laws.{Between, IsSpelled, AreBytes}
+use Rattle.cose_head.specs.Laws.{Between, IsSpelled}
 use Rattle.cose_head.proofs.HeadCases.{HasHead, head_cases}
 
 -- what holds of a value that was read
@@ -17,7 +17,8 @@ abbrev pub AtOk : {A : Type 0} → (A → Left → Type 0) → Outcome A → Typ
 AtOk P (Ok found) = P found.0 found.1
 AtOk P (Err refusal) = ⊤
 
-bind_ok : {A B : Type 0} (P : A → Left → Type 0) (Q : B → Left → Type 0) (m : Outcome A) (f : A × Left → Outcome B) → AtOk P m → ((x : A × Left) → P x.0 x.1 → AtOk Q (f x)) → AtOk Q (m >>= f)
+bind_ok : {A B : Type 0} (P : A → Left → Type 0) (Q : B → Left → Type 0) (m : Outcome A) (f : A × Left → Outcome B) → AtOk P m →
+    ((x : A × Left) → P x.0 x.1 → AtOk Q (f x)) → AtOk Q (m >>= f)
 bind_ok P Q (Ok x) f p next = next x p
 bind_ok P Q (Err refusal) f p next = tt
 
@@ -29,20 +30,24 @@ at_ok P Q (Err refusal) weaken p = tt
 none_between : (l : Left) (P : List ℕ → Type 0) → P [] → Between l l P
 none_between l P p = record { part = []; whole = refl; room = omega arith; place = omega arith; is_part = p }
 
-on_between : (l middle rest : Left) (P Q R : List ℕ → Type 0) → ((a b : List ℕ) → P a → Q b → R (a ++ b)) → Between l middle P → Between middle rest Q → Between l rest R
+on_between : (l middle rest : Left) (P Q R : List ℕ → Type 0) → ((a b : List ℕ) → P a → Q b → R (a ++ b)) → Between l middle P →
+    Between middle rest Q → Between l rest R
 on_between l middle rest P Q R join p q =
     let n = length-append p.part q.part in
     let r = p.room in let s = q.room in let t = p.place in let u = q.place in
-    record { part = p.part ++ q.part; whole = p.whole ∙ ap (λ b. p.part ++ b) q.whole ∙ sym (append_assoc p.part q.part rest.bytes); room = omega arith; place = omega arith; is_part = join p.part q.part p.is_part q.is_part }
+    record {
+      part = p.part ++ q.part;
+      whole = p.whole ∙ ap (λ b. p.part ++ b) q.whole ∙ sym (append_assoc p.part q.part rest.bytes);
+      room = omega arith;
+      place = omega arith;
+      is_part = join p.part q.part p.is_part q.is_part;
+    }
 
 -- some bytes that are there and in the room
 taken : (l : Left) (n : ℕ) (P : List ℕ → Type 0) → n ≤ l.room → n ≤ length l.bytes → P (take n l.bytes) → Between l (after n l) P
 taken l n P fits there p =
     let t = length-take-le n l.bytes there in
     record { part = take n l.bytes; whole = sym (take-append-drop n l.bytes); room = omega arith; place = ap (λ m. l.place + m) (sym t); is_part = p }
-
-bytes_on : (l rest : Left) (P : List ℕ → Type 0) → Between l rest P → AreBytes l.bytes → AreBytes rest.bytes
-bytes_on l rest P p bytes i = rw (p.whole, get_or-append-add p.part rest.bytes i 0) at (bytes (length p.part + i))
 
 -- the head
 pub record IsOfHead (h : Head) (part : List ℕ) : Type 0 where
@@ -57,7 +62,8 @@ head_part l h has =
     let n : length argument ≡ wanted = length-take-le wanted has.rest has.there in
     let w : h.width ≡ suc wanted = ap (λ g. g.width) has.is_head ∙ ap (λ m. 1 + m) n ∙ one-add wanted in
     let whole : l.bytes ≡ (has.initial ∷ argument) ++ drop h.width l.bytes =
-    has.front ∙ ap (λ b. has.initial ∷ b) (sym (take-append-drop wanted has.rest)) ∙ ap (λ b. (has.initial ∷ argument) ++ b) (sym (ap (λ m. drop m l.bytes) w ∙ ap (drop (suc wanted)) has.front)) in
+    has.front ∙ ap (λ b. has.initial ∷ b) (sym (take-append-drop wanted has.rest))
+    ∙ ap (λ b. (has.initial ∷ argument) ++ b) (sym (ap (λ m. drop m l.bytes) w ∙ ap (drop (suc wanted)) has.front)) in
     let fits = has.fits in
     record {
       part = has.initial ∷ argument;
@@ -80,16 +86,13 @@ head_part l h has =
     }
 
 pub head_sound : (l : Left) → AtOk (λ h rest. Between l rest (IsOfHead h)) (head l)
-head_sound l = head_cases l.room l.place (AtOk (λ h rest. Between l rest (IsOfHead h))) (λ reason other. tt) l.bytes (λ short. tt) (λ h has. head_part l h has)
+head_sound l = head_cases l.room l.place (AtOk (λ h rest. Between l rest (IsOfHead h))) (λ reason other. tt) l.bytes (λ short. tt)
+    (λ h has. head_part l h has)
 
--- a byte has one of eight major types
-major_below : (l rest : Left) (h : Head) → AreBytes l.bytes → Between l rest (IsOfHead h) → h.major < 8
-major_below l rest h bytes p =
-    let i : ℕ = p.is_part.is_head.initial in
-    let front : p.part ≡ i ∷ p.is_part.is_head.argument_bytes = p.is_part.is_head.whole in
-    let first : get_or l.bytes 0 0 ≡ i = ap (λ b. get_or b 0 0) (p.whole ∙ ap (λ b. b ++ rest.bytes) front) in
-    let small = bytes 0 in
-    let m : i / 32 ≡ h.major = p.is_part.is_head.has_major in
+-- there are eight major types
+major_below : (l rest : Left) (h : Head) → Between l rest (IsOfHead h) → h.major < 8
+major_below l rest h p =
+    let m : p.is_part.is_head.initial / 32 % 8 ≡ h.major = p.is_part.is_head.has_major in
     omega arith
 
 by_major : (P : ℕ → Type 0) → P 0 → P 1 → P 2 → P 3 → P 4 → P 5 → P 6 → P 7 → (m : ℕ) → m < 8 → P m
@@ -111,21 +114,25 @@ AllRead depth n l items rest = Between l rest (λ part. SpellsAll part items) ×
 abbrev pub OneRead : ℕ → Left → Item → Left → Type 0
 OneRead depth l content rest = Between l rest (λ part. Spells part content) × (depth_of content < depth)
 
-all_sound : (depth : ℕ) (one : Reader Item) → 0 < depth → ((l : Left) → AreBytes l.bytes → AtOk (OneRead depth l) (one l)) → (n : ℕ) (l : Left) → AreBytes l.bytes → AtOk (AllRead depth n l) (read_all one n l)
+all_sound : (depth : ℕ) (one : Reader Item) → 0 < depth → ((l : Left) → AtOk (OneRead depth l) (one l)) → (n : ℕ) (l : Left) →
+    AtOk (AllRead depth n l) (read_all one n l)
 unfolding Spells depth_of
-all_sound depth one some each zero l bytes = (none_between l (λ part. SpellsAll part no_items) refl, refl, some)
-all_sound depth one some each (suc n) l bytes =
-    bind_ok (OneRead depth l) (AllRead depth (suc n) l) (one l) (λ first. read_all one n first.1 >>= λ others. Ok (item first.0 others.0, others.1)) (each l bytes)
+all_sound depth one some each zero l = (none_between l (λ part. SpellsAll part no_items) refl, refl, some)
+all_sound depth one some each (suc n) l =
+    bind_ok (OneRead depth l) (AllRead depth (suc n) l) (one l)
+    (λ first. read_all one n first.1 >>= λ others. Ok (item first.0 others.0, others.1)) (each l)
     (λ x p. bind_ok (AllRead depth n x.1) (AllRead depth (suc n) l) (read_all one n x.1) (λ others. Ok (item x.0 others.0, others.1))
-    (all_sound depth one some each n x.1 (bytes_on l x.1 (λ part. Spells part x.0) p.0 bytes))
+    (all_sound depth one some each n x.1)
     (λ y q.
     let c = q.1 in let d = p.1 in let e = q.2 in (
-      on_between l x.1 y.1 (λ part. Spells part x.0) (λ part. SpellsAll part y.0) (λ part. SpellsAll part (item x.0 y.0)) (λ a b first others. (a, b, refl, first, others)) p.0 q.0,
+      on_between l x.1 y.1 (λ part. Spells part x.0) (λ part. SpellsAll part y.0) (λ part. SpellsAll part (item x.0 y.0))
+          (λ a b first others. (a, b, refl, first, others)) p.0 q.0,
       omega arith,
       omega arith,
     )))
 
-argument_widths : (low : ℕ) → (argument_length low ≡ 0) ⊎ ((argument_length low ≡ 1) ⊎ ((argument_length low ≡ 2) ⊎ ((argument_length low ≡ 4) ⊎ (argument_length low ≡ 8))))
+argument_widths : (low : ℕ) → (argument_length low ≡ 0)
+    ⊎ ((argument_length low ≡ 1) ⊎ ((argument_length low ≡ 2) ⊎ ((argument_length low ≡ 4) ⊎ (argument_length low ≡ 8))))
 argument_widths low = grind (arith, nat_tests)
 
 -- the number of bytes of a head
@@ -145,30 +152,44 @@ head_widths h part p =
       ]
     ]
 
-simple_width : (width arg : ℕ) → (width ≡ 1) ⊎ ((width ≡ 2) ⊎ ((width ≡ 3) ⊎ ((width ≡ 5) ⊎ (width ≡ 9)))) → width < 3 → (width == 2 && nat_lt arg 32) ≡ false →
+simple_width : (width arg : ℕ) → (width ≡ 1) ⊎ ((width ≡ 2) ⊎ ((width ≡ 3) ⊎ ((width ≡ 5) ⊎ (width ≡ 9)))) → width < 3 →
+    (width == 2 && nat_lt arg 32) ≡ false →
     (width ≡ 1) ⊎ ((width ≡ 2) × (32 ≤ arg))
 simple_width width arg widths small good =
-    elim widths [ inl e ↦ inl e | inr f ↦ elim f [ inl e ↦ let g : (2 == 2 && nat_lt arg 32) ≡ false = rw e at good in inr (e, ltb-false arg 32 g) | inr g ↦ absurd (grind arith) ] ]
+    elim widths [
+      | inl e ↦ inl e
+      | inr f ↦ elim f [
+        | inl e ↦ let g : (2 == 2 && nat_lt arg 32) ≡ false = rw e at good in
+            inr (e, ltb-false arg 32 g)
+        | inr g ↦ absurd (grind arith)
+      ]
+    ]
 
-float_width : (width : ℕ) → (width ≡ 1) ⊎ ((width ≡ 2) ⊎ ((width ≡ 3) ⊎ ((width ≡ 5) ⊎ (width ≡ 9)))) → 3 ≤ width → (width - 1 ≡ 2) ⊎ ((width - 1 ≡ 4) ⊎ (width - 1 ≡ 8))
+float_width : (width : ℕ) → (width ≡ 1) ⊎ ((width ≡ 2) ⊎ ((width ≡ 3) ⊎ ((width ≡ 5) ⊎ (width ≡ 9)))) → 3 ≤ width → (width - 1 ≡ 2)
+    ⊎ ((width - 1 ≡ 4) ⊎ (width - 1 ≡ 8))
 float_width width widths large = grind arith
 
 -- the reader of the children, where there is one
 abbrev EachSound : ℕ → Option (Reader Item) → Type 0
 EachSound depth None = ⊤
-EachSound depth (Some one) = (0 < depth) × ((l : Left) → AreBytes l.bytes → AtOk (OneRead depth l) (one l))
+EachSound depth (Some one) = (0 < depth) × ((l : Left) → AtOk (OneRead depth l) (one l))
 
 -- what follows a head of each major type
-module _ (depth : ℕ) (one : Option (Reader Item)) (each : EachSound depth one) (place arg width : ℕ) (l : Left) (bytes : AreBytes l.bytes) where
+module _ (depth : ℕ) (one : Option (Reader Item)) (each : EachSound depth one) (place arg width : ℕ) (l : Left) where
   abbrev head_with : ℕ → Head
   head_with major = record { major = major; arg = arg; width = width }
 
   abbrev BodyRead : ℕ → Item → Left → Type 0
-  BodyRead major content rest = Between l rest (λ part. (front : List ℕ) → IsOfHead (head_with major) front → Spells (front ++ part) content) × (depth_of content ≤ depth)
+  BodyRead major content rest = Between l rest (λ part. (front : List ℕ) → IsOfHead (head_with major) front → Spells (front ++ part) content)
+      × (depth_of content ≤ depth)
 
-  leaf_sound : (major : ℕ) (content : Item) → depth_of content ≡ 0 → ((front : List ℕ) → IsOfHead (head_with major) front → Spells front content) → BodyRead major content l
-  leaf_sound major content flat spelled =
-      (none_between l (λ part. (front : List ℕ) → IsOfHead (head_with major) front → Spells (front ++ part) content) (λ front p. rw append-nil (spelled front p)), omega arith)
+  leaf_sound : (major : ℕ) (content : Item) → depth_of content ≡ 0 →
+      ((front : List ℕ) → IsOfHead (head_with major) front → Spells front content) → BodyRead major content l
+  leaf_sound major content flat spelled = (
+    none_between l (λ part. (front : List ℕ) → IsOfHead (head_with major) front → Spells (front ++ part) content)
+        (λ front p. rw append-nil (spelled front p)),
+    omega arith,
+  )
 
   unsigned_sound : AtOk (BodyRead 0) (body one place (head_with 0) l)
   unfolding Spells depth_of
@@ -198,10 +219,13 @@ module _ (depth : ℕ) (one : Option (Reader Item)) (each : EachSound depth one)
       (λ e. leaf_sound 7 (simple arg) refl (simple_sound (ltb-true width 3 e)))
       (λ e. leaf_sound 7 (float (width - 1) arg) refl (float_sound (ltb-false width 3 e)))
 
-  string_sound : (major : ℕ) (content : Item) → depth_of content ≡ 0 → ((front rest : List ℕ) → rest ≡ take arg l.bytes → IsHead front major (length rest) → Spells (front ++ rest) content) →
-      AtOk (BodyRead major) (if nat_lt l.room arg then refuse PastRoom place else if nat_lt (length l.bytes) arg then truncated l else Ok (content, after arg l))
+  string_sound : (major : ℕ) (content : Item) → depth_of content ≡ 0 →
+      ((front rest : List ℕ) → rest ≡ take arg l.bytes → IsHead front major (length rest) → Spells (front ++ rest) content) →
+      AtOk (BodyRead major) (if nat_lt l.room arg then refuse PastRoom place else if nat_lt (length l.bytes) arg then truncated l else Ok
+      (content, after arg l))
   string_sound major content flat spelled =
-      cond_both (nat_lt l.room arg) (refuse PastRoom place) (if nat_lt (length l.bytes) arg then truncated l else Ok (content, after arg l)) (AtOk (BodyRead major)) (λ e. tt)
+      cond_both (nat_lt l.room arg) (refuse PastRoom place) (if nat_lt (length l.bytes) arg then truncated l else Ok (content, after arg l))
+      (AtOk (BodyRead major)) (λ e. tt)
       (λ e. cond_both (nat_lt (length l.bytes) arg) (truncated l) (Ok (content, after arg l)) (AtOk (BodyRead major)) (λ f. tt)
       (λ f. let there = ltb-false _ _ f in (
         taken l arg (λ part. (front : List ℕ) → IsOfHead (head_with major) front → Spells (front ++ part) content) (ltb-false _ _ e) there
@@ -211,31 +235,44 @@ module _ (depth : ℕ) (one : Option (Reader Item)) (each : EachSound depth one)
 
   bytes_sound : AtOk (BodyRead 2) (body one place (head_with 2) l)
   unfolding Spells depth_of
-  bytes_sound = string_sound 2 (byte_string (take arg l.bytes)) refl (λ front rest same is_head. record { head = front; rest = rest; whole = refl; is_head = rw (← same) is_head; is_rest = same })
+  bytes_sound = string_sound 2 (byte_string (take arg l.bytes)) refl
+      (λ front rest same is_head. record { head = front; rest = rest; whole = refl; is_head = rw (← same) is_head; is_rest = same })
 
   text_sound : AtOk (BodyRead 3) (body one place (head_with 3) l)
   unfolding Spells depth_of
-  text_sound = string_sound 3 (text_string (take arg l.bytes)) refl (λ front rest same is_head. record { head = front; rest = rest; whole = refl; is_head = rw (← same) is_head; is_rest = same })
+  text_sound = string_sound 3 (text_string (take arg l.bytes)) refl
+      (λ front rest same is_head. record { head = front; rest = rest; whole = refl; is_head = rw (← same) is_head; is_rest = same })
 
   -- the children, where nesting and room are left for them
-  parent_sound : (major : ℕ) → ((some : Reader Item) → 0 < depth → ((m : Left) → AreBytes m.bytes → AtOk (OneRead depth m) (some m)) → AtOk (BodyRead major) (children some (head_with major) l)) →
+  parent_sound : (major : ℕ) → ((some : Reader Item) → 0 < depth → ((m : Left) → AtOk (OneRead depth m) (some m)) →
+      AtOk (BodyRead major) (children some (head_with major) l)) →
       AtOk (BodyRead major) (parent one place (head_with major) l)
   parent_sound major spelled = go one each
     where
       go : (some : Option (Reader Item)) → EachSound depth some → AtOk (BodyRead major) (parent some place (head_with major) l)
       go None e = tt
       go (Some reader) e =
-          cond_both (nat_lt l.room (child_count (head_with major))) (refuse PastRoom place) (children reader (head_with major) l) (AtOk (BodyRead major)) (λ f. tt) (λ f. spelled reader e.0 e.1)
+          cond_both (nat_lt l.room (child_count (head_with major))) (refuse PastRoom place) (children reader (head_with major) l)
+          (AtOk (BodyRead major)) (λ f. tt) (λ f. spelled reader e.0 e.1)
 
   list_sound : (major n : ℕ) (make : Items → Item) → ((items : Items) → depth_of (make items) ≡ 1 + deepest items) →
-      ((items : Items) (front part : List ℕ) → count_of items ≡ n → IsHead front major arg → SpellsAll part items → Spells (front ++ part) (make items)) →
-      (some : Reader Item) → 0 < depth → ((m : Left) → AreBytes m.bytes → AtOk (OneRead depth m) (some m)) →
+      ((items : Items) (front part : List ℕ) → count_of items ≡ n → IsHead front major arg → SpellsAll part items →
+      Spells (front ++ part) (make items)) →
+      (some : Reader Item) → 0 < depth → ((m : Left) → AtOk (OneRead depth m) (some m)) →
       AtOk (BodyRead major) (read_all some n l >>= λ items. Ok (make items.0, items.1))
   list_sound major n make nested spelled some deep sound =
-      bind_ok (AllRead depth n l) (BodyRead major) (read_all some n l) (λ items. Ok (make items.0, items.1)) (all_sound depth some deep sound n l bytes)
+      bind_ok (AllRead depth n l) (BodyRead major) (read_all some n l) (λ items. Ok (make items.0, items.1)) (all_sound depth some deep sound n l)
       (λ x p.
-      let d = nested x.0 in let e = p.2 in let q = p.0 in
-      (record { part = q.part; whole = q.whole; room = q.room; place = q.place; is_part = λ front is. spelled x.0 front q.part p.1 is.is_head q.is_part }, omega arith))
+      let d = nested x.0 in let e = p.2 in let q = p.0 in (
+        record {
+          part = q.part;
+          whole = q.whole;
+          room = q.room;
+          place = q.place;
+          is_part = λ front is. spelled x.0 front q.part p.1 is.is_head q.is_part;
+        },
+        omega arith,
+      ))
 
   array_sound : AtOk (BodyRead 4) (body one place (head_with 4) l)
   unfolding Spells depth_of
@@ -252,23 +289,40 @@ module _ (depth : ℕ) (one : Option (Reader Item)) (each : EachSound depth one)
   tag_sound : AtOk (BodyRead 6) (body one place (head_with 6) l)
   unfolding Spells depth_of
   tag_sound =
-      parent_sound 6 (λ some deep sound. bind_ok (OneRead depth l) (BodyRead 6) (some l) (λ content. Ok (tag arg content.0, content.1)) (sound l bytes)
+      parent_sound 6 (λ some deep sound. bind_ok (OneRead depth l) (BodyRead 6) (some l) (λ content. Ok (tag arg content.0, content.1)) (sound l)
       (λ x p.
-      let d = p.1 in let q = p.0 in
-      (record { part = q.part; whole = q.whole; room = q.room; place = q.place; is_part = λ front is. record { head = front; rest = q.part; whole = refl; is_head = is.is_head; is_rest = q.is_part } }, omega arith)))
+      let d = p.1 in let q = p.0 in (
+        record {
+          part = q.part;
+          whole = q.whole;
+          room = q.room;
+          place = q.place;
+          is_part = λ front is. record { head = front; rest = q.part; whole = refl; is_head = is.is_head; is_rest = q.is_part };
+        },
+        omega arith,
+      )))
 
   pub body_sound : (major : ℕ) → major < 8 → AtOk (BodyRead major) (body one place (head_with major) l)
-  body_sound = by_major (λ major. AtOk (BodyRead major) (body one place (head_with major) l)) unsigned_sound negative_sound bytes_sound text_sound array_sound map_sound tag_sound seven_sound
+  body_sound = by_major (λ major. AtOk (BodyRead major)
+      (body one place (head_with major) l)) unsigned_sound negative_sound bytes_sound text_sound array_sound map_sound tag_sound seven_sound
 
-with_sound : (depth : ℕ) (one : Option (Reader Item)) → EachSound depth one → (l : Left) → AreBytes l.bytes → AtOk (IsSpelled depth l) (read_with one l)
-with_sound depth one each l bytes =
+with_sound : (depth : ℕ) (one : Option (Reader Item)) → EachSound depth one → (l : Left) → AtOk (IsSpelled depth l) (read_with one l)
+with_sound depth one each l =
     bind_ok (λ h rest. Between l rest (IsOfHead h)) (IsSpelled depth l) (head l) (λ h. body one l.place h.0 h.1) (head_sound l)
-    (λ x p. at_ok (BodyRead depth one each l.place x.0.arg x.0.width x.1 (bytes_on l x.1 (IsOfHead x.0) p bytes) x.0.major) (IsSpelled depth l) (body one l.place x.0 x.1)
-    (λ content rest q. (on_between l x.1 rest (IsOfHead x.0) (λ part. (front : List ℕ) → IsOfHead x.0 front → Spells (front ++ part) content) (λ part. Spells part content) (λ a b is spelled. spelled a is) p q.0, q.1))
-    (body_sound depth one each l.place x.0.arg x.0.width x.1 (bytes_on l x.1 (IsOfHead x.0) p bytes) x.0.major (major_below l x.1 x.0 bytes p)))
+    (λ x p. at_ok (BodyRead depth one each l.place x.0.arg x.0.width x.1 x.0.major) (IsSpelled depth l) (body one l.place x.0 x.1)
+    (λ content rest q. (
+      on_between l x.1 rest (IsOfHead x.0) (λ part. (front : List ℕ) → IsOfHead x.0 front → Spells (front ++ part) content)
+          (λ part. Spells part content) (λ a b is spelled. spelled a is) p q.0,
+      q.1,
+    ))
+    (body_sound depth one each l.place x.0.arg x.0.width x.1 x.0.major (major_below l x.1 x.0 p)))
 
-pub read_sound : (depth : ℕ) (l : Left) → AreBytes l.bytes → AtOk (IsSpelled depth l) (read depth l)
+pub read_sound : (depth : ℕ) (l : Left) → AtOk (IsSpelled depth l) (read depth l)
 unfolding read
-read_sound zero l bytes = with_sound zero None tt l bytes
-read_sound (suc depth) l bytes =
-    with_sound (suc depth) (Some (read depth)) (omega arith, λ m are. at_ok (IsSpelled depth m) (OneRead (suc depth) m) (read depth m) (λ content rest q. let d = q.1 in (q.0, omega arith)) (read_sound depth m are)) l bytes
+read_sound zero l = with_sound zero None tt l
+read_sound (suc depth) l =
+    with_sound (suc depth) (Some (read depth)) (
+      omega arith,
+      λ m. at_ok (IsSpelled depth m) (OneRead (suc depth) m) (read depth m)
+          (λ content rest q. let d = q.1 in (q.0, omega arith)) (read_sound depth m),
+    ) l

@@ -27,7 +27,14 @@ step_on a b l middle rest p q =
     let fits : q.used ≤ l.room - p.used = rw p.left at q.fits in
     let n = length-drop p.used l.bytes in
     let first = p.there in let room = p.fits in let least = p.some in
-    record { used = p.used + q.used; some = omega arith; there = omega arith; fits = omega arith; left = q.left ∙ ap (after q.used) p.left ∙ after-after p.used q.used l }
+    record {
+      used = p.used + q.used;
+      some = omega arith;
+      there = omega arith;
+      fits = omega arith;
+      left = q.left ∙ ap (after q.used) p.left
+          ∙ after-after p.used q.used l;
+    }
 
 refusal_on : (a : ℕ) (l middle : Left) (refusal : Refusal) → IsStep a l middle → IsRefusal middle refusal → IsRefusal l refusal
 refusal_on a l middle refusal p q =
@@ -35,14 +42,16 @@ refusal_on a l middle refusal p q =
     let first = p.there in let room = p.fits in
     let from : l.place + p.used ≤ refusal.place = rw p.left at q.from in
     let upto : refusal.place ≤ l.place + p.used + length (drop p.used l.bytes) = rw p.left at q.upto in
-    let ended : refusal.reason ≡ Truncated → (refusal.place ≡ l.place + p.used + length (drop p.used l.bytes)) × (length (drop p.used l.bytes) < l.room - p.used) = λ t. rw p.left at (q.ended t) in
+    let ended : refusal.reason ≡ Truncated → (refusal.place ≡ l.place + p.used + length (drop p.used l.bytes))
+    × (length (drop p.used l.bytes) < l.room - p.used) = λ t. rw p.left at (q.ended t) in
     record { from = omega arith; upto = omega arith; ended = λ t. let e = (ended t).0 in let f = (ended t).1 in (omega arith, omega arith) }
 
 pub steps_on : {A : Type 0} (a b : ℕ) (l middle : Left) (o : Outcome A) → IsStep a l middle → Steps b middle o → Steps a l o
 steps_on a b l middle (Ok found) p q = step_on a b l middle found.1 p q
 steps_on a b l middle (Err refusal) p q = refusal_on a l middle refusal p q
 
-pub bind_steps : {A B : Type 0} (a b : ℕ) (l : Left) (m : Outcome A) (f : A × Left → Outcome B) → Steps a l m → ((x : A × Left) → IsStep a l x.1 → Steps b l (f x)) → Steps b l (m >>= f)
+pub bind_steps : {A B : Type 0} (a b : ℕ) (l : Left) (m : Outcome A) (f : A × Left → Outcome B) → Steps a l m →
+    ((x : A × Left) → IsStep a l x.1 → Steps b l (f x)) → Steps b l (m >>= f)
 bind_steps a b l (Ok x) f s next = next x s
 bind_steps a b l (Err refusal) f s next = s
 
@@ -86,17 +95,21 @@ EachSteps (Some one) = (l : Left) → Steps 1 l (one l)
 module _ (whole : Left) (h : Head) (l : Left) (past : IsStep 1 whole l) where
   string_steps : Steps 1 whole (string whole.place h l)
   string_steps =
-      cond_both (nat_lt l.room h.arg) (refuse PastRoom whole.place) (if nat_lt (length l.bytes) h.arg then truncated l else Ok (string_item h (take h.arg l.bytes), after h.arg l)) (Steps 1 whole)
+      cond_both (nat_lt l.room h.arg) (refuse PastRoom whole.place)
+      (if nat_lt (length l.bytes) h.arg then truncated l else Ok (string_item h (take h.arg l.bytes), after h.arg l)) (Steps 1 whole)
       (λ e. refused_here whole PastRoom (λ f. cc))
-      (λ e. let fits = ltb-false _ _ e in cond_both (nat_lt (length l.bytes) h.arg) (truncated l) (Ok (string_item h (take h.arg l.bytes), after h.arg l)) (Steps 1 whole)
+      (λ e. let fits = ltb-false _ _ e in
+      cond_both (nat_lt (length l.bytes) h.arg) (truncated l) (Ok (string_item h (take h.arg l.bytes), after h.arg l)) (Steps 1 whole)
       (λ f. let missing = ltb-true _ _ f in refusal_on 1 whole l _ past (cut_short l (omega arith)))
-      (λ f. let there = ltb-false _ _ f in step_on 1 0 whole l (after h.arg l) past (record { used = h.arg; some = omega arith; there = there; fits = fits; left = refl })))
+      (λ f. let there = ltb-false _ _ f in
+      step_on 1 0 whole l (after h.arg l) past (record { used = h.arg; some = omega arith; there = there; fits = fits; left = refl })))
 
   children_steps : (one : Reader Item) → ((m : Left) → Steps 1 m (one m)) → Steps 1 whole (children one h l)
   children_steps one each =
       let n : ℕ = child_count h in
       steps_on 1 0 whole l (children one h l) past
-      (cond_both (h.major == 6) (one l >>= λ content. Ok (tag h.arg content.0, content.1)) (read_all one n l >>= λ items. Ok (list_item h items.0, items.1)) (Steps 0 l)
+      (cond_both (h.major == 6) (one l >>= λ content. Ok (tag h.arg content.0, content.1))
+      (read_all one n l >>= λ items. Ok (list_item h items.0, items.1)) (Steps 0 l)
       (λ e. bind_steps 0 0 l (one l) (λ content. Ok (tag h.arg content.0, content.1)) (weaker l (one l) (each l)) (λ x q. q))
       (λ e. bind_steps 0 0 l (read_all one n l) (λ items. Ok (list_item h items.0, items.1)) (all_steps one each n l) (λ x q. q)))
 
@@ -108,7 +121,8 @@ module _ (whole : Left) (h : Head) (l : Left) (past : IsStep 1 whole l) where
 
   pub body_steps : (one : Option (Reader Item)) → EachSteps one → Steps 1 whole (body one whole.place h l)
   body_steps one each =
-      cond_both (is_string h) (string whole.place h l) (if is_parent h then parent one whole.place h l else Ok (leaf h, l)) (Steps 1 whole) (λ e. string_steps)
+      cond_both (is_string h) (string whole.place h l) (if is_parent h then parent one whole.place h l else Ok (leaf h, l)) (Steps 1 whole)
+      (λ e. string_steps)
       (λ e. cond_both (is_parent h) (parent one whole.place h l) (Ok (leaf h, l)) (Steps 1 whole) (λ f. parent_steps one each) (λ f. past))
 
 with_steps : (one : Option (Reader Item)) → EachSteps one → (l : Left) → Steps 1 l (read_with one l)

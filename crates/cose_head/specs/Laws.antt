@@ -1,5 +1,5 @@
 -- What holds of reading, in the terms of the grammar.
-use Rattle.std.specs.Prelude.{◌≡◌, ℕ, ◌+◌, ◌<◌, ◌≤◌, ◌^◌, ◌↔◌, List, [], ◌∷◌, ◌++◌, length, get_or, false, Ok, Err, ⊤}
+use Rattle.std.specs.Prelude.{◌≡◌, ℕ, ◌+◌, ◌-◌, ◌<◌, ◌≤◌, ◌^◌, ◌↔◌, List, [], ◌∷◌, ◌++◌, length, take, false, Ok, Err, ⊤}
 use Rattle.cose_head.specs.declared.head.Head.{Head}
 use Rattle.cose_head.specs.declared.head.HeadStep.TheVariants.{Got, More}
 use Rattle.cose_head.specs.declared.reason.Reason.TheVariants.{Truncated}
@@ -51,9 +51,6 @@ pub record Between (l rest : Left) (IsPart : List ℕ → Type 0) : Type 0 where
 abbrev pub IsSpelled : ℕ → Left → Item → Left → Type 0
 IsSpelled depth l content rest = Between l rest (λ part. Spells part content) × (depth_of content ≤ depth)
 
-abbrev pub AreBytes : List ℕ → Type 0
-AreBytes bytes = (i : ℕ) → get_or bytes i 0 < 2 ^ 8
-
 -- The bytes begin with a head of so many bytes. A simple value in two bytes is 32 or more.
 pub record SpellsHead (bytes : List ℕ) (h : Head) (used : ℕ) : Type 0 where
   pub part : List ℕ
@@ -64,12 +61,19 @@ pub record SpellsHead (bytes : List ℕ) (h : Head) (used : ℕ) : Type 0 where
   pub ends : used ≡ h.width
   pub good : is_bad_simple h ≡ false
 
--- What is read is what is spelled, both ways.
+-- What is read is what is spelled.
 abbrev pub ReadIsSpelled : Type 0
-ReadIsSpelled = (depth : ℕ) (l : Left) (content : Item) (rest : Left) → AreBytes l.bytes → read depth l ≡ Ok (content, rest) → IsSpelled depth l content rest
+ReadIsSpelled = (depth : ℕ) (l : Left) (content : Item) (rest : Left) → (read depth l ≡ Ok (content, rest)) ↔ IsSpelled depth l content rest
 
-abbrev pub SpelledIsRead : Type 0
-SpelledIsRead = (depth : ℕ) (l : Left) (content : Item) (rest : Left) → IsSpelled depth l content rest → read depth l ≡ Ok (content, rest)
+-- So one list begins with at most one item.
+abbrev pub OneItem : Type 0
+OneItem = (a b rest others : List ℕ) (content other : Item) → Spells a content → Spells b other → a ++ rest ≡ b ++ others → (a ≡ b)
+    × (content ≡ other)
+
+-- And it is the same item before other bytes, in another room, at another place and with more nesting allowed.
+abbrev pub ReadElsewhere : Type 0
+ReadElsewhere = (depth deeper : ℕ) (l rest m last : Left) (content : Item) → depth ≤ deeper → read depth l ≡ Ok (content, rest) →
+    Between m last (λ part. part ≡ take (rest.place - l.place) l.bytes) → read deeper m ≡ Ok (content, last)
 
 -- An answer that isn't Truncated stays when bytes follow.
 abbrev pub ReadStays : Type 0
@@ -99,15 +103,16 @@ abbrev pub HeadIsSpelled : Type 0
 HeadIsSpelled = (bytes : List ℕ) (h : Head) (used : ℕ) → (bare_head bytes ≡ Got h used) ↔ SpellsHead bytes h used
 
 abbrev pub HeadStays : Type 0
-HeadStays = (bytes more : List ℕ) → IsWhole (bare_head bytes) → bare_head (bytes ++ more) ≡ bare_head bytes
+HeadStays = (bytes next : List ℕ) → IsWhole (bare_head bytes) → bare_head (bytes ++ next) ≡ bare_head bytes
 
 -- Fewer bytes than More says leave it incomplete.
 abbrev pub HeadWants : Type 0
-HeadWants = (bytes more : List ℕ) (wanted : ℕ) → bare_head bytes ≡ More wanted → length more < wanted → IsMore (bare_head (bytes ++ more))
+HeadWants = (bytes next : List ℕ) (wanted : ℕ) → bare_head bytes ≡ More wanted → length next < wanted → IsMore (bare_head (bytes ++ next))
 
 -- The byte that completes a half head is its last.
 abbrev pub HeadEnds : Type 0
-HeadEnds = (bytes : List ℕ) (byte : ℕ) (h : Head) (used : ℕ) → IsMore (bare_head bytes) → bare_head (bytes ++ byte ∷ []) ≡ Got h used → used ≡ length bytes + 1
+HeadEnds = (bytes : List ℕ) (byte : ℕ) (h : Head) (used : ℕ) → IsMore (bare_head bytes) → bare_head (bytes ++ byte ∷ []) ≡ Got h used →
+    used ≡ length bytes + 1
 
 -- The shortest head of an argument is a head of it, whatever follows.
 abbrev pub ShortestIsHead : Type 0

@@ -2,12 +2,15 @@
 //!
 //! `read` is how an item is read, `Spells` how bytes spell one, `bare_head` how a head outside an item is read.
 
-ghost use Rattle.cose_head.specs.Laws.{ReadIsSpelled, SpelledIsRead, ReadStays, RefusedIsNoItem, ReadSteps, ReadAddsUp, TruncatedHasRoom, HeadIsSpelled, HeadStays, HeadWants, HeadEnds, ShortestIsHead};
+ghost use Rattle.cose_head.specs.Laws.{ReadIsSpelled, OneItem, ReadElsewhere, ReadStays, RefusedIsNoItem, ReadSteps, ReadAddsUp, TruncatedHasRoom, HeadIsSpelled, HeadStays, HeadWants, HeadEnds, ShortestIsHead};
+ghost use Rattle.cose_head.specs.Shortest.{ShortestIsSpelled};
 
 /// What `read` accepts is exactly what the grammar spells, within the room and the nesting (RFC 8949 section 3).
+/// So bytes begin with at most one item, and it is the same one wherever these bytes stand.
 pub fn read_is_spelling()
     ensures spelled { ReadIsSpelled }
-    ensures complete { SpelledIsRead }
+    ensures one { OneItem }
+    ensures elsewhere { ReadElsewhere }
 {}
 
 /// An answer of `read` that isn't Truncated stays when bytes follow.
@@ -34,7 +37,9 @@ pub fn bare_head_is_spelling()
     ensures ends { HeadEnds }
 {}
 
-/// The shortest head of an argument is a head of it (RFC 8949 section 4.2.1).
-pub fn shortest_head_is_head()
-    ensures { ShortestIsHead }
+/// The shortest head of an argument is a head of it, and the shortest spelling of an item spells it
+/// (RFC 8949 section 4.2.1).
+pub fn shortest_is_spelling()
+    ensures head { ShortestIsHead }
+    ensures item { ShortestIsSpelled }
 {}

@@ -16,3 +16,6 @@ pub use kind::Kind;
 pub use reason::Reason;
 pub use refusal::Refusal;
 pub use walker::{Step, Walker};
+
+#[cfg(test)]
+mod tests;
