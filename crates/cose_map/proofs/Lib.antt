@@ -1,1 +1,4 @@
 pub mod WorkedBuckets
+pub mod Labels
+pub mod MapSteps
+pub mod Buckets
