@@ -2,3 +2,4 @@ pub mod WorkedBuckets
 pub mod Labels
 pub mod MapSteps
 pub mod Buckets
+pub mod PairFaults

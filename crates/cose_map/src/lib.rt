@@ -5,10 +5,12 @@ mod bucket;
 mod form;
 mod label;
 mod maps;
+mod pair_check;
 mod pairs;
 
 pub use bucket::Bucket;
 pub use cose_head::{Head, ItemRef, Items, Reason, Refusal};
 pub use label::Label;
 pub use maps::{Form, check_map, read_map};
+pub use pair_check::check_pair;
 pub use pairs::Pairs;
