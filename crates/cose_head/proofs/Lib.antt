@@ -4,6 +4,8 @@ pub mod WorkedOpen
 pub mod Heads
 pub mod Measuring
 pub mod ItemSteps
+pub mod WorkedPlaced
+pub mod Looks
 pub mod HalfHeads
 pub mod Walks
 pub mod WalkedHeads
@@ -20,6 +22,4 @@ pub mod ShortItems
 pub mod ShortLeast
 pub mod ReadLaws
 pub mod Spans
-pub mod WorkedPlaced
-pub mod Looks
 pub mod PlacedTrees

@@ -4,12 +4,12 @@ pub mod Item
 pub mod Reading
 pub mod Shortest
 pub mod Measured
+pub mod Placed
+pub mod ItemRef
+pub mod Items
 pub mod HalfHead
 pub mod Open
 pub mod Walking
 pub mod Walker
 pub mod Laws
-pub mod Placed
 pub mod PlacedLaws
-pub mod ItemRef
-pub mod Items
