@@ -1,1 +1,2 @@
 pub mod WorkedBuckets
+pub mod WorkedKeys
