@@ -4,3 +4,4 @@ pub mod Heads
 pub mod Measuring
 pub mod ItemSteps
 pub mod WorkedPlaced
+pub mod Looks

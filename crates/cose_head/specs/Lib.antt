@@ -5,3 +5,5 @@ pub mod Reading
 pub mod Shortest
 pub mod Measured
 pub mod Placed
+pub mod ItemRef
+pub mod Items

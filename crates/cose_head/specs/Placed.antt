@@ -1,6 +1,7 @@
 -- Items above the grammar (RFC 8949 section 3): an item is its bytes and their place. What it is comes from its head,
 -- and its children from the bytes after the head. Each word answers for every list of bytes.
-use Rattle.std.specs.Prelude.{ℕ, zero, suc, ◌+◌, ◌*◌, ℤ, pos, negsuc, Bool, true, false, List, [], ◌∷◌, length, take, drop, Result, Ok, Err, nat_lt, ◌==◌, ◌||◌, if◌then◌else◌}
+use Rattle.std.specs.Prelude.{ℕ, zero, suc, ◌+◌, ◌*◌, ℤ, pos, negsuc, Bool, true, false, List, [], ◌∷◌, length, take, drop, Option, Some, None, Result, Ok, Err, nat_lt, ◌==◌, ◌||◌, if◌then◌else◌}
+use Rattle.std.specs.Str.{is_utf8}
 use Rattle.cose_head.specs.declared.head.Head.{Head}
 use Rattle.cose_head.specs.declared.head.HeadStep.{HeadStep}
 use Rattle.cose_head.specs.declared.head.HeadStep.TheVariants.{Got}
@@ -61,6 +62,26 @@ past_head h p = record { bytes = drop h.width p.bytes; place = p.place + h.width
 unfoldable pub look : Placed → Look
 look p = look_with (head_of_item p) (past_head (head_of_item p) p).bytes
 
+-- The integer that an item is, the content of a byte string, and the content of a text that is UTF-8 (section 3.1).
+abbrev pub integer_in : Look → Option ℤ
+integer_in (integer z) = Some z
+integer_in _ = None
+
+abbrev pub bytes_in : Look → Option (List ℕ)
+bytes_in (byte_content content) = Some content
+bytes_in _ = None
+
+abbrev pub if_utf8 : List ℕ → Option (List ℕ)
+if_utf8 content = if is_utf8 content then Some content else None
+
+abbrev pub text_in : Look → Option (List ℕ)
+text_in (text_content content) = if_utf8 content
+text_in _ = None
+
+abbrev pub is_a_float : Look → Bool
+is_a_float a_float = true
+is_a_float _ = false
+
 -- The item at the front of the bytes, of any nesting that the library reads.
 abbrev pub span_at : List ℕ → Result Span Refusal
 span_at bytes = span_of (read 32 (left_of bytes (length bytes) 0))
@@ -88,3 +109,7 @@ children_with h p = if has_children h then items_from (children_announced h) (pa
 
 unfoldable pub children_of : Placed → List Placed
 children_of p = children_with (head_of_item p) p
+
+-- The children of an item that is an array or a map, if only none.
+abbrev pub children_if_any : Placed → Option (List Placed)
+children_if_any p = if has_children (head_of_item p) then Some (children_of p) else None

@@ -3,12 +3,16 @@
 
 mod head;
 mod item;
+mod item_ref;
+mod items;
 mod kind;
 mod reason;
 mod refusal;
 
 pub use head::{Head, HeadStep, parse_head, write_head};
 pub use item::{Span, read_item};
+pub use item_ref::ItemRef;
+pub use items::Items;
 pub use kind::Kind;
 pub use reason::Reason;
 pub use refusal::Refusal;

@@ -1,0 +1,126 @@
+//! One data item: its bytes and their place (RFC 8949 section 3).
+
+ghost use Rattle.std.specs.Prelude.{◌≡◌, ℕ, ◌+◌, ◌<◌, ◌^◌, length, take, drop, option_map};
+ghost use Rattle.cose_head.specs.Placed.{if_utf8};
+
+use crate::head::{Head, HeadStep, parse_head};
+
+/// A data item: its bytes, and the place of the first.
+///
+/// What the methods say rests on the bytes alone, and of bytes that begin with no head they say that they are
+/// the simple value `undefined`.
+#[derive(Clone, Copy, Debug)]
+pub struct ItemRef<'a> {
+    /// The bytes of the item.
+    pub bytes: &'a [u8],
+    /// The place of the first byte.
+    pub place: u64,
+    /// The place after the last byte is a number too.
+    pub ghost in_range: { place + length bytes.now < 2 ^ 64 },
+}
+
+/// What is after the first bytes, so many or all.
+fn bytes_after(bytes: &[u8], width: u8) -> &[u8]
+    ensures { result.now ≡ drop width bytes.now }
+{
+    let width = usize::from(width).min(bytes.len());
+    &bytes[width..]
+}
+
+/// The first bytes, so many or all.
+fn bytes_before(bytes: &[u8], count: u64) -> &[u8]
+    ensures { result.now ≡ take count bytes.now }
+{
+    if count < bytes.len() as u64 {
+        return &bytes[..count as usize];
+    }
+    bytes
+}
+
+/// The bytes as a text, if they are UTF-8.
+fn utf8(bytes: &[u8]) -> Option<&str>
+    ensures { option_map (λ text. text.now) result ≡ if_utf8 bytes.now }
+{
+    match std::str::from_utf8(bytes) {
+        Ok(text) => Some(text),
+        Err(_) => None,
+    }
+}
+
+impl<'a> ItemRef<'a> {
+    ghost use Rattle.cose_head.specs.ItemRef.{placed};
+    ghost use Rattle.cose_head.specs.Placed.{head_of_item, look, integer_in, bytes_in, text_in, is_a_float};
+
+    /// The head of the item.
+    #[tactic(auto, unfolding(crate::specs::Placed::head_of_item))]
+    pub fn head(&self) -> Head
+        ensures { result ≡ head_of_item (placed self.now) }
+    {
+        match parse_head(self.bytes) {
+            HeadStep::Got(head, _) => head,
+            HeadStep::More(_) => Head {
+                major: 7,
+                arg: 23,
+                width: 1,
+            },
+            HeadStep::Fault(_) => Head {
+                major: 7,
+                arg: 23,
+                width: 1,
+            },
+        }
+    }
+
+    /// The bytes after a head, as many as it announces.
+    fn content(&self, head: Head) -> &'a [u8]
+        ensures { result.now ≡ take head.arg (drop head.width self.now.bytes.now) }
+    {
+        bytes_before(bytes_after(self.bytes, head.width), head.arg)
+    }
+
+    /// The integer that the item is, if it is one.
+    #[tactic(auto, unfolding(crate::specs::Placed::look), using(crate::proofs::Looks::unsigned_found, crate::proofs::Looks::negative_found, crate::proofs::Looks::no_integer))]
+    pub fn as_int(&self) -> Option<i128>
+        ensures { result ≡ integer_in (look (placed self.now)) }
+    {
+        let head = self.head();
+        match head.major {
+            0 => Some(i128::from(head.arg)),
+            1 => Some(-1 - i128::from(head.arg)),
+            _ => None,
+        }
+    }
+
+    /// The content of a byte string.
+    #[tactic(auto, unfolding(crate::specs::Placed::look), using(crate::proofs::Looks::bytes_found, crate::proofs::Looks::no_bytes))]
+    pub fn as_bytes(&self) -> Option<&'a [u8]>
+        ensures { option_map (λ bytes. bytes.now) result ≡ bytes_in (look (placed self.now)) }
+    {
+        let head = self.head();
+        if head.major != 2 {
+            return None;
+        }
+        Some(self.content(head))
+    }
+
+    /// The content of a text, if it is UTF-8.
+    #[tactic(auto, unfolding(crate::specs::Placed::look), using(crate::proofs::Looks::text_found, crate::proofs::Looks::no_text))]
+    pub fn as_text(&self) -> Option<&'a str>
+        ensures { option_map (λ text. text.now) result ≡ text_in (look (placed self.now)) }
+    {
+        let head = self.head();
+        if head.major != 3 {
+            return None;
+        }
+        utf8(self.content(head))
+    }
+
+    /// Whether the item is a float.
+    #[tactic(auto, unfolding(crate::specs::Placed::look), using(crate::proofs::Looks::float_found, crate::proofs::Looks::no_float))]
+    pub fn is_float(&self) -> bool
+        ensures { result ≡ is_a_float (look (placed self.now)) }
+    {
+        let head = self.head();
+        head.major >= 7 && head.width > 2
+    }
+}
