@@ -1,5 +1,5 @@
 -- What an item is, by its major type.
-use Rattle.std.proofs.Common.{◌≡◌, ◌≢◌, ◌<◌, ℕ, ◌+◌, ℤ, pos, negsuc, Bool, true, false, List, [], take, drop, Option, Some, None, refl, arith, ⊎_elim, ◌≤◌, zero, suc, length, Result, Ok, Err}
+use Rattle.std.proofs.Common.{◌≡◌, ◌≢◌, ◌<◌, ℕ, ◌+◌, ℤ, pos, negsuc, Bool, true, false, List, [], take, drop, Option, Some, None, refl, ap, ◌∙◌, arith, ⊎_elim, ◌≤◌, zero, suc, length, Result, Ok, Err}
 use Rattle.std.specs.Prelude.{nat_lt, ◌==◌, if◌then◌else◌, IsUtf8}
 use Rattle.std.specs.Str.{is_utf8}
 use Rattle.std.proofs.lemmas.Bool.{cases_Bool}
@@ -10,7 +10,7 @@ use Rattle.cose_head.specs.declared.head.HeadStep.TheVariants.{Got}
 use Rattle.cose_head.specs.declared.item.Span.{Span}
 use Rattle.cose_head.specs.declared.refusal.Refusal.{Refusal}
 use Rattle.cose_head.specs.Head.{bare_head}
-use Rattle.cose_head.specs.Placed.{Placed, Look, look_with, simple_look, integer_in, bytes_in, text_in, if_utf8, is_a_float, head_of_item, has_children, children_announced, children_of, children_if_any, items_from, first_of, span_at}
+use Rattle.cose_head.specs.Placed.{Placed, Look, look_with, simple_look, integer_in, bytes_in, text_in, if_utf8, is_an_array, is_a_map, is_a_float, head_of_item, has_children, children_announced, children_of, past_head, children_if_any, items_from, first_of, span_at}
 use Rattle.cose_head.proofs.Heads.{got_width}
 
 pub unsigned_found : (h : Head) (rest : List ℕ) → h.major ≡ 0 → integer_in (look_with h rest) ≡ Some (pos h.arg)
@@ -51,6 +51,12 @@ float_found h rest p =
 pub no_float : (h : Head) (rest : List ℕ) → h.major < 7 → is_a_float (look_with h rest) ≡ false
 no_float h rest p = grind (arith, nat_tests)
 
+pub array_found : (h : Head) (rest : List ℕ) → is_an_array (look_with h rest) ≡ (h.major == 4)
+array_found h rest = grind (arith, nat_tests)
+
+pub map_found : (h : Head) (rest : List ℕ) → is_a_map (look_with h rest) ≡ (h.major == 5)
+map_found h rest = grind (arith, nat_tests)
+
 -- texts
 pub utf8_found : (bytes : List ℕ) → IsUtf8 bytes → Some bytes ≡ if_utf8 bytes
 utf8_found bytes u = rw (is_utf8-from_IsUtf8 bytes u) refl
@@ -74,6 +80,21 @@ children_found bytes rest place used left h e after found =
 first_few : (others : Placed → List Placed) (n : ℕ) (p : Placed) → ((q : Placed) → length (others q) ≤ n) → (found : Result Span Refusal) → length (first_of others p found) ≤ suc n
 first_few others n p few (Ok span) = let rest = few (record { bytes = drop span.length p.bytes; place = p.place + span.length }) in omega (arith, rest)
 first_few others n p few (Err refusal) = omega arith
+
+-- the children of an item that may have none
+abbrev pub listed : Option (List Placed) → List Placed
+listed None = []
+listed (Some items) = items
+
+all_children : (p : Placed) → listed (children_if_any p) ≡ children_of p
+unfolding children_of
+all_children p = elim (has_children (head_of_item p)) as (λ b. listed (if b then Some (if b then items_from (children_announced (head_of_item p)) (past_head (head_of_item p) p) else []) else None) ≡ (if b then items_from (children_announced (head_of_item p)) (past_head (head_of_item p) p) else [])) [ true ↦ refl | false ↦ refl ]
+
+pub its_children : (p : Placed) (items : List Placed) → Some items ≡ children_if_any p → items ≡ children_of p
+its_children p items e = ap listed e ∙ all_children p
+
+pub no_children : (p : Placed) → None ≡ children_if_any p → [] ≡ children_of p
+no_children p e = ap listed e ∙ all_children p
 
 pub few_items : (n : ℕ) (p : Placed) → length (items_from n p) ≤ n
 unfolding items_from

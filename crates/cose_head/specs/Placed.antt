@@ -78,6 +78,14 @@ abbrev pub text_in : Look → Option (List ℕ)
 text_in (text_content content) = if_utf8 content
 text_in _ = None
 
+abbrev pub is_an_array : Look → Bool
+is_an_array an_array = true
+is_an_array _ = false
+
+abbrev pub is_a_map : Look → Bool
+is_a_map a_map = true
+is_a_map _ = false
+
 abbrev pub is_a_float : Look → Bool
 is_a_float a_float = true
 is_a_float _ = false

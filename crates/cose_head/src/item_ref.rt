@@ -49,7 +49,7 @@ fn utf8(bytes: &[u8]) -> Option<&str>
 
 impl<'a> ItemRef<'a> {
     ghost use Rattle.cose_head.specs.ItemRef.{placed};
-    ghost use Rattle.cose_head.specs.Placed.{head_of_item, look, integer_in, bytes_in, text_in, is_a_float};
+    ghost use Rattle.cose_head.specs.Placed.{head_of_item, look, integer_in, bytes_in, text_in, is_an_array, is_a_map, is_a_float};
 
     /// The head of the item.
     #[tactic(auto, unfolding(crate::specs::Placed::head_of_item))]
@@ -122,5 +122,21 @@ impl<'a> ItemRef<'a> {
     {
         let head = self.head();
         head.major >= 7 && head.width > 2
+    }
+
+    /// Whether the item is an array.
+    #[tactic(auto, unfolding(crate::specs::Placed::look), using(crate::proofs::Looks::array_found))]
+    pub fn is_array(&self) -> bool
+        ensures { result ≡ is_an_array (look (placed self.now)) }
+    {
+        self.head().major == 4
+    }
+
+    /// Whether the item is a map.
+    #[tactic(auto, unfolding(crate::specs::Placed::look), using(crate::proofs::Looks::map_found))]
+    pub fn is_map(&self) -> bool
+        ensures { result ≡ is_a_map (look (placed self.now)) }
+    {
+        self.head().major == 5
     }
 }

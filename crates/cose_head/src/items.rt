@@ -32,8 +32,9 @@ fn announced(head: Head) -> Option<u128>
 }
 
 impl<'a> Items<'a> {
+    ghost use Rattle.cose_head.specs.ItemRef.{placed};
     ghost use Rattle.cose_head.specs.Items.{items_left};
-    ghost use Rattle.cose_head.specs.Placed.{children_if_any};
+    ghost use Rattle.cose_head.specs.Placed.{children_if_any, children_of};
 
     /// The children of the item that these bytes are, from the place `at` on. None where it is neither an array nor a map.
     #[tactic(auto, unfolding(crate::specs::Placed::head_of_item, crate::specs::Placed::children_of), using(crate::proofs::Heads::got_width, crate::proofs::Looks::few_items))]
@@ -50,6 +51,21 @@ impl<'a> Items<'a> {
             }
             HeadStep::More(_) => None,
             HeadStep::Fault(_) => None,
+        }
+    }
+
+    /// The children of an item, none where it is neither an array nor a map.
+    #[tactic(auto, unfolding(crate::specs::Placed::items_from), using(crate::proofs::Looks::its_children, crate::proofs::Looks::no_children))]
+    pub fn of(item: &ItemRef<'a>) -> Items<'a>
+        ensures { items_left result ≡ children_of (placed item.now) }
+    {
+        if let Some(items) = Items::new(item.bytes, item.place) {
+            return items;
+        }
+        Items {
+            rest: item.bytes,
+            place: item.place,
+            left: 0,
         }
     }
 }
