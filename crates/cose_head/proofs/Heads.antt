@@ -21,15 +21,19 @@ of_seen l (Fault reason) = refuse reason l.place
 
 checked_as_seen : (h : Head) (l : Left) → checked h l ≡ of_seen l (simple_checked h)
 checked_as_seen h l =
-    elim (is_bad_simple h) as (λ b. (if b then refuse BadSimple l.place else Ok (h, after h.width l)) ≡ of_seen l (if b then Fault BadSimple else Got h h.width))
+    elim (is_bad_simple h) as (λ b. (if b then refuse BadSimple l.place else Ok (h, after h.width l)) ≡ of_seen l
+    (if b then Fault BadSimple else Got h h.width))
     [ true ↦ refl | false ↦ refl ]
 
 past_as_seen : (fault : Option Reason) (wanted initial : ℕ) (rest : List ℕ) (room place : ℕ) →
-    past_initial fault wanted initial rest (left_of (initial ∷ rest) (suc room) place) ≡ of_seen (left_of (initial ∷ rest) (suc room) place) (after_initial fault wanted initial (take room rest))
+    past_initial fault wanted initial rest (left_of (initial ∷ rest) (suc room) place) ≡ of_seen (left_of (initial ∷ rest) (suc room) place)
+    (after_initial fault wanted initial (take room rest))
 past_as_seen (Some reason) wanted initial rest room place = refl
-past_as_seen None wanted initial rest room place = ⊎_elim past_room (λ fits. ⊎_elim (missing fits) (whole fits) (cases_lt (length rest) wanted)) (cases_lt room wanted)
+past_as_seen None wanted initial rest room place =
+    ⊎_elim past_room (λ fits. ⊎_elim (missing fits) (whole fits) (cases_lt (length rest) wanted)) (cases_lt room wanted)
   where
-    past_room : room < wanted → past_initial None wanted initial rest (left_of (initial ∷ rest) (suc room) place) ≡ of_seen (left_of (initial ∷ rest) (suc room) place) (after_initial None wanted initial (take room rest))
+    past_room : room < wanted → past_initial None wanted initial rest (left_of (initial ∷ rest) (suc room) place) ≡ of_seen
+        (left_of (initial ∷ rest) (suc room) place) (after_initial None wanted initial (take room rest))
     past_room small =
         let e : length (take room rest) ≡ min room (length rest) = length-take room rest in
         let a : nat_lt (suc room - 1) wanted ≡ true = grind (arith, nat_tests) in
@@ -37,7 +41,9 @@ past_as_seen None wanted initial rest room place = ⊎_elim past_room (λ fits. 
         let c : nat_lt (suc room - suc (length (take room rest))) (wanted - length (take room rest)) ≡ true = grind (arith, nat_tests) in
         rw (a, b, c) refl
 
-    missing : wanted ≤ room → length rest < wanted → past_initial None wanted initial rest (left_of (initial ∷ rest) (suc room) place) ≡ of_seen (left_of (initial ∷ rest) (suc room) place) (after_initial None wanted initial (take room rest))
+    missing : wanted ≤ room → length rest < wanted →
+        past_initial None wanted initial rest (left_of (initial ∷ rest) (suc room) place) ≡ of_seen
+        (left_of (initial ∷ rest) (suc room) place) (after_initial None wanted initial (take room rest))
     missing fits short =
         let e : length (take room rest) ≡ min room (length rest) = length-take room rest in
         let a : nat_lt (suc room - 1) wanted ≡ false = grind (arith, nat_tests) in
@@ -46,7 +52,8 @@ past_as_seen None wanted initial rest room place = ⊎_elim past_room (λ fits. 
         let c : nat_lt (suc room - suc (length (take room rest))) (wanted - length (take room rest)) ≡ false = grind (arith, nat_tests) in
         rw (a, a2, b, c) refl
 
-    whole : wanted ≤ room → wanted ≤ length rest → past_initial None wanted initial rest (left_of (initial ∷ rest) (suc room) place) ≡ of_seen (left_of (initial ∷ rest) (suc room) place) (after_initial None wanted initial (take room rest))
+    whole : wanted ≤ room → wanted ≤ length rest → past_initial None wanted initial rest (left_of (initial ∷ rest) (suc room) place) ≡ of_seen
+        (left_of (initial ∷ rest) (suc room) place) (after_initial None wanted initial (take room rest))
     whole fits there =
         let e : length (take room rest) ≡ min room (length rest) = length-take room rest in
         let a : nat_lt (suc room - 1) wanted ≡ false = grind (arith, nat_tests) in
@@ -55,7 +62,8 @@ past_as_seen None wanted initial rest room place = ⊎_elim past_room (λ fits. 
         let t : take wanted (take room rest) ≡ take wanted rest = take-take wanted room rest fits in
         rw (a, a2, b, t) (checked_as_seen (head_of initial (take wanted rest)) (left_of (initial ∷ rest) (suc room) place))
 
-pub head_as_seen : (bytes : List ℕ) (room place : ℕ) → head (left_of bytes room place) ≡ of_seen (left_of bytes room place) (bare_head (take room bytes))
+pub head_as_seen : (bytes : List ℕ) (room place : ℕ) → head (left_of bytes room place) ≡ of_seen (left_of bytes room place)
+    (bare_head (take room bytes))
 unfolding head bare_head
 head_as_seen [] zero place = refl
 head_as_seen [] (suc room) place =
@@ -75,7 +83,8 @@ head_is_seen bytes room place seen step e s =
     ap (of_seen (left_of bytes room place)) (s ∙ ap bare_head t) ∙ sym (head_as_seen bytes room place)
 
 -- and for each step that is seen
-pub head_got : (bytes : List ℕ) (room place seen : ℕ) (h : Head) (used : ℕ) → seen ≡ min room (length bytes) → Got h used ≡ bare_head (take seen bytes) →
+pub head_got : (bytes : List ℕ) (room place seen : ℕ) (h : Head) (used : ℕ) → seen ≡ min room (length bytes) →
+    Got h used ≡ bare_head (take seen bytes) →
     Ok (h, after h.width (left_of bytes room place)) ≡ head (left_of bytes room place)
 head_got bytes room place seen h used e s = head_is_seen bytes room place seen (Got h used) e s
 
@@ -95,18 +104,22 @@ head_short bytes room place seen wanted e s fits =
     let o : refuse Truncated (place + length bytes) ≡ of_seen (left_of bytes room place) (More wanted) = rw p refl in
     o ∙ head_is_seen bytes room place seen (More wanted) e s
 
-pub head_fault : (bytes : List ℕ) (room place seen : ℕ) (reason : Reason) → seen ≡ min room (length bytes) → Fault reason ≡ bare_head (take seen bytes) →
+pub head_fault : (bytes : List ℕ) (room place seen : ℕ) (reason : Reason) → seen ≡ min room (length bytes) →
+    Fault reason ≡ bare_head (take seen bytes) →
     refuse reason place ≡ head (left_of bytes room place)
 head_fault bytes room place seen reason e s = head_is_seen bytes room place seen (Fault reason) e s
 
 -- a head has as many bytes as its width says
 checked_width : (h : Head) → IfGot (simple_checked h) (λ got used. used ≡ got.width)
-checked_width h = elim (is_bad_simple h) as (λ b. IfGot (if b then Fault BadSimple else Got h h.width) (λ got used. used ≡ got.width)) [ true ↦ tt | false ↦ refl ]
+checked_width h = elim (is_bad_simple h) as
+    (λ b. IfGot (if b then Fault BadSimple else Got h h.width) (λ got used. used ≡ got.width)) [ true ↦ tt | false ↦ refl ]
 
-past_width : (fault : Option Reason) (wanted initial : ℕ) (rest : List ℕ) → IfGot (after_initial fault wanted initial rest) (λ got used. used ≡ got.width)
+past_width : (fault : Option Reason) (wanted initial : ℕ) (rest : List ℕ) →
+    IfGot (after_initial fault wanted initial rest) (λ got used. used ≡ got.width)
 past_width (Some reason) wanted initial rest = tt
 past_width None wanted initial rest =
-    elim (nat_lt (length rest) wanted) as (λ b. IfGot (if b then More (wanted - length rest) else simple_checked (head_of initial (take wanted rest))) (λ got used. used ≡ got.width))
+    elim (nat_lt (length rest) wanted) as
+    (λ b. IfGot (if b then More (wanted - length rest) else simple_checked (head_of initial (take wanted rest))) (λ got used. used ≡ got.width))
     [ true ↦ tt | false ↦ checked_width (head_of initial (take wanted rest)) ]
 
 bare_width : (bytes : List ℕ) → IfGot (bare_head bytes) (λ got used. used ≡ got.width)

@@ -1,5 +1,5 @@
 -- What an item is, by its major type.
-use Rattle.std.proofs.Common.{◌≡◌, ◌≢◌, ◌<◌, ℕ, ◌+◌, ℤ, pos, negsuc, Bool, true, false, List, [], take, drop, Option, Some, None, refl, ap, ◌∙◌, arith, ⊎_elim, ◌≤◌, zero, suc, length, Result, Ok, Err}
+use Rattle.std.proofs.Common.{◌≡◌, ◌≢◌, ◌<◌, ℕ, ◌+◌, pos, negsuc, Bool, true, false, List, [], take, drop, Option, Some, None, refl, ap, ◌∙◌, arith, ⊎_elim, ◌≤◌, zero, suc, length, Result, Ok, Err}
 use Rattle.std.specs.Prelude.{nat_lt, ◌==◌, if◌then◌else◌, IsUtf8}
 use Rattle.std.specs.Str.{is_utf8}
 use Rattle.std.proofs.lemmas.Bool.{cases_Bool}
@@ -10,7 +10,7 @@ use Rattle.cose_head.specs.declared.head.HeadStep.TheVariants.{Got}
 use Rattle.cose_head.specs.declared.item.Span.{Span}
 use Rattle.cose_head.specs.declared.refusal.Refusal.{Refusal}
 use Rattle.cose_head.specs.Head.{bare_head}
-use Rattle.cose_head.specs.Placed.{Placed, Look, look_with, simple_look, integer_in, bytes_in, text_in, if_utf8, is_an_array, is_a_map, is_a_float, head_of_item, has_children, children_announced, children_of, past_head, children_if_any, items_from, first_of, span_at}
+use Rattle.cose_head.specs.Placed.{Placed, look_with, simple_look, integer_in, bytes_in, text_in, if_utf8, is_an_array, is_a_map, is_a_float, head_of_item, has_children, children_announced, children_of, past_head, children_if_any, items_from, first_of, span_at}
 use Rattle.cose_head.proofs.Heads.{got_width}
 
 pub unsigned_found : (h : Head) (rest : List ℕ) → h.major ≡ 0 → integer_in (look_with h rest) ≡ Some (pos h.arg)
@@ -38,7 +38,7 @@ float_simple : (h : Head) → is_a_float (simple_look h) ≡ nat_lt 2 h.width
 float_simple h = grind (arith, nat_tests)
 
 pub float_found : (h : Head) (rest : List ℕ) → 7 ≤ h.major → is_a_float (look_with h rest) ≡ nat_lt 2 h.width
-float_found h rest p = 
+float_found h rest p =
     let a : h.major == 0 ≡ false = grind (arith, nat_tests) in
     let b : h.major == 1 ≡ false = grind (arith, nat_tests) in
     let c : h.major == 2 ≡ false = grind (arith, nat_tests) in

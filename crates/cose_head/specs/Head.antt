@@ -9,7 +9,7 @@ use Rattle.cose_head.specs.declared.head.HeadStep.TheVariants.{Got, More, Fault}
 
 -- The high three bits of an initial byte are the major type, the low five are the additional information.
 abbrev pub major_of : ℕ → ℕ
-major_of initial = initial / 32
+major_of initial = initial / 32 % 8
 
 abbrev pub low_of : ℕ → ℕ
 low_of initial = initial % 32

@@ -7,3 +7,8 @@ pub mod Measured
 pub mod Placed
 pub mod ItemRef
 pub mod Items
+pub mod HalfHead
+pub mod Open
+pub mod Walking
+pub mod Walker
+pub mod Laws

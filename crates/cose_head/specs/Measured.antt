@@ -1,10 +1,10 @@
 -- What a reader of spans tells of the items that `read` gives: their nesting, and where they end.
-use Rattle.std.specs.Prelude.{ℕ, List, Result, Ok, Err, nat_lt, ◌==◌, if◌then◌else◌}
+use Rattle.std.specs.Prelude.{◌≡◌, ℕ, List, take, Result, Ok, Err, nat_lt, ◌==◌, if◌then◌else◌}
 use Rattle.cose_head.specs.declared.head.Head.{Head}
 use Rattle.cose_head.specs.declared.item.Span.{Span}
 use Rattle.cose_head.specs.declared.reason.Reason.TheVariants.{TooDeep, PastRoom}
 use Rattle.cose_head.specs.declared.refusal.Refusal.{Refusal}
-use Rattle.cose_head.specs.Item.{Item, Items, depth_of, deepest}
+use Rattle.cose_head.specs.Item.{Item, Items, Spells, depth_of, deepest}
 use Rattle.cose_head.specs.Reading.{Left, Outcome, after, child_count}
 
 abbrev pub left_of : List ℕ → ℕ → ℕ → Left
@@ -35,3 +35,9 @@ children_allowed h room depth place =
     if depth == 0 then Err (record { reason = TooDeep; place = place }) else
     if nat_lt room (child_count h) then Err (record { reason = PastRoom; place = place }) else
     Ok (child_count h)
+
+-- The front of the bytes spells an item of this length and nesting.
+pub record SpansItem (bytes : List ℕ) (span : Span) : Type 0 where
+  pub content : Item
+  pub spelled : Spells (take span.length bytes) content
+  pub nested : depth_of content ≡ span.depth

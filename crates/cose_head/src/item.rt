@@ -1,8 +1,9 @@
 //! Whole data items (RFC 8949 section 3).
 
-ghost use Rattle.std.specs.Prelude.{◌≡◌, ℕ, ◌+◌, ◌<◌, ◌≤◌, ◌^◌, length, IfOk};
+ghost use Rattle.std.specs.Prelude.{◌≡◌, ℕ, ◌+◌, ◌<◌, ◌≤◌, ◌^◌, length, take, IfOk, IfErr};
+ghost use Rattle.cose_head.specs.Item.{Item, Spells, depth_of};
 ghost use Rattle.cose_head.specs.Reading.{read, read_all, head, string, child_count, span_of, is_string as head_of_string, is_parent as head_of_parent};
-ghost use Rattle.cose_head.specs.Measured.{left_of, head_found, span_found, nesting, nesting_all, children_allowed};
+ghost use Rattle.cose_head.specs.Measured.{left_of, head_found, span_found, nesting, nesting_all, children_allowed, SpansItem};
 
 use crate::head::{Head, HeadStep, parse_head};
 use crate::reason::Reason;
@@ -171,9 +172,15 @@ fn item_at(bytes: &[u8], room: usize, place: u64, depth: usize) -> Result<Span, 
 /// [`Reason::Indefinite`], [`Reason::BadSimple`] or [`Reason::TooDeep`], with its place in `bytes`. No memory is taken.
 pub fn read_item(bytes: &[u8], room: usize, depth: usize) -> Result<Span, Refusal>
     requires { depth ≤ 32 }
+    // An `Ok` spans exactly the bytes that spell an item.
+    ensures spelled { IfOk result (SpansItem bytes.now) }
+    ensures complete { (content : Item) (n : ℕ) → n ≤ length bytes.now → Spells (take n bytes.now) content → n ≤ room → depth_of content ≤ depth →
+        result ≡ Ok (record { length = n; depth = depth_of content }) }
+
     // The length and the nesting of the item that `read` gives, or its refusal.
     ensures exact { result ≡ span_of (read depth (left_of bytes.now room 0)) }
     ensures within { IfOk result (λ span. (0 < span.length) × (span.length ≤ length bytes.now) × (span.length ≤ room) × (span.depth ≤ depth)) }
+    ensures placed { IfErr result (λ refusal. refusal.place ≤ length bytes.now) }
 {
     item_at(bytes, room, 0, depth)
 }

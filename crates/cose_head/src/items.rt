@@ -5,7 +5,7 @@ ghost use Rattle.cose_head.specs.Placed.{has_children, children_announced, items
 
 use crate::head::{Head, HeadStep, parse_head};
 use crate::item::read_item;
-use crate::item_ref::{ItemRef};
+use crate::item_ref::ItemRef;
 
 /// The direct children of an array or a map, in their order. A map's are label, value, label, value.
 #[derive(Clone, Copy, Debug)]

@@ -1,13 +1,16 @@
 //! Heads and items of CBOR (RFC 8949), and the reasons for which COSE messages are refused.
 #![tactic(auto)]
 
+mod half_head;
 mod head;
 mod item;
 mod item_ref;
 mod items;
 mod kind;
+pub mod laws;
 mod reason;
 mod refusal;
+mod walker;
 
 pub use head::{Head, HeadStep, parse_head, write_head};
 pub use item::{Span, read_item};
@@ -16,3 +19,7 @@ pub use items::Items;
 pub use kind::Kind;
 pub use reason::Reason;
 pub use refusal::Refusal;
+pub use walker::{Step, Walker};
+
+#[cfg(test)]
+mod tests;

@@ -1,2 +1,5 @@
 pub mod WorkedBuckets
+pub mod Labels
+pub mod MapSteps
+pub mod Buckets
 pub mod WorkedKeys

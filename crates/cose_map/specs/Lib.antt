@@ -1,6 +1,9 @@
 pub mod Label
 pub mod Maps
+pub mod Views
+pub mod Pairs
 pub mod Bucket
+pub mod Buckets
 pub mod PairFault
 pub mod KeyValue
 pub mod Key

@@ -8,7 +8,7 @@ use Rattle.cose_head.specs.declared.reason.Reason.TheVariants.{NotMap, BadLabel,
 use Rattle.cose_head.specs.declared.refusal.Refusal.{Refusal}
 use Rattle.cose_head.specs.Reading.{read, span_of}
 use Rattle.cose_head.specs.Measured.{left_of}
-use Rattle.cose_head.specs.Placed.{Placed, Look, a_map, look, children_of}
+use Rattle.cose_head.specs.Placed.{Placed, look, is_a_map, children_of}
 use Rattle.cose_map.specs.Label.{LabelValue, same_label, label_of}
 
 -- What was read, or the first fault and its place.
@@ -55,10 +55,14 @@ abbrev pub value_at : Placed → Option Reason → LabelValue → Placed → Rea
 value_at label None name value = Ok (record { name = name; label = label; value = value })
 value_at label (Some reason) name value = refuse reason value
 
+abbrev pub label_at : List Pair → Placed → Read LabelValue
+label_at earlier label = do
+  name ← name_at label (label_of label)
+  new_name label (has_label name earlier) name
+
 abbrev pub check_pair : Table → List Pair → Placed → Placed → Read Pair
 check_pair table earlier label value = do
-  found ← name_at label (label_of label)
-  name ← new_name label (has_label found earlier) found
+  name ← label_at earlier label
   value_at label (table name value) name value
 
 -- The pairs in their order, from the children of a map.
@@ -69,13 +73,19 @@ check_pairs table earlier (label ∷ value ∷ others) = do
   pair ← check_pair table earlier label value
   check_pairs table (earlier ++ pair ∷ []) others
 
--- An item that was read already: it is a map, and its pairs are right.
-abbrev pub check_map_like : Look → Table → Placed → Read (List Pair)
-check_map_like a_map table p = check_pairs table [] (children_of p)
-check_map_like _ table p = refuse NotMap p
+-- The pairs of a map's children without any check, as far as labels stand in the labels' places.
+abbrev pub named_first : Option LabelValue → Placed → Placed → List Pair → List Pair
+named_first None label value others = []
+named_first (Some name) label value others = record { name = name; label = label; value = value } ∷ others
 
+unfoldable pub named : List Placed → List Pair
+named [] = []
+named (label ∷ []) = []
+named (label ∷ value ∷ others) = named_first (label_of label) label value (named others)
+
+-- An item that was read already: it is a map, and its pairs are right.
 abbrev pub check_map : Table → Placed → Read (List Pair)
-check_map table p = check_map_like (look p) table p
+check_map table p = if is_a_map (look p) then check_pairs table [] (children_of p) else refuse NotMap p
 
 -- Exactly one item, of a nesting of at most depth. A fault's place counts from the item's.
 abbrev pub past_span : Placed → Result Span Refusal → Read Placed

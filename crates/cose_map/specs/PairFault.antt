@@ -1,5 +1,5 @@
 -- What can be wrong with the two buckets of a message together (RFC 9052 sections 3 and 3.1).
-use Rattle.std.specs.Prelude.{ℕ, pos, negsuc, Bool, false, not, List, [], ◌∷◌, ◌++◌, Option, Some, None, nat_lt, ◌==◌, ◌&&◌, ◌||◌, if◌then◌else◌, flat_map, fold}
+use Rattle.std.specs.Prelude.{ℕ, pos, Bool, false, not, List, [], ◌∷◌, ◌++◌, Option, Some, None, nat_lt, int_lt, ◌==◌, ◌&&◌, ◌||◌, if◌then◌else◌, flat_map, fold}
 use Rattle.std.specs.List.{list_any}
 use Rattle.cose_head.specs.declared.reason.Reason.{Reason}
 use Rattle.cose_head.specs.declared.reason.Reason.TheVariants.{BothBuckets, CritUnprotected, CritAbsent, CritUnknown, BothIvs}
@@ -16,8 +16,7 @@ fault_if wrong reason place = if wrong then record { reason = reason; place = pl
 
 -- The labels 1 to 6 are known to every reader.
 abbrev pub is_common : LabelValue → Bool
-is_common (number (pos n)) = nat_lt 0 n && nat_lt n 7
-is_common (number (negsuc n)) = false
+is_common (number n) = int_lt (pos 0) n && int_lt n (pos 7)
 is_common (words name) = false
 
 abbrev pub is_understood : List LabelValue → LabelValue → Bool
@@ -32,6 +31,10 @@ critical_faults protected understood element (Some name) =
 
 abbrev pub element_faults : List Pair → List LabelValue → Placed → List Refusal
 element_faults protected understood element = critical_faults protected understood element (label_of element)
+
+abbrev pub elements : Option (List Placed) → List Placed
+elements None = []
+elements (Some items) = items
 
 -- A pair of the unprotected bucket: its label isn't in the protected one too, and it isn't crit.
 abbrev pub unprotected_faults : List Pair → Pair → List Refusal
@@ -48,7 +51,7 @@ both_ivs protected unprotected = in_either iv protected unprotected && in_either
 
 unfoldable pub pair_faults : List Pair → List Pair → List LabelValue → ℕ → List Refusal
 pair_faults protected unprotected understood after =
-    flat_map (element_faults protected understood) (crit_of protected) ++
+    flat_map (element_faults protected understood) (elements (crit_of protected)) ++
     (flat_map (unprotected_faults protected) unprotected ++
     fault_if (both_ivs protected unprotected) BothIvs after)
 

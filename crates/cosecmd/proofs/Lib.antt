@@ -1,4 +1,3 @@
-pub mod HmacLemmas
 pub mod MachineLemmas
 pub mod PhaseLemmas
 pub mod RunLemmas

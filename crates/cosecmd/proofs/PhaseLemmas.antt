@@ -9,13 +9,11 @@ use Rattle.cose_head.specs.declared.head.HeadStep.{HeadStep}
 use Rattle.cose_head.specs.declared.head.HeadStep.TheVariants.{Got, Fault}
 use Rattle.cose_head.specs.declared.reason.Reason.{Reason}
 use Rattle.cose_head.specs.declared.reason.Reason.TheVariants.{WrongType, BadAuth}
-use Rattle.cose_head.specs.Head.{bare_head, shortest_head}
-use Rattle.cose_head.specs.Shortest.{shortest}
+use Rattle.cose_head.specs.Head.{bare_head}
 use Rattle.cosecmd.specs.declared.first.machine.Progress.{Progress}
 use Rattle.cosecmd.specs.declared.first.machine.Progress.TheVariants.{Open, Settled}
 use Rattle.cosecmd.specs.FirstVerdict.{authentic, comparison, protected, tag_of}
-use Rattle.cosecmd.specs.Machine.{Continues, StandsFor, opened}
-use Rattle.cosecmd.specs.MacStructure.{mac_structure, structure_before_payload_head}
+use Rattle.cosecmd.specs.Machine.{Continues, StandsFor}
 use Rattle.cosecmd.specs.Phases.{Phase, Reading, refused, with_front, with_head, with_string}
 
 -- ---- what a step comes to goes by the reading alone
@@ -75,16 +73,6 @@ with_string-whole payload n next place string byte bytes whole =
     let e : (string ++ byte ∷ []) ++ bytes ≡ string ++ byte ∷ bytes = regrouped string byte bytes in
     let long : nat_lt (length ((string ++ byte ∷ []) ++ bytes)) n ≡ false = le-ltb _ _ (omega (arith, length-append (string ++ byte ∷ []) bytes)) in
     rw (← e, long, take_at (string ++ byte ∷ []) bytes n whole, drop_at (string ++ byte ∷ []) bytes n whole) refl
-
--- ---- the structure
-
-pub mac_structure-parts : (protected external payload : List ℕ) → mac_structure protected external payload ≡ (structure_before_payload_head protected external ++ shortest_head 2 (length payload)) ++ payload
-unfolding mac_structure structure_before_payload_head shortest
-mac_structure-parts protected external payload = simp (append_assoc, append-nil)
-
--- the head of the payload and the payload complete the structure
-pub structure_whole : (payload : List ℕ) (n : ℕ) → length payload ≡ n → opened n ++ payload ≡ mac_structure protected [] payload
-structure_whole payload n e = rw (← e) (sym (mac_structure-parts protected [] payload))
 
 -- ---- the comparison
 

@@ -97,8 +97,8 @@ at_start key come contents sure machine stands = record {
 }
 
 -- a failed intake
-pub stopped_by_intake : (key : List ℕ) (come come_now come_after contents contents_now : Option (List ℕ)) (sure sure_now : ℕ) (machine : Machine) (ended : Bool) → (a : Along key come come_now contents contents_now sure sure_now machine) → KeepsOrForgets come_now come_after → FirstRun key come come_after ended contents contents_now (Err stops.Intake) a.taken
-stopped_by_intake key come come_now come_after contents contents_now sure sure_now machine ended a keeps =
+pub stopped_by_intake : {key : List ℕ} {come come_now come_after contents contents_now : Option (List ℕ)} {sure sure_now : ℕ} {machine : Machine} {ended : Bool} → (a : Along key come come_now contents contents_now sure sure_now machine) → KeepsOrForgets come_now come_after → FirstRun key come come_after ended contents contents_now (Err stops.Intake) a.taken
+stopped_by_intake {key} {come} {come_now} {come_after} {contents} {contents_now} {sure} {sure_now} {machine} {ended} a keeps =
     let here = reading_here key a.taken a.so_far machine a.stands in
     record {
       bytes = taken_before_failure come come_now come_after a.taken a.bytes keeps;
@@ -108,8 +108,8 @@ stopped_by_intake key come come_now come_after contents contents_now sure sure_n
     }
 
 -- the intake's end
-pub ended_open : (key : List ℕ) (come come_now come_after contents contents_now : Option (List ℕ)) (sure sure_now : ℕ) (machine : Machine) (ended : Bool) → (a : Along key come come_now contents contents_now sure sure_now machine) → Consumes come_now come_after [] → ended ≡ true → FirstRun key come come_after ended contents contents_now (Ok (unsettled [] (place_of machine)).verdict) a.taken
-ended_open key come come_now come_after contents contents_now sure sure_now machine ended a none e =
+pub ended_open : {key : List ℕ} {come come_now come_after contents contents_now : Option (List ℕ)} {sure sure_now : ℕ} {machine : Machine} {ended : Bool} → (a : Along key come come_now contents contents_now sure sure_now machine) → Consumes come_now come_after [] → ended ≡ true → FirstRun key come come_after ended contents contents_now (Ok (unsettled [] (place_of machine)).verdict) a.taken
+ended_open {key} {come} {come_now} {come_after} {contents} {contents_now} {sure} {sure_now} {machine} {ended} a none e =
     let here = reading_here key a.taken a.so_far machine a.stands in
     record {
       bytes = subst (λ (t : List ℕ). TakesInAll come come_after t) (append-nil a.taken) (taken_in_all come come_after (a.taken ++ []) (Consumes-then come come_now come_after a.taken [] a.bytes none));
@@ -125,15 +125,15 @@ all_taken (Some xs) (Some ys) taken bytes p end e =
     let whole : xs ≡ bytes = cc in
     sym (append-nil taken) ∙ ap (λ (t : List ℕ). taken ++ t) (sym end) ∙ sym p ∙ whole
 
-pub ended_answer : (key : List ℕ) (come come_now come_after contents contents_now : Option (List ℕ)) (sure sure_now : ℕ) (machine : Machine) (bytes : List ℕ) → (a : Along key come come_now contents contents_now sure sure_now machine) → Consumes come_now come_after [] → IsAtEnd come_after → come ≡ Some bytes → (unsettled [] (place_of machine)).verdict ≡ first_verdict key bytes
-ended_answer key come come_now come_after contents contents_now sure sure_now machine bytes a none end e =
+pub ended_answer : {key : List ℕ} {come come_now contents contents_now : Option (List ℕ)} (come_after : Option (List ℕ)) {sure sure_now : ℕ} {machine : Machine} (bytes : List ℕ) → (a : Along key come come_now contents contents_now sure sure_now machine) → Consumes come_now come_after [] → IsAtEnd come_after → come ≡ Some bytes → (unsettled [] (place_of machine)).verdict ≡ first_verdict key bytes
+ended_answer {key} {come} {come_now} {contents} {contents_now} come_after {sure} {sure_now} {machine} bytes a none end e =
     let all : a.taken ++ [] ≡ bytes = all_taken come come_after (a.taken ++ []) bytes (Consumes-then come come_now come_after a.taken [] a.bytes none) end e in
     let same : a.taken ≡ bytes = sym (append-nil a.taken) ∙ all in
     ap (λ (r : Reading). r.verdict) (sym (reading_here key a.taken a.so_far machine a.stands) ∙ ap (first_reading key) same)
 
 -- a failed sink
-pub stopped_by_sink : (key : List ℕ) (come come_now come_after contents contents_now contents_after : Option (List ℕ)) (sure sure_now : ℕ) (machine : Machine) (ended : Bool) (byte : ℕ) → (a : Along key come come_now contents contents_now sure sure_now machine) → Consumes come_now come_after (byte ∷ []) → payload_byte machine byte ≡ byte ∷ [] → AppendsFront contents_now contents_after (byte ∷ []) → FirstRun key come come_after ended contents contents_after (Err stops.Sink) (a.taken ++ byte ∷ [])
-stopped_by_sink key come come_now come_after contents contents_now contents_after sure sure_now machine ended byte a one in_payload front =
+pub stopped_by_sink : {key : List ℕ} {come come_now come_after contents contents_now contents_after : Option (List ℕ)} {sure sure_now : ℕ} {machine : Machine} {ended : Bool} (byte : ℕ) → (a : Along key come come_now contents contents_now sure sure_now machine) → Consumes come_now come_after (byte ∷ []) → payload_byte machine byte ≡ byte ∷ [] → AppendsFront contents_now contents_after (byte ∷ []) → FirstRun key come come_after ended contents contents_after (Err stops.Sink) (a.taken ++ byte ∷ [])
+stopped_by_sink {key} {come} {come_now} {come_after} {contents} {contents_now} {contents_after} {sure} {sure_now} {machine} {ended} byte a one in_payload front =
     let here = reading_here key a.taken a.so_far machine a.stands in
     let there = payload_byte_open key a.so_far machine byte a.stands.feeds in_payload in
     let after : first_reading key (a.taken ++ byte ∷ []) ≡ unsettled (a.so_far ++ byte ∷ []) there.0 = a.stands.left (byte ∷ []) ∙ there.1 in
@@ -145,8 +145,8 @@ stopped_by_sink key come come_now come_after contents contents_now contents_afte
     }
 
 -- the byte that settles it
-pub settled_now : (key : List ℕ) (come come_now come_after contents contents_now contents_after : Option (List ℕ)) (sure sure_now : ℕ) (machine : Machine) (ended : Bool) (byte : ℕ) (piece : List ℕ) (verdict : Verdict) → (a : Along key come come_now contents contents_now sure sure_now machine) → Consumes come_now come_after (byte ∷ []) → payload_byte machine byte ≡ piece → Appends contents_now contents_after piece → Continues key (a.so_far ++ payload_byte machine byte) (Settled verdict) (λ bytes. left_of key a.so_far machine (byte ∷ bytes)) → ended ≡ false → FirstRun key come come_after ended contents contents_after (Ok verdict) (a.taken ++ byte ∷ [])
-settled_now key come come_now come_after contents contents_now contents_after sure sure_now machine ended byte piece verdict a one is_piece grows settles e =
+pub settled_now : {key : List ℕ} {come come_now come_after contents contents_now contents_after : Option (List ℕ)} {sure sure_now : ℕ} {machine : Machine} {ended : Bool} (byte : ℕ) (piece : List ℕ) (verdict : Verdict) → (a : Along key come come_now contents contents_now sure sure_now machine) → Consumes come_now come_after (byte ∷ []) → payload_byte machine byte ≡ piece → Appends contents_now contents_after piece → Continues key (a.so_far ++ payload_byte machine byte) (Settled verdict) (λ bytes. left_of key a.so_far machine (byte ∷ bytes)) → ended ≡ false → FirstRun key come come_after ended contents contents_after (Ok verdict) (a.taken ++ byte ∷ [])
+settled_now {key} {come} {come_now} {come_after} {contents} {contents_now} {contents_after} {sure} {sure_now} {machine} {ended} byte piece verdict a one is_piece grows settles e =
     let here = reading_here key a.taken a.so_far machine a.stands in
     let after : first_reading key (a.taken ++ byte ∷ []) ≡ settled_as (a.so_far ++ payload_byte machine byte) verdict = a.stands.left (byte ∷ []) ∙ settles [] in
     record {
@@ -157,8 +157,8 @@ settled_now key come come_now come_after contents contents_now contents_after su
     }
 
 -- a byte that doesn't
-pub goes_on : (key : List ℕ) (come come_now come_after contents contents_now contents_after : Option (List ℕ)) (sure sure_now sure_after : ℕ) (machine next : Machine) (byte : ℕ) (piece : List ℕ) → (a : Along key come come_now contents contents_now sure sure_now machine) → Consumes come_now come_after (byte ∷ []) → payload_byte machine byte ≡ piece → Appends contents_now contents_after piece → sure_now ≤ sure_after + length piece → Continues key (a.so_far ++ payload_byte machine byte) (Open next) (λ bytes. left_of key a.so_far machine (byte ∷ bytes)) → Along key come come_after contents contents_after sure sure_after next
-goes_on key come come_now come_after contents contents_now contents_after sure sure_now sure_after machine next byte piece a one is_piece grows promise stands =
+pub goes_on : {key : List ℕ} {come come_now come_after contents contents_now contents_after : Option (List ℕ)} {sure sure_now sure_after : ℕ} {machine next : Machine} (byte : ℕ) (piece : List ℕ) → (a : Along key come come_now contents contents_now sure sure_now machine) → Consumes come_now come_after (byte ∷ []) → payload_byte machine byte ≡ piece → Appends contents_now contents_after piece → sure_now ≤ sure_after + length piece → Continues key (a.so_far ++ payload_byte machine byte) (Open next) (λ bytes. left_of key a.so_far machine (byte ∷ bytes)) → Along key come come_after contents contents_after sure sure_after next
+goes_on {key} {come} {come_now} {come_after} {contents} {contents_now} {contents_after} {sure} {sure_now} {sure_after} {machine} {next} byte piece a one is_piece grows promise stands =
     let here = reading_here key a.taken a.so_far machine a.stands in
     record {
       taken = a.taken ++ byte ∷ [];

@@ -6,11 +6,11 @@ use Rattle.cose_head.specs.declared.head.Head.{Head}
 use Rattle.cose_head.specs.declared.kind.Kind.TheVariants.{Mac0}
 use Rattle.cose_head.specs.declared.reason.Reason.{Reason}
 use Rattle.cose_head.specs.declared.reason.Reason.TheVariants.{WrongType, Detached, BadAuthLength, BadAuth, PayloadTooLong}
-use Rattle.cosecmd.specs.declared.first.verdict.Alg.TheVariants.{Hmac256}
+use Rattle.cose_mac.specs.Algorithm.{auth_length_of, mac}
+use Rattle.cose_mac.specs.Structure.{mac_structure}
+use Rattle.cose_mac.specs.declared.alg.Alg.TheVariants.{Hmac256}
 use Rattle.cosecmd.specs.declared.first.verdict.Verdict.{Verdict}
 use Rattle.cosecmd.specs.declared.first.verdict.Verdict.TheVariants.{Authentic}
-use Rattle.cosecmd.specs.Hmac.{hmac}
-use Rattle.cosecmd.specs.MacStructure.{mac_structure}
 use Rattle.cosecmd.specs.Phases.{Reading, Phase, refused, with_front, with_head, with_string}
 
 -- tag 17, an array of four, the protected header {1: 5} as a byte string, an empty map
@@ -23,17 +23,17 @@ protected = 0xa1 ∷ 0x01 ∷ 0x05 ∷ []
 
 -- A tag of HMAC 256/256 has 32 bytes (RFC 9053 section 3.1).
 abbrev pub tag_length : ℕ
-tag_length = 32
+tag_length = auth_length_of Hmac256
 
 abbrev pub tag_of : List ℕ → List ℕ → List ℕ
-tag_of key payload = hmac key (mac_structure protected [] payload)
+tag_of key payload = mac Hmac256 key (mac_structure protected [] payload)
 
 abbrev pub authentic : List ℕ → ℕ → Reading
 authentic payload place = record {
-    verdict = Authentic Mac0 Hmac256 (length payload) place;
-    settled = true;
-    payload = payload;
-  }
+  verdict = Authentic Mac0 Hmac256 (length payload) place;
+  settled = true;
+  payload = payload;
+}
 
 -- The comparison. Its fault stands at the head of the tag.
 abbrev pub comparison : List ℕ → List ℕ → ℕ → List ℕ → Phase

@@ -1,10 +1,7 @@
-pub mod FedHmac
 pub mod FirstVerdict
 pub mod FirstRun
-pub mod Hmac
 pub mod Intake
 pub mod KeyWord
-pub mod MacStructure
 pub mod Machine
 pub mod Phases
 pub mod Printed

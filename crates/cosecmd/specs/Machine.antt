@@ -1,7 +1,11 @@
 -- The machine of the first path: what is left of the verdict's definition where it stands, and what holds there.
 use Rattle.std.specs.Prelude.{◌≡◌, ℕ, ◌+◌, ◌-◌, ◌^◌, Bool, true, false, List, [], ◌∷◌, ◌++◌, length, drop, ⊤}
 use Rattle.arrayvec.specs.ArrayVec.{array_vec_len}
-use Rattle.cose_head.specs.Head.{IsMore, bare_head, shortest_head}
+use Rattle.cose_head.specs.Head.{IsMore, bare_head}
+use Rattle.cose_mac.specs.Fed.{FedMac}
+use Rattle.cose_mac.specs.Structure.{mac_structure}
+use Rattle.cose_mac.specs.declared.alg.Alg.TheVariants.{Hmac256}
+use Rattle.cose_mac.specs.declared.running.Running.{Running}
 use Rattle.cosecmd.specs.declared.first.phases.Front.{Front}
 use Rattle.cosecmd.specs.declared.first.phases.PayloadHead.{PayloadHead}
 use Rattle.cosecmd.specs.declared.first.phases.Payload.{Payload}
@@ -12,17 +16,18 @@ use Rattle.cosecmd.specs.declared.first.machine.Machine.TheVariants as phases
 use Rattle.cosecmd.specs.declared.first.machine.Progress.{Progress}
 use Rattle.cosecmd.specs.declared.first.machine.Progress.TheVariants.{Open, Settled}
 use Rattle.cosecmd.specs.declared.first.verdict.Verdict.{Verdict}
-use Rattle.cosecmd.specs.FedHmac.{Fed}
 use Rattle.cosecmd.specs.FirstVerdict.{front, protected, payload_head, payload, tag_head, tag}
-use Rattle.cosecmd.specs.MacStructure.{mac_structure, structure_before_payload_head}
 use Rattle.cosecmd.specs.Phases.{Reading, with_front}
 
--- The structure up to the head of its payload, which has n bytes.
-abbrev pub begun : List ℕ
-begun = structure_before_payload_head protected []
+-- The MAC under HMAC 256/256 and the key was fed this.
+abbrev pub Fed : Running → List ℕ → List ℕ → Type 0
+Fed running key message = FedMac running Hmac256 key message
 
-abbrev pub opened : ℕ → List ℕ
-opened n = begun ++ shortest_head 2 n
+-- Before the payload of n bytes, the MAC was fed a front of the structure that any such payload completes.
+pub record IsOpened (mac : Running) (key so_far : List ℕ) (n : ℕ) : Type 0 where
+  pub front : List ℕ
+  pub fed : Fed mac key (front ++ so_far)
+  pub completes : (payload : List ℕ) → length payload ≡ n → front ++ payload ≡ mac_structure protected [] payload
 
 -- What is left of the definition: the phase, at what the machine holds of it and the bytes to come. The payload so
 -- far isn't held.
@@ -59,16 +64,16 @@ place_of (phases.Tag t) = t.at + array_vec_len t.held
 -- What holds there of the key, the payload so far, and what the HMAC was fed.
 pub record FeedsFront (key so_far : List ℕ) (f : Front) : Type 0 where
   pub none : so_far ≡ []
-  pub fed : Fed f.mac key begun
+  pub fed : Fed f.mac key []
 
 pub record FeedsPayloadHead (key so_far : List ℕ) (p : PayloadHead) : Type 0 where
   pub none : so_far ≡ []
-  pub fed : Fed p.mac key begun
+  pub fed : Fed p.mac key []
   pub half : IsMore (bare_head p.held.items)
 
 pub record FeedsPayload (key so_far : List ℕ) (p : Payload) : Type 0 where
   pub count : length so_far + p.left ≡ p.length
-  pub fed : Fed p.mac key (opened p.length ++ so_far)
+  pub opened : IsOpened p.mac key so_far p.length
 
 pub record FeedsTagHead (key so_far : List ℕ) (t : TagHead) : Type 0 where
   pub count : length so_far ≡ t.payload

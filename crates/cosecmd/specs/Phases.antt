@@ -20,18 +20,18 @@ Phase = ℕ → List ℕ → Reading
 
 abbrev pub refused : List ℕ → Reason → ℕ → Reading
 refused payload reason place = record {
-    verdict = Refused (record { reason = reason; place = place });
-    settled = true;
-    payload = payload;
-  }
+  verdict = Refused (record { reason = reason; place = place });
+  settled = true;
+  payload = payload;
+}
 
 -- The bytes end before the message does.
 abbrev pub unsettled : List ℕ → ℕ → Reading
 unsettled payload place = record {
-    verdict = Refused (record { reason = Truncated; place = place });
-    settled = false;
-    payload = payload;
-  }
+  verdict = Refused (record { reason = Truncated; place = place });
+  settled = false;
+  payload = payload;
+}
 
 -- These very bytes, one after another, and then another phase.
 abbrev pub with_front : List ℕ → Phase → Phase

@@ -3,7 +3,6 @@
 
 mod fault;
 mod first;
-mod hmac;
 mod key_word;
 mod reply;
 mod run;
@@ -59,3 +58,6 @@ fn main(rt: HostRuntime) -> ExitCode {
         Err(_) => complain(&mut output, "fault memory\n"),
     }
 }
+
+#[cfg(test)]
+mod tests;

@@ -51,7 +51,11 @@ fn verify<R: Read>(alloc: Global, keys: &[u8], input: &mut R) -> Result<Reply, F
 }
 
 /// What the words and the input come to.
-fn reply_to<'a, R: Read>(alloc: Global, words: &'a [&'a str], input: &mut R) -> Result<Reply, Fault> {
+fn reply_to<'a, R: Read>(
+    alloc: Global,
+    words: &'a [&'a str],
+    input: &mut R,
+) -> Result<Reply, Fault> {
     match request_of(alloc, words)? {
         Request::Verify { keys } => verify(alloc, keys.as_slice(), input),
         Request::Print(reply) => Ok(reply),

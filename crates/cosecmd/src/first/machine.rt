@@ -4,14 +4,8 @@ ghost use Rattle.std.specs.Prelude.{◌≡◌, ◌<◌, ◌≤◌, ◌+◌, ◌^
 
 use crate::first::phases::{Front, Payload, PayloadHead, Tag, TagHead};
 use crate::first::verdict::Verdict;
-use crate::hmac::RunningHmac;
 use cose_head::{Reason, Refusal};
-
-/// The MAC_structure (RFC 9052 section 6.3) up to the head of the payload: an array of four, the text `MAC0`, the
-/// protected header `{1: 5}`, no external data.
-const STRUCTURE_BEFORE_PAYLOAD_HEAD: [u8; 11] = [
-    0x84, 0x64, 0x4d, 0x41, 0x43, 0x30, 0x43, 0xa1, 0x01, 0x05, 0x40,
-];
+use cose_mac::{Alg, Running};
 
 /// A message of which bytes are still to come: the phase that they are in.
 #[derive(Drop)]
@@ -39,15 +33,14 @@ pub fn refused(reason: Reason, place: u64) -> Progress
 
 impl Machine {
     ghost use Rattle.cosecmd.specs.TakenByte.{payload_piece};
-    ghost use Rattle.cosecmd.specs.Machine.{Continues, Feeds, IfOpen, StandsFor, begun, budget, left_of, payload_byte, place_of};
+    ghost use Rattle.cosecmd.specs.Machine.{Continues, Feeds, IfOpen, StandsFor, budget, left_of, payload_byte, place_of};
     ghost use Rattle.cosecmd.specs.FirstVerdict.{first_reading};
 
     /// The machine before the first byte, under a key.
     pub fn new(key: &[u8]) -> Self
         ensures { StandsFor key.now [] result (first_reading key.now) }
     {
-        let mut mac = RunningHmac::new(key);
-        mac.update(&STRUCTURE_BEFORE_PAYLOAD_HEAD);
+        let mac = Running::hmac(Alg::Hmac256, key);
         Machine::Front(Front { position: 0, mac })
     }
 

@@ -1,16 +1,20 @@
 //! The phases of a message, each with what it holds while bytes of it are to come.
 
-ghost use Rattle.std.specs.Prelude.{◌≡◌, ◌<◌, ◌≤◌, ◌+◌, ◌^◌, ℕ, List, [], ◌∷◌, ◌++◌, length};
+ghost use Rattle.std.specs.Prelude.{◌≡◌, ◌<◌, ◌≤◌, ◌+◌, ◌^◌, ℕ, List, [], ◌∷◌, ◌++◌, length, true};
 ghost use Rattle.arrayvec.specs.ArrayVec.{array_vec_len};
+ghost use Rattle.cose_mac.specs.Fed.{makes_mac};
 
 use crate::first::machine::{Machine, Progress, refused};
-use crate::first::verdict::{Alg, Verdict};
-use crate::hmac::RunningHmac;
+use crate::first::verdict::Verdict;
 use arrayvec::ArrayVec;
-use cose_head::{Head, HeadStep, Kind, Reason, parse_head, write_head};
+use cose_head::{Head, HeadStep, Kind, Reason, parse_head};
+use cose_mac::{Alg, Running, structure_front};
 
 /// The bytes that a message begins with: tag 17, an array of four, the protected header `{1: 5}`, an empty map.
 const FRONT: [u8; 7] = [0xd1, 0x84, 0x43, 0xa1, 0x01, 0x05, 0xa0];
+
+/// The content of the protected header, `{1: 5}`.
+const PROTECTED: [u8; 3] = [0xa1, 0x01, 0x05];
 
 /// The number of bytes of a tag of HMAC 256/256 (RFC 9053 section 3.1).
 const TAG: usize = 32;
@@ -19,7 +23,8 @@ const TAG: usize = 32;
 #[derive(Drop)]
 pub struct Front {
     pub position: usize,
-    pub mac: RunningHmac,
+    pub mac: Running,
+    ghost keyed: { makes_mac mac ≡ true },
     ghost within: { position < 7 },
 }
 
@@ -27,7 +32,8 @@ pub struct Front {
 #[derive(Drop)]
 pub struct PayloadHead {
     pub held: ArrayVec<u8, 9>,
-    pub mac: RunningHmac,
+    pub mac: Running,
+    ghost keyed: { makes_mac mac ≡ true },
     ghost half: { array_vec_len held < 9 },
 }
 
@@ -37,7 +43,8 @@ pub struct Payload {
     pub at: u64,
     pub length: u64,
     pub left: u64,
-    pub mac: RunningHmac,
+    pub mac: Running,
+    ghost keyed: { makes_mac mac ≡ true },
     ghost some_left: { 0 < left },
     ghost within: { left ≤ length },
     ghost limit: { length < 2 ^ 56 },
@@ -50,7 +57,8 @@ pub struct TagHead {
     pub at: u64,
     pub held: ArrayVec<u8, 9>,
     pub payload: u64,
-    pub mac: RunningHmac,
+    pub mac: Running,
+    ghost keyed: { makes_mac mac ≡ true },
     ghost half: { array_vec_len held < 9 },
     ghost early: { at < 2 ^ 57 },
 }
@@ -62,7 +70,8 @@ pub struct Tag {
     pub at: u64,
     pub held: ArrayVec<u8, 32>,
     pub payload: u64,
-    pub mac: RunningHmac,
+    pub mac: Running,
+    ghost keyed: { makes_mac mac ≡ true },
     ghost short: { array_vec_len held < 32 },
     ghost early: { at < 2 ^ 58 },
 }
@@ -109,9 +118,8 @@ impl PayloadHead {
 }
 
 impl Payload {
-    ghost use Rattle.cosecmd.specs.FedHmac.{Fed};
     ghost use Rattle.cosecmd.specs.FirstVerdict.{past_payload_head, payload, payload_fault};
-    ghost use Rattle.cosecmd.specs.Machine.{Continues, FeedsPayload, IfOpen, after_payload, begun, budget, left_in_payload, opened};
+    ghost use Rattle.cosecmd.specs.Machine.{Continues, Fed, FeedsPayload, IfOpen, after_payload, budget, left_in_payload};
 
     /// What is wrong with a payload's head.
     fn fault_of_head(head: &Head) -> Option<Reason>
@@ -130,9 +138,10 @@ impl Payload {
     }
 
     /// What follows the payload's head, which has `used` bytes.
-    fn after_head(head: Head, used: usize, mac: RunningHmac) -> Progress
-        requires { used ≤ 9 }
-        ensures goes { (key : List ℕ) → Fed mac key begun
+    fn after_head(head: Head, used: usize, mac: Running) -> Progress
+        requires short { used ≤ 9 }
+        requires keyed { makes_mac mac ≡ true }
+        ensures goes { (key : List ℕ) → Fed mac key []
             → Continues key [] result (λ bytes. past_payload_head key head 7 (7 + used) bytes) }
         ensures nearer { IfOpen result (λ machine. budget machine < 2 ^ 56 + after_payload) }
     {
@@ -143,14 +152,15 @@ impl Payload {
     }
 
     /// The payload's first byte is at this place, or the tag's, where the payload is empty.
-    fn begin(at: u64, length: u64, mut mac: RunningHmac) -> Progress
+    fn begin(at: u64, length: u64, mut mac: Running) -> Progress
         requires early { at ≤ 16 }
         requires limit { length < 2 ^ 56 }
-        ensures goes { (key : List ℕ) → Fed mac key begun
+        requires keyed { makes_mac mac ≡ true }
+        ensures goes { (key : List ℕ) → Fed mac key []
             → Continues key [] result (λ bytes. payload key length at bytes) }
         ensures nearer { IfOpen result (λ machine. budget machine < 2 ^ 56 + after_payload) }
     {
-        mac.update(write_head(2, length).as_slice());
+        structure_front(Kind::Mac0, &PROTECTED, &[], length, &mut mac);
         if length == 0 {
             return TagHead::begin(at, 0, mac);
         }
@@ -188,14 +198,14 @@ impl Payload {
 }
 
 impl TagHead {
-    ghost use Rattle.cosecmd.specs.FedHmac.{Fed};
     ghost use Rattle.cosecmd.specs.FirstVerdict.{protected, tag_head};
-    ghost use Rattle.cosecmd.specs.MacStructure.{mac_structure};
-    ghost use Rattle.cosecmd.specs.Machine.{Continues, FeedsTagHead, IfOpen, after_payload, budget, left_in_tag_head};
+    ghost use Rattle.cose_mac.specs.Structure.{mac_structure};
+    ghost use Rattle.cosecmd.specs.Machine.{Continues, Fed, FeedsTagHead, IfOpen, after_payload, budget, left_in_tag_head};
 
     /// The tag's head begins at this place, behind a payload of so many bytes.
-    fn begin(at: u64, payload: u64, mac: RunningHmac) -> Progress
-        requires { at < 2 ^ 57 }
+    fn begin(at: u64, payload: u64, mac: Running) -> Progress
+        requires early { at < 2 ^ 57 }
+        requires keyed { makes_mac mac ≡ true }
         ensures goes { (key so_far : List ℕ) → length so_far ≡ payload → Fed mac key (mac_structure protected [] so_far)
             → Continues key so_far result (λ bytes. tag_head key so_far at bytes) }
         ensures nearer { IfOpen result (λ machine. budget machine ≤ after_payload) }
@@ -235,10 +245,9 @@ impl TagHead {
 }
 
 impl Tag {
-    ghost use Rattle.cosecmd.specs.FedHmac.{Fed};
     ghost use Rattle.cosecmd.specs.FirstVerdict.{past_tag_head, protected, tag_fault};
-    ghost use Rattle.cosecmd.specs.MacStructure.{mac_structure};
-    ghost use Rattle.cosecmd.specs.Machine.{Continues, FeedsTag, IfOpen, budget, left_in_tag};
+    ghost use Rattle.cose_mac.specs.Structure.{mac_structure};
+    ghost use Rattle.cosecmd.specs.Machine.{Continues, Fed, FeedsTag, IfOpen, budget, left_in_tag};
 
     /// What is wrong with a tag's head.
     fn fault_of_head(head: &Head) -> Option<Reason>
@@ -254,8 +263,9 @@ impl Tag {
     }
 
     /// What follows the tag's head. The tag's bytes begin at `at`.
-    fn after_head(head: Head, head_at: u64, at: u64, payload: u64, mac: RunningHmac) -> Progress
-        requires { at < 2 ^ 58 }
+    fn after_head(head: Head, head_at: u64, at: u64, payload: u64, mac: Running) -> Progress
+        requires early { at < 2 ^ 58 }
+        requires keyed { makes_mac mac ≡ true }
         ensures goes { (key so_far : List ℕ) → length so_far ≡ payload → Fed mac key (mac_structure protected [] so_far)
             → Continues key so_far result (λ bytes. past_tag_head key so_far head head_at at bytes) }
         ensures nearer { IfOpen result (λ machine. budget machine ≤ 32) }
@@ -295,7 +305,7 @@ impl Tag {
                 mac,
             }));
         }
-        let computed = mac.finish();
+        let computed = mac.finish_mac();
         if held.as_slice() == computed.as_slice() {
             return Progress::Settled(Verdict::Authentic {
                 kind: Kind::Mac0,

@@ -1,28 +1,11 @@
 //! What came of a message.
 
 ghost use Rattle.std.specs.Prelude.{◌≡◌, Some};
-ghost use Rattle.cosecmd.specs.Printed.{number_of_alg, word_of_kind, verdict_line};
+ghost use Rattle.cosecmd.specs.Printed.{word_of_kind, verdict_line};
 
 use cose_head::{Kind, Refusal};
+use cose_mac::Alg;
 use std::fmt;
-
-/// The algorithms of the first path (RFC 9053 section 3.1).
-#[derive(Clone, Copy, Debug, PartialEq, Eq)]
-pub enum Alg {
-    /// HMAC 256/256: HMAC with SHA-256, uncut.
-    Hmac256,
-}
-
-impl Alg {
-    /// The algorithm's number in the registry of COSE algorithms.
-    pub fn number(self) -> i32
-        ensures { result ≡ number_of_alg self }
-    {
-        match self {
-            Alg::Hmac256 => 5,
-        }
-    }
-}
 
 /// What came of a message.
 #[derive(Clone, Copy, Debug, PartialEq, Eq)]
@@ -74,7 +57,10 @@ impl fmt::Display for Verdict {
             } => {
                 let kind = word_of(kind);
                 let alg = alg.number();
-                write!(f, "authentic {kind} alg {alg} payload {payload} taken {taken}")
+                write!(
+                    f,
+                    "authentic {kind} alg {alg} payload {payload} taken {taken}"
+                )
             }
             Verdict::Refused(Refusal { reason, place }) => {
                 write!(f, "refused {reason} at {place}")

@@ -3,7 +3,8 @@ use Rattle.cose_head.proofs.Heads.{head_got, head_past, head_short, head_fault, 
 use Rattle.cose_head.proofs.item.head_at.Goals as goal
 
 pub returns-in-Got-clause-exact : goal.returns-in-Got-clause-exact
-returns-in-Got-clause-exact c = head_got c.args.bytes.now c.args.room c.args.place c.min.result c.in-Got.found c.in-Got.field-1 c.min.ensures c.in-Got.ensures.answer
+returns-in-Got-clause-exact c =
+    head_got c.args.bytes.now c.args.room c.args.place c.min.result c.in-Got.found c.in-Got.field-1 c.min.ensures c.in-Got.ensures.answer
 
 pub returns-in-Got-clause-within : goal.returns-in-Got-clause-within
 returns-in-Got-clause-within c =
@@ -15,12 +16,15 @@ returns-in-Got-clause-within c =
 
 pub returns-in-More-clause-exact : goal.returns-in-More-clause-exact
 returns-in-More-clause-exact c =
-    rw c.refused.ensures (head_past c.args.bytes.now c.args.room c.args.place c.min.result c.in-More.wanted c.min.ensures c.in-More.ensures.answer c.if-wanted-room.true)
+    rw c.refused.ensures (head_past c.args.bytes.now c.args.room c.args.place c.min.result c.in-More.wanted c.min.ensures
+    c.in-More.ensures.answer c.if-wanted-room.true)
 
 pub returns-in-More-2-clause-exact : goal.returns-in-More-2-clause-exact
 returns-in-More-2-clause-exact c =
-    rw c.refused-in-More-2.ensures (head_short c.args.bytes.now c.args.room c.args.place c.min.result c.in-More.wanted c.min.ensures c.in-More.ensures.answer c.if-wanted-room.false)
+    rw c.refused-in-More-2.ensures (head_short c.args.bytes.now c.args.room c.args.place c.min.result c.in-More.wanted c.min.ensures
+    c.in-More.ensures.answer c.if-wanted-room.false)
 
 pub returns-in-Fault-clause-exact : goal.returns-in-Fault-clause-exact
 returns-in-Fault-clause-exact c =
-    rw c.refused-in-Fault.ensures (head_fault c.args.bytes.now c.args.room c.args.place c.min.result c.in-Fault.reason c.min.ensures c.in-Fault.ensures.answer)
+    rw c.refused-in-Fault.ensures (head_fault c.args.bytes.now c.args.room c.args.place c.min.result c.in-Fault.reason c.min.ensures
+    c.in-Fault.ensures.answer)

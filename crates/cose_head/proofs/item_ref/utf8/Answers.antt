@@ -1,4 +1,3 @@
-use Rattle.std.proofs.Common.{◌≡◌, ◌∙◌, ap, Some}
 use Rattle.cose_head.proofs.Looks.{utf8_found, no_utf8}
 use Rattle.cose_head.proofs.item_ref.utf8.Goals as goal
 

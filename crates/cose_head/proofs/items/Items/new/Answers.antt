@@ -1,4 +1,3 @@
-use Rattle.std.proofs.Common.{◌≡◌, ◌∙◌, sym}
 use Rattle.cose_head.proofs.Looks.{children_found}
 use Rattle.cose_head.proofs.items.Items.new.Goals as goal
 

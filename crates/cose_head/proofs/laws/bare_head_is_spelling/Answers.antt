@@ -1,0 +1,14 @@
+use Rattle.cose_head.proofs.BareHeads.{bare_sound, bare_complete, bare_stays, bare_wants, bare_ends}
+use Rattle.cose_head.proofs.laws.bare_head_is_spelling.Goals as goal
+
+pub returns-clause-spelled : goal.returns-clause-spelled
+returns-clause-spelled c = λ bytes h used. (bare_sound bytes h used, bare_complete bytes h used)
+
+pub returns-clause-stays : goal.returns-clause-stays
+returns-clause-stays c = bare_stays
+
+pub returns-clause-wants : goal.returns-clause-wants
+returns-clause-wants c = bare_wants
+
+pub returns-clause-ends : goal.returns-clause-ends
+returns-clause-ends c = bare_ends

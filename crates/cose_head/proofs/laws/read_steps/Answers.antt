@@ -1,0 +1,12 @@
+use Rattle.cose_head.proofs.Steps.{read_steps}
+use Rattle.cose_head.proofs.ReadLaws.{adds_up, truncated_has_room}
+use Rattle.cose_head.proofs.laws.read_steps.Goals as goal
+
+pub returns-clause-steps : goal.returns-clause-steps
+returns-clause-steps c = read_steps
+
+pub returns-clause-adds_up : goal.returns-clause-adds_up
+returns-clause-adds_up c = adds_up
+
+pub returns-clause-truncated : goal.returns-clause-truncated
+returns-clause-truncated c = truncated_has_room

@@ -1,0 +1,121 @@
+-- What holds of reading, in the terms of the grammar.
+use Rattle.std.specs.Prelude.{◌≡◌, ℕ, ◌+◌, ◌-◌, ◌<◌, ◌≤◌, ◌^◌, ◌↔◌, List, [], ◌∷◌, ◌++◌, length, take, false, Ok, Err, ⊤}
+use Rattle.cose_head.specs.declared.head.Head.{Head}
+use Rattle.cose_head.specs.declared.head.HeadStep.TheVariants.{Got, More}
+use Rattle.cose_head.specs.declared.reason.Reason.TheVariants.{Truncated}
+use Rattle.cose_head.specs.declared.refusal.Refusal.{Refusal}
+use Rattle.cose_head.specs.Head.{bare_head, shortest_head, is_bad_simple, IsWhole, IsMore}
+use Rattle.cose_head.specs.Item.{Item, IsHead, Spells, depth_of}
+use Rattle.cose_head.specs.Reading.{Left, Outcome, after, read}
+
+-- What is left after at least so many bytes, which were there and in the room.
+pub record IsStep (least : ℕ) (l rest : Left) : Type 0 where
+  pub used : ℕ
+  pub some : least ≤ used
+  pub there : used ≤ length l.bytes
+  pub fits : used ≤ l.room
+  pub left : rest ≡ after used l
+
+-- A refusal stands among the bytes. Truncated stands at their end, and only where there is room for a further byte.
+pub record IsRefusal (l : Left) (refusal : Refusal) : Type 0 where
+  pub from : l.place ≤ refusal.place
+  pub upto : refusal.place ≤ l.place + length l.bytes
+  pub ended : refusal.reason ≡ Truncated → (refusal.place ≡ l.place + length l.bytes) × (length l.bytes < l.room)
+
+abbrev pub Steps : {A : Type 0} → ℕ → Left → Outcome A → Type 0
+Steps least l (Ok found) = IsStep least l found.1
+Steps least l (Err refusal) = IsRefusal l refusal
+
+-- The same with bytes that follow.
+abbrev pub more : List ℕ → Left → Left
+more bytes l = record { bytes = l.bytes ++ bytes; room = l.room; place = l.place }
+
+abbrev pub more_after : {A : Type 0} → List ℕ → Outcome A → Outcome A
+more_after bytes (Ok found) = Ok (found.0, more bytes found.1)
+more_after bytes (Err refusal) = Err refusal
+
+-- No further byte can change it.
+abbrev pub IsSettled : {A : Type 0} → Outcome A → Type 0
+IsSettled (Ok found) = ⊤
+IsSettled (Err refusal) = refusal.reason ≡ Truncated → ⊥
+
+-- The part between two places, in the room.
+pub record Between (l rest : Left) (IsPart : List ℕ → Type 0) : Type 0 where
+  pub part : List ℕ
+  pub whole : l.bytes ≡ part ++ rest.bytes
+  pub room : l.room ≡ length part + rest.room
+  pub place : rest.place ≡ l.place + length part
+  pub is_part : IsPart part
+
+-- The bytes up to the rest spell the item, within the room and the nesting allowance.
+abbrev pub IsSpelled : ℕ → Left → Item → Left → Type 0
+IsSpelled depth l content rest = Between l rest (λ part. Spells part content) × (depth_of content ≤ depth)
+
+-- The bytes begin with a head of so many bytes. A simple value in two bytes is 32 or more.
+pub record SpellsHead (bytes : List ℕ) (h : Head) (used : ℕ) : Type 0 where
+  pub part : List ℕ
+  pub rest : List ℕ
+  pub whole : bytes ≡ part ++ rest
+  pub is_head : IsHead part h.major h.arg
+  pub wide : length part ≡ h.width
+  pub ends : used ≡ h.width
+  pub good : is_bad_simple h ≡ false
+
+-- What is read is what is spelled.
+abbrev pub ReadIsSpelled : Type 0
+ReadIsSpelled = (depth : ℕ) (l : Left) (content : Item) (rest : Left) → (read depth l ≡ Ok (content, rest)) ↔ IsSpelled depth l content rest
+
+-- So one list begins with at most one item.
+abbrev pub OneItem : Type 0
+OneItem = (a b rest others : List ℕ) (content other : Item) → Spells a content → Spells b other → a ++ rest ≡ b ++ others → (a ≡ b)
+    × (content ≡ other)
+
+-- And it is the same item before other bytes, in another room, at another place and with more nesting allowed.
+abbrev pub ReadElsewhere : Type 0
+ReadElsewhere = (depth deeper : ℕ) (l rest m last : Left) (content : Item) → depth ≤ deeper → read depth l ≡ Ok (content, rest) →
+    Between m last (λ part. part ≡ take (rest.place - l.place) l.bytes) → read deeper m ≡ Ok (content, last)
+
+-- An answer that isn't Truncated stays when bytes follow.
+abbrev pub ReadStays : Type 0
+ReadStays = (depth : ℕ) (l : Left) (bytes : List ℕ) → IsSettled (read depth l) → read depth (more bytes l) ≡ more_after bytes (read depth l)
+
+-- So after another refusal no bytes make an item of it.
+abbrev pub RefusedIsNoItem : Type 0
+RefusedIsNoItem = (depth : ℕ) (l : Left) (refusal : Refusal) → read depth l ≡ Err refusal → (refusal.reason ≡ Truncated → ⊥) →
+    (bytes : List ℕ) (content : Item) (rest : Left) → IsSpelled depth (more bytes l) content rest → ⊥
+
+-- What reading leaves, and where its refusals stand.
+abbrev pub ReadSteps : Type 0
+ReadSteps = (depth : ℕ) (l : Left) → Steps 1 l (read depth l)
+
+-- Of an item that is read the places, the bytes and the rooms add up.
+abbrev pub ReadAddsUp : Type 0
+ReadAddsUp = (depth : ℕ) (l : Left) (content : Item) (rest : Left) → read depth l ≡ Ok (content, rest) →
+    (rest.place + length rest.bytes ≡ l.place + length l.bytes) × (rest.place + rest.room ≡ l.place + l.room) × (l.place < rest.place)
+
+-- An item that is cut short has room for a further byte.
+abbrev pub TruncatedHasRoom : Type 0
+TruncatedHasRoom = (depth : ℕ) (l : Left) (refusal : Refusal) → read depth l ≡ Err refusal → refusal.reason ≡ Truncated →
+    (refusal.place ≡ l.place + length l.bytes) × (length l.bytes < l.room)
+
+-- The same of bare heads.
+abbrev pub HeadIsSpelled : Type 0
+HeadIsSpelled = (bytes : List ℕ) (h : Head) (used : ℕ) → (bare_head bytes ≡ Got h used) ↔ SpellsHead bytes h used
+
+abbrev pub HeadStays : Type 0
+HeadStays = (bytes next : List ℕ) → IsWhole (bare_head bytes) → bare_head (bytes ++ next) ≡ bare_head bytes
+
+-- Fewer bytes than More says leave it incomplete.
+abbrev pub HeadWants : Type 0
+HeadWants = (bytes next : List ℕ) (wanted : ℕ) → bare_head bytes ≡ More wanted → length next < wanted → IsMore (bare_head (bytes ++ next))
+
+-- The byte that completes a half head is its last.
+abbrev pub HeadEnds : Type 0
+HeadEnds = (bytes : List ℕ) (byte : ℕ) (h : Head) (used : ℕ) → IsMore (bare_head bytes) → bare_head (bytes ++ byte ∷ []) ≡ Got h used →
+    used ≡ length bytes + 1
+
+-- The shortest head of an argument is a head of it, whatever follows.
+abbrev pub ShortestIsHead : Type 0
+ShortestIsHead = (major argument : ℕ) (rest : List ℕ) → major ≤ 6 → argument < 2 ^ 64 →
+    let width = length (shortest_head major argument) in
+    bare_head (shortest_head major argument ++ rest) ≡ Got (record { major = major; arg = argument; width = width }) width

@@ -1,0 +1,71 @@
+-- What a walker stands for.
+use Rattle.std.specs.Prelude.{◌≡◌, ℕ, ◌+◌, ◌-◌, ◌<◌, ◌≤◌, List, [], ◌++◌, length, Result, Ok, Err}
+use Rattle.cose_head.specs.declared.reason.Reason.{Reason}
+use Rattle.cose_head.specs.declared.reason.Reason.TheVariants.{Truncated}
+use Rattle.cose_head.specs.declared.walker.Walker.{Walker}
+use Rattle.cose_head.specs.declared.walker.Progress.{Progress}
+use Rattle.cose_head.specs.declared.walker.Progress.TheVariants.{Open, Whole}
+use Rattle.cose_head.specs.declared.walker.Step.{Step}
+use Rattle.cose_head.specs.declared.walker.Step.TheVariants.{Going, Done, Fault}
+use Rattle.cose_head.specs.Item.{Item}
+use Rattle.cose_head.specs.Measured.{left_of}
+use Rattle.cose_head.specs.Reading.{Left, Outcome}
+use Rattle.cose_head.specs.Walking.{Walk, walk, finish, rest_of_item}
+
+-- The last answer.
+abbrev pub last_step : {D : ℕ} → Walker D → Step
+last_step w = w.step
+
+-- What is left of reading, by the bytes to come.
+abbrev pub go_on : ℕ → List ℕ → List ℕ → ℕ → Left → Walk
+go_on depth counts half string l = finish depth counts (rest_of_item (depth - length counts) half string l)
+
+abbrev pub left_at : {D : ℕ} → Walker D → List ℕ → Left
+left_at w bytes = left_of bytes w.room w.place
+
+unfoldable pub resume : {D : ℕ} → Walker D → List ℕ → Walk
+resume {D} w bytes = go_on D w.counts.items w.half.items w.string (left_at w bytes)
+
+-- The bytes that were put end too early, and there is room for a further byte.
+abbrev pub Waits : {D : ℕ} → Walker D → Type 0
+Waits w = ((resume w []).end ≡ Err (record { reason = Truncated; place = w.place + length w.half.items })) × (length w.half.items < w.room)
+
+-- Some bytes were passed over, and nothing else has changed.
+pub record Passes {D : ℕ} (old new : Walker D) (count : ℕ) : Type 0 where
+  pub counts : new.counts ≡ old.counts
+  pub half : new.half ≡ old.half
+  pub string : new.string ≡ old.string
+  pub room : new.room ≡ old.room - count
+  pub place : new.place ≡ old.place + count
+
+-- No byte of a head is there, and so much room is left at this place.
+pub record Stands {D : ℕ} (rest at : ℕ) (w : Walker D) : Type 0 where
+  pub half : length w.half.items ≡ 0
+  pub room : w.room ≡ rest
+  pub place : w.place ≡ at
+
+-- What is left before a byte is put is what the walker stands for after it.
+abbrev pub Leads : {D : ℕ} → (List ℕ → Walk) → Result Progress Reason → Walker D → Type 0
+Leads before (Ok Open) w = ((bytes : List ℕ) → before bytes ≡ resume w bytes) × Waits w
+Leads before (Ok Whole) w = (length w.half.items ≡ 0) × ((bytes : List ℕ) → (before bytes).end ≡ Ok (left_at w bytes))
+Leads before (Err reason) w = (reason ≡ Truncated → ⊥) × ((bytes : List ℕ) → (before bytes).end ≡ Err (record { reason = reason; place = w.place }))
+
+-- The walker was put these bytes, and goes on: with whatever bytes follow, reading them all is what is left after them.
+pub record HasPut (room : ℕ) (put : List ℕ) {D : ℕ} (w : Walker D) : Type 0 where
+  pub rest : (bytes : List ℕ) → walk D (left_of (put ++ bytes) room 0) ≡ resume w bytes
+  pub taken : w.place + length w.half.items ≡ length put
+  pub left : w.place + w.room ≡ room
+  pub waits : 0 < room → Waits w
+  pub going : last_step w ≡ Going
+
+-- Which answer of reading a step tells.
+abbrev pub Answers : ℕ → List ℕ → Step → Outcome Item → Type 0
+Answers room bytes Going read = read ≡ Err (record { reason = Truncated; place = length bytes })
+Answers room bytes Done read = (found : Item) × (read ≡ Ok (found, left_of [] (room - length bytes) (length bytes)))
+Answers room bytes (Fault refusal) read = (read ≡ Err refusal) × (refusal.reason ≡ Truncated → ⊥)
+
+-- A place stands among the bytes, a whole item has fitted in the room, and there is room for more where more is wanted.
+abbrev pub StandsAmong : ℕ → List ℕ → Step → Type 0
+StandsAmong room bytes Going = length bytes < room
+StandsAmong room bytes Done = length bytes ≤ room
+StandsAmong room bytes (Fault refusal) = refusal.place ≤ length bytes

@@ -1,0 +1,45 @@
+//! Laws of the definitions that the contracts cite. A law is a function without a body whose contract is the law.
+//!
+//! `read` is how an item is read, `Spells` how bytes spell one, `bare_head` how a head outside an item is read.
+
+ghost use Rattle.cose_head.specs.Laws.{ReadIsSpelled, OneItem, ReadElsewhere, ReadStays, RefusedIsNoItem, ReadSteps, ReadAddsUp, TruncatedHasRoom, HeadIsSpelled, HeadStays, HeadWants, HeadEnds, ShortestIsHead};
+ghost use Rattle.cose_head.specs.Shortest.{ShortestIsSpelled};
+
+/// What `read` accepts is exactly what the grammar spells, within the room and the nesting (RFC 8949 section 3).
+/// So bytes begin with at most one item, and it is the same one wherever these bytes stand.
+pub fn read_is_spelling()
+    ensures spelled { ReadIsSpelled }
+    ensures one { OneItem }
+    ensures elsewhere { ReadElsewhere }
+{}
+
+/// An answer of `read` that isn't Truncated stays when bytes follow.
+/// So where it is another refusal, no bytes that begin so begin with an item.
+pub fn read_stays()
+    ensures stays { ReadStays }
+    ensures refused { RefusedIsNoItem }
+{}
+
+/// Reading an item uses at least one byte, and no more than are there and in the room.
+/// The place of a refusal is in the bytes; that of Truncated is their end, and then there is room for one byte more.
+pub fn read_steps()
+    ensures steps { ReadSteps }
+    ensures adds_up { ReadAddsUp }
+    ensures truncated { TruncatedHasRoom }
+{}
+
+/// A bare head is read exactly where bytes spell it, and what isn't More stays when bytes follow.
+/// Fewer bytes than More says leave it incomplete, and the byte that completes it is its last.
+pub fn bare_head_is_spelling()
+    ensures spelled { HeadIsSpelled }
+    ensures stays { HeadStays }
+    ensures wants { HeadWants }
+    ensures ends { HeadEnds }
+{}
+
+/// The shortest head of an argument is a head of it, and the shortest spelling of an item spells it
+/// (RFC 8949 section 4.2.1).
+pub fn shortest_is_spelling()
+    ensures head { ShortestIsHead }
+    ensures item { ShortestIsSpelled }
+{}

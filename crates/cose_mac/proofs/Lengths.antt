@@ -1,0 +1,27 @@
+-- The lengths of digests and MACs.
+use Rattle.std.proofs.Common.{◌≡◌, ℕ, List, length, refl, IsTrue}
+use Rattle.sha2.specs.Sha256.{sha256}
+use Rattle.sha2.specs.Sha256 as S256
+use Rattle.sha2.specs.Sha512.{sha384, sha512}
+use Rattle.sha2.specs.Sha512 as S512
+use Rattle.cose_mac.specs.Algorithm.{is_mac_of, auth_length_of, mac}
+use Rattle.cose_mac.specs.Hash.{function_of}
+use Rattle.cose_mac.specs.Hmac.{hmac}
+use Rattle.cose_mac.specs.declared.alg.Alg.{Alg}
+use Rattle.cose_mac.specs.declared.alg.Alg.TheVariants.{Hmac64, Hmac256, Hmac384, Hmac512, Es256}
+use Rattle.cose_mac.specs.declared.hasher.Hash.{Hash}
+use Rattle.cose_mac.specs.declared.hasher.Hash.TheVariants.{Sha256, Sha384, Sha512}
+
+pub length_digest : (hash : Hash) (message : List ℕ) → length ((function_of hash).digest message) ≡ (function_of hash).output_length
+unfolding sha256 sha384 sha512 S256.digest_bytes S512.digest_bytes
+length_digest Sha256 message = refl
+length_digest Sha384 message = refl
+length_digest Sha512 message = refl
+
+pub length_mac : (alg : Alg) (key message : List ℕ) → IsTrue (is_mac_of alg) → length (mac alg key message) ≡ auth_length_of alg
+unfolding mac hmac sha256 sha384 sha512 S256.digest_bytes S512.digest_bytes
+length_mac Hmac64 key message is_mac = refl
+length_mac Hmac256 key message is_mac = refl
+length_mac Hmac384 key message is_mac = refl
+length_mac Hmac512 key message is_mac = refl
+length_mac Es256 key message is_mac = cc

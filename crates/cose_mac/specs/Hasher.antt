@@ -1,0 +1,14 @@
+-- What a hasher holds.
+use Rattle.std.specs.Prelude.{ℕ, List}
+use Rattle.sha2.specs.Hashers.{Holds256, Holds384, Holds512}
+use Rattle.cose_mac.specs.declared.hasher.Hash.{Hash}
+use Rattle.cose_mac.specs.declared.hasher.Hash.TheVariants.{Sha256, Sha384, Sha512}
+use Rattle.cose_mac.specs.declared.hasher.Hasher.{Hasher}
+use Rattle.cose_mac.specs.declared.hasher.Hasher.TheVariants as Hashers
+
+-- The hasher is one of this hash function, and was fed this message.
+abbrev pub Holds : Hash → Hasher → List ℕ → Type 0
+Holds Sha256 (Hashers.Sha256 hasher) message = Holds256 hasher message
+Holds Sha384 (Hashers.Sha384 hasher) message = Holds384 hasher message
+Holds Sha512 (Hashers.Sha512 hasher) message = Holds512 hasher message
+Holds _ _ _ = ⊥

@@ -1,0 +1,85 @@
+//! A hasher of any of the hash functions that the algorithms use (FIPS 180-4).
+
+ghost use Rattle.std.specs.Prelude.{◌≡◌, ◌≤◌, List, ℕ, [], ◌++◌};
+ghost use Rattle.cose_mac.specs.Hash.{function_of};
+ghost use Rattle.cose_mac.specs.Hasher.{Holds};
+
+use arrayvec::ArrayVec;
+use sha2::{Digest, Sha256, Sha384, Sha512};
+
+/// A hash function of FIPS 180-4.
+#[derive(Clone, Copy)]
+pub(crate) enum Hash {
+    Sha256,
+    Sha384,
+    Sha512,
+}
+
+impl Hash {
+    /// The number of bytes of the blocks that the function works on.
+    pub(crate) fn block_length(self) -> usize
+        ensures value { result ≡ (function_of self).block_length }
+        ensures at_least { 64 ≤ result }
+        ensures at_most { result ≤ 128 }
+    {
+        match self {
+            Hash::Sha256 => 64,
+            Hash::Sha384 | Hash::Sha512 => 128,
+        }
+    }
+
+    /// The digest of a whole message.
+    pub(crate) fn digest(self, message: &[u8]) -> ArrayVec<u8, 64>
+        ensures { result.items ≡ (function_of self).digest message.now }
+    {
+        let mut hasher = Hasher::new(self);
+        hasher.update(message);
+        hasher.finish()
+    }
+}
+
+/// A message that is being hashed, piece by piece.
+#[derive(Drop)]
+pub(crate) enum Hasher {
+    Sha256(Sha256),
+    Sha384(Sha384),
+    Sha512(Sha512),
+}
+
+impl Hasher {
+    /// A hasher of the empty message.
+    pub(crate) fn new(hash: Hash) -> Hasher
+        ensures { Holds hash result [] }
+    {
+        match hash {
+            Hash::Sha256 => Hasher::Sha256(Sha256::new()),
+            Hash::Sha384 => Hasher::Sha384(Sha384::new()),
+            Hash::Sha512 => Hasher::Sha512(Sha512::new()),
+        }
+    }
+
+    /// Appends a piece to the message.
+    pub(crate) fn update(&mut self, piece: &[u8])
+        ensures { (hash : Hash) (message : List ℕ) → Holds hash self.old message → Holds hash self.new (message ++ piece.now) }
+    {
+        match self {
+            Hasher::Sha256(hasher) => hasher.update(piece),
+            Hasher::Sha384(hasher) => hasher.update(piece),
+            Hasher::Sha512(hasher) => hasher.update(piece),
+        }
+    }
+
+    /// The digest of the message.
+    pub(crate) fn finish(self) -> ArrayVec<u8, 64>
+        ensures { (hash : Hash) (message : List ℕ) → Holds hash self message → result.items ≡ (function_of hash).digest message }
+    {
+        let mut digest = ArrayVec::new();
+        // No digest is longer than 64 bytes.
+        let _ = match self {
+            Hasher::Sha256(hasher) => digest.try_extend_from_slice(&hasher.finalize()),
+            Hasher::Sha384(hasher) => digest.try_extend_from_slice(&hasher.finalize()),
+            Hasher::Sha512(hasher) => digest.try_extend_from_slice(&hasher.finalize()),
+        };
+        digest
+    }
+}

@@ -1,0 +1,48 @@
+//! The blocks of HMAC (RFC 2104 section 2).
+
+ghost use Rattle.std.specs.Prelude.{◌≡◌, ◌≤◌, length};
+ghost use Rattle.cose_mac.specs.Hash.{function_of};
+ghost use Rattle.cose_mac.specs.Hmac as spec;
+
+use crate::hasher::Hash;
+use arrayvec::ArrayVec;
+
+/// A block of any of the hash functions.
+pub(crate) type Block = ArrayVec<u8, 128>;
+
+/// The byte that is repeated over the inner block.
+pub(crate) const IPAD: u8 = 0x36;
+
+/// The byte that is repeated over the outer block.
+pub(crate) const OPAD: u8 = 0x5c;
+
+/// The key as a block: a key longer than a block is hashed, and then it is filled up with zeros.
+#[tactic(auto, unfolding(crate::specs::Hmac::key_block))]
+pub(crate) fn key_block(hash: Hash, key: &[u8]) -> Block
+    ensures { result.items ≡ spec.key_block (function_of hash) key.now }
+{
+    let length = hash.block_length();
+    let mut block = Block::new();
+    // What is at most as long as a block fits into it.
+    let _ = if length < key.len() {
+        block.try_extend_from_slice(&hash.digest(key))
+    } else {
+        block.try_extend_from_slice(key)
+    };
+    'zeros: for _i in block.len()..length {
+        block.push(0);
+    }
+    block
+}
+
+/// Each byte of the block XOR the byte `pad`.
+#[tactic(auto, unfolding(crate::specs::Hmac::xor_pad))]
+pub(crate) fn xor_pad(block: &Block, pad: u8) -> Block
+    ensures { result.items ≡ spec.xor_pad block.now.items pad }
+{
+    let mut padded = Block::new();
+    'bytes: for byte in block.as_slice() {
+        padded.push(*byte ^ pad);
+    }
+    padded
+}

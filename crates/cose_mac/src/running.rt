@@ -1,0 +1,99 @@
+//! MACs and digests of messages that come in pieces (RFC 9053 sections 2.1 and 3.1).
+
+ghost use Rattle.std.specs.Prelude.{◌≡◌, ℕ, List, [], ◌++◌, IsTrue, IsFalse};
+ghost use Rattle.arrayvec.specs.ArrayVec.{array_vec_len};
+ghost use Rattle.cose_mac.specs.Algorithm.{is_mac_of, auth_length_of, mac, digest_of, digest_length_of};
+
+use crate::alg::Alg;
+use crate::hasher::Hasher;
+use crate::hmac::{Block, IPAD, OPAD, key_block, xor_pad};
+use arrayvec::ArrayVec;
+
+/// A MAC or a digest of a message that comes in pieces.
+///
+/// It is no `Debug`, so that no log shows what is derived from the key.
+#[derive(Drop)]
+pub struct Running {
+    alg: Alg,
+    hasher: Hasher,
+    /// For a MAC, the key's block XOR opad.
+    outer: Option<Block>,
+}
+
+impl Running {
+    ghost use Rattle.cose_mac.specs.Fed.{FedMac, FedDigest, Appends, makes_mac};
+
+    /// The MAC of the empty message under a key of any length (RFC 2104).
+    ///
+    /// The algorithm must be one of MACs: [`Alg::is_mac`] tells it.
+    pub fn hmac(alg: Alg, key: &[u8]) -> Running
+        requires { IsTrue (is_mac_of alg) }
+        ensures { FedMac result alg key.now [] }
+    {
+        let hash = alg.hash();
+        let block = key_block(hash, key);
+        let mut hasher = Hasher::new(hash);
+        hasher.update(&xor_pad(&block, IPAD));
+        Running {
+            alg,
+            hasher,
+            outer: Some(xor_pad(&block, OPAD)),
+        }
+    }
+
+    /// The digest of the empty message, for a signature.
+    ///
+    /// The algorithm must be one of signatures: [`Alg::is_mac`] denies it.
+    pub fn digest(alg: Alg) -> Running
+        requires { IsFalse (is_mac_of alg) }
+        ensures { FedDigest result alg [] }
+    {
+        Running {
+            alg,
+            hasher: Hasher::new(alg.hash()),
+            outer: None,
+        }
+    }
+
+    /// Whether [`Running::hmac`] made it, so that [`Running::finish_mac`] ends it.
+    pub fn is_mac(&self) -> bool
+        ensures { result ≡ makes_mac self.now }
+    {
+        self.outer.is_some()
+    }
+
+    /// Appends a piece, of any length, to the message.
+    pub fn update(&mut self, piece: &[u8])
+        ensures { Appends self.old self.new piece.now }
+    {
+        self.hasher.update(piece);
+    }
+
+    /// The MAC of the message, cut to the algorithm's length: [`Alg::auth_length`] bytes.
+    pub fn finish_mac(self) -> ArrayVec<u8, 64>
+        requires { IsTrue (makes_mac self) }
+        ensures value { (alg : Alg) (key message : List ℕ)
+            → FedMac self alg key message → result.items ≡ mac alg key message }
+        ensures length { (alg : Alg) (key message : List ℕ)
+            → FedMac self alg key message → array_vec_len result ≡ auth_length_of alg }
+    {
+        let mut outer = Hasher::new(self.alg.hash());
+        outer.update(&self.outer.unwrap());
+        outer.update(&self.hasher.finish());
+        let mut tag = outer.finish();
+        tag.truncate(self.alg.auth_length());
+        tag
+    }
+
+    /// The digest of the message.
+    #[tactic(auto, unfolding(crate::specs::Algorithm::digest_of))]
+    pub fn finish_digest(self) -> ArrayVec<u8, 64>
+        requires { IsFalse (makes_mac self) }
+        ensures value { (alg : Alg) (message : List ℕ)
+            → FedDigest self alg message → result.items ≡ digest_of alg message }
+        ensures length { (alg : Alg) (message : List ℕ)
+            → FedDigest self alg message → array_vec_len result ≡ digest_length_of alg }
+    {
+        self.hasher.finish()
+    }
+}

@@ -1,0 +1,26 @@
+-- Labels and pairs of the code, without where they lie in memory.
+use Rattle.std.specs.Prelude.{Result, Ok, Err}
+use Rattle.cose_head.specs.declared.item_ref.ItemRef.{ItemRef}
+use Rattle.cose_head.specs.declared.refusal.Refusal.{Refusal}
+use Rattle.cose_head.specs.ItemRef.{placed}
+use Rattle.cose_map.specs.declared.label.Label.{Label}
+use Rattle.cose_map.specs.declared.label.Label.TheVariants.{Int, Text}
+use Rattle.cose_map.specs.Label.{LabelValue, number, words}
+use Rattle.cose_map.specs.Maps.{Read, Pair}
+
+abbrev pub label_value : Label → LabelValue
+label_value (Int n) = number n
+label_value (Text text) = words text.now
+
+abbrev pub pair_value : Label × ItemRef × ItemRef → Pair
+pair_value found = record { name = label_value found.0; label = placed found.1; value = placed found.2 }
+
+-- What was read, seen by a view.
+abbrev pub seen_by : {X Y : Type 0} → (X → Y) → Result X Refusal → Read Y
+seen_by view (Ok x) = Ok (view x)
+seen_by view (Err refusal) = Err refusal
+
+-- Only the fault of what was read.
+abbrev pub fault_of : {A : Type 0} → Read A → Read (Unit {0})
+fault_of (Ok x) = Ok tt
+fault_of (Err refusal) = Err refusal

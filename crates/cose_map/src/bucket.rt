@@ -1,0 +1,95 @@
+//! Header buckets (RFC 9052 section 3).
+
+ghost use Rattle.std.specs.Prelude.{◌≡◌, ℕ, ◌+◌, ◌<◌, ◌≤◌, ◌^◌, ◌==◌, length, option_map};
+ghost use Rattle.cose_head.specs.ItemRef.{placed};
+ghost use Rattle.cose_head.specs.Items.{items_left};
+ghost use Rattle.cose_map.specs.Bucket.{bucket_of, value_of, alg_of, kid_of, crit_of};
+ghost use Rattle.cose_map.specs.Buckets.{bucket_pairs};
+ghost use Rattle.cose_map.specs.Pairs.{pairs_left};
+ghost use Rattle.cose_map.specs.Views.{label_value, seen_by};
+
+use crate::form::HeaderForm;
+use crate::label::Label;
+use crate::maps::read_map;
+use crate::pairs::Pairs;
+use cose_head::{ItemRef, Items, Refusal};
+
+/// A header bucket: labels, none twice, and their values.
+#[derive(Clone, Copy, Debug)]
+pub struct Bucket<'a> {
+    pairs: Pairs<'a>,
+}
+
+impl<'a> Bucket<'a> {
+    /// Reads a bucket whose first byte stands at `at`, of a nesting of at most `depth`. No bytes are the empty bucket.
+    ///
+    /// The refusal is the first fault of the reading, with [`cose_head::Reason::PastRoom`] where the bytes end early,
+    /// then `Trailing`, `NotMap`, and then in the order of the pairs `BadLabel`, `DuplicateLabel` and `BadValue`.
+    #[tactic(auto, unfolding(crate::specs::Bucket::bucket_of), using(crate::proofs::Buckets::nothing_in))]
+    pub fn read(bytes: &'a [u8], at: u64, depth: usize) -> Result<Bucket<'a>, Refusal>
+        requires shallow { depth ≤ 32 }
+        requires in_range { at + length bytes.now < 2 ^ 64 }
+        ensures { seen_by bucket_pairs result ≡ bucket_of depth (record { bytes = bytes.now; place = at }) }
+    {
+        if bytes.is_empty() {
+            let nothing = ItemRef { bytes, place: at };
+            let items = Items::of(&nothing);
+            return Ok(Bucket {
+                pairs: Pairs { items },
+            });
+        }
+        let pairs = read_map(&HeaderForm, bytes, at, depth)?;
+        Ok(Bucket { pairs })
+    }
+
+    /// The value of a label.
+    pub fn get(&self, label: &Label<'_>) -> Option<ItemRef<'a>>
+        ensures { option_map placed result ≡ value_of (label_value label.now) (bucket_pairs self.now) }
+    {
+        'pairs: for (name, _item, value) in self.pairs {
+            if label.is_same(&name) {
+                return Some(value);
+            }
+        }
+        None
+    }
+
+    /// The algorithm.
+    pub fn alg(&self) -> Option<Label<'a>>
+        ensures { option_map label_value result ≡ alg_of (bucket_pairs self.now) }
+    {
+        let value = self.get(&Label::Int(1))?;
+        Label::of(&value)
+    }
+
+    /// The key identifier.
+    pub fn kid(&self) -> Option<&'a [u8]>
+        ensures { option_map (λ kid. kid.now) result ≡ kid_of (bucket_pairs self.now) }
+    {
+        let value = self.get(&Label::Int(4))?;
+        value.as_bytes()
+    }
+
+    /// The labels of the parameters that a reader has to understand.
+    pub fn crit(&self) -> Option<Items<'a>>
+        ensures { option_map items_left result ≡ crit_of (bucket_pairs self.now) }
+    {
+        let value = self.get(&Label::Int(2))?;
+        Some(Items::of(&value))
+    }
+
+    /// The pairs, in the order of the bytes: the label, its item, and the value.
+    pub fn pairs(&self) -> Pairs<'a>
+        ensures { pairs_left result ≡ bucket_pairs self.now }
+    {
+        self.pairs
+    }
+
+    /// Whether the bucket has no pair.
+    pub fn is_empty(&self) -> bool
+        ensures { result ≡ (length (bucket_pairs self.now) == 0) }
+    {
+        let mut pairs = self.pairs;
+        pairs.next().is_none()
+    }
+}

@@ -1,0 +1,86 @@
+//! The forms of values, and those of the header parameters (RFC 9052 section 3.1).
+
+ghost use Rattle.std.specs.Prelude.{◌≡◌, Option};
+ghost use Rattle.cose_head.specs.ItemRef.{placed};
+ghost use Rattle.cose_head.specs.Items.{items_left};
+ghost use Rattle.cose_map.specs.Bucket as spec;
+
+use crate::label::Label;
+use crate::maps::Form;
+use cose_head::{ItemRef, Items, Reason};
+
+/// Whether an item is a label.
+pub(crate) fn is_label(item: &ItemRef<'_>) -> bool
+    ensures { result ≡ spec.is_label (placed item.now) }
+{
+    Label::of(item).is_some()
+}
+
+/// Whether an item is a byte string.
+pub(crate) fn is_bytes(item: &ItemRef<'_>) -> bool
+    ensures { result ≡ spec.is_bytes (placed item.now) }
+{
+    item.as_bytes().is_some()
+}
+
+/// Whether a number is there and isn't negative.
+fn is_unsigned(number: Option<i128>) -> bool
+    ensures { result ≡ spec.is_unsigned number }
+{
+    match number {
+        Some(number) => number >= 0,
+        None => false,
+    }
+}
+
+/// Whether an item is an unsigned integer or a text.
+fn is_content_type(item: &ItemRef<'_>) -> bool
+    ensures { result ≡ spec.is_content_type (placed item.now) }
+{
+    is_unsigned(item.as_int()) || item.as_text().is_some()
+}
+
+/// Whether items are one or more labels.
+fn are_labels(items: Items<'_>) -> bool
+    ensures { result ≡ spec.are_labels (items_left items.entry) }
+{
+    let mut any = false;
+    'elements: for element in items {
+        if !is_label(&element) {
+            return false;
+        }
+        any = true;
+    }
+    any
+}
+
+/// Whether an item is an array of one or more labels.
+fn is_crit(item: &ItemRef<'_>) -> bool
+    ensures { result ≡ spec.is_crit (placed item.now) }
+{
+    item.is_array() && are_labels(Items::of(item))
+}
+
+/// The forms of the header parameters that every reader knows.
+pub(crate) struct HeaderForm;
+
+impl Form for HeaderForm {
+    ghost table = { λ form. spec.bucket_table };
+
+    #[tactic(auto, unfolding(crate::specs::Bucket::bucket_table))]
+    fn fault(&self, label: &Label<'_>, value: &ItemRef<'_>) -> Option<Reason> {
+        let is_right = match label {
+            Label::Int(1) => is_label(value),
+            Label::Int(2) => is_crit(value),
+            Label::Int(3) => is_content_type(value),
+            Label::Int(4) => is_bytes(value),
+            Label::Int(5) => is_bytes(value),
+            Label::Int(6) => is_bytes(value),
+            _ => true,
+        };
+        if is_right {
+            return None;
+        }
+        Some(Reason::BadValue)
+    }
+}

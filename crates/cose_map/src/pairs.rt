@@ -1,0 +1,32 @@
+//! The pairs of a map (RFC 9052 section 3).
+
+use crate::label::Label;
+use cose_head::{ItemRef, Items};
+
+/// The pairs of a map, in their order: the label, its item, and the value.
+#[derive(Clone, Copy, Debug)]
+pub struct Pairs<'a> {
+    pub(crate) items: Items<'a>,
+}
+
+impl<'a> Iterator for Pairs<'a> {
+    ghost use Rattle.std.specs.Iterator.{YieldsFirstBy, item_count};
+    ghost use Rattle.cose_map.specs.Views.{pair_value};
+    ghost use Rattle.cose_map.specs.Pairs.{pairs_left};
+
+    type Item = (Label<'a>, ItemRef<'a>, ItemRef<'a>);
+
+    ghost next_gives = { YieldsFirstBy pair_value pairs_left };
+
+    ghost remaining = { item_count pairs_left };
+
+    #[tactic(auto, unfolding(crate::specs::Maps::named))]
+    fn next(&mut self) -> Option<(Label<'a>, ItemRef<'a>, ItemRef<'a>)> {
+        let mut items = self.items;
+        let label = items.next()?;
+        let value = items.next()?;
+        let name = Label::of(&label)?;
+        self.items = items;
+        Some((name, label, value))
+    }
+}

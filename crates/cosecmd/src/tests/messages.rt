@@ -1,0 +1,119 @@
+//! Verdicts, and how many bytes they took.
+
+use crate::first::intake::{ReadIntake, SliceIntake};
+use crate::first::sink::{Sink, Store};
+use crate::first::verdict::{Stop, Verdict};
+use crate::first::verify_first;
+use crate::tests::{FRONT, KEY, STRUCTURE, hmac, joined, message};
+use cose_head::{Kind, Reason, Refusal};
+use cose_mac::Alg;
+use std::alloc::{AllocError, Global};
+use std::process::Abort;
+use std::test::Fail;
+
+const fn authentic(taken: u64) -> Verdict {
+    Verdict::Authentic {
+        kind: Kind::Mac0,
+        alg: Alg::Hmac256,
+        payload: 2,
+        taken,
+    }
+}
+
+const fn refused(reason: Reason, place: u64) -> Verdict {
+    Verdict::Refused(Refusal { reason, place })
+}
+
+#[test]
+fn takes_the_message_in_any_pieces(rt: HostRuntime) -> Result<(), Fail> {
+    let bytes = message(rt.alloc())?;
+    for cut in [1, 2, 7, 64] {
+        let mut intake = SliceIntake::new(bytes.as_slice(), cut);
+        let mut store = Store::<16>::new();
+        let verdict = verify_first(KEY, &mut intake, &mut store);
+        assert_eq!(rt; verdict, Ok(authentic(44)), "in pieces of {cut}");
+        assert_eq!(rt; store.bytes(), b"hi".as_slice(), "in pieces of {cut}");
+    }
+    Ok(())
+}
+
+/// The message with these bytes behind its front gets this verdict, and so many of its bytes are taken.
+fn answers(
+    rt: &(impl Abort + Alloc<A = Global>),
+    payload: &[u8],
+    tag: &[u8],
+    verdict: Verdict,
+    taken: usize,
+) -> Result<(), AllocError> {
+    let bytes = joined(rt.alloc(), &[FRONT, payload, tag])?;
+    let mut reader = bytes.as_slice();
+    let mut store = Store::<16>::new();
+    let answer = verify_first(KEY, &mut ReadIntake::new(&mut reader), &mut store);
+    assert_eq!(rt; answer, Ok(verdict), "{bytes:?}");
+    assert_eq!(rt;
+        bytes.len(),
+        reader.len().saturating_add(taken),
+        "{bytes:?}"
+    );
+    Ok(())
+}
+
+/// The tag with its last byte changed.
+fn changed(mut tag: [u8; 32]) -> [u8; 32] {
+    tag[31] ^= 1;
+    tag
+}
+
+/// The tag without its last byte.
+fn cut(tag: &[u8; 32]) -> &[u8] {
+    &tag[..31]
+}
+
+#[test]
+fn compares_tags(rt: HostRuntime) -> Result<(), Fail> {
+    let tag = hmac(rt.alloc(), KEY, STRUCTURE)?;
+    let other = changed(tag);
+    let payload = b"\x42hi\x58\x20";
+    answers(&rt, payload, &tag, authentic(44), 44)?;
+    answers(&rt, b"\x59\x00\x02hi\x58\x20", &tag, authentic(46), 46)?;
+    answers(&rt, payload, &other, refused(Reason::BadAuth, 10), 44)?;
+    answers(
+        &rt,
+        b"\x42hi\x48",
+        &tag,
+        refused(Reason::BadAuthLength, 10),
+        11,
+    )?;
+    answers(&rt, payload, cut(&tag), refused(Reason::Truncated, 43), 43)?;
+    let mut longer = Vec::from_slice(rt.alloc(), &tag)?;
+    longer.push(0xff)?;
+    answers(&rt, payload, longer.as_slice(), authentic(44), 44)?;
+    Ok(())
+}
+
+#[test]
+fn refuses_other_payloads(rt: HostRuntime) -> Result<(), Fail> {
+    let long = b"\x5b\x01\0\0\0\0\0\0\0\0";
+    answers(&rt, b"\x42h", b"", refused(Reason::Truncated, 9), 9)?;
+    answers(&rt, b"\x5f\xff", b"", refused(Reason::Indefinite, 7), 8)?;
+    answers(&rt, long, b"", refused(Reason::PayloadTooLong, 7), 16)?;
+    answers(&rt, b"\xf6\x00", b"", refused(Reason::Detached, 7), 8)?;
+    answers(&rt, b"\x61a", b"", refused(Reason::WrongType, 7), 8)?;
+    answers(&rt, b"\xf8\x16\x00", b"", refused(Reason::BadSimple, 7), 9)?;
+    Ok(())
+}
+
+#[test]
+fn stops_where_the_store_is_full(rt: HostRuntime) -> Result<(), Fail> {
+    let bytes = message(rt.alloc())?;
+    let mut store = Store::<1>::new();
+    let mut intake = SliceIntake::new(bytes.as_slice(), 64);
+    let answer = verify_first(KEY, &mut intake, &mut store);
+    assert_eq!(rt; answer, Err(Stop::Sink));
+    assert_eq!(rt; store.bytes(), b"h".as_slice());
+    // Once it failed it takes nothing, not even a piece that would fit.
+    assert!(rt; Store::<4>::new().put(b"four").is_ok());
+    assert!(rt; store.put(b"i").is_err());
+    assert_eq!(rt; store.bytes(), b"h".as_slice());
+    Ok(())
+}
