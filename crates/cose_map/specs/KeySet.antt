@@ -15,20 +15,23 @@ usable_with (Err refusal) = None
 abbrev pub usable : Placed → Option KeyValue
 usable p = usable_with (key_of p)
 
-abbrev pub one_or_more : Placed → List Placed → Read (List Placed)
-one_or_more set items = if length items == 0 then refuse BadKeySet set else Ok items
+-- The items that should be keys: the elements of an array, or a single map.
+abbrev pub items_like : Placed → Look → List Placed
+items_like set an_array = children_of set
+items_like set a_map = set ∷ []
+items_like set _ = []
 
--- The items that should be keys.
-abbrev pub key_items : Placed → Look → Read (List Placed)
-key_items set an_array = one_or_more set (children_of set)
-key_items set a_map = Ok (set ∷ [])
-key_items set _ = refuse BadKeySet set
+abbrev pub items_in : Placed → List Placed
+items_in set = items_like set (look set)
 
+abbrev pub usable_keys : Placed → List KeyValue
+usable_keys set = filter_map usable (items_in set)
+
+-- A set with no such item is none.
 abbrev pub keys_at : Placed → Read (List KeyValue)
 keys_at p = do
   set ← whole 8 p
-  items ← key_items set (look set)
-  Ok (filter_map usable items)
+  if length (items_in set) == 0 then refuse BadKeySet set else Ok (usable_keys set)
 
 -- The usable keys of a set, in their order, or its first fault.
 unfoldable pub keys_of : List ℕ → Read (List KeyValue)

@@ -8,3 +8,11 @@ pub mod PairFault
 pub mod KeyValue
 pub mod Key
 pub mod KeySet
+pub mod KeyParts
+pub mod KeyView
+pub mod KeyItems
+pub mod KeySets
+pub mod Ops
+pub mod Algorithm
+pub mod Choice
+pub mod Chosen
