@@ -1,12 +1,12 @@
 -- The items of a key set.
-use Rattle.std.proofs.Common.{◌≡◌, ℕ, zero, suc, ◌+◌, ◌≤◌, ◌<◌, Bool, true, false, List, [], ◌∷◌, length, drop, Option, Some, None, Result, Ok, Err, refl, arith, zero-add, ◌^◌}
-use Rattle.std.specs.Prelude.{◌==◌, ◌≢◌, if◌then◌else◌, filter_map}
+use Rattle.std.proofs.Common.{◌≡◌, ℕ, zero, suc, ◌+◌, ◌≤◌, ◌<◌, List, [], ◌∷◌, length, drop, Option, Some, None, Result, Ok, Err, refl, arith, zero-add, ◌^◌}
+use Rattle.std.specs.Prelude.{◌≢◌, filter_map}
 use Rattle.std.specs.List.{cons_option}
 use Rattle.std.proofs.lemmas.Bool.Decides.{nat_tests}
 use Rattle.cose_head.specs.declared.head.Head.{Head}
 use Rattle.cose_head.specs.declared.item.Span.{Span}
 use Rattle.cose_head.specs.declared.refusal.Refusal.{Refusal}
-use Rattle.cose_head.specs.Placed.{Placed, look, look_with, head_of_item, children_of, children_if_any, children_with, items_from, first_of, span_at}
+use Rattle.cose_head.specs.Placed.{Placed, look, look_with, head_of_item, children_of, children_with, items_from, first_of, span_at}
 use Rattle.cose_map.specs.KeySet.{items_in, items_like}
 use Rattle.cose_map.specs.KeyValue.{KeyValue}
 

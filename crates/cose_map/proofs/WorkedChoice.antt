@@ -1,10 +1,10 @@
 -- The choice of the key on examples, by computing.
-use Rattle.std.proofs.Common.{◌≡◌, ℕ, ℤ, pos, negsuc, true, false, List, [], ◌∷◌, Option, Some, None, Result, Ok, Err, refl}
-use Rattle.cose_head.specs.declared.kind.Kind.TheVariants.{Mac0, Sign1}
+use Rattle.std.proofs.Common.{◌≡◌, ℕ, ℤ, pos, negsuc, List, [], ◌∷◌, Option, Some, None, Result, Ok, Err, refl}
+use Rattle.cose_head.specs.declared.kind.Kind.TheVariants.{Mac0}
 use Rattle.cose_head.specs.declared.reason.Reason.{Reason}
 use Rattle.cose_head.specs.declared.reason.Reason.TheVariants.{NoAlg, UnknownAlg, AlgUnprotected, NoKey, AmbiguousKey}
 use Rattle.cose_map.specs.Label.{LabelValue, number, words}
-use Rattle.cose_map.specs.KeyValue.{KeyValue, symmetric, elliptic, sign}
+use Rattle.cose_map.specs.KeyValue.{KeyValue, symmetric}
 use Rattle.cose_map.specs.Choice.{Question, chosen}
 
 abbrev secret : Option (List ℕ) → Option LabelValue → Option (List ℤ) → List ℕ → KeyValue

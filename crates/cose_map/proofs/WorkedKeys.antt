@@ -1,17 +1,17 @@
 -- Keys and key sets on examples, by computing.
-use Rattle.std.proofs.Common.{◌≡◌, ℕ, ℤ, pos, true, List, [], ◌∷◌, ◌++◌, replicate, Option, Some, None, Ok, Err, refl}
+use Rattle.std.proofs.Common.{◌≡◌, ℕ, pos, true, List, [], ◌∷◌, ◌++◌, replicate, Option, Some, None, Ok, Err, refl}
 use Rattle.std.specs.Str.{is_utf8, chars}
 use Rattle.cose_head.specs.declared.reason.Reason.{Reason}
 use Rattle.cose_head.specs.declared.reason.Reason.TheVariants.{PastRoom, BadValue, BadKeySet, UnknownKey, Trailing}
 use Rattle.cose_head.specs.Head.{bare_head}
 use Rattle.cose_head.specs.Item.{depth_of}
 use Rattle.cose_head.specs.Reading.{read, head}
-use Rattle.cose_head.specs.Placed.{Placed, look, children_of, items_from, head_of_item}
+use Rattle.cose_head.specs.Placed.{look, children_of, items_from, head_of_item}
 use Rattle.cose_map.specs.Label.{LabelValue, number}
 use Rattle.cose_map.specs.Maps.{Read, check_pairs}
 use Rattle.cose_map.specs.Key.{key_of, key_table, material_of}
 use Rattle.cose_map.specs.KeySet.{keys_of}
-use Rattle.cose_map.specs.KeyValue.{KeyValue, symmetric, elliptic, coordinate, sign}
+use Rattle.cose_map.specs.KeyValue.{KeyValue, symmetric, elliptic, sign}
 
 unfoldable keys : List ℕ → Read (List KeyValue)
 unfolding keys_of key_of key_table material_of check_pairs children_of items_from look head_of_item bare_head read head depth_of is_utf8 chars lib.Utf8.encode

@@ -1,5 +1,5 @@
 -- The words on the values of the choice.
-use Rattle.std.specs.Prelude.{ℤ, List, [], ◌∷◌, Option, Result, Ok, Err, option_map}
+use Rattle.std.specs.Prelude.{ℤ, List, [], ◌∷◌, Result, Ok, Err, option_map}
 use Rattle.cose_head.specs.declared.reason.Reason.{Reason}
 use Rattle.cose_head.specs.declared.reason.Reason.TheVariants.{AmbiguousKey}
 use Rattle.cose_map.specs.declared.choice.Query.{Query}

@@ -2,7 +2,6 @@
 use Rattle.std.specs.Prelude.{ℕ, ℤ, pos, negsuc, Bool, true, false, not, List, [], ◌∷◌, length, Option, Some, None, Ok, ◌==◌, ◌&&◌, ◌||◌, if◌then◌else◌, option_map, option_and_then, filter_map, find, is_some}
 use Rattle.std.specs.List.{list_all}
 use Rattle.std.specs.Ordering.{int_eq}
-use Rattle.cose_head.specs.declared.reason.Reason.{Reason}
 use Rattle.cose_head.specs.declared.reason.Reason.TheVariants.{BadValue, UnknownKey}
 use Rattle.cose_head.specs.Placed.{Placed, Look, text_content, truth, look, integer_in, bytes_in, is_an_array, children_of}
 use Rattle.cose_map.specs.declared.curve.Curve.{Curve}
@@ -171,10 +170,11 @@ operations_at name pairs = option_map (λ value. integers_of (children_of value)
 
 abbrev pub key_with : List Pair → MaterialValue → KeyValue
 key_with pairs material = record {
-    kid = bytes_of key_kid pairs;
-    alg = label_at key_alg pairs;
-    operations = operations_at key_ops pairs;
-    material = material }
+  kid = bytes_of key_kid pairs;
+  alg = label_at key_alg pairs;
+  operations = operations_at key_ops pairs;
+  material = material;
+}
 
 -- A key, or its first fault.
 unfoldable pub key_of : Placed → Read KeyValue

@@ -8,7 +8,8 @@ use Rattle.cose_map.specs.Ops.{operations_of}
 
 abbrev pub key_value : Key → KeyValue
 key_value key = record {
-    kid = option_map contents key.kid;
-    alg = option_map label_value key.alg;
-    operations = option_map operations_of key.ops;
-    material = material_value key.material }
+  kid = option_map contents key.kid;
+  alg = option_map label_value key.alg;
+  operations = option_map operations_of key.ops;
+  material = material_value key.material;
+}

@@ -4,9 +4,8 @@ ghost use Rattle.std.specs.Prelude.{◌≡◌};
 ghost use Rattle.cose_map.specs.Algorithm.{key_type_of, has_type};
 ghost use Rattle.cose_map.specs.KeyParts.{material_value};
 
-use cose_head::Kind;
-
 use crate::material::Material;
+use cose_head::Kind;
 
 /// What material an algorithm wants.
 #[derive(Clone, Copy)]

@@ -12,13 +12,12 @@ ghost use Rattle.cose_map.specs.Views.{label_value};
 ghost use Rattle.cose_map.specs.Label.{number};
 ghost use Rattle.cose_map.specs.Chosen.{question, with_rest, found_value};
 
-use cose_head::{Kind, Reason};
-
 use crate::algorithm::{KeyType, key_type};
 use crate::key::Key;
 use crate::label::Label;
 use crate::material::Material;
 use crate::ops::Ops;
+use cose_head::{Kind, Reason};
 
 /// What a message asks.
 #[derive(Clone, Copy)]

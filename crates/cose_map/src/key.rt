@@ -1,13 +1,12 @@
 //! One key (RFC 9052 section 7).
 
-use cose_head::{ItemRef, Refusal};
-
 use crate::key_form::KeyForm;
 use crate::label::Label;
 use crate::maps::read_map;
 use crate::material::Material;
 use crate::members::Members;
 use crate::ops::Ops;
+use cose_head::{ItemRef, Refusal};
 
 /// The nesting of a key or a key set.
 pub(crate) const NESTING: usize = 8;

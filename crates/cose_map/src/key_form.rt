@@ -5,12 +5,11 @@ ghost use Rattle.cose_head.specs.ItemRef.{placed};
 ghost use Rattle.cose_head.specs.Items.{items_left};
 ghost use Rattle.cose_map.specs.Key.{is_number_or_text as is_number_or_text_value, is_key_ops as is_key_ops_value, are_operations as are_operation_values, key_table};
 
-use cose_head::{ItemRef, Items, Reason};
-
 use crate::form::{is_bytes, is_label};
 use crate::label::Label;
 use crate::maps::Form;
 use crate::material::is_text;
+use cose_head::{ItemRef, Items, Reason};
 
 /// The form of the members of keys.
 pub(crate) struct KeyForm;

@@ -5,12 +5,11 @@ ghost use Rattle.cose_head.specs.ItemRef.{placed};
 ghost use Rattle.cose_map.specs.KeySet.{usable as usable_key};
 ghost use Rattle.cose_map.specs.KeyView.{key_value};
 
-use cose_head::{ItemRef, Reason, Refusal};
-
 use crate::choice::{Fitting, Query};
 use crate::key::{Key, NESTING};
 use crate::key_items::KeyItems;
 use crate::maps::{read_whole, refused};
+use cose_head::{ItemRef, Reason, Refusal};
 
 /// A key set has at most so many bytes.
 const MOST_BYTES: usize = 65_535;

@@ -9,10 +9,9 @@ ghost use Rattle.cose_map.specs.Maps.{refuse};
 ghost use Rattle.cose_map.specs.Views.{seen_by};
 ghost use Rattle.cose_map.specs.KeyParts.{contents, material_value, y_value};
 
-use cose_head::{ItemRef, Reason, Refusal};
-
 use crate::curve::Curve;
 use crate::maps::refused;
+use cose_head::{ItemRef, Reason, Refusal};
 
 /// The coordinate y of a point: its bytes, or its sign alone (RFC 9053 section 7.1.1).
 #[derive(Clone, Copy, Debug)]

@@ -10,13 +10,12 @@ ghost use Rattle.cose_map.specs.Ops.{operations_of};
 ghost use Rattle.cose_map.specs.Pairs.{pairs_left};
 ghost use Rattle.cose_map.specs.Views.{label_value, seen_by};
 
-use cose_head::{ItemRef, Items, Reason, Refusal};
-
 use crate::label::Label;
 use crate::maps::refused;
 use crate::material::{Material, coordinate, curve_at, private_part, secret, y_at};
 use crate::ops::Ops;
 use crate::pairs::Pairs;
+use cose_head::{ItemRef, Items, Reason, Refusal};
 
 /// A key's item, and the pairs that were read from it.
 #[derive(Clone, Copy, Debug)]
