@@ -5,3 +5,14 @@ pub mod Pairs
 pub mod Bucket
 pub mod Buckets
 pub mod PairFault
+pub mod KeyValue
+pub mod Key
+pub mod KeySet
+pub mod KeyParts
+pub mod KeyView
+pub mod KeyItems
+pub mod KeySets
+pub mod Ops
+pub mod Algorithm
+pub mod Choice
+pub mod Chosen

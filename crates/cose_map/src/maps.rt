@@ -22,7 +22,7 @@ pub trait Form {
 }
 
 /// The refusal of an item, at its place.
-fn refused(reason: Reason, item: &ItemRef<'_>) -> Refusal
+pub(crate) fn refused(reason: Reason, item: &ItemRef<'_>) -> Refusal
     ensures { result ≡ record { reason = reason; place = item.now.place } }
 {
     Refusal {
@@ -115,7 +115,7 @@ pub fn check_map<'a, F: Form>(form: &F, item: &ItemRef<'a>) -> Result<Pairs<'a>,
 }
 
 /// Reads bytes that are exactly one item, of a nesting of at most `depth`.
-fn read_whole<'a>(bytes: &'a [u8], at: u64, depth: usize) -> Result<ItemRef<'a>, Refusal>
+pub(crate) fn read_whole<'a>(bytes: &'a [u8], at: u64, depth: usize) -> Result<ItemRef<'a>, Refusal>
     requires shallow { depth ≤ 32 }
     requires in_range { at + length bytes.now < 2 ^ 64 }
     ensures { seen_by placed result ≡ whole depth (record { bytes = bytes.now; place = at }) }

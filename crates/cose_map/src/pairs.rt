@@ -30,3 +30,23 @@ impl<'a> Iterator for Pairs<'a> {
         Some((name, label, value))
     }
 }
+
+impl<'a> Pairs<'a> {
+    ghost use Rattle.std.specs.Prelude.{◌≡◌, option_map};
+    ghost use Rattle.cose_head.specs.ItemRef.{placed};
+    ghost use Rattle.cose_map.specs.Bucket.{value_of};
+    ghost use Rattle.cose_map.specs.Pairs.{pairs_left};
+    ghost use Rattle.cose_map.specs.Views.{label_value};
+
+    /// The value of a label.
+    pub fn get(&self, label: &Label<'_>) -> Option<ItemRef<'a>>
+        ensures { option_map placed result ≡ value_of (label_value label.now) (pairs_left self.now) }
+    {
+        'pairs: for (name, _item, value) in *self {
+            if label.is_same(&name) {
+                return Some(value);
+            }
+        }
+        None
+    }
+}

@@ -1,0 +1,119 @@
+-- Keys and key sets on examples, by computing.
+use Rattle.std.proofs.Common.{◌≡◌, ℕ, pos, true, List, [], ◌∷◌, ◌++◌, replicate, Option, Some, None, Ok, Err, refl}
+use Rattle.std.specs.Str.{is_utf8, chars}
+use Rattle.cose_head.specs.declared.reason.Reason.{Reason}
+use Rattle.cose_head.specs.declared.reason.Reason.TheVariants.{PastRoom, BadValue, BadKeySet, UnknownKey, Trailing}
+use Rattle.cose_head.specs.Head.{bare_head}
+use Rattle.cose_head.specs.Item.{depth_of}
+use Rattle.cose_head.specs.Reading.{read, head}
+use Rattle.cose_head.specs.Placed.{look, children_of, items_from, head_of_item}
+use Rattle.cose_map.specs.Label.{LabelValue, number}
+use Rattle.cose_map.specs.Maps.{Read, check_pairs}
+use Rattle.cose_map.specs.Key.{key_of, key_table, material_of}
+use Rattle.cose_map.specs.KeySet.{keys_of}
+use Rattle.cose_map.specs.KeyValue.{KeyValue, symmetric, elliptic, sign}
+
+unfoldable keys : List ℕ → Read (List KeyValue)
+unfolding keys_of key_of key_table material_of check_pairs children_of items_from look head_of_item bare_head read head depth_of is_utf8 chars lib.Utf8.encode
+keys bytes = keys_of bytes
+
+unfoldable key : List ℕ → Read KeyValue
+unfolding key_of key_table material_of check_pairs children_of items_from look head_of_item bare_head read head depth_of is_utf8 chars lib.Utf8.encode
+key bytes = key_of (record { bytes = bytes; place = 0 })
+
+abbrev fault : {A : Type 0} → Reason → ℕ → Read A
+fault reason place = Err (record { reason = reason; place = place })
+
+-- The bytes of 'Jefe', alone and for HMAC 256/256 only.
+abbrev jefe : List ℕ
+jefe = 0x4a ∷ 0x65 ∷ 0x66 ∷ 0x65 ∷ []
+
+abbrev secret : Option LabelValue → KeyValue
+secret alg = record { kid = None; alg = alg; operations = None; material = symmetric jefe }
+
+plain_key : keys (0xa2 ∷ 1 ∷ 4 ∷ 0x20 ∷ 0x44 ∷ jefe) ≡ Ok (secret None ∷ [])
+unfolding keys
+plain_key = refl
+
+key_for_one_algorithm : keys (0xa3 ∷ 1 ∷ 4 ∷ 3 ∷ 5 ∷ 0x20 ∷ 0x44 ∷ jefe) ≡ Ok (secret (Some (number (pos 5))) ∷ [])
+unfolding keys
+key_for_one_algorithm = refl
+
+no_bytes : keys [] ≡ fault PastRoom 0
+unfolding keys
+no_bytes = refl
+
+empty_array : keys (0x80 ∷ []) ≡ fault BadKeySet 0
+unfolding keys
+empty_array = refl
+
+a_number : keys (0 ∷ []) ≡ fault BadKeySet 0
+unfolding keys
+a_number = refl
+
+empty_map : keys (0xa0 ∷ []) ≡ Ok []
+unfolding keys
+empty_map = refl
+
+no_key : keys (0x81 ∷ 0 ∷ []) ≡ Ok []
+unfolding keys
+no_key = refl
+
+byte_after : keys (0xa2 ∷ 1 ∷ 4 ∷ 0x20 ∷ 0x44 ∷ jefe ++ 0 ∷ []) ≡ fault Trailing 9
+unfolding keys
+byte_after = refl
+
+byte_missing : keys (0xa2 ∷ 1 ∷ 4 ∷ 0x20 ∷ 0x44 ∷ 0x4a ∷ 0x65 ∷ 0x66 ∷ []) ≡ fault PastRoom 4
+unfolding keys
+byte_missing = refl
+
+-- A key of an unknown type is passed over.
+unknown_type : keys (0x82 ∷ 0xa2 ∷ 1 ∷ 1 ∷ 0x20 ∷ 6 ∷ 0xa2 ∷ 1 ∷ 4 ∷ 0x20 ∷ 0x44 ∷ jefe) ≡ Ok (secret None ∷ [])
+unfolding keys
+unknown_type = refl
+
+no_type : key (0xa0 ∷ []) ≡ fault BadValue 0
+unfolding key
+no_type = refl
+
+other_type : key (0xa2 ∷ 1 ∷ 1 ∷ 0x20 ∷ 6 ∷ []) ≡ fault UnknownKey 0
+unfolding key
+other_type = refl
+
+empty_secret : key (0xa2 ∷ 1 ∷ 4 ∷ 0x20 ∷ 0x40 ∷ []) ≡ fault BadValue 4
+unfolding key
+empty_secret = refl
+
+missing_secret : key (0xa1 ∷ 1 ∷ 4 ∷ []) ≡ fault BadValue 0
+unfolding key
+missing_secret = refl
+
+no_operation : key (0xa3 ∷ 1 ∷ 4 ∷ 4 ∷ 0x80 ∷ 0x20 ∷ 0x41 ∷ 0x61 ∷ []) ≡ fault BadValue 4
+unfolding key
+no_operation = refl
+
+-- An operation that is a text counts for nothing, also where it is no UTF-8.
+operations : key (0xa3 ∷ 1 ∷ 4 ∷ 4 ∷ 0x82 ∷ 0x0a ∷ 0x61 ∷ 0xff ∷ 0x20 ∷ 0x41 ∷ 0x61 ∷ [])
+    ≡ Ok (record { kid = None; alg = None; operations = Some (pos 10 ∷ []); material = symmetric (0x61 ∷ []) })
+unfolding key
+operations = refl
+
+abbrev point : List ℕ
+point = replicate 32 7
+
+sign_of_y : key (0xa4 ∷ 1 ∷ 2 ∷ 0x20 ∷ 1 ∷ 0x21 ∷ 0x58 ∷ 32 ∷ point ++ 0x22 ∷ 0xf5 ∷ [])
+    ≡ Ok (record { kid = None; alg = None; operations = None; material = elliptic 1 point (sign true) })
+unfolding key
+sign_of_y = refl
+
+other_curve : key (0xa2 ∷ 1 ∷ 2 ∷ 0x20 ∷ 2 ∷ []) ≡ fault UnknownKey 0
+unfolding key
+other_curve = refl
+
+short_x : key (0xa3 ∷ 1 ∷ 2 ∷ 0x20 ∷ 1 ∷ 0x21 ∷ 0x41 ∷ 7 ∷ []) ≡ fault BadValue 6
+unfolding key
+short_x = refl
+
+missing_y : key (0xa3 ∷ 1 ∷ 2 ∷ 0x20 ∷ 1 ∷ 0x21 ∷ 0x58 ∷ 32 ∷ point) ≡ fault BadValue 0
+unfolding key
+missing_y = refl

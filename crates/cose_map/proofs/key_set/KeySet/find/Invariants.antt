@@ -1,0 +1,14 @@
+-- The answer for the keys that are left, after those that were met, is the answer for all.
+use Rattle.std.proofs.Common.{◌≡◌}
+use Rattle.std.specs.Prelude.{filter_map}
+use Rattle.cose_map.specs.Choice.{fitting, only_one}
+use Rattle.cose_map.specs.Chosen.{question, with_rest}
+use Rattle.cose_map.specs.KeyItems.{key_items_left}
+use Rattle.cose_map.specs.KeySet.{usable}
+use Rattle.cose_map.specs.KeySets.{keys}
+use Rattle.cose_map.proofs.key_set.KeySet.find.Given as goal
+
+abbrev pub invariant-loop-item : goal.invariant-loop-item
+invariant-loop-item l =
+    with_rest (question l.query) l.fitting (filter_map (fitting (question l.query)) (filter_map usable (key_items_left l.item-iterator)))
+    ≡ only_one (question l.query) (filter_map (fitting (question l.query)) (keys l.self))

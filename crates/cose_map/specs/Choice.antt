@@ -1,0 +1,101 @@
+-- Which key authenticates a message, and by which algorithm (RFC 9052 section 7.1).
+use Rattle.std.specs.Prelude.{ℕ, ℤ, Bool, true, false, ◌&&◌, List, [], ◌∷◌, Option, Some, None, Result, Ok, Err, is_some, filter_map, if◌then◌else◌}
+use Rattle.std.specs.List.{list_any}
+use Rattle.std.specs.Ordering.{int_eq}
+use Rattle.std.specs.Str.{bytes_eq}
+use Rattle.cose_head.specs.declared.kind.Kind.{Kind}
+use Rattle.cose_head.specs.declared.reason.Reason.{Reason}
+use Rattle.cose_head.specs.declared.reason.Reason.TheVariants.{NoAlg, UnknownAlg, AlgUnprotected, NoKey, AmbiguousKey}
+use Rattle.cose_map.specs.declared.algorithm.KeyType.{KeyType}
+use Rattle.cose_map.specs.Algorithm.{key_type_of, has_type}
+use Rattle.cose_map.specs.KeyValue.{KeyValue, MaterialValue}
+use Rattle.cose_map.specs.Label.{LabelValue, number, words, same_label}
+
+infixl 10 ◌>>=◌
+abbrev ◌>>=◌ : {A B : Type 0} → Option A → (A → Option B) → Option B
+(Some x) >>= f = f x
+None >>= f = None
+
+-- What a message asks: its kind, the operation that verifies it, the algorithm that each bucket names, and the key's identifier.
+pub record Question : Type 0 where
+  pub kind : Kind
+  pub operation : ℤ
+  pub protected_alg : Option LabelValue
+  pub unprotected_alg : Option LabelValue
+  pub kid : Option (List ℕ)
+
+abbrev pub is_this_label : Option LabelValue → LabelValue → Bool
+is_this_label None alg = false
+is_this_label (Some own) alg = same_label own alg
+
+-- The algorithm that a key is used with: the protected one; without it the unprotected one, only where the key's own
+-- is present and equal; without both the key's own. The algorithms are those of the protected bucket, of the unprotected and of the key.
+abbrev pub algorithm_used : Option LabelValue → Option LabelValue → Option LabelValue → Option LabelValue
+algorithm_used (Some protected) unprotected own = Some protected
+algorithm_used None (Some unprotected) own = if is_this_label own unprotected then Some unprotected else None
+algorithm_used None None own = own
+
+-- What a key leaves out, it doesn't forbid.
+abbrev pub allows_algorithm : Option LabelValue → LabelValue → Bool
+allows_algorithm None alg = true
+allows_algorithm (Some own) alg = same_label own alg
+
+abbrev pub allows_operation : Option (List ℤ) → ℤ → Bool
+allows_operation None operation = true
+allows_operation (Some operations) operation = list_any (int_eq operation) operations
+
+abbrev pub allows_kid : Option (List ℕ) → Option (List ℕ) → Bool
+allows_kid None asked = true
+allows_kid (Some own) None = true
+allows_kid (Some own) (Some asked) = bytes_eq own asked
+
+abbrev pub is_of_type : MaterialValue → Option KeyType → Bool
+is_of_type material None = false
+is_of_type material (Some wanted) = has_type material wanted
+
+-- Whether a key fits: the algorithm is one of the kind and for the key's type and curve, the key's own is the same, its
+-- operations hold the one that is asked, and the identifiers are equal.
+abbrev pub fits : Question → KeyValue → ℤ → Bool
+fits q key algorithm =
+    is_of_type key.material (key_type_of q.kind algorithm)
+    && allows_algorithm key.alg (number algorithm)
+    && allows_operation key.operations q.operation
+    && allows_kid key.kid q.kid
+
+-- An algorithm that a text names is none of those that are known here.
+abbrev pub algorithm_number : LabelValue → Option ℤ
+algorithm_number (number n) = Some n
+algorithm_number (words name) = None
+
+-- The key with its algorithm, where it fits.
+abbrev pub fitting : Question → KeyValue → Option (KeyValue × ℤ)
+fitting q key = do
+  alg ← algorithm_used q.protected_alg q.unprotected_alg key.alg
+  n ← algorithm_number alg
+  if fits q key n then Some (key, n) else None
+
+-- Why no key fits.
+abbrev pub none_fits : Option LabelValue → Option LabelValue → Reason
+none_fits (Some protected) unprotected = NoKey
+none_fits None (Some unprotected) = AlgUnprotected
+none_fits None None = NoAlg
+
+abbrev pub only_one : Question → List (KeyValue × ℤ) → Result (KeyValue × ℤ) Reason
+only_one q [] = Err (none_fits q.protected_alg q.unprotected_alg)
+only_one q (one ∷ []) = Ok one
+only_one q (one ∷ (another ∷ others)) = Err AmbiguousKey
+
+abbrev pub is_known : Kind → LabelValue → Bool
+is_known kind (number n) = is_some (key_type_of kind n)
+is_known kind (words name) = false
+
+-- The message's algorithm is that of the protected bucket, else of the unprotected. Where it is there, it is one of the kind.
+abbrev pub is_answerable : Kind → Option LabelValue → Option LabelValue → Bool
+is_answerable kind (Some protected) unprotected = is_known kind protected
+is_answerable kind None (Some unprotected) = is_known kind unprotected
+is_answerable kind None None = true
+
+-- Of all keys exactly one has to fit.
+unfoldable pub chosen : Question → List KeyValue → Result (KeyValue × ℤ) Reason
+chosen q keys =
+    if is_answerable q.kind q.protected_alg q.unprotected_alg then only_one q (filter_map (fitting q) keys) else Err UnknownAlg

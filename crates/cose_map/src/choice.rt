@@ -1,0 +1,196 @@
+//! choice
+
+ghost use Rattle.std.specs.Prelude.{◌≡◌, ℤ, List, [], option_map, option_and_then};
+ghost use Rattle.std.specs.List.{cons_option};
+ghost use Rattle.cose_map.specs.Choice.{fitting as fitting_key, none_fits, fits as fits_key, is_known, is_answerable as is_answerable_query, algorithm_used, algorithm_number, allows_kid, allows_algorithm, allows_operation, is_of_type};
+ghost use Rattle.cose_map.specs.Algorithm.{key_type_of};
+ghost use Rattle.cose_map.specs.KeyValue.{KeyValue};
+ghost use Rattle.cose_map.specs.KeyParts.{contents, material_value};
+ghost use Rattle.cose_map.specs.KeyView.{key_value};
+ghost use Rattle.cose_map.specs.Ops.{operations_of};
+ghost use Rattle.cose_map.specs.Views.{label_value};
+ghost use Rattle.cose_map.specs.Label.{number};
+ghost use Rattle.cose_map.specs.Chosen.{question, with_rest, found_value};
+
+use crate::algorithm::{KeyType, key_type};
+use crate::key::Key;
+use crate::label::Label;
+use crate::material::Material;
+use crate::ops::Ops;
+use cose_head::{Kind, Reason};
+
+/// What a message asks.
+#[derive(Clone, Copy)]
+pub struct Query<'q> {
+    /// The kind of the message.
+    pub kind: Kind,
+    /// The operation that the key has to allow.
+    pub operation: i128,
+    /// The algorithm of the protected bucket.
+    pub protected_alg: Option<Label<'q>>,
+    /// The algorithm of the unprotected bucket.
+    pub unprotected_alg: Option<Label<'q>>,
+    /// The identifier of the key.
+    pub kid: Option<&'q [u8]>,
+}
+
+/// The keys that fit, as far as they are passed.
+#[derive(Clone, Copy)]
+pub(crate) enum Fitting<'k> {
+    /// None so far.
+    Nothing,
+    /// One, with its algorithm.
+    One(Key<'k>, i128),
+    /// Two or more.
+    Several,
+}
+
+/// Whether a label names an algorithm of the kind.
+fn is_known_algorithm(kind: Kind, label: Label) -> bool
+    ensures { result ≡ is_known kind (label_value label.entry) }
+{
+    match label {
+        Label::Int(algorithm) => key_type(kind, algorithm).is_some(),
+        Label::Text(_) => false,
+    }
+}
+
+/// Whether the material is what an algorithm wants.
+fn is_material(material: &Material, wanted: Option<KeyType>) -> bool
+    ensures { result ≡ is_of_type (material_value material.now) wanted }
+{
+    match wanted {
+        Some(wanted) => wanted.is_of(material),
+        None => false,
+    }
+}
+
+/// Whether a key's own algorithm, if it names one, is this.
+fn is_allowed_algorithm(own: Option<Label>, algorithm: i128) -> bool
+    ensures { result ≡ allows_algorithm (option_map label_value own.entry) (number algorithm) }
+{
+    match own {
+        Some(own) => own.is_same(&Label::Int(algorithm)),
+        None => true,
+    }
+}
+
+/// Whether a key's operations, if it lists them, hold this one.
+fn is_allowed_operation(own: Option<Ops>, operation: i128) -> bool
+    ensures { result ≡ allows_operation (option_map operations_of own.entry) operation }
+{
+    match own {
+        Some(own) => own.holds(operation),
+        None => true,
+    }
+}
+
+/// Whether two identifiers are equal, where there are two.
+fn is_allowed_kid(own: Option<&[u8]>, asked: Option<&[u8]>) -> bool
+    ensures { result ≡ allows_kid (option_map contents own.entry) (option_map contents asked.entry) }
+{
+    match (own, asked) {
+        (Some(own), Some(asked)) => own == asked,
+        _ => true,
+    }
+}
+
+/// The number of an algorithm that has one.
+fn number_of(label: Label) -> Option<i128>
+    ensures { result ≡ algorithm_number (label_value label.entry) }
+{
+    match label {
+        Label::Int(algorithm) => Some(algorithm),
+        Label::Text(_) => None,
+    }
+}
+
+/// The algorithm that the unprotected bucket names, where the key's own is equal.
+fn confirmed(own: Option<Label>, unprotected: Label) -> Option<i128>
+    ensures { result ≡ option_and_then algorithm_number (algorithm_used None (Some (label_value unprotected.entry)) (option_map label_value own.entry)) }
+{
+    match own {
+        Some(own) if own.is_same(&unprotected) => number_of(unprotected),
+        _ => None,
+    }
+}
+
+impl<'q> Query<'q> {
+    /// Whether the message names no algorithm, or one of its kind.
+    pub(crate) fn is_answerable(&self) -> bool
+        ensures { let q = question self.now in result ≡ is_answerable_query q.kind q.protected_alg q.unprotected_alg }
+    {
+        match (self.protected_alg, self.unprotected_alg) {
+            (Some(protected), _) => is_known_algorithm(self.kind, protected),
+            (None, Some(unprotected)) => is_known_algorithm(self.kind, unprotected),
+            (None, None) => true,
+        }
+    }
+
+    /// The algorithm that the key is used with.
+    fn algorithm_for(&self, key: &Key) -> Option<i128>
+        ensures { let q = question self.now in result ≡ option_and_then algorithm_number (algorithm_used q.protected_alg q.unprotected_alg (key_value key.now).alg) }
+    {
+        match (self.protected_alg, self.unprotected_alg) {
+            (Some(protected), _) => number_of(protected),
+            (None, Some(unprotected)) => confirmed(key.alg, unprotected),
+            (None, None) => number_of(key.alg?),
+        }
+    }
+
+    /// Whether the key may be used with the algorithm.
+    fn fits(&self, key: &Key, algorithm: i128) -> bool
+        ensures { result ≡ fits_key (question self.now) (key_value key.now) algorithm }
+    {
+        is_material(&key.material, key_type(self.kind, algorithm))
+            && is_allowed_algorithm(key.alg, algorithm)
+            && is_allowed_operation(key.ops, self.operation)
+            && is_allowed_kid(key.kid, self.kid)
+    }
+
+    /// The algorithm of a key that fits.
+    fn fitting(&self, key: &Key) -> Option<i128>
+        ensures { option_map (λ algorithm. (key_value key.now, algorithm)) result ≡ fitting_key (question self.now) (key_value key.now) }
+    {
+        match self.algorithm_for(key) {
+            Some(algorithm) if self.fits(key, algorithm) => Some(algorithm),
+            _ => None,
+        }
+    }
+
+    /// Why no key fits.
+    fn no_key(&self) -> Reason
+        ensures { let q = question self.now in result ≡ none_fits q.protected_alg q.unprotected_alg }
+    {
+        match (self.protected_alg, self.unprotected_alg) {
+            (Some(_), _) => Reason::NoKey,
+            (None, Some(_)) => Reason::AlgUnprotected,
+            (None, None) => Reason::NoAlg,
+        }
+    }
+}
+
+impl<'k> Fitting<'k> {
+    /// With one more key, where it fits.
+    pub(crate) fn with(self, key: Key<'k>, query: &Query) -> Fitting<'k>
+        ensures { (rest : List (KeyValue × ℤ)) → with_rest (question query.now) result rest
+            ≡ with_rest (question query.now) self.entry (cons_option (fitting_key (question query.now) (key_value key.entry)) rest) }
+    {
+        match (query.fitting(&key), self) {
+            (None, fitting) => fitting,
+            (Some(algorithm), Fitting::Nothing) => Fitting::One(key, algorithm),
+            (Some(_), _) => Fitting::Several,
+        }
+    }
+
+    /// The key that was found, where all keys are passed.
+    pub(crate) fn answer(self, query: &Query) -> Result<(Key<'k>, i128), Reason>
+        ensures { found_value result ≡ with_rest (question query.now) self.entry [] }
+    {
+        match self {
+            Fitting::Nothing => Err(query.no_key()),
+            Fitting::One(key, algorithm) => Ok((key, algorithm)),
+            Fitting::Several => Err(Reason::AmbiguousKey),
+        }
+    }
+}

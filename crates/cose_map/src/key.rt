@@ -1,0 +1,54 @@
+//! One key (RFC 9052 section 7).
+
+use crate::key_form::KeyForm;
+use crate::label::Label;
+use crate::maps::read_map;
+use crate::material::Material;
+use crate::members::Members;
+use crate::ops::Ops;
+use cose_head::{ItemRef, Refusal};
+
+/// The nesting of a key or a key set.
+pub(crate) const NESTING: usize = 8;
+
+/// A key, as far as it is used: what it is for, where it says so, and what it consists of.
+#[derive(Clone, Copy, Debug)]
+pub struct Key<'a> {
+    /// The identifier.
+    pub kid: Option<&'a [u8]>,
+    /// The only algorithm that it is for.
+    pub alg: Option<Label<'a>>,
+    /// The only operations that it is for.
+    pub ops: Option<Ops<'a>>,
+    /// What it consists of.
+    pub material: Material<'a>,
+}
+
+impl<'a> Key<'a> {
+    ghost use Rattle.std.specs.Prelude.{◌≡◌, ◌+◌, ◌<◌, ◌^◌, length, Ok};
+    ghost use Rattle.cose_map.specs.Key.{key_of};
+    ghost use Rattle.cose_map.specs.KeyView.{key_value};
+    ghost use Rattle.cose_map.specs.Views.{seen_by};
+
+    /// Reads one key, whose first byte stands at `at`.
+    ///
+    /// The refusal is the first fault of the reading, then of the map's pairs in their order, then of the members that
+    /// the key's type wants.
+    #[tactic(auto, unfolding(crate::specs::Key::key_of))]
+    pub fn read(bytes: &'a [u8], at: u64) -> Result<Key<'a>, Refusal>
+        requires { at + length bytes.now < 2 ^ 64 }
+        ensures { seen_by key_value result ≡ key_of (record { bytes = bytes.entry.now; place = at }) }
+    {
+        let members = Members {
+            key: ItemRef { bytes, place: at },
+            pairs: read_map(&KeyForm, bytes, at, NESTING)?,
+        };
+        let material = members.material()?;
+        Ok(Key {
+            kid: members.bytes(2),
+            alg: members.label(3),
+            ops: members.ops(4),
+            material,
+        })
+    }
+}

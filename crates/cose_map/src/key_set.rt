@@ -1,0 +1,92 @@
+//! Key sets (RFC 9052 section 7).
+
+ghost use Rattle.std.specs.Prelude.{◌≡◌, option_map};
+ghost use Rattle.cose_head.specs.ItemRef.{placed};
+ghost use Rattle.cose_map.specs.KeySet.{usable as usable_key};
+ghost use Rattle.cose_map.specs.KeyView.{key_value};
+
+use crate::choice::{Fitting, Query};
+use crate::key::{Key, NESTING};
+use crate::key_items::KeyItems;
+use crate::maps::{read_whole, refused};
+use cose_head::{ItemRef, Reason, Refusal};
+
+/// A key set has at most so many bytes.
+const MOST_BYTES: usize = 65_535;
+
+/// A set of keys: one key, or an array of keys, of which only the usable ones count.
+#[derive(Clone, Copy, Debug)]
+pub struct KeySet<'a> {
+    set: ItemRef<'a>,
+}
+
+/// The key that an item is, if it is a usable one.
+fn usable<'a>(item: &ItemRef<'a>) -> Option<Key<'a>>
+    ensures { option_map key_value result ≡ usable_key (placed item.now) }
+{
+    Key::read(item.bytes, item.place).ok()
+}
+
+impl<'a> KeySet<'a> {
+    ghost use Rattle.std.specs.Prelude.{length};
+    ghost use Rattle.cose_map.specs.Choice.{chosen};
+    ghost use Rattle.cose_map.specs.Chosen.{question, found_value};
+    ghost use Rattle.cose_map.specs.KeySet.{keys_of};
+    ghost use Rattle.cose_map.specs.KeySets.{keys};
+    ghost use Rattle.cose_map.specs.Views.{seen_by};
+
+    /// Reads a key set of at most 65,535 bytes: one map, or an array of one or more items.
+    ///
+    /// A key that is refused is passed over. The refusal is [`Reason::BadKeySet`] where there are too many bytes, then
+    /// the first fault of the reading, then [`Reason::Trailing`], then [`Reason::BadKeySet`] for another item.
+    #[tactic(auto, unfolding(crate::specs::KeySet::keys_of))]
+    pub fn read(bytes: &'a [u8]) -> Result<KeySet<'a>, Refusal>
+        ensures { seen_by keys result ≡ keys_of bytes.entry.now }
+    {
+        if bytes.len() > MOST_BYTES {
+            return Err(Refusal {
+                reason: Reason::BadKeySet,
+                place: 0,
+            });
+        }
+        let set = read_whole(bytes, 0, NESTING)?;
+        let mut items = KeyItems::of(set);
+        if items.next().is_none() {
+            return Err(refused(Reason::BadKeySet, &set));
+        }
+        Ok(KeySet { set })
+    }
+
+    /// The number of usable keys.
+    pub fn count(&self) -> usize
+        ensures { result ≡ length (keys self.now) }
+    {
+        let mut count = 0;
+        for item in KeyItems::of(self.set) {
+            if usable(&item).is_some() {
+                count += 1;
+            }
+        }
+        count
+    }
+
+    /// The one key that fits what a message asks, and the number of the algorithm that it is used with.
+    ///
+    /// The reasons are [`Reason::UnknownAlg`], [`Reason::AmbiguousKey`], [`Reason::NoAlg`], [`Reason::AlgUnprotected`]
+    /// and [`Reason::NoKey`].
+    #[tactic(auto, unfolding(crate::specs::Choice::chosen))]
+    pub fn find(&self, query: &Query) -> Result<(Key<'a>, i128), Reason>
+        ensures { found_value result ≡ chosen (question query.now) (keys self.now) }
+    {
+        if !query.is_answerable() {
+            return Err(Reason::UnknownAlg);
+        }
+        let mut fitting = Fitting::Nothing;
+        for item in KeyItems::of(self.set) {
+            if let Some(key) = usable(&item) {
+                fitting = fitting.with(key, query);
+            }
+        }
+        fitting.answer(query)
+    }
+}
