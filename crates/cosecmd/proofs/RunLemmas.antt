@@ -86,7 +86,7 @@ none_after_end-more keys taken byte here before n lt =
           rw (last, take-append_seam) here)
     ]
 
-pub at_start : (keys : List KeyValue) (come contents : Option (List ℕ)) (sure : ℕ) (machine : Machine) → StandsFor [] machine (first_reading keyss) → Along keys come come contents contents sure sure machine
+pub at_start : (keys : List KeyValue) (come contents : Option (List ℕ)) (sure : ℕ) (machine : Machine) → StandsFor [] machine (first_reading keys) → Along keys come come contents contents sure sure machine
 at_start keys come contents sure machine stands = record {
   taken = [];
   so_far = [];
