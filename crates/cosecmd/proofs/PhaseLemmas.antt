@@ -1,9 +1,9 @@
 -- What a phase comes to when one more byte of it is there.
-use Rattle.std.proofs.Common.{◌≡◌, ◌≢◌, ℕ, suc, ◌+◌, ◌<◌, ◌≤◌, Bool, true, false, List, [], ◌∷◌, ◌++◌, length, get_or, take, drop, refl, sym, ap, subst, ◌∙◌, append_assoc, add-one, add-zero, arith, drop-cons, length-append, eq-eqb, ne_eqb}
+use Rattle.std.proofs.Common.{◌≡◌, ℕ, suc, ◌+◌, ◌<◌, true, false, List, [], ◌∷◌, ◌++◌, length, get_or, drop, refl, sym, ap, ◌∙◌, append_assoc, add-one, add-zero, arith, drop-cons, length-append, eq-eqb, ne_eqb}
 use Rattle.std.specs.Prelude.{ℤ, Ok, nat_lt, ◌==◌}
 use Rattle.std.specs.Str.{bytes_eq}
-use Rattle.std.proofs.lemmas.Bool.{le-ltb, ltb-false}
-use Rattle.std.proofs.lemmas.List.{take_at, drop_at, append-nil}
+use Rattle.std.proofs.lemmas.Bool.{le-ltb}
+use Rattle.std.proofs.lemmas.List.{take_at, drop_at}
 use Rattle.cose_head.specs.declared.head.Head.{Head}
 use Rattle.cose_head.specs.declared.head.HeadStep.{HeadStep}
 use Rattle.cose_head.specs.declared.head.HeadStep.TheVariants.{Got, Fault}
@@ -15,7 +15,7 @@ use Rattle.cosecmd.specs.declared.first.machine.Progress.TheVariants.{Open, Sett
 use Rattle.cose_map.specs.Choice.{chosen}
 use Rattle.cose_map.specs.KeyValue.{KeyValue, symmetric}
 use Rattle.cosecmd.specs.FirstVerdict.{authentic, comparison, first_question, key_choice, payload_head, tag_of}
-use Rattle.cosecmd.specs.Machine.{Continues, StandsFor}
+use Rattle.cosecmd.specs.Machine.{Continues}
 use Rattle.cosecmd.specs.Phases.{Phase, Reading, refused, with_front, with_head, with_string}
 
 -- ---- what a step comes to goes by the reading alone
