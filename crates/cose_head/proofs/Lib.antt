@@ -17,5 +17,6 @@ pub mod Complete
 pub mod BareHeads
 pub mod ShortHeads
 pub mod ShortItems
+pub mod ShortLeast
 pub mod ReadLaws
 pub mod Spans

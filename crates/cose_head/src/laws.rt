@@ -3,7 +3,7 @@
 //! `read` is how an item is read, `Spells` how bytes spell one, `bare_head` how a head outside an item is read.
 
 ghost use Rattle.cose_head.specs.Laws.{ReadIsSpelled, OneItem, ReadElsewhere, ReadStays, RefusedIsNoItem, ReadSteps, ReadAddsUp, TruncatedHasRoom, HeadIsSpelled, HeadStays, HeadWants, HeadEnds, ShortestIsHead};
-ghost use Rattle.cose_head.specs.Shortest.{ShortestIsSpelled};
+ghost use Rattle.cose_head.specs.Shortest.{ShortestIsSpelled, ShortestIsLeast};
 
 /// What `read` accepts is exactly what the grammar spells, within the room and the nesting (RFC 8949 section 3).
 /// So bytes begin with at most one item, and it is the same one wherever these bytes stand.
@@ -37,9 +37,10 @@ pub fn bare_head_is_spelling()
     ensures ends { HeadEnds }
 {}
 
-/// The shortest head of an argument is a head of it, and the shortest spelling of an item spells it
-/// (RFC 8949 section 4.2.1).
+/// The shortest head of an argument is a head of it, and the shortest spelling of an item spells it, in no more
+/// bytes than any other (RFC 8949 section 4.2.1).
 pub fn shortest_is_spelling()
     ensures head { ShortestIsHead }
     ensures item { ShortestIsSpelled }
+    ensures least { ShortestIsLeast }
 {}
