@@ -14,3 +14,6 @@ pub use label::Label;
 pub use maps::{Form, check_map, read_map};
 pub use pair_check::check_pair;
 pub use pairs::Pairs;
+
+#[cfg(test)]
+mod tests;
