@@ -3,3 +3,4 @@ pub mod Labels
 pub mod MapSteps
 pub mod Buckets
 pub mod PairFaults
+pub mod LabelOrders
