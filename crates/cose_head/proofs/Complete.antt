@@ -168,7 +168,7 @@ parent_again depth l middle major argument p h e good no_string is_list =
     (head_again l middle major argument p (ap is_bad_simple (sym e) ∙ good) ∙ ap {B = Outcome Head} (λ g. Ok (g, middle)) (sym e))
     ∙ rw (no_string, is_list) refl
 
-simple_good : (n width : ℕ) → (width ≡ 1) ⊎ ((width ≡ 2) × (32 ≤ n)) → (width == 2 && nat_lt n 32) ≡ false
+pub simple_good : (n width : ℕ) → (width ≡ 1) ⊎ ((width ≡ 2) × (32 ≤ n)) → (width == 2 && nat_lt n 32) ≡ false
 simple_good n width (inl e) = rw e refl
 simple_good n width (inr e) = rw (e.0, le-ltb n 32 e.1) refl
 
@@ -176,7 +176,7 @@ simple_small : (n width : ℕ) → (width ≡ 1) ⊎ ((width ≡ 2) × (32 ≤ n
 simple_small n width (inl e) = rw e refl
 simple_small n width (inr e) = rw e.0 refl
 
-float_large : (width bytes : ℕ) → bytes ≡ 1 + width → (width ≡ 2) ⊎ ((width ≡ 4) ⊎ (width ≡ 8)) → (bytes == 2 ≡ false) × (nat_lt bytes 3 ≡ false)
+pub float_large : (width bytes : ℕ) → bytes ≡ 1 + width → (width ≡ 2) ⊎ ((width ≡ 4) ⊎ (width ≡ 8)) → (bytes == 2 ≡ false) × (nat_lt bytes 3 ≡ false)
 float_large width bytes e (inl w) = let f : bytes ≡ 3 = omega arith in rw f (refl, refl)
 float_large width bytes e (inr (inl w)) = let f : bytes ≡ 5 = omega arith in rw f (refl, refl)
 float_large width bytes e (inr (inr w)) = let f : bytes ≡ 9 = omega arith in rw f (refl, refl)

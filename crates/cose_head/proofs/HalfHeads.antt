@@ -22,7 +22,8 @@ use Rattle.cose_head.proofs.HeadCases.{head_cases}
 use Rattle.cose_head.proofs.Stable.{head_same}
 
 -- a head of which bytes are missing
-after_initial-more : (fault : Option Reason) (wanted initial : ℕ) (rest : List ℕ) (n : ℕ) → after_initial fault wanted initial rest ≡ More n → (0 < n) × (length rest + n ≡ wanted)
+after_initial-more : (fault : Option Reason) (wanted initial : ℕ) (rest : List ℕ) (n : ℕ)
+    → after_initial fault wanted initial rest ≡ More n → (0 < n) × (length rest + n ≡ wanted)
 after_initial-more (Some reason) wanted initial rest n e = cc
 after_initial-more None wanted initial rest n e =
     cond_both (nat_lt (length rest) wanted) (More (wanted - length rest)) (simple_checked (head_of initial (take wanted rest))) (λ step. step ≡ More n → (0 < n) × (length rest + n ≡ wanted))
@@ -61,18 +62,22 @@ half_is_short half e =
     omega arith
 
 -- all bytes are seen where the room holds them
-seen : (first : List ℕ) (room place : ℕ) (step : HeadStep) → bare_head first ≡ step → length first ≤ room → head (left_of first room place) ≡ of_seen (left_of first room place) step
-seen first room place step e fits = head_as_seen first room place ∙ ap (of_seen (left_of first room place)) (ap bare_head (take_all room first fits) ∙ e)
+seen : (first : List ℕ) (room place : ℕ) (step : HeadStep) → bare_head first ≡ step → length first ≤ room
+    → head (left_of first room place) ≡ of_seen (left_of first room place) step
+seen first room place step e fits = head_as_seen first room place
+    ∙ ap (of_seen (left_of first room place)) (ap bare_head (take_all room first fits) ∙ e)
 
 -- and a refusal at the head's place stays
-stays : (first : List ℕ) (room place : ℕ) (reason : Reason) → (reason ≡ Truncated → ⊥) → head (left_of first room place) ≡ refuse reason place
+stays : (first : List ℕ) (room place : ℕ) (reason : Reason) → (reason ≡ Truncated → ⊥)
+    → head (left_of first room place) ≡ refuse reason place
     → (bytes : List ℕ) → head (left_of (first ++ bytes) room place) ≡ refuse reason place
 stays first room place reason final e bytes =
     let settled : IsSettled (head (left_of first room place)) = rw e final in
     head_same bytes (left_of first room place) settled ∙ ap (more_after bytes) e
 
 -- the head is whole
-pub head-got : (first : List ℕ) (room : ℕ) (h : Head) (used : ℕ) → bare_head first ≡ Got h used → used ≡ length first → length first ≤ room
+pub head-got : (first : List ℕ) (room : ℕ) (h : Head) (used : ℕ) → bare_head first ≡ Got h used → used ≡ length first
+    → length first ≤ room
     → (length first ≡ h.width) × ((place : ℕ) → IsHeadAt first room place h)
 head-got first room h used e all fits =
     let wide : used ≡ h.width = got_width first h used (sym e) in
@@ -94,14 +99,16 @@ head-more first room n e fits place =
     seen first room place (More n) e (omega arith) ∙ rw (all, roomy) refl
 
 -- or it doesn't hold them
-pub head-past_room : (first : List ℕ) (room n : ℕ) → bare_head first ≡ More n → length first ≤ room → room - length first < n
+pub head-past_room : (first : List ℕ) (room n : ℕ) → bare_head first ≡ More n → length first ≤ room
+    → room - length first < n
     → (place : ℕ) (bytes : List ℕ) → head (left_of (first ++ bytes) room place) ≡ refuse PastRoom place
 head-past_room first room n e fits past place =
     let all : take room first ≡ first = take_all room first fits in
     let tight : nat_lt (room - length first) n ≡ true = lt-ltb _ _ past in
     stays first room place PastRoom (λ f. cc) (seen first room place (More n) e fits ∙ rw (all, tight) refl)
 
-pub head-one_more : (half : List ℕ) (byte room : ℕ) → is_half half ≡ true → length half ≤ room → room < length (half ++ byte ∷ [])
+pub head-one_more : (half : List ℕ) (byte room : ℕ) → is_half half ≡ true → length half ≤ room
+    → room < length (half ++ byte ∷ [])
     → (place : ℕ) (bytes : List ℕ) → head (left_of ((half ++ byte ∷ []) ++ bytes) room place) ≡ refuse PastRoom place
 head-one_more half byte room e fits past place bytes =
     let missing = half_is_more half e in
@@ -116,20 +123,23 @@ same_reason a b m n e = let same : record { reason = a; place = m } ≡ record {
 same_place : (a b : Reason) (m n : ℕ) → refuse {A = Head} a m ≡ refuse b n → m ≡ n
 same_place a b m n e = let same : record { reason = a; place = m } ≡ record { reason = b; place = n } = cc in ap (λ (r : Refusal). r.place) same
 
-not_truncated : (first : List ℕ) (room place : ℕ) (reason : Reason) → 0 < length first → head (left_of first room place) ≡ refuse reason place → reason ≡ Truncated → ⊥
+not_truncated : (first : List ℕ) (room place : ℕ) (reason : Reason) → 0 < length first
+    → head (left_of first room place) ≡ refuse reason place → reason ≡ Truncated → ⊥
 not_truncated first room place reason some =
     head_cases room place (λ answer. answer ≡ refuse reason place → reason ≡ Truncated → ⊥) (λ other final e t. final (same_reason other reason place place e ∙ t)) first
     (λ space e t. let at = same_place Truncated reason (place + length first) place e in absurd (omega arith))
     (λ h has e t. cc)
 
-pub head-fault : (first : List ℕ) (room : ℕ) (reason : Reason) → 0 < length first → bare_head first ≡ Fault reason → length first ≤ room
+pub head-fault : (first : List ℕ) (room : ℕ) (reason : Reason) → 0 < length first → bare_head first ≡ Fault reason
+    → length first ≤ room
     → (reason ≡ Truncated → ⊥) × ((place : ℕ) (bytes : List ℕ) → head (left_of (first ++ bytes) room place) ≡ refuse reason place)
 head-fault first room reason some e fits =
     let final : reason ≡ Truncated → ⊥ = not_truncated first room 0 reason some (seen first room 0 (Fault reason) e fits) in
     (final, λ place. stays first room place reason final (seen first room place (Fault reason) e fits))
 
 -- a half head is refused in any room that holds it
-pub head-half : (half : List ℕ) (room place : ℕ) → is_half half ≡ true → length half ≤ room → (refusal : Refusal) × (head (left_of half room place) ≡ Err refusal)
+pub head-half : (half : List ℕ) (room place : ℕ) → is_half half ≡ true → length half ≤ room
+    → (refusal : Refusal) × (head (left_of half room place) ≡ Err refusal)
 head-half half room place e fits =
     let missing = half_is_more half e in
     ⊎_elim

@@ -19,5 +19,7 @@ pub mod Complete
 pub mod BareHeads
 pub mod ShortHeads
 pub mod ShortItems
+pub mod ShortLeast
 pub mod ReadLaws
 pub mod Spans
+pub mod PlacedTrees

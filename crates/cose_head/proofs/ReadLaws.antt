@@ -49,7 +49,7 @@ truncated_has_room depth l refusal e short =
     s.ended short
 
 -- an item at the front of a list, in all of it
-whole_list : (part rest : List ℕ) (content : Item) → Spells part content →
+pub whole_list : (part rest : List ℕ) (content : Item) → Spells part content →
     IsSpelled (depth_of content) (left_of (part ++ rest) (length (part ++ rest)) 0) content (left_of rest (length rest) (length part))
 whole_list part rest content s =
     (record { part = part; whole = refl; room = length-append part rest; place = sym (zero-add (length part)); is_part = s }, omega arith)

@@ -131,7 +131,7 @@ all_sound depth one some each (suc n) l =
       omega arith,
     )))
 
-argument_widths : (low : ℕ) → (argument_length low ≡ 0)
+pub argument_widths : (low : ℕ) → (argument_length low ≡ 0)
     ⊎ ((argument_length low ≡ 1) ⊎ ((argument_length low ≡ 2) ⊎ ((argument_length low ≡ 4) ⊎ (argument_length low ≡ 8))))
 argument_widths low = grind (arith, nat_tests)
 

@@ -9,18 +9,20 @@ use Rattle.cose_head.specs.declared.reason.Reason.TheVariants.{Truncated, TooDee
 use Rattle.cose_head.specs.declared.refusal.Refusal.{Refusal}
 use Rattle.cose_head.specs.Reading.{Left, refuse, is_string, is_parent, child_count, head}
 use Rattle.cose_head.specs.HalfHead.{is_half, IsHeadAt}
+use Rattle.cose_head.specs.Measured.{left_of}
 use Rattle.cose_head.specs.Open.{nothing_open}
-use Rattle.cose_head.specs.Walking.{Walk, ends, walk, walk_all, walk_content, finish}
+use Rattle.cose_head.specs.Walking.{Walk, ends, walk, walk_all, walk_content, finish, refused}
 use Rattle.cose_head.specs.Walker.{go_on}
 use Rattle.cose_head.proofs.HalfHeads.{head-half}
 use Rattle.cose_head.proofs.Walks.{finish-refused, finish-open}
-use Rattle.cose_head.proofs.WalkedHeads.{refused, walk-refused, walk-leaf, walk-content, walk-content_past, walk-deep, walk-children_past, walk-children}
+use Rattle.cose_head.proofs.WalkedHeads.{walk-refused, walk-leaf, walk-content, walk-content_past, walk-deep, walk-children_past, walk-children}
 
 pub head-no_room : (l : Left) → l.room ≡ 0 → head l ≡ refuse PastRoom l.place
 unfolding head
 head-no_room l none = let e : (l.room == 0) ≡ true = grind (arith, nat_tests) in rw e refl
 
-pub head-no_bytes : (room place : ℕ) → (room ≡ 0 → ⊥) → head (record { bytes = []; room = room; place = place }) ≡ refuse Truncated (place + 0)
+pub head-no_bytes : (room place : ℕ) → (room ≡ 0 → ⊥)
+    → head (left_of [] room place) ≡ refuse Truncated (place + 0)
 unfolding head
 head-no_bytes room place some = let e : (room == 0) ≡ false = grind (arith, nat_tests) in rw e refl
 
@@ -28,7 +30,8 @@ head-no_bytes room place some = let e : (room == 0) ≡ false = grind (arith, na
 pub refused_head : (depth inner : ℕ) (counts : List ℕ) (l : Left) (refusal : Refusal) → head l ≡ Err refusal
     → (finish depth counts (walk inner l)).end ≡ Err refusal
 refused_head depth inner counts l refusal e =
-    ap (λ child. (finish depth counts child).end) (walk-refused inner l refusal e) ∙ finish-refused depth counts refusal nothing_open
+    ap (λ child. (finish depth counts child).end) (walk-refused inner l refusal e)
+    ∙ finish-refused depth counts refusal nothing_open
 
 -- an item of which no byte is there
 pub go_on-begins : (depth : ℕ) (counts half : List ℕ) (string : ℕ) (l : Left) → string ≡ 0 → length half ≡ 0
@@ -36,12 +39,13 @@ pub go_on-begins : (depth : ℕ) (counts half : List ℕ) (string : ℕ) (l : Le
 go_on-begins depth counts [] string l none no_half = rw none refl
 go_on-begins depth counts (byte ∷ half) string l none no_half = absurd (omega arith)
 
-pub waits-begins : (depth : ℕ) (counts half : List ℕ) (string room place : ℕ) → string ≡ 0 → length half ≡ 0 → (room ≡ 0 → ⊥)
-    → (go_on depth counts half string (record { bytes = []; room = room; place = place })).end ≡ refused Truncated (place + length half)
+pub waits-begins : (depth : ℕ) (counts half : List ℕ) (string room place : ℕ) → string ≡ 0 → length half ≡ 0
+    → (room ≡ 0 → ⊥)
+    → (go_on depth counts half string (left_of [] room place)).end ≡ refused Truncated (place + length half)
 waits-begins depth counts half string room place none no_half some =
-    let l : Left = record { bytes = []; room = room; place = place } in
+    let l : Left = left_of [] room place in
     ap (λ (w : Walk). w.end) (go_on-begins depth counts half string l none no_half)
-    ∙ refused_head depth (depth - length counts) counts l (record { reason = Truncated; place = place + 0 }) (head-no_bytes room place some)
+    ∙ refused_head depth (depth - length counts) counts l _ (head-no_bytes room place some)
     ∙ ap (λ n. refused Truncated (place + n)) (sym no_half)
 
 -- a string
@@ -58,71 +62,75 @@ pub go_on-content : (depth : ℕ) (counts half : List ℕ) (n : ℕ) (l : Left) 
 go_on-content depth counts half zero l some = absurd (omega arith)
 go_on-content depth counts half (suc n) l some = refl
 
-content_short : (n room place : ℕ) → 0 < n → (walk_content n (record { bytes = []; room = room; place = place })).end ≡ refused Truncated (place + 0)
+content_short : (n room place : ℕ) → 0 < n
+    → (walk_content n (left_of [] room place)).end ≡ refused Truncated (place + 0)
 content_short n room place some = let short : nat_lt 0 n ≡ true = lt-ltb _ _ some in rw short refl
 
-pub refused_child : (depth : ℕ) (counts : List ℕ) (child : Walk) (refusal : Refusal) → child.end ≡ Err refusal → (finish depth counts child).end ≡ Err refusal
+pub refused_child : (depth : ℕ) (counts : List ℕ) (child : Walk) (refusal : Refusal) → child.end ≡ Err refusal
+    → (finish depth counts child).end ≡ Err refusal
 refused_child depth counts child refusal e =
-    ap (λ end. (finish depth counts (record { end = end; opened = child.opened })).end) e ∙ finish-refused depth counts refusal child.opened
+    ap (λ end. (finish depth counts (record { end = end; opened = child.opened })).end) e
+    ∙ finish-refused depth counts refusal child.opened
 
 pub waits-content : (depth : ℕ) (counts half : List ℕ) (n room place : ℕ) → 0 < n → length half ≡ 0
-    → (go_on depth counts half n (record { bytes = []; room = room; place = place })).end ≡ refused Truncated (place + length half)
+    → (go_on depth counts half n (left_of [] room place)).end ≡ refused Truncated (place + length half)
 waits-content depth counts half n room place some no_half =
-    let l : Left = record { bytes = []; room = room; place = place } in
+    let l : Left = left_of [] room place in
     ap (λ (w : Walk). w.end) (go_on-content depth counts half n l some)
-    ∙ refused_child depth counts (walk_content n l) (record { reason = Truncated; place = place + 0 }) (content_short n room place some)
+    ∙ refused_child depth counts (walk_content n l) _ (content_short n room place some)
     ∙ ap (λ n. refused Truncated (place + n)) (sym no_half)
 
 -- a head that is whole, by what follows it
 pub head-leaf : (depth : ℕ) (counts first : List ℕ) (room place : ℕ) (h : Head) → IsHeadAt first room place h
     → is_string h ≡ false → is_parent h ≡ false
-    → (bytes : List ℕ) → go_on depth counts first 0 (record { bytes = bytes; room = room; place = place })
-    ≡ finish depth counts (ends (record { bytes = bytes; room = room - h.width; place = place + h.width }))
+    → (bytes : List ℕ) → go_on depth counts first 0 (left_of bytes room place)
+    ≡ finish depth counts (ends (left_of bytes (room - h.width) (place + h.width)))
 head-leaf depth counts first room place h is no_string no_parent bytes =
     ap (finish depth counts) (walk-leaf (depth - length counts) _ _ h (is bytes) no_string no_parent)
 
 pub head-content : (depth : ℕ) (counts first : List ℕ) (room place : ℕ) (h : Head) → IsHeadAt first room place h
     → is_string h ≡ true → h.arg ≤ room - h.width
-    → (bytes : List ℕ) → go_on depth counts first 0 (record { bytes = bytes; room = room; place = place })
-    ≡ finish depth counts (walk_content h.arg (record { bytes = bytes; room = room - h.width; place = place + h.width }))
+    → (bytes : List ℕ) → go_on depth counts first 0 (left_of bytes room place)
+    ≡ finish depth counts (walk_content h.arg (left_of bytes (room - h.width) (place + h.width)))
 head-content depth counts first room place h is string fits bytes =
     ap (finish depth counts) (walk-content (depth - length counts) _ _ h (is bytes) string fits)
 
 pub head-content_past : (depth : ℕ) (counts first : List ℕ) (room place : ℕ) (h : Head) → IsHeadAt first room place h
     → is_string h ≡ true → room - h.width < h.arg
-    → (bytes : List ℕ) → (go_on depth counts first 0 (record { bytes = bytes; room = room; place = place })).end ≡ refused PastRoom place
+    → (bytes : List ℕ) → (go_on depth counts first 0 (left_of bytes room place)).end ≡ refused PastRoom place
 head-content_past depth counts first room place h is string past bytes =
     refused_child depth counts _ _ (walk-content_past (depth - length counts) _ _ h (is bytes) string past)
 
 pub head-deep : (depth : ℕ) (counts first : List ℕ) (room place : ℕ) (h : Head) → IsHeadAt first room place h
     → is_string h ≡ false → is_parent h ≡ true → depth ≤ length counts
-    → (bytes : List ℕ) → (go_on depth counts first 0 (record { bytes = bytes; room = room; place = place })).end ≡ refused TooDeep place
+    → (bytes : List ℕ) → (go_on depth counts first 0 (left_of bytes room place)).end ≡ refused TooDeep place
 head-deep depth counts first room place h is no_string parent full bytes =
     let none : depth - length counts ≡ 0 = omega arith in
     rw none (refused_child depth counts _ _ (walk-deep _ _ h (is bytes) no_string parent))
 
 pub head-children_past : (depth : ℕ) (counts first : List ℕ) (room place : ℕ) (h : Head) → IsHeadAt first room place h
     → is_string h ≡ false → is_parent h ≡ true → length counts < depth → room - h.width < child_count h
-    → (bytes : List ℕ) → (go_on depth counts first 0 (record { bytes = bytes; room = room; place = place })).end ≡ refused PastRoom place
+    → (bytes : List ℕ) → (go_on depth counts first 0 (left_of bytes room place)).end ≡ refused PastRoom place
 head-children_past depth counts first room place h is no_string parent nests past bytes =
     let inner : depth - length counts ≡ suc (depth - length counts - 1) = omega arith in
     rw inner (refused_child depth counts _ _ (walk-children_past (depth - length counts - 1) _ _ h (is bytes) no_string parent past))
 
 pub head-children : (depth : ℕ) (counts first : List ℕ) (room place : ℕ) (h : Head) → IsHeadAt first room place h
     → is_string h ≡ false → is_parent h ≡ true → length counts < depth → child_count h ≤ room - h.width
-    → (bytes : List ℕ) → go_on depth counts first 0 (record { bytes = bytes; room = room; place = place })
-    ≡ finish depth counts (walk_all (depth - length counts - 1) (child_count h) (record { bytes = bytes; room = room - h.width; place = place + h.width }))
+    → (bytes : List ℕ) → go_on depth counts first 0 (left_of bytes room place)
+    ≡ finish depth counts (walk_all (depth - length counts - 1) (child_count h) (left_of bytes (room - h.width) (place + h.width)))
 head-children depth counts first room place h is no_string parent nests fits bytes =
     let inner : depth - length counts ≡ suc (depth - length counts - 1) = omega arith in
-    ap (λ d. finish depth counts (walk d (record { bytes = first ++ bytes; room = room; place = place }))) inner
+    ap (λ d. finish depth counts (walk d (left_of (first ++ bytes) room place))) inner
     ∙ ap (finish depth counts) (walk-children (depth - length counts - 1) _ _ h (is bytes) no_string parent fits)
 
 -- a byte of a string
 lt_suc : (a b : ℕ) → nat_lt (suc a) (suc b) ≡ nat_lt a b
 lt_suc a b = grind (arith, nat_tests)
 
-walk_content-byte : (n byte room place : ℕ) (bytes : List ℕ) → walk_content (suc n) (record { bytes = byte ∷ bytes; room = room; place = place })
-    ≡ walk_content n (record { bytes = bytes; room = room - 1; place = place + 1 })
+walk_content-byte : (n byte room place : ℕ) (bytes : List ℕ)
+    → walk_content (suc n) (left_of (byte ∷ bytes) room place)
+    ≡ walk_content n (left_of bytes (room - 1) (place + 1))
 walk_content-byte n byte room place bytes =
     let test = lt_suc (length bytes) n in
     let total : place + suc (length bytes) ≡ place + 1 + length bytes = omega arith in
@@ -132,39 +140,39 @@ walk_content-byte n byte room place bytes =
     rw (test, total, left, at, content) refl
 
 pub content_taken : (depth : ℕ) (counts half : List ℕ) (string byte room place : ℕ) (bytes : List ℕ) → 0 < string
-    → go_on depth counts half string (record { bytes = byte ∷ bytes; room = room; place = place })
-    ≡ finish depth counts (walk_content (string - 1) (record { bytes = bytes; room = room - 1; place = place + 1 }))
+    → go_on depth counts half string (left_of (byte ∷ bytes) room place)
+    ≡ finish depth counts (walk_content (string - 1) (left_of bytes (room - 1) (place + 1)))
 content_taken depth counts half zero byte room place bytes some = absurd (omega arith)
 content_taken depth counts half (suc n) byte room place bytes some =
     let less : n ≡ suc n - 1 = omega arith in
-    ap (finish depth counts) (walk_content-byte n byte room place bytes ∙ ap (λ m. walk_content m (record { bytes = bytes; room = room - 1; place = place + 1 })) less)
+    ap (finish depth counts) (walk_content-byte n byte room place bytes ∙ ap (λ m. walk_content m (left_of bytes (room - 1) (place + 1))) less)
 
 -- a byte of a head
 pub go_on-half : (depth : ℕ) (counts half : List ℕ) (string byte room place : ℕ) (bytes : List ℕ) → string ≡ 0
-    → go_on depth counts half string (record { bytes = byte ∷ bytes; room = room; place = place })
-    ≡ go_on depth counts (half ++ byte ∷ []) string (record { bytes = bytes; room = room; place = place })
+    → go_on depth counts half string (left_of (byte ∷ bytes) room place)
+    ≡ go_on depth counts (half ++ byte ∷ []) string (left_of bytes room place)
 go_on-half depth counts half string byte room place bytes none =
-    rw none (ap (λ b. finish depth counts (walk (depth - length counts) (record { bytes = b; room = room; place = place }))) (sym (append_assoc half (byte ∷ []) bytes)))
+    rw none (ap (λ b. finish depth counts (walk (depth - length counts) (left_of b room place))) (sym (append_assoc half (byte ∷ []) bytes)))
 
 pub waits-half : (depth : ℕ) (counts half : List ℕ) (string room place : ℕ) → string ≡ 0
-    → ((p : ℕ) → head (record { bytes = half; room = room; place = p }) ≡ refuse Truncated (p + length half))
-    → (go_on depth counts half string (record { bytes = []; room = room; place = place })).end ≡ refused Truncated (place + length half)
+    → ((p : ℕ) → head (left_of half room p) ≡ refuse Truncated (p + length half))
+    → (go_on depth counts half string (left_of [] room place)).end ≡ refused Truncated (place + length half)
 waits-half depth counts half string room place none waits =
-    rw (none, append-nil) (refused_head depth (depth - length counts) counts (record { bytes = half; room = room; place = place }) (record { reason = Truncated; place = place + length half }) (waits place))
+    rw (none, append-nil) (refused_head depth (depth - length counts) counts (left_of half room place) _ (waits place))
 
 pub refused-half : (depth : ℕ) (counts half : List ℕ) (string room place : ℕ) (reason : Reason) → string ≡ 0
-    → ((p : ℕ) (bytes : List ℕ) → head (record { bytes = half ++ bytes; room = room; place = p }) ≡ refuse reason p)
-    → (bytes : List ℕ) → (go_on depth counts half string (record { bytes = bytes; room = room; place = place })).end ≡ refused reason place
+    → ((p : ℕ) (bytes : List ℕ) → head (left_of (half ++ bytes) room p) ≡ refuse reason p)
+    → (bytes : List ℕ) → (go_on depth counts half string (left_of bytes room place)).end ≡ refused reason place
 refused-half depth counts half string room place reason none fault bytes =
-    rw none (refused_head depth (depth - length counts) counts (record { bytes = half ++ bytes; room = room; place = place }) (record { reason = reason; place = place }) (fault place bytes))
+    rw none (refused_head depth (depth - length counts) counts (left_of (half ++ bytes) room place) _ (fault place bytes))
 
 -- what is open where the bytes end
 pub go_on-open : (depth : ℕ) (counts half : List ℕ) (string room place : ℕ) → is_half half ≡ true → length half ≤ room
-    → (go_on depth counts half string (record { bytes = []; room = room; place = place })).opened ≡ record { items = length counts; content = string }
+    → (go_on depth counts half string (left_of [] room place)).opened ≡ record { items = length counts; content = string }
 go_on-open depth counts half zero room place is fits =
     let fault = head-half half room place is fits in
     let none : length counts + 0 ≡ length counts = omega arith in
-    rw append-nil (ap (λ child. (finish depth counts child).opened) (walk-refused (depth - length counts) (record { bytes = half; room = room; place = place }) fault.0 fault.1)
+    rw append-nil (ap (λ child. (finish depth counts child).opened) (walk-refused (depth - length counts) (left_of half room place) fault.0 fault.1)
     ∙ finish-open depth counts fault.0 nothing_open ∙ ap (λ n. record { items = n; content = 0 }) none)
 go_on-open depth counts half (suc n) room place is fits =
     let short : nat_lt 0 (suc n) ≡ true = lt-ltb _ _ (omega arith) in
@@ -175,10 +183,10 @@ go_on-open depth counts half (suc n) room place is fits =
 
 -- bytes that don't end the string
 pub go_on-short : (depth : ℕ) (counts half : List ℕ) (string room place : ℕ) (bytes : List ℕ) → length bytes < string
-    → (go_on depth counts half string (record { bytes = bytes; room = room; place = place })).end ≡ refused Truncated (place + length bytes)
+    → (go_on depth counts half string (left_of bytes room place)).end ≡ refused Truncated (place + length bytes)
 go_on-short depth counts half string room place bytes short =
-    let l : Left = record { bytes = bytes; room = room; place = place } in
+    let l : Left = left_of bytes room place in
     let test : nat_lt (length bytes) string ≡ true = lt-ltb _ _ short in
     let some : 0 < string = omega arith in
     ap (λ (w : Walk). w.end) (go_on-content depth counts half string l some)
-    ∙ refused_child depth counts (walk_content string l) (record { reason = Truncated; place = place + length bytes }) (rw test refl)
+    ∙ refused_child depth counts (walk_content string l) _ (rw test refl)

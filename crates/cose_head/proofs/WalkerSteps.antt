@@ -11,7 +11,7 @@ use Rattle.cose_head.specs.declared.walker.Step.TheVariants.{Going, Done, Fault}
 use Rattle.cose_head.specs.Measured.{left_of}
 use Rattle.cose_head.specs.Reading.{Left, Outcome, read}
 use Rattle.cose_head.specs.Open.{open_in}
-use Rattle.cose_head.specs.Walking.{Walk, end_of, walk}
+use Rattle.cose_head.specs.Walking.{Walk, end_of, walk, refused}
 use Rattle.cose_head.specs.Walker.{left_at, go_on, resume, HasPut, Answers, Leads, Passes}
 use Rattle.cose_head.proofs.Walks.{finish-none}
 use Rattle.cose_head.proofs.WalkSteps.{go_on-open, go_on-short}
@@ -24,8 +24,9 @@ leads_same before other (Ok Whole) w same leads = (leads.0, λ bytes. ap (λ (k 
 leads_same before other (Err reason) w same leads = (leads.0, λ bytes. ap (λ (k : Walk). k.end) (same bytes) ∙ leads.1 bytes)
 
 -- what is said of the counts and of what is left stays under other names
-pub passed : {D : ℕ} (of : List ℕ → Left → Walk) (old new : Walker D) (count : ℕ) → Passes old new count → (bytes : List ℕ)
-    → of old.counts.items (record { bytes = bytes; room = old.room - count; place = old.place + count }) ≡ of new.counts.items (left_at new bytes)
+pub passed : {D : ℕ} (of : List ℕ → Left → Walk) (old new : Walker D) (count : ℕ) → Passes old new count
+    → (bytes : List ℕ)
+    → of old.counts.items (left_of bytes (old.room - count) (old.place + count)) ≡ of new.counts.items (left_at new bytes)
 passed of old new count p bytes = rw (p.counts, p.room, p.place) refl
 
 -- reading by where it ends
@@ -54,7 +55,7 @@ module _ {D : ℕ} (old new : Walker D) (room : ℕ) (put : List ℕ) (byte : �
   answers_open leads taken =
       read_refused (read D (left_of (put ++ byte ∷ []) room 0)) (record { reason = Truncated; place = length (put ++ byte ∷ []) })
       (read_end ∙ ap (λ (w : Walk). w.end) (leads.0 []) ∙ leads.1.0
-      ∙ ap (λ n. Err (record { reason = Truncated; place = n })) (taken ∙ sym one_more))
+      ∙ ap (λ n. refused Truncated n) (taken ∙ sym one_more))
 
   pub answers_whole : Leads (λ bytes. resume old (byte ∷ bytes)) (Ok Whole) new
       → new.place + length new.half.items ≡ old.place + length old.half.items + 1 → new.place + new.room ≡ old.place + old.room
@@ -65,7 +66,7 @@ module _ {D : ℕ} (old new : Walker D) (room : ℕ) (put : List ℕ) (byte : �
       let total = one_more in
       let place : new.place ≡ length (put ++ byte ∷ []) = omega arith in
       let rest : new.room ≡ room - length (put ++ byte ∷ []) = omega arith in
-      read_whole (read D (left_of (put ++ byte ∷ []) room 0)) (record { bytes = []; room = room - length (put ++ byte ∷ []); place = length (put ++ byte ∷ []) })
+      read_whole (read D (left_of (put ++ byte ∷ []) room 0)) (left_of [] (room - length (put ++ byte ∷ [])) (length (put ++ byte ∷ [])))
       (read_end ∙ leads.1 [] ∙ rw (place, rest) refl)
 
   pub answers_fault : (reason : Reason) → Leads (λ bytes. resume old (byte ∷ bytes)) (Err reason) new
@@ -73,16 +74,19 @@ module _ {D : ℕ} (old new : Walker D) (room : ℕ) (put : List ℕ) (byte : �
   answers_fault reason leads =
       (read_refused (read D (left_of (put ++ byte ∷ []) room 0)) (record { reason = reason; place = new.place }) (read_end ∙ leads.1 []), leads.0)
 
-  pub put_rest : Leads (λ bytes. resume old (byte ∷ bytes)) (Ok Open) new → (bytes : List ℕ) → walk D (left_of ((put ++ byte ∷ []) ++ bytes) room 0) ≡ resume new bytes
+  pub put_rest : Leads (λ bytes. resume old (byte ∷ bytes)) (Ok Open) new → (bytes : List ℕ)
+      → walk D (left_of ((put ++ byte ∷ []) ++ bytes) room 0) ≡ resume new bytes
   put_rest leads bytes =
-      ap (λ all. walk D (left_of all room 0)) (append_assoc put (byte ∷ []) bytes) ∙ has.rest (byte ∷ bytes) ∙ leads.0 bytes
+      ap (λ all. walk D (left_of all room 0)) (append_assoc put (byte ∷ []) bytes) ∙ has.rest (byte ∷ bytes)
+      ∙ leads.0 bytes
 
-  pub put_taken : new.place + length new.half.items ≡ old.place + length old.half.items + 1 → new.place + length new.half.items ≡ length (put ++ byte ∷ [])
+  pub put_taken : new.place + length new.half.items ≡ old.place + length old.half.items + 1
+      → new.place + length new.half.items ≡ length (put ++ byte ∷ [])
   put_taken taken = taken ∙ sym one_more
 
 -- a walker that was put nothing
 pub new_rest : (depth room : ℕ) (counts half : List ℕ) → counts ≡ [] → half ≡ []
-    → (bytes : List ℕ) → walk depth (left_of bytes room 0) ≡ go_on depth counts half 0 (record { bytes = bytes; room = room; place = 0 })
+    → (bytes : List ℕ) → walk depth (left_of bytes room 0) ≡ go_on depth counts half 0 (left_of bytes room 0)
 new_rest depth room counts half no_counts no_half bytes =
     let all : depth ≡ depth - 0 = omega arith in
     rw (no_counts, no_half) (ap (λ d. walk d (left_of bytes room 0)) all ∙ sym (finish-none depth (walk (depth - 0) (left_of bytes room 0))))
@@ -91,17 +95,20 @@ new_rest depth room counts half no_counts no_half bytes =
 module _ {D : ℕ} (w : Walker D) (room : ℕ) (put : List ℕ) (has : HasPut room put w) where
   opened_so_far : open_in D (left_of put room 0) ≡ (resume w []).opened
   unfolding walk
-  opened_so_far = ap (λ all. open_in D (left_of all room 0)) (sym (append-nil put)) ∙ ap (λ (k : Walk). k.opened) (has.rest [])
+  opened_so_far = ap (λ all. open_in D (left_of all room 0)) (sym (append-nil put))
+      ∙ ap (λ (k : Walk). k.opened) (has.rest [])
 
   pub open_so_far : open_in D (left_of put room 0) ≡ record { items = length w.counts.items; content = w.string }
   unfolding resume
-  open_so_far = opened_so_far ∙ go_on-open D w.counts.items w.half.items w.string w.room w.place w.begun (omega (arith, w.fits))
+  open_so_far = opened_so_far
+      ∙ go_on-open D w.counts.items w.half.items w.string w.room w.place w.begun (omega (arith, w.fits))
 
   read_more : (more : List ℕ) → end_of (read D (left_of (put ++ more) room 0)) ≡ (resume w more).end
   read_more more = sym (end_of_walk D (left_of (put ++ more) room 0)) ∙ ap (λ (k : Walk). k.end) (has.rest more)
 
   -- fewer bytes than the string has left
-  pub early_content : (more : List ℕ) → length more < w.string → Answers room (put ++ more) Going (read D (left_of (put ++ more) room 0))
+  pub early_content : (more : List ℕ) → length more < w.string
+      → Answers room (put ++ more) Going (read D (left_of (put ++ more) room 0))
   unfolding resume
   early_content more short =
       let taken = has.taken in
@@ -110,12 +117,13 @@ module _ {D : ℕ} (w : Walker D) (room : ℕ) (put : List ℕ) (has : HasPut ro
       let place : w.place + length more ≡ length (put ++ more) = omega arith in
       read_refused (read D (left_of (put ++ more) room 0)) (record { reason = Truncated; place = length (put ++ more) })
       (read_more more ∙ go_on-short D w.counts.items w.half.items w.string w.room w.place more short
-      ∙ ap (λ n. Err (record { reason = Truncated; place = n })) place)
+      ∙ ap (λ n. refused Truncated n) place)
 
   -- no further byte
-  pub early_none : (more : List ℕ) → 0 < room → length more < 1 → Answers room (put ++ more) Going (read D (left_of (put ++ more) room 0))
+  pub early_none : (more : List ℕ) → 0 < room → length more < 1
+      → Answers room (put ++ more) Going (read D (left_of (put ++ more) room 0))
   early_none [] some short =
       let place : w.place + length w.half.items ≡ length (put ++ []) = has.taken ∙ ap length (sym (append-nil put)) in
       read_refused (read D (left_of (put ++ []) room 0)) (record { reason = Truncated; place = length (put ++ []) })
-      (read_more [] ∙ (has.waits some).0 ∙ ap (λ n. Err (record { reason = Truncated; place = n })) place)
+      (read_more [] ∙ (has.waits some).0 ∙ ap (λ n. refused Truncated n) place)
   early_none (byte ∷ more) some short = absurd (omega arith)

@@ -88,7 +88,8 @@ pub finish-taken_last : (depth : ℕ) (counts before : List ℕ) (l : Left) → 
     → finish depth counts (ends l) ≡ finish depth before (ends l)
 finish-taken_last depth counts before l e = rw e (finish-last depth before l)
 
-pub finish-taken_next : (depth : ℕ) (counts before after : List ℕ) (left : ℕ) (l : Left) → counts ≡ before ++ left ∷ [] → 0 < left
+pub finish-taken_next : (depth : ℕ) (counts before after : List ℕ) (left : ℕ) (l : Left) → counts ≡ before ++ left ∷ []
+    → 0 < left
     → after ≡ before ++ (left - 1) ∷ [] → finish depth counts (ends l) ≡ finish depth after (walk (depth - length after) l)
 finish-taken_next depth counts before after left l e some f =
     let total = length-append before ((left - 1) ∷ []) in
@@ -96,7 +97,8 @@ finish-taken_next depth counts before after left l e some f =
     let more : suc (left - 1) ≡ left = omega arith in
     rw (e, f, ← inner) (ap (λ n. finish depth (before ++ n ∷ []) (ends l)) (sym more) ∙ finish-next depth before (left - 1) l)
 
-pub finish-taken_all : (depth : ℕ) (counts : List ℕ) (l : Left) → (0 < length counts → ⊥) → finish depth counts (ends l) ≡ ends l
+pub finish-taken_all : (depth : ℕ) (counts : List ℕ) (l : Left) → (0 < length counts → ⊥)
+    → finish depth counts (ends l) ≡ ends l
 finish-taken_all depth [] l none = finish-none depth (ends l)
 finish-taken_all depth (n ∷ counts) l none = absurd (none (omega arith))
 
@@ -104,7 +106,8 @@ finish-taken_all depth (n ∷ counts) l none = absurd (none (omega arith))
 pub finish-parent : (depth : ℕ) (counts : List ℕ) (n : ℕ) (l : Left)
     → finish depth (counts ++ n ∷ []) (ends l) ≡ finish depth counts (walk_all (depth - length counts - 1) n l)
 finish-parent depth counts n l =
-    finish-append depth counts (n ∷ []) (ends l) ∙ ap (finish depth counts) (finish-one (depth - length counts) n (ends l))
+    finish-append depth counts (n ∷ []) (ends l)
+    ∙ ap (finish depth counts) (finish-one (depth - length counts) n (ends l))
 
 -- the open items around a child that isn't whole
 pub finish-open : (depth : ℕ) (counts : List ℕ) (refusal : Refusal) (opened : Open)

@@ -1,10 +1,13 @@
--- Reading on examples, by computing.
-use Rattle.std.proofs.Common.{◌≡◌, ℕ, List, [], ◌∷◌, Ok, Err, Result, refl}
+-- Reading and shortest spellings on examples, by computing.
+use Rattle.std.proofs.Common.{◌≡◌, ℕ, List, [], ◌∷◌, ◌++◌, Ok, Err, Result, refl}
+use Rattle.std.specs.Prelude.{codes}
 use Rattle.cose_head.specs.declared.item.Span.{Span}
 use Rattle.cose_head.specs.declared.reason.Reason.{Reason}
 use Rattle.cose_head.specs.declared.reason.Reason.TheVariants.{Truncated, Reserved, Indefinite, BadSimple, TooDeep, PastRoom}
 use Rattle.cose_head.specs.declared.refusal.Refusal.{Refusal}
-use Rattle.cose_head.specs.Item.{depth_of}
+use Rattle.cose_head.specs.Head.{shortest_head}
+use Rattle.cose_head.specs.Item.{unsigned, negative, byte_string, text_string, array, map, tag, no_items, item, depth_of}
+use Rattle.cose_head.specs.Shortest.{shortest}
 use Rattle.cose_head.specs.Reading.{read, head, span_of}
 
 unfoldable answer : List ℕ → ℕ → ℕ → Result Span Refusal
@@ -100,3 +103,15 @@ children_past_room = refl
 pairs_past_room : answer (0xbb ∷ 0x80 ∷ 0 ∷ 0 ∷ 0 ∷ 0 ∷ 0 ∷ 0 ∷ 0 ∷ []) 65535 1 ≡ fault PastRoom 0
 unfolding answer
 pairs_past_room = refl
+
+short_tag : shortest (tag 18 (array no_items)) ≡ 0xd2 ∷ 0x80 ∷ []
+unfolding shortest shortest_head
+short_tag = refl
+
+short_map : shortest (map (item (negative 255) (item (unsigned 1000) no_items))) ≡ 0xa1 ∷ 0x38 ∷ 0xff ∷ 0x19 ∷ 3 ∷ 0xe8 ∷ []
+unfolding shortest shortest_head
+short_map = refl
+
+short_texts : shortest (array (item (text_string (codes "MAC0")) (item (byte_string []) no_items))) ≡ 0x82 ∷ 0x64 ∷ (codes "MAC0" ++ 0x40 ∷ [])
+unfolding shortest shortest_head
+short_texts = refl

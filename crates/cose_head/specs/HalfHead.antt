@@ -20,7 +20,8 @@ is_half bytes = is_more (bare_head bytes)
 
 -- These bytes are the head of the item at this place, whatever follows them.
 abbrev pub IsHeadAt : List ℕ → ℕ → ℕ → Head → Type 0
-IsHeadAt first room place h = (bytes : List ℕ) → head (left_of (first ++ bytes) room place) ≡ Ok (h, left_of bytes (room - h.width) (place + h.width))
+IsHeadAt first room place h = (bytes : List ℕ)
+    → head (left_of (first ++ bytes) room place) ≡ Ok (h, left_of bytes (room - h.width) (place + h.width))
 
 -- What the first bytes of an item come to, whatever follows them: its head, nothing yet, or a fault.
 abbrev pub HeadSoFar : List ℕ → ℕ → Result (Option Head) Reason → Type 0

@@ -8,6 +8,7 @@ use Rattle.cose_head.specs.declared.head.HeadStep.{HeadStep}
 use Rattle.cose_head.specs.declared.head.HeadStep.TheVariants.{Got, More, Fault}
 
 -- The high three bits of an initial byte are the major type, the low five are the additional information.
+-- Of a number that is no byte its low eight bits count.
 abbrev pub major_of : ℕ → ℕ
 major_of initial = initial / 32 % 8
 

@@ -12,3 +12,4 @@ pub mod Open
 pub mod Walking
 pub mod Walker
 pub mod Laws
+pub mod PlacedLaws

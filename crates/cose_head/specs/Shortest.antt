@@ -1,6 +1,6 @@
 -- The spelling of an item in which every head has the least width that holds its argument (RFC 8949 section 4.2.1,
 -- RFC 9052 section 9). It is meant for items without simple values and floats, which structures to be signed don't have.
-use Rattle.std.specs.Prelude.{◌≡◌, ℕ, ◌*◌, ◌/◌, ◌<◌, ◌^◌, List, [], ◌++◌, length}
+use Rattle.std.specs.Prelude.{◌≡◌, ℕ, ◌*◌, ◌/◌, ◌<◌, ◌≤◌, ◌^◌, List, [], ◌++◌, length, get_or}
 use Rattle.cose_head.specs.Head.{shortest_head}
 use Rattle.cose_head.specs.Item.{Item, unsigned, negative, byte_string, text_string, array, map, tag, simple, float, Items, no_items, item, count_of, Spells}
 
@@ -39,3 +39,10 @@ unfoldable mutual
 
 abbrev pub ShortestIsSpelled : Type 0
 ShortestIsSpelled = (content : Item) → HasShortest content → Spells (shortest content) content
+
+abbrev pub AreBytes : List ℕ → Type 0
+AreBytes bytes = (i : ℕ) → get_or bytes i 0 < 2 ^ 8
+
+-- And no bytes that spell it are fewer.
+abbrev pub ShortestIsLeast : Type 0
+ShortestIsLeast = (content : Item) (bytes : List ℕ) → AreBytes bytes → Spells bytes content → length (shortest content) ≤ length bytes

@@ -9,8 +9,8 @@ use Rattle.cose_head.specs.declared.walker.Step.{Step}
 use Rattle.cose_head.specs.declared.walker.Step.TheVariants.{Going, Done, Fault}
 use Rattle.cose_head.specs.Item.{Item}
 use Rattle.cose_head.specs.Measured.{left_of}
-use Rattle.cose_head.specs.Reading.{Left, Outcome}
-use Rattle.cose_head.specs.Walking.{Walk, walk, finish, rest_of_item}
+use Rattle.cose_head.specs.Reading.{Left, Outcome, refuse}
+use Rattle.cose_head.specs.Walking.{Walk, refused, walk, finish, rest_of_item}
 
 -- The last answer.
 abbrev pub last_step : {D : ℕ} → Walker D → Step
@@ -28,7 +28,7 @@ resume {D} w bytes = go_on D w.counts.items w.half.items w.string (left_at w byt
 
 -- The bytes that were put end too early, and there is room for a further byte.
 abbrev pub Waits : {D : ℕ} → Walker D → Type 0
-Waits w = ((resume w []).end ≡ Err (record { reason = Truncated; place = w.place + length w.half.items })) × (length w.half.items < w.room)
+Waits w = ((resume w []).end ≡ refused Truncated (w.place + length w.half.items)) × (length w.half.items < w.room)
 
 -- Some bytes were passed over, and nothing else has changed.
 pub record Passes {D : ℕ} (old new : Walker D) (count : ℕ) : Type 0 where
@@ -48,7 +48,7 @@ pub record Stands {D : ℕ} (rest at : ℕ) (w : Walker D) : Type 0 where
 abbrev pub Leads : {D : ℕ} → (List ℕ → Walk) → Result Progress Reason → Walker D → Type 0
 Leads before (Ok Open) w = ((bytes : List ℕ) → before bytes ≡ resume w bytes) × Waits w
 Leads before (Ok Whole) w = (length w.half.items ≡ 0) × ((bytes : List ℕ) → (before bytes).end ≡ Ok (left_at w bytes))
-Leads before (Err reason) w = (reason ≡ Truncated → ⊥) × ((bytes : List ℕ) → (before bytes).end ≡ Err (record { reason = reason; place = w.place }))
+Leads before (Err reason) w = (reason ≡ Truncated → ⊥) × ((bytes : List ℕ) → (before bytes).end ≡ refused reason w.place)
 
 -- The walker was put these bytes, and goes on: with whatever bytes follow, reading them all is what is left after them.
 pub record HasPut (room : ℕ) (put : List ℕ) {D : ℕ} (w : Walker D) : Type 0 where
@@ -60,7 +60,7 @@ pub record HasPut (room : ℕ) (put : List ℕ) {D : ℕ} (w : Walker D) : Type 
 
 -- Which answer of reading a step tells.
 abbrev pub Answers : ℕ → List ℕ → Step → Outcome Item → Type 0
-Answers room bytes Going read = read ≡ Err (record { reason = Truncated; place = length bytes })
+Answers room bytes Going read = read ≡ refuse Truncated (length bytes)
 Answers room bytes Done read = (found : Item) × (read ≡ Ok (found, left_of [] (room - length bytes) (length bytes)))
 Answers room bytes (Fault refusal) read = (read ≡ Err refusal) × (refusal.reason ≡ Truncated → ⊥)
 

@@ -1,6 +1,7 @@
 -- What is left to be read of an item of which some bytes were read.
 use Rattle.std.specs.Prelude.{◌≡◌, ℕ, zero, suc, ◌+◌, ◌-◌, true, false, List, [], ◌∷◌, ◌++◌, length, Result, Ok, Err, nat_lt, if◌then◌else◌}
 use Rattle.cose_head.specs.declared.head.Head.{Head}
+use Rattle.cose_head.specs.declared.reason.Reason.{Reason}
 use Rattle.cose_head.specs.declared.reason.Reason.TheVariants.{Truncated}
 use Rattle.cose_head.specs.declared.refusal.Refusal.{Refusal}
 use Rattle.cose_head.specs.declared.walker.Follows.{Follows}
@@ -8,6 +9,9 @@ use Rattle.cose_head.specs.declared.walker.Follows.TheVariants.{Nothing, Content
 use Rattle.cose_head.specs.Measured.{left_of}
 use Rattle.cose_head.specs.Open.{Open, nothing_open, in_parent, open_all, open_in}
 use Rattle.cose_head.specs.Reading.{Left, Outcome, after, is_string, is_parent, child_count, read, read_all}
+
+abbrev pub refused : Reason → ℕ → Result Left Refusal
+refused reason place = Err (record { reason = reason; place = place })
 
 -- Reading without the value: where the item ends, or why it is refused, and what is open where the bytes end.
 pub record Walk : Type 0 where
@@ -30,7 +34,7 @@ walk_all depth n l = record { end = end_of (read_all (read depth) n l); opened =
 -- A string of which n bytes are to come.
 abbrev pub walk_content : ℕ → Left → Walk
 walk_content n l = record {
-  end = if nat_lt (length l.bytes) n then Err (record { reason = Truncated; place = l.place + length l.bytes }) else Ok (after n l);
+  end = if nat_lt (length l.bytes) n then refused Truncated (l.place + length l.bytes) else Ok (after n l);
   opened = record { items = 0; content = n - length l.bytes };
 }
 

@@ -3,7 +3,8 @@
 //! `read` is how an item is read, `Spells` how bytes spell one, `bare_head` how a head outside an item is read.
 
 ghost use Rattle.cose_head.specs.Laws.{ReadIsSpelled, OneItem, ReadElsewhere, ReadStays, RefusedIsNoItem, ReadSteps, ReadAddsUp, TruncatedHasRoom, HeadIsSpelled, HeadStays, HeadWants, HeadEnds, ShortestIsHead};
-ghost use Rattle.cose_head.specs.Shortest.{ShortestIsSpelled};
+ghost use Rattle.cose_head.specs.PlacedLaws.{LookIsOfTree, HeadIsOfItem, ArrayHasItsElements, MapHasItsPairs, OthersHaveNone};
+ghost use Rattle.cose_head.specs.Shortest.{ShortestIsSpelled, ShortestIsLeast};
 
 /// What `read` accepts is exactly what the grammar spells, within the room and the nesting (RFC 8949 section 3).
 /// So bytes begin with at most one item, and it is the same one wherever these bytes stand.
@@ -37,9 +38,24 @@ pub fn bare_head_is_spelling()
     ensures ends { HeadEnds }
 {}
 
-/// The shortest head of an argument is a head of it, and the shortest spelling of an item spells it
-/// (RFC 8949 section 4.2.1).
+/// The shortest head of an argument is a head of it, and the shortest spelling of an item spells it, in no more
+/// bytes than any other (RFC 8949 section 4.2.1).
 pub fn shortest_is_spelling()
     ensures head { ShortestIsHead }
     ensures item { ShortestIsSpelled }
+    ensures least { ShortestIsLeast }
+{}
+
+/// What the getters of an `ItemRef` say of the bytes of an item is what the item's tree is at its root.
+pub fn look_is_of_tree()
+    ensures look { LookIsOfTree }
+    ensures head { HeadIsOfItem }
+{}
+
+/// The children that `Items` gives of an item are those of its tree, in their order, none left out: the bytes of each,
+/// read alone, are exactly its tree. They stand one after another behind the item's head, and end where the item ends.
+pub fn children_are_of_tree()
+    ensures array { ArrayHasItsElements }
+    ensures map { MapHasItsPairs }
+    ensures others { OthersHaveNone }
 {}

@@ -52,8 +52,8 @@ fn follows_head(head: Head) -> Follows
     }
 }
 
-/// Goes on, where an item has ended, to the next child of the innermost open item that has one, and closes the open items
-/// that have none. It says whether there is such a child.
+/// Goes on, where an item has ended, to the next child of the innermost open item that has one, and closes the
+/// open items that have none. It says whether there is such a child.
 fn next_child<const D: usize>(counts: &mut ArrayVec<usize, D>) -> bool
     ensures { (l : Left) → finish D counts.old.items (ends l) ≡
         (if result then finish D counts.new.items (walk (D - length counts.new.items) l) else ends l) }
@@ -126,7 +126,8 @@ impl<const D: usize> Walker<D> {
             → result ≡ max 1 (open_in D (left_of bytes room 0)).content }
         // Fewer further bytes neither end the item nor refuse it.
         ensures early { (room : ℕ) (bytes more : List ℕ) → HasPut room bytes self.now
-            → 0 < room → length more < result → Answers room (bytes ++ more) Step.Going (read D (left_of (bytes ++ more) room 0)) }
+            → 0 < room → length more < result
+            → Answers room (bytes ++ more) Step.Going (read D (left_of (bytes ++ more) room 0)) }
         ensures fits { (room : ℕ) (bytes : List ℕ) → HasPut room bytes self.now
             → 0 < room → length bytes + result ≤ room }
         ensures settled { (last_step self.now ≡ Step.Going → ⊥) → result ≡ 0 }
@@ -151,7 +152,8 @@ impl<const D: usize> Walker<D> {
 
     /// Takes the next byte of the item.
     ///
-    /// The answer is that of reading all bytes that were put. Once the item is whole or refused, it is the same again and nothing changes.
+    /// The answer is that of reading all bytes that were put. Once the item is whole or refused, it is the same
+    /// again, and nothing changes.
     pub fn put(&mut self, byte: u8) -> Step
         ensures answer { (room : ℕ) (bytes : List ℕ) → HasPut room bytes self.old
             → Answers room (bytes ++ byte ∷ []) result (read D (left_of (bytes ++ byte ∷ []) room 0)) }
@@ -266,7 +268,8 @@ impl<const D: usize> Walker<D> {
         requires string { self.old.string ≡ 0 }
         requires half { length self.old.half.items ≡ 0 }
         requires nesting { length self.old.counts.items < D }
-        ensures leads { Leads (λ bytes. finish D self.old.counts.items (walk_all (D - length self.old.counts.items - 1) count (left_at self.old bytes))) result self.new }
+        ensures leads { let inner = D - length self.old.counts.items - 1 in
+            Leads (λ bytes. finish D self.old.counts.items (walk_all inner count (left_at self.old bytes))) result self.new }
         ensures stands { Stands self.old.room self.old.place self.new }
     {
         self.counts.push(count);

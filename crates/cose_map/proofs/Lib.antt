@@ -2,6 +2,7 @@ pub mod WorkedBuckets
 pub mod Labels
 pub mod MapSteps
 pub mod Buckets
+pub mod PairFaults
 pub mod WorkedKeys
 pub mod KeyLooks
 pub mod KeyItems

@@ -32,15 +32,21 @@ critical_faults protected understood element (Some name) =
 abbrev pub element_faults : List Pair → List LabelValue → Placed → List Refusal
 element_faults protected understood element = critical_faults protected understood element (label_of element)
 
-abbrev pub elements : Option (List Placed) → List Placed
-elements None = []
-elements (Some items) = items
+abbrev pub all_element_faults : List Pair → List LabelValue → Option (List Placed) → List Refusal
+all_element_faults protected understood None = []
+all_element_faults protected understood (Some elements) = flat_map (element_faults protected understood) elements
+
+abbrev pub crit_faults : List Pair → List LabelValue → List Refusal
+crit_faults protected understood = all_element_faults protected understood (crit_of protected)
 
 -- A pair of the unprotected bucket: its label isn't in the protected one too, and it isn't crit.
+abbrev pub label_faults : List Pair → LabelValue → ℕ → List Refusal
+label_faults protected name place =
+    fault_if (has_label name protected) BothBuckets place ++
+    fault_if (same_label name crit) CritUnprotected place
+
 abbrev pub unprotected_faults : List Pair → Pair → List Refusal
-unprotected_faults protected pair =
-    fault_if (has_label pair.name protected) BothBuckets pair.label.place ++
-    fault_if (same_label pair.name crit) CritUnprotected pair.label.place
+unprotected_faults protected pair = label_faults protected pair.name pair.label.place
 
 -- IV and Partial IV, in whichever buckets, at the place after both.
 abbrev pub in_either : LabelValue → List Pair → List Pair → Bool
@@ -51,7 +57,7 @@ both_ivs protected unprotected = in_either iv protected unprotected && in_either
 
 unfoldable pub pair_faults : List Pair → List Pair → List LabelValue → ℕ → List Refusal
 pair_faults protected unprotected understood after =
-    flat_map (element_faults protected understood) (elements (crit_of protected)) ++
+    crit_faults protected understood ++
     (flat_map (unprotected_faults protected) unprotected ++
     fault_if (both_ivs protected unprotected) BothIvs after)
 

@@ -1,5 +1,5 @@
 -- Labels and pairs of the code, without where they lie in memory.
-use Rattle.std.specs.Prelude.{Result, Ok, Err}
+use Rattle.std.specs.Prelude.{Option, Some, None, Result, Ok, Err}
 use Rattle.cose_head.specs.declared.item_ref.ItemRef.{ItemRef}
 use Rattle.cose_head.specs.declared.refusal.Refusal.{Refusal}
 use Rattle.cose_head.specs.ItemRef.{placed}
@@ -24,3 +24,7 @@ seen_by view (Err refusal) = Err refusal
 abbrev pub fault_of : {A : Type 0} → Read A → Read (Unit {0})
 fault_of (Ok x) = Ok tt
 fault_of (Err refusal) = Err refusal
+
+abbrev pub refusal_in : {A : Type 0} → Read A → Option Refusal
+refusal_in (Ok x) = None
+refusal_in (Err refusal) = Some refusal

@@ -5,6 +5,7 @@ ghost use Rattle.cose_head.specs.ItemRef.{placed};
 ghost use Rattle.cose_head.specs.Items.{items_left};
 ghost use Rattle.cose_map.specs.Bucket.{bucket_of, value_of, alg_of, kid_of, crit_of};
 ghost use Rattle.cose_map.specs.Buckets.{bucket_pairs};
+ghost use Rattle.cose_map.specs.Maps.{has_label};
 ghost use Rattle.cose_map.specs.Pairs.{pairs_left};
 ghost use Rattle.cose_map.specs.Views.{label_value, seen_by};
 
@@ -52,6 +53,13 @@ impl<'a> Bucket<'a> {
             }
         }
         None
+    }
+
+    /// Whether a label stands in the bucket.
+    pub fn has(&self, label: &Label<'_>) -> bool
+        ensures { result ≡ has_label (label_value label.now) (bucket_pairs self.now) }
+    {
+        self.get(label).is_some()
     }
 
     /// The algorithm.

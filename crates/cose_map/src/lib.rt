@@ -15,6 +15,7 @@ mod maps;
 mod material;
 mod members;
 mod ops;
+mod pair_check;
 mod pairs;
 
 pub use bucket::Bucket;
@@ -26,4 +27,5 @@ pub use label::Label;
 pub use maps::{Form, check_map, read_map};
 pub use material::{Material, Y};
 pub use ops::Ops;
+pub use pair_check::check_pair;
 pub use pairs::Pairs;

@@ -9,7 +9,8 @@ use Rattle.cose_head.specs.declared.head.HeadStep.TheVariants.{Got, More, Fault}
 use Rattle.cose_head.specs.Head.{IsMore, bare_head}
 use Rattle.cosecmd.specs.declared.first.machine.Machine.{Machine}
 use Rattle.cosecmd.specs.declared.first.machine.Machine.TheVariants as phases
-use Rattle.cosecmd.specs.FirstVerdict.{front, payload_head, past_payload_head, payload, tag_head, past_tag_head, tag, comparison}
+use Rattle.cose_map.specs.KeySets.{keys}
+use Rattle.cosecmd.specs.FirstVerdict.{front, key_choice, past_payload_head, payload, tag_head, past_tag_head, tag, comparison}
 use Rattle.cosecmd.specs.Machine.{Feeds, left_of, payload_byte, place_of}
 use Rattle.cosecmd.proofs.PhaseLemmas.{with_string-whole}
 use Rattle.cosecmd.specs.Phases.{Phase, past_head, unsettled, with_front, with_head, with_string}
@@ -33,7 +34,7 @@ with_front-short : (expected : List ℕ) (next : Phase) (place p : ℕ) → p < 
 with_front-short expected next place p lt = rw (drop-cons expected p 0 lt) refl
 
 pub unsettled_here : (key so_far : List ℕ) (machine : Machine) → Feeds key so_far machine → left_of key so_far machine [] ≡ unsettled so_far (place_of machine)
-unsettled_here key so_far (phases.Front f) h = rw h.none (with_front-short front (payload_head key) f.position f.position f.within)
+unsettled_here key so_far (phases.Front f) h = rw h (with_front-short front (key_choice (keys f.keys)) f.position f.position f.within)
 unsettled_here key so_far (phases.PayloadHead p) h = rw h.none (with_head-half [] (past_payload_head key) (length front) p.held.items h.half)
 unsettled_here key so_far (phases.Payload p) h =
     let short : length so_far < p.length = omega (arith, h.count, p.some_left) in

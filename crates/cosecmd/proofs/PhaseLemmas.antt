@@ -18,9 +18,9 @@ use Rattle.cosecmd.specs.Phases.{Phase, Reading, refused, with_front, with_head,
 
 -- ---- what a step comes to goes by the reading alone
 
-pub Continues-along : (key so_far : List ℕ) (progress : Progress) (new old : List ℕ → Reading) → ((bytes : List ℕ) → new bytes ≡ old bytes) → Continues key so_far progress old → Continues key so_far progress new
-Continues-along key so_far (Open machine) new old same h = record { feeds = h.feeds; left = λ bytes. same bytes ∙ h.left bytes }
-Continues-along key so_far (Settled verdict) new old same h = λ bytes. same bytes ∙ h bytes
+pub Continues-along : (so_far : List ℕ) (progress : Progress) (new old : List ℕ → Reading) → ((bytes : List ℕ) → new bytes ≡ old bytes) → Continues so_far progress old → Continues so_far progress new
+Continues-along so_far (Open machine) new old same h = record { key = h.key; feeds = h.feeds; left = λ bytes. same bytes ∙ h.left bytes }
+Continues-along so_far (Settled verdict) new old same h = λ bytes. same bytes ∙ h bytes
 
 -- ---- fixed bytes
 

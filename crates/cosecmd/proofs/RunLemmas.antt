@@ -5,6 +5,7 @@ use Rattle.std.specs.Io.KnownBytes.{Appends, Consumes, IsAtEnd}
 use Rattle.std.proofs.Math.Seq.{take-append_seam}
 use Rattle.std.proofs.lemmas.Bool.{cases_lt}
 use Rattle.std.proofs.lemmas.List.{append-nil, take-append-le}
+use Rattle.cose_map.specs.KeyValue.{KeyValue}
 use Rattle.cosecmd.specs.declared.first.machine.Machine.{Machine}
 use Rattle.cosecmd.specs.declared.first.machine.Progress.{Progress}
 use Rattle.cosecmd.specs.declared.first.machine.Progress.TheVariants.{Open, Settled}
@@ -62,22 +63,22 @@ Appends-none (Some xs) = sym (append-nil xs)
 
 -- ---- a run so far
 
-pub record Along (key : List ℕ) (come come_now contents contents_now : Option (List ℕ)) (sure sure_now : ℕ) (machine : Machine) : Type 0 where
+pub record Along (keys : List KeyValue) (come come_now contents contents_now : Option (List ℕ)) (sure sure_now : ℕ) (machine : Machine) : Type 0 where
   pub taken : List ℕ
   pub so_far : List ℕ
   pub bytes : Consumes come come_now taken
-  pub stands : StandsFor key so_far machine (λ bytes. first_reading key (taken ++ bytes))
-  pub none_after_end : (n : ℕ) → n < length taken → (first_reading key (take n taken)).settled ≡ false
+  pub stands : StandsFor so_far machine (λ bytes. first_reading keys (taken ++ bytes))
+  pub none_after_end : (n : ℕ) → n < length taken → (first_reading keys (take n taken)).settled ≡ false
   pub payload : Appends contents contents_now so_far
   pub promise : sure ≤ sure_now + length so_far
 
 -- the bytes so far don't settle the verdict
-pub reading_here : (key taken so_far : List ℕ) (machine : Machine) → StandsFor key so_far machine (λ bytes. first_reading key (taken ++ bytes)) → first_reading key taken ≡ unsettled so_far (place_of machine)
-reading_here key taken so_far machine h = ap (first_reading key) (sym (append-nil taken)) ∙ h.left [] ∙ unsettled_here key so_far machine h.feeds
+pub reading_here : (keys : List KeyValue) (taken so_far : List ℕ) (machine : Machine) → StandsFor so_far machine (λ bytes. first_reading keys (taken ++ bytes)) → first_reading keys taken ≡ unsettled so_far (place_of machine)
+reading_here keys taken so_far machine h = ap (first_reading keys) (sym (append-nil taken)) ∙ h.left [] ∙ unsettled_here h.key so_far machine h.feeds
 
 -- nor did fewer, where one byte more is taken
-pub none_after_end-more : (key taken : List ℕ) (byte : ℕ) → (first_reading key taken).settled ≡ false → ((n : ℕ) → n < length taken → (first_reading key (take n taken)).settled ≡ false) → (n : ℕ) → n < length (taken ++ byte ∷ []) → (first_reading key (take n (taken ++ byte ∷ []))).settled ≡ false
-none_after_end-more key taken byte here before n lt =
+pub none_after_end-more : (keys : List KeyValue) (taken : List ℕ) (byte : ℕ) → (first_reading keys taken).settled ≡ false → ((n : ℕ) → n < length taken → (first_reading keys (take n taken)).settled ≡ false) → (n : ℕ) → n < length (taken ++ byte ∷ []) → (first_reading keys (take n (taken ++ byte ∷ []))).settled ≡ false
+none_after_end-more keys taken byte here before n lt =
     elim (cases_lt n (length taken)) [
       | inl earlier ↦ (let within : n ≤ length taken = omega arith in rw take-append-le (before n earlier))
       | inr later ↦ (
@@ -85,21 +86,21 @@ none_after_end-more key taken byte here before n lt =
           rw (last, take-append_seam) here)
     ]
 
-pub at_start : (key : List ℕ) (come contents : Option (List ℕ)) (sure : ℕ) (machine : Machine) → StandsFor key [] machine (first_reading key) → Along key come come contents contents sure sure machine
-at_start key come contents sure machine stands = record {
+pub at_start : (keys : List KeyValue) (come contents : Option (List ℕ)) (sure : ℕ) (machine : Machine) → StandsFor [] machine (first_reading keyss) → Along keys come come contents contents sure sure machine
+at_start keys come contents sure machine stands = record {
   taken = [];
   so_far = [];
   bytes = Consumes-none come;
-  stands = record { feeds = stands.feeds; left = stands.left };
+  stands = record { key = stands.key; feeds = stands.feeds; left = stands.left };
   none_after_end = λ n lt. absurd (omega arith);
   payload = Appends-none contents;
   promise = omega arith;
 }
 
 -- a failed intake
-pub stopped_by_intake : {key : List ℕ} {come come_now come_after contents contents_now : Option (List ℕ)} {sure sure_now : ℕ} {machine : Machine} {ended : Bool} → (a : Along key come come_now contents contents_now sure sure_now machine) → KeepsOrForgets come_now come_after → FirstRun key come come_after ended contents contents_now (Err stops.Intake) a.taken
-stopped_by_intake {key} {come} {come_now} {come_after} {contents} {contents_now} {sure} {sure_now} {machine} {ended} a keeps =
-    let here = reading_here key a.taken a.so_far machine a.stands in
+pub stopped_by_intake : {keys : List KeyValue} {come come_now come_after contents contents_now : Option (List ℕ)} {sure sure_now : ℕ} {machine : Machine} {ended : Bool} → (a : Along keys come come_now contents contents_now sure sure_now machine) → KeepsOrForgets come_now come_after → FirstRun keys come come_after ended contents contents_now (Err stops.Intake) a.taken
+stopped_by_intake {keys} {come} {come_now} {come_after} {contents} {contents_now} {sure} {sure_now} {machine} {ended} a keeps =
+    let here = reading_here keys a.taken a.so_far machine a.stands in
     record {
       bytes = taken_before_failure come come_now come_after a.taken a.bytes keeps;
       none_after_end = a.none_after_end;
@@ -108,9 +109,9 @@ stopped_by_intake {key} {come} {come_now} {come_after} {contents} {contents_now}
     }
 
 -- the intake's end
-pub ended_open : {key : List ℕ} {come come_now come_after contents contents_now : Option (List ℕ)} {sure sure_now : ℕ} {machine : Machine} {ended : Bool} → (a : Along key come come_now contents contents_now sure sure_now machine) → Consumes come_now come_after [] → ended ≡ true → FirstRun key come come_after ended contents contents_now (Ok (unsettled [] (place_of machine)).verdict) a.taken
-ended_open {key} {come} {come_now} {come_after} {contents} {contents_now} {sure} {sure_now} {machine} {ended} a none e =
-    let here = reading_here key a.taken a.so_far machine a.stands in
+pub ended_open : {keys : List KeyValue} {come come_now come_after contents contents_now : Option (List ℕ)} {sure sure_now : ℕ} {machine : Machine} {ended : Bool} → (a : Along keys come come_now contents contents_now sure sure_now machine) → Consumes come_now come_after [] → ended ≡ true → FirstRun keys come come_after ended contents contents_now (Ok (unsettled [] (place_of machine)).verdict) a.taken
+ended_open {keys} {come} {come_now} {come_after} {contents} {contents_now} {sure} {sure_now} {machine} {ended} a none e =
+    let here = reading_here keys a.taken a.so_far machine a.stands in
     record {
       bytes = subst (λ (t : List ℕ). TakesInAll come come_after t) (append-nil a.taken) (taken_in_all come come_after (a.taken ++ []) (Consumes-then come come_now come_after a.taken [] a.bytes none));
       none_after_end = a.none_after_end;
@@ -125,50 +126,51 @@ all_taken (Some xs) (Some ys) taken bytes p end e =
     let whole : xs ≡ bytes = cc in
     sym (append-nil taken) ∙ ap (λ (t : List ℕ). taken ++ t) (sym end) ∙ sym p ∙ whole
 
-pub ended_answer : {key : List ℕ} {come come_now contents contents_now : Option (List ℕ)} (come_after : Option (List ℕ)) {sure sure_now : ℕ} {machine : Machine} (bytes : List ℕ) → (a : Along key come come_now contents contents_now sure sure_now machine) → Consumes come_now come_after [] → IsAtEnd come_after → come ≡ Some bytes → (unsettled [] (place_of machine)).verdict ≡ first_verdict key bytes
-ended_answer {key} {come} {come_now} {contents} {contents_now} come_after {sure} {sure_now} {machine} bytes a none end e =
+pub ended_answer : {keys : List KeyValue} {come come_now contents contents_now : Option (List ℕ)} (come_after : Option (List ℕ)) {sure sure_now : ℕ} {machine : Machine} (bytes : List ℕ) → (a : Along keys come come_now contents contents_now sure sure_now machine) → Consumes come_now come_after [] → IsAtEnd come_after → come ≡ Some bytes → (unsettled [] (place_of machine)).verdict ≡ first_verdict keys bytes
+ended_answer {keys} {come} {come_now} {contents} {contents_now} come_after {sure} {sure_now} {machine} bytes a none end e =
     let all : a.taken ++ [] ≡ bytes = all_taken come come_after (a.taken ++ []) bytes (Consumes-then come come_now come_after a.taken [] a.bytes none) end e in
     let same : a.taken ≡ bytes = sym (append-nil a.taken) ∙ all in
-    ap (λ (r : Reading). r.verdict) (sym (reading_here key a.taken a.so_far machine a.stands) ∙ ap (first_reading key) same)
+    ap (λ (r : Reading). r.verdict) (sym (reading_here keys a.taken a.so_far machine a.stands) ∙ ap (first_reading keys) same)
 
 -- a failed sink
-pub stopped_by_sink : {key : List ℕ} {come come_now come_after contents contents_now contents_after : Option (List ℕ)} {sure sure_now : ℕ} {machine : Machine} {ended : Bool} (byte : ℕ) → (a : Along key come come_now contents contents_now sure sure_now machine) → Consumes come_now come_after (byte ∷ []) → payload_byte machine byte ≡ byte ∷ [] → AppendsFront contents_now contents_after (byte ∷ []) → FirstRun key come come_after ended contents contents_after (Err stops.Sink) (a.taken ++ byte ∷ [])
-stopped_by_sink {key} {come} {come_now} {come_after} {contents} {contents_now} {contents_after} {sure} {sure_now} {machine} {ended} byte a one in_payload front =
-    let here = reading_here key a.taken a.so_far machine a.stands in
-    let there = payload_byte_open key a.so_far machine byte a.stands.feeds in_payload in
-    let after : first_reading key (a.taken ++ byte ∷ []) ≡ unsettled (a.so_far ++ byte ∷ []) there.0 = a.stands.left (byte ∷ []) ∙ there.1 in
+pub stopped_by_sink : {keys : List KeyValue} {come come_now come_after contents contents_now contents_after : Option (List ℕ)} {sure sure_now : ℕ} {machine : Machine} {ended : Bool} (byte : ℕ) → (a : Along keys come come_now contents contents_now sure sure_now machine) → Consumes come_now come_after (byte ∷ []) → payload_byte machine byte ≡ byte ∷ [] → AppendsFront contents_now contents_after (byte ∷ []) → FirstRun keys come come_after ended contents contents_after (Err stops.Sink) (a.taken ++ byte ∷ [])
+stopped_by_sink {keys} {come} {come_now} {come_after} {contents} {contents_now} {contents_after} {sure} {sure_now} {machine} {ended} byte a one in_payload front =
+    let here = reading_here keys a.taken a.so_far machine a.stands in
+    let there = payload_byte_open a.stands.key a.so_far machine byte a.stands.feeds in_payload in
+    let after : first_reading keys (a.taken ++ byte ∷ []) ≡ unsettled (a.so_far ++ byte ∷ []) there.0 = a.stands.left (byte ∷ []) ∙ there.1 in
     record {
       bytes = taken_in_all come come_after (a.taken ++ byte ∷ []) (Consumes-then come come_now come_after a.taken (byte ∷ []) a.bytes one);
-      none_after_end = none_after_end-more key a.taken byte (rw here refl) a.none_after_end;
+      none_after_end = none_after_end-more keys a.taken byte (rw here refl) a.none_after_end;
       answer = rw after refl;
       payload = rw after (AppendsFront-then contents contents_now contents_after a.so_far (byte ∷ []) a.payload front);
     }
 
 -- the byte that settles it
-pub settled_now : {key : List ℕ} {come come_now come_after contents contents_now contents_after : Option (List ℕ)} {sure sure_now : ℕ} {machine : Machine} {ended : Bool} (byte : ℕ) (piece : List ℕ) (verdict : Verdict) → (a : Along key come come_now contents contents_now sure sure_now machine) → Consumes come_now come_after (byte ∷ []) → payload_byte machine byte ≡ piece → Appends contents_now contents_after piece → Continues key (a.so_far ++ payload_byte machine byte) (Settled verdict) (λ bytes. left_of key a.so_far machine (byte ∷ bytes)) → ended ≡ false → FirstRun key come come_after ended contents contents_after (Ok verdict) (a.taken ++ byte ∷ [])
-settled_now {key} {come} {come_now} {come_after} {contents} {contents_now} {contents_after} {sure} {sure_now} {machine} {ended} byte piece verdict a one is_piece grows settles e =
-    let here = reading_here key a.taken a.so_far machine a.stands in
-    let after : first_reading key (a.taken ++ byte ∷ []) ≡ settled_as (a.so_far ++ payload_byte machine byte) verdict = a.stands.left (byte ∷ []) ∙ settles [] in
+pub settled_now : {keys : List KeyValue} {come come_now come_after contents contents_now contents_after : Option (List ℕ)} {sure sure_now : ℕ} {machine : Machine} {ended : Bool} (byte : ℕ) (piece : List ℕ) (verdict : Verdict) → (a : Along keys come come_now contents contents_now sure sure_now machine) → Consumes come_now come_after (byte ∷ []) → payload_byte machine byte ≡ piece → Appends contents_now contents_after piece → Continues (a.so_far ++ payload_byte machine byte) (Settled verdict) (λ bytes. left_of a.stands.key a.so_far machine (byte ∷ bytes)) → ended ≡ false → FirstRun keys come come_after ended contents contents_after (Ok verdict) (a.taken ++ byte ∷ [])
+settled_now {keys} {come} {come_now} {come_after} {contents} {contents_now} {contents_after} {sure} {sure_now} {machine} {ended} byte piece verdict a one is_piece grows settles e =
+    let here = reading_here keys a.taken a.so_far machine a.stands in
+    let after : first_reading keys (a.taken ++ byte ∷ []) ≡ settled_as (a.so_far ++ payload_byte machine byte) verdict = a.stands.left (byte ∷ []) ∙ settles [] in
     record {
       bytes = taken_in_all come come_after (a.taken ++ byte ∷ []) (Consumes-then come come_now come_after a.taken (byte ∷ []) a.bytes one);
-      none_after_end = none_after_end-more key a.taken byte (rw here refl) a.none_after_end;
+      none_after_end = none_after_end-more keys a.taken byte (rw here refl) a.none_after_end;
       answer = rw after (refl, rw e refl);
       payload = rw (after, is_piece) (Appends-then contents contents_now contents_after a.so_far piece a.payload grows);
     }
 
 -- a byte that doesn't
-pub goes_on : {key : List ℕ} {come come_now come_after contents contents_now contents_after : Option (List ℕ)} {sure sure_now sure_after : ℕ} {machine next : Machine} (byte : ℕ) (piece : List ℕ) → (a : Along key come come_now contents contents_now sure sure_now machine) → Consumes come_now come_after (byte ∷ []) → payload_byte machine byte ≡ piece → Appends contents_now contents_after piece → sure_now ≤ sure_after + length piece → Continues key (a.so_far ++ payload_byte machine byte) (Open next) (λ bytes. left_of key a.so_far machine (byte ∷ bytes)) → Along key come come_after contents contents_after sure sure_after next
-goes_on {key} {come} {come_now} {come_after} {contents} {contents_now} {contents_after} {sure} {sure_now} {sure_after} {machine} {next} byte piece a one is_piece grows promise stands =
-    let here = reading_here key a.taken a.so_far machine a.stands in
+pub goes_on : {keys : List KeyValue} {come come_now come_after contents contents_now contents_after : Option (List ℕ)} {sure sure_now sure_after : ℕ} {machine next : Machine} (byte : ℕ) (piece : List ℕ) → (a : Along keys come come_now contents contents_now sure sure_now machine) → Consumes come_now come_after (byte ∷ []) → payload_byte machine byte ≡ piece → Appends contents_now contents_after piece → sure_now ≤ sure_after + length piece → Continues (a.so_far ++ payload_byte machine byte) (Open next) (λ bytes. left_of a.stands.key a.so_far machine (byte ∷ bytes)) → Along keys come come_after contents contents_after sure sure_after next
+goes_on {keys} {come} {come_now} {come_after} {contents} {contents_now} {contents_after} {sure} {sure_now} {sure_after} {machine} {next} byte piece a one is_piece grows promise stands =
+    let here = reading_here keys a.taken a.so_far machine a.stands in
     record {
       taken = a.taken ++ byte ∷ [];
       so_far = a.so_far ++ payload_byte machine byte;
       bytes = Consumes-then come come_now come_after a.taken (byte ∷ []) a.bytes one;
       stands = record {
+        key = stands.key;
         feeds = stands.feeds;
-        left = λ bytes. ap (first_reading key) (append_assoc a.taken (byte ∷ []) bytes) ∙ a.stands.left (byte ∷ bytes) ∙ stands.left bytes;
+        left = λ bytes. ap (first_reading keys) (append_assoc a.taken (byte ∷ []) bytes) ∙ a.stands.left (byte ∷ bytes) ∙ stands.left bytes;
       };
-      none_after_end = none_after_end-more key a.taken byte (rw here refl) a.none_after_end;
+      none_after_end = none_after_end-more keys a.taken byte (rw here refl) a.none_after_end;
       payload = rw is_piece (Appends-then contents contents_now contents_after a.so_far piece a.payload grows);
       promise = rw is_piece (omega (arith, a.promise, length-append a.so_far piece));
     }

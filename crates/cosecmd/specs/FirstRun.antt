@@ -1,6 +1,7 @@
 -- What a call of the first path did with an intake and a sink.
 use Rattle.std.specs.Prelude.{◌≡◌, ℕ, ◌<◌, Bool, true, false, List, length, take, Option, Result, Ok, Err, not}
 use Rattle.std.specs.Io.KnownBytes.{Appends}
+use Rattle.cose_map.specs.KeyValue.{KeyValue}
 use Rattle.cosecmd.specs.declared.first.verdict.Verdict.{Verdict}
 use Rattle.cosecmd.specs.declared.first.verdict.Stop.{Stop}
 use Rattle.cosecmd.specs.declared.first.verdict.Stop.TheVariants as stops
@@ -31,10 +32,10 @@ Grows old new (Ok verdict) payload = Appends old new payload
 Grows old new (Err stops.Intake) payload = Appends old new payload
 Grows old new (Err stops.Sink) payload = AppendsFront old new payload
 
-pub record FirstRun (key : List ℕ) (come come_after : Option (List ℕ)) (ended : Bool) (contents contents_after : Option (List ℕ)) (result : Result Verdict Stop) (taken : List ℕ) : Type 0 where
+pub record FirstRun (keys : List KeyValue) (come come_after : Option (List ℕ)) (ended : Bool) (contents contents_after : Option (List ℕ)) (result : Result Verdict Stop) (taken : List ℕ) : Type 0 where
   -- The intake's bytes were taken in their order, each once.
   pub bytes : TakesInAll come come_after taken
   -- None was taken after the one that settles the verdict.
-  pub none_after_end : (n : ℕ) → n < length taken → (first_reading key (take n taken)).settled ≡ false
-  pub answer : Answers result ended (first_reading key taken)
-  pub payload : Grows contents contents_after result (first_reading key taken).payload
+  pub none_after_end : (n : ℕ) → n < length taken → (first_reading keys (take n taken)).settled ≡ false
+  pub answer : Answers result ended (first_reading keys taken)
+  pub payload : Grows contents contents_after result (first_reading keys taken).payload

@@ -1,14 +1,17 @@
 -- The verdict of the first path: a tagged COSE_Mac0 under HMAC 256/256, whose protected header is {1: 5} and whose
--- unprotected header is empty (RFC 9052 section 6.2), in this profile's order of phases.
-use Rattle.std.specs.Prelude.{ℕ, ◌^◌, Bool, true, List, [], ◌∷◌, length, Option, None, Some, nat_le, ◌==◌, ◌&&◌, not, if◌then◌else◌}
+-- unprotected header is empty (RFC 9052 section 6.2), under a list of usable keys, in this profile's order of phases.
+use Rattle.std.specs.Prelude.{ℕ, ◌^◌, ℤ, pos, Bool, true, List, [], ◌∷◌, length, Option, None, Some, Result, Ok, Err, nat_le, ◌==◌, ◌&&◌, not, if◌then◌else◌}
 use Rattle.std.specs.Str.{bytes_eq}
 use Rattle.cose_head.specs.declared.head.Head.{Head}
 use Rattle.cose_head.specs.declared.kind.Kind.TheVariants.{Mac0}
 use Rattle.cose_head.specs.declared.reason.Reason.{Reason}
-use Rattle.cose_head.specs.declared.reason.Reason.TheVariants.{WrongType, Detached, BadAuthLength, BadAuth, PayloadTooLong}
+use Rattle.cose_head.specs.declared.reason.Reason.TheVariants.{WrongType, NoKey, Detached, BadAuthLength, BadAuth, PayloadTooLong}
 use Rattle.cose_mac.specs.Algorithm.{auth_length_of, mac}
 use Rattle.cose_mac.specs.Structure.{mac_structure}
 use Rattle.cose_mac.specs.declared.alg.Alg.TheVariants.{Hmac256}
+use Rattle.cose_map.specs.Choice.{Question, chosen}
+use Rattle.cose_map.specs.KeyValue.{KeyValue, MaterialValue, symmetric, elliptic}
+use Rattle.cose_map.specs.Label.{number}
 use Rattle.cosecmd.specs.declared.first.verdict.Verdict.{Verdict}
 use Rattle.cosecmd.specs.declared.first.verdict.Verdict.TheVariants.{Authentic}
 use Rattle.cosecmd.specs.Phases.{Reading, Phase, refused, with_front, with_head, with_string}
@@ -81,9 +84,31 @@ past_payload_head key head = past_payload_fault (payload_fault head) key head.ar
 abbrev pub payload_head : List ℕ → Phase
 payload_head key = with_head [] (past_payload_head key)
 
-unfoldable pub first_reading : List ℕ → List ℕ → Reading
-first_reading key bytes = with_front front (payload_head key) 0 bytes
+-- What the message asks of the keys: to verify a MAC (operation 10, RFC 9052 section 7.1) with algorithm 5.
+abbrev pub first_question : Question
+first_question = record {
+  kind = Mac0;
+  operation = pos 10;
+  protected_alg = Some (number (pos 5));
+  unprotected_alg = None;
+  kid = None;
+}
 
--- The verdict of all the bytes of a message, under a key.
-abbrev pub first_verdict : List ℕ → List ℕ → Verdict
-first_verdict key bytes = (first_reading key bytes).verdict
+abbrev pub past_material : MaterialValue → Phase
+past_material (symmetric secret) place bytes = payload_head secret place bytes
+past_material (elliptic crv x y) place bytes = refused [] NoKey place
+
+-- The choice of the key. Its fault stands at the payload's head, and needs no byte of it.
+abbrev pub past_choice : Result (KeyValue × ℤ) Reason → Phase
+past_choice (Ok found) place bytes = past_material found.0.material place bytes
+past_choice (Err reason) place bytes = refused [] reason place
+
+unfoldable pub key_choice : List KeyValue → Phase
+key_choice keys place bytes = past_choice (chosen first_question keys) place bytes
+
+unfoldable pub first_reading : List KeyValue → List ℕ → Reading
+first_reading keys bytes = with_front front (key_choice keys) 0 bytes
+
+-- The verdict of all the bytes of a message, under these keys.
+abbrev pub first_verdict : List KeyValue → List ℕ → Verdict
+first_verdict keys bytes = (first_reading keys bytes).verdict

@@ -1,7 +1,6 @@
 pub mod FirstVerdict
 pub mod FirstRun
 pub mod Intake
-pub mod KeyWord
 pub mod Machine
 pub mod Phases
 pub mod Printed

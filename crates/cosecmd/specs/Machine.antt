@@ -16,7 +16,8 @@ use Rattle.cosecmd.specs.declared.first.machine.Machine.TheVariants as phases
 use Rattle.cosecmd.specs.declared.first.machine.Progress.{Progress}
 use Rattle.cosecmd.specs.declared.first.machine.Progress.TheVariants.{Open, Settled}
 use Rattle.cosecmd.specs.declared.first.verdict.Verdict.{Verdict}
-use Rattle.cosecmd.specs.FirstVerdict.{front, protected, payload_head, payload, tag_head, tag}
+use Rattle.cose_map.specs.KeySets.{keys}
+use Rattle.cosecmd.specs.FirstVerdict.{front, protected, key_choice, payload_head, payload, tag_head, tag}
 use Rattle.cosecmd.specs.Phases.{Reading, with_front}
 
 -- The MAC under HMAC 256/256 and the key was fed this.
@@ -31,8 +32,8 @@ pub record IsOpened (mac : Running) (key so_far : List ℕ) (n : ℕ) : Type 0 w
 
 -- What is left of the definition: the phase, at what the machine holds of it and the bytes to come. The payload so
 -- far isn't held.
-abbrev pub left_in_front : List ℕ → Front → List ℕ → Reading
-left_in_front key f bytes = with_front (drop f.position front) (payload_head key) f.position bytes
+abbrev pub left_in_front : Front → List ℕ → Reading
+left_in_front f bytes = with_front (drop f.position front) (key_choice (keys f.keys)) f.position bytes
 
 abbrev pub left_in_payload_head : List ℕ → PayloadHead → List ℕ → Reading
 left_in_payload_head key p bytes = payload_head key (length front) (p.held.items ++ bytes)
@@ -47,7 +48,7 @@ abbrev pub left_in_tag : List ℕ → List ℕ → Tag → List ℕ → Reading
 left_in_tag key so_far t bytes = tag key so_far t.head_at t.at (t.held.items ++ bytes)
 
 abbrev pub left_of : List ℕ → List ℕ → Machine → List ℕ → Reading
-left_of key so_far (phases.Front f) bytes = left_in_front key f bytes
+left_of key so_far (phases.Front f) bytes = left_in_front f bytes
 left_of key so_far (phases.PayloadHead p) bytes = left_in_payload_head key p bytes
 left_of key so_far (phases.Payload p) bytes = left_in_payload key so_far p bytes
 left_of key so_far (phases.TagHead t) bytes = left_in_tag_head key so_far t bytes
@@ -62,10 +63,6 @@ place_of (phases.TagHead t) = t.at + array_vec_len t.held
 place_of (phases.Tag t) = t.at + array_vec_len t.held
 
 -- What holds there of the key, the payload so far, and what the HMAC was fed.
-pub record FeedsFront (key so_far : List ℕ) (f : Front) : Type 0 where
-  pub none : so_far ≡ []
-  pub fed : Fed f.mac key []
-
 pub record FeedsPayloadHead (key so_far : List ℕ) (p : PayloadHead) : Type 0 where
   pub none : so_far ≡ []
   pub fed : Fed p.mac key []
@@ -85,14 +82,15 @@ pub record FeedsTag (key so_far : List ℕ) (t : Tag) : Type 0 where
   pub fed : Fed t.mac key (mac_structure protected [] so_far)
 
 abbrev pub Feeds : List ℕ → List ℕ → Machine → Type 0
-Feeds key so_far (phases.Front f) = FeedsFront key so_far f
+Feeds key so_far (phases.Front f) = so_far ≡ []
 Feeds key so_far (phases.PayloadHead p) = FeedsPayloadHead key so_far p
 Feeds key so_far (phases.Payload p) = FeedsPayload key so_far p
 Feeds key so_far (phases.TagHead t) = FeedsTagHead key so_far t
 Feeds key so_far (phases.Tag t) = FeedsTag key so_far t
 
--- A machine stands for a reading of the bytes to come.
-pub record StandsFor (key so_far : List ℕ) (machine : Machine) (reading : List ℕ → Reading) : Type 0 where
+-- A machine stands for a reading of the bytes to come, under the key that was chosen.
+pub record StandsFor (so_far : List ℕ) (machine : Machine) (reading : List ℕ → Reading) : Type 0 where
+  pub key : List ℕ
   pub feeds : Feeds key so_far machine
   pub left : (bytes : List ℕ) → reading bytes ≡ left_of key so_far machine bytes
 
@@ -100,9 +98,9 @@ abbrev pub settled_as : List ℕ → Verdict → Reading
 settled_as so_far verdict = record { verdict = verdict; settled = true; payload = so_far }
 
 -- What a step comes to, for whatever bytes follow.
-abbrev pub Continues : List ℕ → List ℕ → Progress → (List ℕ → Reading) → Type 0
-Continues key so_far (Open machine) reading = StandsFor key so_far machine reading
-Continues key so_far (Settled verdict) reading = (bytes : List ℕ) → reading bytes ≡ settled_as so_far verdict
+abbrev pub Continues : List ℕ → Progress → (List ℕ → Reading) → Type 0
+Continues so_far (Open machine) reading = StandsFor so_far machine reading
+Continues so_far (Settled verdict) reading = (bytes : List ℕ) → reading bytes ≡ settled_as so_far verdict
 
 -- The byte that a step adds to the payload.
 abbrev pub payload_byte : Machine → ℕ → List ℕ

@@ -3,7 +3,6 @@
 
 mod fault;
 mod first;
-mod key_word;
 mod reply;
 mod run;
 mod words;

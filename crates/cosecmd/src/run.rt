@@ -7,10 +7,9 @@ use crate::first::intake::{Intake, ReadIntake};
 use crate::first::sink::Nothing;
 use crate::first::verdict::{Stop, Verdict};
 use crate::first::verify_first;
-use crate::key_word::key_in;
 use crate::reply::Reply;
 use crate::words::{Request, request_of};
-use cose_head::{Reason, Refusal};
+use cose_map::{KeySet, Reason, Refusal};
 use std::alloc::Global;
 use std::io::{Read, Write};
 
@@ -31,14 +30,12 @@ fn whole_verdict<I: Intake>(verdict: Verdict, intake: &mut I) -> Result<Verdict,
 
 /// The command `verify`: the verdict of the message that the reader gives, under the key set in `keys`.
 fn verify<R: Read>(alloc: Global, keys: &[u8], input: &mut R) -> Result<Reply, Fault> {
-    let Some(key) = key_in(keys) else {
-        return Err(Fault::keys(Refusal {
-            reason: Reason::BadKeySet,
-            place: 0,
-        }));
+    let keys = match KeySet::read(keys) {
+        Ok(keys) => keys,
+        Err(refusal) => return Err(Fault::keys(refusal)),
     };
     let mut intake = ReadIntake::new(input);
-    let verdict = match verify_first(key, &mut intake, &mut Nothing) {
+    let verdict = match verify_first(&keys, &mut intake, &mut Nothing) {
         Ok(verdict) => whole_verdict(verdict, &mut intake)?,
         Err(Stop::Intake | Stop::Sink) => return Err(Fault::Input),
     };

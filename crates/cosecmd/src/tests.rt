@@ -4,13 +4,17 @@ mod failures;
 mod messages;
 mod runs;
 
+use cose_map::KeySet;
 use sha2::{Digest, Sha256};
 use std::alloc::{AllocError, Global};
 
 /// The key, `Jefe` (RFC 4231 section 4.3).
 const KEY: &[u8] = b"Jefe";
 
-/// The key set of that key alone, in hexadecimal.
+/// The key set of that key alone.
+const KEY_SET: &[u8] = &[0xa2, 0x01, 0x04, 0x20, 0x44, 0x4a, 0x65, 0x66, 0x65];
+
+/// The same in hexadecimal.
 const KEYS: &str = "a2010420444a656665";
 
 /// The bytes before the payload's head.
@@ -36,6 +40,11 @@ fn hmac(alloc: Global, key: &[u8], text: &[u8]) -> Result<[u8; 32], AllocError> 
     inner.extend_from_slice(text)?;
     outer.extend_from_slice(&Sha256::digest(inner.as_slice()))?;
     Ok(Sha256::digest(outer.as_slice()))
+}
+
+/// The keys of that set.
+fn key_set() -> Option<KeySet<'static>> {
+    KeySet::read(KEY_SET).ok()
 }
 
 /// Several pieces, one after another.

@@ -5,12 +5,12 @@ ghost use Rattle.std.specs.Prelude.{◌≡◌, ◌<◌, ◌≤◌, ◌+◌, ◌^
 use crate::first::phases::{Front, Payload, PayloadHead, Tag, TagHead};
 use crate::first::verdict::Verdict;
 use cose_head::{Reason, Refusal};
-use cose_mac::{Alg, Running};
+use cose_map::KeySet;
 
 /// A message of which bytes are still to come: the phase that they are in.
 #[derive(Drop)]
-pub enum Machine {
-    Front(Front),
+pub enum Machine<'k> {
+    Front(Front<'k>),
     PayloadHead(PayloadHead),
     Payload(Payload),
     TagHead(TagHead),
@@ -19,29 +19,32 @@ pub enum Machine {
 
 /// What a byte comes to.
 #[derive(Drop)]
-pub enum Progress {
-    Open(Machine),
+pub enum Progress<'k> {
+    Open(Machine<'k>),
     Settled(Verdict),
 }
 
 /// The message is refused, for this reason and at this place.
-pub fn refused(reason: Reason, place: u64) -> Progress
+pub fn refused<'k>(reason: Reason, place: u64) -> Progress<'k>
     ensures { result ≡ Progress.Settled (Verdict.Refused (record { reason = reason; place = place })) }
 {
     Progress::Settled(Verdict::Refused(Refusal { reason, place }))
 }
 
-impl Machine {
+impl<'k> Machine<'k> {
+    ghost use Rattle.cose_map.specs.KeySets.{keys};
     ghost use Rattle.cosecmd.specs.TakenByte.{payload_piece};
     ghost use Rattle.cosecmd.specs.Machine.{Continues, Feeds, IfOpen, StandsFor, budget, left_of, payload_byte, place_of};
     ghost use Rattle.cosecmd.specs.FirstVerdict.{first_reading};
 
-    /// The machine before the first byte, under a key.
-    pub fn new(key: &[u8]) -> Self
-        ensures { StandsFor key.now [] result (first_reading key.now) }
+    /// The machine before the first byte, under these keys.
+    pub fn new(set: KeySet<'k>) -> Self
+        ensures { StandsFor [] result (first_reading (keys set.entry)) }
     {
-        let mac = Running::hmac(Alg::Hmac256, key);
-        Machine::Front(Front { position: 0, mac })
+        Machine::Front(Front {
+            position: 0,
+            keys: set,
+        })
     }
 
     /// Whether the next byte is one of the payload.
@@ -52,9 +55,9 @@ impl Machine {
     }
 
     /// The machine after one more byte, or the verdict.
-    pub fn step(self, byte: u8) -> Progress
+    pub fn step(self, byte: u8) -> Progress<'k>
         ensures goes { (key so_far : List ℕ) → Feeds key so_far self
-            → Continues key (so_far ++ payload_byte self byte) result (λ bytes. left_of key so_far self (byte ∷ bytes)) }
+            → Continues (so_far ++ payload_byte self byte) result (λ bytes. left_of key so_far self (byte ∷ bytes)) }
         ensures nearer { IfOpen result (λ machine. budget machine < budget self) }
     {
         match self {

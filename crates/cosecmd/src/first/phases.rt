@@ -3,12 +3,15 @@
 ghost use Rattle.std.specs.Prelude.{◌≡◌, ◌<◌, ◌≤◌, ◌+◌, ◌^◌, ℕ, List, [], ◌∷◌, ◌++◌, length, true};
 ghost use Rattle.arrayvec.specs.ArrayVec.{array_vec_len};
 ghost use Rattle.cose_mac.specs.Fed.{makes_mac};
+ghost use Rattle.cose_map.specs.Chosen.{question};
+ghost use Rattle.cosecmd.specs.FirstVerdict.{first_question};
 
 use crate::first::machine::{Machine, Progress, refused};
 use crate::first::verdict::Verdict;
 use arrayvec::ArrayVec;
 use cose_head::{Head, HeadStep, Kind, Reason, parse_head};
 use cose_mac::{Alg, Running, structure_front};
+use cose_map::{KeySet, Label, Material, Query};
 
 /// The bytes that a message begins with: tag 17, an array of four, the protected header `{1: 5}`, an empty map.
 const FRONT: [u8; 7] = [0xd1, 0x84, 0x43, 0xa1, 0x01, 0x05, 0xa0];
@@ -21,10 +24,9 @@ const TAG: usize = 32;
 
 /// The bytes of the front.
 #[derive(Drop)]
-pub struct Front {
+pub struct Front<'k> {
     pub position: usize,
-    pub mac: Running,
-    ghost keyed: { makes_mac mac ≡ true },
+    pub keys: KeySet<'k>,
     ghost within: { position < 7 },
 }
 
@@ -76,35 +78,66 @@ pub struct Tag {
     ghost early: { at < 2 ^ 58 },
 }
 
-impl Front {
-    ghost use Rattle.cosecmd.specs.Machine.{Continues, FeedsFront, IfOpen, budget, left_in_front};
+impl<'k> Front<'k> {
+    ghost use Rattle.cosecmd.specs.Machine.{Continues, IfOpen, budget, left_in_front};
 
-    /// The next byte of the front.
-    pub fn step(self, byte: u8) -> Progress
-        ensures goes { (key so_far : List ℕ) → FeedsFront key so_far self
-            → Continues key so_far result (λ bytes. left_in_front key self (byte ∷ bytes)) }
+    /// The next byte of the front. With the last one the key is chosen.
+    pub fn step(self, byte: u8) -> Progress<'k>
+        ensures goes { Continues [] result (λ bytes. left_in_front self (byte ∷ bytes)) }
         ensures nearer { IfOpen result (λ machine. budget machine < budget (Machine.Front self)) }
     {
-        let Front { position, mac } = self;
+        let Front { position, keys } = self;
         if byte != FRONT[position] {
             return refused(Reason::WrongType, position as u64);
         }
         let position = position + 1;
         if position < FRONT.len() {
-            return Progress::Open(Machine::Front(Front { position, mac }));
+            return Progress::Open(Machine::Front(Front { position, keys }));
         }
-        let held = ArrayVec::new();
-        Progress::Open(Machine::PayloadHead(PayloadHead { held, mac }))
+        PayloadHead::begin(&keys)
+    }
+}
+
+/// What the message asks of the keys: to verify a MAC (operation 10, RFC 9052 section 7.1) with algorithm 5.
+fn first_query() -> Query<'static>
+    ensures { question result ≡ first_question }
+{
+    Query {
+        kind: Kind::Mac0,
+        operation: 10,
+        protected_alg: Some(Label::Int(5)),
+        unprotected_alg: None,
+        kid: None,
     }
 }
 
 impl PayloadHead {
-    ghost use Rattle.cosecmd.specs.Machine.{Continues, FeedsPayloadHead, IfOpen, budget, left_in_payload_head};
+    ghost use Rattle.cose_map.specs.KeySets.{keys};
+    ghost use Rattle.cosecmd.specs.FirstVerdict.{key_choice};
+    ghost use Rattle.cosecmd.specs.Machine.{Continues, FeedsPayloadHead, IfOpen, after_payload, budget, left_in_payload_head};
+
+    /// Chooses the key, before the first byte of the payload's head.
+    #[tactic(auto, unfolding(crate::specs::FirstVerdict::key_choice))]
+    fn begin<'k>(set: &KeySet<'k>) -> Progress<'k>
+        ensures goes { Continues [] result (λ bytes. key_choice (keys set.now) 7 bytes) }
+        ensures nearer { IfOpen result (λ machine. budget machine ≤ 9 + 2 ^ 56 + after_payload) }
+    {
+        match set.find(&first_query()) {
+            Err(reason) => refused(reason, FRONT.len() as u64),
+            Ok((key, _)) => match key.material {
+                Material::Symmetric(secret) => Progress::Open(Machine::PayloadHead(PayloadHead {
+                    held: ArrayVec::new(),
+                    mac: Running::hmac(Alg::Hmac256, secret),
+                })),
+                Material::Ec { .. } => refused(Reason::NoKey, FRONT.len() as u64),
+            },
+        }
+    }
 
     /// The next byte of the payload's head.
-    pub fn step(self, byte: u8) -> Progress
+    pub fn step(self, byte: u8) -> Progress<'static>
         ensures goes { (key so_far : List ℕ) → FeedsPayloadHead key so_far self
-            → Continues key so_far result (λ bytes. left_in_payload_head key self (byte ∷ bytes)) }
+            → Continues so_far result (λ bytes. left_in_payload_head key self (byte ∷ bytes)) }
         ensures nearer { IfOpen result (λ machine. budget machine < budget (Machine.PayloadHead self)) }
     {
         let PayloadHead { mut held, mac } = self;
@@ -138,11 +171,11 @@ impl Payload {
     }
 
     /// What follows the payload's head, which has `used` bytes.
-    fn after_head(head: Head, used: usize, mac: Running) -> Progress
+    fn after_head(head: Head, used: usize, mac: Running) -> Progress<'static>
         requires short { used ≤ 9 }
         requires keyed { makes_mac mac ≡ true }
         ensures goes { (key : List ℕ) → Fed mac key []
-            → Continues key [] result (λ bytes. past_payload_head key head 7 (7 + used) bytes) }
+            → Continues [] result (λ bytes. past_payload_head key head 7 (7 + used) bytes) }
         ensures nearer { IfOpen result (λ machine. budget machine < 2 ^ 56 + after_payload) }
     {
         match Payload::fault_of_head(&head) {
@@ -152,12 +185,12 @@ impl Payload {
     }
 
     /// The payload's first byte is at this place, or the tag's, where the payload is empty.
-    fn begin(at: u64, length: u64, mut mac: Running) -> Progress
+    fn begin(at: u64, length: u64, mut mac: Running) -> Progress<'static>
         requires early { at ≤ 16 }
         requires limit { length < 2 ^ 56 }
         requires keyed { makes_mac mac ≡ true }
         ensures goes { (key : List ℕ) → Fed mac key []
-            → Continues key [] result (λ bytes. payload key length at bytes) }
+            → Continues [] result (λ bytes. payload key length at bytes) }
         ensures nearer { IfOpen result (λ machine. budget machine < 2 ^ 56 + after_payload) }
     {
         structure_front(Kind::Mac0, &PROTECTED, &[], length, &mut mac);
@@ -173,9 +206,9 @@ impl Payload {
     }
 
     /// The next byte of the payload.
-    pub fn step(self, byte: u8) -> Progress
+    pub fn step(self, byte: u8) -> Progress<'static>
         ensures goes { (key so_far : List ℕ) → FeedsPayload key so_far self
-            → Continues key (so_far ++ byte ∷ []) result (λ bytes. left_in_payload key so_far self (byte ∷ bytes)) }
+            → Continues (so_far ++ byte ∷ []) result (λ bytes. left_in_payload key so_far self (byte ∷ bytes)) }
         ensures nearer { IfOpen result (λ machine. budget machine < budget (Machine.Payload self)) }
     {
         let Payload {
@@ -203,11 +236,11 @@ impl TagHead {
     ghost use Rattle.cosecmd.specs.Machine.{Continues, Fed, FeedsTagHead, IfOpen, after_payload, budget, left_in_tag_head};
 
     /// The tag's head begins at this place, behind a payload of so many bytes.
-    fn begin(at: u64, payload: u64, mac: Running) -> Progress
+    fn begin(at: u64, payload: u64, mac: Running) -> Progress<'static>
         requires early { at < 2 ^ 57 }
         requires keyed { makes_mac mac ≡ true }
         ensures goes { (key so_far : List ℕ) → length so_far ≡ payload → Fed mac key (mac_structure protected [] so_far)
-            → Continues key so_far result (λ bytes. tag_head key so_far at bytes) }
+            → Continues so_far result (λ bytes. tag_head key so_far at bytes) }
         ensures nearer { IfOpen result (λ machine. budget machine ≤ after_payload) }
     {
         Progress::Open(Machine::TagHead(TagHead {
@@ -219,9 +252,9 @@ impl TagHead {
     }
 
     /// The next byte of the tag's head.
-    pub fn step(self, byte: u8) -> Progress
+    pub fn step(self, byte: u8) -> Progress<'static>
         ensures goes { (key so_far : List ℕ) → FeedsTagHead key so_far self
-            → Continues key so_far result (λ bytes. left_in_tag_head key so_far self (byte ∷ bytes)) }
+            → Continues so_far result (λ bytes. left_in_tag_head key so_far self (byte ∷ bytes)) }
         ensures nearer { IfOpen result (λ machine. budget machine < budget (Machine.TagHead self)) }
     {
         let TagHead {
@@ -263,11 +296,17 @@ impl Tag {
     }
 
     /// What follows the tag's head. The tag's bytes begin at `at`.
-    fn after_head(head: Head, head_at: u64, at: u64, payload: u64, mac: Running) -> Progress
+    fn after_head(
+        head: Head,
+        head_at: u64,
+        at: u64,
+        payload: u64,
+        mac: Running,
+    ) -> Progress<'static>
         requires early { at < 2 ^ 58 }
         requires keyed { makes_mac mac ≡ true }
         ensures goes { (key so_far : List ℕ) → length so_far ≡ payload → Fed mac key (mac_structure protected [] so_far)
-            → Continues key so_far result (λ bytes. past_tag_head key so_far head head_at at bytes) }
+            → Continues so_far result (λ bytes. past_tag_head key so_far head head_at at bytes) }
         ensures nearer { IfOpen result (λ machine. budget machine ≤ 32) }
     {
         match Tag::fault_of_head(&head) {
@@ -283,9 +322,9 @@ impl Tag {
     }
 
     /// The next byte of the tag. With the last one comes the verdict.
-    pub fn step(self, byte: u8) -> Progress
+    pub fn step(self, byte: u8) -> Progress<'static>
         ensures goes { (key so_far : List ℕ) → FeedsTag key so_far self
-            → Continues key so_far result (λ bytes. left_in_tag key so_far self (byte ∷ bytes)) }
+            → Continues so_far result (λ bytes. left_in_tag key so_far self (byte ∷ bytes)) }
         ensures nearer { IfOpen result (λ machine. budget machine < budget (Machine.Tag self)) }
     {
         let Tag {

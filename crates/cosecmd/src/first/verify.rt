@@ -2,6 +2,7 @@
 
 ghost use Rattle.std.specs.Prelude.{◌≡◌, ◌≢◌, ◌<◌, ◌≤◌, ◌+◌, ◌^◌, ◌||◌, ℕ, Bool, true, false, List, [], ◌∷◌, Option, Some, None, Ok, Err, IfOk, IsOk, OnOk, is_err, length, take};
 ghost use Rattle.std.specs.Io.KnownBytes.{Appends};
+ghost use Rattle.cose_map.specs.KeySets.{keys as usable};
 ghost use Rattle.cosecmd.specs.FirstRun.{FirstRun, stops_for_intake, stops_for_sink};
 ghost use Rattle.cosecmd.specs.FirstVerdict.{first_verdict};
 ghost use Rattle.cosecmd.specs.TakenByte.{PutsByte, TakesByte, fails_to_take, payload_piece};
@@ -10,6 +11,7 @@ use crate::first::intake::Intake;
 use crate::first::machine::{Machine, Progress};
 use crate::first::sink::Sink;
 use crate::first::verdict::{Stop, Verdict};
+use cose_map::KeySet;
 
 /// The next byte of the intake, or `None` at its end.
 fn take_byte<I: Intake>(intake: &mut I) -> Result<Option<u8>, Stop>
@@ -41,22 +43,22 @@ fn hand_out<S: Sink>(sink: &mut S, in_payload: bool, byte: u8) -> Result<(), Sto
     }
 }
 
-/// Verifies one message under a key for HMAC 256/256: a tagged COSE_Mac0 with the protected header `{1: 5}` and an
-/// empty unprotected header (RFC 9052 section 6.2).
+/// Verifies one message under HMAC 256/256: a tagged COSE_Mac0 with the protected header `{1: 5}` and an empty
+/// unprotected header (RFC 9052 section 6.2), under the one key of the set that fits it.
 ///
 /// It takes one byte at a time, none after the one that settles the verdict, and hands the payload to the sink
 /// before the verdict is known: drop it after a refusal or a stop.
 pub fn verify_first<I: Intake, S: Sink>(
-    key: &[u8],
+    keys: &KeySet,
     intake: &mut I,
     sink: &mut S,
 ) -> Result<Verdict, Stop>
     // What was taken, what came of it, and what the sink got.
-    ensures run { (taken : List ℕ) × FirstRun key.now (I.to_come intake.old) (I.to_come intake.new) (I.ended intake.new)
+    ensures run { (taken : List ℕ) × FirstRun (usable keys.now) (I.to_come intake.old) (I.to_come intake.new) (I.ended intake.new)
         (S.contents sink.old) (S.contents sink.new) result taken }
     // Where the intake tells its bytes, the verdict is that of all of them.
     ensures answer { (bytes : List ℕ) → I.to_come intake.old ≡ Some bytes
-        → IfOk result (λ verdict. verdict ≡ first_verdict key.now bytes) }
+        → IfOk result (λ verdict. verdict ≡ first_verdict (usable keys.now) bytes) }
 
     // It stops only for a failure in this call.
     ensures intake_failure { I.has_failed intake.new ≡ (I.has_failed intake.old || stops_for_intake result) }
@@ -64,7 +66,7 @@ pub fn verify_first<I: Intake, S: Sink>(
     // A sink that is sure of every payload doesn't stop it.
     ensures sure { 2 ^ 56 ≤ S.sure sink.old → stops_for_sink result ≡ false }
 {
-    let mut machine = Machine::new(key);
+    let mut machine = Machine::new(*keys);
     'bytes: loop {
         let Some(byte) = take_byte(intake)? else {
             return Ok(machine.truncated());

@@ -4,7 +4,7 @@ use crate::first::intake::{ReadIntake, SliceIntake};
 use crate::first::sink::{Sink, Store};
 use crate::first::verdict::{Stop, Verdict};
 use crate::first::verify_first;
-use crate::tests::{FRONT, KEY, STRUCTURE, hmac, joined, message};
+use crate::tests::{FRONT, KEY, STRUCTURE, hmac, joined, key_set, message};
 use cose_head::{Kind, Reason, Refusal};
 use cose_mac::Alg;
 use std::alloc::{AllocError, Global};
@@ -27,10 +27,11 @@ const fn refused(reason: Reason, place: u64) -> Verdict {
 #[test]
 fn takes_the_message_in_any_pieces(rt: HostRuntime) -> Result<(), Fail> {
     let bytes = message(rt.alloc())?;
+    let keys = key_set().ok_or("no keys")?;
     for cut in [1, 2, 7, 64] {
         let mut intake = SliceIntake::new(bytes.as_slice(), cut);
         let mut store = Store::<16>::new();
-        let verdict = verify_first(KEY, &mut intake, &mut store);
+        let verdict = verify_first(&keys, &mut intake, &mut store);
         assert_eq!(rt; verdict, Ok(authentic(44)), "in pieces of {cut}");
         assert_eq!(rt; store.bytes(), b"hi".as_slice(), "in pieces of {cut}");
     }
@@ -46,9 +47,10 @@ fn answers(
     taken: usize,
 ) -> Result<(), AllocError> {
     let bytes = joined(rt.alloc(), &[FRONT, payload, tag])?;
+    let keys = key_set().expect(rt, "a key set");
     let mut reader = bytes.as_slice();
     let mut store = Store::<16>::new();
-    let answer = verify_first(KEY, &mut ReadIntake::new(&mut reader), &mut store);
+    let answer = verify_first(&keys, &mut ReadIntake::new(&mut reader), &mut store);
     assert_eq!(rt; answer, Ok(verdict), "{bytes:?}");
     assert_eq!(rt;
         bytes.len(),
@@ -106,9 +108,10 @@ fn refuses_other_payloads(rt: HostRuntime) -> Result<(), Fail> {
 #[test]
 fn stops_where_the_store_is_full(rt: HostRuntime) -> Result<(), Fail> {
     let bytes = message(rt.alloc())?;
+    let keys = key_set().ok_or("no keys")?;
     let mut store = Store::<1>::new();
     let mut intake = SliceIntake::new(bytes.as_slice(), 64);
-    let answer = verify_first(KEY, &mut intake, &mut store);
+    let answer = verify_first(&keys, &mut intake, &mut store);
     assert_eq!(rt; answer, Err(Stop::Sink));
     assert_eq!(rt; store.bytes(), b"h".as_slice());
     // Once it failed it takes nothing, not even a piece that would fit.

@@ -29,7 +29,6 @@ fn prints_the_verdict(rt: HostRuntime) -> Result<(), Fail> {
     let whole = message.as_slice();
     let longer = joined(rt.alloc(), &[whole, b"\xff"])?;
     let authentic = "authentic mac0 alg 5 payload 2 taken 44\n";
-    let no_keys = "fault keys BadKeySet at 0\n";
     prints(&rt, KEYS, whole, authentic, 0)?;
     prints(&rt, "A2010420444A656665", whole, authentic, 0)?;
     prints(&rt, "a201042058044a656665", whole, authentic, 0)?;
@@ -37,9 +36,76 @@ fn prints_the_verdict(rt: HostRuntime) -> Result<(), Fail> {
     prints(&rt, KEYS, b"", "refused Truncated at 0\n", 1)?;
     prints(&rt, "zz", whole, "fault line keys\n", 2)?;
     prints(&rt, "a20", whole, "fault line keys\n", 2)?;
-    prints(&rt, "", whole, no_keys, 2)?;
-    prints(&rt, "a2010420444a65666500", whole, no_keys, 2)?;
-    prints(&rt, "a20104204", whole, "fault line keys\n", 2)?;
+    Ok(())
+}
+
+#[test]
+fn takes_a_key_set(rt: HostRuntime) -> Result<(), Fail> {
+    let message = message(rt.alloc())?;
+    let whole = message.as_slice();
+    let authentic = "authentic mac0 alg 5 payload 2 taken 44\n";
+    // the set is refused
+    prints(&rt, "", whole, "fault keys PastRoom at 0\n", 2)?;
+    prints(&rt, "80", whole, "fault keys BadKeySet at 0\n", 2)?;
+    prints(&rt, "00", whole, "fault keys BadKeySet at 0\n", 2)?;
+    prints(
+        &rt,
+        "a2010420444a65666500",
+        whole,
+        "fault keys Trailing at 9\n",
+        2,
+    )?;
+    prints(
+        &rt,
+        "a2010420444a6566",
+        whole,
+        "fault keys PastRoom at 4\n",
+        2,
+    )?;
+    prints(&rt, "1c", whole, "fault keys Reserved at 0\n", 2)?;
+    prints(&rt, "9f", whole, "fault keys Indefinite at 0\n", 2)?;
+    prints(&rt, "f800", whole, "fault keys BadSimple at 0\n", 2)?;
+    prints(
+        &rt,
+        "818181818181818181a0",
+        whole,
+        "fault keys TooDeep at 8\n",
+        2,
+    )?;
+    // the choice of the key
+    prints(&rt, "a0", whole, "refused NoKey at 7\n", 1)?;
+    prints(&rt, "8100", whole, "refused NoKey at 7\n", 1)?;
+    prints(
+        &rt,
+        "a30104030420444a656665",
+        whole,
+        "refused NoKey at 7\n",
+        1,
+    )?;
+    prints(&rt, "a30104030520444a656665", whole, authentic, 0)?;
+    prints(&rt, "a3010404810a20444a656665", whole, authentic, 0)?;
+    prints(
+        &rt,
+        "a3010404810920444a656665",
+        whole,
+        "refused NoKey at 7\n",
+        1,
+    )?;
+    prints(
+        &rt,
+        "82a2010420444a656665a201042041aa",
+        whole,
+        "refused AmbiguousKey at 7\n",
+        1,
+    )?;
+    prints(
+        &rt,
+        "82a2010420444a656665a20101200641aa",
+        whole,
+        "fault keys Trailing at 15\n",
+        2,
+    )?;
+    prints(&rt, "82a2010420444a656665a201012006", whole, authentic, 0)?;
     Ok(())
 }
 

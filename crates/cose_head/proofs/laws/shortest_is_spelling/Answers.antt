@@ -1,5 +1,6 @@
 use Rattle.cose_head.proofs.ShortHeads.{shortest_is_head}
 use Rattle.cose_head.proofs.ShortItems.{shortest_spells}
+use Rattle.cose_head.proofs.ShortLeast.{shortest_least}
 use Rattle.cose_head.proofs.laws.shortest_is_spelling.Goals as goal
 
 pub returns-clause-head : goal.returns-clause-head
@@ -7,3 +8,6 @@ returns-clause-head c = shortest_is_head
 
 pub returns-clause-item : goal.returns-clause-item
 returns-clause-item c = shortest_spells
+
+pub returns-clause-least : goal.returns-clause-least
+returns-clause-least c = shortest_least

@@ -14,4 +14,5 @@ ended-preserved g c =
     (let total = ap length last in let sum = length-append c.pop.new.self.items (0 ∷ []) in omega arith, λ l. c.ended.invariant.1 l ∙ finish-taken_last g.row.D c.ended.counts.items c.pop.new.self.items l last)
 
 pub returns : goal.returns
-returns g c = λ l. c.ended.invariant.1 l ∙ finish-taken_all g.row.D c.ended.counts.items l (λ some. let no_item = c.in_default.ensures.variant.1 some in cc)
+returns g c = λ l. c.ended.invariant.1 l
+    ∙ finish-taken_all g.row.D c.ended.counts.items l (λ some. let no_item = c.in_default.ensures.variant.1 some in cc)

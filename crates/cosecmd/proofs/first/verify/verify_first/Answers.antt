@@ -38,13 +38,13 @@ pub returns-in-Settled-clause-run : goal.returns-in-Settled-clause-run
 returns-in-Settled-clause-run g c =
     let a = c.bytes.invariant.0 in
     let byte = rw c.in-Some.is at c.in_ok-byte.ensures.byte in
-    (a.taken ++ c.in-Some.byte ∷ [], settled_now c.in-Some.byte _ c.in-Settled.verdict a byte.0 (c.is_in_payload-in_payload.ensures c.in-Some.byte) c.in_ok-hand_out.ensures.byte (c.in-Settled.ensures.goes c.args.key.now a.so_far a.stands.feeds) byte.1)
+    (a.taken ++ c.in-Some.byte ∷ [], settled_now c.in-Some.byte _ c.in-Settled.verdict a byte.0 (c.is_in_payload-in_payload.ensures c.in-Some.byte) c.in_ok-hand_out.ensures.byte (c.in-Settled.ensures.goes a.stands.key a.so_far a.stands.feeds) byte.1)
 
 pub bytes-preserved : goal.bytes-preserved
 bytes-preserved g c =
     let a = c.bytes.invariant.0 in
     let byte = rw c.in-Some.is at c.in_ok-byte.ensures.byte in (
-      goes_on c.in-Some.byte _ a byte.0 (c.is_in_payload-in_payload.ensures c.in-Some.byte) c.in_ok-hand_out.ensures.byte c.in_ok-hand_out.ensures.promise (c.in-Open.ensures.goes c.args.key.now a.so_far a.stands.feeds),
+      goes_on c.in-Some.byte _ a byte.0 (c.is_in_payload-in_payload.ensures c.in-Some.byte) c.in_ok-hand_out.ensures.byte c.in_ok-hand_out.ensures.promise (c.in-Open.ensures.goes a.stands.key a.so_far a.stands.feeds),
       c.in_ok-byte.ensures.failure ∙ or-false _ ∙ c.bytes.invariant.1,
       c.in_ok-hand_out.ensures.failure ∙ or-false _ ∙ c.bytes.invariant.2,
     )

@@ -14,10 +14,11 @@ returns-then-length-eq0-clause-goes c = λ key fed.
     let front = structure_front Mac0 protected [] c.args.length in
     let whole : structure_front Mac0 protected [] c.args.length ≡ mac_structure protected [] [] = sym (append-nil front) ∙ c.structure_front.ensures.front [] (sym none) in
     let fed_front : Fed c.structure_front.new.into key (structure_front Mac0 protected [] c.args.length) = c.structure_front.ensures.appended.mac Hmac256 key [] fed in
-    Continues-along key [] c.begin.result _ _ (λ bytes. rw none (with_string-none (λ b. b) (tag_head key) c.args.at bytes)) (c.begin.ensures.goes key [] refl (subst (λ (text : List ℕ). Fed c.structure_front.new.into key text) whole fed_front))
+    Continues-along [] c.begin.result _ _ (λ bytes. rw none (with_string-none (λ b. b) (tag_head key) c.args.at bytes)) (c.begin.ensures.goes key [] refl (subst (λ (text : List ℕ). Fed c.structure_front.new.into key text) whole fed_front))
 
 pub returns-clause-goes : goal.returns-clause-goes
 returns-clause-goes c = λ key fed. record {
+  key = key;
   feeds = record {
     count = zero-add c.args.length;
     opened = record {

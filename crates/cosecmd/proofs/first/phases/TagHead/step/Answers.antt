@@ -16,4 +16,4 @@ returns-in-Got-clause-goes c = λ key so_far f.
     let now : c.as_slice.result.now ≡ c.args.self.held.items ++ c.args.byte ∷ [] = c.as_slice.ensures.value ∙ c.push.ensures.items in
     let stays : (more : List ℕ) → bare_head ((c.args.self.held.items ++ c.args.byte ∷ []) ++ more) ≡ Got c.in-Got.head c.in-Got.used = rw now at (c.in-Got.ensures.stays tt) in
     let last : c.in-Got.used ≡ length (c.args.self.held.items ++ c.args.byte ∷ []) = c.in-Got.ensures.last c.args.self.held.items c.args.byte now f.half ∙ ap length now in
-    Continues-along key so_far c.after_head.result _ _ (completed so_far (past_tag_head key so_far) c.args.self.at c.args.self.held.items c.args.byte c.in-Got.head c.in-Got.used stays last) (c.after_head.ensures.goes key so_far f.count f.fed)
+    Continues-along so_far c.after_head.result _ _ (completed so_far (past_tag_head key so_far) c.args.self.at c.args.self.held.items c.args.byte c.in-Got.head c.in-Got.used stays last) (c.after_head.ensures.goes key so_far f.count f.fed)
