@@ -195,3 +195,43 @@ fn counts_missing_argument_bytes(rt: HostRuntime) {
         assert_eq!(rt; parse_head(bytes), HeadStep::More(missing), "of {bytes:?}");
     }
 }
+
+#[test]
+fn gives_children_with_their_places(rt: HostRuntime) {
+    let bytes = b"\xa2\x01\x38\x00\x18\x2a\x82\x61\x61\xf9\x3c\x00";
+    let Some(mut children) = Items::new(bytes, 3) else {
+        return assert!(rt; false);
+    };
+    let rows: [(u64, usize, Option<i128>); 4] = [
+        (4, 1, Some(1)),
+        (5, 2, Some(-1)),
+        (7, 2, Some(42)),
+        (9, 6, None),
+    ];
+    for (place, length, number) in rows {
+        match children.next() {
+            Some(child) => {
+                assert_eq!(rt; child.place, place);
+                assert_eq!(rt; child.bytes.len(), length);
+                assert_eq!(rt; child.as_int(), number);
+            }
+            None => assert!(rt; false, "no child at {place}"),
+        }
+    }
+    assert!(rt; children.next().is_none());
+    assert!(rt; Items::new(b"\xc1\x80", 0).is_none());
+}
+
+#[test]
+fn tells_what_an_item_is(rt: HostRuntime) {
+    let item = |bytes| ItemRef { bytes, place: 0 };
+    assert_eq!(rt; item(b"\x61\x61").as_text(), Some("a"));
+    assert_eq!(rt; item(b"\x61\xff").as_text(), None);
+    assert_eq!(rt; item(b"\x41\xff").as_bytes(), Some(b"\xff".as_slice()));
+    assert!(rt; item(b"\xf9\x3c\x00").is_float());
+    assert!(rt; !item(b"\xf6").is_float());
+    assert!(rt; item(b"\x80").is_array());
+    assert!(rt; item(b"\xa0").is_map());
+    assert_eq!(rt; item(b"\xc1\x00").head().arg, 1);
+    assert_eq!(rt; item(b"").head().arg, 23);
+}

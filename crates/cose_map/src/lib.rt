@@ -29,3 +29,6 @@ pub use material::{Material, Y};
 pub use ops::Ops;
 pub use pair_check::check_pair;
 pub use pairs::Pairs;
+
+#[cfg(test)]
+mod tests;
