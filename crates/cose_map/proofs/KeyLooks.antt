@@ -4,7 +4,8 @@ use Rattle.std.specs.Prelude.{◌==◌}
 use Rattle.std.proofs.lemmas.Bool.Decides.{nat_tests}
 use Rattle.cose_head.specs.declared.head.Head.{Head}
 use Rattle.cose_head.specs.Placed.{look_with, simple_look}
-use Rattle.cose_map.specs.Key.{is_text_like, truth_in}
+use Rattle.cose_map.specs.KeyForm.{is_text_like}
+use Rattle.cose_map.specs.Material.{truth_in}
 
 pub is_text_at : (h : Head) (rest : List ℕ) → is_text_like (look_with h rest) ≡ (h.major == 3)
 is_text_at h rest = grind (arith, nat_tests)

@@ -9,7 +9,9 @@ use Rattle.cose_head.specs.Reading.{read, head}
 use Rattle.cose_head.specs.Placed.{look, children_of, items_from, head_of_item}
 use Rattle.cose_map.specs.Label.{LabelValue, number}
 use Rattle.cose_map.specs.Maps.{Read, check_pairs}
-use Rattle.cose_map.specs.Key.{key_of, key_table, material_of}
+use Rattle.cose_map.specs.Key.{key_of}
+use Rattle.cose_map.specs.KeyForm.{key_table}
+use Rattle.cose_map.specs.Material.{material_of}
 use Rattle.cose_map.specs.KeySet.{keys_of}
 use Rattle.cose_map.specs.KeyValue.{KeyValue, symmetric, elliptic, sign}
 

@@ -7,6 +7,8 @@ pub mod Bucket
 pub mod Buckets
 pub mod PairFault
 pub mod KeyValue
+pub mod KeyForm
+pub mod Material
 pub mod Key
 pub mod KeySet
 pub mod KeyParts

@@ -47,12 +47,7 @@ impl<'a> Bucket<'a> {
     pub fn get(&self, label: &Label<'_>) -> Option<ItemRef<'a>>
         ensures { option_map placed result ≡ value_of (label_value label.now) (bucket_pairs self.now) }
     {
-        'pairs: for (name, _item, value) in self.pairs {
-            if label.is_same(&name) {
-                return Some(value);
-            }
-        }
-        None
+        Pairs::get(&self.pairs, label)
     }
 
     /// Whether a label stands in the bucket.

@@ -11,7 +11,7 @@ pub(crate) struct Curve {
 
 impl Curve {
     ghost use Rattle.std.specs.Prelude.{◌≡◌};
-    ghost use Rattle.cose_map.specs.Key.{curve_of};
+    ghost use Rattle.cose_map.specs.Material.{curve_of};
 
     /// The usable curve of this number.
     pub(crate) fn numbered(number: i128) -> Option<Curve>

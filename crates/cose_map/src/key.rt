@@ -52,3 +52,6 @@ impl<'a> Key<'a> {
         })
     }
 }
+
+#[cfg(test)]
+mod tests;

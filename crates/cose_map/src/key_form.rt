@@ -3,7 +3,7 @@
 ghost use Rattle.std.specs.Prelude.{◌≡◌};
 ghost use Rattle.cose_head.specs.ItemRef.{placed};
 ghost use Rattle.cose_head.specs.Items.{items_left};
-ghost use Rattle.cose_map.specs.Key.{is_number_or_text as is_number_or_text_value, is_key_ops as is_key_ops_value, are_operations as are_operation_values, key_table};
+ghost use Rattle.cose_map.specs.KeyForm.{is_number_or_text as is_number_or_text_value, is_key_ops as is_key_ops_value, are_operations as are_operation_values, key_table};
 
 use crate::form::{is_bytes, is_label};
 use crate::label::Label;
@@ -45,7 +45,7 @@ fn is_key_ops(item: &ItemRef) -> bool
 impl Form for KeyForm {
     ghost table = { λ form. key_table };
 
-    #[tactic(auto, unfolding(crate::specs::Key::key_table))]
+    #[tactic(auto, unfolding(crate::specs::KeyForm::key_table))]
     fn fault(&self, label: &Label<'_>, value: &ItemRef<'_>) -> Option<Reason> {
         let is_right = match label {
             Label::Int(1) => is_number_or_text(value),

@@ -90,3 +90,6 @@ impl<'a> KeySet<'a> {
         fitting.answer(query)
     }
 }
+
+#[cfg(test)]
+mod tests;

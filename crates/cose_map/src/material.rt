@@ -4,7 +4,8 @@ ghost use Rattle.std.specs.Prelude.{◌≡◌, ℕ, Err, length, option_map, is_
 ghost use Rattle.cose_head.specs.ItemRef.{placed};
 ghost use Rattle.cose_head.specs.Placed.{look, integer_in, bytes_in};
 ghost use Rattle.cose_map.specs.Bucket.{is_bytes as is_bytes_value};
-ghost use Rattle.cose_map.specs.Key.{secret_in, coordinate_of, coordinate_in, y_in, curve_in, private_part as private_part_of, is_text as is_text_value, truth_in};
+ghost use Rattle.cose_map.specs.KeyForm.{is_text as is_text_value};
+ghost use Rattle.cose_map.specs.Material.{secret_in, coordinate_of, coordinate_in, y_in, curve_in, private_part as private_part_of, truth_in};
 ghost use Rattle.cose_map.specs.Maps.{refuse};
 ghost use Rattle.cose_map.specs.Views.{seen_by};
 ghost use Rattle.cose_map.specs.KeyParts.{contents, material_value, y_value};

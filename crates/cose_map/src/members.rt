@@ -3,7 +3,8 @@
 ghost use Rattle.std.specs.Prelude.{◌≡◌, option_map};
 ghost use Rattle.cose_head.specs.ItemRef.{placed};
 ghost use Rattle.cose_map.specs.Bucket.{value_of};
-ghost use Rattle.cose_map.specs.Key.{member, symmetric_key, elliptic_key, material_of, bytes_of, label_at, operations_at};
+ghost use Rattle.cose_map.specs.Key.{bytes_of, label_at, operations_at};
+ghost use Rattle.cose_map.specs.Material.{member, symmetric_key, elliptic_key, material_of};
 ghost use Rattle.cose_map.specs.KeyParts.{contents, material_value};
 ghost use Rattle.cose_map.specs.Label.{number};
 ghost use Rattle.cose_map.specs.Ops.{operations_of};
@@ -89,7 +90,7 @@ impl<'a> Members<'a> {
     }
 
     /// What the key consists of, by its type: 2 is EC2, and 4 is Symmetric.
-    #[tactic(auto, unfolding(crate::specs::Key::material_of))]
+    #[tactic(auto, unfolding(crate::specs::Material::material_of))]
     pub(crate) fn material(&self) -> Result<Material<'a>, Refusal>
         ensures { seen_by material_value result ≡ material_of (placed self.now.key) (pairs_left self.now.pairs) }
     {

@@ -2,7 +2,7 @@
 use Rattle.std.proofs.Common.{◌≡◌, ◌==◌, ◌&&◌, ◌||◌, not, length}
 use Rattle.std.specs.List.{list_all}
 use Rattle.cose_head.specs.Items.{items_left}
-use Rattle.cose_map.specs.Key.{is_number_or_text, are_operations}
+use Rattle.cose_map.specs.KeyForm.{is_number_or_text, are_operations}
 use Rattle.cose_map.proofs.key_form.are_operations.Given as goal
 
 abbrev pub invariant-elements : goal.invariant-elements

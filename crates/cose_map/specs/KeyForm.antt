@@ -1,0 +1,53 @@
+-- The forms of the members that keys of every type may have (RFC 9052 section 7.1).
+use Rattle.std.specs.Prelude.{pos, Bool, true, false, not, List, length, Some, None, ◌==◌, ◌&&◌, ◌||◌, if◌then◌else◌, is_some}
+use Rattle.std.specs.List.{list_all}
+use Rattle.cose_head.specs.declared.reason.Reason.TheVariants.{BadValue}
+use Rattle.cose_head.specs.Placed.{Placed, Look, text_content, look, integer_in, is_an_array, children_of}
+use Rattle.cose_map.specs.Bucket.{is_label, is_bytes}
+use Rattle.cose_map.specs.Label.{LabelValue, number, same_label}
+use Rattle.cose_map.specs.Maps.{Table}
+
+-- An integer or any text.
+abbrev pub is_text_like : Look → Bool
+is_text_like (text_content content) = true
+is_text_like _ = false
+
+abbrev pub is_text : Placed → Bool
+is_text p = is_text_like (look p)
+
+abbrev pub is_number_or_text : Placed → Bool
+is_number_or_text p = is_some (integer_in (look p)) || is_text p
+
+-- An array of one or more of these.
+abbrev pub are_operations : List Placed → Bool
+are_operations elements = not (length elements == 0) && list_all is_number_or_text elements
+
+abbrev pub is_key_ops : Placed → Bool
+is_key_ops p = is_an_array (look p) && are_operations (children_of p)
+
+-- The members of keys of every type (RFC 9052 section 7.1).
+abbrev pub key_type : LabelValue
+key_type = number (pos 1)
+
+abbrev pub key_kid : LabelValue
+key_kid = number (pos 2)
+
+abbrev pub key_alg : LabelValue
+key_alg = number (pos 3)
+
+abbrev pub key_ops : LabelValue
+key_ops = number (pos 4)
+
+abbrev pub base_iv : LabelValue
+base_iv = number (pos 5)
+
+-- The forms of their values. Other labels have any value here.
+abbrev pub key_form : LabelValue → Placed → Bool
+key_form name value =
+    if same_label name key_type then is_number_or_text value else
+    if same_label name key_alg then is_label value else
+    if same_label name key_ops then is_key_ops value else
+    if same_label name key_kid || same_label name base_iv then is_bytes value else true
+
+unfoldable pub key_table : Table
+key_table name value = if key_form name value then None else Some BadValue

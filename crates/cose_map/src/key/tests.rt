@@ -1,0 +1,54 @@
+//! Tables of examples: values that the contracts can't show to be the ones that were meant.
+
+use super::*;
+use crate::material::Y;
+use cose_head::Reason;
+
+#[test]
+fn refuses_at_the_first_fault(rt: HostRuntime) {
+    let rows: [(&[u8], Reason, u64); 12] = [
+        (b"", Reason::PastRoom, 7),
+        (b"\x80", Reason::NotMap, 7),
+        (b"\xa0", Reason::BadValue, 7),
+        (b"\xa1\x01\x40", Reason::BadValue, 9),
+        (b"\xa2\x01\x01\x20\x06", Reason::UnknownKey, 7),
+        (b"\xa1\x01\x61\xff", Reason::UnknownKey, 7),
+        (b"\xa2\x01\x04\x20\x40", Reason::BadValue, 11),
+        (b"\xa3\x01\x04\x04\x80\x20\x41a", Reason::BadValue, 11),
+        (b"\xa3\x01\x04\x03\x61\xff\x20\x41a", Reason::BadValue, 11),
+        (b"\xa3\x01\x04\x01\x04\x20\x41a", Reason::DuplicateLabel, 10),
+        (b"\xa2\x01\x02\x20\x02", Reason::UnknownKey, 7),
+        (b"\xa3\x01\x02\x20\x01\x21\x41x", Reason::BadValue, 13),
+    ];
+    for (bytes, reason, place) in rows {
+        let refused = Key::read(bytes, 7).err();
+        assert_eq!(rt; refused, Some(Refusal { reason, place }));
+    }
+}
+
+/// The sign of y, where that is all that a point has of it.
+fn sign_of(material: Material) -> Option<bool> {
+    match material {
+        Material::Ec {
+            crv: 1,
+            y: Y::Sign(odd),
+            ..
+        } => Some(odd),
+        _ => None,
+    }
+}
+
+#[test]
+fn reads_what_a_key_says(rt: HostRuntime) {
+    let secret = b"\xa4\x01\x04\x02\x411\x04\x82\x0a\x61\xff\x20\x41a";
+    let key = Key::read(secret, 0);
+    let ops = key.ok().and_then(|key| key.ops);
+    assert_eq!(rt; key.ok().and_then(|key| key.kid), Some(b"1".as_slice()));
+    assert!(rt; ops.is_some_and(|ops| ops.holds(10)));
+    assert!(rt; !ops.is_some_and(|ops| ops.holds(9)));
+
+    let point = b"\xa4\x01\x02\x20\x01\x21\x58\x20\
+        01234567890123456789012345678901\x22\xf5";
+    let key = Key::read(point, 0);
+    assert_eq!(rt; key.ok().and_then(|key| sign_of(key.material)), Some(true));
+}

@@ -1,0 +1,127 @@
+//! Tables of examples: values that the contracts can't show to be the ones that were meant.
+
+use super::*;
+use crate::label::Label;
+use crate::material::Material;
+use cose_head::Kind;
+
+/// A secret key, and the same for HMAC 256/256 alone.
+const PLAIN: &[u8] = b"\xa2\x01\x04\x20\x44Jefe";
+
+const FOR_FIVE: &[u8] = b"\xa3\x01\x04\x03\x05\x20\x44Jefe";
+
+fn fault(reason: Reason, place: u64) -> Result<usize, Refusal> {
+    Err(Refusal { reason, place })
+}
+
+/// The number of usable keys.
+fn counted(bytes: &[u8]) -> Result<usize, Refusal> {
+    Ok(KeySet::read(bytes)?.count())
+}
+
+#[test]
+fn reads_key_sets(rt: HostRuntime) {
+    let rows: [(&[u8], Result<usize, Refusal>); 13] = [
+        (b"", fault(Reason::PastRoom, 0)),
+        (b"\x80", fault(Reason::BadKeySet, 0)),
+        (b"\x00", fault(Reason::BadKeySet, 0)),
+        (b"\xa0", Ok(0)),
+        (b"\x81\x00", Ok(0)),
+        (PLAIN, Ok(1)),
+        (b"\x82\xa2\x01\x04\x20\x41a\xa2\x01\x04\x20\x41b", Ok(2)),
+        (b"\xa2\x01\x04\x20\x44Jefe\x00", fault(Reason::Trailing, 9)),
+        (b"\xa2\x01\x04\x20\x44Jef", fault(Reason::PastRoom, 4)),
+        (&[0; 65_536], fault(Reason::BadKeySet, 0)),
+        // A label twice, an unknown type, and an operation that is a text of no UTF-8.
+        (b"\xa3\x01\x04\x01\x04\x20\x41c", Ok(0)),
+        (b"\x82\xa2\x01\x01\x20\x06\xa2\x01\x04\x20\x41a", Ok(1)),
+        (b"\xa3\x01\x04\x04\x81\x61\xff\x20\x41a", Ok(1)),
+    ];
+    for (bytes, want) in rows {
+        assert_eq!(rt; counted(bytes), want);
+    }
+}
+
+/// The secret of the key that is found for a MAC, and the algorithm.
+fn found<'a>(
+    bytes: &'a [u8],
+    protected_alg: Option<Label>,
+    unprotected_alg: Option<Label>,
+    kid: Option<&[u8]>,
+) -> Result<(&'a [u8], i128), Reason> {
+    let Ok(set) = KeySet::read(bytes) else {
+        return Err(Reason::BadKeySet);
+    };
+    let query = Query {
+        kind: Kind::Mac0,
+        operation: 10,
+        protected_alg,
+        unprotected_alg,
+        kid,
+    };
+    let (key, algorithm) = set.find(&query)?;
+    match key.material {
+        Material::Symmetric(secret) => Ok((secret, algorithm)),
+        Material::Ec { .. } => Err(Reason::UnknownKey),
+    }
+}
+
+#[test]
+fn finds_by_the_algorithm(rt: HostRuntime) {
+    let five = Some(Label::Int(5));
+    let right: Result<(&[u8], i128), Reason> = Ok((b"Jefe", 5));
+    let rows = [
+        (five, None, right, right),
+        (None, five, Err(Reason::AlgUnprotected), right),
+        (None, None, Err(Reason::NoAlg), right),
+        (
+            Some(Label::Int(-7)),
+            None,
+            Err(Reason::UnknownAlg),
+            Err(Reason::UnknownAlg),
+        ),
+        (
+            Some(Label::Text("5")),
+            None,
+            Err(Reason::UnknownAlg),
+            Err(Reason::UnknownAlg),
+        ),
+        (
+            Some(Label::Int(4)),
+            None,
+            Ok((b"Jefe", 4)),
+            Err(Reason::NoKey),
+        ),
+    ];
+    for (protected, unprotected, plain, for_five) in rows {
+        assert_eq!(rt; found(PLAIN, protected, unprotected, None), plain);
+        assert_eq!(rt; found(FOR_FIVE, protected, unprotected, None), for_five);
+    }
+}
+
+#[test]
+fn finds_the_one_key_that_fits(rt: HostRuntime) {
+    let rows: [(&[u8], Result<(&[u8], i128), Reason>); 5] = [
+        (
+            b"\x82\xa3\x01\x04\x02\x411\x20\x41a\xa3\x01\x04\x02\x411\x20\x41b",
+            Err(Reason::AmbiguousKey),
+        ),
+        // The second key may create a MAC, and not verify one.
+        (
+            b"\x82\xa3\x01\x04\x02\x411\x20\x41a\xa4\x01\x04\x02\x411\x04\x81\x09\x20\x41b",
+            Ok((b"a", 5)),
+        ),
+        (
+            b"\x82\xa3\x01\x04\x02\x411\x20\x41a\xa2\x01\x01\x20\x06",
+            Ok((b"a", 5)),
+        ),
+        (
+            b"\x82\xa3\x01\x04\x02\x411\x20\x41a\xa3\x01\x04\x01\x04\x20\x41c",
+            Ok((b"a", 5)),
+        ),
+        (PLAIN, Ok((b"Jefe", 5))),
+    ];
+    for (bytes, want) in rows {
+        assert_eq!(rt; found(bytes, Some(Label::Int(5)), None, Some(b"1")), want);
+    }
+}
