@@ -1,3 +1,4 @@
 pub mod MachineLemmas
 pub mod PhaseLemmas
+pub mod PlaceLemmas
 pub mod RunLemmas

@@ -16,6 +16,7 @@ use Rattle.cosecmd.specs.FirstRun.{FirstRun}
 use Rattle.cosecmd.specs.FirstVerdict.{first_reading, first_verdict}
 use Rattle.cosecmd.specs.Machine.{Continues, StandsFor, left_of, payload_byte, place_of, settled_as}
 use Rattle.cosecmd.specs.Phases.{Reading, unsettled}
+use Rattle.cosecmd.proofs.PlaceLemmas.{IsWithin, first_reading-within}
 use Rattle.cosecmd.proofs.MachineLemmas.{payload_byte_open, unsettled_here}
 
 pub or-false : (b : Bool) → (b || false) ≡ b
@@ -102,6 +103,7 @@ stopped_by_intake {keys} {come} {come_now} {come_after} {contents} {contents_now
     record {
       bytes = taken_before_failure come come_now come_after a.taken a.bytes keeps;
       none_after_end = a.none_after_end;
+      placed = tt;
       answer = rw here refl;
       payload = rw here a.payload;
     }
@@ -113,6 +115,7 @@ ended_open {keys} {come} {come_now} {come_after} {contents} {contents_now} {sure
     record {
       bytes = subst (λ (t : List ℕ). TakesInAll come come_after t) (append-nil a.taken) (taken_in_all come come_after (a.taken ++ []) (Consumes-then come come_now come_after a.taken [] a.bytes none));
       none_after_end = a.none_after_end;
+      placed = subst (λ (r : Reading). IsWithin (length a.taken) r) here (first_reading-within keys a.taken);
       answer = rw here (refl, rw e refl);
       payload = rw here a.payload;
     }
@@ -139,6 +142,7 @@ stopped_by_sink {keys} {come} {come_now} {come_after} {contents} {contents_now} 
     record {
       bytes = taken_in_all come come_after (a.taken ++ byte ∷ []) (Consumes-then come come_now come_after a.taken (byte ∷ []) a.bytes one);
       none_after_end = none_after_end-more keys a.taken byte (rw here refl) a.none_after_end;
+      placed = tt;
       answer = rw after refl;
       payload = rw after (AppendsFront-then contents contents_now contents_after a.so_far (byte ∷ []) a.payload front);
     }
@@ -151,6 +155,7 @@ settled_now {keys} {come} {come_now} {come_after} {contents} {contents_now} {con
     record {
       bytes = taken_in_all come come_after (a.taken ++ byte ∷ []) (Consumes-then come come_now come_after a.taken (byte ∷ []) a.bytes one);
       none_after_end = none_after_end-more keys a.taken byte (rw here refl) a.none_after_end;
+      placed = subst (λ (r : Reading). IsWithin (length (a.taken ++ byte ∷ [])) r) after (first_reading-within keys (a.taken ++ byte ∷ []));
       answer = rw after (refl, rw e refl);
       payload = rw (after, is_piece) (Appends-then contents contents_now contents_after a.so_far piece a.payload grows);
     }

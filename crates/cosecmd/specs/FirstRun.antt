@@ -1,5 +1,5 @@
 -- What a call of the first path did with an intake and a sink.
-use Rattle.std.specs.Prelude.{◌≡◌, ℕ, ◌<◌, Bool, true, false, List, length, take, Option, Result, Ok, Err, not}
+use Rattle.std.specs.Prelude.{◌≡◌, ℕ, ◌<◌, Bool, true, false, List, length, take, Option, Result, Ok, Err, IfOk, not}
 use Rattle.std.specs.Io.KnownBytes.{Appends}
 use Rattle.cose_map.specs.KeyValue.{KeyValue}
 use Rattle.cosecmd.specs.declared.first.verdict.Verdict.{Verdict}
@@ -7,7 +7,7 @@ use Rattle.cosecmd.specs.declared.first.verdict.Stop.{Stop}
 use Rattle.cosecmd.specs.declared.first.verdict.Stop.TheVariants as stops
 use Rattle.cosecmd.specs.Intake.{TakesInAll}
 use Rattle.cosecmd.specs.Sink.{AppendsFront}
-use Rattle.cosecmd.specs.Phases.{Reading}
+use Rattle.cosecmd.specs.Phases.{Reading, VerdictWithin}
 use Rattle.cosecmd.specs.FirstVerdict.{first_reading}
 
 abbrev pub stops_for_intake : Result Verdict Stop → Bool
@@ -37,5 +37,7 @@ pub record FirstRun (keys : List KeyValue) (come come_after : Option (List ℕ))
   pub bytes : TakesInAll come come_after taken
   -- None was taken after the one that settles the verdict.
   pub none_after_end : (n : ℕ) → n < length taken → (first_reading keys (take n taken)).settled ≡ false
+  -- Its places are within the bytes taken.
+  pub placed : IfOk result (VerdictWithin (length taken))
   pub answer : Answers result ended (first_reading keys taken)
   pub payload : Grows contents contents_after result (first_reading keys taken).payload

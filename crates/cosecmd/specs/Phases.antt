@@ -1,5 +1,5 @@
 -- The phases of a message: each is a function of its place and of the bytes that begin there.
-use Rattle.std.specs.Prelude.{ℕ, ◌+◌, Bool, true, false, List, [], ◌∷◌, length, take, drop, nat_lt, ◌==◌, if◌then◌else◌}
+use Rattle.std.specs.Prelude.{ℕ, ◌+◌, ◌≤◌, Bool, true, false, List, [], ◌∷◌, length, take, drop, nat_lt, ◌==◌, if◌then◌else◌}
 use Rattle.cose_head.specs.declared.head.Head.{Head}
 use Rattle.cose_head.specs.declared.head.HeadStep.{HeadStep}
 use Rattle.cose_head.specs.declared.head.HeadStep.TheVariants.{Got, More, Fault}
@@ -7,7 +7,7 @@ use Rattle.cose_head.specs.declared.reason.Reason.{Reason}
 use Rattle.cose_head.specs.declared.reason.Reason.TheVariants.{Truncated, WrongType}
 use Rattle.cose_head.specs.Head.{bare_head}
 use Rattle.cosecmd.specs.declared.first.verdict.Verdict.{Verdict}
-use Rattle.cosecmd.specs.declared.first.verdict.Verdict.TheVariants.{Refused}
+use Rattle.cosecmd.specs.declared.first.verdict.Verdict.TheVariants.{Authentic, Refused}
 
 -- What bytes come to: the verdict, whether it is settled, and the bytes of the payload among them.
 pub record Reading : Type 0 where
@@ -54,3 +54,8 @@ unfoldable pub with_string : (List ℕ → List ℕ) → ℕ → (List ℕ → P
 with_string payload n next place bytes =
     if nat_lt (length bytes) n then unsettled (payload bytes) (place + length bytes) else
     next (take n bytes) (place + n) (drop n bytes)
+
+-- The places that a verdict names are within so many bytes.
+abbrev pub VerdictWithin : ℕ → Verdict → Type 0
+VerdictWithin limit (Authentic kind alg payload taken) = taken ≤ limit
+VerdictWithin limit (Refused refusal) = refusal.place ≤ limit
