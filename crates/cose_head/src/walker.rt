@@ -58,6 +58,7 @@ fn next_child<const D: usize>(counts: &mut ArrayVec<usize, D>) -> bool
     ensures { (l : Left) → finish D counts.old.items (ends l) ≡
         (if result then finish D counts.new.items (walk (D - length counts.new.items) l) else ends l) }
 {
+    // The length is read for its bound: at most D.
     let _open = counts.len();
     'ended: while let Some(left) = counts.pop() {
         if left > 0 {

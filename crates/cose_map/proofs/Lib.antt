@@ -7,3 +7,4 @@ pub mod WorkedKeys
 pub mod KeyLooks
 pub mod KeyItems
 pub mod WorkedChoice
+pub mod LabelOrders

@@ -6,7 +6,6 @@ use Rattle.cose_head.specs.declared.refusal.Refusal.{Refusal}
 use Rattle.cose_head.specs.Placed.{Placed}
 use Rattle.cose_map.specs.Label.{LabelValue, label_of, same_label}
 use Rattle.cose_map.specs.Maps.{Read, ◌>>=◌, Table, Pair, has_label, name_at, new_name, value_at, check_pair, check_pairs, named, named_first}
-use Rattle.cose_map.specs.Views.{fault_of}
 
 -- a label among the first pairs
 pub taken_next : (name : LabelValue) (left : ℕ) (pairs : List Pair) (pair : Pair) (others : List Pair) → pairs ≡ pair ∷ others → (left ≡ 0 → ⊥) → same_label name pair.name ≡ false →
@@ -64,31 +63,19 @@ check_off : (table : Table) (earlier : List Pair) (label value : Placed) (others
 unfolding check_pairs
 check_off table earlier label value others refusal e = rw e refl
 
-abbrev pub passed : Table → List Pair → ℕ → Placed → Placed → Type 0
-passed table all count label value = Ok tt ≡ fault_of (check_pair table (take count all) label value)
-
-pair_that : (found : Read Pair) → Ok tt ≡ fault_of found → (pair : Pair) × (found ≡ Ok pair)
-pair_that (Ok pair) e = (pair, refl)
-pair_that (Err refusal) e = cc
-
-fault_that : (found : Read Pair) (refusal : Refusal) → Err refusal ≡ fault_of found → found ≡ Err refusal
-fault_that (Ok pair) refusal e = cc
-fault_that (Err other) refusal e = let same : other ≡ refusal = cc in rw same refl
-
-pub pairs_on : (table : Table) (all : List Pair) (count : ℕ) (rest : List Placed) (label value : Placed) (others : List Placed) (answer : Read (List Pair)) →
-    rest ≡ label ∷ value ∷ others → drop count all ≡ named rest → check_pairs table (take count all) rest ≡ answer → passed table all count label value →
-    (check_pairs table (take (count + 1) all) others ≡ answer) × (drop (count + 1) all ≡ named others)
-pairs_on table all count rest label value others answer e left same pass =
-    let found = pair_that (check_pair table (take count all) label value) pass in
-    let next : drop count all ≡ found.0 ∷ named others = left ∙ ap named e ∙ checked_named table (take count all) label value found.0 others found.1 in
-    let more : take (count + 1) all ≡ take count all ++ found.0 ∷ [] = rw (add-one count) (one_more count all found.0 (named others) next) in
-    let less : drop (count + 1) all ≡ named others = rw (add-one count) (one_less count all found.0 (named others) next) in
-    (rw more (sym (check_on table (take count all) label value others found.0 found.1) ∙ ap (check_pairs table (take count all)) (sym e) ∙ same), less)
+pub pairs_on : (table : Table) (all : List Pair) (count : ℕ) (rest : List Placed) (label value : Placed) (others : List Placed) (answer : Read (List Pair)) (pair : Pair) →
+    rest ≡ label ∷ value ∷ others → drop count all ≡ named rest → check_pairs table (take count all) rest ≡ answer → Ok pair ≡ check_pair table (take count all) label value →
+    (take (count + 1) all ≡ take count all ++ pair ∷ []) × (check_pairs table (take (count + 1) all) others ≡ answer) × (drop (count + 1) all ≡ named others)
+pairs_on table all count rest label value others answer pair e left same pass =
+    let next : drop count all ≡ pair ∷ named others = left ∙ ap named e ∙ checked_named table (take count all) label value pair others (sym pass) in
+    let more : take (count + 1) all ≡ take count all ++ pair ∷ [] = rw (add-one count) (one_more count all pair (named others) next) in
+    let less : drop (count + 1) all ≡ named others = rw (add-one count) (one_less count all pair (named others) next) in
+    (more, rw more (sym (check_on table (take count all) label value others pair (sym pass)) ∙ ap (check_pairs table (take count all)) (sym e) ∙ same), less)
 
 pub pairs_off : (table : Table) (all : List Pair) (count : ℕ) (rest : List Placed) (label value : Placed) (others : List Placed) (answer : Read (List Pair)) (refusal : Refusal) →
-    rest ≡ label ∷ value ∷ others → check_pairs table (take count all) rest ≡ answer → Err refusal ≡ fault_of (check_pair table (take count all) label value) → Err refusal ≡ answer
+    rest ≡ label ∷ value ∷ others → check_pairs table (take count all) rest ≡ answer → Err refusal ≡ check_pair table (take count all) label value → Err refusal ≡ answer
 pairs_off table all count rest label value others answer refusal e same stop =
-    sym (check_off table (take count all) label value others refusal (fault_that (check_pair table (take count all) label value) refusal stop)) ∙ ap (check_pairs table (take count all)) (sym e) ∙ same
+    sym (check_off table (take count all) label value others refusal (sym stop)) ∙ ap (check_pairs table (take count all)) (sym e) ∙ same
 
 few_named : (rest : List Placed) → length rest < 2 → named rest ≡ []
 unfolding named

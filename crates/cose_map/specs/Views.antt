@@ -20,11 +20,7 @@ abbrev pub seen_by : {X Y : Type 0} → (X → Y) → Result X Refusal → Read 
 seen_by view (Ok x) = Ok (view x)
 seen_by view (Err refusal) = Err refusal
 
--- Only the fault of what was read.
-abbrev pub fault_of : {A : Type 0} → Read A → Read (Unit {0})
-fault_of (Ok x) = Ok tt
-fault_of (Err refusal) = Err refusal
-
+-- The refusal, where there is one.
 abbrev pub refusal_in : {A : Type 0} → Read A → Option Refusal
 refusal_in (Ok x) = None
 refusal_in (Err refusal) = Some refusal

@@ -3,6 +3,7 @@
 ghost use Rattle.std.specs.Prelude.{◌≡◌, ◌&&◌, option_map};
 ghost use Rattle.cose_head.specs.ItemRef.{placed};
 ghost use Rattle.cose_map.specs.Label.{label_of, same_label};
+ghost use Rattle.cose_map.specs.LabelOrder as order;
 ghost use Rattle.cose_map.specs.Views.{label_value};
 
 use cose_head::ItemRef;
@@ -36,5 +37,39 @@ impl<'a> Label<'a> {
         ensures { result ≡ same_label (label_value self.now) (label_value other.now) }
     {
         *self == *other
+    }
+
+    /// The rank of the label among those of other lengths.
+    fn rank(&self) -> u128
+        ensures { result ≡ order.rank (label_value self.now) }
+    {
+        match self {
+            Label::Int(number) => {
+                if *number >= 0 {
+                    return *number as u128;
+                }
+                (1 << 64) + (-1 - *number) as u128
+            }
+            Label::Text(text) => (1 << 65) + text.len() as u128,
+        }
+    }
+
+    /// The text of the label, empty for an integer.
+    fn text(&self) -> &str
+        ensures { result.now ≡ order.text_of (label_value self.now) }
+    {
+        match self {
+            Label::Int(_) => "",
+            Label::Text(text) => text,
+        }
+    }
+
+    /// Whether deterministic encoding puts this label before the other (RFC 8949 section 4.2.1).
+    pub(crate) fn precedes(&self, other: &Label<'_>) -> bool
+        ensures { result ≡ order.precedes (label_value self.now) (label_value other.now) }
+    {
+        let rank = self.rank();
+        let other_rank = other.rank();
+        rank < other_rank || (rank == other_rank && self.text() < other.text())
     }
 }

@@ -1,12 +1,13 @@
 //! A map of labels and values, read with a table that says which form each label's value has
 //! (RFC 9052 sections 3 and 7, RFC 8392 section 3).
 
-ghost use Rattle.std.specs.Prelude.{◌≡◌, ℕ, ◌+◌, ◌<◌, ◌≤◌, ◌^◌, List, [], ◌∷◌, length, take, MatchOption, IfErr};
+ghost use Rattle.std.specs.Prelude.{◌≡◌, ℕ, ◌+◌, ◌<◌, ◌≤◌, ◌^◌, List, [], ◌∷◌, length, take, true, option_map, MatchOption, IfErr};
 ghost use Rattle.cose_head.specs.ItemRef.{placed};
 ghost use Rattle.cose_head.specs.Items.{items_left};
 ghost use Rattle.cose_map.specs.Maps.{Table, has_label, label_at, check_pair, check_pairs, check_map, read_map, whole};
+ghost use Rattle.cose_map.specs.LabelOrder as order;
 ghost use Rattle.cose_map.specs.Pairs.{pairs_left};
-ghost use Rattle.cose_map.specs.Views.{label_value, seen_by, fault_of};
+ghost use Rattle.cose_map.specs.Views.{label_value, pair_value, seen_by};
 
 use crate::label::Label;
 use crate::pairs::Pairs;
@@ -48,33 +49,73 @@ fn is_taken(name: &Label<'_>, pairs: Pairs<'_>, count: u128) -> bool
     false
 }
 
+/// Whether a label comes after the greatest so far.
+fn passes(greatest: Option<Label<'_>>, name: &Label<'_>) -> bool
+    ensures { result ≡ order.passes (option_map label_value greatest.entry) (label_value name.now) }
+{
+    match greatest {
+        Some(greatest) => greatest.precedes(name),
+        None => true,
+    }
+}
+
+/// The greater of a label and the greatest so far.
+fn greater<'a>(greatest: Option<Label<'a>>, name: Label<'a>) -> Option<Label<'a>>
+    ensures { option_map label_value result ≡ order.greater (option_map label_value greatest.entry) (label_value name.entry) }
+{
+    if passes(greatest, &name) {
+        return Some(name);
+    }
+    greatest
+}
+
+/// Whether a label stands among the first pairs. One that comes after the greatest of them doesn't.
+#[tactic(auto, using(crate::proofs::LabelOrders::none_passed))]
+fn is_repeated(name: &Label<'_>, pairs: Pairs<'_>, count: u128, greatest: Option<Label<'_>>) -> bool
+    requires { order.is_greatest (option_map label_value greatest) (take count (pairs_left pairs)) ≡ true }
+    ensures { result ≡ has_label (label_value name.now) (take count (pairs_left pairs.entry)) }
+{
+    if passes(greatest, name) {
+        return false;
+    }
+    is_taken(name, pairs, count)
+}
+
 /// The label at an item, if it is none of the first pairs.
-fn new_label<'a>(item: &ItemRef<'a>, pairs: Pairs<'_>, count: u128) -> Result<Label<'a>, Refusal>
+fn new_label<'a>(
+    item: &ItemRef<'a>,
+    pairs: Pairs<'_>,
+    count: u128,
+    greatest: Option<Label<'_>>,
+) -> Result<Label<'a>, Refusal>
+    requires { order.is_greatest (option_map label_value greatest) (take count (pairs_left pairs)) ≡ true }
     ensures { seen_by label_value result ≡ label_at (take count (pairs_left pairs.entry)) (placed item.now) }
 {
     let Some(name) = Label::of(item) else {
         return Err(refused(Reason::BadLabel, item));
     };
-    if is_taken(&name, pairs, count) {
+    if is_repeated(&name, pairs, count, greatest) {
         return Err(refused(Reason::DuplicateLabel, item));
     }
     Ok(name)
 }
 
-/// Whether a label is one, none of the first pairs, and has a value of its form.
-fn check_one<F: Form>(
+/// The label of a pair, if it is none of the first pairs, and the value has its form.
+fn check_one<'a, F: Form>(
     form: &F,
-    label: &ItemRef<'_>,
-    value: &ItemRef<'_>,
-    pairs: Pairs<'_>,
+    label: &ItemRef<'a>,
+    value: &ItemRef<'a>,
+    pairs: Pairs<'a>,
     count: u128,
-) -> Result<(), Refusal>
-    ensures { result ≡ fault_of (check_pair (F.table form.now) (take count (pairs_left pairs.entry)) (placed label.now) (placed value.now)) }
+    greatest: Option<Label<'a>>,
+) -> Result<Label<'a>, Refusal>
+    requires { order.is_greatest (option_map label_value greatest) (take count (pairs_left pairs)) ≡ true }
+    ensures { seen_by (λ name. pair_value (name, label.now, value.now)) result ≡ check_pair (F.table form.now) (take count (pairs_left pairs.entry)) (placed label.now) (placed value.now) }
 {
-    let name = new_label(label, pairs, count)?;
+    let name = new_label(label, pairs, count, greatest)?;
     match form.fault(&name, value) {
         Some(reason) => Err(refused(reason, value)),
-        None => Ok(()),
+        None => Ok(name),
     }
 }
 
@@ -94,8 +135,10 @@ fn check_items<'a, F: Form>(form: &F, items: Items<'a>) -> Result<Pairs<'a>, Ref
     let pairs = Pairs { items };
     let mut rest = items;
     let mut count: u128 = 0;
+    let mut greatest = None;
     'pairs: while let Some((label, value)) = next_two(&mut rest) {
-        check_one(form, &label, &value, pairs, count)?;
+        let name = check_one(form, &label, &value, pairs, count, greatest)?;
+        greatest = greater(greatest, name);
         count += 1;
     }
     Ok(pairs)

@@ -1,7 +1,7 @@
 -- Where the bytes end inside a phase, the verdict isn't settled.
-use Rattle.std.proofs.Common.{◌≡◌, ℕ, suc, ◌+◌, ◌-◌, ◌<◌, Bool, true, List, [], ◌∷◌, ◌++◌, length, get_or, drop, refl, sym, ap, ◌∙◌, append_assoc, arith, drop-cons, inl, inr, length-append}
+use Rattle.std.proofs.Common.{◌≡◌, ℕ, ◌+◌, ◌-◌, ◌<◌, true, List, [], ◌∷◌, ◌++◌, length, drop, refl, ◌∙◌, arith, drop-cons, inl, inr, length-append}
 use Rattle.std.specs.Prelude.{nat_lt}
-use Rattle.std.proofs.lemmas.Bool.{cases_lt, le-ltb, lt-ltb}
+use Rattle.std.proofs.lemmas.Bool.{cases_lt, lt-ltb}
 use Rattle.std.proofs.lemmas.List.{append-nil}
 use Rattle.cose_head.specs.declared.head.Head.{Head}
 use Rattle.cose_head.specs.declared.head.HeadStep.{HeadStep}
@@ -10,7 +10,7 @@ use Rattle.cose_head.specs.Head.{IsMore, bare_head}
 use Rattle.cosecmd.specs.declared.first.machine.Machine.{Machine}
 use Rattle.cosecmd.specs.declared.first.machine.Machine.TheVariants as phases
 use Rattle.cose_map.specs.KeySets.{keys}
-use Rattle.cosecmd.specs.FirstVerdict.{front, key_choice, past_payload_head, payload, tag_head, past_tag_head, tag, comparison}
+use Rattle.cosecmd.specs.FirstVerdict.{front, key_choice, past_payload_head, tag_head, past_tag_head, comparison}
 use Rattle.cosecmd.specs.Machine.{Feeds, left_of, payload_byte, place_of}
 use Rattle.cosecmd.proofs.PhaseLemmas.{with_string-whole}
 use Rattle.cosecmd.specs.Phases.{Phase, past_head, unsettled, with_front, with_head, with_string}

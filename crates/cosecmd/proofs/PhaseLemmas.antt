@@ -1,9 +1,9 @@
 -- What a phase comes to when one more byte of it is there.
-use Rattle.std.proofs.Common.{◌≡◌, ◌≢◌, ℕ, suc, ◌+◌, ◌<◌, ◌≤◌, Bool, true, false, List, [], ◌∷◌, ◌++◌, length, get_or, take, drop, refl, sym, ap, subst, ◌∙◌, append_assoc, add-one, add-zero, arith, drop-cons, length-append, eq-eqb, ne_eqb}
-use Rattle.std.specs.Prelude.{nat_lt, ◌==◌}
+use Rattle.std.proofs.Common.{◌≡◌, ℕ, suc, ◌+◌, ◌<◌, true, false, List, [], ◌∷◌, ◌++◌, length, get_or, drop, refl, sym, ap, ◌∙◌, append_assoc, add-one, add-zero, arith, drop-cons, length-append, eq-eqb, ne_eqb}
+use Rattle.std.specs.Prelude.{ℤ, Ok, nat_lt, ◌==◌}
 use Rattle.std.specs.Str.{bytes_eq}
-use Rattle.std.proofs.lemmas.Bool.{le-ltb, ltb-false}
-use Rattle.std.proofs.lemmas.List.{take_at, drop_at, append-nil}
+use Rattle.std.proofs.lemmas.Bool.{le-ltb}
+use Rattle.std.proofs.lemmas.List.{take_at, drop_at}
 use Rattle.cose_head.specs.declared.head.Head.{Head}
 use Rattle.cose_head.specs.declared.head.HeadStep.{HeadStep}
 use Rattle.cose_head.specs.declared.head.HeadStep.TheVariants.{Got, Fault}
@@ -12,8 +12,10 @@ use Rattle.cose_head.specs.declared.reason.Reason.TheVariants.{WrongType, BadAut
 use Rattle.cose_head.specs.Head.{bare_head}
 use Rattle.cosecmd.specs.declared.first.machine.Progress.{Progress}
 use Rattle.cosecmd.specs.declared.first.machine.Progress.TheVariants.{Open, Settled}
-use Rattle.cosecmd.specs.FirstVerdict.{authentic, comparison, protected, tag_of}
-use Rattle.cosecmd.specs.Machine.{Continues, StandsFor}
+use Rattle.cose_map.specs.Choice.{chosen}
+use Rattle.cose_map.specs.KeyValue.{KeyValue, symmetric}
+use Rattle.cosecmd.specs.FirstVerdict.{authentic, comparison, first_question, key_choice, payload_head, tag_of}
+use Rattle.cosecmd.specs.Machine.{Continues}
 use Rattle.cosecmd.specs.Phases.{Phase, Reading, refused, with_front, with_head, with_string}
 
 -- ---- what a step comes to goes by the reading alone
@@ -73,6 +75,12 @@ with_string-whole payload n next place string byte bytes whole =
     let e : (string ++ byte ∷ []) ++ bytes ≡ string ++ byte ∷ bytes = regrouped string byte bytes in
     let long : nat_lt (length ((string ++ byte ∷ []) ++ bytes)) n ≡ false = le-ltb _ _ (omega (arith, length-append (string ++ byte ∷ []) bytes)) in
     rw (← e, long, take_at (string ++ byte ∷ []) bytes n whole, drop_at (string ++ byte ∷ []) bytes n whole) refl
+
+-- ---- the choice of the key
+
+pub key_choice-found : (keys : List KeyValue) (found : KeyValue) (number : ℤ) (secret : List ℕ) (place : ℕ) (bytes : List ℕ) → Ok (found, number) ≡ chosen first_question keys → found.material ≡ symmetric secret → key_choice keys place bytes ≡ payload_head secret place bytes
+unfolding key_choice
+key_choice-found keys found number secret place bytes e m = rw (← e, m) refl
 
 -- ---- the comparison
 

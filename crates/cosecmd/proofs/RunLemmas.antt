@@ -1,5 +1,5 @@
 -- A run of the first path so far, and its exits.
-use Rattle.std.proofs.Common.{◌≡◌, ℕ, suc, ◌+◌, ◌<◌, ◌≤◌, ◌⊎◌, Bool, true, false, List, [], ◌∷◌, ◌++◌, length, take, Option, None, Some, Result, Ok, Err, refl, sym, ap, subst, ◌∙◌, append_assoc, arith, inl, inr, length-append}
+use Rattle.std.proofs.Common.{◌≡◌, ℕ, ◌+◌, ◌<◌, ◌≤◌, Bool, true, false, List, [], ◌∷◌, ◌++◌, length, take, Option, None, Some, Ok, Err, refl, sym, ap, subst, ◌∙◌, append_assoc, arith, inl, inr, length-append}
 use Rattle.std.specs.Prelude.{◌||◌}
 use Rattle.std.specs.Io.KnownBytes.{Appends, Consumes, IsAtEnd}
 use Rattle.std.proofs.Math.Seq.{take-append_seam}
@@ -7,10 +7,8 @@ use Rattle.std.proofs.lemmas.Bool.{cases_lt}
 use Rattle.std.proofs.lemmas.List.{append-nil, take-append-le}
 use Rattle.cose_map.specs.KeyValue.{KeyValue}
 use Rattle.cosecmd.specs.declared.first.machine.Machine.{Machine}
-use Rattle.cosecmd.specs.declared.first.machine.Progress.{Progress}
 use Rattle.cosecmd.specs.declared.first.machine.Progress.TheVariants.{Open, Settled}
 use Rattle.cosecmd.specs.declared.first.verdict.Verdict.{Verdict}
-use Rattle.cosecmd.specs.declared.first.verdict.Stop.{Stop}
 use Rattle.cosecmd.specs.declared.first.verdict.Stop.TheVariants as stops
 use Rattle.cosecmd.specs.Intake.{KeepsOrForgets, TakesInAll}
 use Rattle.cosecmd.specs.Sink.{AppendsFront}
@@ -86,7 +84,7 @@ none_after_end-more keys taken byte here before n lt =
           rw (last, take-append_seam) here)
     ]
 
-pub at_start : (keys : List KeyValue) (come contents : Option (List ℕ)) (sure : ℕ) (machine : Machine) → StandsFor [] machine (first_reading keyss) → Along keys come come contents contents sure sure machine
+pub at_start : (keys : List KeyValue) (come contents : Option (List ℕ)) (sure : ℕ) (machine : Machine) → StandsFor [] machine (first_reading keys) → Along keys come come contents contents sure sure machine
 at_start keys come contents sure machine stands = record {
   taken = [];
   so_far = [];

@@ -1,5 +1,5 @@
 -- The machine of the first path: what is left of the verdict's definition where it stands, and what holds there.
-use Rattle.std.specs.Prelude.{◌≡◌, ℕ, ◌+◌, ◌-◌, ◌^◌, Bool, true, false, List, [], ◌∷◌, ◌++◌, length, drop, ⊤}
+use Rattle.std.specs.Prelude.{◌≡◌, ℕ, ◌+◌, ◌-◌, ◌^◌, true, List, [], ◌∷◌, ◌++◌, length, drop, ⊤}
 use Rattle.arrayvec.specs.ArrayVec.{array_vec_len}
 use Rattle.cose_head.specs.Head.{IsMore, bare_head}
 use Rattle.cose_mac.specs.Fed.{FedMac}

@@ -56,9 +56,9 @@ impl<'k> Machine<'k> {
 
     /// The machine after one more byte, or the verdict.
     pub fn step(self, byte: u8) -> Progress<'k>
-        ensures goes { (key so_far : List ℕ) → Feeds key so_far self
-            → Continues (so_far ++ payload_byte self byte) result (λ bytes. left_of key so_far self (byte ∷ bytes)) }
-        ensures nearer { IfOpen result (λ machine. budget machine < budget self) }
+        ensures goes { (key so_far : List ℕ) → Feeds key so_far self.entry
+            → Continues (so_far ++ payload_byte self.entry byte) result (λ bytes. left_of key so_far self.entry (byte ∷ bytes)) }
+        ensures nearer { IfOpen result (λ machine. budget machine < budget self.entry) }
     {
         match self {
             Machine::Front(front) => front.step(byte),

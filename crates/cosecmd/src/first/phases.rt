@@ -83,8 +83,8 @@ impl<'k> Front<'k> {
 
     /// The next byte of the front. With the last one the key is chosen.
     pub fn step(self, byte: u8) -> Progress<'k>
-        ensures goes { Continues [] result (λ bytes. left_in_front self (byte ∷ bytes)) }
-        ensures nearer { IfOpen result (λ machine. budget machine < budget (Machine.Front self)) }
+        ensures goes { Continues [] result (λ bytes. left_in_front self.entry (byte ∷ bytes)) }
+        ensures nearer { IfOpen result (λ machine. budget machine < budget (Machine.Front self.entry)) }
     {
         let Front { position, keys } = self;
         if byte != FRONT[position] {

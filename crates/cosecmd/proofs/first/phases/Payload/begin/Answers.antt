@@ -1,4 +1,4 @@
-use Rattle.std.proofs.Common.{◌≡◌, ◌++◌, [], refl, sym, subst, ◌∙◌, List, ℕ, zero-add}
+use Rattle.std.proofs.Common.{◌≡◌, [], refl, sym, subst, ◌∙◌, List, ℕ, zero-add}
 use Rattle.std.proofs.lemmas.List.{append-nil}
 use Rattle.cose_head.specs.declared.kind.Kind.TheVariants.{Mac0}
 use Rattle.cose_mac.specs.Structure.{mac_structure, structure_front}
