@@ -1,3 +1,4 @@
+-- The algorithms that are known, each with its kind of message and its keys (RFC 9053 sections 2.1 and 3.1).
 use Rattle.std.specs.Prelude.{ℕ, ℤ, pos, negsuc, Bool, true, false, ◌&&◌, ◌==◌, List, [], ◌∷◌, Option, Some, None, if◌then◌else◌}
 use Rattle.std.specs.Ordering.{int_eq}
 use Rattle.cose_head.specs.declared.kind.Kind.{Kind}

@@ -1,4 +1,4 @@
--- The words on the values of the choice.
+-- What a query asks and what is found, without where they lie in memory.
 use Rattle.std.specs.Prelude.{ℤ, List, [], ◌∷◌, Result, Ok, Err, option_map}
 use Rattle.cose_head.specs.declared.reason.Reason.{Reason}
 use Rattle.cose_head.specs.declared.reason.Reason.TheVariants.{AmbiguousKey}
@@ -19,7 +19,7 @@ abbrev pub found_value : Result (Key × ℤ) Reason → Result (KeyValue × ℤ)
 found_value (Ok found) = Ok (key_value found.0, found.1)
 found_value (Err reason) = Err reason
 
--- The choice where some keys are passed, and these fit of the rest.
+-- The choice where these keys fit of those that were met, and those of the rest.
 abbrev pub with_rest : Question → Fitting → List (KeyValue × ℤ) → Result (KeyValue × ℤ) Reason
 with_rest q Nothing rest = only_one q rest
 with_rest q (One key n) [] = Ok (key_value key, n)

@@ -1,4 +1,4 @@
-//! choice
+//! Which key authenticates a message, and by which algorithm (RFC 9052 section 7.1).
 
 ghost use Rattle.std.specs.Prelude.{◌≡◌, ℤ, List, [], option_map, option_and_then};
 ghost use Rattle.std.specs.List.{cons_option};
@@ -19,23 +19,23 @@ use crate::material::Material;
 use crate::ops::Ops;
 use cose_head::{Kind, Reason};
 
-/// What a message asks.
-#[derive(Clone, Copy)]
+/// What a message asks of its key.
+#[derive(Clone, Copy, Debug)]
 pub struct Query<'q> {
     /// The kind of the message.
     pub kind: Kind,
-    /// The operation that the key has to allow.
+    /// The operation that the key has to allow, if it lists operations: 10 verifies a MAC, and 2 a signature.
     pub operation: i128,
-    /// The algorithm of the protected bucket.
+    /// The algorithm that the protected bucket names.
     pub protected_alg: Option<Label<'q>>,
-    /// The algorithm of the unprotected bucket.
+    /// The algorithm that the unprotected bucket names. It counts only where the key's own is the same.
     pub unprotected_alg: Option<Label<'q>>,
-    /// The identifier of the key.
+    /// The key identifier of either bucket.
     pub kid: Option<&'q [u8]>,
 }
 
-/// The keys that fit, as far as they are passed.
-#[derive(Clone, Copy)]
+/// The keys that fit, of those that were met.
+#[derive(Clone, Copy, Debug)]
 pub(crate) enum Fitting<'k> {
     /// None so far.
     Nothing,
@@ -171,7 +171,7 @@ impl<'q> Query<'q> {
 }
 
 impl<'k> Fitting<'k> {
-    /// With one more key, where it fits.
+    /// With one more key, if it fits.
     pub(crate) fn with(self, key: Key<'k>, query: &Query) -> Fitting<'k>
         ensures { (rest : List (KeyValue × ℤ)) → with_rest (question query.now) result rest
             ≡ with_rest (question query.now) self.entry (cons_option (fitting_key (question query.now) (key_value key.entry)) rest) }
@@ -183,7 +183,7 @@ impl<'k> Fitting<'k> {
         }
     }
 
-    /// The key that was found, where all keys are passed.
+    /// The one key that fits, where all keys were met.
     pub(crate) fn answer(self, query: &Query) -> Result<(Key<'k>, i128), Reason>
         ensures { found_value result ≡ with_rest (question query.now) self.entry [] }
     {

@@ -37,7 +37,7 @@ impl<'a> Key<'a> {
     #[tactic(auto, unfolding(crate::specs::Key::key_of))]
     pub fn read(bytes: &'a [u8], at: u64) -> Result<Key<'a>, Refusal>
         requires { at + length bytes.now < 2 ^ 64 }
-        ensures { seen_by key_value result ≡ key_of (record { bytes = bytes.entry.now; place = at }) }
+        ensures { seen_by key_value result ≡ key_of (record { bytes = bytes.now; place = at }) }
     {
         let members = Members {
             key: ItemRef { bytes, place: at },

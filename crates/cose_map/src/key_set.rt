@@ -28,7 +28,7 @@ fn usable<'a>(item: &ItemRef<'a>) -> Option<Key<'a>>
 }
 
 impl<'a> KeySet<'a> {
-    ghost use Rattle.std.specs.Prelude.{length};
+    ghost use Rattle.std.specs.Prelude.{◌≤◌, length, IfErr};
     ghost use Rattle.cose_map.specs.Choice.{chosen};
     ghost use Rattle.cose_map.specs.Chosen.{question, found_value};
     ghost use Rattle.cose_map.specs.KeySet.{keys_of};
@@ -41,7 +41,8 @@ impl<'a> KeySet<'a> {
     /// the first fault of the reading, then [`Reason::Trailing`], then [`Reason::BadKeySet`] for another item.
     #[tactic(auto, unfolding(crate::specs::KeySet::keys_of))]
     pub fn read(bytes: &'a [u8]) -> Result<KeySet<'a>, Refusal>
-        ensures { seen_by keys result ≡ keys_of bytes.entry.now }
+        ensures exact { seen_by keys result ≡ keys_of bytes.now }
+        ensures within { IfErr result (λ refusal. refusal.place ≤ length bytes.now) }
     {
         if bytes.len() > MOST_BYTES {
             return Err(Refusal {

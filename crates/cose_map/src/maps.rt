@@ -1,7 +1,7 @@
 //! A map of labels and values, read with a table that says which form each label's value has
 //! (RFC 9052 sections 3 and 7, RFC 8392 section 3).
 
-ghost use Rattle.std.specs.Prelude.{◌≡◌, ℕ, ◌+◌, ◌<◌, ◌≤◌, ◌^◌, List, [], ◌∷◌, length, take, true, option_map, MatchOption};
+ghost use Rattle.std.specs.Prelude.{◌≡◌, ℕ, ◌+◌, ◌<◌, ◌≤◌, ◌^◌, List, [], ◌∷◌, length, take, true, option_map, MatchOption, IfErr};
 ghost use Rattle.cose_head.specs.ItemRef.{placed};
 ghost use Rattle.cose_head.specs.Items.{items_left};
 ghost use Rattle.cose_map.specs.Maps.{Table, has_label, label_at, check_pair, check_pairs, check_map, read_map, whole};
@@ -161,7 +161,8 @@ pub fn check_map<'a, F: Form>(form: &F, item: &ItemRef<'a>) -> Result<Pairs<'a>,
 pub(crate) fn read_whole<'a>(bytes: &'a [u8], at: u64, depth: usize) -> Result<ItemRef<'a>, Refusal>
     requires shallow { depth ≤ 32 }
     requires in_range { at + length bytes.now < 2 ^ 64 }
-    ensures { seen_by placed result ≡ whole depth (record { bytes = bytes.now; place = at }) }
+    ensures exact { seen_by placed result ≡ whole depth (record { bytes = bytes.now; place = at }) }
+    ensures within { IfErr result (λ refusal. refusal.place ≤ at + length bytes.now) }
 {
     let span = match read_item(bytes, bytes.len(), depth) {
         Ok(span) => span,

@@ -21,7 +21,9 @@ use cose_head::{ItemRef, Items, Reason, Refusal};
 /// A key's item, and the pairs that were read from it.
 #[derive(Clone, Copy, Debug)]
 pub(crate) struct Members<'a> {
+    /// The key's item, at whose head a missing member is refused.
     pub(crate) key: ItemRef<'a>,
+    /// Its pairs.
     pub(crate) pairs: Pairs<'a>,
 }
 

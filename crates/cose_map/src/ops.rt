@@ -5,6 +5,7 @@ use cose_head::Items;
 /// The operations that a key lists.
 #[derive(Clone, Copy, Debug)]
 pub struct Ops<'a> {
+    /// The elements of key_ops, integers and texts.
     pub(crate) elements: Items<'a>,
 }
 

@@ -1,5 +1,7 @@
 //! Tables of examples: values that the contracts can't show to be the ones that were meant.
 
+ghost use Rattle.std.specs.Prelude.{◌+◌, ◌<◌, ◌^◌, length};
+
 use super::*;
 use std::process::Abort;
 
@@ -55,7 +57,9 @@ fn refuses_buckets(rt: HostRuntime) {
     }
 }
 
-fn bucket<'a>(rt: &impl Abort, bytes: &'a [u8], at: u64) -> Bucket<'a> {
+fn bucket<'a>(rt: &impl Abort, bytes: &'a [u8], at: u64) -> Bucket<'a>
+    requires { at + length bytes.now < 2 ^ 64 }
+{
     match Bucket::read(bytes, at, 4) {
         Ok(bucket) => bucket,
         Err(refusal) => panic!(rt; "{bytes:?}: {refusal:?}"),
