@@ -1,6 +1,6 @@
 //! Where the payload of a message goes.
 
-ghost use Rattle.std.specs.Prelude.{◌≡◌, ◌≤◌, ◌<◌, ◌+◌, ◌-◌, ◌^◌, ℕ, Bool, false, List, [], Option, Some, None, IsOk, OnOk, length, if◌then◌else◌};
+ghost use Rattle.std.specs.Prelude.{◌≡◌, ◌≤◌, ◌<◌, ◌+◌, ◌-◌, ◌^◌, ℕ, Bool, false, List, [], Option, Some, None, IsErr, IsOk, OnErr, OnOk, true, length, if◌then◌else◌};
 ghost use Rattle.arrayvec.specs.ArrayVec.{array_vec_len};
 ghost use Rattle.cosecmd.specs.Intake.{marks};
 ghost use Rattle.cosecmd.specs.Sink.{Puts};
@@ -82,7 +82,16 @@ impl<const L: usize> Sink for Store<L> {
 
     ghost sure = { λ store. if store.failed then 0 else L - array_vec_len store.held };
 
-    fn put(&mut self, piece: &[u8]) -> Result<(), SinkFault> {
+    fn put(&mut self, piece: &[u8]) -> Result<(), SinkFault>
+        requires { 0 < length piece.now }
+        ensures bytes { Puts (⟦<Store<L> as Sink>⟧.contents self.old) (⟦<Store<L> as Sink>⟧.contents self.new) result piece.now }
+        ensures failure { ⟦<Store<L> as Sink>⟧.has_failed self.new ≡ marks (⟦<Store<L> as Sink>⟧.has_failed self.old) result }
+        ensures promised { length piece.now ≤ ⟦<Store<L> as Sink>⟧.sure self.old → IsOk result }
+        ensures promise { OnOk result (⟦<Store<L> as Sink>⟧.sure self.old ≤ ⟦<Store<L> as Sink>⟧.sure self.new + length piece.now) }
+        // A piece that fails isn't kept, and no later one ends the failure.
+        ensures none_kept { OnErr result (⟦<Store<L> as Sink>⟧.contents self.new ≡ ⟦<Store<L> as Sink>⟧.contents self.old) }
+        ensures stays_failed { ⟦<Store<L> as Sink>⟧.has_failed self.old ≡ true → IsErr result }
+    {
         if self.failed || self.held.try_extend_from_slice(piece).is_err() {
             self.failed = true;
             return Err(SinkFault);
