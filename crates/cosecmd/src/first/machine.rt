@@ -10,17 +10,24 @@ use cose_map::KeySet;
 /// A message of which bytes are still to come: the phase that they are in.
 #[derive(Drop)]
 pub enum Machine<'k> {
+    /// The fixed bytes at the front.
     Front(Front<'k>),
+    /// The head of the payload.
     PayloadHead(PayloadHead),
+    /// The payload.
     Payload(Payload),
+    /// The head of the tag.
     TagHead(TagHead),
+    /// The tag.
     Tag(Tag),
 }
 
 /// What a byte comes to.
 #[derive(Drop)]
 pub enum Progress<'k> {
+    /// More bytes are to come.
     Open(Machine<'k>),
+    /// The verdict is settled, and no byte is to be taken any more.
     Settled(Verdict),
 }
 

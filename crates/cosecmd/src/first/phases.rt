@@ -25,7 +25,9 @@ const TAG: usize = 32;
 /// The bytes of the front.
 #[derive(Drop)]
 pub struct Front<'k> {
+    /// How many bytes of the front have come.
     pub position: usize,
+    /// The keys, one of which is chosen with the last byte.
     pub keys: KeySet<'k>,
     ghost within: { position < 7 },
 }
@@ -33,7 +35,9 @@ pub struct Front<'k> {
 /// The head of the payload.
 #[derive(Drop)]
 pub struct PayloadHead {
+    /// The bytes of the head that have come.
     pub held: ArrayVec<u8, 9>,
+    /// The MAC under the chosen key.
     pub mac: Running,
     ghost keyed: { makes_mac mac ≡ true },
     ghost half: { array_vec_len held < 9 },
@@ -42,9 +46,13 @@ pub struct PayloadHead {
 /// The payload, at least one byte of which is to come.
 #[derive(Drop)]
 pub struct Payload {
+    /// The place of its first byte.
     pub at: u64,
+    /// The number of its bytes.
     pub length: u64,
+    /// How many of them are to come.
     pub left: u64,
+    /// The MAC, which was fed the structure up to here.
     pub mac: Running,
     ghost keyed: { makes_mac mac ≡ true },
     ghost some_left: { 0 < left },
@@ -56,9 +64,13 @@ pub struct Payload {
 /// The head of the tag.
 #[derive(Drop)]
 pub struct TagHead {
+    /// The place of the head.
     pub at: u64,
+    /// The bytes of the head that have come.
     pub held: ArrayVec<u8, 9>,
+    /// The number of bytes of the payload.
     pub payload: u64,
+    /// The MAC, which was fed the whole structure.
     pub mac: Running,
     ghost keyed: { makes_mac mac ≡ true },
     ghost half: { array_vec_len held < 9 },
@@ -68,10 +80,15 @@ pub struct TagHead {
 /// The tag.
 #[derive(Drop)]
 pub struct Tag {
+    /// The place of the tag's head, where its faults stand.
     pub head_at: u64,
+    /// The place of the tag's first byte.
     pub at: u64,
+    /// The bytes of the tag that have come.
     pub held: ArrayVec<u8, 32>,
+    /// The number of bytes of the payload.
     pub payload: u64,
+    /// The MAC, which was fed the whole structure.
     pub mac: Running,
     ghost keyed: { makes_mac mac ≡ true },
     ghost short: { array_vec_len held < 32 },
