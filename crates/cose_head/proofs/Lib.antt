@@ -23,3 +23,4 @@ pub mod ShortLeast
 pub mod ReadLaws
 pub mod Spans
 pub mod PlacedTrees
+pub mod Inside

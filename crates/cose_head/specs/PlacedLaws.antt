@@ -1,5 +1,6 @@
 -- What items above the grammar say of its trees (RFC 8949 section 3): what an item is, and which children it has.
 use Rattle.std.specs.Prelude.{◌≡◌, ℕ, ◌+◌, ◌-◌, ◌*◌, ◌≤◌, pos, negsuc, Bool, true, false, List, [], ◌∷◌, ◌++◌, length, Some, None, Ok, ◌==◌, if◌then◌else◌, ⊤}
+use Rattle.std.specs.List.{AllByRecursion}
 use Rattle.cose_head.specs.Item.{Item, unsigned, negative, byte_string, text_string, array, map, tag, simple, float, Items, no_items, item, count_of, IsHead}
 use Rattle.cose_head.specs.Reading.{Left, read}
 use Rattle.cose_head.specs.Measured.{left_of}
@@ -78,3 +79,14 @@ LookIsOfTree = (depth : ℕ) (p : Placed) (tree : Item) → IsItem depth p tree 
 -- The head of an item is the one that its bytes begin with.
 abbrev pub HeadIsOfItem : Type 0
 HeadIsOfItem = (depth : ℕ) (p : Placed) (tree : Item) → IsItem depth p tree → SpellsHead p.bytes (head_of_item p) (head_of_item p).width
+
+-- Where an item ends; and that it ends no later than a place.
+abbrev pub end_of : Placed → ℕ
+end_of p = p.place + length p.bytes
+
+abbrev pub EndsBy : ℕ → Placed → Type 0
+EndsBy end p = end_of p ≤ end
+
+-- No child ends after its parent, whatever the bytes are.
+abbrev pub ChildrenEndInside : Type 0
+ChildrenEndInside = (p : Placed) → AllByRecursion (EndsBy (end_of p)) (children_of p)

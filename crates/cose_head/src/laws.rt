@@ -3,7 +3,7 @@
 //! `read` is how an item is read, `Spells` how bytes spell one, `bare_head` how a head outside an item is read.
 
 ghost use Rattle.cose_head.specs.Laws.{ReadIsSpelled, OneItem, ReadElsewhere, ReadStays, RefusedIsNoItem, ReadSteps, ReadAddsUp, TruncatedHasRoom, HeadIsSpelled, HeadStays, HeadWants, HeadEnds, ShortestIsHead};
-ghost use Rattle.cose_head.specs.PlacedLaws.{LookIsOfTree, HeadIsOfItem, ArrayHasItsElements, MapHasItsPairs, OthersHaveNone};
+ghost use Rattle.cose_head.specs.PlacedLaws.{LookIsOfTree, HeadIsOfItem, ArrayHasItsElements, MapHasItsPairs, OthersHaveNone, ChildrenEndInside};
 ghost use Rattle.cose_head.specs.Shortest.{ShortestIsSpelled, ShortestIsLeast};
 
 /// What `read` accepts is exactly what the grammar spells, within the room and the nesting (RFC 8949 section 3).
@@ -54,8 +54,10 @@ pub fn look_is_of_tree()
 
 /// The children that `Items` gives of an item are those of its tree, in their order, none left out: the bytes of each,
 /// read alone, are exactly its tree. They stand one after another behind the item's head, and end where the item ends.
+/// Of bytes that are no item too, no child ends after them.
 pub fn children_are_of_tree()
     ensures array { ArrayHasItsElements }
     ensures map { MapHasItsPairs }
     ensures others { OthersHaveNone }
+    ensures inside { ChildrenEndInside }
 {}

@@ -8,3 +8,4 @@ pub mod KeyLooks
 pub mod KeyItems
 pub mod WorkedChoice
 pub mod LabelOrders
+pub mod Inside

@@ -19,3 +19,4 @@ pub mod Ops
 pub mod Algorithm
 pub mod Choice
 pub mod Chosen
+pub mod Inside

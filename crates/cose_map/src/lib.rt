@@ -11,6 +11,7 @@ mod key_form;
 mod key_items;
 mod key_set;
 mod label;
+pub mod laws;
 mod maps;
 mod material;
 mod members;

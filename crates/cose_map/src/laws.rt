@@ -1,0 +1,20 @@
+//! Laws of the definitions that the contracts cite. A law is a function whose contract is the law.
+
+ghost use Rattle.cose_map.specs.Inside.{MapIsRefusedInside, ReadIsRefusedInside, BucketIsRefusedInside, KeyIsRefusedInside, BucketEndsInside, PairIsRefusedInside};
+
+use cose_head::laws::{children_are_of_tree, read_steps};
+
+/// A refusal of a map, of a bucket or of a key stands among its bytes or at their end, and one of two buckets together
+/// no later than the place after both (RFC 9052 sections 3 and 7).
+pub fn refusals_stand_inside()
+    ensures map { MapIsRefusedInside }
+    ensures read { ReadIsRefusedInside }
+    ensures bucket { BucketIsRefusedInside }
+    ensures key { KeyIsRefusedInside }
+    ensures pairs { BucketEndsInside }
+    ensures two_buckets { PairIsRefusedInside }
+{
+    // What these two say of reading and of children is all that the proof rests on.
+    read_steps();
+    children_are_of_tree();
+}
