@@ -1,10 +1,9 @@
 -- No refusal of a map, a bucket, a key or two buckets stands after the bytes.
-use Rattle.std.proofs.Common.{◌≡◌, ℕ, ◌+◌, ◌≤◌, Bool, true, false, not, List, [], ◌∷◌, ◌++◌, length, Option, Some, None, Result, Ok, Err, IfErr, if◌then◌else◌, refl, sym, subst, arith}
-use Rattle.std.specs.Prelude.{⊤, ℤ, pos, nat_lt, ◌==◌, ◌&&◌, IfSome, option_map, find, fold, flat_map}
+use Rattle.std.proofs.Common.{◌≡◌, ℕ, ◌+◌, ◌≤◌, Bool, true, false, not, List, [], ◌∷◌, ◌++◌, length, Option, Some, None, Ok, Err, if◌then◌else◌, refl, sym, subst, arith}
+use Rattle.std.specs.Prelude.{⊤, ℤ, pos, nat_lt, ◌==◌, IfSome, option_map, find, fold, flat_map}
 use Rattle.std.specs.List.{AllByRecursion}
 use Rattle.std.specs.Ordering.{int_eq}
 use Rattle.std.proofs.lemmas.Bool.{cond_both, ltb-true}
-use Rattle.cose_head.specs.declared.item.Span.{Span}
 use Rattle.cose_head.specs.declared.reason.Reason.{Reason}
 use Rattle.cose_head.specs.declared.reason.Reason.TheVariants.{NotMap, BadValue, UnknownKey, BothIvs}
 use Rattle.cose_head.specs.declared.refusal.Refusal.{Refusal}
@@ -17,13 +16,12 @@ use Rattle.cose_head.specs.PlacedLaws.{end_of, EndsBy, ChildrenEndInside}
 use Rattle.cose_map.specs.declared.curve.Curve.{Curve}
 use Rattle.cose_map.specs.Bucket.{bucket_of, bucket_table, is_bytes, value_of, crit, crit_of}
 use Rattle.cose_map.specs.Inside.{RefusedBy, PairEndsBy, PairsEndBy}
-use Rattle.cose_map.specs.Key.{key_of, key_with}
+use Rattle.cose_map.specs.Key.{key_of}
 use Rattle.cose_map.specs.KeyForm.{is_text, key_table, key_type}
-use Rattle.cose_map.specs.KeyValue.{MaterialValue, YValue}
 use Rattle.cose_map.specs.Label.{LabelValue, label_of}
 use Rattle.cose_map.specs.Maps.{Read, ◌>>=◌, refuse, Table, Pair, is_named, pair_of, has_label, name_at, new_name, value_at, label_at, check_pair, check_pairs, check_map, past_span, whole, read_map}
 use Rattle.cose_map.specs.Material.{present, member, k, crv, x, y, d, secret_in, symmetric_key, curve_of, usable_curve, curve_in, coordinate_of, coordinate_in, sign_in, truth_in, y_in, private_part, elliptic_key, material_in, material_of}
-use Rattle.cose_map.specs.PairFault.{fault_if, critical_faults, element_faults, all_element_faults, crit_faults, is_understood, label_faults, unprotected_faults, both_ivs, pair_faults, goes_before, lesser, least, pair_fault}
+use Rattle.cose_map.specs.PairFault.{fault_if, critical_faults, element_faults, all_element_faults, crit_faults, is_understood, unprotected_faults, both_ivs, pair_faults, goes_before, lesser, pair_fault}
 
 -- lists of which each element has a property
 module _ {A : Type 0} (P : A → Type 0) where

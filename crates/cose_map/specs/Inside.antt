@@ -1,5 +1,5 @@
 -- Where the faults of maps, buckets and keys stand: never after the bytes that were read.
-use Rattle.std.specs.Prelude.{◌≡◌, ℕ, ◌+◌, ◌≤◌, List, Ok, IfErr, IfSome}
+use Rattle.std.specs.Prelude.{◌≡◌, ℕ, ◌≤◌, List, Ok, IfErr, IfSome}
 use Rattle.std.specs.List.{AllByRecursion}
 use Rattle.cose_head.specs.Placed.{Placed}
 use Rattle.cose_head.specs.PlacedLaws.{end_of, EndsBy}
