@@ -5,6 +5,7 @@ mod algorithm;
 mod bucket;
 mod choice;
 mod curve;
+mod earlier;
 mod form;
 mod key;
 mod key_form;
