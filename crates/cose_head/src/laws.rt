@@ -1,4 +1,4 @@
-//! Laws of the definitions that the contracts cite. A law is a function without a body whose contract is the law.
+//! Laws of the definitions that the contracts cite. A law is a function that does nothing, and whose contract is the law.
 //!
 //! `read` is how an item is read, `Spells` how bytes spell one, `bare_head` how a head outside an item is read.
 

@@ -1,4 +1,4 @@
-//! Laws of the definitions that the contracts cite. A law is a function whose contract is the law.
+//! Laws of the definitions that the contracts cite. A law is a function that does nothing, and whose contract is the law.
 
 ghost use Rattle.cose_map.specs.Inside.{MapIsRefusedInside, ReadIsRefusedInside, BucketIsRefusedInside, KeyIsRefusedInside, BucketEndsInside, PairIsRefusedInside};
 

@@ -5,6 +5,7 @@ use Rattle.std.specs.Io.KnownBytes.{Appends, Consumes, IsAtEnd}
 use Rattle.std.proofs.Math.Seq.{take-append_seam}
 use Rattle.std.proofs.lemmas.Bool.{cases_lt}
 use Rattle.std.proofs.lemmas.List.{append-nil, take-append-le}
+use Rattle.cose_head.specs.Laws.{HeadIsSpelled}
 use Rattle.cose_map.specs.KeyValue.{KeyValue}
 use Rattle.cosecmd.specs.declared.first.machine.Machine.{Machine}
 use Rattle.cosecmd.specs.declared.first.machine.Progress.TheVariants.{Open, Settled}
@@ -109,13 +110,13 @@ stopped_by_intake {keys} {come} {come_now} {come_after} {contents} {contents_now
     }
 
 -- the intake's end
-pub ended_open : {keys : List KeyValue} {come come_now come_after contents contents_now : Option (List ℕ)} {sure sure_now : ℕ} {machine : Machine} {ended : Bool} → (a : Along keys come come_now contents contents_now sure sure_now machine) → Consumes come_now come_after [] → ended ≡ true → FirstRun keys come come_after ended contents contents_now (Ok (unsettled [] (place_of machine)).verdict) a.taken
-ended_open {keys} {come} {come_now} {come_after} {contents} {contents_now} {sure} {sure_now} {machine} {ended} a none e =
+pub ended_open : (spelled : HeadIsSpelled) → {keys : List KeyValue} {come come_now come_after contents contents_now : Option (List ℕ)} {sure sure_now : ℕ} {machine : Machine} {ended : Bool} → (a : Along keys come come_now contents contents_now sure sure_now machine) → Consumes come_now come_after [] → ended ≡ true → FirstRun keys come come_after ended contents contents_now (Ok (unsettled [] (place_of machine)).verdict) a.taken
+ended_open spelled {keys} {come} {come_now} {come_after} {contents} {contents_now} {sure} {sure_now} {machine} {ended} a none e =
     let here = reading_here keys a.taken a.so_far machine a.stands in
     record {
       bytes = subst (λ (t : List ℕ). TakesInAll come come_after t) (append-nil a.taken) (taken_in_all come come_after (a.taken ++ []) (Consumes-then come come_now come_after a.taken [] a.bytes none));
       none_after_end = a.none_after_end;
-      placed = subst (λ (r : Reading). IsWithin (length a.taken) r) here (first_reading-within keys a.taken);
+      placed = subst (λ (r : Reading). IsWithin (length a.taken) r) here (first_reading-within spelled keys a.taken);
       answer = rw here (refl, rw e refl);
       payload = rw here a.payload;
     }
@@ -148,14 +149,14 @@ stopped_by_sink {keys} {come} {come_now} {come_after} {contents} {contents_now} 
     }
 
 -- the byte that settles it
-pub settled_now : {keys : List KeyValue} {come come_now come_after contents contents_now contents_after : Option (List ℕ)} {sure sure_now : ℕ} {machine : Machine} {ended : Bool} (byte : ℕ) (piece : List ℕ) (verdict : Verdict) → (a : Along keys come come_now contents contents_now sure sure_now machine) → Consumes come_now come_after (byte ∷ []) → payload_byte machine byte ≡ piece → Appends contents_now contents_after piece → Continues (a.so_far ++ payload_byte machine byte) (Settled verdict) (λ bytes. left_of a.stands.key a.so_far machine (byte ∷ bytes)) → ended ≡ false → FirstRun keys come come_after ended contents contents_after (Ok verdict) (a.taken ++ byte ∷ [])
-settled_now {keys} {come} {come_now} {come_after} {contents} {contents_now} {contents_after} {sure} {sure_now} {machine} {ended} byte piece verdict a one is_piece grows settles e =
+pub settled_now : (spelled : HeadIsSpelled) → {keys : List KeyValue} {come come_now come_after contents contents_now contents_after : Option (List ℕ)} {sure sure_now : ℕ} {machine : Machine} {ended : Bool} (byte : ℕ) (piece : List ℕ) (verdict : Verdict) → (a : Along keys come come_now contents contents_now sure sure_now machine) → Consumes come_now come_after (byte ∷ []) → payload_byte machine byte ≡ piece → Appends contents_now contents_after piece → Continues (a.so_far ++ payload_byte machine byte) (Settled verdict) (λ bytes. left_of a.stands.key a.so_far machine (byte ∷ bytes)) → ended ≡ false → FirstRun keys come come_after ended contents contents_after (Ok verdict) (a.taken ++ byte ∷ [])
+settled_now spelled {keys} {come} {come_now} {come_after} {contents} {contents_now} {contents_after} {sure} {sure_now} {machine} {ended} byte piece verdict a one is_piece grows settles e =
     let here = reading_here keys a.taken a.so_far machine a.stands in
     let after : first_reading keys (a.taken ++ byte ∷ []) ≡ settled_as (a.so_far ++ payload_byte machine byte) verdict = a.stands.left (byte ∷ []) ∙ settles [] in
     record {
       bytes = taken_in_all come come_after (a.taken ++ byte ∷ []) (Consumes-then come come_now come_after a.taken (byte ∷ []) a.bytes one);
       none_after_end = none_after_end-more keys a.taken byte (rw here refl) a.none_after_end;
-      placed = subst (λ (r : Reading). IsWithin (length (a.taken ++ byte ∷ [])) r) after (first_reading-within keys (a.taken ++ byte ∷ []));
+      placed = subst (λ (r : Reading). IsWithin (length (a.taken ++ byte ∷ [])) r) after (first_reading-within spelled keys (a.taken ++ byte ∷ []));
       answer = rw after (refl, rw e refl);
       payload = rw (after, is_piece) (Appends-then contents contents_now contents_after a.so_far piece a.payload grows);
     }

@@ -1,6 +1,6 @@
 //! A run of the program, over any reader and writer.
 
-ghost use Rattle.std.specs.Prelude.{◌≤◌};
+ghost use Rattle.std.specs.Prelude.{◌≡◌, ◌≢◌, ◌≤◌};
 
 use crate::fault::Fault;
 use crate::first::intake::{Intake, ReadIntake};
@@ -61,8 +61,7 @@ fn reply_to<'a, R: Read>(
 
 /// Writes a text whole, and answers the status, or 2 where the writer failed.
 fn print<W: Write>(output: &mut W, text: &str, status: u8) -> u8
-    requires { status ≤ 2 }
-    ensures { result ≤ 2 }
+    ensures { result ≢ 2 → result ≡ status }
 {
     match output.write_all(text.as_bytes()) {
         Ok(()) => status,

@@ -11,6 +11,7 @@ use crate::first::intake::Intake;
 use crate::first::machine::{Machine, Progress};
 use crate::first::sink::Sink;
 use crate::first::verdict::{Stop, Verdict};
+use cose_head::laws::bare_head_is_spelling;
 use cose_map::KeySet;
 
 /// The next byte of the intake, or `None` at its end.
@@ -66,6 +67,8 @@ pub fn verify_first<I: Intake, S: Sink>(
     // A sink that is sure of every payload doesn't stop it.
     ensures sure { 2 ^ 56 ≤ S.sure sink.old → stops_for_sink result ≡ false }
 {
+    // The law of heads, on which it rests that no place passes the bytes taken.
+    bare_head_is_spelling();
     let mut machine = Machine::new(*keys);
     'bytes: loop {
         let Some(byte) = take_byte(intake)? else {

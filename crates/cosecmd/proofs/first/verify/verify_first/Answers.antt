@@ -17,7 +17,7 @@ pub returns-in_default-clause-run : goal.returns-in_default-clause-run
 returns-in_default-clause-run g c =
     let a = c.bytes.invariant.0 in
     let byte = rw c.in_default.is at c.in_ok-byte.ensures.byte in
-    (a.taken, rw c.truncated.ensures (ended_open a byte.0 byte.2))
+    (a.taken, rw c.truncated.ensures (ended_open c.bare_head_is_spelling.ensures.spelled a byte.0 byte.2))
 
 pub returns-in_default-clause-answer : goal.returns-in_default-clause-answer
 returns-in_default-clause-answer g c = λ bytes e.
@@ -38,7 +38,7 @@ pub returns-in-Settled-clause-run : goal.returns-in-Settled-clause-run
 returns-in-Settled-clause-run g c =
     let a = c.bytes.invariant.0 in
     let byte = rw c.in-Some.is at c.in_ok-byte.ensures.byte in
-    (a.taken ++ c.in-Some.byte ∷ [], settled_now c.in-Some.byte _ c.in-Settled.verdict a byte.0 (c.is_in_payload-in_payload.ensures c.in-Some.byte) c.in_ok-hand_out.ensures.byte (c.in-Settled.ensures.goes a.stands.key a.so_far a.stands.feeds) byte.1)
+    (a.taken ++ c.in-Some.byte ∷ [], settled_now c.bare_head_is_spelling.ensures.spelled c.in-Some.byte _ c.in-Settled.verdict a byte.0 (c.is_in_payload-in_payload.ensures c.in-Some.byte) c.in_ok-hand_out.ensures.byte (c.in-Settled.ensures.goes a.stands.key a.so_far a.stands.feeds) byte.1)
 
 pub bytes-preserved : goal.bytes-preserved
 bytes-preserved g c =
