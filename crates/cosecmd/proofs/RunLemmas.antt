@@ -42,11 +42,6 @@ pub AppendsFront-then : (a b c : Option (List ℕ)) (x y : List ℕ) → Appends
 AppendsFront-then a b c x y p (front, (rest, whole), q) =
     (x ++ front, (rest, ap (λ (t : List ℕ). x ++ t) whole ∙ sym (append_assoc x front rest)), Appends-then a b c x front p q)
 
-pub taken_in_all : (a b : Option (List ℕ)) (x : List ℕ) → Consumes a b x → TakesInAll a b x
-taken_in_all None b x p = tt
-taken_in_all (Some xs) None x p = absurd p
-taken_in_all (Some xs) (Some ys) x p = p
-
 pub taken_before_failure : (a b c : Option (List ℕ)) (x : List ℕ) → Consumes a b x → KeepsOrForgets b c → TakesInAll a c x
 taken_before_failure None b c x p q = tt
 taken_before_failure (Some xs) None c x p q = absurd p
@@ -114,7 +109,7 @@ pub ended_open : (spelled : HeadIsSpelled) → {keys : List KeyValue} {come come
 ended_open spelled {keys} {come} {come_now} {come_after} {contents} {contents_now} {sure} {sure_now} {machine} {ended} a none e =
     let here = reading_here keys a.taken a.so_far machine a.stands in
     record {
-      bytes = subst (λ (t : List ℕ). TakesInAll come come_after t) (append-nil a.taken) (taken_in_all come come_after (a.taken ++ []) (Consumes-then come come_now come_after a.taken [] a.bytes none));
+      bytes = subst (λ (t : List ℕ). Consumes come come_after t) (append-nil a.taken) (Consumes-then come come_now come_after a.taken [] a.bytes none);
       none_after_end = a.none_after_end;
       placed = subst (λ (r : Reading). IsWithin (length a.taken) r) here (first_reading-within spelled keys a.taken);
       answer = rw here (refl, rw e refl);
@@ -141,7 +136,7 @@ stopped_by_sink {keys} {come} {come_now} {come_after} {contents} {contents_now} 
     let there = payload_byte_open a.stands.key a.so_far machine byte a.stands.feeds in_payload in
     let after : first_reading keys (a.taken ++ byte ∷ []) ≡ unsettled (a.so_far ++ byte ∷ []) there.0 = a.stands.left (byte ∷ []) ∙ there.1 in
     record {
-      bytes = taken_in_all come come_after (a.taken ++ byte ∷ []) (Consumes-then come come_now come_after a.taken (byte ∷ []) a.bytes one);
+      bytes = Consumes-then come come_now come_after a.taken (byte ∷ []) a.bytes one;
       none_after_end = none_after_end-more keys a.taken byte (rw here refl) a.none_after_end;
       placed = tt;
       answer = rw after refl;
@@ -154,7 +149,7 @@ settled_now spelled {keys} {come} {come_now} {come_after} {contents} {contents_n
     let here = reading_here keys a.taken a.so_far machine a.stands in
     let after : first_reading keys (a.taken ++ byte ∷ []) ≡ settled_as (a.so_far ++ payload_byte machine byte) verdict = a.stands.left (byte ∷ []) ∙ settles [] in
     record {
-      bytes = taken_in_all come come_after (a.taken ++ byte ∷ []) (Consumes-then come come_now come_after a.taken (byte ∷ []) a.bytes one);
+      bytes = Consumes-then come come_now come_after a.taken (byte ∷ []) a.bytes one;
       none_after_end = none_after_end-more keys a.taken byte (rw here refl) a.none_after_end;
       placed = subst (λ (r : Reading). IsWithin (length (a.taken ++ byte ∷ [])) r) after (first_reading-within spelled keys (a.taken ++ byte ∷ []));
       answer = rw after (refl, rw e refl);

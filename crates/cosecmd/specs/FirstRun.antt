@@ -1,6 +1,6 @@
 -- What a call of the first path did with an intake and a sink.
 use Rattle.std.specs.Prelude.{◌≡◌, ℕ, ◌<◌, Bool, true, false, List, length, take, Option, Result, Ok, Err, IfOk, not}
-use Rattle.std.specs.Io.KnownBytes.{Appends}
+use Rattle.std.specs.Io.KnownBytes.{Appends, Consumes}
 use Rattle.cose_map.specs.KeyValue.{KeyValue}
 use Rattle.cosecmd.specs.declared.first.verdict.Verdict.{Verdict}
 use Rattle.cosecmd.specs.declared.first.verdict.Stop.{Stop}
@@ -26,6 +26,12 @@ abbrev pub Answers : Result Verdict Stop → Bool → Reading → Type 0
 Answers (Ok verdict) ended reading = (verdict ≡ reading.verdict) × (reading.settled ≡ not ended)
 Answers (Err stop) ended reading = reading.settled ≡ false
 
+-- The intake's bytes are taken in their order, each once. Only an intake that failed may tell nothing more.
+abbrev pub Takes : Option (List ℕ) → Option (List ℕ) → Result Verdict Stop → List ℕ → Type 0
+Takes old new (Ok verdict) taken = Consumes old new taken
+Takes old new (Err stops.Intake) taken = TakesInAll old new taken
+Takes old new (Err stops.Sink) taken = Consumes old new taken
+
 -- The sink grows by the payload among the bytes taken, or by a front of it where the sink failed.
 abbrev pub Grows : Option (List ℕ) → Option (List ℕ) → Result Verdict Stop → List ℕ → Type 0
 Grows old new (Ok verdict) payload = Appends old new payload
@@ -33,8 +39,7 @@ Grows old new (Err stops.Intake) payload = Appends old new payload
 Grows old new (Err stops.Sink) payload = AppendsFront old new payload
 
 pub record FirstRun (keys : List KeyValue) (come come_after : Option (List ℕ)) (ended : Bool) (contents contents_after : Option (List ℕ)) (result : Result Verdict Stop) (taken : List ℕ) : Type 0 where
-  -- The intake's bytes were taken in their order, each once.
-  pub bytes : TakesInAll come come_after taken
+  pub bytes : Takes come come_after result taken
   -- None was taken after the one that settles the verdict.
   pub none_after_end : (n : ℕ) → n < length taken → (first_reading keys (take n taken)).settled ≡ false
   -- Its places are within the bytes taken.

@@ -1,13 +1,17 @@
--- The lines that the program prints.
-use Rattle.std.specs.Prelude.{ℕ, List, ◌++◌, codes}
+-- The lines that the program prints, and how it ends.
+use Rattle.std.specs.Prelude.{◌≡◌, ℕ, List, [], ◌∷◌, ◌++◌, codes, string_bytes}
 use Rattle.std.specs.Fmt.{decimal, signed_decimal}
 use Rattle.cose_head.specs.declared.kind.Kind.{Kind}
 use Rattle.cose_head.specs.declared.kind.Kind.TheVariants.{Mac0, Sign1}
 use Rattle.cose_head.specs.declared.reason.Reason.{Reason}
+use Rattle.cose_head.specs.declared.reason.Reason.TheVariants.{Trailing}
 use Rattle.cose_head.specs.Reason.{name_of}
 use Rattle.cose_mac.specs.Algorithm.{number_of}
 use Rattle.cosecmd.specs.declared.first.verdict.Verdict.{Verdict}
 use Rattle.cosecmd.specs.declared.first.verdict.Verdict.TheVariants.{Authentic, Refused}
+use Rattle.cosecmd.specs.declared.reply.Reply.{Reply}
+use Rattle.cosecmd.specs.declared.reply.Status.{Status}
+use Rattle.cosecmd.specs.declared.reply.Status.TheVariants as statuses
 
 abbrev pub word_of_kind : Kind → List ℕ
 word_of_kind Mac0 = codes "mac0"
@@ -20,3 +24,23 @@ abbrev pub verdict_line : Verdict → List ℕ
 verdict_line (Authentic kind alg payload taken) =
     codes "authentic " ++ word_of_kind kind ++ codes " alg " ++ signed_decimal (number_of alg) ++ codes " payload " ++ decimal payload ++ codes " taken " ++ decimal taken
 verdict_line (Refused refusal) = refusal_line refusal.reason refusal.place
+
+-- The exit status of the process, and how a run ends on a verdict.
+abbrev pub code_of : Status → ℕ
+code_of statuses.Done = 0
+code_of statuses.Refused = 1
+code_of statuses.Fault = 2
+
+abbrev pub status_of : Verdict → Status
+status_of (Authentic kind alg payload taken) = statuses.Done
+status_of (Refused refusal) = statuses.Refused
+
+-- What a reply says of a verdict.
+pub record Says (verdict : Verdict) (reply : Reply) : Type 0 where
+  pub line : string_bytes reply.text ≡ verdict_line verdict ++ codes "\n"
+  pub status : reply.status ≡ status_of verdict
+
+-- The verdict on a whole input, where these bytes stand behind the message: nothing may follow an authentic one.
+abbrev pub with_rest : List ℕ → Verdict → Verdict
+with_rest (byte ∷ bytes) (Authentic kind alg payload taken) = Refused (record { reason = Trailing; place = taken })
+with_rest rest verdict = verdict

@@ -1,13 +1,37 @@
-//! What a run prints, and its exit status.
+//! What a run prints, and how it ends.
 
-ghost use Rattle.std.specs.Prelude.{◌≤◌};
+ghost use Rattle.std.specs.Prelude.{◌≡◌};
+ghost use Rattle.cosecmd.specs.Printed.{code_of};
 
-/// What a run prints, and its exit status: 0 authentic or help, 1 refused, 2 a fault.
+/// How a run ends.
+#[derive(Clone, Copy, Debug, PartialEq, Eq)]
+pub enum Status {
+    /// The message is authentic, or help was asked for.
+    Done,
+    /// The message is refused.
+    Refused,
+    /// The line, the words, the keys, memory, the input or the output is at fault.
+    Fault,
+}
+
+impl Status {
+    /// The exit status of the process: 0, 1 and 2, in this order.
+    pub fn code(self) -> u8
+        ensures { result ≡ code_of self.entry }
+    {
+        match self {
+            Status::Done => 0,
+            Status::Refused => 1,
+            Status::Fault => 2,
+        }
+    }
+}
+
+/// What a run prints, and how it ends.
 #[derive(Drop)]
 pub struct Reply {
-    /// The exit status.
-    pub status: u8,
+    /// How it ends.
+    pub status: Status,
     /// The text, whole.
     pub text: String,
-    ghost known: { status ≤ 2 },
 }

@@ -1,20 +1,27 @@
 //! A run of the program, over any reader and writer.
 
-ghost use Rattle.std.specs.Prelude.{◌≡◌, ◌≢◌, ◌≤◌};
+ghost use Rattle.std.specs.Prelude.{◌≡◌, ◌≢◌, ◌≤◌, ◌++◌, ℕ, List, Some, Ok, IfOk};
+ghost use Rattle.std.specs.Io.KnownBytes.{Appends};
+ghost use Rattle.cose_map.specs.KeySet.{keys_of};
+ghost use Rattle.cose_map.specs.KeyValue.{KeyValue};
+ghost use Rattle.cosecmd.specs.FirstVerdict.{first_verdict};
+ghost use Rattle.cosecmd.specs.Printed.{Says, with_rest};
 
 use crate::fault::Fault;
 use crate::first::intake::{Intake, ReadIntake};
 use crate::first::sink::Nothing;
 use crate::first::verdict::{Stop, Verdict};
 use crate::first::verify_first;
-use crate::reply::Reply;
+use crate::reply::{Reply, Status};
 use crate::words::{Request, request_of};
 use cose_map::{KeySet, Reason, Refusal};
 use std::alloc::Global;
 use std::io::{Read, Write};
 
 /// The verdict, once the intake was looked at for a byte behind an authentic message.
-fn whole_verdict<I: Intake>(verdict: Verdict, intake: &mut I) -> Result<Verdict, Fault> {
+fn whole_verdict<I: Intake>(verdict: Verdict, intake: &mut I) -> Result<Verdict, Fault>
+    ensures { (rest : List ℕ) → I.to_come intake.old ≡ Some rest → IfOk result (λ whole. whole ≡ with_rest rest verdict) }
+{
     let Verdict::Authentic { taken, .. } = verdict else {
         return Ok(verdict);
     };
@@ -28,23 +35,32 @@ fn whole_verdict<I: Intake>(verdict: Verdict, intake: &mut I) -> Result<Verdict,
     }
 }
 
-/// The command `verify`: the verdict of the message that the reader gives, under the key set in `keys`.
-fn verify<R: Read>(alloc: Global, keys: &[u8], input: &mut R) -> Result<Reply, Fault> {
-    let keys = match KeySet::read(keys) {
-        Ok(keys) => keys,
-        Err(refusal) => return Err(Fault::keys(refusal)),
-    };
-    let mut intake = ReadIntake::new(input);
-    let verdict = match verify_first(&keys, &mut intake, &mut Nothing) {
-        Ok(verdict) => whole_verdict(verdict, &mut intake)?,
-        Err(Stop::Intake | Stop::Sink) => return Err(Fault::Input),
-    };
+/// The reply that says a verdict.
+fn reply_of(alloc: Global, verdict: Verdict) -> Result<Reply, Fault>
+    ensures { IfOk result (Says verdict) }
+{
     let status = match verdict {
-        Verdict::Authentic { .. } => 0,
-        Verdict::Refused(_) => 1,
+        Verdict::Authentic { .. } => Status::Done,
+        Verdict::Refused(_) => Status::Refused,
     };
     let text = format!(in alloc; "{verdict}\n")?;
     Ok(Reply { status, text })
+}
+
+/// The command `verify`: the verdict of the message that the reader gives, under the key set in `keys`.
+fn verify<R: Read>(alloc: Global, keys: &[u8], input: &mut R) -> Result<Reply, Fault>
+    // It says the verdict of the reader's bytes under the usable keys, the last bytes being those behind the message.
+    ensures said { (bytes : List ℕ) → R.remaining input.old ≡ Some bytes → IfOk result (λ reply. (usable : List KeyValue) × (taken : List ℕ) × (rest : List ℕ)
+        × (keys_of keys.now ≡ Ok usable) × (bytes ≡ taken ++ rest) × Says (with_rest rest (first_verdict usable bytes)) reply) }
+{
+    let keys = KeySet::read(keys).map_err(Fault::keys)?;
+    let mut intake = ReadIntake::new(input);
+    let verdict = match verify_first(&keys, &mut intake, &mut Nothing) {
+        Ok(verdict) => whole_verdict(verdict, &mut intake)?,
+        // The sink that is nothing never fails.
+        Err(Stop::Intake | Stop::Sink) => return Err(Fault::Input),
+    };
+    reply_of(alloc, verdict)
 }
 
 /// What the words and the input come to.
@@ -59,13 +75,14 @@ fn reply_to<'a, R: Read>(
     }
 }
 
-/// Writes a text whole, and answers the status, or 2 where the writer failed.
-fn print<W: Write>(output: &mut W, text: &str, status: u8) -> u8
-    ensures { result ≢ 2 → result ≡ status }
+/// Writes a text whole, and says how the run ends: as it says itself, or with a fault where the writer failed.
+fn print<W: Write>(output: &mut W, text: &str, status: Status) -> Status
+    ensures status { result ≢ Status.Fault → result ≡ status }
+    ensures written { result ≢ Status.Fault → Appends (W.contents output.old) (W.contents output.new) text.now }
 {
     match output.write_all(text.as_bytes()) {
         Ok(()) => status,
-        Err(_) => 2,
+        Err(_) => Status::Fault,
     }
 }
 
@@ -73,7 +90,7 @@ fn print<W: Write>(output: &mut W, text: &str, status: u8) -> u8
 /// `input`; every line goes to `output`, a fault's too.
 ///
 /// The exit status is 0 for an authentic message (and for help), 1 for a refused one, and 2 for a fault of the line,
-/// the words, memory, input or output.
+/// the words, the keys, memory, input or output.
 pub fn run<'a, R: Read, W: Write>(
     alloc: Global,
     words: &'a [&'a str],
@@ -82,11 +99,12 @@ pub fn run<'a, R: Read, W: Write>(
 ) -> u8
     ensures { result ≤ 2 }
 {
-    match reply_to(alloc, words, input) {
+    let status = match reply_to(alloc, words, input) {
         Ok(Reply { status, text }) => print(output, text.as_str(), status),
         Err(fault) => match format!(in alloc; "{fault}\n") {
-            Ok(text) => print(output, text.as_str(), 2),
-            Err(_) => print(output, "fault memory\n", 2),
+            Ok(text) => print(output, text.as_str(), Status::Fault),
+            Err(_) => print(output, "fault memory\n", Status::Fault),
         },
-    }
+    };
+    status.code()
 }

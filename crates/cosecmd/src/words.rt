@@ -1,7 +1,7 @@
 //! The words of the command line.
 
 use crate::fault::Fault;
-use crate::reply::Reply;
+use crate::reply::{Reply, Status};
 use clap::error::ErrorKind;
 use clap::{Arg, ArgMatches, Command};
 use std::alloc::{AllocError, Global};
@@ -40,7 +40,11 @@ fn refused_line(alloc: Global, error: clap::Error) -> Result<Reply, Fault> {
     if matches!(error.kind(), ErrorKind::OutOfMemory) {
         return Err(Fault::Memory);
     }
-    let status = if error.use_stderr() { 2 } else { 0 };
+    let status = if error.use_stderr() {
+        Status::Fault
+    } else {
+        Status::Done
+    };
     let text = format!(in alloc; "{error}")?;
     Ok(Reply { status, text })
 }
