@@ -1,7 +1,8 @@
 -- A run of the first path so far, and its exits.
 use Rattle.std.proofs.Common.{◌≡◌, ℕ, ◌+◌, ◌<◌, ◌≤◌, Bool, true, false, List, [], ◌∷◌, ◌++◌, length, take, Option, None, Some, Ok, Err, refl, sym, ap, subst, ◌∙◌, append_assoc, arith, inl, inr, length-append}
-use Rattle.std.specs.Prelude.{◌||◌}
+use Rattle.std.specs.Prelude.{◌||◌, Result, IfOk, not}
 use Rattle.std.specs.Io.KnownBytes.{Appends, Consumes, IsAtEnd}
+use Rattle.std.proofs.KnownBytes.{Consumes-nil, Consumes-trans, Appends-nil, Appends-trans}
 use Rattle.std.proofs.Math.Seq.{take-append_seam}
 use Rattle.std.proofs.lemmas.Bool.{cases_lt}
 use Rattle.std.proofs.lemmas.List.{append-nil, take-append-le}
@@ -13,8 +14,10 @@ use Rattle.cosecmd.specs.declared.first.verdict.Verdict.{Verdict}
 use Rattle.cosecmd.specs.declared.first.verdict.Stop.TheVariants as stops
 use Rattle.cosecmd.specs.Intake.{KeepsOrForgets, TakesInAll}
 use Rattle.cosecmd.specs.Sink.{AppendsFront}
-use Rattle.cosecmd.specs.FirstRun.{FirstRun}
+use Rattle.cosecmd.specs.FirstRun.{FirstRun, TakesUp}
 use Rattle.cosecmd.specs.FirstVerdict.{first_reading, first_verdict}
+use Rattle.cosecmd.specs.declared.reply.Reply.{Reply}
+use Rattle.cosecmd.specs.Printed.{ProgramVerdict, Says}
 use Rattle.cosecmd.specs.Machine.{Continues, StandsFor, left_of, payload_byte, place_of, settled_as}
 use Rattle.cosecmd.specs.Phases.{Reading, unsettled}
 use Rattle.cosecmd.proofs.PlaceLemmas.{IsWithin, first_reading-within}
@@ -26,35 +29,15 @@ or-false false = refl
 
 -- ---- known bytes
 
-pub Consumes-then : (a b c : Option (List ℕ)) (x y : List ℕ) → Consumes a b x → Consumes b c y → Consumes a c (x ++ y)
-Consumes-then None b c x y p q = tt
-Consumes-then (Some xs) None c x y p q = absurd p
-Consumes-then (Some xs) (Some ys) None x y p q = absurd q
-Consumes-then (Some xs) (Some ys) (Some zs) x y p q = p ∙ ap (λ (t : List ℕ). x ++ t) q ∙ sym (append_assoc x y zs)
-
-pub Appends-then : (a b c : Option (List ℕ)) (x y : List ℕ) → Appends a b x → Appends b c y → Appends a c (x ++ y)
-Appends-then None b c x y p q = tt
-Appends-then (Some xs) None c x y p q = absurd p
-Appends-then (Some xs) (Some ys) None x y p q = absurd q
-Appends-then (Some xs) (Some ys) (Some zs) x y p q = q ∙ ap (λ (t : List ℕ). t ++ y) p ∙ append_assoc xs x y
-
 pub AppendsFront-then : (a b c : Option (List ℕ)) (x y : List ℕ) → Appends a b x → AppendsFront b c y → AppendsFront a c (x ++ y)
 AppendsFront-then a b c x y p (front, (rest, whole), q) =
-    (x ++ front, (rest, ap (λ (t : List ℕ). x ++ t) whole ∙ sym (append_assoc x front rest)), Appends-then a b c x front p q)
+    (x ++ front, (rest, ap (λ (t : List ℕ). x ++ t) whole ∙ sym (append_assoc x front rest)), Appends-trans a b c x front p q)
 
 pub taken_before_failure : (a b c : Option (List ℕ)) (x : List ℕ) → Consumes a b x → KeepsOrForgets b c → TakesInAll a c x
 taken_before_failure None b c x p q = tt
 taken_before_failure (Some xs) None c x p q = absurd p
 taken_before_failure (Some xs) (Some ys) None x p q = (ys, p)
 taken_before_failure (Some xs) (Some ys) (Some zs) x p q = p ∙ ap (λ (t : List ℕ). x ++ t) (sym q)
-
-pub Consumes-none : (a : Option (List ℕ)) → Consumes a a []
-Consumes-none None = tt
-Consumes-none (Some xs) = refl
-
-pub Appends-none : (a : Option (List ℕ)) → Appends a a []
-Appends-none None = tt
-Appends-none (Some xs) = sym (append-nil xs)
 
 -- ---- a run so far
 
@@ -85,10 +68,10 @@ pub at_start : (keys : List KeyValue) (come contents : Option (List ℕ)) (sure 
 at_start keys come contents sure machine stands = record {
   taken = [];
   so_far = [];
-  bytes = Consumes-none come;
+  bytes = Consumes-nil come;
   stands = record { key = stands.key; feeds = stands.feeds; left = stands.left };
   none_after_end = λ n lt. absurd (omega arith);
-  payload = Appends-none contents;
+  payload = Appends-nil contents;
   promise = omega arith;
 }
 
@@ -98,6 +81,7 @@ stopped_by_intake {keys} {come} {come_now} {come_after} {contents} {contents_now
     let here = reading_here keys a.taken a.so_far machine a.stands in
     record {
       bytes = taken_before_failure come come_now come_after a.taken a.bytes keeps;
+      end = tt;
       none_after_end = a.none_after_end;
       placed = tt;
       answer = rw here refl;
@@ -105,11 +89,12 @@ stopped_by_intake {keys} {come} {come_now} {come_after} {contents} {contents_now
     }
 
 -- the intake's end
-pub ended_open : (spelled : HeadIsSpelled) → {keys : List KeyValue} {come come_now come_after contents contents_now : Option (List ℕ)} {sure sure_now : ℕ} {machine : Machine} {ended : Bool} → (a : Along keys come come_now contents contents_now sure sure_now machine) → Consumes come_now come_after [] → ended ≡ true → FirstRun keys come come_after ended contents contents_now (Ok (unsettled [] (place_of machine)).verdict) a.taken
-ended_open spelled {keys} {come} {come_now} {come_after} {contents} {contents_now} {sure} {sure_now} {machine} {ended} a none e =
+pub ended_open : (spelled : HeadIsSpelled) → {keys : List KeyValue} {come come_now come_after contents contents_now : Option (List ℕ)} {sure sure_now : ℕ} {machine : Machine} {ended : Bool} → (a : Along keys come come_now contents contents_now sure sure_now machine) → Consumes come_now come_after [] → IsAtEnd come_after → ended ≡ true → FirstRun keys come come_after ended contents contents_now (Ok (unsettled [] (place_of machine)).verdict) a.taken
+ended_open spelled {keys} {come} {come_now} {come_after} {contents} {contents_now} {sure} {sure_now} {machine} {ended} a none end e =
     let here = reading_here keys a.taken a.so_far machine a.stands in
     record {
-      bytes = subst (λ (t : List ℕ). Consumes come come_after t) (append-nil a.taken) (Consumes-then come come_now come_after a.taken [] a.bytes none);
+      bytes = subst (λ (t : List ℕ). Consumes come come_after t) (append-nil a.taken) (Consumes-trans come come_now come_after a.taken [] a.bytes none);
+      end = λ was. end;
       none_after_end = a.none_after_end;
       placed = subst (λ (r : Reading). IsWithin (length a.taken) r) here (first_reading-within spelled keys a.taken);
       answer = rw here (refl, rw e refl);
@@ -125,7 +110,7 @@ all_taken (Some xs) (Some ys) taken bytes p end e =
 
 pub ended_answer : {keys : List KeyValue} {come come_now contents contents_now : Option (List ℕ)} (come_after : Option (List ℕ)) {sure sure_now : ℕ} {machine : Machine} (bytes : List ℕ) → (a : Along keys come come_now contents contents_now sure sure_now machine) → Consumes come_now come_after [] → IsAtEnd come_after → come ≡ Some bytes → (unsettled [] (place_of machine)).verdict ≡ first_verdict keys bytes
 ended_answer {keys} {come} {come_now} {contents} {contents_now} come_after {sure} {sure_now} {machine} bytes a none end e =
-    let all : a.taken ++ [] ≡ bytes = all_taken come come_after (a.taken ++ []) bytes (Consumes-then come come_now come_after a.taken [] a.bytes none) end e in
+    let all : a.taken ++ [] ≡ bytes = all_taken come come_after (a.taken ++ []) bytes (Consumes-trans come come_now come_after a.taken [] a.bytes none) end e in
     let same : a.taken ≡ bytes = sym (append-nil a.taken) ∙ all in
     ap (λ (r : Reading). r.verdict) (sym (reading_here keys a.taken a.so_far machine a.stands) ∙ ap (first_reading keys) same)
 
@@ -136,7 +121,8 @@ stopped_by_sink {keys} {come} {come_now} {come_after} {contents} {contents_now} 
     let there = payload_byte_open a.stands.key a.so_far machine byte a.stands.feeds in_payload in
     let after : first_reading keys (a.taken ++ byte ∷ []) ≡ unsettled (a.so_far ++ byte ∷ []) there.0 = a.stands.left (byte ∷ []) ∙ there.1 in
     record {
-      bytes = Consumes-then come come_now come_after a.taken (byte ∷ []) a.bytes one;
+      bytes = Consumes-trans come come_now come_after a.taken (byte ∷ []) a.bytes one;
+      end = tt;
       none_after_end = none_after_end-more keys a.taken byte (rw here refl) a.none_after_end;
       placed = tt;
       answer = rw after refl;
@@ -149,11 +135,12 @@ settled_now spelled {keys} {come} {come_now} {come_after} {contents} {contents_n
     let here = reading_here keys a.taken a.so_far machine a.stands in
     let after : first_reading keys (a.taken ++ byte ∷ []) ≡ settled_as (a.so_far ++ payload_byte machine byte) verdict = a.stands.left (byte ∷ []) ∙ settles [] in
     record {
-      bytes = Consumes-then come come_now come_after a.taken (byte ∷ []) a.bytes one;
+      bytes = Consumes-trans come come_now come_after a.taken (byte ∷ []) a.bytes one;
+      end = λ was. let clash : true ≡ false = sym was ∙ e in cc;
       none_after_end = none_after_end-more keys a.taken byte (rw here refl) a.none_after_end;
       placed = subst (λ (r : Reading). IsWithin (length (a.taken ++ byte ∷ [])) r) after (first_reading-within spelled keys (a.taken ++ byte ∷ []));
       answer = rw after (refl, rw e refl);
-      payload = rw (after, is_piece) (Appends-then contents contents_now contents_after a.so_far piece a.payload grows);
+      payload = rw (after, is_piece) (Appends-trans contents contents_now contents_after a.so_far piece a.payload grows);
     }
 
 -- a byte that doesn't
@@ -163,13 +150,38 @@ goes_on {keys} {come} {come_now} {come_after} {contents} {contents_now} {content
     record {
       taken = a.taken ++ byte ∷ [];
       so_far = a.so_far ++ payload_byte machine byte;
-      bytes = Consumes-then come come_now come_after a.taken (byte ∷ []) a.bytes one;
+      bytes = Consumes-trans come come_now come_after a.taken (byte ∷ []) a.bytes one;
       stands = record {
         key = stands.key;
         feeds = stands.feeds;
         left = λ bytes. ap (first_reading keys) (append_assoc a.taken (byte ∷ []) bytes) ∙ a.stands.left (byte ∷ bytes) ∙ stands.left bytes;
       };
       none_after_end = none_after_end-more keys a.taken byte (rw here refl) a.none_after_end;
-      payload = rw is_piece (Appends-then contents contents_now contents_after a.so_far piece a.payload grows);
+      payload = rw is_piece (Appends-trans contents contents_now contents_after a.so_far piece a.payload grows);
       promise = rw is_piece (omega (arith, a.promise, length-append a.so_far piece));
     }
+
+-- ---- after the run
+
+all_or_settled : (come_after : Option (List ℕ)) (rest : List ℕ) (ended settled : Bool) → come_after ≡ Some rest → settled ≡ not ended →
+    (ended ≡ true → IsAtEnd come_after) → settled ≡ false → rest ≡ []
+all_or_settled None rest ended settled e s end unsettled = absurd cc
+all_or_settled (Some xs) rest true settled e s end unsettled = let same : xs ≡ rest = cc in sym same ∙ end refl
+all_or_settled (Some xs) rest false settled e s end unsettled = let clash : true ≡ false = sym s ∙ unsettled in cc
+
+-- what was taken of known bytes is what a verdict takes of them
+pub takes_up : {keys : List KeyValue} {come contents contents_after : Option (List ℕ)} {ended : Bool} {verdict : Verdict} (come_after : Option (List ℕ)) (taken bytes : List ℕ) → FirstRun keys come come_after ended contents contents_after (Ok verdict) taken → come ≡ Some bytes →
+    (rest : List ℕ) × (come_after ≡ Some rest) × TakesUp keys bytes taken rest
+takes_up {keys} {come} {contents} {contents_after} {ended} {verdict} None taken bytes r e = let none = rw e at r.bytes in absurd none
+takes_up {keys} {come} {contents} {contents_after} {ended} {verdict} (Some rest) taken bytes r e =
+    (rest, refl, record {
+      whole = rw e at r.bytes;
+      none_earlier = r.none_after_end;
+      all = all_or_settled (Some rest) rest ended (first_reading keys taken).settled refl r.answer.1 r.end;
+    })
+
+-- a reply that says the verdict of the program
+pub said : {F : Type 0} (keys bytes : List ℕ) (verdict : Verdict) (reply : Result Reply F) → ProgramVerdict keys bytes verdict → IfOk reply (Says verdict) →
+    IfOk reply (λ r. (v : Verdict) × ProgramVerdict keys bytes v × Says v r)
+said keys bytes verdict (Ok reply) p s = (verdict, p, s)
+said keys bytes verdict (Err fault) p s = tt

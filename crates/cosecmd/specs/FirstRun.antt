@@ -1,6 +1,6 @@
 -- What a call of the first path did with an intake and a sink.
-use Rattle.std.specs.Prelude.{◌≡◌, ℕ, ◌<◌, Bool, true, false, List, length, take, Option, Result, Ok, Err, IfOk, not}
-use Rattle.std.specs.Io.KnownBytes.{Appends, Consumes}
+use Rattle.std.specs.Prelude.{◌≡◌, ℕ, ◌<◌, Bool, true, false, List, [], ◌++◌, length, take, Option, Result, Ok, Err, IfOk, not}
+use Rattle.std.specs.Io.KnownBytes.{Appends, Consumes, IsAtEnd}
 use Rattle.cose_map.specs.KeyValue.{KeyValue}
 use Rattle.cosecmd.specs.declared.first.verdict.Verdict.{Verdict}
 use Rattle.cosecmd.specs.declared.first.verdict.Stop.{Stop}
@@ -40,9 +40,17 @@ Grows old new (Err stops.Sink) payload = AppendsFront old new payload
 
 pub record FirstRun (keys : List KeyValue) (come come_after : Option (List ℕ)) (ended : Bool) (contents contents_after : Option (List ℕ)) (result : Result Verdict Stop) (taken : List ℕ) : Type 0 where
   pub bytes : Takes come come_after result taken
+  -- Where it ended there was no byte more.
+  pub end : IfOk result (λ verdict. ended ≡ true → IsAtEnd come_after)
   -- None was taken after the one that settles the verdict.
   pub none_after_end : (n : ℕ) → n < length taken → (first_reading keys (take n taken)).settled ≡ false
   -- Its places are within the bytes taken.
   pub placed : IfOk result (VerdictWithin (length taken))
   pub answer : Answers result ended (first_reading keys taken)
   pub payload : Grows contents contents_after result (first_reading keys taken).payload
+
+-- The bytes that a verdict takes of these: the fewest that settle it, or all where none do. Others are the rest.
+pub record TakesUp (keys : List KeyValue) (bytes taken rest : List ℕ) : Type 0 where
+  pub whole : bytes ≡ taken ++ rest
+  pub none_earlier : (n : ℕ) → n < length taken → (first_reading keys (take n taken)).settled ≡ false
+  pub all : (first_reading keys taken).settled ≡ false → rest ≡ []

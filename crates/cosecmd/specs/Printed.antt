@@ -1,5 +1,5 @@
 -- The lines that the program prints, and how it ends.
-use Rattle.std.specs.Prelude.{◌≡◌, ℕ, List, [], ◌∷◌, ◌++◌, codes, string_bytes}
+use Rattle.std.specs.Prelude.{◌≡◌, ℕ, List, ◌∷◌, ◌++◌, Ok, codes, string_bytes}
 use Rattle.std.specs.Fmt.{decimal, signed_decimal}
 use Rattle.cose_head.specs.declared.kind.Kind.{Kind}
 use Rattle.cose_head.specs.declared.kind.Kind.TheVariants.{Mac0, Sign1}
@@ -7,11 +7,15 @@ use Rattle.cose_head.specs.declared.reason.Reason.{Reason}
 use Rattle.cose_head.specs.declared.reason.Reason.TheVariants.{Trailing}
 use Rattle.cose_head.specs.Reason.{name_of}
 use Rattle.cose_mac.specs.Algorithm.{number_of}
+use Rattle.cose_map.specs.KeySet.{keys_of}
+use Rattle.cose_map.specs.KeyValue.{KeyValue}
 use Rattle.cosecmd.specs.declared.first.verdict.Verdict.{Verdict}
 use Rattle.cosecmd.specs.declared.first.verdict.Verdict.TheVariants.{Authentic, Refused}
 use Rattle.cosecmd.specs.declared.reply.Reply.{Reply}
 use Rattle.cosecmd.specs.declared.reply.Status.{Status}
 use Rattle.cosecmd.specs.declared.reply.Status.TheVariants as statuses
+use Rattle.cosecmd.specs.FirstVerdict.{first_verdict}
+use Rattle.cosecmd.specs.FirstRun.{TakesUp}
 
 abbrev pub word_of_kind : Kind → List ℕ
 word_of_kind Mac0 = codes "mac0"
@@ -35,12 +39,25 @@ abbrev pub status_of : Verdict → Status
 status_of (Authentic kind alg payload taken) = statuses.Done
 status_of (Refused refusal) = statuses.Refused
 
--- What a reply says of a verdict.
+-- What is printed of a verdict, and a reply that says it.
+abbrev pub printed : Verdict → List ℕ
+printed verdict = verdict_line verdict ++ codes "\n"
+
 pub record Says (verdict : Verdict) (reply : Reply) : Type 0 where
-  pub line : string_bytes reply.text ≡ verdict_line verdict ++ codes "\n"
+  pub line : string_bytes reply.text ≡ printed verdict
   pub status : reply.status ≡ status_of verdict
 
 -- The verdict on a whole input, where these bytes stand behind the message: nothing may follow an authentic one.
 abbrev pub with_rest : List ℕ → Verdict → Verdict
 with_rest (byte ∷ bytes) (Authentic kind alg payload taken) = Refused (record { reason = Trailing; place = taken })
 with_rest rest verdict = verdict
+
+-- The program's verdict of an input, under the bytes of a key set: that of the bytes by definition, but for those that it
+-- doesn't take.
+pub record ProgramVerdict (keys bytes : List ℕ) (verdict : Verdict) : Type 0 where
+  pub usable : List KeyValue
+  pub taken : List ℕ
+  pub rest : List ℕ
+  pub key_set : keys_of keys ≡ Ok usable
+  pub takes : TakesUp usable bytes taken rest
+  pub answer : verdict ≡ with_rest rest (first_verdict usable bytes)

@@ -17,7 +17,7 @@ pub enum Status {
 impl Status {
     /// The exit status of the process: 0, 1 and 2, in this order.
     pub fn code(self) -> u8
-        ensures { result ≡ code_of self.entry }
+        ensures { result ≡ code_of self }
     {
         match self {
             Status::Done => 0,

@@ -1,11 +1,9 @@
 //! A run of the program, over any reader and writer.
 
-ghost use Rattle.std.specs.Prelude.{◌≡◌, ◌≢◌, ◌≤◌, ◌++◌, ℕ, List, Some, Ok, IfOk};
+ghost use Rattle.std.specs.Prelude.{◌≡◌, ◌≢◌, ◌≤◌, ℕ, List, Some, IfOk};
 ghost use Rattle.std.specs.Io.KnownBytes.{Appends};
-ghost use Rattle.cose_map.specs.KeySet.{keys_of};
-ghost use Rattle.cose_map.specs.KeyValue.{KeyValue};
-ghost use Rattle.cosecmd.specs.FirstVerdict.{first_verdict};
-ghost use Rattle.cosecmd.specs.Printed.{Says, with_rest};
+ghost use Rattle.cosecmd.specs.declared.first.verdict.Verdict.{Verdict};
+ghost use Rattle.cosecmd.specs.Printed.{ProgramVerdict, Says, printed, status_of, with_rest};
 
 use crate::fault::Fault;
 use crate::first::intake::{Intake, ReadIntake};
@@ -47,13 +45,14 @@ fn reply_of(alloc: Global, verdict: Verdict) -> Result<Reply, Fault>
     Ok(Reply { status, text })
 }
 
-/// The command `verify`: the verdict of the message that the reader gives, under the key set in `keys`.
-fn verify<R: Read>(alloc: Global, keys: &[u8], input: &mut R) -> Result<Reply, Fault>
-    // It says the verdict of the reader's bytes under the usable keys, the last bytes being those behind the message.
-    ensures said { (bytes : List ℕ) → R.remaining input.old ≡ Some bytes → IfOk result (λ reply. (usable : List KeyValue) × (taken : List ℕ) × (rest : List ℕ)
-        × (keys_of keys.now ≡ Ok usable) × (bytes ≡ taken ++ rest) × Says (with_rest rest (first_verdict usable bytes)) reply) }
+/// What there is to say of the message that the reader gives, under the key set in `keys`.
+fn reply_to<R: Read>(alloc: Global, keys: &[u8], input: &mut R) -> Result<Reply, Fault>
+    ensures { (bytes : List ℕ) → R.remaining input.old ≡ Some bytes → IfOk result (λ reply. (verdict : Verdict) × ProgramVerdict keys.now bytes verdict × Says verdict reply) }
 {
-    let keys = KeySet::read(keys).map_err(Fault::keys)?;
+    let keys = match KeySet::read(keys) {
+        Ok(keys) => keys,
+        Err(refusal) => return Err(Fault::keys(refusal)),
+    };
     let mut intake = ReadIntake::new(input);
     let verdict = match verify_first(&keys, &mut intake, &mut Nothing) {
         Ok(verdict) => whole_verdict(verdict, &mut intake)?,
@@ -61,18 +60,6 @@ fn verify<R: Read>(alloc: Global, keys: &[u8], input: &mut R) -> Result<Reply, F
         Err(Stop::Intake | Stop::Sink) => return Err(Fault::Input),
     };
     reply_of(alloc, verdict)
-}
-
-/// What the words and the input come to.
-fn reply_to<'a, R: Read>(
-    alloc: Global,
-    words: &'a [&'a str],
-    input: &mut R,
-) -> Result<Reply, Fault> {
-    match request_of(alloc, words)? {
-        Request::Verify { keys } => verify(alloc, keys.as_slice(), input),
-        Request::Print(reply) => Ok(reply),
-    }
 }
 
 /// Writes a text whole, and says how the run ends: as it says itself, or with a fault where the writer failed.
@@ -83,6 +70,33 @@ fn print<W: Write>(output: &mut W, text: &str, status: Status) -> Status
     match output.write_all(text.as_bytes()) {
         Ok(()) => status,
         Err(_) => Status::Fault,
+    }
+}
+
+/// Writes the line of a fault. Where there is no memory for it, that is the fault.
+fn print_fault<W: Write>(alloc: Global, fault: Fault, output: &mut W) -> Status
+    ensures { result ≡ Status.Fault }
+{
+    match format!(in alloc; "{fault}\n") {
+        Ok(text) => print(output, text.as_str(), Status::Fault),
+        Err(_) => print(output, "fault memory\n", Status::Fault),
+    }
+}
+
+/// The command `verify`: prints the verdict of the message that the reader gives, under the key set in `keys`.
+fn verify<R: Read, W: Write>(
+    alloc: Global,
+    keys: &[u8],
+    input: &mut R,
+    output: &mut W,
+) -> Status
+    // But for a fault it prints the line of the verdict of all that the reader gives, and ends as that verdict says.
+    ensures { (bytes : List ℕ) → R.remaining input.old ≡ Some bytes → result ≢ Status.Fault → (verdict : Verdict) × ProgramVerdict keys.now bytes verdict
+        × (result ≡ status_of verdict) × Appends (W.contents output.old) (W.contents output.new) (printed verdict) }
+{
+    match reply_to(alloc, keys, input) {
+        Ok(Reply { status, text }) => print(output, text.as_str(), status),
+        Err(fault) => print_fault(alloc, fault, output),
     }
 }
 
@@ -99,12 +113,10 @@ pub fn run<'a, R: Read, W: Write>(
 ) -> u8
     ensures { result ≤ 2 }
 {
-    let status = match reply_to(alloc, words, input) {
-        Ok(Reply { status, text }) => print(output, text.as_str(), status),
-        Err(fault) => match format!(in alloc; "{fault}\n") {
-            Ok(text) => print(output, text.as_str(), Status::Fault),
-            Err(_) => print(output, "fault memory\n", Status::Fault),
-        },
+    let status = match request_of(alloc, words) {
+        Ok(Request::Verify { keys }) => verify(alloc, keys.as_slice(), input, output),
+        Ok(Request::Print(Reply { status, text })) => print(output, text.as_str(), status),
+        Err(fault) => print_fault(alloc, fault, output),
     };
     status.code()
 }

@@ -17,7 +17,7 @@ pub returns-in_default-clause-run : goal.returns-in_default-clause-run
 returns-in_default-clause-run g c =
     let a = c.bytes.invariant.0 in
     let byte = rw c.in_default.is at c.in_ok-byte.ensures.byte in
-    (a.taken, rw c.truncated.ensures (ended_open c.bare_head_is_spelling.ensures.spelled a byte.0 byte.2))
+    (a.taken, rw c.truncated.ensures (ended_open c.bare_head_is_spelling.ensures.spelled a byte.0 byte.1 byte.2))
 
 pub returns-in_default-clause-answer : goal.returns-in_default-clause-answer
 returns-in_default-clause-answer g c = λ bytes e.
