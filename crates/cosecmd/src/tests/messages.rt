@@ -7,6 +7,7 @@ use crate::first::verify_first;
 use crate::tests::{FRONT, KEY, STRUCTURE, hmac, joined, key_set, message};
 use cose_head::{Kind, Reason, Refusal};
 use cose_mac::Alg;
+use cose_map::KeySet;
 use std::alloc::{AllocError, Global};
 use std::process::Abort;
 use std::test::Fail;
@@ -95,13 +96,38 @@ fn compares_tags(rt: HostRuntime) -> Result<(), Fail> {
 
 #[test]
 fn refuses_other_payloads(rt: HostRuntime) -> Result<(), Fail> {
-    let long = b"\x5b\x01\0\0\0\0\0\0\0\0";
-    answers(&rt, b"\x42h", b"", refused(Reason::Truncated, 9), 9)?;
-    answers(&rt, b"\x5f\xff", b"", refused(Reason::Indefinite, 7), 8)?;
-    answers(&rt, long, b"", refused(Reason::PayloadTooLong, 7), 16)?;
-    answers(&rt, b"\xf6\x00", b"", refused(Reason::Detached, 7), 8)?;
-    answers(&rt, b"\x61a", b"", refused(Reason::WrongType, 7), 8)?;
-    answers(&rt, b"\xf8\x16\x00", b"", refused(Reason::BadSimple, 7), 9)?;
+    let rows: [(&str, Reason, u64, usize); 6] = [
+        ("4268", Reason::Truncated, 9, 9),
+        ("5fff", Reason::Indefinite, 7, 8),
+        ("5b010000000000000000", Reason::PayloadTooLong, 7, 16),
+        ("f600", Reason::Detached, 7, 8),
+        ("6161", Reason::WrongType, 7, 8),
+        ("f81600", Reason::BadSimple, 7, 9),
+    ];
+    for (payload, reason, place, taken) in rows {
+        let bytes = hex::decode(rt.alloc(), payload).or(Err("no hexadecimal"))?;
+        answers(&rt, bytes.as_slice(), b"", refused(reason, place), taken)?;
+    }
+    Ok(())
+}
+
+#[test]
+fn chooses_the_key_behind_the_front(rt: HostRuntime) -> Result<(), Fail> {
+    let bytes = message(rt.alloc())?;
+    let rows: [(&str, Reason); 3] = [
+        ("a0", Reason::NoKey),
+        ("a30104030420444a656665", Reason::NoKey),
+        ("82a2010420444a656665a201042041aa", Reason::AmbiguousKey),
+    ];
+    for (keys, reason) in rows {
+        let set = hex::decode(rt.alloc(), keys).or(Err("no hexadecimal"))?;
+        let set = KeySet::read(set.as_slice()).or(Err("no key set"))?;
+        let mut reader = bytes.as_slice();
+        let mut store = Store::<16>::new();
+        let answer = verify_first(&set, &mut ReadIntake::new(&mut reader), &mut store);
+        assert_eq!(rt; answer, Ok(refused(reason, 7)), "under {keys}");
+        assert_eq!(rt; reader.len(), 37, "under {keys}");
+    }
     Ok(())
 }
 

@@ -26,86 +26,61 @@ fn prints(
 #[test]
 fn prints_the_verdict(rt: HostRuntime) -> Result<(), Fail> {
     let message = message(rt.alloc())?;
-    let whole = message.as_slice();
-    let longer = joined(rt.alloc(), &[whole, b"\xff"])?;
     let authentic = "authentic mac0 alg 5 payload 2 taken 44\n";
-    prints(&rt, KEYS, whole, authentic, 0)?;
-    prints(&rt, "A2010420444A656665", whole, authentic, 0)?;
-    prints(&rt, "a201042058044a656665", whole, authentic, 0)?;
+    let rows: [(&str, &str, u8); 5] = [
+        (KEYS, authentic, 0),
+        ("A2010420444A656665", authentic, 0),
+        ("a201042058044a656665", authentic, 0),
+        ("zz", "fault line keys\n", 2),
+        ("a20", "fault line keys\n", 2),
+    ];
+    for (keys, text, status) in rows {
+        prints(&rt, keys, message.as_slice(), text, status)?;
+    }
+    let longer = joined(rt.alloc(), &[message.as_slice(), b"\xff"])?;
     prints(&rt, KEYS, longer.as_slice(), "refused Trailing at 44\n", 1)?;
     prints(&rt, KEYS, b"", "refused Truncated at 0\n", 1)?;
-    prints(&rt, "zz", whole, "fault line keys\n", 2)?;
-    prints(&rt, "a20", whole, "fault line keys\n", 2)?;
     Ok(())
 }
 
 #[test]
 fn takes_a_key_set(rt: HostRuntime) -> Result<(), Fail> {
     let message = message(rt.alloc())?;
-    let whole = message.as_slice();
     let authentic = "authentic mac0 alg 5 payload 2 taken 44\n";
-    // the set is refused
-    prints(&rt, "", whole, "fault keys PastRoom at 0\n", 2)?;
-    prints(&rt, "80", whole, "fault keys BadKeySet at 0\n", 2)?;
-    prints(&rt, "00", whole, "fault keys BadKeySet at 0\n", 2)?;
-    prints(
-        &rt,
-        "a2010420444a65666500",
-        whole,
-        "fault keys Trailing at 9\n",
-        2,
-    )?;
-    prints(
-        &rt,
-        "a2010420444a6566",
-        whole,
-        "fault keys PastRoom at 4\n",
-        2,
-    )?;
-    prints(&rt, "1c", whole, "fault keys Reserved at 0\n", 2)?;
-    prints(&rt, "9f", whole, "fault keys Indefinite at 0\n", 2)?;
-    prints(&rt, "f800", whole, "fault keys BadSimple at 0\n", 2)?;
-    prints(
-        &rt,
-        "818181818181818181a0",
-        whole,
-        "fault keys TooDeep at 8\n",
-        2,
-    )?;
-    // the choice of the key
-    prints(&rt, "a0", whole, "refused NoKey at 7\n", 1)?;
-    prints(&rt, "8100", whole, "refused NoKey at 7\n", 1)?;
-    prints(
-        &rt,
-        "a30104030420444a656665",
-        whole,
-        "refused NoKey at 7\n",
-        1,
-    )?;
-    prints(&rt, "a30104030520444a656665", whole, authentic, 0)?;
-    prints(&rt, "a3010404810a20444a656665", whole, authentic, 0)?;
-    prints(
-        &rt,
-        "a3010404810920444a656665",
-        whole,
-        "refused NoKey at 7\n",
-        1,
-    )?;
-    prints(
-        &rt,
-        "82a2010420444a656665a201042041aa",
-        whole,
-        "refused AmbiguousKey at 7\n",
-        1,
-    )?;
-    prints(
-        &rt,
-        "82a2010420444a656665a20101200641aa",
-        whole,
-        "fault keys Trailing at 15\n",
-        2,
-    )?;
-    prints(&rt, "82a2010420444a656665a201012006", whole, authentic, 0)?;
+    let rows: [(&str, &str, u8); 19] = [
+        // the set is refused
+        ("", "fault keys PastRoom at 0\n", 2),
+        ("80", "fault keys BadKeySet at 0\n", 2),
+        ("00", "fault keys BadKeySet at 0\n", 2),
+        ("a2010420444a65666500", "fault keys Trailing at 9\n", 2),
+        ("a2010420444a6566", "fault keys PastRoom at 4\n", 2),
+        ("1c", "fault keys Reserved at 0\n", 2),
+        ("9f", "fault keys Indefinite at 0\n", 2),
+        ("f800", "fault keys BadSimple at 0\n", 2),
+        ("818181818181818181a0", "fault keys TooDeep at 8\n", 2),
+        (
+            "82a2010420444a656665a20101200641aa",
+            "fault keys Trailing at 15\n",
+            2,
+        ),
+        // the choice of the key
+        ("a0", "refused NoKey at 7\n", 1),
+        ("8100", "refused NoKey at 7\n", 1),
+        ("a30104030420444a656665", "refused NoKey at 7\n", 1),
+        ("a30104030520444a656665", authentic, 0),
+        ("a3010404810a20444a656665", authentic, 0),
+        ("a3010404810920444a656665", "refused NoKey at 7\n", 1),
+        (
+            "82a2010420444a656665a201042041aa",
+            "refused AmbiguousKey at 7\n",
+            1,
+        ),
+        ("82a2010420444a656665a201012006", authentic, 0),
+        ("81a2010420444a656665", authentic, 0),
+    ];
+    for (keys, text, status) in rows {
+        prints(&rt, keys, message.as_slice(), text, status)?;
+    }
     Ok(())
 }
 
