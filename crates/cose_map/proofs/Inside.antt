@@ -1,5 +1,5 @@
 -- No refusal of a map, a bucket, a key or two buckets stands after the bytes.
-use Rattle.std.proofs.Common.{◌≡◌, ℕ, ◌+◌, ◌≤◌, Bool, true, false, not, List, [], ◌∷◌, ◌++◌, length, Option, Some, None, Ok, Err, if◌then◌else◌, refl, sym, subst, arith}
+use Rattle.std.proofs.Common.{◌≡◌, ◌⊎◌, inl, inr, ℕ, ◌+◌, ◌≤◌, Bool, true, false, not, List, [], ◌∷◌, ◌++◌, length, Option, Some, None, Ok, Err, if◌then◌else◌, refl, sym, subst, arith}
 use Rattle.std.specs.Prelude.{⊤, ℤ, pos, nat_lt, ◌==◌, IfSome, option_map, find, fold, flat_map}
 use Rattle.std.specs.List.{AllByRecursion}
 use Rattle.std.specs.Ordering.{int_eq}
@@ -172,38 +172,42 @@ module _ (end : ℕ) where
     material_by = then_by end (EndsBy end) (λ material. ⊤) (member key pairs key_type) _ (member_by key_type)
         (λ value s. typed_by (integer_in (look value)))
 
-  -- the faults of two buckets
-  fault_by : (wrong : Bool) (reason : Reason) (place : ℕ) → place ≤ end → AllByRecursion (λ fault. fault.place ≤ end) (fault_if wrong reason place)
-  fault_by true reason place inside = (inside, tt)
-  fault_by false reason place inside = tt
+-- the faults of two buckets
+module _ (end after : ℕ) where
+  abbrev IsInside : Refusal → Type 0
+  IsInside fault = (fault.place ≤ end) ⊎ (fault.place ≡ after)
 
-  least_by : (so_far : Option Refusal) (faults : List Refusal) → IfSome so_far (λ fault. fault.place ≤ end) →
-      AllByRecursion (λ fault. fault.place ≤ end) faults → IfSome (fold lesser so_far faults) (λ fault. fault.place ≤ end)
-  least_by so_far [] s inside = s
-  least_by so_far (fault ∷ faults) s inside = least_by (lesser so_far fault) faults (one so_far s) inside.1
-    where
-      one : (so_far : Option Refusal) → IfSome so_far (λ fault. fault.place ≤ end) → IfSome (lesser so_far fault) (λ fault. fault.place ≤ end)
-      one None s = inside.0
-      one (Some before) s = cond_both (goes_before fault before) (Some fault) (Some before) (λ o. IfSome o (λ fault. fault.place ≤ end)) (λ e. inside.0) (λ e. s)
+  fault_inside : (wrong : Bool) (reason : Reason) (place : ℕ) → (place ≤ end) ⊎ (place ≡ after) → AllByRecursion IsInside (fault_if wrong reason place)
+  fault_inside true reason place inside = (inside, tt)
+  fault_inside false reason place inside = tt
+
+  lesser_inside : (least : Option Refusal) (fault : Refusal) → IfSome least IsInside → IsInside fault → IfSome (lesser least fault) IsInside
+  lesser_inside None fault s inside = inside
+  lesser_inside (Some least) fault s inside =
+      cond_both (goes_before fault least) (Some fault) (Some least) (λ o. IfSome o IsInside) (λ e. inside) (λ e. s)
+
+  least_inside : (so_far : Option Refusal) (faults : List Refusal) → IfSome so_far IsInside → AllByRecursion IsInside faults → IfSome (fold lesser so_far faults) IsInside
+  least_inside so_far [] s inside = s
+  least_inside so_far (fault ∷ faults) s inside = least_inside (lesser so_far fault) faults (lesser_inside so_far fault s inside.0) inside.1
 
   module _ (protected : List Pair) (understood : List LabelValue) where
-    critical_by : (element : Placed) → EndsBy end element → (name : Option LabelValue) →
-        AllByRecursion (λ fault. fault.place ≤ end) (critical_faults protected understood element name)
-    critical_by element inside None = tt
-    critical_by element inside (Some name) = all_both (λ fault. fault.place ≤ end) _ _
-        (fault_by (not (has_label name protected)) _ element.place (omega arith))
-        (fault_by (not (is_understood understood name)) _ element.place (omega arith))
+    critical_inside : (element : Placed) → EndsBy end element → (name : Option LabelValue) →
+        AllByRecursion IsInside (critical_faults protected understood element name)
+    critical_inside element inside None = tt
+    critical_inside element inside (Some name) = all_both IsInside _ _
+        (fault_inside (not (has_label name protected)) _ element.place (inl (omega arith)))
+        (fault_inside (not (is_understood understood name)) _ element.place (inl (omega arith)))
 
-    elements_by : (elements : Option (List Placed)) → IfSome elements (AllByRecursion (EndsBy end)) →
-        AllByRecursion (λ fault. fault.place ≤ end) (all_element_faults protected understood elements)
-    elements_by None s = tt
-    elements_by (Some elements) s = all_through (λ fault. fault.place ≤ end) (EndsBy end) (element_faults protected understood)
-        (λ element inside. critical_by element inside (label_of element)) elements s
+    elements_inside : (elements : Option (List Placed)) → IfSome elements (AllByRecursion (EndsBy end)) →
+        AllByRecursion IsInside (all_element_faults protected understood elements)
+    elements_inside None s = tt
+    elements_inside (Some elements) s = all_through IsInside (EndsBy end) (element_faults protected understood)
+        (λ element inside. critical_inside element inside (label_of element)) elements s
 
-    unprotected_by : (pair : Pair) → PairEndsBy end pair → AllByRecursion (λ fault. fault.place ≤ end) (unprotected_faults protected pair)
-    unprotected_by pair inside = let at = inside.0 in all_both (λ fault. fault.place ≤ end) _ _
-        (fault_by (has_label pair.name protected) _ pair.label.place (omega arith))
-        (fault_by _ _ pair.label.place (omega arith))
+    unprotected_inside : (pair : Pair) → PairEndsBy end pair → AllByRecursion IsInside (unprotected_faults protected pair)
+    unprotected_inside pair inside = let at = inside.0 in all_both IsInside _ _
+        (fault_inside (has_label pair.name protected) _ pair.label.place (inl (omega arith)))
+        (fault_inside _ _ pair.label.place (inl (omega arith)))
 
 -- with what is known of reading and of children
 module _ (steps : ReadSteps) (children : ChildrenEndInside) where
@@ -253,13 +257,13 @@ module _ (steps : ReadSteps) (children : ChildrenEndInside) where
   pub bucket_ends_inside : (depth : ℕ) (p : Placed) (pairs : List Pair) → bucket_of depth p ≡ Ok pairs → PairsEndBy (end_of p) pairs
   bucket_ends_inside depth p pairs e = rw e at (bucket_inside depth p)
 
-  pub pair_refused_inside : (protected unprotected : List Pair) (understood : List LabelValue) (after : ℕ) →
-      PairsEndBy after protected → PairsEndBy after unprotected →
-      IfSome (pair_fault protected unprotected understood after) (λ refusal. refusal.place ≤ after)
+  pub pair_refused_inside : (protected unprotected : List Pair) (understood : List LabelValue) (end after : ℕ) →
+      PairsEndBy end protected → PairsEndBy end unprotected →
+      IfSome (pair_fault protected unprotected understood after) (λ refusal. (refusal.place ≤ end) ⊎ (refusal.place ≡ after))
   unfolding pair_faults
-  pair_refused_inside protected unprotected understood after p q = least_by after None _ tt
-      (all_both (λ fault. fault.place ≤ after) (crit_faults protected understood) _
-      (elements_by after protected understood (crit_of protected) (crit_inside after (value_of crit protected) (value_of_by after crit protected p)))
-      (all_both (λ fault. fault.place ≤ after) _ _
-      (all_through (λ fault. fault.place ≤ after) (PairEndsBy after) (unprotected_faults protected) (unprotected_by after protected understood) unprotected q)
-      (fault_by after (both_ivs protected unprotected) BothIvs after (omega arith))))
+  pair_refused_inside protected unprotected understood end after p q = least_inside end after None _ tt
+      (all_both (IsInside end after) (crit_faults protected understood) _
+      (elements_inside end after protected understood (crit_of protected) (crit_inside end (value_of crit protected) (value_of_by end crit protected p)))
+      (all_both (IsInside end after) _ _
+      (all_through (IsInside end after) (PairEndsBy end) (unprotected_faults protected) (unprotected_inside end after protected understood) unprotected q)
+      (fault_inside end after (both_ivs protected unprotected) BothIvs after (inr refl))))

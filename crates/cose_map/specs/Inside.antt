@@ -1,5 +1,5 @@
 -- Where the faults of maps, buckets and keys stand: never after the bytes that were read.
-use Rattle.std.specs.Prelude.{◌≡◌, ℕ, ◌≤◌, List, Ok, IfErr, IfSome}
+use Rattle.std.specs.Prelude.{◌≡◌, ◌⊎◌, ℕ, ◌≤◌, List, Ok, IfErr, IfSome}
 use Rattle.std.specs.List.{AllByRecursion}
 use Rattle.cose_head.specs.Placed.{Placed}
 use Rattle.cose_head.specs.PlacedLaws.{end_of, EndsBy}
@@ -36,8 +36,8 @@ PairsEndBy end pairs = AllByRecursion (PairEndsBy end) pairs
 abbrev pub BucketEndsInside : Type 0
 BucketEndsInside = (depth : ℕ) (p : Placed) (pairs : List Pair) → bucket_of depth p ≡ Ok pairs → PairsEndBy (end_of p) pairs
 
--- So no fault of two buckets together stands after the place that comes after both.
+-- A fault of two buckets together stands no later than the later of their ends, or at the place that comes after both.
 abbrev pub PairIsRefusedInside : Type 0
-PairIsRefusedInside = (protected unprotected : List Pair) (understood : List LabelValue) (after : ℕ) →
-    PairsEndBy after protected → PairsEndBy after unprotected →
-    IfSome (pair_fault protected unprotected understood after) (λ refusal. refusal.place ≤ after)
+PairIsRefusedInside = (protected unprotected : List Pair) (understood : List LabelValue) (end after : ℕ) →
+    PairsEndBy end protected → PairsEndBy end unprotected →
+    IfSome (pair_fault protected unprotected understood after) (λ refusal. (refusal.place ≤ end) ⊎ (refusal.place ≡ after))

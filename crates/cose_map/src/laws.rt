@@ -5,7 +5,7 @@ ghost use Rattle.cose_map.specs.Inside.{MapIsRefusedInside, ReadIsRefusedInside,
 use cose_head::laws::{children_are_of_tree, read_steps};
 
 /// A refusal of a map, of a bucket or of a key stands among its bytes or at their end, and one of two buckets together
-/// no later than the place after both (RFC 9052 sections 3 and 7).
+/// no later than the later of their ends, or at the place after both (RFC 9052 sections 3 and 7).
 pub fn refusals_stand_inside()
     ensures map { MapIsRefusedInside }
     ensures read { ReadIsRefusedInside }
