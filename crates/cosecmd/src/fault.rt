@@ -1,5 +1,7 @@
 //! The faults of the line, the words, memory and the input, each with the line that is printed for it.
 
+ghost use Rattle.std.specs.Prelude.{◌≡◌, ◌≢◌};
+
 use cose_head::{Reason, Refusal};
 use hex::FromHexError;
 use std::alloc::AllocError;
@@ -35,13 +37,18 @@ impl From<AllocError> for Fault {
 
 impl Fault {
     /// A refused key set.
-    pub fn keys(refusal: Refusal) -> Fault {
+    pub fn keys(refusal: Refusal) -> Fault
+        ensures { result ≡ Fault.Keys refusal.reason refusal.place }
+    {
         let Refusal { reason, place } = refusal;
         Fault::Keys { reason, place }
     }
 
     /// The word of an option that couldn't be read as hexadecimal.
-    pub fn hexadecimal(option: &'static str, error: FromHexError) -> Fault {
+    pub fn hexadecimal(option: &'static str, error: FromHexError) -> Fault
+        ensures memory { error ≡ FromHexError.OutOfMemory → result ≡ Fault.Memory }
+        ensures line { error ≢ FromHexError.OutOfMemory → result ≡ Fault.Line option.entry }
+    {
         match error {
             FromHexError::OutOfMemory => Fault::Memory,
             _ => Fault::Line(option),

@@ -84,7 +84,9 @@ fn print_fault<W: Write>(alloc: Global, fault: Fault, output: &mut W) -> Status
 }
 
 /// The command `verify`: prints the verdict of the message that the reader gives, under the key set in `keys`.
-fn verify<R: Read, W: Write>(
+///
+/// Behind an authentic message it reads once more: a further byte is `refused Trailing` at the end of the message.
+pub fn verify<R: Read, W: Write>(
     alloc: Global,
     keys: &[u8],
     input: &mut R,
