@@ -2,3 +2,4 @@ pub mod MachineLemmas
 pub mod PhaseLemmas
 pub mod PlaceLemmas
 pub mod RunLemmas
+pub mod WorkedVerdicts

@@ -6,4 +6,3 @@ pub mod Phases
 pub mod Printed
 pub mod Sink
 pub mod TakenByte
-pub mod Worked
