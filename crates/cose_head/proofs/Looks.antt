@@ -10,7 +10,8 @@ use Rattle.cose_head.specs.declared.head.HeadStep.TheVariants.{Got}
 use Rattle.cose_head.specs.declared.item.Span.{Span}
 use Rattle.cose_head.specs.declared.refusal.Refusal.{Refusal}
 use Rattle.cose_head.specs.Head.{bare_head}
-use Rattle.cose_head.specs.Placed.{Placed, look_with, simple_look, integer_in, bytes_in, text_in, if_utf8, is_an_array, is_a_map, is_a_float, head_of_item, has_children, children_announced, children_of, past_head, children_if_any, items_from, first_of, span_at}
+use Rattle.cose_head.specs.Reading.{child_count}
+use Rattle.cose_head.specs.Placed.{Placed, look_with, simple_look, integer_in, bytes_in, text_in, if_utf8, is_an_array, is_a_map, is_a_float, head_of_item, has_children, children_of, past_head, children_if_any, items_from, first_of, span_at}
 use Rattle.cose_head.proofs.Heads.{got_width}
 
 pub unsigned_found : (h : Head) (rest : List ℕ) → h.major ≡ 0 → integer_in (look_with h rest) ≡ Some (pos h.arg)
@@ -70,12 +71,12 @@ announced true n left p e = let same : left ≡ n = cc in rw same refl
 announced false n left p e = cc
 
 pub children_found : (bytes rest : List ℕ) (place used left : ℕ) (h : Head) → Got h used ≡ bare_head bytes → rest ≡ drop used bytes →
-    Some left ≡ (if has_children h then Some (children_announced h) else None) →
+    Some left ≡ (if has_children h then Some (child_count h) else None) →
     Some (items_from left (record { bytes = rest; place = place + used })) ≡ children_if_any (record { bytes = bytes; place = place })
 unfolding head_of_item children_of
 children_found bytes rest place used left h e after found =
     let width : used ≡ h.width = got_width bytes h used e in
-    rw (after, ← e, width) (announced (has_children h) (children_announced h) left (record { bytes = drop h.width bytes; place = place + h.width }) found)
+    rw (after, ← e, width) (announced (has_children h) (child_count h) left (record { bytes = drop h.width bytes; place = place + h.width }) found)
 
 first_few : (others : Placed → List Placed) (n : ℕ) (p : Placed) → ((q : Placed) → length (others q) ≤ n) → (found : Result Span Refusal) → length (first_of others p found) ≤ suc n
 first_few others n p few (Ok span) = let rest = few (record { bytes = drop span.length p.bytes; place = p.place + span.length }) in omega (arith, rest)
@@ -88,7 +89,7 @@ listed (Some items) = items
 
 all_children : (p : Placed) → listed (children_if_any p) ≡ children_of p
 unfolding children_of
-all_children p = elim (has_children (head_of_item p)) as (λ b. listed (if b then Some (if b then items_from (children_announced (head_of_item p)) (past_head (head_of_item p) p) else []) else None) ≡ (if b then items_from (children_announced (head_of_item p)) (past_head (head_of_item p) p) else [])) [ true ↦ refl | false ↦ refl ]
+all_children p = elim (has_children (head_of_item p)) as (λ b. listed (if b then Some (if b then items_from (child_count (head_of_item p)) (past_head (head_of_item p) p) else []) else None) ≡ (if b then items_from (child_count (head_of_item p)) (past_head (head_of_item p) p) else [])) [ true ↦ refl | false ↦ refl ]
 
 pub its_children : (p : Placed) (items : List Placed) → Some items ≡ children_if_any p → items ≡ children_of p
 its_children p items e = ap listed e ∙ all_children p

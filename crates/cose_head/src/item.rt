@@ -2,7 +2,7 @@
 
 ghost use Rattle.std.specs.Prelude.{◌≡◌, ℕ, ◌+◌, ◌<◌, ◌≤◌, ◌^◌, length, take, IfOk, IfErr};
 ghost use Rattle.cose_head.specs.Item.{Item, Spells, depth_of};
-ghost use Rattle.cose_head.specs.Reading.{read, read_all, head, string, child_count, span_of, is_string as head_of_string, is_parent as head_of_parent};
+ghost use Rattle.cose_head.specs.Reading.{read, read_all, head, string, span_of, is_string as head_of_string, is_parent as head_of_parent};
 ghost use Rattle.cose_head.specs.Measured.{left_of, head_found, span_found, nesting, nesting_all, children_allowed, SpansItem};
 
 use crate::head::{Head, HeadStep, parse_head};
@@ -14,7 +14,8 @@ use crate::refusal::Refusal;
 pub struct Span {
     /// The number of bytes of the item, from its head to its end.
     pub length: usize,
-    /// The nesting of the item: 0 for an item without children, else 1 more than its deepest child.
+    /// The nesting of the item: 0 for an item that is no array, map or tag; else 1 more than its deepest child,
+    /// and 1 for an empty array or map.
     pub depth: usize,
 }
 
@@ -50,7 +51,7 @@ fn is_string(head: Head) -> bool
     head.major == 2 || head.major == 3
 }
 
-/// Whether children follow the head, if only none.
+/// Whether children follow the head, possibly none.
 fn is_parent(head: Head) -> bool
     ensures { result ≡ head_of_parent head }
 {
@@ -93,11 +94,7 @@ fn allowed_children(
     if depth == 0 {
         return Err(refused(Reason::TooDeep, start));
     }
-    let count = match announced.major {
-        4 => u128::from(announced.arg),
-        5 => 2 * u128::from(announced.arg),
-        _ => 1,
-    };
+    let count = announced.child_count();
     if count > room as u128 {
         return Err(refused(Reason::PastRoom, start));
     }
