@@ -11,7 +11,7 @@ use Rattle.cose_head.specs.declared.item.Span.{Span}
 use Rattle.cose_head.specs.declared.refusal.Refusal.{Refusal}
 use Rattle.cose_head.specs.Head.{bare_head}
 use Rattle.cose_head.specs.Reading.{child_count}
-use Rattle.cose_head.specs.Placed.{Placed, look_with, simple_look, integer_in, bytes_in, text_in, if_utf8, is_an_array, is_a_map, is_a_float, head_of_item, has_children, children_of, past_head, children_if_any, items_from, first_of, span_at}
+use Rattle.cose_head.specs.Placed.{Placed, look_with, simple_look, integer_in, bytes_in, text_in, if_utf8, is_a_text, truth_in, is_an_array, is_a_map, is_a_float, head_of_item, has_children, children_of, past_head, children_if_any, items_from, first_of, span_at}
 use Rattle.cose_head.proofs.Heads.{got_width}
 
 pub unsigned_found : (h : Head) (rest : List ℕ) → h.major ≡ 0 → integer_in (look_with h rest) ≡ Some (pos h.arg)
@@ -34,6 +34,15 @@ text_found h rest e = rw e refl
 
 pub no_text : (h : Head) (rest : List ℕ) → h.major ≢ 3 → text_in (look_with h rest) ≡ None
 no_text h rest p = grind (arith, nat_tests)
+
+pub any_text_found : (h : Head) (rest : List ℕ) → is_a_text (look_with h rest) ≡ (h.major == 3)
+any_text_found h rest = grind (arith, nat_tests)
+
+pub no_truth : (h : Head) (rest : List ℕ) → h.major < 7 → truth_in (look_with h rest) ≡ None
+no_truth h rest below = grind (arith, nat_tests)
+
+pub truth_found : (h : Head) (rest : List ℕ) → 7 ≤ h.major → truth_in (look_with h rest) ≡ truth_in (simple_look h)
+truth_found h rest from = grind (arith, nat_tests)
 
 float_simple : (h : Head) → is_a_float (simple_look h) ≡ nat_lt 2 h.width
 float_simple h = grind (arith, nat_tests)

@@ -78,6 +78,16 @@ abbrev pub text_in : Look → Option (List ℕ)
 text_in (text_content content) = if_utf8 content
 text_in _ = None
 
+-- A text, UTF-8 or not.
+abbrev pub is_a_text : Look → Bool
+is_a_text (text_content content) = true
+is_a_text _ = false
+
+-- The truth value that an item is: the simple values 20 and 21 are false and true (section 3.3).
+abbrev pub truth_in : Look → Option Bool
+truth_in (truth b) = Some b
+truth_in _ = None
+
 abbrev pub is_an_array : Look → Bool
 is_an_array an_array = true
 is_an_array _ = false
