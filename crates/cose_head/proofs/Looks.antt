@@ -1,7 +1,8 @@
 -- What an item is, by its major type.
 use Rattle.std.proofs.Common.{◌≡◌, ◌≢◌, ◌<◌, ℕ, ◌+◌, pos, negsuc, Bool, true, false, List, [], take, drop, Option, Some, None, refl, ap, ◌∙◌, arith, ⊎_elim, ◌≤◌, zero, suc, length, Result, Ok, Err}
-use Rattle.std.specs.Prelude.{nat_lt, ◌==◌, if◌then◌else◌, IsUtf8}
+use Rattle.std.specs.Prelude.{nat_lt, ◌==◌, if◌then◌else◌, IsUtf8, option_map}
 use Rattle.std.specs.Str.{is_utf8}
+use Rattle.std.specs.Result.{MatchResult, result_ok}
 use Rattle.std.proofs.lemmas.Bool.{cases_Bool}
 use Rattle.std.proofs.lemmas.Bool.Decides.{nat_tests}
 use Rattle.std.proofs.lemmas.Str.{IsUtf8-from_is_utf8, is_utf8-from_IsUtf8}
@@ -68,11 +69,17 @@ pub map_found : (h : Head) (rest : List ℕ) → is_a_map (look_with h rest) ≡
 map_found h rest = grind (arith, nat_tests)
 
 -- texts
-pub utf8_found : (bytes : List ℕ) → IsUtf8 bytes → Some bytes ≡ if_utf8 bytes
+utf8_found : (bytes : List ℕ) → IsUtf8 bytes → Some bytes ≡ if_utf8 bytes
 utf8_found bytes u = rw (is_utf8-from_IsUtf8 bytes u) refl
 
-pub no_utf8 : (bytes : List ℕ) → (IsUtf8 bytes → ⊥) → None ≡ if_utf8 bytes
+no_utf8 : (bytes : List ℕ) → (IsUtf8 bytes → ⊥) → None ≡ if_utf8 bytes
 no_utf8 bytes u = ⊎_elim (λ t. absurd (u (IsUtf8-from_is_utf8 bytes t))) (λ f. rw f refl) (cases_Bool (is_utf8 bytes))
+
+pub utf8_read : {S E : Type 0} (bytes : List ℕ) (now : S → List ℕ) (found : Result S E) (Fails : E → Type 0) →
+    MatchResult found (λ text. (now text ≡ bytes) × IsUtf8 bytes) (λ fault. (IsUtf8 bytes → ⊥) × Fails fault) →
+    option_map now (result_ok found) ≡ if_utf8 bytes
+utf8_read bytes now (Ok text) Fails read = rw read.0 (utf8_found bytes read.1)
+utf8_read bytes now (Err fault) Fails read = no_utf8 bytes read.0
 
 -- children
 announced : (b : Bool) (n left : ℕ) (p : Placed) → Some left ≡ (if b then Some n else None) → Some (items_from left p) ≡ (if b then Some (if b then items_from n p else []) else None)

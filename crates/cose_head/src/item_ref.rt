@@ -41,10 +41,7 @@ fn bytes_before(bytes: &[u8], count: u64) -> &[u8]
 fn utf8(bytes: &[u8]) -> Option<&str>
     ensures { option_map (λ text. text.now) result ≡ if_utf8 bytes.now }
 {
-    match std::str::from_utf8(bytes) {
-        Ok(text) => Some(text),
-        Err(_) => None,
-    }
+    std::str::from_utf8(bytes).ok()
 }
 
 impl<'a> ItemRef<'a> {
@@ -58,12 +55,7 @@ impl<'a> ItemRef<'a> {
     {
         match parse_head(self.bytes) {
             HeadStep::Got(head, _) => head,
-            HeadStep::More(_) => Head {
-                major: 7,
-                arg: 23,
-                width: 1,
-            },
-            HeadStep::Fault(_) => Head {
+            HeadStep::More(_) | HeadStep::Fault(_) => Head {
                 major: 7,
                 arg: 23,
                 width: 1,

@@ -49,8 +49,7 @@ impl<'a> Items<'a> {
                 let place = at + used as u64;
                 Some(Items { rest, place, left })
             }
-            HeadStep::More(_) => None,
-            HeadStep::Fault(_) => None,
+            HeadStep::More(_) | HeadStep::Fault(_) => None,
         }
     }
 
@@ -86,10 +85,7 @@ impl<'a> Iterator for Items<'a> {
         if self.left == 0 {
             return None;
         }
-        let span = match read_item(self.rest, self.rest.len(), 32) {
-            Ok(span) => span,
-            Err(_) => return None,
-        };
+        let span = read_item(self.rest, self.rest.len(), 32).ok()?;
         let (bytes, rest) = self.rest.split_at(span.length);
         let place = self.place;
         self.left -= 1;
