@@ -93,8 +93,11 @@ pub fn parse_head(bytes: &[u8]) -> HeadStep
     // What isn't `More` stays when bytes follow.
     ensures stays { IsWhole result → (more : List ℕ) → bare_head (bytes.now ++ more) ≡ result }
     // `More` asks for at least one byte, and for no more than a head has.
-    ensures wanted { IfMore result (λ n. (0 < n) × (length bytes.now + n ≤ 9)) }
-    ensures used { IfGot result (λ head n. (0 < n) × (n ≤ length bytes.now) × (n ≤ 9)) }
+    ensures some_wanted { IfMore result (λ n. 0 < n) }
+    ensures wanted_fits { IfMore result (λ n. length bytes.now + n ≤ 9) }
+    ensures some_used { IfGot result (λ head n. 0 < n) }
+    ensures used_there { IfGot result (λ head n. n ≤ length bytes.now) }
+    ensures used_fits { IfGot result (λ head n. n ≤ 9) }
     // The byte that completes a head is its last.
     ensures last { (front : List ℕ) (byte : ℕ) → bytes.now ≡ front ++ byte ∷ [] → IsMore (bare_head front)
         → IfGot result (λ head n. n ≡ length bytes.now) }

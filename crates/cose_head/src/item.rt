@@ -30,7 +30,9 @@ fn refused(reason: Reason, place: u64) -> Refusal
 fn head_at(bytes: &[u8], room: usize, place: u64) -> Result<Head, Refusal>
     requires { place + length bytes.now < 2 ^ 64 }
     ensures exact { let l = left_of bytes.now room place in head_found l result ≡ head l }
-    ensures within { IfOk result (λ found. (0 < found.width) × (found.width ≤ length bytes.now) × (found.width ≤ room)) }
+    ensures some { IfOk result (λ found. 0 < found.width) }
+    ensures there { IfOk result (λ found. found.width ≤ length bytes.now) }
+    ensures fits { IfOk result (λ found. found.width ≤ room) }
 {
     let seen = &bytes[..room.min(bytes.len())];
     match parse_head(seen) {
@@ -68,7 +70,9 @@ fn string_at(
 ) -> Result<Span, Refusal>
     requires { place + length bytes.now < 2 ^ 64 }
     ensures exact { let l = left_of bytes.now room place in span_found l result ≡ nesting (string start announced l) }
-    ensures within { IfOk result (λ span. (span.length ≤ length bytes.now) × (span.length ≤ room) × (span.depth ≡ 0)) }
+    ensures there { IfOk result (λ span. span.length ≤ length bytes.now) }
+    ensures fits { IfOk result (λ span. span.length ≤ room) }
+    ensures flat { IfOk result (λ span. span.depth ≡ 0) }
 {
     if announced.arg > room as u64 {
         return Err(refused(Reason::PastRoom, start));
@@ -113,7 +117,9 @@ fn items_at(
     requires in_range { place + length bytes.now < 2 ^ 64 }
     requires shallow { depth < 32 }
     ensures exact { let l = left_of bytes.now room place in span_found l result ≡ nesting_all (read_all (read depth) count l) }
-    ensures within { IfOk result (λ span. (span.length ≤ length bytes.now) × (span.length ≤ room) × (span.depth ≤ depth)) }
+    ensures there { IfOk result (λ span. span.length ≤ length bytes.now) }
+    ensures fits { IfOk result (λ span. span.length ≤ room) }
+    ensures nested { IfOk result (λ span. span.depth ≤ depth) }
 {
     let mut length = 0;
     let mut deepest = 0;
@@ -135,7 +141,10 @@ fn item_at(bytes: &[u8], room: usize, place: u64, depth: usize) -> Result<Span, 
     requires in_range { place + length bytes.now < 2 ^ 64 }
     requires shallow { depth ≤ 32 }
     ensures exact { let l = left_of bytes.now room place in span_found l result ≡ nesting (read depth l) }
-    ensures within { IfOk result (λ span. (0 < span.length) × (span.length ≤ length bytes.now) × (span.length ≤ room) × (span.depth ≤ depth)) }
+    ensures some { IfOk result (λ span. 0 < span.length) }
+    ensures there { IfOk result (λ span. span.length ≤ length bytes.now) }
+    ensures fits { IfOk result (λ span. span.length ≤ room) }
+    ensures nested { IfOk result (λ span. span.depth ≤ depth) }
 {
     let found = head_at(bytes, room, place)?;
     let width = usize::from(found.width);
@@ -176,7 +185,10 @@ pub fn read_item(bytes: &[u8], room: usize, depth: usize) -> Result<Span, Refusa
 
     // The length and the nesting of the item that `read` gives, or its refusal.
     ensures exact { result ≡ span_of (read depth (left_of bytes.now room 0)) }
-    ensures within { IfOk result (λ span. (0 < span.length) × (span.length ≤ length bytes.now) × (span.length ≤ room) × (span.depth ≤ depth)) }
+    ensures some { IfOk result (λ span. 0 < span.length) }
+    ensures there { IfOk result (λ span. span.length ≤ length bytes.now) }
+    ensures fits { IfOk result (λ span. span.length ≤ room) }
+    ensures nested { IfOk result (λ span. span.depth ≤ depth) }
     ensures placed { IfErr result (λ refusal. refusal.place ≤ length bytes.now) }
 {
     item_at(bytes, room, 0, depth)
