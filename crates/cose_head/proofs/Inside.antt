@@ -9,10 +9,10 @@ use Rattle.cose_head.specs.declared.item.Span.{Span}
 use Rattle.cose_head.specs.declared.refusal.Refusal.{Refusal}
 use Rattle.cose_head.specs.Head.{bare_head}
 use Rattle.cose_head.specs.Item.{Item}
-use Rattle.cose_head.specs.Reading.{Outcome, read, span_of}
+use Rattle.cose_head.specs.Reading.{Outcome, child_count, read, span_of}
 use Rattle.cose_head.specs.Measured.{left_of}
 use Rattle.cose_head.specs.Laws.{Steps}
-use Rattle.cose_head.specs.Placed.{Placed, head_or_undefined, head_of_item, past_head, span_at, first_of, items_from, has_children, children_announced, children_of}
+use Rattle.cose_head.specs.Placed.{Placed, head_or_undefined, head_of_item, past_head, span_at, first_of, items_from, has_children, children_of}
 use Rattle.cose_head.specs.PlacedLaws.{end_of, EndsBy}
 use Rattle.cose_head.proofs.BareHeads.{bare_sound}
 use Rattle.cose_head.proofs.Steps.{read_steps}
@@ -67,5 +67,5 @@ pub children_end_inside : (p : Placed) → AllByRecursion (EndsBy (end_of p)) (c
 unfolding children_of
 children_end_inside p =
     let h = head_of_item p in
-    cond_both (has_children h) (items_from (children_announced h) (past_head h p)) [] (AllByRecursion (EndsBy (end_of p)))
-    (λ some. items_inside (end_of p) (children_announced h) (past_head h p) (past_inside p some)) (λ none. tt)
+    cond_both (has_children h) (items_from (child_count h) (past_head h p)) [] (AllByRecursion (EndsBy (end_of p)))
+    (λ some. items_inside (end_of p) (child_count h) (past_head h p) (past_inside p some)) (λ none. tt)

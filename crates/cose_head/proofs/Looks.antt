@@ -1,7 +1,8 @@
 -- What an item is, by its major type.
 use Rattle.std.proofs.Common.{◌≡◌, ◌≢◌, ◌<◌, ℕ, ◌+◌, pos, negsuc, Bool, true, false, List, [], take, drop, Option, Some, None, refl, ap, ◌∙◌, arith, ⊎_elim, ◌≤◌, zero, suc, length, Result, Ok, Err}
-use Rattle.std.specs.Prelude.{nat_lt, ◌==◌, if◌then◌else◌, IsUtf8}
+use Rattle.std.specs.Prelude.{nat_lt, ◌==◌, if◌then◌else◌, IsUtf8, option_map}
 use Rattle.std.specs.Str.{is_utf8}
+use Rattle.std.specs.Result.{MatchResult, result_ok}
 use Rattle.std.proofs.lemmas.Bool.{cases_Bool}
 use Rattle.std.proofs.lemmas.Bool.Decides.{nat_tests}
 use Rattle.std.proofs.lemmas.Str.{IsUtf8-from_is_utf8, is_utf8-from_IsUtf8}
@@ -10,7 +11,8 @@ use Rattle.cose_head.specs.declared.head.HeadStep.TheVariants.{Got}
 use Rattle.cose_head.specs.declared.item.Span.{Span}
 use Rattle.cose_head.specs.declared.refusal.Refusal.{Refusal}
 use Rattle.cose_head.specs.Head.{bare_head}
-use Rattle.cose_head.specs.Placed.{Placed, look_with, simple_look, integer_in, bytes_in, text_in, if_utf8, is_an_array, is_a_map, is_a_float, head_of_item, has_children, children_announced, children_of, past_head, children_if_any, items_from, first_of, span_at}
+use Rattle.cose_head.specs.Reading.{child_count}
+use Rattle.cose_head.specs.Placed.{Placed, look_with, simple_look, integer_in, bytes_in, text_in, if_utf8, is_a_text, truth_in, is_an_array, is_a_map, is_a_float, head_of_item, has_children, children_of, past_head, children_if_any, items_from, first_of, span_at}
 use Rattle.cose_head.proofs.Heads.{got_width}
 
 pub unsigned_found : (h : Head) (rest : List ℕ) → h.major ≡ 0 → integer_in (look_with h rest) ≡ Some (pos h.arg)
@@ -33,6 +35,15 @@ text_found h rest e = rw e refl
 
 pub no_text : (h : Head) (rest : List ℕ) → h.major ≢ 3 → text_in (look_with h rest) ≡ None
 no_text h rest p = grind (arith, nat_tests)
+
+pub any_text_found : (h : Head) (rest : List ℕ) → is_a_text (look_with h rest) ≡ (h.major == 3)
+any_text_found h rest = grind (arith, nat_tests)
+
+pub no_truth : (h : Head) (rest : List ℕ) → h.major < 7 → truth_in (look_with h rest) ≡ None
+no_truth h rest below = grind (arith, nat_tests)
+
+pub truth_found : (h : Head) (rest : List ℕ) → 7 ≤ h.major → truth_in (look_with h rest) ≡ truth_in (simple_look h)
+truth_found h rest from = grind (arith, nat_tests)
 
 float_simple : (h : Head) → is_a_float (simple_look h) ≡ nat_lt 2 h.width
 float_simple h = grind (arith, nat_tests)
@@ -58,11 +69,17 @@ pub map_found : (h : Head) (rest : List ℕ) → is_a_map (look_with h rest) ≡
 map_found h rest = grind (arith, nat_tests)
 
 -- texts
-pub utf8_found : (bytes : List ℕ) → IsUtf8 bytes → Some bytes ≡ if_utf8 bytes
+utf8_found : (bytes : List ℕ) → IsUtf8 bytes → Some bytes ≡ if_utf8 bytes
 utf8_found bytes u = rw (is_utf8-from_IsUtf8 bytes u) refl
 
-pub no_utf8 : (bytes : List ℕ) → (IsUtf8 bytes → ⊥) → None ≡ if_utf8 bytes
+no_utf8 : (bytes : List ℕ) → (IsUtf8 bytes → ⊥) → None ≡ if_utf8 bytes
 no_utf8 bytes u = ⊎_elim (λ t. absurd (u (IsUtf8-from_is_utf8 bytes t))) (λ f. rw f refl) (cases_Bool (is_utf8 bytes))
+
+pub utf8_read : {S E : Type 0} (bytes : List ℕ) (now : S → List ℕ) (found : Result S E) (Fails : E → Type 0) →
+    MatchResult found (λ text. (now text ≡ bytes) × IsUtf8 bytes) (λ fault. (IsUtf8 bytes → ⊥) × Fails fault) →
+    option_map now (result_ok found) ≡ if_utf8 bytes
+utf8_read bytes now (Ok text) Fails read = rw read.0 (utf8_found bytes read.1)
+utf8_read bytes now (Err fault) Fails read = no_utf8 bytes read.0
 
 -- children
 announced : (b : Bool) (n left : ℕ) (p : Placed) → Some left ≡ (if b then Some n else None) → Some (items_from left p) ≡ (if b then Some (if b then items_from n p else []) else None)
@@ -70,12 +87,12 @@ announced true n left p e = let same : left ≡ n = cc in rw same refl
 announced false n left p e = cc
 
 pub children_found : (bytes rest : List ℕ) (place used left : ℕ) (h : Head) → Got h used ≡ bare_head bytes → rest ≡ drop used bytes →
-    Some left ≡ (if has_children h then Some (children_announced h) else None) →
+    Some left ≡ (if has_children h then Some (child_count h) else None) →
     Some (items_from left (record { bytes = rest; place = place + used })) ≡ children_if_any (record { bytes = bytes; place = place })
 unfolding head_of_item children_of
 children_found bytes rest place used left h e after found =
     let width : used ≡ h.width = got_width bytes h used e in
-    rw (after, ← e, width) (announced (has_children h) (children_announced h) left (record { bytes = drop h.width bytes; place = place + h.width }) found)
+    rw (after, ← e, width) (announced (has_children h) (child_count h) left (record { bytes = drop h.width bytes; place = place + h.width }) found)
 
 first_few : (others : Placed → List Placed) (n : ℕ) (p : Placed) → ((q : Placed) → length (others q) ≤ n) → (found : Result Span Refusal) → length (first_of others p found) ≤ suc n
 first_few others n p few (Ok span) = let rest = few (record { bytes = drop span.length p.bytes; place = p.place + span.length }) in omega (arith, rest)
@@ -88,7 +105,7 @@ listed (Some items) = items
 
 all_children : (p : Placed) → listed (children_if_any p) ≡ children_of p
 unfolding children_of
-all_children p = elim (has_children (head_of_item p)) as (λ b. listed (if b then Some (if b then items_from (children_announced (head_of_item p)) (past_head (head_of_item p) p) else []) else None) ≡ (if b then items_from (children_announced (head_of_item p)) (past_head (head_of_item p) p) else [])) [ true ↦ refl | false ↦ refl ]
+all_children p = elim (has_children (head_of_item p)) as (λ b. listed (if b then Some (if b then items_from (child_count (head_of_item p)) (past_head (head_of_item p) p) else []) else None) ≡ (if b then items_from (child_count (head_of_item p)) (past_head (head_of_item p) p) else [])) [ true ↦ refl | false ↦ refl ]
 
 pub its_children : (p : Placed) (items : List Placed) → Some items ≡ children_if_any p → items ≡ children_of p
 its_children p items e = ap listed e ∙ all_children p

@@ -6,10 +6,10 @@ use Rattle.std.specs.Prelude.{nat_lt}
 use Rattle.cose_head.specs.declared.head.Head.{Head}
 use Rattle.cose_head.specs.Head.{bare_head, is_bad_simple}
 use Rattle.cose_head.specs.Item.{Item, unsigned, negative, byte_string, text_string, array, map, tag, simple, float, Items, no_items, item, count_of, depth_of, deepest, IsHead, Begins, Spells, SpellsAll}
-use Rattle.cose_head.specs.Reading.{span_of}
+use Rattle.cose_head.specs.Reading.{child_count, span_of}
 use Rattle.cose_head.specs.Measured.{left_of}
 use Rattle.cose_head.specs.Laws.{SpellsHead}
-use Rattle.cose_head.specs.Placed.{Placed, head_or_undefined, head_of_item, byte_content, text_content, look_with, past_head, look, span_at, items_from, has_children, children_announced, children_of, children_if_any}
+use Rattle.cose_head.specs.Placed.{Placed, head_or_undefined, head_of_item, byte_content, text_content, look_with, past_head, look, span_at, items_from, has_children, children_of, children_if_any}
 use Rattle.cose_head.specs.PlacedLaws.{IsItem, look_of_tree, AreItems, bytes_of_all, StandFrom, HasChildren, is_list}
 use Rattle.cose_head.proofs.Complete.{simple_good, float_large}
 use Rattle.cose_head.proofs.ReadLaws.{sound, spelled_is_read, whole_list}
@@ -55,9 +55,9 @@ module _ (p : Placed) (head rest : List ℕ) (major argument : ℕ) (whole : p.b
   head_spelled = subst (λ h. SpellsHead p.bytes h h.width) (sym head_found)
       (record { part = head; rest = rest; whole = whole; is_head = is_head; wide = refl; ends = refl; good = good })
 
-  some_children : has_children the_head ≡ true → children_of p ≡ items_from (children_announced the_head) (at rest (p.place + length head))
+  some_children : has_children the_head ≡ true → children_of p ≡ items_from (child_count the_head) (at rest (p.place + length head))
   unfolding children_of
-  some_children some = rw (head_found, some) (ap (λ q. items_from (children_announced the_head) q) (sym (ap (λ h. past_head h p) head_found) ∙ past_found))
+  some_children some = rw (head_found, some) (ap (λ q. items_from (child_count the_head) q) (sym (ap (λ h. past_head h p) head_found) ∙ past_found))
 
   any_children : has_children the_head ≡ true → children_if_any p ≡ Some (children_of p)
   any_children some = rw (head_found, some) refl
@@ -208,7 +208,7 @@ list_has : (depth : ℕ) (p : Placed) (major argument : ℕ) (trees : Items) (b 
     deepest trees < depth → depth ≤ 32 →
     is_bad_simple (record { major = major; arg = argument; width = length b.head }) ≡ false →
     has_children (record { major = major; arg = argument; width = length b.head }) ≡ true →
-    children_announced (record { major = major; arg = argument; width = length b.head }) ≡ count_of trees →
+    child_count (record { major = major; arg = argument; width = length b.head }) ≡ count_of trees →
     HasChildren (depth - 1) p major argument trees
 list_has depth p major argument trees b shallow deep good some announced =
     let q = all_found trees (depth - 1) b.rest (p.place + length b.head) b.is_rest (omega arith) (omega arith) in

@@ -24,7 +24,7 @@ abbrev pub count_of : Items → ℕ
 count_of no_items = 0
 count_of (item first others) = 1 + count_of others
 
--- The nesting: 0 for a value without children, else 1 more than the deepest child, and 1 where there is none.
+-- The nesting: 0 for an item that is no array, map or tag; else 1 more than its deepest child, and 1 for an empty array or map.
 unfoldable mutual
   pub depth_of : Item → ℕ
   depth_of (unsigned n) = 0

@@ -1,6 +1,6 @@
 -- Items above the grammar (RFC 8949 section 3): an item is its bytes and their place. What it is comes from its head,
 -- and its children from the bytes after the head. Each word answers for every list of bytes.
-use Rattle.std.specs.Prelude.{ℕ, zero, suc, ◌+◌, ◌*◌, ℤ, pos, negsuc, Bool, true, false, List, [], ◌∷◌, length, take, drop, Option, Some, None, Result, Ok, Err, nat_lt, ◌==◌, ◌||◌, if◌then◌else◌}
+use Rattle.std.specs.Prelude.{ℕ, zero, suc, ◌+◌, ℤ, pos, negsuc, Bool, true, false, List, [], ◌∷◌, length, take, drop, Option, Some, None, Result, Ok, Err, nat_lt, ◌==◌, ◌||◌, if◌then◌else◌}
 use Rattle.std.specs.Str.{is_utf8}
 use Rattle.cose_head.specs.declared.head.Head.{Head}
 use Rattle.cose_head.specs.declared.head.HeadStep.{HeadStep}
@@ -8,7 +8,7 @@ use Rattle.cose_head.specs.declared.head.HeadStep.TheVariants.{Got}
 use Rattle.cose_head.specs.declared.item.Span.{Span}
 use Rattle.cose_head.specs.declared.refusal.Refusal.{Refusal}
 use Rattle.cose_head.specs.Head.{bare_head}
-use Rattle.cose_head.specs.Reading.{read, span_of}
+use Rattle.cose_head.specs.Reading.{child_count, read, span_of}
 use Rattle.cose_head.specs.Measured.{left_of}
 
 pub record Placed : Type 0 where
@@ -78,6 +78,16 @@ abbrev pub text_in : Look → Option (List ℕ)
 text_in (text_content content) = if_utf8 content
 text_in _ = None
 
+-- A text, UTF-8 or not.
+abbrev pub is_a_text : Look → Bool
+is_a_text (text_content content) = true
+is_a_text _ = false
+
+-- The truth value that an item is: the simple values 20 and 21 are false and true (section 3.3).
+abbrev pub truth_in : Look → Option Bool
+truth_in (truth b) = Some b
+truth_in _ = None
+
 abbrev pub is_an_array : Look → Bool
 is_an_array an_array = true
 is_an_array _ = false
@@ -109,15 +119,12 @@ items_from (suc n) p = first_of (items_from n) p (span_at p.bytes)
 abbrev pub has_children : Head → Bool
 has_children h = h.major == 4 || h.major == 5
 
-abbrev pub children_announced : Head → ℕ
-children_announced h = if h.major == 4 then h.arg else 2 * h.arg
-
 abbrev pub children_with : Head → Placed → List Placed
-children_with h p = if has_children h then items_from (children_announced h) (past_head h p) else []
+children_with h p = if has_children h then items_from (child_count h) (past_head h p) else []
 
 unfoldable pub children_of : Placed → List Placed
 children_of p = children_with (head_of_item p) p
 
--- The children of an item that is an array or a map, if only none.
+-- The children of an item that is an array or a map, possibly none.
 abbrev pub children_if_any : Placed → Option (List Placed)
 children_if_any p = if has_children (head_of_item p) then Some (children_of p) else None

@@ -80,6 +80,7 @@ read_all one (suc n) l = do
   others ← read_all one n first.1
   Ok (item first.0 others.0, others.1)
 
+-- The number of children of an array, a map or a tag.
 abbrev pub child_count : Head → ℕ
 child_count h = if h.major == 4 then h.arg else if h.major == 5 then 2 * h.arg else 1
 

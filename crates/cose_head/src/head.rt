@@ -2,6 +2,7 @@
 
 ghost use Rattle.std.specs.Prelude.{◌≡◌, ◌<◌, ◌≤◌, ◌+◌, ℕ, List, [], ◌∷◌, ◌++◌, length};
 ghost use Rattle.cose_head.specs.Head.{bare_head, shortest_head, low_fault, argument_length, argument_of, IsMore, IsWhole, IfMore, IfGot};
+ghost use Rattle.cose_head.specs.Reading.{child_count};
 
 use crate::reason::Reason;
 use arrayvec::ArrayVec;
@@ -15,6 +16,19 @@ pub struct Head {
     pub arg: u64,
     /// The number of bytes of the head: 1, 2, 3, 5 or 9. With major 7, the widths 3, 5 and 9 are floats.
     pub width: u8,
+}
+
+impl Head {
+    /// The number of children that follow the head of an array, a map or a tag. A map of n pairs has 2n.
+    pub(crate) fn child_count(self) -> u128
+        ensures { result ≡ child_count self }
+    {
+        match self.major {
+            4 => u128::from(self.arg),
+            5 => 2 * u128::from(self.arg),
+            _ => 1,
+        }
+    }
 }
 
 /// What stands at the front of some bytes, read as a head.
@@ -79,8 +93,11 @@ pub fn parse_head(bytes: &[u8]) -> HeadStep
     // What isn't `More` stays when bytes follow.
     ensures stays { IsWhole result → (more : List ℕ) → bare_head (bytes.now ++ more) ≡ result }
     // `More` asks for at least one byte, and for no more than a head has.
-    ensures wanted { IfMore result (λ n. (0 < n) × (length bytes.now + n ≤ 9)) }
-    ensures used { IfGot result (λ head n. (0 < n) × (n ≤ length bytes.now) × (n ≤ 9)) }
+    ensures some_wanted { IfMore result (λ n. 0 < n) }
+    ensures wanted_fits { IfMore result (λ n. length bytes.now + n ≤ 9) }
+    ensures some_used { IfGot result (λ head n. 0 < n) }
+    ensures used_there { IfGot result (λ head n. n ≤ length bytes.now) }
+    ensures used_fits { IfGot result (λ head n. n ≤ 9) }
     // The byte that completes a head is its last.
     ensures last { (front : List ℕ) (byte : ℕ) → bytes.now ≡ front ++ byte ∷ [] → IsMore (bare_head front)
         → IfGot result (λ head n. n ≡ length bytes.now) }

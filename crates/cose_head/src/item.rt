@@ -2,7 +2,7 @@
 
 ghost use Rattle.std.specs.Prelude.{◌≡◌, ℕ, ◌+◌, ◌<◌, ◌≤◌, ◌^◌, length, take, IfOk, IfErr};
 ghost use Rattle.cose_head.specs.Item.{Item, Spells, depth_of};
-ghost use Rattle.cose_head.specs.Reading.{read, read_all, head, string, child_count, span_of, is_string as head_of_string, is_parent as head_of_parent};
+ghost use Rattle.cose_head.specs.Reading.{read, read_all, head, string, span_of, is_string as head_of_string, is_parent as head_of_parent};
 ghost use Rattle.cose_head.specs.Measured.{left_of, head_found, span_found, nesting, nesting_all, children_allowed, SpansItem};
 
 use crate::head::{Head, HeadStep, parse_head};
@@ -14,7 +14,8 @@ use crate::refusal::Refusal;
 pub struct Span {
     /// The number of bytes of the item, from its head to its end.
     pub length: usize,
-    /// The nesting of the item: 0 for an item without children, else 1 more than its deepest child.
+    /// The nesting of the item: 0 for an item that is no array, map or tag; else 1 more than its deepest child,
+    /// and 1 for an empty array or map.
     pub depth: usize,
 }
 
@@ -29,7 +30,9 @@ fn refused(reason: Reason, place: u64) -> Refusal
 fn head_at(bytes: &[u8], room: usize, place: u64) -> Result<Head, Refusal>
     requires { place + length bytes.now < 2 ^ 64 }
     ensures exact { let l = left_of bytes.now room place in head_found l result ≡ head l }
-    ensures within { IfOk result (λ found. (0 < found.width) × (found.width ≤ length bytes.now) × (found.width ≤ room)) }
+    ensures some { IfOk result (λ found. 0 < found.width) }
+    ensures there { IfOk result (λ found. found.width ≤ length bytes.now) }
+    ensures fits { IfOk result (λ found. found.width ≤ room) }
 {
     let seen = &bytes[..room.min(bytes.len())];
     match parse_head(seen) {
@@ -50,7 +53,7 @@ fn is_string(head: Head) -> bool
     head.major == 2 || head.major == 3
 }
 
-/// Whether children follow the head, if only none.
+/// Whether children follow the head, possibly none.
 fn is_parent(head: Head) -> bool
     ensures { result ≡ head_of_parent head }
 {
@@ -67,7 +70,9 @@ fn string_at(
 ) -> Result<Span, Refusal>
     requires { place + length bytes.now < 2 ^ 64 }
     ensures exact { let l = left_of bytes.now room place in span_found l result ≡ nesting (string start announced l) }
-    ensures within { IfOk result (λ span. (span.length ≤ length bytes.now) × (span.length ≤ room) × (span.depth ≡ 0)) }
+    ensures there { IfOk result (λ span. span.length ≤ length bytes.now) }
+    ensures fits { IfOk result (λ span. span.length ≤ room) }
+    ensures flat { IfOk result (λ span. span.depth ≡ 0) }
 {
     if announced.arg > room as u64 {
         return Err(refused(Reason::PastRoom, start));
@@ -93,11 +98,7 @@ fn allowed_children(
     if depth == 0 {
         return Err(refused(Reason::TooDeep, start));
     }
-    let count = match announced.major {
-        4 => u128::from(announced.arg),
-        5 => 2 * u128::from(announced.arg),
-        _ => 1,
-    };
+    let count = announced.child_count();
     if count > room as u128 {
         return Err(refused(Reason::PastRoom, start));
     }
@@ -116,7 +117,9 @@ fn items_at(
     requires in_range { place + length bytes.now < 2 ^ 64 }
     requires shallow { depth < 32 }
     ensures exact { let l = left_of bytes.now room place in span_found l result ≡ nesting_all (read_all (read depth) count l) }
-    ensures within { IfOk result (λ span. (span.length ≤ length bytes.now) × (span.length ≤ room) × (span.depth ≤ depth)) }
+    ensures there { IfOk result (λ span. span.length ≤ length bytes.now) }
+    ensures fits { IfOk result (λ span. span.length ≤ room) }
+    ensures nested { IfOk result (λ span. span.depth ≤ depth) }
 {
     let mut length = 0;
     let mut deepest = 0;
@@ -138,7 +141,10 @@ fn item_at(bytes: &[u8], room: usize, place: u64, depth: usize) -> Result<Span, 
     requires in_range { place + length bytes.now < 2 ^ 64 }
     requires shallow { depth ≤ 32 }
     ensures exact { let l = left_of bytes.now room place in span_found l result ≡ nesting (read depth l) }
-    ensures within { IfOk result (λ span. (0 < span.length) × (span.length ≤ length bytes.now) × (span.length ≤ room) × (span.depth ≤ depth)) }
+    ensures some { IfOk result (λ span. 0 < span.length) }
+    ensures there { IfOk result (λ span. span.length ≤ length bytes.now) }
+    ensures fits { IfOk result (λ span. span.length ≤ room) }
+    ensures nested { IfOk result (λ span. span.depth ≤ depth) }
 {
     let found = head_at(bytes, room, place)?;
     let width = usize::from(found.width);
@@ -179,7 +185,10 @@ pub fn read_item(bytes: &[u8], room: usize, depth: usize) -> Result<Span, Refusa
 
     // The length and the nesting of the item that `read` gives, or its refusal.
     ensures exact { result ≡ span_of (read depth (left_of bytes.now room 0)) }
-    ensures within { IfOk result (λ span. (0 < span.length) × (span.length ≤ length bytes.now) × (span.length ≤ room) × (span.depth ≤ depth)) }
+    ensures some { IfOk result (λ span. 0 < span.length) }
+    ensures there { IfOk result (λ span. span.length ≤ length bytes.now) }
+    ensures fits { IfOk result (λ span. span.length ≤ room) }
+    ensures nested { IfOk result (λ span. span.depth ≤ depth) }
     ensures placed { IfErr result (λ refusal. refusal.place ≤ length bytes.now) }
 {
     item_at(bytes, room, 0, depth)

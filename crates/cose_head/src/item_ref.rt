@@ -41,15 +41,12 @@ fn bytes_before(bytes: &[u8], count: u64) -> &[u8]
 fn utf8(bytes: &[u8]) -> Option<&str>
     ensures { option_map (λ text. text.now) result ≡ if_utf8 bytes.now }
 {
-    match std::str::from_utf8(bytes) {
-        Ok(text) => Some(text),
-        Err(_) => None,
-    }
+    std::str::from_utf8(bytes).ok()
 }
 
 impl<'a> ItemRef<'a> {
     ghost use Rattle.cose_head.specs.ItemRef.{placed};
-    ghost use Rattle.cose_head.specs.Placed.{head_of_item, look, integer_in, bytes_in, text_in, is_an_array, is_a_map, is_a_float};
+    ghost use Rattle.cose_head.specs.Placed.{head_of_item, look, integer_in, bytes_in, text_in, truth_in, is_a_text, is_an_array, is_a_map, is_a_float};
 
     /// The head of the item.
     #[tactic(auto, unfolding(crate::specs::Placed::head_of_item))]
@@ -58,12 +55,7 @@ impl<'a> ItemRef<'a> {
     {
         match parse_head(self.bytes) {
             HeadStep::Got(head, _) => head,
-            HeadStep::More(_) => Head {
-                major: 7,
-                arg: 23,
-                width: 1,
-            },
-            HeadStep::Fault(_) => Head {
+            HeadStep::More(_) | HeadStep::Fault(_) => Head {
                 major: 7,
                 arg: 23,
                 width: 1,
@@ -113,6 +105,30 @@ impl<'a> ItemRef<'a> {
             return None;
         }
         utf8(self.content(head))
+    }
+
+    /// The truth value that the item is.
+    #[tactic(auto, unfolding(crate::specs::Placed::look), using(crate::proofs::Looks::truth_found, crate::proofs::Looks::no_truth))]
+    pub fn as_bool(&self) -> Option<bool>
+        ensures { result ≡ truth_in (look (placed self.now)) }
+    {
+        let head = self.head();
+        if head.major < 7 || head.width > 2 {
+            return None;
+        }
+        match head.arg {
+            20 => Some(false),
+            21 => Some(true),
+            _ => None,
+        }
+    }
+
+    /// Whether the item is a text, UTF-8 or not.
+    #[tactic(auto, unfolding(crate::specs::Placed::look), using(crate::proofs::Looks::any_text_found))]
+    pub fn is_text(&self) -> bool
+        ensures { result ≡ is_a_text (look (placed self.now)) }
+    {
+        self.head().major == 3
     }
 
     /// Whether the item is a float.

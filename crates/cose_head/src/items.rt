@@ -1,7 +1,8 @@
 //! The children of arrays and maps (RFC 8949 section 3.1).
 
 ghost use Rattle.std.specs.Prelude.{◌≡◌, ℕ, ◌+◌, ◌<◌, ◌^◌, length, Some, None, if◌then◌else◌, option_map};
-ghost use Rattle.cose_head.specs.Placed.{has_children, children_announced, items_from};
+ghost use Rattle.cose_head.specs.Placed.{has_children, items_from};
+ghost use Rattle.cose_head.specs.Reading.{child_count};
 
 use crate::head::{Head, HeadStep, parse_head};
 use crate::item::read_item;
@@ -22,11 +23,10 @@ pub struct Items<'a> {
 
 /// The number of children that the head of an array or a map announces.
 fn announced(head: Head) -> Option<u128>
-    ensures { result ≡ (if has_children head then Some (children_announced head) else None) }
+    ensures { result ≡ (if has_children head then Some (child_count head) else None) }
 {
     match head.major {
-        4 => Some(u128::from(head.arg)),
-        5 => Some(2 * u128::from(head.arg)),
+        4 | 5 => Some(head.child_count()),
         _ => None,
     }
 }
@@ -49,8 +49,7 @@ impl<'a> Items<'a> {
                 let place = at + used as u64;
                 Some(Items { rest, place, left })
             }
-            HeadStep::More(_) => None,
-            HeadStep::Fault(_) => None,
+            HeadStep::More(_) | HeadStep::Fault(_) => None,
         }
     }
 
@@ -86,10 +85,7 @@ impl<'a> Iterator for Items<'a> {
         if self.left == 0 {
             return None;
         }
-        let span = match read_item(self.rest, self.rest.len(), 32) {
-            Ok(span) => span,
-            Err(_) => return None,
-        };
+        let span = read_item(self.rest, self.rest.len(), 32).ok()?;
         let (bytes, rest) = self.rest.split_at(span.length);
         let place = self.place;
         self.left -= 1;

@@ -48,17 +48,17 @@ pub enum Reason {
     CritUnknown = 19,
     /// IV and Partial IV are both present (RFC 9052 section 3.1).
     BothIvs = 20,
-    /// The message names no algorithm, and no key does.
+    /// The message names no algorithm, and no key fits it.
     NoAlg = 21,
     /// The message names an algorithm that isn't one of its kind.
     UnknownAlg = 22,
-    /// Only the unprotected bucket names an algorithm, and no key confirms it.
+    /// Only the unprotected bucket names an algorithm, and no key that confirms it fits.
     AlgUnprotected = 23,
-    /// No key fits the message.
+    /// The protected bucket names an algorithm, and no key fits.
     NoKey = 24,
     /// Two or more keys fit the message.
     AmbiguousKey = 25,
-    /// The payload is nil (RFC 9052 section 4.1).
+    /// The payload is nil (RFC 9052 sections 4.1 and 6.1).
     Detached = 26,
     /// The tag or signature hasn't the length of its algorithm.
     BadAuthLength = 27,

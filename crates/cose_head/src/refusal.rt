@@ -7,6 +7,7 @@ use crate::reason::Reason;
 pub struct Refusal {
     /// The reason.
     pub reason: Reason,
-    /// The place, in bytes from the start of what was read. For [`Reason::Truncated`] it is the number of bytes.
+    /// The place, in bytes from where the caller's places begin: the first byte for `read_item`, and on from the given
+    /// place for items that stand in others. [`Reason::Truncated`] stands after the last byte.
     pub place: u64,
 }

@@ -1,6 +1,7 @@
 //! Tables of examples: values that the contracts can't show to be the ones that were meant.
 
 use super::*;
+use std::process::Abort;
 
 fn whole(length: usize, depth: usize) -> Result<Span, Refusal> {
     Ok(Span { length, depth })
@@ -49,99 +50,210 @@ fn reads_items_within_room_and_nesting(rt: HostRuntime) {
     }
 }
 
-// The definite lengths of RFC 8949 appendix A.
+/// What an item is, in the terms of the standard's table. A tag has its number, and a simple value that is no truth
+/// value has its own (RFC 8949 section 3.3: 22 is null, 23 undefined).
+#[derive(Clone, Copy)]
+enum Meaning {
+    Int(i128),
+    Bytes(&'static [u8]),
+    Text(&'static str),
+    Float,
+    Bool(bool),
+    Array,
+    Map,
+    Tag(u64),
+    Simple(u64),
+}
+
+fn int_of(meaning: Meaning) -> Option<i128> {
+    match meaning {
+        Meaning::Int(value) => Some(value),
+        _ => None,
+    }
+}
+
+fn bytes_of(meaning: Meaning) -> Option<&'static [u8]> {
+    match meaning {
+        Meaning::Bytes(content) => Some(content),
+        _ => None,
+    }
+}
+
+fn text_of(meaning: Meaning) -> Option<&'static str> {
+    match meaning {
+        Meaning::Text(content) => Some(content),
+        _ => None,
+    }
+}
+
+fn bool_of(meaning: Meaning) -> Option<bool> {
+    match meaning {
+        Meaning::Bool(value) => Some(value),
+        _ => None,
+    }
+}
+
+/// Each getter says what the item of these bytes is, or that it isn't that.
+fn expect_meaning(rt: &impl Abort, bytes: &[u8], want: Meaning) {
+    let item = ItemRef { bytes, place: 0 };
+    assert_eq!(rt; item.as_int(), int_of(want), "of {bytes:?}");
+    assert_eq!(rt; item.as_bytes(), bytes_of(want), "of {bytes:?}");
+    assert_eq!(rt; item.as_text(), text_of(want), "of {bytes:?}");
+    assert_eq!(rt; item.as_bool(), bool_of(want), "of {bytes:?}");
+    assert_eq!(rt;
+        item.is_text(),
+        matches!(want, Meaning::Text(_)),
+        "of {bytes:?}"
+    );
+    assert_eq!(rt;
+        item.is_float(),
+        matches!(want, Meaning::Float),
+        "of {bytes:?}"
+    );
+    assert_eq!(rt;
+        item.is_array(),
+        matches!(want, Meaning::Array),
+        "of {bytes:?}"
+    );
+    assert_eq!(rt; item.is_map(), matches!(want, Meaning::Map), "of {bytes:?}");
+    let head = item.head();
+    match want {
+        Meaning::Tag(number) => assert_eq!(rt; (head.major, head.arg), (6, number), "of {bytes:?}"),
+        Meaning::Simple(number) => assert_eq!(rt;
+            (head.major, head.arg),
+            (7, number),
+            "of {bytes:?}"
+        ),
+        _ => {}
+    }
+}
+
+// The definite lengths of RFC 8949 appendix A: the bytes, their nesting, and what the item is.
 #[test]
 fn reads_the_examples_of_the_standard(rt: HostRuntime) {
-    let rows: [(&[u8], usize); 70] = [
-        (b"\x00", 0),
-        (b"\x01", 0),
-        (b"\x0a", 0),
-        (b"\x17", 0),
-        (b"\x18\x18", 0),
-        (b"\x18\x19", 0),
-        (b"\x18\x64", 0),
-        (b"\x19\x03\xe8", 0),
-        (b"\x1a\x00\x0f\x42\x40", 0),
-        (b"\x1b\x00\x00\x00\xe8\xd4\xa5\x10\x00", 0),
-        (b"\x1b\xff\xff\xff\xff\xff\xff\xff\xff", 0),
-        (b"\xc2\x49\x01\x00\x00\x00\x00\x00\x00\x00\x00", 1),
-        (b"\x3b\xff\xff\xff\xff\xff\xff\xff\xff", 0),
-        (b"\xc3\x49\x01\x00\x00\x00\x00\x00\x00\x00\x00", 1),
-        (b"\x20", 0),
-        (b"\x29", 0),
-        (b"\x38\x63", 0),
-        (b"\x39\x03\xe7", 0),
-        (b"\xf9\x00\x00", 0),
-        (b"\xf9\x80\x00", 0),
-        (b"\xf9\x3c\x00", 0),
-        (b"\xfb\x3f\xf1\x99\x99\x99\x99\x99\x9a", 0),
-        (b"\xf9\x3e\x00", 0),
-        (b"\xf9\x7b\xff", 0),
-        (b"\xfa\x47\xc3\x50\x00", 0),
-        (b"\xfa\x7f\x7f\xff\xff", 0),
-        (b"\xfb\x7e\x37\xe4\x3c\x88\x00\x75\x9c", 0),
-        (b"\xf9\x00\x01", 0),
-        (b"\xf9\x04\x00", 0),
-        (b"\xf9\xc4\x00", 0),
-        (b"\xfb\xc0\x10\x66\x66\x66\x66\x66\x66", 0),
-        (b"\xf9\x7c\x00", 0),
-        (b"\xf9\x7e\x00", 0),
-        (b"\xf9\xfc\x00", 0),
-        (b"\xfa\x7f\x80\x00\x00", 0),
-        (b"\xfa\x7f\xc0\x00\x00", 0),
-        (b"\xfa\xff\x80\x00\x00", 0),
-        (b"\xfb\x7f\xf0\x00\x00\x00\x00\x00\x00", 0),
-        (b"\xfb\x7f\xf8\x00\x00\x00\x00\x00\x00", 0),
-        (b"\xfb\xff\xf0\x00\x00\x00\x00\x00\x00", 0),
-        (b"\xf4", 0),
-        (b"\xf5", 0),
-        (b"\xf6", 0),
-        (b"\xf7", 0),
-        (b"\xf0", 0),
-        (b"\xf8\xff", 0),
+    let rows: [(&[u8], usize, Meaning); 70] = [
+        (b"\x00", 0, Meaning::Int(0)),
+        (b"\x01", 0, Meaning::Int(1)),
+        (b"\x0a", 0, Meaning::Int(10)),
+        (b"\x17", 0, Meaning::Int(23)),
+        (b"\x18\x18", 0, Meaning::Int(24)),
+        (b"\x18\x19", 0, Meaning::Int(25)),
+        (b"\x18\x64", 0, Meaning::Int(100)),
+        (b"\x19\x03\xe8", 0, Meaning::Int(1000)),
+        (b"\x1a\x00\x0f\x42\x40", 0, Meaning::Int(1000000)),
+        (
+            b"\x1b\x00\x00\x00\xe8\xd4\xa5\x10\x00",
+            0,
+            Meaning::Int(1000000000000),
+        ),
+        (
+            b"\x1b\xff\xff\xff\xff\xff\xff\xff\xff",
+            0,
+            Meaning::Int(18446744073709551615),
+        ),
+        (
+            b"\xc2\x49\x01\x00\x00\x00\x00\x00\x00\x00\x00",
+            1,
+            Meaning::Tag(2),
+        ),
+        (
+            b"\x3b\xff\xff\xff\xff\xff\xff\xff\xff",
+            0,
+            Meaning::Int(-18446744073709551616),
+        ),
+        (
+            b"\xc3\x49\x01\x00\x00\x00\x00\x00\x00\x00\x00",
+            1,
+            Meaning::Tag(3),
+        ),
+        (b"\x20", 0, Meaning::Int(-1)),
+        (b"\x29", 0, Meaning::Int(-10)),
+        (b"\x38\x63", 0, Meaning::Int(-100)),
+        (b"\x39\x03\xe7", 0, Meaning::Int(-1000)),
+        (b"\xf9\x00\x00", 0, Meaning::Float),
+        (b"\xf9\x80\x00", 0, Meaning::Float),
+        (b"\xf9\x3c\x00", 0, Meaning::Float),
+        (b"\xfb\x3f\xf1\x99\x99\x99\x99\x99\x9a", 0, Meaning::Float),
+        (b"\xf9\x3e\x00", 0, Meaning::Float),
+        (b"\xf9\x7b\xff", 0, Meaning::Float),
+        (b"\xfa\x47\xc3\x50\x00", 0, Meaning::Float),
+        (b"\xfa\x7f\x7f\xff\xff", 0, Meaning::Float),
+        (b"\xfb\x7e\x37\xe4\x3c\x88\x00\x75\x9c", 0, Meaning::Float),
+        (b"\xf9\x00\x01", 0, Meaning::Float),
+        (b"\xf9\x04\x00", 0, Meaning::Float),
+        (b"\xf9\xc4\x00", 0, Meaning::Float),
+        (b"\xfb\xc0\x10\x66\x66\x66\x66\x66\x66", 0, Meaning::Float),
+        (b"\xf9\x7c\x00", 0, Meaning::Float),
+        (b"\xf9\x7e\x00", 0, Meaning::Float),
+        (b"\xf9\xfc\x00", 0, Meaning::Float),
+        (b"\xfa\x7f\x80\x00\x00", 0, Meaning::Float),
+        (b"\xfa\x7f\xc0\x00\x00", 0, Meaning::Float),
+        (b"\xfa\xff\x80\x00\x00", 0, Meaning::Float),
+        (b"\xfb\x7f\xf0\x00\x00\x00\x00\x00\x00", 0, Meaning::Float),
+        (b"\xfb\x7f\xf8\x00\x00\x00\x00\x00\x00", 0, Meaning::Float),
+        (b"\xfb\xff\xf0\x00\x00\x00\x00\x00\x00", 0, Meaning::Float),
+        (b"\xf4", 0, Meaning::Bool(false)),
+        (b"\xf5", 0, Meaning::Bool(true)),
+        (b"\xf6", 0, Meaning::Simple(22)),
+        (b"\xf7", 0, Meaning::Simple(23)),
+        (b"\xf0", 0, Meaning::Simple(16)),
+        (b"\xf8\xff", 0, Meaning::Simple(255)),
         (
             b"\xc0\x74\x32\x30\x31\x33\x2d\x30\x33\x2d\x32\x31\x54\x32\x30\x3a\x30\x34\x3a\x30\x30\x5a",
             1,
+            Meaning::Tag(0),
         ),
-        (b"\xc1\x1a\x51\x4b\x67\xb0", 1),
-        (b"\xc1\xfb\x41\xd4\x52\xd9\xec\x20\x00\x00", 1),
-        (b"\xd7\x44\x01\x02\x03\x04", 1),
-        (b"\xd8\x18\x45\x64\x49\x45\x54\x46", 1),
+        (b"\xc1\x1a\x51\x4b\x67\xb0", 1, Meaning::Tag(1)),
+        (
+            b"\xc1\xfb\x41\xd4\x52\xd9\xec\x20\x00\x00",
+            1,
+            Meaning::Tag(1),
+        ),
+        (b"\xd7\x44\x01\x02\x03\x04", 1, Meaning::Tag(23)),
+        (b"\xd8\x18\x45\x64\x49\x45\x54\x46", 1, Meaning::Tag(24)),
         (
             b"\xd8\x20\x76\x68\x74\x74\x70\x3a\x2f\x2f\x77\x77\x77\x2e\x65\x78\x61\x6d\x70\x6c\x65\x2e\x63\x6f\x6d",
             1,
+            Meaning::Tag(32),
         ),
-        (b"\x40", 0),
-        (b"\x44\x01\x02\x03\x04", 0),
-        (b"\x60", 0),
-        (b"\x61\x61", 0),
-        (b"\x64\x49\x45\x54\x46", 0),
-        (b"\x62\x22\x5c", 0),
-        (b"\x62\xc3\xbc", 0),
-        (b"\x63\xe6\xb0\xb4", 0),
-        (b"\x64\xf0\x90\x85\x91", 0),
-        (b"\x80", 1),
-        (b"\x83\x01\x02\x03", 1),
-        (b"\x83\x01\x82\x02\x03\x82\x04\x05", 2),
+        (b"\x40", 0, Meaning::Bytes(b"")),
+        (
+            b"\x44\x01\x02\x03\x04",
+            0,
+            Meaning::Bytes(b"\x01\x02\x03\x04"),
+        ),
+        (b"\x60", 0, Meaning::Text("")),
+        (b"\x61\x61", 0, Meaning::Text("a")),
+        (b"\x64\x49\x45\x54\x46", 0, Meaning::Text("IETF")),
+        (b"\x62\x22\x5c", 0, Meaning::Text("\"\\")),
+        (b"\x62\xc3\xbc", 0, Meaning::Text("\u{fc}")),
+        (b"\x63\xe6\xb0\xb4", 0, Meaning::Text("\u{6c34}")),
+        (b"\x64\xf0\x90\x85\x91", 0, Meaning::Text("\u{10151}")),
+        (b"\x80", 1, Meaning::Array),
+        (b"\x83\x01\x02\x03", 1, Meaning::Array),
+        (b"\x83\x01\x82\x02\x03\x82\x04\x05", 2, Meaning::Array),
         (
             b"\x98\x19\x01\x02\x03\x04\x05\x06\x07\x08\x09\x0a\x0b\x0c\x0d\x0e\x0f\x10\x11\x12\x13\x14\x15\x16\x17\x18\x18\x18\x19",
             1,
+            Meaning::Array,
         ),
-        (b"\xa0", 1),
-        (b"\xa2\x01\x02\x03\x04", 1),
-        (b"\xa2\x61\x61\x01\x61\x62\x82\x02\x03", 2),
-        (b"\x82\x61\x61\xa1\x61\x62\x61\x63", 2),
+        (b"\xa0", 1, Meaning::Map),
+        (b"\xa2\x01\x02\x03\x04", 1, Meaning::Map),
+        (b"\xa2\x61\x61\x01\x61\x62\x82\x02\x03", 2, Meaning::Map),
+        (b"\x82\x61\x61\xa1\x61\x62\x61\x63", 2, Meaning::Array),
         (
             b"\xa5\x61\x61\x61\x41\x61\x62\x61\x42\x61\x63\x61\x43\x61\x64\x61\x44\x61\x65\x61\x45",
             1,
+            Meaning::Map,
         ),
     ];
-    for (bytes, depth) in rows {
+    for (bytes, depth, meaning) in rows {
         assert_eq!(rt;
             read_item(bytes, bytes.len(), 2),
             whole(bytes.len(), depth),
             "of {bytes:?}"
         );
+        expect_meaning(&rt, bytes, meaning);
     }
 }
 
@@ -227,6 +339,7 @@ fn tells_what_an_item_is(rt: HostRuntime) {
     let item = |bytes| ItemRef { bytes, place: 0 };
     assert_eq!(rt; item(b"\x61\x61").as_text(), Some("a"));
     assert_eq!(rt; item(b"\x61\xff").as_text(), None);
+    assert!(rt; item(b"\x61\xff").is_text());
     assert_eq!(rt; item(b"\x41\xff").as_bytes(), Some(b"\xff".as_slice()));
     assert!(rt; item(b"\xf9\x3c\x00").is_float());
     assert!(rt; !item(b"\xf6").is_float());

@@ -45,9 +45,7 @@ fn follows_head(head: Head) -> Follows
 {
     match head.major {
         2 | 3 => Follows::Content(head.arg),
-        4 => Follows::Children(u128::from(head.arg)),
-        5 => Follows::Children(2 * u128::from(head.arg)),
-        6 => Follows::Children(1),
+        4 | 5 | 6 => Follows::Children(head.child_count()),
         _ => Follows::Nothing,
     }
 }

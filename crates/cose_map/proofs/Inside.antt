@@ -11,16 +11,16 @@ use Rattle.cose_head.specs.Item.{Item}
 use Rattle.cose_head.specs.Reading.{Outcome, read, span_of}
 use Rattle.cose_head.specs.Measured.{left_of}
 use Rattle.cose_head.specs.Laws.{ReadSteps, Steps}
-use Rattle.cose_head.specs.Placed.{Placed, look, is_a_map, integer_in, bytes_in, children_of}
+use Rattle.cose_head.specs.Placed.{Placed, look, is_a_map, integer_in, bytes_in, is_a_text, truth_in, children_of}
 use Rattle.cose_head.specs.PlacedLaws.{end_of, EndsBy, ChildrenEndInside}
 use Rattle.cose_map.specs.declared.curve.Curve.{Curve}
 use Rattle.cose_map.specs.Bucket.{bucket_of, bucket_table, is_bytes, value_of, crit, crit_of}
 use Rattle.cose_map.specs.Inside.{RefusedBy, PairEndsBy, PairsEndBy}
 use Rattle.cose_map.specs.Key.{key_of}
-use Rattle.cose_map.specs.KeyForm.{is_text, key_table, key_type}
+use Rattle.cose_map.specs.KeyForm.{key_table, key_type}
 use Rattle.cose_map.specs.Label.{LabelValue, label_of}
 use Rattle.cose_map.specs.Maps.{Read, ◌>>=◌, refuse, Table, Pair, is_named, pair_of, has_label, name_at, new_name, value_at, label_at, check_pair, check_pairs, check_map, past_span, whole, read_map}
-use Rattle.cose_map.specs.Material.{present, member, k, crv, x, y, d, secret_in, symmetric_key, curve_of, usable_curve, curve_in, coordinate_of, coordinate_in, sign_in, truth_in, y_in, private_part, elliptic_key, material_in, material_of}
+use Rattle.cose_map.specs.Material.{present, member, k, crv, x, y, d, secret_in, symmetric_key, curve_of, usable_curve, curve_in, coordinate_of, coordinate_in, sign_in, y_in, private_part, elliptic_key, material_in, material_of}
 use Rattle.cose_map.specs.PairFault.{fault_if, critical_faults, element_faults, all_element_faults, crit_faults, is_understood, unprotected_faults, both_ivs, pair_faults, goes_before, lesser, pair_fault}
 
 -- lists of which each element has a property
@@ -123,7 +123,7 @@ module _ (end : ℕ) where
 
     curve_by : (value : Placed) (number : Option ℤ) → EndsBy end value → AnyBy end (curve_in key value number)
     curve_by value (Some z) s = usable_by (curve_of z)
-    curve_by value None s = cond_both (is_text value) (refuse UnknownKey key) (refuse BadValue value) (AnyBy end) (λ e. omega arith) (λ e. omega arith)
+    curve_by value None s = cond_both (is_a_text (look value)) (refuse UnknownKey key) (refuse BadValue value) (AnyBy end) (λ e. omega arith) (λ e. omega arith)
 
     size_by : (size : ℕ) (value : Placed) (content : List ℕ) → EndsBy end value → AnyBy end (coordinate_of size value content)
     size_by size value content s = refused_if (length content == size) content value BadValue s

@@ -4,7 +4,6 @@ pub mod MapSteps
 pub mod Buckets
 pub mod PairFaults
 pub mod WorkedKeys
-pub mod KeyLooks
 pub mod KeyItems
 pub mod WorkedChoice
 pub mod LabelOrders

@@ -1,22 +1,15 @@
 -- The forms of the members that keys of every type may have (RFC 9052 section 7.1).
-use Rattle.std.specs.Prelude.{pos, Bool, true, false, not, List, length, Some, None, ◌==◌, ◌&&◌, ◌||◌, if◌then◌else◌, is_some}
+use Rattle.std.specs.Prelude.{pos, Bool, true, not, List, length, Some, None, ◌==◌, ◌&&◌, ◌||◌, if◌then◌else◌, is_some}
 use Rattle.std.specs.List.{list_all}
 use Rattle.cose_head.specs.declared.reason.Reason.TheVariants.{BadValue}
-use Rattle.cose_head.specs.Placed.{Placed, Look, text_content, look, integer_in, is_an_array, children_of}
+use Rattle.cose_head.specs.Placed.{Placed, look, integer_in, is_a_text, is_an_array, children_of}
 use Rattle.cose_map.specs.Bucket.{is_label, is_bytes}
 use Rattle.cose_map.specs.Label.{LabelValue, number, same_label}
 use Rattle.cose_map.specs.Maps.{Table}
 
 -- An integer or any text.
-abbrev pub is_text_like : Look → Bool
-is_text_like (text_content content) = true
-is_text_like _ = false
-
-abbrev pub is_text : Placed → Bool
-is_text p = is_text_like (look p)
-
 abbrev pub is_number_or_text : Placed → Bool
-is_number_or_text p = is_some (integer_in (look p)) || is_text p
+is_number_or_text p = is_some (integer_in (look p)) || is_a_text (look p)
 
 -- An array of one or more of these.
 abbrev pub are_operations : List Placed → Bool

@@ -2,18 +2,13 @@
 use Rattle.std.specs.Prelude.{ℕ, ℤ, pos, negsuc, Bool, List, [], ◌∷◌, length, Option, Some, None, Ok, ◌==◌, if◌then◌else◌, find}
 use Rattle.std.specs.Ordering.{int_eq}
 use Rattle.cose_head.specs.declared.reason.Reason.TheVariants.{BadValue, UnknownKey}
-use Rattle.cose_head.specs.Placed.{Placed, Look, truth, look, integer_in, bytes_in}
+use Rattle.cose_head.specs.Placed.{Placed, look, integer_in, bytes_in, is_a_text, truth_in}
 use Rattle.cose_map.specs.declared.curve.Curve.{Curve}
 use Rattle.cose_map.specs.Bucket.{is_bytes, value_of}
-use Rattle.cose_map.specs.KeyForm.{is_text, key_type}
+use Rattle.cose_map.specs.KeyForm.{key_type}
 use Rattle.cose_map.specs.KeyValue.{MaterialValue, symmetric, elliptic, YValue, coordinate, sign}
 use Rattle.cose_map.specs.Label.{LabelValue, number}
 use Rattle.cose_map.specs.Maps.{Read, Pair, refuse, ◌>>=◌}
-
--- A truth value.
-abbrev pub truth_in : Look → Option Bool
-truth_in (truth b) = Some b
-truth_in _ = None
 
 -- The members of one type of keys: one that is missing is a fault at the key's head, and one of the wrong form at its value.
 abbrev pub present : Placed → Option Placed → Read Placed
@@ -62,7 +57,7 @@ usable_curve key (Some curve) = Ok curve
 
 abbrev pub curve_in : Placed → Placed → Option ℤ → Read Curve
 curve_in key value (Some z) = usable_curve key (curve_of z)
-curve_in key value None = if is_text value then refuse UnknownKey key else refuse BadValue value
+curve_in key value None = if is_a_text (look value) then refuse UnknownKey key else refuse BadValue value
 
 -- A coordinate has all its bytes, leading zeros too. In place of y its sign may stand.
 abbrev pub coordinate_of : ℕ → Placed → List ℕ → Read (List ℕ)

@@ -8,7 +8,6 @@ ghost use Rattle.cose_map.specs.KeyForm.{is_number_or_text as is_number_or_text_
 use crate::form::{is_bytes, is_label};
 use crate::label::Label;
 use crate::maps::Form;
-use crate::material::is_text;
 use cose_head::{ItemRef, Items, Reason};
 
 /// The form of the members of keys.
@@ -18,7 +17,7 @@ pub(crate) struct KeyForm;
 fn is_number_or_text(item: &ItemRef) -> bool
     ensures { result ≡ is_number_or_text_value (placed item.now) }
 {
-    item.as_int().is_some() || is_text(item)
+    item.as_int().is_some() || item.is_text()
 }
 
 /// Whether items are one or more integers or texts.

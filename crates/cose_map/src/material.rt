@@ -4,8 +4,7 @@ ghost use Rattle.std.specs.Prelude.{◌≡◌, ℕ, Err, length, option_map, is_
 ghost use Rattle.cose_head.specs.ItemRef.{placed};
 ghost use Rattle.cose_head.specs.Placed.{look, integer_in, bytes_in};
 ghost use Rattle.cose_map.specs.Bucket.{is_bytes as is_bytes_value};
-ghost use Rattle.cose_map.specs.KeyForm.{is_text as is_text_value};
-ghost use Rattle.cose_map.specs.Material.{secret_in, coordinate_of, coordinate_in, y_in, curve_in, private_part as private_part_of, truth_in};
+ghost use Rattle.cose_map.specs.Material.{secret_in, coordinate_of, coordinate_in, y_in, curve_in, private_part as private_part_of};
 ghost use Rattle.cose_map.specs.Maps.{refuse};
 ghost use Rattle.cose_map.specs.Views.{seen_by};
 ghost use Rattle.cose_map.specs.KeyParts.{contents, material_value, y_value};
@@ -39,30 +38,6 @@ pub enum Material<'a> {
     },
 }
 
-/// Whether the item is a text.
-#[tactic(auto, unfolding(cose_head::specs::Placed::look), using(crate::proofs::KeyLooks::is_text_at))]
-pub(crate) fn is_text(item: &ItemRef) -> bool
-    ensures { result ≡ is_text_value (placed item.now) }
-{
-    item.head().major == 3
-}
-
-/// The truth value that an item is, if it is one.
-#[tactic(auto, unfolding(cose_head::specs::Placed::look), using(crate::proofs::KeyLooks::truth_below, crate::proofs::KeyLooks::truth_at))]
-fn truth(item: &ItemRef) -> Option<bool>
-    ensures { result ≡ truth_in (look (placed item.now)) }
-{
-    let head = item.head();
-    if head.major < 7 || head.width > 2 {
-        return None;
-    }
-    match head.arg {
-        20 => Some(false),
-        21 => Some(true),
-        _ => None,
-    }
-}
-
 /// The secret of a symmetric key.
 pub(crate) fn secret<'a>(value: &ItemRef<'a>) -> Result<Material<'a>, Refusal>
     ensures { let v = placed value.now in seen_by material_value result ≡ secret_in v (bytes_in (look v)) }
@@ -79,7 +54,7 @@ pub(crate) fn curve_at(key: &ItemRef, value: &ItemRef) -> Result<Curve, Refusal>
 {
     match value.as_int() {
         Some(number) => Curve::numbered(number).ok_or(refused(Reason::UnknownKey, key)),
-        None if is_text(value) => Err(refused(Reason::UnknownKey, key)),
+        None if value.is_text() => Err(refused(Reason::UnknownKey, key)),
         None => Err(refused(Reason::BadValue, value)),
     }
 }
@@ -112,7 +87,7 @@ pub(crate) fn coordinate<'a>(value: &ItemRef<'a>, length: usize) -> Result<&'a [
 pub(crate) fn y_at<'a>(value: &ItemRef<'a>, length: usize) -> Result<Y<'a>, Refusal>
     ensures { let v = placed value.now in seen_by y_value result ≡ y_in length v (bytes_in (look v)) }
 {
-    match (value.as_bytes(), truth(value)) {
+    match (value.as_bytes(), value.as_bool()) {
         (Some(bytes), _) => Ok(Y::Bytes(whole_coordinate(value, bytes, length)?)),
         (None, Some(odd)) => Ok(Y::Sign(odd)),
         (None, None) => Err(refused(Reason::BadValue, value)),

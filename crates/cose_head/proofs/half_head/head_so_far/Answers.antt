@@ -20,7 +20,7 @@ returns-in-Got c =
 
 pub returns-else-room-first-2 : goal.returns-else-room-first-2
 returns-else-room-first-2 c =
-    let wanted = c.in-More.ensures.wanted in
+    let wanted = c.in-More.ensures.some_wanted in
     let some : length c.args.first.now < c.args.room = omega arith in
     (more_is_half c.args.first.now c.in-More.wanted (sym c.in-More.ensures.answer), some, head-more c.args.first.now c.args.room c.in-More.wanted (sym c.in-More.ensures.answer) (omega arith))
 

@@ -24,7 +24,7 @@ pub item_at-returns-then-is_string-clause-exact : goal.item_at-returns-then-is_s
 item_at-returns-then-is_string-clause-exact t c =
     string_done c.args.depth c.args.bytes.now c.args.room c.args.place c.in_ok-found.found c.from-width.result c.from-width.ensures
     c.in_ok-found.ensures.exact
-    c.in_ok-string.string.length c.in_ok-string.string.depth c.if-is_string.ensures c.in_ok-string.ensures.exact c.in_ok-string.ensures.within.2
+    c.in_ok-string.string.length c.in_ok-string.string.depth c.if-is_string.ensures c.in_ok-string.ensures.exact c.in_ok-string.ensures.flat
 
 pub item_at-returns-then-not-is_parent-clause-exact : goal.item_at-returns-then-not-is_parent-clause-exact
 item_at-returns-then-not-is_parent-clause-exact t c =
@@ -57,13 +57,12 @@ pub items_at-items-preserved : goal.items_at-items-preserved
 items_at-items-preserved t c =
     let cut = ap length (slice_from c.items.length c.args.bytes.now) in
     let gone = length-drop c.items.length c.args.bytes.now in
-    let within = c.in_ok-one.ensures.within in
     let greater : c.max-deepest.result ≡ max c.items.deepest c.in_ok-one.one.depth = c.max-deepest.ensures
     ∙ ord_max-nat_cmp c.items.deepest c.in_ok-one.one.depth in
     record {
-      there = omega (arith, within.1);
-      fits = omega (arith, within.2);
-      shallow = omega (arith, within.3);
+      there = omega (arith, c.in_ok-one.ensures.there);
+      fits = omega (arith, c.in_ok-one.ensures.fits);
+      shallow = omega (arith, c.in_ok-one.ensures.nested);
       same = items_next c.args.depth c.args.bytes.now c.args.room c.args.place c.items.deepest c.items._index c.args.count c.items.length
           c.in_ok-one.one.depth c.in_ok-one.one.length c.max-deepest.result
           (nesting_all (read_all (read c.args.depth) c.args.count (left_of c.args.bytes.now c.args.room c.args.place)))

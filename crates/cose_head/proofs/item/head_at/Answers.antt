@@ -1,4 +1,4 @@
-use Rattle.std.proofs.Common.{◌≡◌, ◌<◌, ◌≤◌, length, take, arith, length-take}
+use Rattle.std.proofs.Common.{◌≡◌, arith, length-take}
 use Rattle.cose_head.proofs.Heads.{head_got, head_past, head_short, head_fault, got_width}
 use Rattle.cose_head.proofs.item.head_at.Goals as goal
 
@@ -6,13 +6,22 @@ pub returns-in-Got-clause-exact : goal.returns-in-Got-clause-exact
 returns-in-Got-clause-exact c =
     head_got c.args.bytes.now c.args.room c.args.place c.min.result c.in-Got.found c.in-Got.field-1 c.min.ensures c.in-Got.ensures.answer
 
-pub returns-in-Got-clause-within : goal.returns-in-Got-clause-within
-returns-in-Got-clause-within c =
+pub returns-in-Got-clause-some : goal.returns-in-Got-clause-some
+returns-in-Got-clause-some c =
+    let wide : c.in-Got.field-1 ≡ c.in-Got.found.width = got_width _ _ _ c.in-Got.ensures.answer in
+    omega (arith, c.in-Got.ensures.some_used)
+
+pub returns-in-Got-clause-there : goal.returns-in-Got-clause-there
+returns-in-Got-clause-there c =
     let seen = length-take c.min.result c.args.bytes.now in
     let wide : c.in-Got.field-1 ≡ c.in-Got.found.width = got_width _ _ _ c.in-Got.ensures.answer in
-    let used : c.in-Got.field-1 ≤ length (take c.min.result c.args.bytes.now) = c.in-Got.ensures.used.1 in
-    let some : 0 < c.in-Got.field-1 = c.in-Got.ensures.used.0 in
-    (omega arith, omega arith, omega arith)
+    omega (arith, c.in-Got.ensures.used_there)
+
+pub returns-in-Got-clause-fits : goal.returns-in-Got-clause-fits
+returns-in-Got-clause-fits c =
+    let seen = length-take c.min.result c.args.bytes.now in
+    let wide : c.in-Got.field-1 ≡ c.in-Got.found.width = got_width _ _ _ c.in-Got.ensures.answer in
+    omega (arith, c.in-Got.ensures.used_there)
 
 pub returns-in-More-clause-exact : goal.returns-in-More-clause-exact
 returns-in-More-clause-exact c =
