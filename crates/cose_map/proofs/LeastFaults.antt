@@ -35,20 +35,24 @@ with_greater : (first second : Refusal) (others : List Refusal) → goes_before 
     HasLeast (second ∷ others) least → HasLeast (first ∷ second ∷ others) least
 with_greater first second others p None s = s
 with_greater first second others p (Some fault) s = record {
-    among = Contains-append_right (first ∷ []) (second ∷ others) fault s.among;
-    none_before = (before_others second.place (number_of second.reason) first.place (number_of first.reason) fault.place (number_of fault.reason) p s.none_before.0, s.none_before);
-  }
+  among = Contains-append_right (first ∷ []) (second ∷ others) fault s.among;
+  none_before = (before_others second.place (number_of second.reason) first.place (number_of first.reason) fault.place (number_of fault.reason) p s.none_before.0, s.none_before);
+}
 
 with_other : (first second : Refusal) (others : List Refusal) → goes_before second first ≡ false → (least : Option Refusal) →
     HasLeast (first ∷ others) least → HasLeast (first ∷ second ∷ others) least
 with_other first second others p None s = s
 with_other first second others p (Some fault) s = record {
-    among = ⊎_elim (Contains-append_left (first ∷ []) (second ∷ others) fault) (Contains-append_right (first ∷ second ∷ []) others fault)
-        (Contains-append_cases (first ∷ []) others fault s.among);
-    none_before = (s.none_before.0,
-        (not_before_others second.place (number_of second.reason) first.place (number_of first.reason) fault.place (number_of fault.reason) p s.none_before.0,
-        s.none_before.1));
-  }
+  among = ⊎_elim (Contains-append_left (first ∷ []) (second ∷ others) fault) (Contains-append_right (first ∷ second ∷ []) others fault)
+      (Contains-append_cases (first ∷ []) others fault s.among);
+  none_before = (
+    s.none_before.0,
+    (
+      not_before_others second.place (number_of second.reason) first.place (number_of first.reason) fault.place (number_of fault.reason) p s.none_before.0,
+      s.none_before.1,
+    ),
+  );
+}
 
 least_from : (first : Refusal) (others : List Refusal) → HasLeast (first ∷ others) (fold lesser (Some first) others)
 least_from first [] = record { among = Contains-push [] first; none_before = (not_itself first.place (number_of first.reason), tt) }

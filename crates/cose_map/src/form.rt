@@ -28,10 +28,7 @@ pub(crate) fn is_bytes(item: &ItemRef<'_>) -> bool
 fn is_unsigned(number: Option<i128>) -> bool
     ensures { result ≡ spec.is_unsigned number }
 {
-    match number {
-        Some(number) => number >= 0,
-        None => false,
-    }
+    number.is_some_and(|number| number >= 0)
 }
 
 /// Whether an item is an unsigned integer or a text.
