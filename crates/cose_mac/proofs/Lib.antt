@@ -1,3 +1,4 @@
 pub mod Lengths
 pub mod Appending
 pub mod Front
+pub mod WorkedStructures

@@ -70,11 +70,11 @@ fn has_the_table_of_the_standard(rt: HostRuntime) {
         (-7, Alg::Es256, Kind::Sign1, 64),
     ];
     for (number, alg, kind, length) in table {
-        assert_eq!(rt; Alg::from_number(number), Some(alg));
-        assert_eq!(rt; alg.number(), number);
-        assert_eq!(rt; alg.kind(), kind);
-        assert_eq!(rt; alg.is_mac(), kind == Kind::Mac0);
-        assert_eq!(rt; alg.auth_length(), length);
+        assert_eq!(rt; Alg::from_number(number), Some(alg), "at {number}");
+        assert_eq!(rt; alg.number(), number, "of {alg:?}");
+        assert_eq!(rt; alg.kind(), kind, "of {alg:?}");
+        assert_eq!(rt; alg.is_mac(), kind == Kind::Mac0, "of {alg:?}");
+        assert_eq!(rt; alg.auth_length(), length, "of {alg:?}");
     }
     for number in [0, 3, 8, 10, -6, -8, -37, -65535, i128::MIN, i128::MAX] {
         assert_eq!(rt; Alg::from_number(number), None, "at {number}");
@@ -215,9 +215,9 @@ fn hashes_a_key_longer_than_a_block(rt: HostRuntime) {
     for payload in payloads {
         let expected = mac_in_pieces(&rt, Alg::Hmac256, &hashed, payload, 64);
         let computed = mac_in_pieces(&rt, Alg::Hmac256, &long, payload, 64);
-        assert_eq!(rt; computed.as_slice(), expected.as_slice());
+        assert_eq!(rt; computed.as_slice(), expected.as_slice(), "of {payload:?}");
         let cut = mac_in_pieces(&rt, Alg::Hmac256, &long[..64], payload, 64);
-        assert_ne!(rt; cut.as_slice(), expected.as_slice());
+        assert_ne!(rt; cut.as_slice(), expected.as_slice(), "of {payload:?}");
     }
 }
 

@@ -3,6 +3,7 @@ pub mod Labels
 pub mod MapSteps
 pub mod Buckets
 pub mod PairFaults
+pub mod LeastFaults
 pub mod WorkedKeys
 pub mod KeyItems
 pub mod WorkedChoice

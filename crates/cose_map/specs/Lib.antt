@@ -7,6 +7,7 @@ pub mod Earlier
 pub mod Bucket
 pub mod Buckets
 pub mod PairFault
+pub mod LeastFault
 pub mod KeyValue
 pub mod KeyForm
 pub mod Material

@@ -18,7 +18,7 @@ present key (Some value) = Ok value
 abbrev pub member : Placed → List Pair → LabelValue → Read Placed
 member key pairs name = present key (value_of name pairs)
 
--- A symmetric key has k, at least one byte (RFC 9053 section 7.2).
+-- A symmetric key has k, at least one byte (RFC 9053 section 7.3).
 abbrev pub k : LabelValue
 k = number (negsuc 0)
 

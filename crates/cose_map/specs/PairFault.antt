@@ -14,7 +14,7 @@ use Rattle.cose_map.specs.Bucket.{crit, iv, partial_iv, crit_of}
 abbrev pub fault_if : Bool → Reason → ℕ → List Refusal
 fault_if wrong reason place = if wrong then record { reason = reason; place = place } ∷ [] else []
 
--- The labels 1 to 6 are known to every reader.
+-- The labels 1 to 6, those of the parameters that RFC 9052 section 3.1 defines, are known to every reader.
 abbrev pub is_common : LabelValue → Bool
 is_common (number n) = int_lt (pos 0) n && int_lt n (pos 7)
 is_common (words name) = false
@@ -61,7 +61,7 @@ pair_faults protected unprotected understood after =
     (flat_map (unprotected_faults protected) unprotected ++
     fault_if (both_ivs protected unprotected) BothIvs after)
 
--- The least of several: the least place, and at one place the smaller number.
+-- The least of several: the least place, and at one place the smaller number. (LeastFault.antt says what it is.)
 abbrev pub goes_before : Refusal → Refusal → Bool
 goes_before a b = nat_lt a.place b.place || (a.place == b.place && nat_lt (number_of a.reason) (number_of b.reason))
 

@@ -10,6 +10,7 @@ ghost use Rattle.cose_map.specs.Pairs.{pairs_left};
 ghost use Rattle.cose_map.specs.Views.{label_value, seen_by};
 
 use crate::form::HeaderForm;
+use crate::header;
 use crate::label::Label;
 use crate::maps::read_map;
 use crate::pairs::Pairs;
@@ -47,7 +48,7 @@ impl<'a> Bucket<'a> {
     pub fn get(&self, label: &Label<'_>) -> Option<ItemRef<'a>>
         ensures { option_map placed result ≡ value_of (label_value label.now) (bucket_pairs self.now) }
     {
-        Pairs::get(&self.pairs, label)
+        self.pairs.get(label)
     }
 
     /// Whether a label stands in the bucket.
@@ -61,7 +62,7 @@ impl<'a> Bucket<'a> {
     pub fn alg(&self) -> Option<Label<'a>>
         ensures { option_map label_value result ≡ alg_of (bucket_pairs self.now) }
     {
-        let value = self.get(&Label::Int(1))?;
+        let value = self.get(&header::ALG)?;
         Label::of(&value)
     }
 
@@ -69,7 +70,7 @@ impl<'a> Bucket<'a> {
     pub fn kid(&self) -> Option<&'a [u8]>
         ensures { option_map (λ kid. kid.now) result ≡ kid_of (bucket_pairs self.now) }
     {
-        let value = self.get(&Label::Int(4))?;
+        let value = self.get(&header::KID)?;
         value.as_bytes()
     }
 
@@ -77,7 +78,7 @@ impl<'a> Bucket<'a> {
     pub fn crit(&self) -> Option<Items<'a>>
         ensures { option_map items_left result ≡ crit_of (bucket_pairs self.now) }
     {
-        let value = self.get(&Label::Int(2))?;
+        let value = self.get(&header::CRIT)?;
         Some(Items::of(&value))
     }
 

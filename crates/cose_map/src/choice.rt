@@ -69,20 +69,14 @@ fn is_material(material: &Material, wanted: Option<KeyType>) -> bool
 fn is_allowed_algorithm(own: Option<Label>, algorithm: i128) -> bool
     ensures { result ≡ allows_algorithm (option_map label_value own.entry) (number algorithm) }
 {
-    match own {
-        Some(own) => own.is_same(&Label::Int(algorithm)),
-        None => true,
-    }
+    own.is_none_or(|own| own.is_same(&Label::Int(algorithm)))
 }
 
 /// Whether a key's operations, if it lists them, hold this one.
 fn is_allowed_operation(own: Option<Ops>, operation: i128) -> bool
     ensures { result ≡ allows_operation (option_map operations_of own.entry) operation }
 {
-    match own {
-        Some(own) => own.holds(operation),
-        None => true,
-    }
+    own.is_none_or(|own| own.holds(operation))
 }
 
 /// Whether two identifiers are equal, where there are two.

@@ -5,6 +5,7 @@ ghost use Rattle.cose_head.specs.ItemRef.{placed};
 ghost use Rattle.cose_head.specs.Items.{items_left};
 ghost use Rattle.cose_map.specs.Bucket as spec;
 
+use crate::header;
 use crate::label::Label;
 use crate::maps::Form;
 use cose_head::{ItemRef, Items, Reason};
@@ -27,10 +28,7 @@ pub(crate) fn is_bytes(item: &ItemRef<'_>) -> bool
 fn is_unsigned(number: Option<i128>) -> bool
     ensures { result ≡ spec.is_unsigned number }
 {
-    match number {
-        Some(number) => number >= 0,
-        None => false,
-    }
+    number.is_some_and(|number| number >= 0)
 }
 
 /// Whether an item is an unsigned integer or a text.
@@ -69,13 +67,11 @@ impl Form for HeaderForm {
 
     #[tactic(auto, unfolding(crate::specs::Bucket::bucket_table))]
     fn fault(&self, label: &Label<'_>, value: &ItemRef<'_>) -> Option<Reason> {
-        let is_right = match label {
-            Label::Int(1) => is_label(value),
-            Label::Int(2) => is_crit(value),
-            Label::Int(3) => is_content_type(value),
-            Label::Int(4) => is_bytes(value),
-            Label::Int(5) => is_bytes(value),
-            Label::Int(6) => is_bytes(value),
+        let is_right = match *label {
+            header::ALG => is_label(value),
+            header::CRIT => is_crit(value),
+            header::CONTENT_TYPE => is_content_type(value),
+            header::KID | header::IV | header::PARTIAL_IV => is_bytes(value),
             _ => true,
         };
         if is_right {

@@ -1,6 +1,7 @@
 //! One key (RFC 9052 section 7).
 
 use crate::key_form::KeyForm;
+use crate::key_member;
 use crate::label::Label;
 use crate::maps::read_map;
 use crate::material::Material;
@@ -45,9 +46,9 @@ impl<'a> Key<'a> {
         };
         let material = members.material()?;
         Ok(Key {
-            kid: members.bytes(2),
-            alg: members.label(3),
-            ops: members.ops(4),
+            kid: members.bytes(&key_member::KID),
+            alg: members.label(&key_member::ALG),
+            ops: members.ops(&key_member::KEY_OPS),
             material,
         })
     }

@@ -6,6 +6,7 @@ ghost use Rattle.cose_head.specs.Items.{items_left};
 ghost use Rattle.cose_map.specs.KeyForm.{is_number_or_text as is_number_or_text_value, is_key_ops as is_key_ops_value, are_operations as are_operation_values, key_table};
 
 use crate::form::{is_bytes, is_label};
+use crate::key_member;
 use crate::label::Label;
 use crate::maps::Form;
 use cose_head::{ItemRef, Items, Reason};
@@ -46,12 +47,11 @@ impl Form for KeyForm {
 
     #[tactic(auto, unfolding(crate::specs::KeyForm::key_table))]
     fn fault(&self, label: &Label<'_>, value: &ItemRef<'_>) -> Option<Reason> {
-        let is_right = match label {
-            Label::Int(1) => is_number_or_text(value),
-            Label::Int(2) => is_bytes(value),
-            Label::Int(3) => is_label(value),
-            Label::Int(4) => is_key_ops(value),
-            Label::Int(5) => is_bytes(value),
+        let is_right = match *label {
+            key_member::KTY => is_number_or_text(value),
+            key_member::KID | key_member::BASE_IV => is_bytes(value),
+            key_member::ALG => is_label(value),
+            key_member::KEY_OPS => is_key_ops(value),
             _ => true,
         };
         if is_right {

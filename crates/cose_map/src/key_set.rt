@@ -73,8 +73,11 @@ impl<'a> KeySet<'a> {
 
     /// The one key that fits what a message asks, and the number of the algorithm that it is used with.
     ///
-    /// The reasons are [`Reason::UnknownAlg`], [`Reason::AmbiguousKey`], [`Reason::NoAlg`], [`Reason::AlgUnprotected`]
-    /// and [`Reason::NoKey`].
+    /// The reason is [`Reason::UnknownAlg`] where the message names an algorithm that is none of its kind (the protected
+    /// bucket's counts before the unprotected one's), whatever the keys are; then [`Reason::AmbiguousKey`] where more
+    /// than one key fits. Where no key fits it is [`Reason::NoAlg`] if the message names no algorithm,
+    /// [`Reason::AlgUnprotected`] if only its unprotected bucket names one, and [`Reason::NoKey`] if its protected
+    /// bucket does.
     #[tactic(auto, unfolding(crate::specs::Choice::chosen))]
     pub fn find(&self, query: &Query) -> Result<(Key<'a>, i128), Reason>
         ensures { found_value result ≡ chosen (question query.now) (keys self.now) }

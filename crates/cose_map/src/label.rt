@@ -26,10 +26,7 @@ impl<'a> Label<'a> {
         if let Some(number) = item.as_int() {
             return Some(Label::Int(number));
         }
-        match item.as_text() {
-            Some(text) => Some(Label::Text(text)),
-            None => None,
-        }
+        item.as_text().map(Label::Text)
     }
 
     /// Whether two labels are equal by value.

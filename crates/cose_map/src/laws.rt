@@ -1,6 +1,7 @@
 //! Laws of the definitions that the contracts cite. A law is a function that does nothing, and whose contract is the law.
 
 ghost use Rattle.cose_map.specs.Inside.{MapIsRefusedInside, ReadIsRefusedInside, BucketIsRefusedInside, KeyIsRefusedInside, BucketEndsInside, PairIsRefusedInside};
+ghost use Rattle.cose_map.specs.LeastFault.{NoLeastOfNone, LeastIsAmong, NoneBeforeLeast};
 
 use cose_head::laws::{children_are_of_tree, read_steps};
 
@@ -18,3 +19,11 @@ pub fn refusals_stand_inside()
     read_steps();
     children_are_of_tree();
 }
+
+/// The least of several faults is there where a fault is. It is one of them, and none of them goes before it: none stands
+/// at a lower place, and at its place none has a smaller number.
+pub fn least_fault_is_least()
+    ensures none { NoLeastOfNone }
+    ensures among { LeastIsAmong }
+    ensures least { NoneBeforeLeast }
+{}

@@ -75,15 +75,10 @@ pub(crate) fn read_whole<'a>(bytes: &'a [u8], at: u64, depth: usize) -> Result<I
     ensures exact { seen_by placed result ≡ whole depth (record { bytes = bytes.now; place = at }) }
     ensures within { IfErr result (λ refusal. refusal.place ≤ at + length bytes.now) }
 {
-    let span = match read_item(bytes, bytes.len(), depth) {
-        Ok(span) => span,
-        Err(refusal) => {
-            return Err(Refusal {
-                reason: refusal.reason,
-                place: at + refusal.place,
-            });
-        }
-    };
+    let span = read_item(bytes, bytes.len(), depth).map_err(|refusal| Refusal {
+        reason: refusal.reason,
+        place: at + refusal.place,
+    })?;
     if span.length < bytes.len() {
         return Err(Refusal {
             reason: Reason::Trailing,

@@ -6,17 +6,23 @@ ghost use Rattle.cose_map.specs.Bucket.{value_of};
 ghost use Rattle.cose_map.specs.Key.{bytes_of, label_at, operations_at};
 ghost use Rattle.cose_map.specs.Material.{member, symmetric_key, elliptic_key, material_of};
 ghost use Rattle.cose_map.specs.KeyParts.{contents, material_value};
-ghost use Rattle.cose_map.specs.Label.{number};
 ghost use Rattle.cose_map.specs.Ops.{operations_of};
 ghost use Rattle.cose_map.specs.Pairs.{pairs_left};
 ghost use Rattle.cose_map.specs.Views.{label_value, seen_by};
 
+use crate::key_member;
 use crate::label::Label;
 use crate::maps::refused;
 use crate::material::{Material, coordinate, curve_at, private_part, secret, y_at};
 use crate::ops::Ops;
 use crate::pairs::Pairs;
 use cose_head::{ItemRef, Items, Reason, Refusal};
+
+/// The type of keys on a curve that have x and y (RFC 9053 section 7).
+const EC2: i128 = 2;
+
+/// The type of symmetric keys (RFC 9053 section 7).
+const SYMMETRIC: i128 = 4;
 
 /// A key's item, and the pairs that were read from it.
 #[derive(Clone, Copy, Debug)]
@@ -29,39 +35,36 @@ pub(crate) struct Members<'a> {
 
 impl<'a> Members<'a> {
     /// The value of a label, where the key has it.
-    pub(crate) fn get(&self, label: i128) -> Option<ItemRef<'a>>
-        ensures { option_map placed result ≡ value_of (number label) (pairs_left self.now.pairs) }
+    pub(crate) fn get(&self, label: &Label<'_>) -> Option<ItemRef<'a>>
+        ensures { option_map placed result ≡ value_of (label_value label.now) (pairs_left self.now.pairs) }
     {
-        self.pairs.get(&Label::Int(label))
+        self.pairs.get(label)
     }
 
     /// The value of a label that the key has to have.
-    fn wanted(&self, label: i128) -> Result<ItemRef<'a>, Refusal>
-        ensures { seen_by placed result ≡ member (placed self.now.key) (pairs_left self.now.pairs) (number label) }
+    fn wanted(&self, label: &Label<'_>) -> Result<ItemRef<'a>, Refusal>
+        ensures { seen_by placed result ≡ member (placed self.now.key) (pairs_left self.now.pairs) (label_value label.now) }
     {
-        match self.get(label) {
-            Some(value) => Ok(value),
-            None => Err(refused(Reason::BadValue, &self.key)),
-        }
+        self.get(label).ok_or(refused(Reason::BadValue, &self.key))
     }
 
     /// The content of a byte string.
-    pub(crate) fn bytes(&self, label: i128) -> Option<&'a [u8]>
-        ensures { option_map contents result ≡ bytes_of (number label) (pairs_left self.now.pairs) }
+    pub(crate) fn bytes(&self, label: &Label<'_>) -> Option<&'a [u8]>
+        ensures { option_map contents result ≡ bytes_of (label_value label.now) (pairs_left self.now.pairs) }
     {
         self.get(label)?.as_bytes()
     }
 
     /// An integer, or a text that is UTF-8.
-    pub(crate) fn label(&self, label: i128) -> Option<Label<'a>>
-        ensures { option_map label_value result ≡ label_at (number label) (pairs_left self.now.pairs) }
+    pub(crate) fn label(&self, label: &Label<'_>) -> Option<Label<'a>>
+        ensures { option_map label_value result ≡ label_at (label_value label.now) (pairs_left self.now.pairs) }
     {
         Label::of(&self.get(label)?)
     }
 
     /// The operations of an array.
-    pub(crate) fn ops(&self, label: i128) -> Option<Ops<'a>>
-        ensures { option_map operations_of result ≡ operations_at (number label) (pairs_left self.now.pairs) }
+    pub(crate) fn ops(&self, label: &Label<'_>) -> Option<Ops<'a>>
+        ensures { option_map operations_of result ≡ operations_at (label_value label.now) (pairs_left self.now.pairs) }
     {
         let value = self.get(label)?;
         Some(Ops {
@@ -73,17 +76,17 @@ impl<'a> Members<'a> {
     fn symmetric(&self) -> Result<Material<'a>, Refusal>
         ensures { seen_by material_value result ≡ symmetric_key (placed self.now.key) (pairs_left self.now.pairs) }
     {
-        secret(&self.wanted(-1)?)
+        secret(&self.wanted(&key_member::K)?)
     }
 
     /// A point: crv, x and y, and perhaps d.
     fn elliptic(&self) -> Result<Material<'a>, Refusal>
         ensures { seen_by material_value result ≡ elliptic_key (placed self.now.key) (pairs_left self.now.pairs) }
     {
-        let curve = curve_at(&self.key, &self.wanted(-1)?)?;
-        let x = coordinate(&self.wanted(-2)?, curve.coordinate_length)?;
-        let y = y_at(&self.wanted(-3)?, curve.coordinate_length)?;
-        private_part(self.get(-4))?;
+        let curve = curve_at(&self.key, &self.wanted(&key_member::CRV)?)?;
+        let x = coordinate(&self.wanted(&key_member::X)?, curve.coordinate_length)?;
+        let y = y_at(&self.wanted(&key_member::Y)?, curve.coordinate_length)?;
+        private_part(self.get(&key_member::D))?;
         Ok(Material::Ec {
             crv: curve.number,
             x,
@@ -91,14 +94,14 @@ impl<'a> Members<'a> {
         })
     }
 
-    /// What the key consists of, by its type: 2 is EC2, and 4 is Symmetric.
+    /// What the key consists of, by its type.
     #[tactic(auto, unfolding(crate::specs::Material::material_of))]
     pub(crate) fn material(&self) -> Result<Material<'a>, Refusal>
         ensures { seen_by material_value result ≡ material_of (placed self.now.key) (pairs_left self.now.pairs) }
     {
-        match self.wanted(1)?.as_int() {
-            Some(4) => self.symmetric(),
-            Some(2) => self.elliptic(),
+        match self.wanted(&key_member::KTY)?.as_int() {
+            Some(SYMMETRIC) => self.symmetric(),
+            Some(EC2) => self.elliptic(),
             _ => Err(refused(Reason::UnknownKey, &self.key)),
         }
     }

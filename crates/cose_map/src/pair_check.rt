@@ -8,6 +8,7 @@ ghost use Rattle.cose_map.specs.PairFault as spec;
 ghost use Rattle.cose_map.specs.Views.{label_value, refusal_in};
 
 use crate::bucket::Bucket;
+use crate::header;
 use crate::label::Label;
 use cose_head::{ItemRef, Items, Reason, Refusal};
 
@@ -44,14 +45,11 @@ fn with_fault(least: Option<Refusal>, is_wrong: bool, reason: Reason, place: u64
     least
 }
 
-/// Whether every reader knows the label.
+/// Whether every reader knows the label: those of [`crate::header`], from alg to Partial IV, are the numbers 1 to 6.
 fn is_common(label: &Label<'_>) -> bool
     ensures { result ≡ spec.is_common (label_value label.now) }
 {
-    match label {
-        Label::Int(number) => 0 < *number && *number < 7,
-        Label::Text(_) => false,
-    }
+    matches!(label, Label::Int(1..=6))
 }
 
 /// Whether the label is known, or one of those that the caller understands.
@@ -125,7 +123,7 @@ fn with_pair(
     ensures { result ≡ fold spec.lesser least (spec.label_faults (bucket_pairs protected.now) (label_value name.now) item.now.place) }
 {
     let is_repeated = protected.has(name);
-    let is_crit = name.is_same(&Label::Int(2));
+    let is_crit = name.is_same(&header::CRIT);
     let least = with_fault(least, is_repeated, Reason::BothBuckets, item.place);
     with_fault(least, is_crit, Reason::CritUnprotected, item.place)
 }
@@ -150,10 +148,8 @@ fn with_unprotected(
 fn has_both_ivs(protected: &Bucket<'_>, unprotected: &Bucket<'_>) -> bool
     ensures { result ≡ spec.both_ivs (bucket_pairs protected.now) (bucket_pairs unprotected.now) }
 {
-    let iv = Label::Int(5);
-    let partial_iv = Label::Int(6);
-    (protected.has(&iv) || unprotected.has(&iv))
-        && (protected.has(&partial_iv) || unprotected.has(&partial_iv))
+    (protected.has(&header::IV) || unprotected.has(&header::IV))
+        && (protected.has(&header::PARTIAL_IV) || unprotected.has(&header::PARTIAL_IV))
 }
 
 /// Checks the two buckets of a message together (RFC 9052 sections 3 and 3.1).

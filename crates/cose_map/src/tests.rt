@@ -76,7 +76,7 @@ fn gives_what_a_bucket_says(rt: HostRuntime) {
             assert_eq!(rt; label.place, 4);
             assert_eq!(rt; value.as_int(), Some(5));
         }
-        None => assert!(rt; false),
+        None => assert!(rt; false, "no first pair"),
     }
     match pairs.next() {
         Some((name, label, value)) => {
@@ -84,7 +84,7 @@ fn gives_what_a_bucket_says(rt: HostRuntime) {
             assert_eq!(rt; label.place, 6);
             assert_eq!(rt; value.bytes, b"\x00".as_slice());
         }
-        None => assert!(rt; false),
+        None => assert!(rt; false, "no second pair"),
     }
     assert!(rt; read.alg() == Some(Label::Int(5)));
     assert_eq!(rt; read.kid(), Some(b"\x07".as_slice()));
@@ -93,9 +93,9 @@ fn gives_what_a_bucket_says(rt: HostRuntime) {
     match read.crit() {
         Some(mut elements) => match elements.next() {
             Some(element) => assert_eq!(rt; element.place, 14),
-            None => assert!(rt; false),
+            None => assert!(rt; false, "crit has no element"),
         },
-        None => assert!(rt; false),
+        None => assert!(rt; false, "no crit"),
     }
     assert!(rt; !read.is_empty());
     assert!(rt; bucket(&rt, b"", 3).is_empty());

@@ -22,7 +22,7 @@ fn refuses_at_the_first_fault(rt: HostRuntime) {
     ];
     for (bytes, reason, place) in rows {
         let refused = Key::read(bytes, 7).err();
-        assert_eq!(rt; refused, Some(Refusal { reason, place }));
+        assert_eq!(rt; refused, Some(Refusal { reason, place }), "of {bytes:?}");
     }
 }
 
@@ -44,8 +44,8 @@ fn reads_what_a_key_says(rt: HostRuntime) {
     let key = Key::read(secret, 0);
     let ops = key.ok().and_then(|key| key.ops);
     assert_eq!(rt; key.ok().and_then(|key| key.kid), Some(b"1".as_slice()));
-    assert!(rt; ops.is_some_and(|ops| ops.holds(10)));
-    assert!(rt; !ops.is_some_and(|ops| ops.holds(9)));
+    assert!(rt; ops.is_some_and(|ops| ops.holds(10)), "10 is listed");
+    assert!(rt; !ops.is_some_and(|ops| ops.holds(9)), "9 isn't listed");
 
     let point = b"\xa4\x01\x02\x20\x01\x21\x58\x20\
         01234567890123456789012345678901\x22\xf5";

@@ -38,7 +38,7 @@ fn reads_key_sets(rt: HostRuntime) {
         (b"\xa3\x01\x04\x04\x81\x61\xff\x20\x41a", Ok(1)),
     ];
     for (bytes, want) in rows {
-        assert_eq!(rt; counted(bytes), want);
+        assert_eq!(rt; counted(bytes), want, "of {bytes:?}");
     }
 }
 
@@ -94,8 +94,16 @@ fn finds_by_the_algorithm(rt: HostRuntime) {
         ),
     ];
     for (protected, unprotected, plain, for_five) in rows {
-        assert_eq!(rt; found(PLAIN, protected, unprotected, None), plain);
-        assert_eq!(rt; found(FOR_FIVE, protected, unprotected, None), for_five);
+        assert_eq!(rt;
+            found(PLAIN, protected, unprotected, None),
+            plain,
+            "by a key without alg, for {protected:?} and {unprotected:?}"
+        );
+        assert_eq!(rt;
+            found(FOR_FIVE, protected, unprotected, None),
+            for_five,
+            "by a key for 5, for {protected:?} and {unprotected:?}"
+        );
     }
 }
 
@@ -122,6 +130,10 @@ fn finds_the_one_key_that_fits(rt: HostRuntime) {
         (PLAIN, Ok((b"Jefe", 5))),
     ];
     for (bytes, want) in rows {
-        assert_eq!(rt; found(bytes, Some(Label::Int(5)), None, Some(b"1")), want);
+        assert_eq!(rt;
+            found(bytes, Some(Label::Int(5)), None, Some(b"1")),
+            want,
+            "of {bytes:?}"
+        );
     }
 }
