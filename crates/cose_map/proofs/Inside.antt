@@ -1,6 +1,6 @@
 -- No refusal of a map, a bucket, a key or two buckets stands after the bytes.
 use Rattle.std.proofs.Common.{◌≡◌, ◌⊎◌, inl, inr, ℕ, ◌+◌, ◌≤◌, Bool, true, false, not, List, [], ◌∷◌, ◌++◌, length, Option, Some, None, Ok, Err, if◌then◌else◌, refl, sym, subst, arith}
-use Rattle.std.specs.Prelude.{⊤, ℤ, pos, nat_lt, ◌==◌, IfSome, option_map, find, fold, flat_map}
+use Rattle.std.specs.Prelude.{⊤, Result, IfErr, ℤ, pos, nat_lt, ◌==◌, IfSome, option_map, find, fold, flat_map}
 use Rattle.std.specs.List.{AllByRecursion}
 use Rattle.std.specs.Ordering.{int_eq}
 use Rattle.std.proofs.lemmas.Bool.{cond_both, ltb-true}
@@ -21,6 +21,7 @@ use Rattle.cose_map.specs.KeyForm.{key_table, key_type}
 use Rattle.cose_map.specs.Label.{LabelValue, label_of}
 use Rattle.cose_map.specs.Maps.{Read, ◌>>=◌, refuse, Table, Pair, is_named, pair_of, has_label, name_at, new_name, value_at, label_at, check_pair, check_pairs, check_map, past_span, whole, read_map}
 use Rattle.cose_map.specs.Material.{present, member, k, crv, x, y, d, secret_in, symmetric_key, curve_of, usable_curve, curve_in, coordinate_of, coordinate_in, sign_in, y_in, private_part, elliptic_key, material_in, material_of}
+use Rattle.cose_map.specs.Views.{seen_by}
 use Rattle.cose_map.specs.PairFault.{fault_if, critical_faults, element_faults, all_element_faults, crit_faults, is_understood, unprotected_faults, both_ivs, pair_faults, goes_before, lesser, pair_fault}
 
 -- lists of which each element has a property
@@ -208,6 +209,12 @@ module _ (end after : ℕ) where
     unprotected_inside pair inside = let at = inside.0 in all_both IsInside _ _
         (fault_inside (has_label pair.name protected) _ pair.label.place (inl (omega arith)))
         (fault_inside _ _ pair.label.place (inl (omega arith)))
+
+-- a refusal that is seen is that of the code
+pub seen_inside : {X Y : Type 0} (view : X → Y) (result : Result X Refusal) (end : ℕ) (answer : Read Y) → seen_by view result ≡ answer → RefusedBy end answer →
+    IfErr result (λ refusal. refusal.place ≤ end)
+seen_inside view (Ok x) end answer e inside = tt
+seen_inside view (Err refusal) end answer e inside = rw (← e) at inside
 
 -- with what is known of reading and of children
 module _ (steps : ReadSteps) (children : ChildrenEndInside) where

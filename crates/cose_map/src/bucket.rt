@@ -1,6 +1,6 @@
 //! Header buckets (RFC 9052 section 3).
 
-ghost use Rattle.std.specs.Prelude.{◌≡◌, ℕ, ◌+◌, ◌<◌, ◌≤◌, ◌^◌, ◌==◌, length, option_map};
+ghost use Rattle.std.specs.Prelude.{◌≡◌, ℕ, ◌+◌, ◌<◌, ◌≤◌, ◌^◌, ◌==◌, length, option_map, IfErr};
 ghost use Rattle.cose_head.specs.ItemRef.{placed};
 ghost use Rattle.cose_head.specs.Items.{items_left};
 ghost use Rattle.cose_map.specs.Bucket.{bucket_of, value_of, alg_of, kid_of, crit_of};
@@ -31,7 +31,8 @@ impl<'a> Bucket<'a> {
     pub fn read(bytes: &'a [u8], at: u64, depth: usize) -> Result<Bucket<'a>, Refusal>
         requires shallow { depth ≤ 32 }
         requires in_range { at + length bytes.now < 2 ^ 64 }
-        ensures { seen_by bucket_pairs result ≡ bucket_of depth (record { bytes = bytes.now; place = at }) }
+        ensures exact { seen_by bucket_pairs result ≡ bucket_of depth (record { bytes = bytes.now; place = at }) }
+        ensures within { IfErr result (λ refusal. refusal.place ≤ at + length bytes.now) }
     {
         if bytes.is_empty() {
             let nothing = ItemRef { bytes, place: at };

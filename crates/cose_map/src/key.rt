@@ -3,6 +3,7 @@
 use crate::key_form::KeyForm;
 use crate::key_member;
 use crate::label::Label;
+use crate::laws::refusals_stand_inside;
 use crate::maps::read_map;
 use crate::material::Material;
 use crate::members::Members;
@@ -26,17 +27,14 @@ pub struct Key<'a> {
 }
 
 impl<'a> Key<'a> {
-    ghost use Rattle.std.specs.Prelude.{◌≡◌, ◌+◌, ◌<◌, ◌^◌, length, Ok};
+    ghost use Rattle.std.specs.Prelude.{◌≡◌, ◌+◌, ◌<◌, ◌≤◌, ◌^◌, length, Ok, IfErr};
     ghost use Rattle.cose_map.specs.Key.{key_of};
     ghost use Rattle.cose_map.specs.KeyView.{key_value};
     ghost use Rattle.cose_map.specs.Views.{seen_by};
 
-    /// Reads one key, whose first byte stands at `at`.
-    ///
-    /// The refusal is the first fault of the reading, then of the map's pairs in their order, then of the members that
-    /// the key's type wants.
+    /// The key that a map is, read from these bytes.
     #[tactic(auto, unfolding(crate::specs::Key::key_of))]
-    pub fn read(bytes: &'a [u8], at: u64) -> Result<Key<'a>, Refusal>
+    fn of_map(bytes: &'a [u8], at: u64) -> Result<Key<'a>, Refusal>
         requires { at + length bytes.now < 2 ^ 64 }
         ensures { seen_by key_value result ≡ key_of (record { bytes = bytes.now; place = at }) }
     {
@@ -51,6 +49,21 @@ impl<'a> Key<'a> {
             ops: members.ops(&key_member::KEY_OPS),
             material,
         })
+    }
+
+    /// Reads one key, whose first byte stands at `at`.
+    ///
+    /// The refusal is the first fault of the reading, then of the map's pairs in their order, then of the members that
+    /// the key's type wants.
+    #[tactic(auto, using(crate::proofs::Inside::seen_inside))]
+    pub fn read(bytes: &'a [u8], at: u64) -> Result<Key<'a>, Refusal>
+        requires { at + length bytes.now < 2 ^ 64 }
+        ensures exact { seen_by key_value result ≡ key_of (record { bytes = bytes.now; place = at }) }
+        ensures within { IfErr result (λ refusal. refusal.place ≤ at + length bytes.now) }
+    {
+        // The law that `within` rests on.
+        refusals_stand_inside();
+        Key::of_map(bytes, at)
     }
 }
 

@@ -1,16 +1,16 @@
 //! A map of labels and values, read with a table that says which form each label's value has
 //! (RFC 9052 sections 3 and 7, RFC 8392 section 3).
 
-ghost use Rattle.std.specs.Prelude.{◌≡◌, ℕ, ◌+◌, ◌<◌, ◌≤◌, ◌^◌, List, [], ◌∷◌, length, take, true, option_map, MatchOption, IfErr};
+ghost use Rattle.std.specs.Prelude.{◌≡◌, ℕ, ◌+◌, ◌<◌, ◌≤◌, ◌^◌, [], ◌∷◌, length, MatchOption, IfErr};
 ghost use Rattle.cose_head.specs.ItemRef.{placed};
 ghost use Rattle.cose_head.specs.Items.{items_left};
-ghost use Rattle.cose_map.specs.Maps.{Table, has_label, label_at, check_pair, check_pairs, check_map, read_map, whole};
-ghost use Rattle.cose_map.specs.LabelOrder as order;
+ghost use Rattle.cose_map.specs.Maps.{Table, check_pairs, check_map, read_map, whole};
 ghost use Rattle.cose_map.specs.Pairs.{pairs_left};
-ghost use Rattle.cose_map.specs.Views.{label_value, pair_value, seen_by};
+ghost use Rattle.cose_map.specs.Views.{label_value, seen_by};
 
 use crate::earlier::Earlier;
 use crate::label::Label;
+use crate::laws::refusals_stand_inside;
 use crate::pairs::Pairs;
 use cose_head::{ItemRef, Items, Reason, Refusal, read_item};
 
@@ -59,9 +59,13 @@ fn check_items<'a, F: Form>(form: &F, items: Items<'a>) -> Result<Pairs<'a>, Ref
 ///
 /// The first fault of the pairs in their order is the refusal: [`Reason::NotMap`], [`Reason::BadLabel`],
 /// [`Reason::DuplicateLabel`] or the form's, each label before its value.
+#[tactic(auto, using(crate::proofs::Inside::seen_inside))]
 pub fn check_map<'a, F: Form>(form: &F, item: &ItemRef<'a>) -> Result<Pairs<'a>, Refusal>
-    ensures { seen_by pairs_left result ≡ check_map (F.table form.now) (placed item.now) }
+    ensures exact { seen_by pairs_left result ≡ check_map (F.table form.now) (placed item.now) }
+    ensures within { IfErr result (λ refusal. refusal.place ≤ item.now.place + length item.now.bytes.now) }
 {
+    // The law that `within` rests on.
+    refusals_stand_inside();
     if !item.is_map() {
         return Err(refused(Reason::NotMap, item));
     }
@@ -99,7 +103,8 @@ pub fn read_map<'a, F: Form>(
 ) -> Result<Pairs<'a>, Refusal>
     requires shallow { depth ≤ 32 }
     requires in_range { at + length bytes.now < 2 ^ 64 }
-    ensures { seen_by pairs_left result ≡ read_map (F.table form.now) depth (record { bytes = bytes.now; place = at }) }
+    ensures exact { seen_by pairs_left result ≡ read_map (F.table form.now) depth (record { bytes = bytes.now; place = at }) }
+    ensures within { IfErr result (λ refusal. refusal.place ≤ at + length bytes.now) }
 {
     let item = read_whole(bytes, at, depth)?;
     check_map(form, &item)

@@ -67,6 +67,19 @@ fn bucket<'a>(rt: &impl Abort, bytes: &'a [u8], at: u64) -> Bucket<'a>
 }
 
 #[test]
+fn gives_every_pair(rt: HostRuntime) {
+    let mut pairs = bucket(&rt, b"\xa2\x01\x05\x61\x31\x00", 0).pairs();
+    let names = [Label::Int(1), Label::Text("1")];
+    for wanted in names {
+        match pairs.next() {
+            Some((name, _, _)) => assert!(rt; name == wanted, "{name:?} for {wanted:?}"),
+            None => assert!(rt; false, "no pair {wanted:?}"),
+        }
+    }
+    assert!(rt; pairs.next().is_none(), "a third pair");
+}
+
+#[test]
 fn gives_what_a_bucket_says(rt: HostRuntime) {
     let read = bucket(&rt, b"\xa4\x01\x05\x61\x31\x00\x04\x41\x07\x02\x81\x01", 3);
     let mut pairs = read.pairs();

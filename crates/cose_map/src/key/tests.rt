@@ -6,7 +6,7 @@ use cose_head::Reason;
 
 #[test]
 fn refuses_at_the_first_fault(rt: HostRuntime) {
-    let rows: [(&[u8], Reason, u64); 12] = [
+    let rows: [(&[u8], Reason, u64); 15] = [
         (b"", Reason::PastRoom, 7),
         (b"\x80", Reason::NotMap, 7),
         (b"\xa0", Reason::BadValue, 7),
@@ -19,6 +19,22 @@ fn refuses_at_the_first_fault(rt: HostRuntime) {
         (b"\xa3\x01\x04\x01\x04\x20\x41a", Reason::DuplicateLabel, 10),
         (b"\xa2\x01\x02\x20\x02", Reason::UnknownKey, 7),
         (b"\xa3\x01\x02\x20\x01\x21\x41x", Reason::BadValue, 13),
+        // crv is a text
+        (b"\xa2\x01\x02\x20\x61x", Reason::UnknownKey, 7),
+        // y has one byte
+        (
+            b"\xa4\x01\x02\x20\x01\x21\x58\x20\
+            01234567890123456789012345678901\x22\x41y",
+            Reason::BadValue,
+            48,
+        ),
+        // d is a number
+        (
+            b"\xa5\x01\x02\x20\x01\x21\x58\x20\
+            01234567890123456789012345678901\x22\xf5\x23\x00",
+            Reason::BadValue,
+            50,
+        ),
     ];
     for (bytes, reason, place) in rows {
         let refused = Key::read(bytes, 7).err();
