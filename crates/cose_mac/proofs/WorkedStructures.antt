@@ -1,6 +1,6 @@
 -- The structures that are authenticated (RFC 9052 sections 6.3 and 4.4), and the blocks of HMAC, on examples, by computing.
 use Rattle.std.proofs.Common.{◌≡◌, ℕ, List, [], ◌∷◌, ◌++◌, refl}
-use Rattle.std.specs.Prelude.{codes, replicate}
+use Rattle.std.specs.Prelude.{replicate}
 use Rattle.cose_head.specs.Head.{shortest_head}
 use Rattle.cose_head.specs.Shortest.{shortest, shortest_all}
 use Rattle.cose_head.specs.declared.kind.Kind.{Kind}
