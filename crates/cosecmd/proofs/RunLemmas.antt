@@ -173,12 +173,15 @@ all_or_settled (Some xs) rest false settled e s end unsettled = let clash : true
 pub takes_up : {keys : List KeyValue} {come contents contents_after : Option (List ℕ)} {ended : Bool} {verdict : Verdict} (come_after : Option (List ℕ)) (taken bytes : List ℕ) → FirstRun keys come come_after ended contents contents_after (Ok verdict) taken → come ≡ Some bytes →
     (rest : List ℕ) × (come_after ≡ Some rest) × TakesUp keys bytes taken rest
 takes_up {keys} {come} {contents} {contents_after} {ended} {verdict} None taken bytes r e = let none = rw e at r.bytes in absurd none
-takes_up {keys} {come} {contents} {contents_after} {ended} {verdict} (Some rest) taken bytes r e =
-    (rest, refl, record {
-      whole = rw e at r.bytes;
-      none_earlier = r.none_after_end;
-      all = all_or_settled (Some rest) rest ended (first_reading keys taken).settled refl r.answer.1 r.end;
-    })
+takes_up {keys} {come} {contents} {contents_after} {ended} {verdict} (Some rest) taken bytes r e = (
+  rest,
+  refl,
+  record {
+    whole = rw e at r.bytes;
+    none_earlier = r.none_after_end;
+    all = all_or_settled (Some rest) rest ended (first_reading keys taken).settled refl r.answer.1 r.end;
+  },
+)
 
 -- a reply that says the verdict of the program
 pub said : {F : Type 0} (keys bytes : List ℕ) (verdict : Verdict) (reply : Result Reply F) → ProgramVerdict keys bytes verdict → IfOk reply (Says verdict) →
