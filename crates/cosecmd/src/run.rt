@@ -1,6 +1,8 @@
 //! A run of the program, over any reader and writer.
 
-ghost use Rattle.std.specs.Prelude.{◌≡◌, ◌≢◌, ◌≤◌, ℕ, List, Some, IfOk};
+ghost use Rattle.std.specs.Prelude.{◌≡◌, ◌≢◌, ◌≤◌, ◌||◌, ℕ, List, Some, Err, IfOk, is_err};
+ghost use Rattle.cose_head.specs.declared.refusal.Refusal.{Refusal};
+ghost use Rattle.cose_map.specs.KeySet.{keys_of};
 ghost use Rattle.std.specs.Io.KnownBytes.{Appends};
 ghost use Rattle.cosecmd.specs.declared.first.verdict.Verdict.{Verdict};
 ghost use Rattle.cosecmd.specs.Printed.{ProgramVerdict, Says, printed, status_of, with_rest};
@@ -18,7 +20,8 @@ use std::io::{Read, Write};
 
 /// The verdict, once the intake was looked at for a byte behind an authentic message.
 fn whole_verdict<I: Intake>(verdict: Verdict, intake: &mut I) -> Result<Verdict, Fault>
-    ensures { (rest : List ℕ) → I.to_come intake.old ≡ Some rest → IfOk result (λ whole. whole ≡ with_rest rest verdict) }
+    ensures whole { (rest : List ℕ) → I.to_come intake.old ≡ Some rest → IfOk result (λ whole. whole ≡ with_rest rest verdict) }
+    ensures failure { I.has_failed intake.new ≡ (I.has_failed intake.old || is_err result) }
 {
     let Verdict::Authentic { taken, .. } = verdict else {
         return Ok(verdict);
@@ -47,7 +50,8 @@ fn reply_of(alloc: Global, verdict: Verdict) -> Result<Reply, Fault>
 
 /// What there is to say of the message that the reader gives, under the key set in `keys`.
 fn reply_to<R: Read>(alloc: Global, keys: &[u8], input: &mut R) -> Result<Reply, Fault>
-    ensures { (bytes : List ℕ) → R.remaining input.old ≡ Some bytes → IfOk result (λ reply. (verdict : Verdict) × ProgramVerdict keys.now bytes verdict × Says verdict reply) }
+    ensures said { (bytes : List ℕ) → R.remaining input.old ≡ Some bytes → IfOk result (λ reply. (verdict : Verdict) × ProgramVerdict keys.now bytes verdict × Says verdict reply) }
+    ensures keys { (refusal : Refusal) → keys_of keys.now ≡ Err refusal → result ≡ Err (Fault.Keys refusal.reason refusal.place) }
 {
     let keys = match KeySet::read(keys) {
         Ok(keys) => keys,
