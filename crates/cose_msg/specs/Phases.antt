@@ -1,0 +1,123 @@
+-- The phases of a message behind its tags and the head of its array (RFC 9052 sections 2, 3, 4.2 and 6.2), the last first.
+use Rattle.std.specs.Prelude.{ℕ, ◌^◌, Bool, List, [], length, Option, Some, None, Result, Ok, Err, nat_lt, nat_le, ◌==◌, ◌&&◌, ◌||◌, if◌then◌else◌}
+use Rattle.cose_head.specs.declared.head.Head.{Head}
+use Rattle.cose_head.specs.declared.kind.Kind.{Kind}
+use Rattle.cose_head.specs.declared.reason.Reason.{Reason}
+use Rattle.cose_head.specs.declared.reason.Reason.TheVariants.{PastRoom, WrongType, Detached, BadAuthLength, PayloadTooLong}
+use Rattle.cose_head.specs.Placed.{Placed}
+use Rattle.cose_map.specs.Bucket.{bucket_of}
+use Rattle.cose_map.specs.Maps.{Pair}
+use Rattle.cose_map.specs.PairFault.{pair_fault}
+use Rattle.cose_msg.specs.Answer.{Chosen, Headers}
+use Rattle.cose_msg.specs.Reading.{Told, Phase, Next, settled, stop, with_head, with_string, with_item, unless, unless_fault, with_value}
+use Rattle.cose_msg.specs.Rules.{Rules}
+
+-- What is known before the protected bucket was found good, behind it, and behind both.
+abbrev pub nothing_told : Told
+nothing_told = record { protected = None; unprotected = None; payload = [] }
+
+abbrev pub protected_told : List Pair → Told
+protected_told pairs = record { protected = Some pairs; unprotected = None; payload = [] }
+
+abbrev pub headers_told : Headers → List ℕ → Told
+headers_told headers payload =
+    record { protected = Some headers.protected_pairs; unprotected = Some headers.unprotected_pairs; payload = payload }
+
+abbrev pub is_bytes_head : Head → Bool
+is_bytes_head head = head.major == 2
+
+-- The tag or signature, whose head stands at auth_at. The message ends with it.
+abbrev pub finish : Rules → Headers → Option Chosen → List ℕ → ℕ → Next (List ℕ)
+finish rules headers chosen payload auth_at at auth place bytes = settled (headers_told headers payload) (rules.finish (record {
+    headers = headers; chosen = chosen; payload = payload; auth = auth; auth_at = auth_at; taken = place }))
+
+abbrev pub auth : Rules → Headers → Option Chosen → List ℕ → ℕ → ℕ → Phase
+auth rules headers chosen payload auth_at n =
+    with_string (λ bytes. headers_told headers payload) n (finish rules headers chosen payload auth_at)
+
+-- Its head: a byte string of a length that the algorithm has.
+abbrev pub auth_head_fault : Rules → Option Chosen → Head → Option Reason
+auth_head_fault rules chosen head =
+    if is_bytes_head head then (if rules.auth_fits chosen head.arg then None else Some BadAuthLength) else Some WrongType
+
+abbrev pub past_auth_head : Rules → Headers → Option Chosen → List ℕ → Next Head
+past_auth_head rules headers chosen payload at head =
+    unless_fault (headers_told headers payload) at (auth_head_fault rules chosen head) (auth rules headers chosen payload at head.arg)
+
+abbrev pub auth_head : Rules → Headers → Option Chosen → List ℕ → Phase
+auth_head rules headers chosen payload = with_head (headers_told headers payload) (past_auth_head rules headers chosen payload)
+
+-- The payload.
+abbrev pub past_payload : Rules → Headers → Option Chosen → Next (List ℕ)
+past_payload rules headers chosen at payload = auth_head rules headers chosen payload
+
+abbrev pub payload : Rules → Headers → Option Chosen → ℕ → Phase
+payload rules headers chosen n = with_string (headers_told headers) n (past_payload rules headers chosen)
+
+-- Its head: a byte string, which is not too long. nil is a detached payload.
+abbrev pub is_nil : Head → Bool
+is_nil head = head.major == 7 && (head.width == 1 && head.arg == 22)
+
+abbrev pub is_too_long : Rules → ℕ → Bool
+is_too_long rules n = nat_le (2 ^ 56) n || nat_lt rules.payload_limit n
+
+abbrev pub payload_head_fault : Rules → Head → Option Reason
+payload_head_fault rules head =
+    if is_bytes_head head then (if is_too_long rules head.arg then Some PayloadTooLong else None) else
+    if is_nil head then Some Detached else Some WrongType
+
+abbrev pub past_payload_head : Rules → Headers → Option Chosen → Next Head
+past_payload_head rules headers chosen at head =
+    unless_fault (headers_told headers []) at (payload_head_fault rules head) (payload rules headers chosen head.arg)
+
+abbrev pub payload_head : Rules → Headers → Option Chosen → Phase
+payload_head rules headers chosen = with_head (headers_told headers []) (past_payload_head rules headers chosen)
+
+-- The choice of the key. Its fault stands at the payload's head, and needs no byte of it.
+abbrev pub past_choice : Rules → Headers → Result (Option Chosen) Reason → Phase
+past_choice rules headers (Ok chosen) place bytes = payload_head rules headers chosen place bytes
+past_choice rules headers (Err reason) place bytes = stop (headers_told headers []) reason place
+
+abbrev pub key_choice : Rules → Headers → Phase
+key_choice rules headers = past_choice rules headers (rules.choice headers)
+
+-- Both buckets together. The place after both is the payload's head.
+abbrev pub both_buckets : Rules → Headers → Phase
+both_buckets rules headers place = unless (headers_told headers [])
+    (pair_fault headers.protected_pairs headers.unprotected_pairs rules.understood place) (key_choice rules headers) place
+
+abbrev pub placed_at : ℕ → List ℕ → Placed
+placed_at place bytes = record { bytes = bytes; place = place }
+
+abbrev pub headers_of : Kind → List ℕ → List Pair → List Pair → Headers
+headers_of kind protected protected_pairs unprotected_pairs =
+    record { kind = kind; protected = protected; protected_pairs = protected_pairs; unprotected_pairs = unprotected_pairs }
+
+-- The unprotected bucket: an item, and its pairs.
+abbrev pub past_unprotected : Rules → Kind → List ℕ → List Pair → Next (List ℕ)
+past_unprotected rules kind protected pairs at content =
+    with_value (protected_told pairs) (bucket_of rules.nesting (placed_at at content))
+        (λ unprotected_pairs. both_buckets rules (headers_of kind protected pairs unprotected_pairs))
+
+abbrev pub unprotected : Rules → Kind → List ℕ → List Pair → Phase
+unprotected rules kind protected pairs =
+    with_item (protected_told pairs) rules.room rules.nesting (past_unprotected rules kind protected pairs)
+
+-- The protected bucket: a byte string, and the pairs of its content.
+abbrev pub past_protected : Rules → Kind → Next (List ℕ)
+past_protected rules kind at content =
+    with_value nothing_told (bucket_of rules.nesting (placed_at at content)) (unprotected rules kind content)
+
+abbrev pub protected : Rules → Kind → ℕ → Phase
+protected rules kind n = with_string (λ bytes. nothing_told) n (past_protected rules kind)
+
+abbrev pub protected_head_fault : Rules → Head → Option Reason
+protected_head_fault rules head =
+    if is_bytes_head head then (if nat_lt rules.room head.arg then Some PastRoom else None) else Some WrongType
+
+abbrev pub past_protected_head : Rules → Kind → Next Head
+past_protected_head rules kind at head =
+    unless_fault nothing_told at (protected_head_fault rules head) (protected rules kind head.arg)
+
+abbrev pub protected_head : Rules → Kind → Phase
+protected_head rules kind = with_head nothing_told (past_protected_head rules kind)

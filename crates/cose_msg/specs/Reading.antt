@@ -1,0 +1,89 @@
+-- What the bytes of a message come to, phase by phase. A phase is a function of its place and of the bytes that begin
+-- there, and gives what all of them come to: it knows the phases after it.
+use Rattle.std.specs.Prelude.{ℕ, ◌+◌, Bool, true, false, List, [], length, take, drop, Option, Some, None, Result, Ok, Err, nat_lt, if◌then◌else◌}
+use Rattle.cose_head.specs.declared.head.Head.{Head}
+use Rattle.cose_head.specs.declared.head.HeadStep.{HeadStep}
+use Rattle.cose_head.specs.declared.head.HeadStep.TheVariants.{Got, More, Fault}
+use Rattle.cose_head.specs.declared.reason.Reason.{Reason}
+use Rattle.cose_head.specs.declared.reason.Reason.TheVariants.{Truncated}
+use Rattle.cose_head.specs.declared.refusal.Refusal.{Refusal}
+use Rattle.cose_head.specs.Head.{bare_head}
+use Rattle.cose_head.specs.Item.{Item}
+use Rattle.cose_head.specs.Measured.{left_of}
+use Rattle.cose_head.specs.Reading.{Outcome, read}
+use Rattle.cose_map.specs.Maps.{Pair}
+use Rattle.cose_msg.specs.Answer.{Answer, refused}
+
+-- What is known of a message so far: the pairs of each header bucket, once it was found good, and the bytes of the
+-- payload as far as they came.
+pub record Told : Type 0 where
+  pub protected : Option (List Pair)
+  pub unprotected : Option (List Pair)
+  pub payload : List ℕ
+
+-- The answer, whether no further byte can change it, and what is known.
+pub record Reading : Type 0 where
+  pub answer : Answer
+  pub settled : Bool
+  pub told : Told
+
+abbrev pub Phase : Type 0
+Phase = ℕ → List ℕ → Reading
+
+-- A phase after a value: it is given the place of that value too.
+abbrev pub Next : Type 0 → Type 0
+Next A = ℕ → A → Phase
+
+abbrev pub settled : Told → Answer → Reading
+settled told answer = record { answer = answer; settled = true; told = told }
+
+abbrev pub stop : Told → Reason → ℕ → Reading
+stop told reason place = settled told (refused reason place)
+
+-- The bytes end before the phase does: Truncated at their number.
+abbrev pub cut : Told → ℕ → Reading
+cut told place = record { answer = refused Truncated place; settled = false; told = told }
+
+-- A head outside an item (RFC 8949 section 3).
+abbrev pub past_head : Told → Next Head → ℕ → List ℕ → HeadStep → Reading
+past_head told next place bytes (Got head used) = next place head (place + used) (drop used bytes)
+past_head told next place bytes (More wanted) = cut told (place + length bytes)
+past_head told next place bytes (Fault reason) = stop told reason place
+
+unfoldable pub with_head : Told → Next Head → Phase
+with_head told next place bytes = past_head told next place bytes (bare_head bytes)
+
+-- A string of n bytes. What is known goes by those of them that are there.
+unfoldable pub with_string : (List ℕ → Told) → ℕ → Next (List ℕ) → Phase
+with_string told n next place bytes =
+    if nat_lt (length bytes) n then cut (told bytes) (place + length bytes) else
+    next place (take n bytes) (place + n) (drop n bytes)
+
+-- An item within a room and a nesting allowance.
+abbrev pub is_truncated : Reason → Bool
+is_truncated Truncated = true
+is_truncated _ = false
+
+abbrev pub past_item : Told → Next (List ℕ) → ℕ → List ℕ → Outcome Item → Reading
+past_item told next place bytes (Ok found) =
+    next place (take found.1.place bytes) (place + found.1.place) (drop found.1.place bytes)
+past_item told next place bytes (Err refusal) =
+    if is_truncated refusal.reason then cut told (place + length bytes) else
+    stop told refusal.reason (place + refusal.place)
+
+unfoldable pub with_item : Told → ℕ → ℕ → Next (List ℕ) → Phase
+with_item told room nesting next place bytes = past_item told next place bytes (read nesting (left_of bytes room 0))
+
+-- A test, which needs no byte: a fault, or on.
+abbrev pub unless : Told → Option Refusal → Phase → Phase
+unless told (Some refusal) next place bytes = stop told refusal.reason refusal.place
+unless told None next place bytes = next place bytes
+
+abbrev pub unless_fault : Told → ℕ → Option Reason → Phase → Phase
+unless_fault told at (Some reason) next place bytes = stop told reason at
+unless_fault told at None next place bytes = next place bytes
+
+-- A value that such a test gives.
+abbrev pub with_value : {A : Type 0} → Told → Result A Refusal → (A → Phase) → Phase
+with_value told (Err refusal) next place bytes = stop told refusal.reason refusal.place
+with_value told (Ok value) next place bytes = next value place bytes

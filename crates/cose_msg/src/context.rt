@@ -1,0 +1,31 @@
+//! What a message is verified under.
+
+use cose_map::{KeySet, Label};
+
+/// The kinds of messages that are wanted.
+#[derive(Clone, Copy, Debug, PartialEq, Eq)]
+pub enum Wanted {
+    /// COSE_Mac0, with its tag or without.
+    Mac0,
+    /// COSE_Sign1, with its tag or without.
+    Sign1,
+    /// COSE_Mac0 or COSE_Sign1, as its tag says (RFC 9052 section 2).
+    Tagged,
+}
+
+/// What a message is verified under: the keys, and what the application knows of the message.
+#[derive(Clone, Copy, Debug)]
+pub struct Context<'k> {
+    /// The keys, exactly one of which has to fit the message.
+    pub keys: KeySet<'k>,
+    /// The externally supplied data (RFC 9052 section 4.3), at most 65,535 bytes.
+    pub aad: &'k [u8],
+    /// The kinds of messages that are wanted.
+    pub wanted: Wanted,
+    /// Whether the CWT tag may stand before the message's own (RFC 8392 section 6).
+    pub cwt: bool,
+    /// The labels, besides those that RFC 9052 section 3.1 defines, that the application understands where crit lists them.
+    pub understood: &'k [Label<'k>],
+    /// The most bytes that a payload may have.
+    pub payload_limit: u64,
+}

@@ -1,0 +1,33 @@
+//! What comes of a message.
+
+use cose_head::{Kind, Refusal};
+use cose_mac::Alg;
+
+/// What a message comes to.
+#[derive(Clone, Copy, Debug, PartialEq, Eq)]
+pub enum Verdict {
+    /// The message is authentic under the chosen key.
+    Authentic {
+        /// The kind of the message.
+        kind: Kind,
+        /// The algorithm that authenticates it.
+        alg: Alg,
+        /// The number of bytes of the payload.
+        payload: u64,
+        /// The number of bytes of the message.
+        taken: u64,
+    },
+    /// The message is refused. The place counts from the message's first byte.
+    Refused(Refusal),
+}
+
+/// Why a verifier stopped before it came to a verdict.
+#[derive(Clone, Copy, Debug, PartialEq, Eq)]
+pub enum Stop {
+    /// The intake failed.
+    Intake,
+    /// The sink failed.
+    Sink,
+    /// The verifier had stopped before; `reset` makes it as new.
+    Again,
+}
