@@ -1,1 +1,3 @@
+mod Forms
+mod Lawful
 mod WorkedMessages

@@ -4,3 +4,4 @@ pub mod Reading
 pub mod Phases
 pub mod Front
 pub mod Message
+pub mod Laws

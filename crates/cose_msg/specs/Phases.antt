@@ -29,7 +29,13 @@ is_bytes_head head = head.major == 2
 -- The tag or signature, whose head stands at auth_at. The message ends with it.
 abbrev pub finish : Rules → Headers → Option Chosen → List ℕ → ℕ → Next (List ℕ)
 finish rules headers chosen payload auth_at at auth place bytes = settled (headers_told headers payload) (rules.finish (record {
-    headers = headers; chosen = chosen; payload = payload; auth = auth; auth_at = auth_at; taken = place }))
+  headers = headers;
+  chosen = chosen;
+  payload = payload;
+  auth = auth;
+  auth_at = auth_at;
+  taken = place;
+}))
 
 abbrev pub auth : Rules → Headers → Option Chosen → List ℕ → ℕ → ℕ → Phase
 auth rules headers chosen payload auth_at n =
@@ -97,7 +103,7 @@ headers_of kind protected protected_pairs unprotected_pairs =
 abbrev pub past_unprotected : Rules → Kind → List ℕ → List Pair → Next (List ℕ)
 past_unprotected rules kind protected pairs at content =
     with_value (protected_told pairs) (bucket_of rules.nesting (placed_at at content))
-        (λ unprotected_pairs. both_buckets rules (headers_of kind protected pairs unprotected_pairs))
+    (λ unprotected_pairs. both_buckets rules (headers_of kind protected pairs unprotected_pairs))
 
 abbrev pub unprotected : Rules → Kind → List ℕ → List Pair → Phase
 unprotected rules kind protected pairs =

@@ -2,6 +2,7 @@
 #![tactic(auto)]
 
 mod context;
+pub mod laws;
 mod verdict;
 
 pub use context::{Context, Wanted};
