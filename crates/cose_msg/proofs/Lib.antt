@@ -1,3 +1,5 @@
 mod Forms
 mod Lawful
+mod Standing
+mod Steps
 mod WorkedMessages

@@ -5,3 +5,7 @@ pub mod Phases
 pub mod Front
 pub mod Message
 pub mod Laws
+pub mod BareHead
+pub mod Hashing
+pub mod Phase
+pub mod Verifier

@@ -1,0 +1,77 @@
+-- What a phase comes to when more of its bytes are there: those that are held, and those of a piece.
+use Rattle.std.proofs.Common.{◌≡◌, ℕ, ◌+◌, ◌-◌, ◌<◌, true, false, Bool, List, [], ◌∷◌, ◌++◌, length, take, drop, Ok, Err, refl, sym, ap, subst, slice_index, ◌∙◌, append_assoc, add-zero, arith, length-append}
+use Rattle.std.specs.Prelude.{nat_lt}
+use Rattle.std.proofs.lemmas.Bool.{le-ltb}
+use Rattle.std.proofs.lemmas.List.{take_at, drop_at}
+use Rattle.cose_head.specs.declared.head.Head.{Head}
+use Rattle.cose_head.specs.declared.head.HeadStep.TheVariants.{Got, Fault}
+use Rattle.cose_head.specs.declared.reason.Reason.{Reason}
+use Rattle.cose_head.specs.declared.reason.Reason.TheVariants.{Truncated}
+use Rattle.cose_head.specs.declared.refusal.Refusal.{Refusal}
+use Rattle.cose_head.specs.declared.walker.Step.TheVariants as steps
+use Rattle.cose_head.specs.Head.{bare_head}
+use Rattle.cose_head.specs.Laws.{ReadStays}
+use Rattle.cose_head.specs.Measured.{left_of}
+use Rattle.cose_head.specs.Reading.{read}
+use Rattle.cose_head.specs.Walker.{Answers}
+use Rattle.cose_msg.specs.Reading.{Told, Phase, Next, stop, is_truncated, with_head, with_string, with_item}
+
+-- ---- a head
+
+pub regrouped : (held : List ℕ) (byte : ℕ) (z : List ℕ) → (held ++ byte ∷ []) ++ z ≡ held ++ byte ∷ z
+regrouped held byte z = append_assoc held (byte ∷ []) z
+
+pub head_refused : (told : Told) (next : Next Head) (place : ℕ) (held : List ℕ) (byte : ℕ) (reason : Reason) → ((more : List ℕ) → bare_head ((held ++ byte ∷ []) ++ more) ≡ Fault reason) → (z : List ℕ) → with_head told next place (held ++ byte ∷ z) ≡ stop told reason place
+unfolding with_head
+head_refused told next place held byte reason stays z =
+    let e : bare_head (held ++ byte ∷ z) ≡ Fault reason = rw (← regrouped held byte z) (stays z) in
+    rw e refl
+
+-- The byte that completes a head is its last.
+pub head_completed : (told : Told) (next : Next Head) (place : ℕ) (held : List ℕ) (byte : ℕ) (head : Head) (used : ℕ) → ((more : List ℕ) → bare_head ((held ++ byte ∷ []) ++ more) ≡ Got head used) → used ≡ length (held ++ byte ∷ []) → (z : List ℕ) → with_head told next place (held ++ byte ∷ z) ≡ next place head (place + used) z
+unfolding with_head
+head_completed told next place held byte head used stays last z =
+    let e : bare_head (held ++ byte ∷ z) ≡ Got head used = rw (← regrouped held byte z) (stays z) in
+    let d : drop used (held ++ byte ∷ z) ≡ z = ap (drop used) (sym (regrouped held byte z)) ∙ drop_at (held ++ byte ∷ []) z used (sym last) in
+    rw (e, d) refl
+
+-- ---- a string
+
+pub string_none : (told : List ℕ → Told) (next : Next (List ℕ)) (place : ℕ) (z : List ℕ) → with_string told 0 next place z ≡ next place [] place z
+unfolding with_string
+string_none told next place z =
+    let short : nat_lt (length z) 0 ≡ false = le-ltb _ _ (omega arith) in
+    rw (short, add-zero) refl
+
+pub string_whole : (told : List ℕ → Told) (n : ℕ) (next : Next (List ℕ)) (place : ℕ) (held piece : List ℕ) → length (held ++ piece) ≡ n → (z : List ℕ) → with_string told n next place (held ++ (piece ++ z)) ≡ next place (held ++ piece) (place + n) z
+unfolding with_string
+string_whole told n next place held piece whole z =
+    let e : (held ++ piece) ++ z ≡ held ++ (piece ++ z) = append_assoc held piece z in
+    let long : nat_lt (length ((held ++ piece) ++ z)) n ≡ false = le-ltb _ _ (omega (arith, length-append (held ++ piece) z)) in
+    rw (← e, long, take_at (held ++ piece) z n whole, drop_at (held ++ piece) z n whole) refl
+
+-- ---- an item
+
+not_truncated : (reason : Reason) → (reason ≡ Truncated → ⊥) → is_truncated reason ≡ false
+not_truncated Truncated h = absurd (h refl)
+not_truncated _ h = refl
+
+module _ (stays : ReadStays) where
+  pub item_completed : (told : Told) (room depth : ℕ) (next : Next (List ℕ)) (place : ℕ) (held : List ℕ) (byte : ℕ) → Answers room (held ++ byte ∷ []) steps.Done (read depth (left_of (held ++ byte ∷ []) room 0)) → (z : List ℕ) → with_item told room depth next place (held ++ byte ∷ z) ≡ next place (held ++ byte ∷ []) (place + length (held ++ byte ∷ [])) z
+  unfolding with_item
+  item_completed told room depth next place held byte h z =
+      let again : read depth (left_of ((held ++ byte ∷ []) ++ z) room 0) ≡ Ok (h.0, left_of z (room - length (held ++ byte ∷ [])) (length (held ++ byte ∷ []))) = rw h.1 at (stays depth (left_of (held ++ byte ∷ []) room 0) z (rw h.1 tt)) in
+      rw (← regrouped held byte z, again, take_at (held ++ byte ∷ []) z (length (held ++ byte ∷ [])) refl, drop_at (held ++ byte ∷ []) z (length (held ++ byte ∷ [])) refl) refl
+
+  pub item_refused : (told : Told) (room depth : ℕ) (next : Next (List ℕ)) (place : ℕ) (held : List ℕ) (byte : ℕ) (refusal : Refusal) → Answers room (held ++ byte ∷ []) (steps.Fault refusal) (read depth (left_of (held ++ byte ∷ []) room 0)) → (z : List ℕ) → with_item told room depth next place (held ++ byte ∷ z) ≡ stop told refusal.reason (place + refusal.place)
+  unfolding with_item
+  item_refused told room depth next place held byte refusal h z =
+      let again : read depth (left_of ((held ++ byte ∷ []) ++ z) room 0) ≡ Err refusal = rw h.0 at (stays depth (left_of (held ++ byte ∷ []) room 0) z (rw h.0 h.1)) in
+      let definite : is_truncated refusal.reason ≡ false = not_truncated refusal.reason h.1 in
+      rw (← regrouped held byte z, again, definite) refl
+
+-- ---- what was taken of a piece
+
+pub first_byte : (piece : List ℕ) → 0 < length piece → take 1 piece ≡ slice_index piece 0 ∷ []
+first_byte [] lt = absurd (omega (arith, lt))
+first_byte (byte ∷ bytes) lt = refl

@@ -1,0 +1,30 @@
+-- What the hash over the authenticated structure was fed, and what it comes to (RFC 9052 sections 4.4 and 6.3).
+use Rattle.std.specs.Prelude.{ℕ, Bool, true, false, List, [], if◌then◌else◌}
+use Rattle.cose_mac.specs.Algorithm.{is_mac_of, mac, digest_of}
+use Rattle.cose_mac.specs.Fed.{FedMac, FedDigest}
+use Rattle.cose_mac.specs.declared.running.Running.{Running}
+use Rattle.cose_msg.specs.declared.hashing.Hashing.{Hashing}
+use Rattle.cose_msg.specs.declared.hashing.Hashing.TheVariants as states
+use Rattle.cose_msg.specs.Answer.{Chosen}
+use Rattle.cose_msg.specs.Message.{secret_of}
+
+-- It makes the MAC, or the digest, that the chosen algorithm wants, and was fed this message.
+abbrev pub FedAs : Bool → Running → Chosen → List ℕ → Type 0
+FedAs true running found message = FedMac running found.alg (secret_of found.key.material) message
+FedAs false running found message = FedDigest running found.alg message
+
+abbrev pub Hashes : Hashing → Chosen → List ℕ → Type 0
+Hashes (states.Running running) found message = FedAs (is_mac_of found.alg) running found message
+Hashes states.Nothing found message = ⊥
+Hashes (states.Finished bytes) found message = ⊥
+
+-- The finished bytes.
+abbrev pub result_of : Hashing → List ℕ
+result_of (states.Finished bytes) = bytes.items
+result_of states.Nothing = []
+result_of (states.Running running) = []
+
+-- The MAC of a message, or its digest, as the algorithm wants.
+abbrev pub authenticator : Chosen → List ℕ → List ℕ
+authenticator found message =
+    if is_mac_of found.alg then mac found.alg (secret_of found.key.material) message else digest_of found.alg message

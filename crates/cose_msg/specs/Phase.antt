@@ -1,0 +1,24 @@
+-- What is known of a phase of the code by its counts alone.
+use Rattle.std.specs.Prelude.{ℕ, Bool, true, false}
+use Rattle.cose_msg.specs.declared.phase.Phase.{Phase}
+use Rattle.cose_msg.specs.declared.phase.Phase.TheVariants as phases
+
+-- Whether the next byte is one of the payload.
+abbrev pub in_payload : Phase → Bool
+in_payload (phases.Payload p) = true
+in_payload _ = false
+
+-- Whether no further byte is wanted.
+abbrev pub is_settled : Phase → Bool
+is_settled (phases.Signed p) = true
+is_settled (phases.Settled verdict) = true
+is_settled _ = false
+
+-- How many bytes are to come for certain: those of a string that are left, one of a head or an item.
+abbrev pub want_of : Phase → ℕ
+want_of (phases.Protected p) = p.left
+want_of (phases.Payload p) = p.left
+want_of (phases.Auth p) = p.left
+want_of (phases.Signed p) = 0
+want_of (phases.Settled verdict) = 0
+want_of _ = 1

@@ -1,0 +1,83 @@
+//! The hash over the structure that is authenticated (RFC 9052 sections 4.4 and 6.3).
+
+use arrayvec::ArrayVec;
+use cose_mac::{Alg, Kind, Running, structure_front};
+use std::mem;
+
+/// The MAC or the digest of a message's structure: none yet, one that is being fed, or the finished one in its place.
+#[derive(Drop)]
+pub(crate) enum Hashing {
+    /// No key is chosen yet.
+    Nothing,
+    /// It is being fed the structure.
+    Running(Running),
+    /// The MAC or the digest.
+    Finished(ArrayVec<u8, 64>),
+}
+
+impl Hashing {
+    ghost use Rattle.std.specs.Prelude.{◌≡◌, ℕ, List, [], ◌++◌};
+    ghost use Rattle.cose_map.specs.KeyValue.{KeyValue};
+    ghost use Rattle.cose_mac.specs.Structure.{structure_front};
+    ghost use Rattle.cose_msg.specs.Answer.{Chosen as Found};
+    ghost use Rattle.cose_msg.specs.Hashing.{Hashes, authenticator, result_of};
+    ghost use Rattle.cose_msg.specs.Message.{secret_of};
+
+    /// The MAC or the digest of the empty message, as the algorithm wants.
+    pub(crate) fn begin(alg: Alg, secret: &[u8]) -> Hashing
+        ensures { (found : Found) → found.alg ≡ alg → secret_of found.key.material ≡ secret.now → Hashes result found [] }
+    {
+        if alg.is_mac() {
+            return Hashing::Running(Running::hmac(alg, secret));
+        }
+        Hashing::Running(Running::digest(alg))
+    }
+
+    /// Appends a piece.
+    pub(crate) fn update(&mut self, piece: &[u8])
+        ensures { (found : Found) (message : List ℕ) → Hashes self.old found message → Hashes self.new found (message ++ piece.now) }
+    {
+        match self {
+            Hashing::Running(running) => running.update(piece),
+            Hashing::Nothing | Hashing::Finished(_) => {}
+        }
+    }
+
+    /// Appends what stands before the payload's content in the structure.
+    pub(crate) fn front(&mut self, kind: Kind, protected: &[u8], aad: &[u8], payload: u64)
+        ensures { (found : Found) (message : List ℕ) → Hashes self.old found message
+            → Hashes self.new found (message ++ structure_front kind protected.now aad.now payload) }
+    {
+        match self {
+            Hashing::Running(running) => structure_front(kind, protected, aad, payload, running),
+            Hashing::Nothing | Hashing::Finished(_) => {}
+        }
+    }
+
+    /// Puts the MAC or the digest in the place of what was fed.
+    pub(crate) fn finish(&mut self)
+        ensures { (found : Found) (message : List ℕ) → Hashes self.old found message → result_of self.new ≡ authenticator found message }
+    {
+        match mem::replace(self, Hashing::Nothing) {
+            Hashing::Running(running) => {
+                let bytes = if running.is_mac() {
+                    running.finish_mac()
+                } else {
+                    running.finish_digest()
+                };
+                *self = Hashing::Finished(bytes);
+            }
+            Hashing::Nothing | Hashing::Finished(_) => {}
+        }
+    }
+
+    /// The finished bytes, none before.
+    pub(crate) fn result(&self) -> &[u8]
+        ensures { result.now ≡ result_of self.now }
+    {
+        match self {
+            Hashing::Finished(bytes) => bytes.as_slice(),
+            Hashing::Nothing | Hashing::Running(_) => &[],
+        }
+    }
+}

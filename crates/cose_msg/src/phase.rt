@@ -1,0 +1,179 @@
+//! Where a message stands: the phase that the next byte is in, by counts and places alone.
+
+ghost use Rattle.std.specs.Prelude.{◌<◌, ◌≤◌, ◌+◌, ◌^◌};
+
+use crate::verdict::Verdict;
+use cose_head::Kind;
+use cose_mac::Alg;
+
+/// A head behind the CWT tag.
+#[derive(Clone, Copy)]
+pub(crate) struct TagHead {
+    /// Its place.
+    pub(crate) at: u64,
+    ghost early: { at ≤ 9 },
+}
+
+/// The head of the message's array.
+#[derive(Clone, Copy)]
+pub(crate) struct ArrayHead {
+    /// The kind of the message.
+    pub(crate) kind: Kind,
+    /// Its place.
+    pub(crate) at: u64,
+    ghost early: { at ≤ 18 },
+}
+
+/// The head of the protected bucket's byte string.
+#[derive(Clone, Copy)]
+pub(crate) struct ProtectedHead {
+    /// The kind of the message.
+    pub(crate) kind: Kind,
+    /// Its place.
+    pub(crate) at: u64,
+    ghost early: { at ≤ 27 },
+}
+
+/// The content of the protected bucket.
+#[derive(Clone, Copy)]
+pub(crate) struct Protected {
+    /// The kind of the message.
+    pub(crate) kind: Kind,
+    /// The place of its first byte.
+    pub(crate) at: u64,
+    /// The number of its bytes.
+    pub(crate) length: u64,
+    /// How many of them are to come.
+    pub(crate) left: u64,
+    ghost some_left: { 0 < left },
+    ghost within: { left ≤ length },
+    ghost limit: { length ≤ 65535 },
+    ghost early: { at ≤ 36 },
+}
+
+/// The unprotected bucket.
+#[derive(Clone, Copy)]
+pub(crate) struct Unprotected {
+    /// The kind of the message.
+    pub(crate) kind: Kind,
+    /// The place of the protected bucket's content.
+    pub(crate) protected_at: u64,
+    /// The place of its first byte.
+    pub(crate) at: u64,
+    ghost protected_early: { protected_at ≤ 36 },
+    ghost early: { at < 2 ^ 17 },
+}
+
+/// The head of the payload.
+#[derive(Clone, Copy)]
+pub(crate) struct PayloadHead {
+    /// The kind of the message.
+    pub(crate) kind: Kind,
+    /// The algorithm that the key is used with.
+    pub(crate) alg: Alg,
+    /// Whether the protected bucket has no pair.
+    pub(crate) is_bare: bool,
+    /// Its place.
+    pub(crate) at: u64,
+    ghost early: { at < 2 ^ 18 },
+}
+
+/// The payload.
+#[derive(Clone, Copy)]
+pub(crate) struct Payload {
+    /// The kind of the message.
+    pub(crate) kind: Kind,
+    /// The algorithm that the key is used with.
+    pub(crate) alg: Alg,
+    /// The place of its first byte.
+    pub(crate) at: u64,
+    /// The number of its bytes.
+    pub(crate) length: u64,
+    /// How many of them are to come.
+    pub(crate) left: u64,
+    ghost some_left: { 0 < left },
+    ghost within: { left ≤ length },
+    ghost limit: { length < 2 ^ 56 },
+    ghost early: { at < 2 ^ 19 },
+}
+
+/// The head of the authentication tag or signature.
+#[derive(Clone, Copy)]
+pub(crate) struct AuthHead {
+    /// The kind of the message.
+    pub(crate) kind: Kind,
+    /// The algorithm that the key is used with.
+    pub(crate) alg: Alg,
+    /// Its place.
+    pub(crate) at: u64,
+    /// The number of the payload's bytes.
+    pub(crate) payload: u64,
+    ghost early: { at < 2 ^ 57 },
+}
+
+/// The authentication tag or signature.
+#[derive(Clone, Copy)]
+pub(crate) struct Auth {
+    /// The kind of the message.
+    pub(crate) kind: Kind,
+    /// The algorithm that the key is used with.
+    pub(crate) alg: Alg,
+    /// The place of its head, where it is refused.
+    pub(crate) head_at: u64,
+    /// The place of its first byte.
+    pub(crate) at: u64,
+    /// The number of its bytes.
+    pub(crate) length: u64,
+    /// How many of them are to come.
+    pub(crate) left: u64,
+    /// The number of the payload's bytes.
+    pub(crate) payload: u64,
+    ghost some_left: { 0 < left },
+    ghost within: { left ≤ length },
+    ghost limit: { length ≤ 132 },
+    ghost early: { at < 2 ^ 58 },
+}
+
+/// A message with a signature, all bytes of which are there.
+#[derive(Clone, Copy)]
+pub(crate) struct Signed {
+    /// The kind of the message.
+    pub(crate) kind: Kind,
+    /// The algorithm that the key is used with.
+    pub(crate) alg: Alg,
+    /// The place of the signature's head, where it is refused.
+    pub(crate) head_at: u64,
+    /// The number of the payload's bytes.
+    pub(crate) payload: u64,
+    /// The number of the message's bytes.
+    pub(crate) taken: u64,
+}
+
+/// The phase that the next byte is in.
+#[derive(Clone, Copy)]
+pub(crate) enum Phase {
+    /// The first head: a tag, or that of the array.
+    FirstHead,
+    /// The head of the tag behind the CWT tag.
+    TagHead(TagHead),
+    /// The head of the array behind a COSE tag.
+    ArrayHead(ArrayHead),
+    /// The head of the protected bucket.
+    ProtectedHead(ProtectedHead),
+    /// The content of the protected bucket.
+    Protected(Protected),
+    /// The unprotected bucket.
+    Unprotected(Unprotected),
+    /// The head of the payload.
+    PayloadHead(PayloadHead),
+    /// The payload.
+    Payload(Payload),
+    /// The head of the authentication tag or signature.
+    AuthHead(AuthHead),
+    /// The authentication tag or signature.
+    Auth(Auth),
+    /// All bytes are there, and the signature is to be decided on.
+    Signed(Signed),
+    /// The verdict is settled.
+    Settled(Verdict),
+}
