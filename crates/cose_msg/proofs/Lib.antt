@@ -1,3 +1,4 @@
+mod Faults
 mod Forms
 mod Lawful
 mod Standing

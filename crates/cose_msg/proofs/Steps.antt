@@ -1,5 +1,5 @@
 -- What a phase comes to when more of its bytes are there: those that are held, and those of a piece.
-use Rattle.std.proofs.Common.{◌≡◌, ℕ, ◌+◌, ◌-◌, ◌<◌, true, false, Bool, List, [], ◌∷◌, ◌++◌, length, take, drop, Ok, Err, refl, sym, ap, subst, slice_index, ◌∙◌, append_assoc, add-zero, arith, length-append}
+use Rattle.std.proofs.Common.{◌≡◌, ℕ, ◌+◌, ◌-◌, ◌<◌, true, false, Bool, List, [], ◌∷◌, ◌++◌, length, take, drop, Some, None, Ok, Err, refl, sym, ap, subst, slice_index, ◌∙◌, append_assoc, add-zero, arith, length-append}
 use Rattle.std.specs.Prelude.{nat_lt}
 use Rattle.std.proofs.lemmas.Bool.{le-ltb}
 use Rattle.std.proofs.lemmas.List.{take_at, drop_at}
@@ -14,7 +14,9 @@ use Rattle.cose_head.specs.Laws.{ReadStays}
 use Rattle.cose_head.specs.Measured.{left_of}
 use Rattle.cose_head.specs.Reading.{read}
 use Rattle.cose_head.specs.Walker.{Answers}
-use Rattle.cose_msg.specs.Reading.{Told, Phase, Next, stop, is_truncated, with_head, with_string, with_item}
+use Rattle.cose_map.specs.Maps.{Read}
+use Rattle.cose_map.specs.Views.{refusal_in}
+use Rattle.cose_msg.specs.Reading.{Told, Phase, Next, stop, is_truncated, with_head, with_string, with_item, with_value}
 
 -- ---- a head
 
@@ -69,6 +71,16 @@ module _ (stays : ReadStays) where
       let again : read depth (left_of ((held ++ byte ∷ []) ++ z) room 0) ≡ Err refusal = rw h.0 at (stays depth (left_of (held ++ byte ∷ []) room 0) z (rw h.0 h.1)) in
       let definite : is_truncated refusal.reason ≡ false = not_truncated refusal.reason h.1 in
       rw (← regrouped held byte z, again, definite) refl
+
+-- ---- a value that a test gives
+
+pub value_refused : {A : Type 0} (told : Told) (value : Read A) (next : A → Phase) (refusal : Refusal) → refusal_in value ≡ Some refusal → (place : ℕ) (z : List ℕ) → with_value told value next place z ≡ stop told refusal.reason refusal.place
+value_refused told (Ok x) next refusal e place z = absurd cc
+value_refused told (Err other) next refusal e place z = let same : other ≡ refusal = cc in rw same refl
+
+pub value_there : {A : Type 0} (value : Read A) → refusal_in value ≡ None → (x : A) × (value ≡ Ok x)
+value_there (Ok x) e = (x, refl)
+value_there (Err refusal) e = absurd cc
 
 -- ---- what was taken of a piece
 

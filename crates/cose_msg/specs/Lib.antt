@@ -8,4 +8,6 @@ pub mod Laws
 pub mod BareHead
 pub mod Hashing
 pub mod Phase
+pub mod Chosen
 pub mod Verifier
+pub mod Choosing

@@ -1,5 +1,5 @@
 -- What is known of a phase of the code by its counts alone.
-use Rattle.std.specs.Prelude.{ℕ, Bool, true, false}
+use Rattle.std.specs.Prelude.{ℕ, Bool, true, false, List, ◌++◌}
 use Rattle.cose_msg.specs.declared.phase.Phase.{Phase}
 use Rattle.cose_msg.specs.declared.phase.Phase.TheVariants as phases
 
@@ -22,3 +22,17 @@ want_of (phases.Auth p) = p.left
 want_of (phases.Signed p) = 0
 want_of (phases.Settled verdict) = 0
 want_of _ = 1
+
+-- Whether bytes are taken one by one: in a head, or in an item.
+abbrev pub takes_bytes : Phase → Bool
+takes_bytes (phases.Protected p) = false
+takes_bytes (phases.Payload p) = false
+takes_bytes (phases.Auth p) = false
+takes_bytes (phases.Signed p) = false
+takes_bytes (phases.Settled verdict) = false
+takes_bytes _ = true
+
+-- The payload so far, after some bytes of a phase.
+abbrev pub grown : Phase → List ℕ → List ℕ → List ℕ
+grown (phases.Payload p) B part = B ++ part
+grown _ B part = B

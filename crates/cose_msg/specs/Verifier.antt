@@ -7,7 +7,6 @@ use Rattle.cose_head.specs.Walker.{HasPut}
 use Rattle.cose_mac.specs.Algorithm.{auth_length_of, is_mac_of}
 use Rattle.cose_map.specs.Bucket.{bucket_of}
 use Rattle.cose_map.specs.KeySets.{keys}
-use Rattle.cose_map.specs.KeyView.{key_value}
 use Rattle.cose_map.specs.Views.{label_value}
 use Rattle.cose_msg.specs.declared.context.Context.{Context}
 use Rattle.cose_msg.specs.declared.hashing.Hashing.{Hashing}
@@ -16,8 +15,8 @@ use Rattle.cose_msg.specs.declared.phase.Phase.TheVariants as phases
 use Rattle.cose_msg.specs.declared.verdict.Verdict.{Verdict}
 use Rattle.cose_msg.specs.declared.verdict.Verdict.TheVariants.{Authentic, Refused}
 use Rattle.cose_msg.specs.declared.verifier.Verifier.{Verifier}
-use Rattle.cose_msg.specs.declared.verifier.Chosen as code
 use Rattle.cose_msg.specs.Answer.{Answer, decided, complete, Chosen, Headers, Whole}
+use Rattle.cose_msg.specs.Chosen.{chosen_value}
 use Rattle.cose_msg.specs.Front.{first_head, second_head, array_head}
 use Rattle.cose_msg.specs.Hashing.{Hashes, authenticator, result_of}
 use Rattle.cose_msg.specs.Message.{Setting, comparing, message, protected_content, structure}
@@ -35,9 +34,6 @@ setting_of context = record {
   understood = map label_value context.understood.now;
   payload_limit = context.payload_limit;
 }
-
-abbrev pub chosen_value : code.Chosen → Chosen
-chosen_value chosen = record { key = key_value chosen.key; alg = chosen.alg }
 
 -- What is known of a message besides what is told: its headers, the key, and the bytes of the payload so far.
 pub record Known : Type 0 where

@@ -14,6 +14,7 @@ use cose_mac::Alg;
 use cose_map::Key;
 
 mod auth;
+mod choice;
 mod front;
 mod headers;
 mod payload;
@@ -48,9 +49,9 @@ pub struct Verifier<'k, const H: usize, const D: usize> {
 }
 
 impl<'k, const H: usize, const D: usize> Verifier<'k, H, D> {
-    ghost use Rattle.std.specs.Prelude.{◌≡◌, ℕ, List, [], ◌++◌, ◌+◌, ◌-◌, length, take, true, false, if◌then◌else◌};
+    ghost use Rattle.std.specs.Prelude.{◌≡◌, ℕ, List, [], ◌∷◌, ◌++◌, ◌+◌, ◌-◌, length, take, true, false, if◌then◌else◌};
     ghost use Rattle.cose_msg.specs.Message.{Setting};
-    ghost use Rattle.cose_msg.specs.Phase.{in_payload, is_settled, want_of};
+    ghost use Rattle.cose_msg.specs.Phase.{grown, in_payload, is_settled, takes_bytes, want_of};
     ghost use Rattle.cose_msg.specs.Reading.{Reading, stop, Told};
     ghost use Rattle.cose_msg.specs.Verifier.{SoFar, StandsFor, setting_of};
 
@@ -83,5 +84,118 @@ impl<'k, const H: usize, const D: usize> Verifier<'k, H, D> {
             → StandsFor setting B n self.new (λ z. stop told reason place) }
     {
         self.phase = Phase::Settled(Verdict::Refused(Refusal { reason, place }));
+    }
+
+    /// Makes the verifier as it was made, in the same context.
+    pub fn reset(&mut self)
+        ensures so_far { SoFar (setting_of self.old.context) [] [] self.new }
+    {
+        self.head.clear();
+        self.phase = Phase::FirstHead;
+        self.taken = 0;
+        self.stopped = false;
+    }
+
+    /// The number of bytes of the message that were taken.
+    pub fn taken(&self) -> u64
+        ensures { result ≡ self.now.taken }
+    {
+        self.taken
+    }
+
+    /// Whether no further byte is wanted.
+    pub(crate) fn is_settled(&self) -> bool
+        ensures { result ≡ is_settled self.now.phase }
+    {
+        matches!(self.phase, Phase::Signed(_) | Phase::Settled(_))
+    }
+
+    /// Whether the next byte is one of the payload.
+    pub(crate) fn is_in_payload(&self) -> bool
+        ensures { result ≡ in_payload self.now.phase }
+    {
+        matches!(self.phase, Phase::Payload(_))
+    }
+
+    /// How many bytes are to come for certain: those of a string that are left, one of a head or an item, and none once the
+    /// message is settled.
+    pub(crate) fn wanted(&self) -> u64
+        ensures value { result ≡ want_of self.now.phase }
+        ensures some { is_settled self.now.phase ≡ false → 0 < result }
+    {
+        match self.phase {
+            Phase::FirstHead
+            | Phase::TagHead(_)
+            | Phase::ArrayHead(_)
+            | Phase::ProtectedHead(_)
+            | Phase::Unprotected(_)
+            | Phase::PayloadHead(_)
+            | Phase::AuthHead(_) => 1,
+            Phase::Protected(protected) => protected.left,
+            Phase::Payload(payload) => payload.left,
+            Phase::Auth(auth) => auth.left,
+            Phase::Signed(_) | Phase::Settled(_) => 0,
+        }
+    }
+
+    /// Takes the next byte of a head or of the unprotected bucket. Where none is wanted, nothing changes.
+    fn take_byte(&mut self, byte: u8)
+        requires { takes_bytes self.old.phase ≡ true }
+        ensures { (setting : Setting) (B : List ℕ) (n : ℕ) (reading : List ℕ → Reading) → StandsFor setting B n self.old reading
+            → StandsFor setting B (n + 1) self.new (λ z. reading (byte ∷ z)) }
+    {
+        match self.phase {
+            Phase::FirstHead => self.first_head(byte),
+            Phase::TagHead(head) => self.tag_head(head, byte),
+            Phase::ArrayHead(head) => self.array_head(head, byte),
+            Phase::ProtectedHead(head) => self.protected_head(head, byte),
+            Phase::Unprotected(unprotected) => self.unprotected(unprotected, byte),
+            Phase::PayloadHead(head) => self.payload_head(head, byte),
+            Phase::AuthHead(head) => self.auth_head(head, byte),
+            Phase::Protected(_)
+            | Phase::Payload(_)
+            | Phase::Auth(_)
+            | Phase::Signed(_)
+            | Phase::Settled(_) => {}
+        }
+    }
+
+    /// Takes the next bytes, all of one phase, and says how many. A string takes all that it has left, or the whole piece.
+    pub(crate) fn advance(&mut self, piece: &[u8]) -> usize
+        requires some { 0 < length piece.now }
+        ensures fits { result ≤ length piece.now }
+        ensures uses { is_settled self.old.phase ≡ false → 0 < result }
+        ensures whole { length piece.now ≤ want_of self.old.phase → result ≡ length piece.now }
+        ensures stands { (setting : Setting) (B : List ℕ) (n : ℕ) (reading : List ℕ → Reading) → StandsFor setting B n self.old reading
+            → StandsFor setting (grown self.old.phase B (take result piece.now)) (n + result) self.new (λ z. reading (take result piece.now ++ z)) }
+    {
+        match self.phase {
+            Phase::Protected(protected) => {
+                let part = front_of(piece, protected.left);
+                self.protected(protected, part);
+                part.len()
+            }
+            Phase::Payload(payload) => {
+                let part = front_of(piece, payload.left);
+                self.payload(payload, part);
+                part.len()
+            }
+            Phase::Auth(auth) => {
+                let part = front_of(piece, auth.left);
+                self.auth(auth, part);
+                part.len()
+            }
+            Phase::FirstHead
+            | Phase::TagHead(_)
+            | Phase::ArrayHead(_)
+            | Phase::ProtectedHead(_)
+            | Phase::Unprotected(_)
+            | Phase::PayloadHead(_)
+            | Phase::AuthHead(_) => {
+                self.take_byte(piece[0]);
+                1
+            }
+            Phase::Signed(_) | Phase::Settled(_) => 0,
+        }
     }
 }

@@ -1,1 +1,161 @@
-//! todo
+//! The header buckets of a message, and the choice of its key (RFC 9052 sections 3 and 7.1).
+
+ghost use Rattle.std.specs.Prelude.{◌≡◌, ◌<◌, ◌≤◌, ◌+◌, ◌^◌, ℕ, Ok, length};
+ghost use Rattle.cose_map.specs.Bucket.{bucket_of};
+ghost use Rattle.cose_map.specs.Views.{refusal_in};
+
+use crate::bare_head::take_head_byte;
+use crate::phase::{Phase, Protected, ProtectedHead, Unprotected};
+use crate::store_bytes::{append, append_byte};
+use crate::verifier::Verifier;
+use cose_head::laws::read_stays;
+use cose_head::{Head, HeadStep, Kind, Reason, Refusal, Step, Walker};
+use cose_map::Bucket;
+
+/// Why the bytes of a header bucket are refused, if they are.
+fn refusal_of(bytes: &[u8], at: u64, depth: usize) -> Option<Refusal>
+    requires shallow { depth ≤ 32 }
+    requires in_range { at + length bytes.now < 2 ^ 64 }
+    ensures { result ≡ refusal_in (bucket_of depth (record { bytes = bytes.now; place = at })) }
+{
+    Bucket::read(bytes, at, depth).err()
+}
+
+impl<'k, const H: usize, const D: usize> Verifier<'k, H, D> {
+    ghost use Rattle.std.specs.Prelude.{List, [], ◌∷◌, ◌++◌};
+    ghost use Rattle.cose_map.specs.Maps.{Pair};
+    ghost use Rattle.cose_msg.specs.Message.{Setting, comparing};
+    ghost use Rattle.cose_msg.specs.Phases.{past_protected, past_protected_head, past_unprotected, placed_at, protected_head, protected_fault_within, unprotected};
+    ghost use Rattle.cose_msg.specs.Reading.{Reading};
+    ghost use Rattle.cose_msg.specs.Verifier.{StandsFor, setting_of};
+
+    /// The head of the protected bucket begins here.
+    pub(crate) fn begin_protected_head(&mut self, kind: Kind, at: u64)
+        requires early { at ≤ 27 }
+        ensures stands { (setting : Setting) → setting_of self.old.context ≡ setting
+            → StandsFor setting [] at self.new (λ z. protected_head (comparing H D setting) kind at z) }
+    {
+        self.head.clear();
+        self.phase = Phase::ProtectedHead(ProtectedHead { kind, at });
+    }
+
+    /// Takes the next byte of the protected bucket's head.
+    pub(crate) fn protected_head(&mut self, protected_head: ProtectedHead, byte: u8)
+        requires phase { self.old.phase ≡ Phase.ProtectedHead protected_head }
+        ensures stands { (setting : Setting) (B : List ℕ) (n : ℕ) (reading : List ℕ → Reading) → StandsFor setting B n self.old reading
+            → StandsFor setting B (n + 1) self.new (λ z. reading (byte ∷ z)) }
+    {
+        let ProtectedHead { kind, at } = protected_head;
+        match take_head_byte(&mut self.head, byte) {
+            HeadStep::More(_) => {}
+            HeadStep::Fault(reason) => self.refuse(reason, at),
+            HeadStep::Got(head, used) => self.past_protected_head(kind, head, at, at + used as u64),
+        }
+    }
+
+    /// What is wrong with the protected bucket's head.
+    fn fault_of_protected(head: &Head) -> Option<Reason>
+        ensures { result ≡ protected_fault_within H head.now }
+    {
+        if head.major != 2 {
+            return Some(Reason::WrongType);
+        }
+        if head.arg > H as u64 {
+            return Some(Reason::PastRoom);
+        }
+        None
+    }
+
+    /// What follows the protected bucket's head.
+    fn past_protected_head(&mut self, kind: Kind, head: Head, head_at: u64, at: u64)
+        requires early { at ≤ 36 }
+        ensures stands { (setting : Setting) → setting_of self.old.context ≡ setting
+            → StandsFor setting [] at self.new (λ z. past_protected_head (comparing H D setting) kind head_at head at z) }
+    {
+        match Self::fault_of_protected(&head) {
+            Some(reason) => self.refuse(reason, head_at),
+            None => {
+                self.protected.clear();
+                if head.arg == 0 {
+                    self.past_protected(kind, at);
+                } else {
+                    self.phase = Phase::Protected(Protected {
+                        kind,
+                        at,
+                        length: head.arg,
+                        left: head.arg,
+                    });
+                }
+            }
+        }
+    }
+
+    /// Takes a piece of the protected bucket's content.
+    pub(crate) fn protected(&mut self, protected: Protected, piece: &[u8])
+        requires phase { self.old.phase ≡ Phase.Protected protected }
+        requires fits { length piece.now ≤ protected.left }
+        ensures stands { (setting : Setting) (B : List ℕ) (n : ℕ) (reading : List ℕ → Reading) → StandsFor setting B n self.old reading
+            → StandsFor setting B (n + length piece.now) self.new (λ z. reading (piece.now ++ z)) }
+    {
+        append(&mut self.protected, piece);
+        let left = protected.left - piece.len() as u64;
+        if left == 0 {
+            self.past_protected(protected.kind, protected.at);
+        } else {
+            self.phase = Phase::Protected(Protected {
+                kind: protected.kind,
+                at: protected.at,
+                length: protected.length,
+                left,
+            });
+        }
+    }
+
+    /// What follows the protected bucket, whose content stands at this place.
+    fn past_protected(&mut self, kind: Kind, at: u64)
+        requires early { at ≤ 36 }
+        ensures stands { (setting : Setting) → setting_of self.old.context ≡ setting
+            → StandsFor setting [] (at + length self.old.protected.items) self.new
+                (λ z. past_protected (comparing H D setting) kind at self.old.protected.items (at + length self.old.protected.items) z) }
+    {
+        let length = self.protected.len() as u64;
+        match refusal_of(self.protected.as_slice(), at, D) {
+            Some(refusal) => self.refuse(refusal.reason, refusal.place),
+            None => self.begin_unprotected(kind, at, at + length),
+        }
+    }
+
+    /// The unprotected bucket begins here.
+    fn begin_unprotected(&mut self, kind: Kind, protected_at: u64, at: u64)
+        requires protected_early { protected_at ≤ 36 }
+        requires early { at < 2 ^ 17 }
+        ensures stands { (setting : Setting) (pairs : List Pair) → setting_of self.old.context ≡ setting
+            → bucket_of D (placed_at protected_at self.old.protected.items) ≡ Ok pairs
+            → StandsFor setting [] at self.new (λ z. unprotected (comparing H D setting) kind self.old.protected.items pairs at z) }
+    {
+        self.unprotected.clear();
+        self.walker = Walker::new(H);
+        self.phase = Phase::Unprotected(Unprotected {
+            kind,
+            protected_at,
+            at,
+        });
+    }
+
+    /// Takes the next byte of the unprotected bucket.
+    pub(crate) fn unprotected(&mut self, unprotected: Unprotected, byte: u8)
+        requires phase { self.old.phase ≡ Phase.Unprotected unprotected }
+        ensures stands { (setting : Setting) (B : List ℕ) (n : ℕ) (reading : List ℕ → Reading) → StandsFor setting B n self.old reading
+            → StandsFor setting B (n + 1) self.new (λ z. reading (byte ∷ z)) }
+    {
+        // What this says of reading is all that the proof rests on.
+        read_stays();
+        let at = unprotected.at;
+        append_byte(&mut self.unprotected, byte);
+        match self.walker.put(byte) {
+            Step::Going => {}
+            Step::Done => self.past_unprotected(unprotected.kind, unprotected.protected_at, at),
+            Step::Fault(refusal) => self.refuse(refusal.reason, at.saturating_add(refusal.place)),
+        }
+    }
+}

@@ -1,0 +1,9 @@
+use Rattle.std.proofs.Common.{◌≡◌, ℕ, ◌+◌, ◌-◌, ◌<◌, ◌≤◌, List, [], ◌∷◌, ◌++◌, length, Some, None, Ok, Err, Result, true, false, refl, sym, ap, subst, ◌∙◌, arith, length-append, zero-add, add-zero, append_assoc}
+use Rattle.cose_msg.specs.Phases.{nothing_told}
+use Rattle.cose_msg.proofs.verifier.Verifier.past_array_head.Goals as goal
+
+pub returns-in-Some : goal.returns-in-Some
+returns-in-Some g c = record { stands = λ setting e. rw (← c.in-Some.ensures) (c.refuse.ensures setting [] c.args.at nothing_told e refl) }
+
+pub returns-in-None : goal.returns-in-None
+returns-in-None g c = record { stands = λ setting e. rw (← c.in-None.ensures) (c.begin_protected_head.ensures.stands setting e) }

@@ -1,0 +1,9 @@
+use Rattle.std.proofs.Common.{◌≡◌, ℕ, ◌+◌, ◌-◌, ◌<◌, ◌≤◌, List, [], ◌∷◌, ◌++◌, length, Some, None, Ok, Err, Result, true, false, refl, sym, ap, subst, ◌∙◌, arith, length-append, zero-add, add-zero, append_assoc}
+use Rattle.cose_msg.specs.Phases.{nothing_told}
+use Rattle.cose_msg.proofs.verifier.Verifier.past_tag.Goals as goal
+
+pub returns-in-Ok : goal.returns-in-Ok
+returns-in-Ok g c = record { stands = λ setting e. rw c.in-Ok.is (c.begin_array_head.ensures.stands setting e) }
+
+pub returns-in-Err : goal.returns-in-Err
+returns-in-Err g c = record { stands = λ setting e. rw c.in-Err.is (c.refuse.ensures setting [] c.args.at nothing_told e refl) }
