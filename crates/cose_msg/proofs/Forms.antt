@@ -1,5 +1,5 @@
 -- The laws of each form of a phase: a settled reading stays, and one that isn't settled is Truncated where the bytes end.
-use Rattle.std.proofs.Common.{◌≡◌, ℕ, ◌+◌, ◌-◌, ◌<◌, ◌≤◌, ◌⊎◌, inl, inr, Bool, true, false, cond, List, [], ◌∷◌, ◌++◌, length, take, drop, Option, Some, None, Result, Ok, Err, refl, sym, ap, subst, ◌∙◌, arith, length-append, length-drop}
+use Rattle.std.proofs.Common.{◌≡◌, ℕ, ◌+◌, ◌≤◌, inl, inr, Bool, true, false, cond, List, ◌++◌, length, take, drop, Option, Some, None, Result, Ok, Err, refl, sym, ap, subst, ◌∙◌, arith, length-append, length-drop}
 use Rattle.std.specs.Prelude.{nat_lt}
 use Rattle.std.proofs.lemmas.Bool.{cases_lt, le-ltb, lt-ltb}
 use Rattle.std.proofs.lemmas.List.{take-append-le, drop-append-le}
@@ -11,12 +11,12 @@ use Rattle.cose_head.specs.declared.reason.Reason.TheVariants.{Truncated}
 use Rattle.cose_head.specs.declared.refusal.Refusal.{Refusal}
 use Rattle.cose_head.specs.Head.{bare_head}
 use Rattle.cose_head.specs.Item.{Item}
-use Rattle.cose_head.specs.Laws.{HeadIsSpelled, HeadStays, IsSettled, ReadStays, ReadSteps, Steps, more, more_after}
+use Rattle.cose_head.specs.Laws.{HeadIsSpelled, HeadStays, ReadStays, ReadSteps, Steps, more}
 use Rattle.cose_head.specs.Measured.{left_of}
 use Rattle.cose_head.specs.Reading.{Left, Outcome, read}
 use Rattle.cose_msg.specs.Answer.{refused}
 use Rattle.cose_msg.specs.Laws.{Stays, EndsTruncated}
-use Rattle.cose_msg.specs.Reading.{Told, Reading, Phase, Next, settled, stop, cut, past_head, with_head, with_string, is_truncated, past_item, with_item, unless, unless_fault, with_value}
+use Rattle.cose_msg.specs.Reading.{Told, Reading, Phase, Next, stop, cut, past_head, with_head, with_string, is_truncated, past_item, with_item, unless, unless_fault, with_value}
 
 -- Both laws of a phase.
 pub record Lawful (phase : Phase) : Type 0 where
