@@ -5,3 +5,6 @@ mod WorkedFronts
 mod WorkedHeaders
 mod WorkedChoices
 mod WorkedPayloads
+mod WorkedComparisons
+mod WorkedLimits
+mod WorkedShapes

@@ -1,5 +1,5 @@
 -- What the worked examples of messages share: keys, contexts, and the front of a message.
-use Rattle.std.specs.Prelude.{◌≡◌, ℕ, ◌+◌, ◌-◌, ◌*◌, ℤ, pos, not, ◌==◌, nat_lt, if◌then◌else◌, List, [], ◌∷◌, map, filter, replicate, codes, true, false, Option, None, Some}
+use Rattle.std.specs.Prelude.{◌≡◌, ℕ, zero, suc, ◌+◌, ◌-◌, ◌*◌, ℤ, pos, not, ◌==◌, nat_lt, if◌then◌else◌, List, [], ◌∷◌, map, filter, replicate, codes, true, false, Option, None, Some}
 use Prim.Native.String.{String}
 use Rattle.std.specs.Str.{is_utf8, chars}
 use Rattle.cose_head.specs.Head.{bare_head}
@@ -10,7 +10,7 @@ use Rattle.cose_map.specs.Bucket.{bucket_of, bucket_table}
 use Rattle.cose_map.specs.Choice.{chosen}
 use Rattle.cose_map.specs.KeyValue.{KeyValue, symmetric, elliptic, coordinate}
 use Rattle.cose_map.specs.Label.{LabelValue, number}
-use Rattle.cose_map.specs.Maps.{check_pairs}
+use Rattle.cose_map.specs.Maps.{Pair, check_pairs}
 use Rattle.cose_map.specs.PairFault.{pair_faults}
 use Rattle.cose_msg.specs.declared.context.Wanted.TheVariants as wants
 use Rattle.cose_msg.specs.Answer.{Answer}
@@ -29,6 +29,11 @@ bytes_of (high ∷ low ∷ others) = (16 * digit high + digit low) ∷ bytes_of 
 
 abbrev pub hex : String → List ℕ
 hex text = bytes_of (filter (λ code. not (code == 0x20)) (codes text))
+
+-- So many bytes, whatever they are.
+abbrev pub any : (ℕ → ℕ) → ℕ → List ℕ
+any byte zero = []
+any byte (suc n) = byte n ∷ any byte n
 
 -- A table: bytes, and what they come to.
 abbrev pub Gives : {A : Type 0} → (List ℕ → A) → List (List ℕ × A) → Type 0
@@ -70,3 +75,15 @@ for_five = secret None (Some (number (pos 5))) None ∷ []
 -- A point of P-256, any one, which may name operations.
 abbrev pub point : Option (List ℤ) → KeyValue
 point operations = record { kid = None; alg = None; operations = operations; material = elliptic 1 (replicate 32 7) (coordinate (replicate 32 8)) }
+
+-- The pair of an algorithm: its label stands at this place, and its value behind that.
+abbrev pub algorithm_at : ℕ → ℕ → Pair
+algorithm_at place value = record {
+  name = number (pos 1);
+  label = record { bytes = 1 ∷ []; place = place };
+  value = record { bytes = value ∷ []; place = place + 1 };
+}
+
+-- In a protected bucket of this pair alone.
+abbrev pub algorithm : ℕ → Pair
+algorithm value = algorithm_at 4 value
