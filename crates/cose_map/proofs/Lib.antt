@@ -8,4 +8,6 @@ pub mod WorkedKeys
 pub mod KeyItems
 pub mod WorkedChoice
 pub mod LabelOrders
+pub mod EachFault
 pub mod Inside
+pub mod Reasons

@@ -22,3 +22,4 @@ pub mod Algorithm
 pub mod Choice
 pub mod Chosen
 pub mod Inside
+pub mod Reasons

@@ -2,6 +2,7 @@
 
 ghost use Rattle.cose_map.specs.Inside.{MapIsRefusedInside, ReadIsRefusedInside, BucketIsRefusedInside, KeyIsRefusedInside, BucketEndsInside, PairIsRefusedInside};
 ghost use Rattle.cose_map.specs.LeastFault.{NoLeastOfNone, LeastIsAmong, NoneBeforeLeast};
+ghost use Rattle.cose_map.specs.Reasons.{MapIsRefusedFor, PairIsRefusedFor, ChoiceIsRefusedFor};
 
 use cose_head::laws::{children_are_of_tree, read_steps};
 
@@ -26,4 +27,11 @@ pub fn least_fault_is_least()
     ensures none { NoLeastOfNone }
     ensures among { LeastIsAmong }
     ensures least { NoneBeforeLeast }
+{}
+
+/// Which reasons a refusal of each call has.
+pub fn refusals_have_their_reasons()
+    ensures map { MapIsRefusedFor }
+    ensures two_buckets { PairIsRefusedFor }
+    ensures choice { ChoiceIsRefusedFor }
 {}
