@@ -10,4 +10,5 @@ pub mod WorkedChoice
 pub mod LabelOrders
 pub mod EachFault
 pub mod Inside
+pub mod ReadReasons
 pub mod Reasons

@@ -1,8 +1,8 @@
 -- For which reasons maps, buckets, keys, key sets, two buckets together and the choice of the key are refused: an answer is
 -- a value, or a refusal whose reason has a property, and this goes through what follows it.
-use Rattle.std.proofs.Common.{◌≡◌, ℕ, zero, suc, ◌<◌, Bool, true, false, List, [], ◌∷◌, ◌++◌, length, Option, Some, None, Ok, Err, if◌then◌else◌, lit<, refl, sym, arith}
-use Rattle.std.specs.Prelude.{◌≢◌, ⊤, Result, IfErr, IfSome, ℤ, pos, nat_lt, ◌==◌, find, fold, flat_map, filter_map}
-use Rattle.std.specs.List.{AllByRecursion, Contains}
+use Rattle.std.proofs.Common.{◌≡◌, ℕ, zero, suc, ◌<◌, Bool, true, false, not, List, [], ◌∷◌, ◌++◌, length, Option, Some, None, Ok, Err, if◌then◌else◌, lit<, refl, sym, ap, arith}
+use Rattle.std.specs.Prelude.{◌≢◌, ⊤, Result, IfErr, IfSome, ℤ, pos, nat_lt, ◌==◌, ◌&&◌, find, fold, flat_map, filter_map}
+use Rattle.std.specs.List.{AllByRecursion, Contains, list_all}
 use Rattle.std.specs.Ordering.{int_eq}
 use Rattle.std.proofs.lemmas.Bool.{cond_both}
 use Rattle.std.proofs.lemmas.List.Elements.{All-from_recursion, All-contains, Contains-append_left, Contains-append_right}
@@ -14,6 +14,7 @@ use Rattle.cose_head.specs.Item.{Item}
 use Rattle.cose_head.specs.Laws.{ReadSteps, Steps}
 use Rattle.cose_head.specs.Measured.{left_of}
 use Rattle.cose_head.specs.Placed.{Placed, look, is_a_map, integer_in, bytes_in, is_a_text, truth_in, children_of}
+use Rattle.cose_head.specs.Reason.{number_of}
 use Rattle.cose_head.specs.Reading.{Left, Outcome, read, span_of}
 use Rattle.cose_map.specs.declared.curve.Curve.{Curve}
 use Rattle.cose_map.specs.Bucket.{bucket_of, bucket_form, bucket_table, is_bytes, value_of, crit_of}
@@ -28,6 +29,7 @@ use Rattle.cose_map.specs.Material.{present, member, k, crv, x, y, d, secret_in,
 use Rattle.cose_map.specs.PairFault.{fault_if, critical_faults, element_faults, all_element_faults, crit_faults, is_understood, unprotected_faults, both_ivs, pair_faults, least, pair_fault}
 use Rattle.cose_map.specs.Reasons.{item_reasons, map_reasons, bucket_reasons, key_reasons, key_set_reasons, pair_reasons, choice_reasons, RefusedFor, FindsFaults}
 use Rattle.cose_map.proofs.EachFault.{all_any, pair_fault_has}
+use Rattle.cose_map.proofs.ReadReasons.{read_reasons, read_refused}
 
 -- refusals whose reasons have a property
 module _ (P : Reason → Type 0) where
@@ -168,16 +170,13 @@ unfolding key_table
 key_finds name value = bad_if (key_form name value)
 
 -- the reasons of reading, but for the first, where bytes are missing
-abbrev read_reasons : List Reason
-read_reasons = Truncated ∷ Reserved ∷ Indefinite ∷ BadSimple ∷ TooDeep ∷ PastRoom ∷ []
-
 not_first : (reason : Reason) → Contains read_reasons reason → (reason ≡ Truncated → ⊥) → Contains item_reasons reason
 not_first reason (zero, within, e) whole = absurd (whole (sym e))
 not_first reason (suc k, within, e) whole =
     Contains-append_left (Reserved ∷ Indefinite ∷ BadSimple ∷ TooDeep ∷ PastRoom ∷ []) (Trailing ∷ []) reason (k, omega arith, e)
 
 -- with what is known of reading
-module _ (steps : ReadSteps) (reads : (depth : ℕ) (l : Left) → IfErr (read depth l) (λ refusal. Contains read_reasons refusal.reason)) where
+module _ (steps : ReadSteps) where
   span_refused_for : (p : Placed) (found : Outcome Item) → Steps 1 (left_of p.bytes (length p.bytes) 0) found → IfErr found (λ refusal. Contains read_reasons refusal.reason) →
       RefusedFor item_reasons (past_span p (span_of found))
   span_refused_for p (Ok found) s t =
@@ -186,7 +185,7 @@ module _ (steps : ReadSteps) (reads : (depth : ℕ) (l : Left) → IfErr (read d
 
   pub item_refused_for : (depth : ℕ) (p : Placed) → RefusedFor item_reasons (whole depth p)
   item_refused_for depth p =
-      let l = left_of p.bytes (length p.bytes) 0 in span_refused_for p (read depth l) (steps depth l) (reads depth l)
+      let l = left_of p.bytes (length p.bytes) 0 in span_refused_for p (read depth l) (steps depth l) (read_refused depth l)
 
   pub read_refused_for : (reasons : List Reason) (table : Table) → FindsFaults reasons table → (depth : ℕ) (p : Placed) →
       RefusedFor (item_reasons ++ (map_reasons ++ reasons)) (read_map table depth p)
@@ -245,9 +244,22 @@ choice_refused_for q keys = cond_both (is_answerable q.kind q.protected_alg q.un
     (λ answer. IfErr answer (Contains choice_reasons)) (λ e. one_refused q (filter_map (fitting q) keys)) (λ e. (1, lit< tt, refl))
 
 -- none of the reasons is Truncated
-module _ (reasons : List Reason) (none : AllByRecursion (λ reason. reason ≢ Truncated) reasons) where
+abbrev is_other : Reason → Bool
+is_other reason = not (number_of reason == 1)
+
+both : (a b : Bool) → (a && b) ≡ true → (a ≡ true) × (b ≡ true)
+both true b e = (refl, e)
+both false b e = cc
+
+others : (reasons : List Reason) → list_all is_other reasons ≡ true → AllByRecursion (λ reason. reason ≢ Truncated) reasons
+others [] e = tt
+others (reason ∷ reasons) e =
+    let parts = both (is_other reason) (list_all is_other reasons) e in
+    (λ same. let no : is_other reason ≡ false = ap is_other same in cc (parts.0), others reasons parts.1)
+
+module _ (reasons : List Reason) (none : list_all is_other reasons ≡ true) where
   not_truncated : (reason : Reason) → Contains reasons reason → reason ≢ Truncated
-  not_truncated reason s = All-contains (λ reason. reason ≢ Truncated) reasons reason (All-from_recursion (λ reason. reason ≢ Truncated) reasons none) s
+  not_truncated reason s = All-contains (λ reason. reason ≢ Truncated) reasons reason (All-from_recursion (λ reason. reason ≢ Truncated) reasons (others reasons none)) s
 
   refusal_not_truncated : {A : Type 0} (answer : Read A) → RefusedFor reasons answer → IfErr answer (λ refusal. refusal.reason ≢ Truncated)
   refusal_not_truncated answer s = IfErr-weaker answer (λ refusal. Contains reasons refusal.reason) (λ refusal. refusal.reason ≢ Truncated)
@@ -256,3 +268,23 @@ module _ (reasons : List Reason) (none : AllByRecursion (λ reason. reason ≢ T
   fault_not_truncated : (found : Option Refusal) → IfSome found (λ refusal. Contains reasons refusal.reason) → IfSome found (λ refusal. refusal.reason ≢ Truncated)
   fault_not_truncated None s = tt
   fault_not_truncated (Some refusal) s = not_truncated refusal.reason s
+
+-- with what is known of reading
+module _ (steps : ReadSteps) where
+  pub bucket_not_truncated : (depth : ℕ) (p : Placed) → IfErr (bucket_of depth p) (λ refusal. refusal.reason ≢ Truncated)
+  bucket_not_truncated depth p = refusal_not_truncated bucket_reasons refl (bucket_of depth p) (bucket_refused_for steps depth p)
+
+  pub key_not_truncated : (p : Placed) → IfErr (key_of p) (λ refusal. refusal.reason ≢ Truncated)
+  key_not_truncated p = refusal_not_truncated key_reasons refl (key_of p) (key_refused_for steps p)
+
+  pub key_set_not_truncated : (bytes : List ℕ) → IfErr (keys_of bytes) (λ refusal. refusal.reason ≢ Truncated)
+  key_set_not_truncated bytes = refusal_not_truncated key_set_reasons refl (keys_of bytes) (key_set_refused_for steps bytes)
+
+pub pair_not_truncated : (protected unprotected : List Pair) (understood : List LabelValue) (after : ℕ) →
+    IfSome (pair_fault protected unprotected understood after) (λ refusal. refusal.reason ≢ Truncated)
+pair_not_truncated protected unprotected understood after =
+    fault_not_truncated pair_reasons refl (pair_fault protected unprotected understood after) (pair_refused_for protected unprotected understood after)
+
+pub choice_not_truncated : (q : Question) (keys : List KeyValue) → IfErr (chosen q keys) (λ reason. reason ≢ Truncated)
+choice_not_truncated q keys = IfErr-weaker (chosen q keys) (Contains choice_reasons) (λ reason. reason ≢ Truncated)
+    (not_truncated choice_reasons refl) (choice_refused_for q keys)
