@@ -8,6 +8,7 @@ pub mod WorkedKeys
 pub mod KeyItems
 pub mod WorkedChoice
 pub mod LabelOrders
+pub mod Searches
 pub mod EachFault
 pub mod Inside
 pub mod ReadReasons

@@ -3,6 +3,7 @@ pub mod Maps
 pub mod Views
 pub mod Pairs
 pub mod LabelOrder
+pub mod Searching
 pub mod Earlier
 pub mod Bucket
 pub mod Buckets
