@@ -1,5 +1,9 @@
+mod Heads
 mod Forms
 mod Lawful
+mod SoundForms
+mod Sound
+mod Fair
 mod WorkedMessages
 mod WorkedFronts
 mod WorkedHeaders

@@ -1,8 +1,9 @@
 -- What holds of the reading of a message.
-use Rattle.std.specs.Prelude.{◌≡◌, ℕ, ◌+◌, List, ◌++◌, length, true, false}
+use Rattle.std.specs.Prelude.{◌≡◌, ◌≢◌, ◌↔◌, ℕ, ◌+◌, ◌≤◌, List, ◌++◌, length, true, false, IfErr, ⊤}
 use Rattle.cose_head.specs.declared.reason.Reason.TheVariants.{Truncated}
-use Rattle.cose_msg.specs.Answer.{refused}
-use Rattle.cose_msg.specs.Message.{Decides, Setting, message, verdict_of, verifying}
+use Rattle.cose_msg.specs.declared.verdict.Verdict.TheVariants.{Authentic, Refused}
+use Rattle.cose_msg.specs.Answer.{Answer, decided, complete, shaped, refused, Headers, Whole}
+use Rattle.cose_msg.specs.Message.{Decides, Setting, message, verdict_of, uncompared, comparing, verifying, inspecting}
 use Rattle.cose_msg.specs.Reading.{Phase}
 use Rattle.cose_msg.specs.Rules.{Rules}
 
@@ -29,3 +30,43 @@ abbrev pub VerdictStays : Type 0
 VerdictStays = (room nesting : ℕ) (setting : Setting) (decides : Decides) (bytes more : List ℕ) →
     (message (verifying room nesting setting decides) bytes).settled ≡ true →
     verdict_of room nesting setting decides (bytes ++ more) ≡ verdict_of room nesting setting decides bytes
+
+-- A refusal for another reason than that bytes are missing, or no refusal.
+abbrev pub IsDefinite : Answer → Type 0
+IsDefinite (decided (Refused refusal)) = refusal.reason ≢ Truncated
+IsDefinite (decided (Authentic kind alg payload taken)) = ⊤
+IsDefinite (complete whole) = ⊤
+IsDefinite (shaped kind payload auth taken) = ⊤
+
+-- A refusal stands no later than a place, and a message ends no later.
+abbrev pub StandsBy : ℕ → Answer → Type 0
+StandsBy end (decided (Refused refusal)) = refusal.place ≤ end
+StandsBy end (decided (Authentic kind alg payload taken)) = taken ≤ end
+StandsBy end (complete whole) = whole.taken ≤ end
+StandsBy end (shaped kind payload auth taken) = taken ≤ end
+
+-- What the rules themselves answer is never Truncated, and stands within the message.
+pub record AreFair (rules : Rules) : Type 0 where
+  pub choice : (headers : Headers) → IfErr (rules.choice headers) (λ reason. reason ≢ Truncated)
+  pub definite : (whole : Whole) → IsDefinite (rules.finish whole)
+  pub inside : (whole : Whole) → whole.auth_at ≤ whole.taken → StandsBy whole.taken (rules.finish whole)
+
+-- The rules of verifying and inspecting are such.
+pub record AllAreFair : Type 0 where
+  pub uncompared : (room nesting : ℕ) (setting : Setting) → AreFair (uncompared room nesting setting)
+  pub comparing : (room nesting : ℕ) (setting : Setting) → AreFair (comparing room nesting setting)
+  pub verifying : (room nesting : ℕ) (setting : Setting) (decides : Decides) → AreFair (verifying room nesting setting decides)
+  pub inspecting : (room nesting : ℕ) (setting : Setting) → AreFair (inspecting room nesting setting)
+
+-- Then of a settled reading nothing is Truncated.
+abbrev pub MessageIsDefinite : Type 0
+MessageIsDefinite = (rules : Rules) → AreFair rules → (bytes : List ℕ) → (message rules bytes).settled ≡ true → IsDefinite (message rules bytes).answer
+
+-- So it isn't settled exactly where it is Truncated at the number of bytes.
+abbrev pub OpenIsTruncated : Type 0
+OpenIsTruncated = (rules : Rules) → AreFair rules → (bytes : List ℕ) →
+    ((message rules bytes).settled ≡ false) ↔ ((message rules bytes).answer ≡ refused Truncated (length bytes))
+
+-- And nothing of it stands after the bytes.
+abbrev pub MessageStandsInside : Type 0
+MessageStandsInside = (rules : Rules) → AreFair rules → (bytes : List ℕ) → StandsBy (length bytes) (message rules bytes).answer

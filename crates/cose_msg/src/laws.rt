@@ -1,8 +1,9 @@
 //! Laws of the definitions that the contracts cite. A law is a function that does nothing, and whose contract is the law.
 
-ghost use Rattle.cose_msg.specs.Laws.{MessageStays, MessageEndsTruncated, OpenEarlier, VerdictStays};
+ghost use Rattle.cose_msg.specs.Laws.{AllAreFair, MessageEndsTruncated, MessageIsDefinite, MessageStandsInside, MessageStays, OpenEarlier, OpenIsTruncated, VerdictStays};
 
 use cose_head::laws::{bare_head_is_spelling, read_stays, read_steps};
+use cose_map::laws::{refusals_are_not_truncated, refusals_stand_inside};
 
 /// What the bytes of a message come to stays when bytes follow, once it is settled, whether the message is verified or
 /// inspected. Before that it is Truncated at the number of bytes.
@@ -16,4 +17,19 @@ pub fn settled_stays()
     bare_head_is_spelling();
     read_stays();
     read_steps();
+}
+
+/// Once it is settled, what the bytes of a message come to is not Truncated: so it isn't settled exactly where it is Truncated
+/// at the number of bytes. No refusal stands after the bytes, and no message ends after them.
+pub fn nothing_stands_after_the_bytes()
+    ensures fair { AllAreFair }
+    ensures definite { MessageIsDefinite }
+    ensures unsettled { OpenIsTruncated }
+    ensures inside { MessageStandsInside }
+{
+    bare_head_is_spelling();
+    read_stays();
+    read_steps();
+    refusals_stand_inside();
+    refusals_are_not_truncated();
 }
