@@ -4,6 +4,8 @@ mod Lawful
 mod SoundForms
 mod Sound
 mod Fair
+mod Settles
+mod Bounds
 mod WorkedMessages
 mod WorkedFronts
 mod WorkedHeaders

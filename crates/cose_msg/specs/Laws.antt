@@ -1,8 +1,8 @@
 -- What holds of the reading of a message.
-use Rattle.std.specs.Prelude.{◌≡◌, ◌≢◌, ◌↔◌, ℕ, ◌+◌, ◌≤◌, List, ◌++◌, length, true, false, IfErr, ⊤}
+use Rattle.std.specs.Prelude.{◌≡◌, ◌≢◌, ◌↔◌, ℕ, ◌+◌, ◌-◌, ◌*◌, ◌^◌, ◌≤◌, min, List, ◌++◌, length, true, false, Option, Ok, IfErr, ⊤}
 use Rattle.cose_head.specs.declared.reason.Reason.TheVariants.{Truncated}
 use Rattle.cose_msg.specs.declared.verdict.Verdict.TheVariants.{Authentic, Refused}
-use Rattle.cose_msg.specs.Answer.{Answer, decided, complete, shaped, refused, Headers, Whole}
+use Rattle.cose_msg.specs.Answer.{Answer, decided, complete, shaped, refused, Chosen, Headers, Whole}
 use Rattle.cose_msg.specs.Message.{Decides, Setting, message, verdict_of, uncompared, comparing, verifying, inspecting}
 use Rattle.cose_msg.specs.Reading.{Phase}
 use Rattle.cose_msg.specs.Rules.{Rules}
@@ -70,3 +70,30 @@ OpenIsTruncated = (rules : Rules) → AreFair rules → (bytes : List ℕ) →
 -- And nothing of it stands after the bytes.
 abbrev pub MessageStandsInside : Type 0
 MessageStandsInside = (rules : Rules) → AreFair rules → (bytes : List ℕ) → StandsBy (length bytes) (message rules bytes).answer
+
+-- The most bytes of a payload; and that a tag or signature under the key that is chosen has at most so many.
+abbrev pub payload_at_most : ℕ → ℕ
+payload_at_most payload_limit = min payload_limit (2 ^ 56 - 1)
+
+abbrev pub AuthIsAtMost : ℕ → Rules → Type 0
+AuthIsAtMost most rules = (headers : Headers) (chosen : Option Chosen) (n : ℕ) → rules.choice headers ≡ Ok chosen →
+    rules.auth_fits chosen n ≡ true → n ≤ most
+
+-- So many bytes settle a message, whatever they are: 9 for each of its six heads, the room of both buckets, the payload, and
+-- the tag or signature.
+abbrev pub MessageIsBounded : Type 0
+MessageIsBounded = (rules : Rules) (most : ℕ) → AuthIsAtMost most rules → (bytes : List ℕ) →
+    2 * rules.room + 54 + payload_at_most rules.payload_limit + most ≤ length bytes → (message rules bytes).settled ≡ true
+
+-- A signature has at most 132 bytes (RFC 9053 section 2.1), and a tag fewer.
+abbrev pub VerifiedWithin : (ℕ → ℕ → Setting → Rules) → Type 0
+VerifiedWithin rules = (room nesting : ℕ) (setting : Setting) (bytes : List ℕ) →
+    2 * room + 186 + payload_at_most setting.payload_limit ≤ length bytes → (message (rules room nesting setting) bytes).settled ≡ true
+
+abbrev pub MessageIsVerifiedWithin : Type 0
+MessageIsVerifiedWithin = VerifiedWithin uncompared × VerifiedWithin comparing
+    × ((decides : Decides) → VerifiedWithin (λ room nesting setting. verifying room nesting setting decides))
+
+abbrev pub MessageIsInspectedWithin : Type 0
+MessageIsInspectedWithin = (room nesting : ℕ) (setting : Setting) (bytes : List ℕ) →
+    2 * room + 65589 + payload_at_most setting.payload_limit ≤ length bytes → (message (inspecting room nesting setting) bytes).settled ≡ true

@@ -1,6 +1,6 @@
 //! Laws of the definitions that the contracts cite. A law is a function that does nothing, and whose contract is the law.
 
-ghost use Rattle.cose_msg.specs.Laws.{AllAreFair, MessageEndsTruncated, MessageIsDefinite, MessageStandsInside, MessageStays, OpenEarlier, OpenIsTruncated, VerdictStays};
+ghost use Rattle.cose_msg.specs.Laws.{AllAreFair, MessageEndsTruncated, MessageIsBounded, MessageIsDefinite, MessageIsInspectedWithin, MessageIsVerifiedWithin, MessageStandsInside, MessageStays, OpenEarlier, OpenIsTruncated, VerdictStays};
 
 use cose_head::laws::{bare_head_is_spelling, read_stays, read_steps};
 use cose_map::laws::{refusals_are_not_truncated, refusals_stand_inside};
@@ -32,4 +32,16 @@ pub fn nothing_stands_after_the_bytes()
     read_steps();
     refusals_stand_inside();
     refusals_are_not_truncated();
+}
+
+/// A message is settled within 2H + 186 + p bytes, H being the room of a header bucket, and p the lesser of the payload's limit
+/// and 2^56 - 1: six heads have at most 9 bytes each, and a signature has at most 132 (RFC 9053 section 2.1). One that is only
+/// inspected may have a tag or signature of 65,535 bytes, so it is settled within 2H + 65,589 + p.
+pub fn messages_are_bounded()
+    ensures any { MessageIsBounded }
+    ensures verified { MessageIsVerifiedWithin }
+    ensures inspected { MessageIsInspectedWithin }
+{
+    // That an item uses no more bytes than it has room for, and is cut short only where it has room for one more.
+    read_steps();
 }
