@@ -6,6 +6,7 @@ mod Sound
 mod Fair
 mod Settles
 mod Bounds
+mod Last
 mod WorkedMessages
 mod WorkedFronts
 mod WorkedHeaders

@@ -1,10 +1,11 @@
 -- What holds of the reading of a message.
 use Rattle.std.specs.Prelude.{◌≡◌, ◌≢◌, ◌↔◌, ℕ, ◌+◌, ◌-◌, ◌*◌, ◌^◌, ◌≤◌, min, List, ◌++◌, length, true, false, Option, Ok, IfErr, ⊤}
+use Rattle.cose_head.specs.declared.reason.Reason.{Reason}
 use Rattle.cose_head.specs.declared.reason.Reason.TheVariants.{Truncated}
 use Rattle.cose_msg.specs.declared.verdict.Verdict.TheVariants.{Authentic, Refused}
 use Rattle.cose_msg.specs.Answer.{Answer, decided, complete, shaped, refused, Chosen, Headers, Whole}
-use Rattle.cose_msg.specs.Message.{Decides, Setting, message, verdict_of, uncompared, comparing, verifying, inspecting}
-use Rattle.cose_msg.specs.Reading.{Phase}
+use Rattle.cose_msg.specs.Message.{Decides, Setting, message, verdict_of, compared, verified, uncompared, comparing, verifying, inspecting}
+use Rattle.cose_msg.specs.Reading.{Reading, Phase}
 use Rattle.cose_msg.specs.Rules.{Rules}
 
 -- A settled reading stays when bytes follow.
@@ -97,3 +98,35 @@ MessageIsVerifiedWithin = VerifiedWithin uncompared × VerifiedWithin comparing
 abbrev pub MessageIsInspectedWithin : Type 0
 MessageIsInspectedWithin = (room nesting : ℕ) (setting : Setting) (bytes : List ℕ) →
     2 * room + 65589 + payload_at_most setting.payload_limit ≤ length bytes → (message (inspecting room nesting setting) bytes).settled ≡ true
+
+-- A reading with another answer made of its own.
+abbrev pub answered : (Answer → Answer) → Reading → Reading
+answered change reading = record { answer = change reading.answer; settled = reading.settled; told = reading.told }
+
+-- Where two rules differ in what a whole message comes to alone, so do the answers. Refusals before that are the same.
+abbrev pub FinishGoesLast : Type 0
+FinishGoesLast = (rules : Rules) (finish : Whole → Answer) (change : Answer → Answer) →
+    ((reason : Reason) (place : ℕ) → change (refused reason place) ≡ refused reason place) →
+    ((whole : Whole) → finish whole ≡ change (rules.finish whole)) →
+    (bytes : List ℕ) → message (record rules { finish = finish }) bytes ≡ answered change (message rules bytes)
+
+-- A whole message whose tag is compared then, or whose signature is decided on then.
+abbrev pub then_compared : List ℕ → Answer → Answer
+then_compared aad (complete whole) = compared aad whole.chosen whole
+then_compared aad (decided verdict) = decided verdict
+then_compared aad (shaped kind payload auth taken) = shaped kind payload auth taken
+
+abbrev pub then_verified : List ℕ → Decides → Answer → Answer
+then_verified aad decides (complete whole) = verified aad decides whole.chosen (complete whole)
+then_verified aad decides (decided verdict) = decided verdict
+then_verified aad decides (shaped kind payload auth taken) = shaped kind payload auth taken
+
+-- Comparing is reading everything and then comparing, and verifying is that and then deciding on the signature.
+abbrev pub ComparingGoesLast : Type 0
+ComparingGoesLast = (room nesting : ℕ) (setting : Setting) (bytes : List ℕ) →
+    message (comparing room nesting setting) bytes ≡ answered (then_compared setting.aad) (message (uncompared room nesting setting) bytes)
+
+abbrev pub VerifyingGoesLast : Type 0
+VerifyingGoesLast = (room nesting : ℕ) (setting : Setting) (decides : Decides) (bytes : List ℕ) →
+    message (verifying room nesting setting decides) bytes ≡
+    answered (then_verified setting.aad decides) (message (comparing room nesting setting) bytes)

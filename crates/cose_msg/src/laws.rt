@@ -1,6 +1,6 @@
 //! Laws of the definitions that the contracts cite. A law is a function that does nothing, and whose contract is the law.
 
-ghost use Rattle.cose_msg.specs.Laws.{AllAreFair, MessageEndsTruncated, MessageIsBounded, MessageIsDefinite, MessageIsInspectedWithin, MessageIsVerifiedWithin, MessageStandsInside, MessageStays, OpenEarlier, OpenIsTruncated, VerdictStays};
+ghost use Rattle.cose_msg.specs.Laws.{AllAreFair, ComparingGoesLast, FinishGoesLast, MessageEndsTruncated, MessageIsBounded, MessageIsDefinite, MessageIsInspectedWithin, MessageIsVerifiedWithin, MessageStandsInside, MessageStays, OpenEarlier, OpenIsTruncated, VerdictStays, VerifyingGoesLast};
 
 use cose_head::laws::{bare_head_is_spelling, read_stays, read_steps};
 use cose_map::laws::{refusals_are_not_truncated, refusals_stand_inside};
@@ -45,3 +45,11 @@ pub fn messages_are_bounded()
     // That an item uses no more bytes than it has room for, and is cut short only where it has room for one more.
     read_steps();
 }
+
+/// Comparing the tag and deciding on the signature come last: they change nothing but the answer of a message all of whose bytes
+/// are there. Verifying is reading the whole message, then comparing, then deciding.
+pub fn deciding_goes_last()
+    ensures any { FinishGoesLast }
+    ensures comparing { ComparingGoesLast }
+    ensures verifying { VerifyingGoesLast }
+{}
