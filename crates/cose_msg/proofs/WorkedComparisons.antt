@@ -11,6 +11,7 @@ use Rattle.cose_mac.specs.declared.alg.Alg.{Alg}
 use Rattle.cose_mac.specs.declared.alg.Alg.TheVariants.{Hmac64, Hmac256, Es256}
 use Rattle.cose_mac.specs.Algorithm.{mac, digest_of}
 use Rattle.cose_mac.specs.Structure.{mac_structure, sig_structure}
+use Rattle.cose_map.specs.KeyValue.{KeyValue, symmetric}
 use Rattle.cose_msg.specs.declared.context.Wanted.TheVariants as wants
 use Rattle.cose_msg.specs.declared.verdict.Verdict.{Verdict}
 use Rattle.cose_msg.specs.declared.verdict.Verdict.TheVariants.{Authentic, Refused}
@@ -75,6 +76,22 @@ empty_protected : (byte : ℕ → ℕ) → Gives (λ front. comparison (under fo
     (hex "d18442b800a10105 426869 5820", if_hmac_of "84644d4143304040426869" (any byte 32) 11 45) ∷ [])
 unfolding reading structure mac_structure shortest shortest_all shortest_head
 empty_protected byte = refl
+
+-- Else it is authenticated as it came.
+as_received : (byte : ℕ → ℕ) →
+    comparison (under plain) (hex "d18444a1180105a0 426869 5820" ++ any byte 32) ≡ if_hmac_of "84644d41433044a118010540426869" (any byte 32) 11 45
+unfolding reading structure mac_structure shortest shortest_all shortest_head
+as_received byte = refl
+
+-- The secret is that of the key that was chosen, here by its identifier.
+abbrev other_secret : KeyValue
+other_secret = record (secret (Some (hex "31")) None None) { material = symmetric (hex "61") }
+
+chosen_secret : (byte : ℕ → ℕ) →
+    comparison (under (other_secret ∷ secret (Some (hex "32")) None None ∷ [])) (hex "d18443a10105a1044132 426869 5820" ++ any byte 32) ≡
+    if_hmac_of "84644d41433043a1010540426869" (any byte 32) 13 47
+unfolding reading structure mac_structure shortest shortest_all shortest_head
+chosen_secret byte = refl
 
 -- The externally supplied data are authenticated.
 external_data : (byte : ℕ → ℕ) →

@@ -23,11 +23,19 @@ first_heads : Gives (verdict plain) (
     (hex "d860", refused Encrypted 0) ∷
     (hex "d861", refused SeveralParties 0) ∷
     (hex "d862", refused SeveralParties 0) ∷
+    (hex "cf", refused WrongTag 0) ∷
     (hex "d3", refused WrongTag 0) ∷
+    (hex "d83c", refused WrongTag 0) ∷
+    (hex "d83e", refused WrongTag 0) ∷
+    (hex "d85f", refused WrongTag 0) ∷
+    (hex "d863", refused WrongTag 0) ∷
     (hex "d9d9f7", refused WrongTag 0) ∷
     (hex "00", refused WrongType 0) ∷
+    (hex "20", refused WrongType 0) ∷
     (hex "43", refused WrongType 0) ∷
-    (hex "a4", refused WrongType 0) ∷ [])
+    (hex "60", refused WrongType 0) ∷
+    (hex "a4", refused WrongType 0) ∷
+    (hex "f6", refused WrongType 0) ∷ [])
 unfolding reading
 first_heads = refl
 
@@ -44,6 +52,7 @@ behind_a_tag : Gives (verdict plain) (
     (hex "d184", refused Truncated 2) ∷
     (hex "d183", refused NotFour 1) ∷
     (hex "d185", refused NotFour 1) ∷
+    (hex "d19bffffffffffffffff", refused NotFour 1) ∷
     (hex "d1a0", refused WrongType 1) ∷
     (hex "d1a4", refused WrongType 1) ∷
     (hex "d1d1", refused WrongType 1) ∷
@@ -88,6 +97,7 @@ behind_the_cwt_tag : Gives (verdict plain) (
     (hex "d83dd0", refused Encrypted 2) ∷
     (hex "d83dd862", refused SeveralParties 2) ∷
     (hex "d83dd1", refused Truncated 3) ∷
+    (hex "d9003dd1", refused Truncated 4) ∷
     (hex "d83dd183", refused NotFour 3) ∷
     (hex "d83dd2a4", refused WrongType 3) ∷
     (hex "d83dd1d1", refused WrongType 3) ∷ [])

@@ -66,6 +66,7 @@ both_buckets : Gives (verdict plain) (
     (hex "d18447a201050281182a a0", refused CritAbsent 8) ∷
     (hex "d18447a201050281182a a10105", refused CritAbsent 8) ∷
     (hex "d1844aa301050281182a182a00 a0", refused CritUnknown 8) ∷
+    (hex "d18448a301050281070700 a0", refused CritUnknown 8) ∷
     (hex "d18446a20105054100 a1064100", refused BothIvs 13) ∷ [])
 unfolding reading
 both_buckets = refl
