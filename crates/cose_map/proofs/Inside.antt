@@ -1,11 +1,11 @@
 -- No refusal of a map, a bucket, a key or two buckets stands after the bytes.
-use Rattle.std.proofs.Common.{◌≡◌, ◌⊎◌, inl, inr, ℕ, ◌+◌, ◌≤◌, Bool, true, false, not, List, [], ◌∷◌, ◌++◌, length, Option, Some, None, Ok, Err, if◌then◌else◌, refl, sym, subst, arith}
-use Rattle.std.specs.Prelude.{⊤, Result, IfErr, ℤ, pos, nat_lt, ◌==◌, IfSome, option_map, find, fold, flat_map}
+use Rattle.std.proofs.Common.{◌≡◌, ◌⊎◌, inl, inr, ℕ, ◌+◌, ◌≤◌, max, Bool, true, false, List, [], ◌∷◌, ◌++◌, length, Option, Some, None, Ok, Err, if◌then◌else◌, refl, sym, subst, arith}
+use Rattle.std.specs.Prelude.{⊤, Result, IfErr, ℤ, pos, nat_lt, ◌==◌, IfSome, option_map, find}
 use Rattle.std.specs.List.{AllByRecursion}
 use Rattle.std.specs.Ordering.{int_eq}
 use Rattle.std.proofs.lemmas.Bool.{cond_both, ltb-true}
 use Rattle.cose_head.specs.declared.reason.Reason.{Reason}
-use Rattle.cose_head.specs.declared.reason.Reason.TheVariants.{NotMap, BadValue, UnknownKey, BothIvs}
+use Rattle.cose_head.specs.declared.reason.Reason.TheVariants.{NotMap, BadValue, UnknownKey}
 use Rattle.cose_head.specs.declared.refusal.Refusal.{Refusal}
 use Rattle.cose_head.specs.Item.{Item}
 use Rattle.cose_head.specs.Reading.{Outcome, read, span_of}
@@ -22,19 +22,11 @@ use Rattle.cose_map.specs.Label.{LabelValue, label_of}
 use Rattle.cose_map.specs.Maps.{Read, ◌>>=◌, refuse, Table, Pair, is_named, pair_of, has_label, name_at, new_name, value_at, label_at, check_pair, check_pairs, check_map, past_span, whole, read_map}
 use Rattle.cose_map.specs.Material.{present, member, k, crv, x, y, d, secret_in, symmetric_key, curve_of, usable_curve, curve_in, coordinate_of, coordinate_in, sign_in, y_in, private_part, elliptic_key, material_in, material_of}
 use Rattle.cose_map.specs.Views.{seen_by}
-use Rattle.cose_map.specs.PairFault.{fault_if, critical_faults, element_faults, all_element_faults, crit_faults, is_understood, unprotected_faults, both_ivs, pair_faults, goes_before, lesser, pair_fault}
+use Rattle.cose_map.specs.PairFault.{pair_fault}
+use Rattle.cose_map.proofs.EachFault.{all_both, pair_fault_has}
 
 -- lists of which each element has a property
 module _ {A : Type 0} (P : A → Type 0) where
-  all_both : (xs ys : List A) → AllByRecursion P xs → AllByRecursion P ys → AllByRecursion P (xs ++ ys)
-  all_both [] ys p q = q
-  all_both (a ∷ xs) ys p q = (p.0, all_both xs ys p.1 q)
-
-  all_through : {B : Type 0} (Q : B → Type 0) (f : B → List A) → ((b : B) → Q b → AllByRecursion P (f b)) → (bs : List B) →
-      AllByRecursion Q bs → AllByRecursion P (flat_map f bs)
-  all_through Q f each [] p = tt
-  all_through Q f each (b ∷ bs) p = all_both (f b) (flat_map f bs) (each b p.0) (all_through Q f each bs p.1)
-
   all_found : (test : A → Bool) (xs : List A) → AllByRecursion P xs → IfSome (find test xs) P
   all_found test [] p = tt
   all_found test (a ∷ xs) p = cond_both (test a) (Some a) (find test xs) (λ o. IfSome o P) (λ here. p.0) (λ later. all_found test xs p.1)
@@ -173,43 +165,6 @@ module _ (end : ℕ) where
     material_by = then_by end (EndsBy end) (λ material. ⊤) (member key pairs key_type) _ (member_by key_type)
         (λ value s. typed_by (integer_in (look value)))
 
--- the faults of two buckets
-module _ (end after : ℕ) where
-  abbrev IsInside : Refusal → Type 0
-  IsInside fault = (fault.place ≤ end) ⊎ (fault.place ≡ after)
-
-  fault_inside : (wrong : Bool) (reason : Reason) (place : ℕ) → (place ≤ end) ⊎ (place ≡ after) → AllByRecursion IsInside (fault_if wrong reason place)
-  fault_inside true reason place inside = (inside, tt)
-  fault_inside false reason place inside = tt
-
-  lesser_inside : (least : Option Refusal) (fault : Refusal) → IfSome least IsInside → IsInside fault → IfSome (lesser least fault) IsInside
-  lesser_inside None fault s inside = inside
-  lesser_inside (Some least) fault s inside =
-      cond_both (goes_before fault least) (Some fault) (Some least) (λ o. IfSome o IsInside) (λ e. inside) (λ e. s)
-
-  least_inside : (so_far : Option Refusal) (faults : List Refusal) → IfSome so_far IsInside → AllByRecursion IsInside faults → IfSome (fold lesser so_far faults) IsInside
-  least_inside so_far [] s inside = s
-  least_inside so_far (fault ∷ faults) s inside = least_inside (lesser so_far fault) faults (lesser_inside so_far fault s inside.0) inside.1
-
-  module _ (protected : List Pair) (understood : List LabelValue) where
-    critical_inside : (element : Placed) → EndsBy end element → (name : Option LabelValue) →
-        AllByRecursion IsInside (critical_faults protected understood element name)
-    critical_inside element inside None = tt
-    critical_inside element inside (Some name) = all_both IsInside _ _
-        (fault_inside (not (has_label name protected)) _ element.place (inl (omega arith)))
-        (fault_inside (not (is_understood understood name)) _ element.place (inl (omega arith)))
-
-    elements_inside : (elements : Option (List Placed)) → IfSome elements (AllByRecursion (EndsBy end)) →
-        AllByRecursion IsInside (all_element_faults protected understood elements)
-    elements_inside None s = tt
-    elements_inside (Some elements) s = all_through IsInside (EndsBy end) (element_faults protected understood)
-        (λ element inside. critical_inside element inside (label_of element)) elements s
-
-    unprotected_inside : (pair : Pair) → PairEndsBy end pair → AllByRecursion IsInside (unprotected_faults protected pair)
-    unprotected_inside pair inside = let at = inside.0 in all_both IsInside _ _
-        (fault_inside (has_label pair.name protected) _ pair.label.place (inl (omega arith)))
-        (fault_inside _ _ pair.label.place (inl (omega arith)))
-
 -- a refusal that is seen is that of the code
 pub seen_inside : {X Y : Type 0} (view : X → Y) (result : Result X Refusal) (end : ℕ) (answer : Read Y) → seen_by view result ≡ answer → RefusedBy end answer →
     IfErr result (λ refusal. refusal.place ≤ end)
@@ -264,13 +219,11 @@ module _ (steps : ReadSteps) (children : ChildrenEndInside) where
   pub bucket_ends_inside : (depth : ℕ) (p : Placed) (pairs : List Pair) → bucket_of depth p ≡ Ok pairs → PairsEndBy (end_of p) pairs
   bucket_ends_inside depth p pairs e = rw e at (bucket_inside depth p)
 
-  pub pair_refused_inside : (protected unprotected : List Pair) (understood : List LabelValue) (end after : ℕ) →
-      PairsEndBy end protected → PairsEndBy end unprotected →
-      IfSome (pair_fault protected unprotected understood after) (λ refusal. (refusal.place ≤ end) ⊎ (refusal.place ≡ after))
-  unfolding pair_faults
-  pair_refused_inside protected unprotected understood end after p q = least_inside end after None _ tt
-      (all_both (IsInside end after) (crit_faults protected understood) _
-      (elements_inside end after protected understood (crit_of protected) (crit_inside end (value_of crit protected) (value_of_by end crit protected p)))
-      (all_both (IsInside end after) _ _
-      (all_through (IsInside end after) (PairEndsBy end) (unprotected_faults protected) (unprotected_inside end after protected understood) unprotected q)
-      (fault_inside end after (both_ivs protected unprotected) BothIvs after (inr refl))))
+  pub pair_refused_inside : (protected unprotected : List Pair) (understood : List LabelValue) (protected_end unprotected_end after : ℕ) →
+      PairsEndBy protected_end protected → PairsEndBy unprotected_end unprotected →
+      IfSome (pair_fault protected unprotected understood after) (λ refusal. (refusal.place ≤ max protected_end unprotected_end) ⊎ (refusal.place ≡ after))
+  pair_refused_inside protected unprotected understood protected_end unprotected_end after p q =
+      let end = max protected_end unprotected_end in
+      pair_fault_has (λ refusal. (refusal.place ≤ end) ⊎ (refusal.place ≡ after)) (EndsBy protected_end) (PairEndsBy unprotected_end) protected understood after
+      (λ element s. inl (omega arith)) (λ element s. inl (omega arith)) (λ pair s. let at = s.0 in inl (omega arith)) (λ pair s. let at = s.0 in inl (omega arith)) (inr refl)
+      unprotected (crit_inside protected_end (value_of crit protected) (value_of_by protected_end crit protected p)) q

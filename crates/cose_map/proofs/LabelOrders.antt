@@ -38,18 +38,18 @@ ranked_trans a b c true false v f p q = grind (arith, nat_tests)
 ranked_trans a b c false true v f p q = grind (arith, nat_tests)
 ranked_trans a b c false false v f p q = grind (arith, nat_tests)
 
-irreflexive : (a : LabelValue) → precedes a a ≡ false
+pub irreflexive : (a : LabelValue) → precedes a a ≡ false
 irreflexive a = not_own (rank a) (before (text_of a) (text_of a)) (not_before_itself (text_of a))
 
-transitive : (a b c : LabelValue) → precedes a b ≡ true → precedes b c ≡ true → precedes a c ≡ true
+pub transitive : (a b c : LabelValue) → precedes a b ≡ true → precedes b c ≡ true → precedes a c ≡ true
 transitive a b c = ranked_trans (rank a) (rank b) (rank c) (before (text_of a) (text_of b)) (before (text_of b) (text_of c)) (before (text_of a) (text_of c)) (before_trans (text_of a) (text_of b) (text_of c))
 
-passes_on : (greatest : Option LabelValue) (name later : LabelValue) → passes greatest name ≡ true → precedes name later ≡ true → passes greatest later ≡ true
+pub passes_on : (greatest : Option LabelValue) (name later : LabelValue) → passes greatest name ≡ true → precedes name later ≡ true → passes greatest later ≡ true
 passes_on None name later p q = refl
 passes_on (Some greatest) name later p q = transitive greatest name later p q
 
 -- equal labels are one
-is_same : (a b : LabelValue) → same_label a b ≡ true → a ≡ b
+pub is_same : (a b : LabelValue) → same_label a b ≡ true → a ≡ b
 is_same (number a) (number b) e = ap number ((Decides-int_eq a b).0 e)
 is_same (words a) (words b) e = ap words ((bytes_eq-Decides a b).0 e)
 is_same (number a) (words b) e = cc
@@ -60,11 +60,11 @@ neither : (a b : Bool) → not (a || b) ≡ true → (a ≡ false) × (not b ≡
 neither true b e = cc
 neither false b e = (refl, e)
 
-not_same : (b : Bool) → (b ≡ true → ⊥) → b ≡ false
+pub not_same : (b : Bool) → (b ≡ true → ⊥) → b ≡ false
 not_same true f = absurd (f refl)
 not_same false f = refl
 
-true_false : (b : Bool) → b ≡ true → b ≡ false → ⊥
+pub true_false : (b : Bool) → b ≡ true → b ≡ false → ⊥
 true_false true p q = cc
 true_false false p q = cc
 

@@ -8,4 +8,8 @@ pub mod WorkedKeys
 pub mod KeyItems
 pub mod WorkedChoice
 pub mod LabelOrders
+pub mod Searches
+pub mod EachFault
 pub mod Inside
+pub mod ReadReasons
+pub mod Reasons

@@ -1,5 +1,5 @@
 -- Where the faults of maps, buckets and keys stand: never after the bytes that were read.
-use Rattle.std.specs.Prelude.{◌≡◌, ◌⊎◌, ℕ, ◌≤◌, List, Ok, IfErr, IfSome}
+use Rattle.std.specs.Prelude.{◌≡◌, ◌⊎◌, ℕ, ◌≤◌, max, List, Ok, IfErr, IfSome}
 use Rattle.std.specs.List.{AllByRecursion}
 use Rattle.cose_head.specs.Placed.{Placed}
 use Rattle.cose_head.specs.PlacedLaws.{end_of, EndsBy}
@@ -38,6 +38,6 @@ BucketEndsInside = (depth : ℕ) (p : Placed) (pairs : List Pair) → bucket_of 
 
 -- A fault of two buckets together stands no later than the later of their ends, or at the place that comes after both.
 abbrev pub PairIsRefusedInside : Type 0
-PairIsRefusedInside = (protected unprotected : List Pair) (understood : List LabelValue) (end after : ℕ) →
-    PairsEndBy end protected → PairsEndBy end unprotected →
-    IfSome (pair_fault protected unprotected understood after) (λ refusal. (refusal.place ≤ end) ⊎ (refusal.place ≡ after))
+PairIsRefusedInside = (protected unprotected : List Pair) (understood : List LabelValue) (protected_end unprotected_end after : ℕ) →
+    PairsEndBy protected_end protected → PairsEndBy unprotected_end unprotected →
+    IfSome (pair_fault protected unprotected understood after) (λ refusal. (refusal.place ≤ max protected_end unprotected_end) ⊎ (refusal.place ≡ after))

@@ -1,11 +1,11 @@
 -- The order in which deterministic encoding puts labels (RFC 8949 section 4.2.1): the unsigned integers, the negative
 -- ones from -1 down, then the texts, shorter ones first, and those of one length by their bytes. (The integers of CBOR
 -- are below 2 ^ 64.) A label that comes after the greatest so far is new.
-use Rattle.std.specs.Prelude.{ℕ, ◌+◌, ◌^◌, pos, negsuc, Bool, true, not, List, [], length, Option, Some, None, nat_lt, ◌==◌, ◌&&◌, ◌||◌, if◌then◌else◌}
+use Rattle.std.specs.Prelude.{ℕ, ◌+◌, ◌^◌, pos, negsuc, Bool, true, false, not, List, [], ◌∷◌, length, Option, Some, None, nat_lt, ◌==◌, ◌&&◌, ◌||◌, if◌then◌else◌}
 use Rattle.std.specs.Ordering.{nat_cmp, is_lt}
 use Rattle.std.specs.Cmp.Lexicographic.{slice_cmp}
 use Rattle.std.specs.List.{list_any}
-use Rattle.cose_map.specs.Label.{LabelValue, number, words}
+use Rattle.cose_map.specs.Label.{LabelValue, number, words, same_label}
 use Rattle.cose_map.specs.Maps.{Pair}
 
 abbrev pub rank : LabelValue → ℕ
@@ -30,3 +30,18 @@ greater greatest name = if passes greatest name then Some name else greatest
 -- No label of these pairs comes after the greatest.
 abbrev pub is_greatest : Option LabelValue → List Pair → Bool
 is_greatest greatest pairs = not (list_any (λ pair. passes greatest pair.name) pairs)
+
+-- Each label of these pairs comes after the one before it, and the first after this one.
+abbrev pub rise_after : Option LabelValue → List Pair → Bool
+rise_after before [] = true
+rise_after before (pair ∷ others) = passes before pair.name && rise_after (Some pair.name) others
+
+-- The pairs from the first one on whose label is the name or comes after it.
+abbrev pub from : LabelValue → List Pair → List Pair
+from name [] = []
+from name (pair ∷ others) = if same_label name pair.name || precedes name pair.name then pair ∷ others else from name others
+
+-- The first of these pairs has the label.
+abbrev pub is_first : LabelValue → List Pair → Bool
+is_first name [] = false
+is_first name (pair ∷ others) = same_label name pair.name

@@ -3,6 +3,7 @@ pub mod Maps
 pub mod Views
 pub mod Pairs
 pub mod LabelOrder
+pub mod Searching
 pub mod Earlier
 pub mod Bucket
 pub mod Buckets
@@ -22,3 +23,4 @@ pub mod Algorithm
 pub mod Choice
 pub mod Chosen
 pub mod Inside
+pub mod Reasons

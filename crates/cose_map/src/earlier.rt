@@ -25,7 +25,7 @@ pub(crate) struct Earlier<'a> {
 }
 
 /// Whether a label comes after the greatest so far.
-fn passes(greatest: Option<Label<'_>>, name: &Label<'_>) -> bool
+pub(crate) fn passes(greatest: Option<Label<'_>>, name: &Label<'_>) -> bool
     ensures { result ≡ order.passes (option_map label_value greatest.entry) (label_value name.now) }
 {
     match greatest {

@@ -2,6 +2,8 @@
 
 ghost use Rattle.cose_map.specs.Inside.{MapIsRefusedInside, ReadIsRefusedInside, BucketIsRefusedInside, KeyIsRefusedInside, BucketEndsInside, PairIsRefusedInside};
 ghost use Rattle.cose_map.specs.LeastFault.{NoLeastOfNone, LeastIsAmong, NoneBeforeLeast};
+ghost use Rattle.cose_map.specs.Reasons.{BucketIsNotTruncated, KeyIsNotTruncated, KeySetIsNotTruncated, PairIsNotTruncated, ChoiceIsNotTruncated};
+ghost use Rattle.cose_map.specs.Reasons.{ItemIsRefusedFor, MapIsRefusedFor, ReadIsRefusedFor, BucketIsRefusedFor, KeyIsRefusedFor, KeySetIsRefusedFor, PairIsRefusedFor, ChoiceIsRefusedFor};
 
 use cose_head::laws::{children_are_of_tree, read_steps};
 
@@ -27,3 +29,31 @@ pub fn least_fault_is_least()
     ensures among { LeastIsAmong }
     ensures least { NoneBeforeLeast }
 {}
+
+/// For which reasons each call refuses: a map or bytes that are read with a table (the table's own are besides), a bucket
+/// (RFC 9052 section 3), a key and a key set (section 7), two buckets together (section 3.1), and the choice of the key.
+pub fn refusals_have_their_reasons()
+    ensures item { ItemIsRefusedFor }
+    ensures map { MapIsRefusedFor }
+    ensures read { ReadIsRefusedFor }
+    ensures bucket { BucketIsRefusedFor }
+    ensures key { KeyIsRefusedFor }
+    ensures key_set { KeySetIsRefusedFor }
+    ensures two_buckets { PairIsRefusedFor }
+    ensures choice { ChoiceIsRefusedFor }
+{
+    // What this says of reading is all that the proof rests on.
+    read_steps();
+}
+
+/// None of these refusals is `Truncated`: bytes that end too early for what stands in them are `PastRoom`.
+pub fn refusals_are_not_truncated()
+    ensures bucket { BucketIsNotTruncated }
+    ensures key { KeyIsNotTruncated }
+    ensures key_set { KeySetIsNotTruncated }
+    ensures two_buckets { PairIsNotTruncated }
+    ensures choice { ChoiceIsNotTruncated }
+{
+    // What this says of reading is all that the proof rests on.
+    read_steps();
+}

@@ -21,6 +21,7 @@ mod members;
 mod ops;
 mod pair_check;
 mod pairs;
+mod search;
 
 pub use bucket::Bucket;
 pub use choice::Query;

@@ -5,11 +5,13 @@ ghost use Rattle.cose_head.specs.ItemRef.{placed};
 ghost use Rattle.cose_head.specs.Items.{items_left};
 ghost use Rattle.cose_map.specs.Buckets.{bucket_pairs};
 ghost use Rattle.cose_map.specs.PairFault as spec;
+ghost use Rattle.cose_map.specs.Pairs.{pairs_left};
 ghost use Rattle.cose_map.specs.Views.{label_value, refusal_in};
 
 use crate::bucket::Bucket;
 use crate::header;
 use crate::label::Label;
+use crate::search::Search;
 use cose_head::{ItemRef, Items, Reason, Refusal};
 
 /// Whether one fault goes before another: by its place, and at one place by its number.
@@ -69,18 +71,19 @@ fn is_understood(label: &Label<'_>, understood: &[Label<'_>]) -> bool
 
 /// The least fault so far, with those of an element of crit.
 #[tactic(auto, using(crate::proofs::PairFaults::fold_more))]
-fn with_element(
+fn with_element<'b>(
     least: Option<Refusal>,
-    element: &ItemRef<'_>,
-    protected: &Bucket<'_>,
+    element: &ItemRef<'b>,
+    protected: &mut Search<'_, 'b>,
     understood: &[Label<'_>],
 ) -> Option<Refusal>
-    ensures { result ≡ fold spec.lesser least (spec.element_faults (bucket_pairs protected.now) (map label_value understood.now) (placed element.now)) }
+    ensures least { result ≡ fold spec.lesser least (spec.element_faults (pairs_left protected.old.pairs) (map label_value understood.now) (placed element.now)) }
+    ensures same { pairs_left protected.new.pairs ≡ pairs_left protected.old.pairs }
 {
     let Some(label) = Label::of(element) else {
         return least;
     };
-    let is_absent = !protected.has(&label);
+    let is_absent = !protected.has(label);
     let is_unknown = !is_understood(&label, understood);
     let least = with_fault(least, is_absent, Reason::CritAbsent, element.place);
     with_fault(least, is_unknown, Reason::CritUnknown, element.place)
@@ -95,9 +98,10 @@ fn least_of_elements(
 ) -> Option<Refusal>
     ensures { result ≡ spec.least (flat_map (spec.element_faults (bucket_pairs protected.now) (map label_value understood.now)) (items_left elements.entry)) }
 {
+    let mut search = Search::new(protected.pairs());
     let mut least = None;
     'elements: for element in elements {
-        least = with_element(least, &element, protected, understood);
+        least = with_element(least, &element, &mut search, understood);
     }
     least
 }
@@ -114,13 +118,14 @@ fn least_of_crit(protected: &Bucket<'_>, understood: &[Label<'_>]) -> Option<Ref
 
 /// The least fault so far, with those of a pair of the unprotected bucket.
 #[tactic(auto, using(crate::proofs::PairFaults::fold_more))]
-fn with_pair(
+fn with_pair<'b>(
     least: Option<Refusal>,
-    name: &Label<'_>,
+    name: Label<'b>,
     item: &ItemRef<'_>,
-    protected: &Bucket<'_>,
+    protected: &mut Search<'_, 'b>,
 ) -> Option<Refusal>
-    ensures { result ≡ fold spec.lesser least (spec.label_faults (bucket_pairs protected.now) (label_value name.now) item.now.place) }
+    ensures least { result ≡ fold spec.lesser least (spec.label_faults (pairs_left protected.old.pairs) (label_value name.entry) item.now.place) }
+    ensures same { pairs_left protected.new.pairs ≡ pairs_left protected.old.pairs }
 {
     let is_repeated = protected.has(name);
     let is_crit = name.is_same(&header::CRIT);
@@ -137,9 +142,10 @@ fn with_unprotected(
 ) -> Option<Refusal>
     ensures { result ≡ fold spec.lesser so_far (flat_map (spec.unprotected_faults (bucket_pairs protected.now)) (bucket_pairs unprotected.now)) }
 {
+    let mut search = Search::new(protected.pairs());
     let mut least = so_far;
     'pairs: for (name, item, _value) in unprotected.pairs() {
-        least = with_pair(least, &name, &item, protected);
+        least = with_pair(least, name, &item, &mut search);
     }
     least
 }

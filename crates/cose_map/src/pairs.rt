@@ -35,6 +35,7 @@ impl<'a> Pairs<'a> {
     ghost use Rattle.std.specs.Prelude.{◌≡◌, option_map};
     ghost use Rattle.cose_head.specs.ItemRef.{placed};
     ghost use Rattle.cose_map.specs.Bucket.{value_of};
+    ghost use Rattle.cose_map.specs.Maps.{has_label};
     ghost use Rattle.cose_map.specs.Pairs.{pairs_left};
     ghost use Rattle.cose_map.specs.Views.{label_value};
 
@@ -48,5 +49,12 @@ impl<'a> Pairs<'a> {
             }
         }
         None
+    }
+
+    /// Whether a label stands among the pairs.
+    pub(crate) fn has(&self, label: &Label<'_>) -> bool
+        ensures { result ≡ has_label (label_value label.now) (pairs_left self.now) }
+    {
+        self.get(label).is_some()
     }
 }

@@ -2,7 +2,6 @@
 use Rattle.std.specs.Prelude.{ℕ, List, Option}
 use Rattle.cose_head.specs.declared.kind.Kind.{Kind}
 use Rattle.cose_head.specs.declared.reason.Reason.{Reason}
-use Rattle.cose_head.specs.declared.refusal.Refusal.{Refusal}
 use Rattle.cose_mac.specs.declared.alg.Alg.{Alg}
 use Rattle.cose_map.specs.KeyValue.{KeyValue}
 use Rattle.cose_map.specs.Maps.{Pair}

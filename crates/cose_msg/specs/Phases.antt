@@ -1,5 +1,5 @@
 -- The phases of a message behind its tags and the head of its array (RFC 9052 sections 2, 3, 4.2 and 6.2), the last first.
-use Rattle.std.specs.Prelude.{ℕ, ◌^◌, Bool, List, [], length, Option, Some, None, Result, Ok, Err, nat_lt, nat_le, ◌==◌, ◌&&◌, ◌||◌, if◌then◌else◌}
+use Rattle.std.specs.Prelude.{ℕ, ◌^◌, Bool, List, [], Option, Some, None, Result, Ok, Err, nat_lt, nat_le, ◌==◌, ◌&&◌, ◌||◌, if◌then◌else◌}
 use Rattle.cose_head.specs.declared.head.Head.{Head}
 use Rattle.cose_head.specs.declared.kind.Kind.{Kind}
 use Rattle.cose_head.specs.declared.reason.Reason.{Reason}

@@ -7,6 +7,9 @@ use Rattle.cose_map.proofs.pair_check.with_unprotected.Given as goal
 
 -- the least so far, with what is to come, is the least of all
 abbrev pub invariant-pairs : goal.invariant-pairs
-invariant-pairs l =
-    fold lesser l.least (flat_map (unprotected_faults (bucket_pairs l.protected)) (pairs_left l.name-iterator)) ≡
-    fold lesser l.fn.so_far (flat_map (unprotected_faults (bucket_pairs l.protected)) (bucket_pairs l.unprotected))
+invariant-pairs l = record {
+  least :
+      fold lesser l.least (flat_map (unprotected_faults (bucket_pairs l.protected)) (pairs_left l.name-iterator)) ≡
+      fold lesser l.fn.so_far (flat_map (unprotected_faults (bucket_pairs l.protected)) (bucket_pairs l.unprotected));
+  searched : pairs_left l.search.pairs ≡ bucket_pairs l.protected;
+}
