@@ -11,3 +11,7 @@ pub mod Phase
 pub mod Chosen
 pub mod Verifier
 pub mod Choosing
+pub mod Intake
+pub mod SliceIntake
+pub mod Sink
+pub mod Store
