@@ -10,6 +10,7 @@ mod Bounds
 mod Last
 mod Standing
 mod Steps
+mod Waits
 mod WorkedMessages
 mod WorkedFronts
 mod WorkedHeaders

@@ -15,3 +15,5 @@ pub mod Intake
 pub mod SliceIntake
 pub mod Sink
 pub mod Store
+pub mod Kept
+pub mod Run
