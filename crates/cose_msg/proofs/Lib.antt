@@ -11,6 +11,7 @@ mod Last
 mod Standing
 mod Steps
 mod Waits
+mod Decisions
 mod WorkedMessages
 mod WorkedFronts
 mod WorkedHeaders

@@ -15,6 +15,7 @@ use Rattle.cose_msg.specs.declared.phase.Payload.{Payload}
 use Rattle.cose_msg.specs.declared.phase.Phase.{Phase}
 use Rattle.cose_msg.specs.declared.phase.Phase.TheVariants as phases
 use Rattle.cose_msg.specs.declared.verifier.Verifier.{Verifier}
+use Rattle.cose_msg.specs.Answer.{refused}
 use Rattle.cose_msg.specs.Front.{past_array_head, past_first_head, past_second_head}
 use Rattle.cose_msg.specs.Message.{Setting, comparing}
 use Rattle.cose_msg.specs.Phase.{in_payload, is_settled, want_of}
@@ -57,6 +58,12 @@ unsettled reading told place e = ap (λ (r : Reading). r.settled) e
 
 told_as : (reading : Reading) (told other : Told) (place : ℕ) → reading ≡ cut other place → told ≡ other → reading.told ≡ told
 told_as reading told other place e same = ap (λ (r : Reading). r.told) e ∙ sym same
+
+cut_at : (reading : Reading) (told : Told) (place : ℕ) {n : ℕ} → reading ≡ cut told place → n ≡ place → reading.answer ≡ refused Truncated n
+cut_at reading told place e same = ap (λ (r : Reading). r.answer) e ∙ ap (refused Truncated) (sym same)
+
+with_none : (n at : ℕ) (held : List ℕ) → n ≡ at + length held → n ≡ at + length (held ++ [])
+with_none n at held e = rw append-nil e
 
 fewer : (held more : List ℕ) (n left : ℕ) → length held + left ≡ n → length more < left → length (held ++ more) < n
 fewer held more n left count lt = omega (arith, length-append held more)
@@ -131,6 +138,28 @@ module _ {H D : ℕ} (setting : Setting) (known : Known) (told : Told) (n : ℕ)
   settled_in (phases.Signed p) h = refl
   settled_in (phases.Settled verdict) h = refl
 
+  -- Without a further byte an unsettled message is Truncated at the number of bytes.
+  truncated_in : (phase : Phase) → HoldsIn setting known told n v phase → is_settled phase ≡ false → (here phase []).answer ≡ refused Truncated n
+  unfolding here
+  truncated_in phases.FirstHead h e = cut_at _ _ _ (head_waits nothing_told (past_first_head (comparing H D setting)) 0 v.head.items h.1.0) h.1.1
+  truncated_in (phases.TagHead p) h e = cut_at _ _ _ (head_waits nothing_told (past_second_head (comparing H D setting)) p.at v.head.items h.1.0) h.1.1
+  truncated_in (phases.ArrayHead p) h e = cut_at _ _ _ (head_waits nothing_told (past_array_head (comparing H D setting) p.kind) p.at v.head.items h.1.0) h.1.1
+  truncated_in (phases.ProtectedHead p) h e = cut_at _ _ _ (head_waits nothing_told (past_protected_head (comparing H D setting) p.kind) p.at v.head.items h.1.0) h.1.1
+  truncated_in (phases.Protected p) h e = cut_at _ _ _
+      (string_waits (λ bytes. nothing_told) p.length (past_protected (comparing H D setting) p.kind) p.at (v.protected.items ++ []) (fewer v.protected.items [] p.length p.left h.1 p.some_left)) (with_none n p.at v.protected.items h.3)
+  truncated_in (phases.Unprotected p) h e = cut_at _ _ _
+      (item_waits (protected_told known.headers.protected_pairs) H D (past_unprotected (comparing H D setting) p.kind v.protected.items known.headers.protected_pairs) p.at v.unprotected.items (waits h.2)) h.3
+  truncated_in (phases.PayloadHead p) h e = cut_at _ _ _
+      (head_waits (headers_told known.headers []) (past_payload_head (comparing H D setting) known.headers (Some known.found)) p.at v.head.items h.1.0) h.1.1
+  truncated_in (phases.Payload p) h e = cut_at _ _ _
+      (string_waits (headers_told known.headers) p.length (past_payload (comparing H D setting) known.headers (Some known.found)) p.at (known.payload ++ []) (fewer known.payload [] p.length p.left h.1 p.some_left)) (with_none n p.at known.payload h.2)
+  truncated_in (phases.AuthHead p) h e = cut_at _ _ _
+      (head_waits (headers_told known.headers known.payload) (past_auth_head (comparing H D setting) known.headers (Some known.found) known.payload) p.at v.head.items h.1.0) h.1.1
+  truncated_in (phases.Auth p) h e = cut_at _ _ _
+      (string_waits (λ bytes. headers_told known.headers known.payload) p.length (finish (comparing H D setting) known.headers (Some known.found) known.payload p.head_at) p.at (v.auth.items ++ []) (fewer v.auth.items [] p.length p.left h.1 p.some_left)) (with_none n p.at v.auth.items h.2)
+  truncated_in (phases.Signed p) h e = absurd cc
+  truncated_in (phases.Settled verdict) h e = absurd cc
+
   -- Behind a payload comes a head, of which no byte is there.
   payload_ends_open : (p : Payload) → (more : List ℕ) → length (known.payload ++ more) ≡ p.length → (here (phases.Payload p) more).settled ≡ false
   unfolding here bare_head
@@ -178,3 +207,7 @@ stands_told {H} {D} {setting} {B} {n} {v} {reading} waits h = ap (λ (r : Readin
 pub stands_payload : {H D : ℕ} {setting : Setting} {B : List ℕ} {n : ℕ} {v : Verifier H D} {reading : List ℕ → Reading} → WalkerWaits v → (more : List ℕ) → StandsFor setting B n v reading → in_payload v.phase ≡ true → length more ≤ want_of v.phase → (reading more).settled ≡ false
 unfolding here
 stands_payload {H} {D} {setting} {B} {n} {v} {reading} waits more h is le = ap (λ (r : Reading). r.settled) (h.left more) ∙ payload_open setting h.known h.told n v waits v.phase h.holds is more le
+
+pub stands_truncated : {H D : ℕ} {setting : Setting} {B : List ℕ} {n : ℕ} {v : Verifier H D} {reading : List ℕ → Reading} → WalkerWaits v → StandsFor setting B n v reading → is_settled v.phase ≡ false → (reading []).answer ≡ refused Truncated n
+unfolding here
+stands_truncated {H} {D} {setting} {B} {n} {v} {reading} waits h e = ap (λ (r : Reading). r.answer) (h.left []) ∙ truncated_in setting h.known h.told n v waits v.phase h.holds e

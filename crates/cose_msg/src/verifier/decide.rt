@@ -12,7 +12,10 @@ use cose_head::{Reason, Refusal};
 const MESSAGE_LIMIT: u64 = 1 << 57;
 
 impl<'k, const H: usize, const D: usize> Verifier<'k, H, D> {
-    ghost use Rattle.cose_msg.specs.Answer.{decided};
+    ghost use Rattle.cose_map.specs.KeyView.{key_value};
+    ghost use Rattle.cose_msg.specs.declared.verifier.Chosen.{Chosen};
+    ghost use Rattle.cose_msg.specs.Answer.{decided, refused};
+    ghost use Rattle.cose_msg.specs.Hashing.{result_of};
     ghost use Rattle.cose_msg.specs.Kept.{HasTaken, answer_kept, kept_answer};
     ghost use Rattle.cose_msg.specs.Laws.{then_verified};
     ghost use Rattle.cose_msg.specs.Message.{Setting};
@@ -51,6 +54,8 @@ impl<'k, const H: usize, const D: usize> Verifier<'k, H, D> {
             → (reading []).settled ≡ is_settled self.now.phase }
         ensures payload { (setting : Setting) (B : List ℕ) (n : ℕ) (reading : List ℕ → Reading) → StandsFor setting B n self.now reading
             → (reading []).told.payload ≡ B }
+        ensures truncated { (setting : Setting) (B : List ℕ) (n : ℕ) (reading : List ℕ → Reading) → StandsFor setting B n self.now reading
+            → is_settled self.now.phase ≡ false → (reading []).answer ≡ refused Reason.Truncated n }
         // A payload doesn't settle it either: a tag or signature follows.
         ensures open_payload { (setting : Setting) (B : List ℕ) (n : ℕ) (reading : List ℕ → Reading) (more : List ℕ) → StandsFor setting B n self.now reading
             → in_payload self.now.phase ≡ true → length more ≤ want_of self.now.phase → (reading more).settled ≡ false }
@@ -111,19 +116,26 @@ impl<'k, const H: usize, const D: usize> Verifier<'k, H, D> {
         verdict
     }
 
-    /// Asks for a decision on a signature, all bytes of which are there: of its key, the digest of the structure that is signed
-    /// (RFC 9052 section 4.4) and the signature as received.
-    fn ask<E: EcVerifier>(&self, signed: Signed, ec: &E) -> Verdict
+    /// Whether the signature holds: `ec` is asked about the key, the digest of the structure that is signed (RFC 9052 section 4.4)
+    /// and the signature as received.
+    fn is_signed<E: EcVerifier>(&self, ec: &E) -> bool
+        ensures { (chosen : Chosen) → self.now.chosen ≡ Some chosen
+            → result ≡ E.decides ec.now (key_value chosen.key) (result_of self.now.hashing) self.now.auth.items }
+    {
+        match &self.chosen {
+            Some(chosen) => ec.holds(&chosen.key, self.hashing.result(), self.auth.as_slice()),
+            None => false,
+        }
+    }
+
+    /// The verdict on a message with a signature, all bytes of which are there.
+    fn signed_verdict<E: EcVerifier>(&self, signed: Signed, ec: &E) -> Verdict
         requires phase { self.now.phase ≡ Phase.Signed signed }
         ensures answer { (setting : Setting) (B : List ℕ) (n : ℕ) (reading : List ℕ → Reading) → StandsFor setting B n self.now reading
             → then_verified setting.aad (E.decides ec.now) (reading []).answer ≡ decided result }
         ensures counted { Counts result signed.taken }
     {
-        let holds = match &self.chosen {
-            Some(chosen) => ec.holds(&chosen.key, self.hashing.result(), self.auth.as_slice()),
-            None => false,
-        };
-        if holds {
+        if self.is_signed(ec) {
             return Verdict::Authentic {
                 kind: signed.kind,
                 alg: signed.alg,
@@ -147,10 +159,11 @@ impl<'k, const H: usize, const D: usize> Verifier<'k, H, D> {
         ensures counted { (setting : Setting) (B : List ℕ) (reading : List ℕ → Reading) → StandsFor setting B self.old.taken self.old reading
             → Counts result self.old.taken }
     {
+        self.waits();
         match self.phase {
             Phase::Settled(verdict) => verdict,
             Phase::Signed(signed) => {
-                let verdict = self.ask(signed, ec);
+                let verdict = self.signed_verdict(signed, ec);
                 self.keep(verdict)
             }
             Phase::FirstHead

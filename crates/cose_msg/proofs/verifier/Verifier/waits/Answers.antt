@@ -1,6 +1,6 @@
 use Rattle.std.proofs.Common.{◌≡◌, ℕ, ◌<◌, ◌≤◌, List, [], ◌++◌, length, arith}
 use Rattle.std.proofs.lemmas.List.{append-nil}
-use Rattle.cose_msg.proofs.Waits.{WalkerWaits, stands_open, stands_settled, stands_told, stands_payload}
+use Rattle.cose_msg.proofs.Waits.{WalkerWaits, stands_open, stands_settled, stands_told, stands_payload, stands_truncated}
 use Rattle.cose_msg.proofs.verifier.Verifier.waits.Goals as goal
 
 -- The walker wants a byte at least, so it isn't settled without one.
@@ -21,3 +21,6 @@ returns-clause-payload g c = λ setting B n reading h. stands_told (walker g c) 
 
 pub returns-clause-open_payload : goal.returns-clause-open_payload
 returns-clause-open_payload g c = λ setting B n reading more h is le. stands_payload (walker g c) more h is le
+
+pub returns-clause-truncated : goal.returns-clause-truncated
+returns-clause-truncated g c = λ setting B n reading h e. stands_truncated (walker g c) h e
