@@ -12,6 +12,7 @@ mod Standing
 mod Steps
 mod Waits
 mod Decisions
+mod Runs
 mod WorkedMessages
 mod WorkedFronts
 mod WorkedHeaders
