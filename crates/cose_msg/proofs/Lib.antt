@@ -13,6 +13,7 @@ mod Steps
 mod Waits
 mod Decisions
 mod Runs
+mod PayloadLimit
 mod WorkedMessages
 mod WorkedFronts
 mod WorkedHeaders

@@ -1,27 +1,29 @@
 -- A run of the verifier so far, and its exits.
-use Rattle.std.proofs.Common.{◌≡◌, ℕ, ◌+◌, ◌-◌, ◌*◌, ◌^◌, ◌<◌, ◌≤◌, Bool, true, false, List, [], ◌∷◌, ◌++◌, length, take, Option, None, Some, Ok, Err, refl, sym, ap, subst, ◌∙◌, append_assoc, arith, inl, inr, length-append}
-use Rattle.std.specs.Prelude.{Result, min, ◌||◌, ◌⊎◌}
+use Rattle.std.proofs.Common.{◌≡◌, ℕ, zero, suc, ◌+◌, ◌-◌, ◌*◌, ◌^◌, ◌<◌, ◌≤◌, Bool, true, false, List, [], ◌∷◌, ◌++◌, length, take, Option, None, Some, Ok, Err, refl, sym, ap, subst, ◌∙◌, append_assoc, arith, inl, inr, length-append}
+use Rattle.std.specs.Prelude.{Result, IfOk, IsOk, OnOk, is_err, min, ◌||◌, ◌⊎◌}
 use Rattle.std.specs.Io.KnownBytes.{Appends, Consumes, IsAtEnd}
 use Rattle.std.proofs.KnownBytes.{Consumes-nil, Consumes-trans, Appends-nil, Appends-trans}
 use Rattle.std.proofs.lemmas.Bool.{cases_lt}
 use Rattle.std.proofs.lemmas.List.{append-nil, take-append-le, length-take}
 use Rattle.std.proofs.Math.Nat.{min-le_right}
 use Rattle.std.proofs.Math.Seq.{take-append-add}
+use Rattle.cose_msg.specs.declared.intake.IntakeFault.{IntakeFault}
 use Rattle.cose_msg.specs.declared.phase.Phase.{Phase}
 use Rattle.cose_msg.specs.declared.phase.Phase.TheVariants as phases
+use Rattle.cose_msg.specs.declared.sink.SinkFault.{SinkFault}
 use Rattle.cose_msg.specs.declared.verdict.Stop.{Stop}
 use Rattle.cose_msg.specs.declared.verdict.Stop.TheVariants as stops
 use Rattle.cose_msg.specs.declared.verdict.Verdict.{Verdict}
 use Rattle.cose_msg.specs.declared.verifier.Verifier.{Verifier}
 use Rattle.cose_msg.specs.Answer.{Answer, decided}
-use Rattle.cose_msg.specs.Intake.{KeepsOrForgets, TakesInAll}
+use Rattle.cose_msg.specs.Intake.{KeepsOrForgets, TakesInAll, is_end, marks}
 use Rattle.cose_msg.specs.Kept.{HasTaken, answer_kept, verdict_in}
 use Rattle.cose_msg.specs.Laws.{AllAreFair, MessageStandsInside, VerdictStays, VerifiedWithin, VerifyingGoesLast, StandsBy, answered, payload_at_most, then_verified}
 use Rattle.cose_msg.specs.Message.{Decides, Setting, comparing, message, verdict_of, verifying}
 use Rattle.cose_msg.specs.Phase.{grown, in_payload, is_settled, want_of}
 use Rattle.cose_msg.specs.Reading.{Reading, settled}
 use Rattle.cose_msg.specs.Run.{IsVerdict, Run, read_as}
-use Rattle.cose_msg.specs.Sink.{AppendsFront}
+use Rattle.cose_msg.specs.Sink.{AppendsFront, Puts}
 use Rattle.cose_msg.specs.Verifier.{Counts, HoldsIn, StandsFor, left_in}
 
 pub or_false : (b other : Bool) → other ≡ false → (b || other) ≡ b
@@ -65,8 +67,8 @@ at_start {H} {D} {setting} {s} {B} {v} come contents ended sure stands = record 
 }
 
 -- What a piece is of the array that the intake wrote into.
-pub first_of : {old new : Option (List ℕ)} (n : ℕ) (into rest : List ℕ) → n ≤ length into → Consumes old new (take n into) → Consumes old new (take n (into ++ rest))
-first_of {old} {new} n into rest le h = subst (λ (t : List ℕ). Consumes old new t) (sym (take-append-le n into rest le)) h
+pub first_of : (old new : Option (List ℕ)) (n : ℕ) (into rest : List ℕ) → n ≤ length into → Consumes old new (take n into) → Consumes old new (take n (into ++ rest))
+first_of old new n into rest le h = subst (λ (t : List ℕ). Consumes old new t) (sym (take-append-le n into rest le)) h
 
 pub take_short : (n : ℕ) (l : List ℕ) → length (take n l) ≤ n
 take_short n l = omega (arith, length-take n l)
@@ -115,12 +117,11 @@ wanted_is_open (phases.Signed p) lt = absurd (omega (arith, lt))
 wanted_is_open (phases.Settled verdict) lt = absurd (omega (arith, lt))
 
 -- What of a piece is payload.
-pub payload_of : Bool → List ℕ → List ℕ
+abbrev pub payload_of : Bool → List ℕ → List ℕ
 payload_of true piece = piece
 payload_of false piece = []
 
 pub grown_by : (phase : Phase) (B piece : List ℕ) → grown phase B piece ≡ B ++ payload_of (in_payload phase) piece
-unfolding payload_of
 grown_by (phases.Payload p) B piece = refl
 grown_by phases.FirstHead B piece = sym (append-nil B)
 grown_by (phases.TagHead p) B piece = sym (append-nil B)
@@ -223,7 +224,6 @@ pub stopped_by_sink : VerifyingGoesLast → {H D : ℕ} {setting : Setting} {s B
     Consumes come_now come_after piece → ((more : List ℕ) → length more < length piece → (message (comparing H D setting) ((s ++ a.taken) ++ more)).settled ≡ false) → (message (comparing H D setting) ((s ++ a.taken) ++ piece)).settled ≡ false → in_payload v.phase ≡ true →
     (message (comparing H D setting) (((s ++ a.taken) ++ piece) ++ [])).told.payload ≡ grown v.phase (B ++ a.part) piece → AppendsFront contents_now contents_after piece →
     Run H D setting decides s B come come_after ended_after contents contents_after (Err stops.Sink) (a.taken ++ piece)
-unfolding payload_of
 stopped_by_sink goes_last {H} {D} {setting} {s} {B} {come} {come_now} {come_after} {contents} {contents_now} {contents_after} {ended} {ended_after} {sure} {sure_now} {v} decides piece a took within unsettled_yet in_it told front =
     let bytes : List ℕ = (s ++ a.taken) ++ piece in
     let regrouped : bytes ≡ s ++ (a.taken ++ piece) = append_assoc s a.taken piece in
@@ -269,6 +269,44 @@ of_all stays {H} {D} {setting} {decides} {s} {B} {come} {contents} {contents_aft
     let whole : bytes ≡ taken ++ rest = rw e at r.bytes in
     let regrouped : s ++ bytes ≡ (s ++ taken) ++ rest = ap (λ (t : List ℕ). s ++ t) whole ∙ sym (append_assoc s taken rest) in
     ap (verdict_of H D setting decides) regrouped ∙ all_settled stays H D setting decides (s ++ taken) rest verdict (read_as H D setting decides (s ++ taken)).settled refl r.answer.answer (λ unsettled_yet. (r.answer.unsettled unsettled_yet).1)
+
+pub of_any : VerdictStays → {H D : ℕ} {setting : Setting} {decides : Decides} {s B : List ℕ} {come contents contents_after : Option (List ℕ)} {ended : Bool} (answer : Result Verdict Stop) (come_after : Option (List ℕ)) (taken bytes : List ℕ) → Run H D setting decides s B come come_after ended contents contents_after answer taken → come ≡ Some bytes →
+    IfOk answer (λ verdict. verdict_of H D setting decides (s ++ bytes) ≡ decided verdict)
+of_any stays (Ok verdict) come_after taken bytes r e = of_all stays come_after taken bytes r e
+of_any stays (Err stop) come_after taken bytes r e = tt
+
+-- ---- what a failed put says
+
+pub put_failed : (old new : Option (List ℕ)) (piece : List ℕ) (result : Result (Unit {0}) SinkFault) → is_err result ≡ true → Puts old new result piece → AppendsFront old new piece
+put_failed old new piece (Ok u) e p = absurd cc
+put_failed old new piece (Err fault) e p = p
+
+pub put_done : (old new : Option (List ℕ)) (piece : List ℕ) (result : Result (Unit {0}) SinkFault) → is_err result ≡ false → Puts old new result piece → Appends old new piece
+put_done old new piece (Ok u) e p = p
+put_done old new piece (Err fault) e p = absurd cc
+
+pub promise_kept : (result : Result (Unit {0}) SinkFault) (old new n : ℕ) → is_err result ≡ false → OnOk result (old ≤ new + n) → old ≤ new + n
+promise_kept (Ok u) old new n e p = p
+promise_kept (Err fault) old new n e p = absurd cc
+
+pub marks_nothing : (was : Bool) (result : Result (Unit {0}) SinkFault) → is_err result ≡ false → marks was result ≡ was
+marks_nothing was (Ok u) e = refl
+marks_nothing was (Err fault) e = absurd cc
+
+pub is_done : (result : Result (Unit {0}) SinkFault) → is_err result ≡ true → IsOk result → ⊥
+is_done (Ok u) e p = absurd cc
+is_done (Err fault) e p = absurd cc
+
+pub not_at_end : (n : ℕ) → 0 < n → is_end {E = IntakeFault} (Ok n) ≡ false
+not_at_end zero lt = absurd (omega (arith, lt))
+not_at_end (suc n) lt = refl
+
+-- A sink that is sure of every payload doesn't fail.
+pub sure_enough : {H D : ℕ} {setting : Setting} {s B : List ℕ} {come come_now contents contents_now : Option (List ℕ)} {ended : Bool} {sure sure_now : ℕ} {v : Verifier H D} (piece known : List ℕ) → (a : Along setting s B come come_now ended contents contents_now sure sure_now v) → in_payload v.phase ≡ true → known ≡ grown v.phase (B ++ a.part) piece →
+    length known ≤ setting.payload_limit → setting.payload_limit ≤ sure → length piece ≤ sure_now
+sure_enough {H} {D} {setting} {s} {B} {come} {come_now} {contents} {contents_now} {ended} {sure} {sure_now} {v} piece known a in_it e limit enough =
+    let payload_is : known ≡ B ++ (a.part ++ piece) = e ∙ grown_by v.phase (B ++ a.part) piece ∙ rw in_it (append_assoc B a.part piece) in
+    omega (arith, a.promise, ap length payload_is, length-append B (a.part ++ piece), length-append a.part piece)
 
 -- ---- a message is settled within a number of bytes
 
