@@ -9,7 +9,7 @@ use crate::phase::{Auth, AuthHead, Phase, Signed};
 use crate::store_bytes::append;
 use crate::verdict::Verdict;
 use crate::verifier::Verifier;
-use cose_head::{Head, HeadStep, Kind, Reason, Refusal};
+use cose_head::{Head, HeadStep, Kind, Reason};
 use cose_mac::Alg;
 
 /// What is wrong with the head of a tag or signature under an algorithm.
@@ -120,7 +120,18 @@ impl<'k, const H: usize, const D: usize> Verifier<'k, H, D> {
     {
         self.hashing.finish();
         let taken = auth.at + auth.length;
-        if !auth.alg.is_mac() {
+        if auth.alg.is_mac() {
+            if self.auth.as_slice() == self.hashing.result() {
+                self.phase = Phase::Settled(Verdict::Authentic {
+                    kind: auth.kind,
+                    alg: auth.alg,
+                    payload: auth.payload,
+                    taken,
+                });
+            } else {
+                self.refuse(Reason::BadAuth, auth.head_at);
+            }
+        } else {
             self.phase = Phase::Signed(Signed {
                 kind: auth.kind,
                 alg: auth.alg,
@@ -128,15 +139,6 @@ impl<'k, const H: usize, const D: usize> Verifier<'k, H, D> {
                 payload: auth.payload,
                 taken,
             });
-        } else if self.auth.as_slice() == self.hashing.result() {
-            self.phase = Phase::Settled(Verdict::Authentic {
-                kind: auth.kind,
-                alg: auth.alg,
-                payload: auth.payload,
-                taken,
-            });
-        } else {
-            self.refuse(Reason::BadAuth, auth.head_at);
         }
     }
 }

@@ -11,6 +11,6 @@ returns g c = record { stands = λ setting known e none key same bare fed. recor
   in_setting = e;
   payload_known = none;
   payload_told = refl;
-  holds = (refl, (rw c.clear.ensures (tt, sym (add-zero c.args.at)), (record { kind_is = key.kind_is; alg_is = key.alg_is; key_is = key.key_is }, (same, (bare, fed)))));
+  holds = (refl, rw c.clear.ensures (tt, sym (add-zero c.args.at)), record { kind_is = key.kind_is; alg_is = key.alg_is; key_is = key.key_is }, same, bare, fed);
   left = λ z. rw c.clear.ensures refl;
 } }
