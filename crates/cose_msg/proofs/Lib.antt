@@ -1,3 +1,5 @@
+mod ChoiceReadings
+mod Choices
 mod Faults
 mod Forms
 mod Lawful
