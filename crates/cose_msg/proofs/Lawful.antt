@@ -11,7 +11,7 @@ use Rattle.cose_map.specs.PairFault.{pair_fault}
 use Rattle.cose_msg.specs.declared.context.Wanted.{Wanted}
 use Rattle.cose_msg.specs.declared.context.Wanted.TheVariants as wants
 use Rattle.cose_msg.specs.Answer.{Chosen, Headers, refused}
-use Rattle.cose_msg.specs.Front.{array_head_fault, past_array_head, array_head, kind_of_tag, past_tag, cose_tag, past_second_head, second_head, past_untagged, is_cwt_tag, is_tag, is_array, past_first_head, first_head}
+use Rattle.cose_msg.specs.Front.{array_head_fault, past_array_head, array_head, kind_of_tag, past_tag, tag_behind_cwt, past_second_head, second_head, past_untagged, is_cwt_tag, is_tag, is_array, past_first_head, first_head}
 use Rattle.cose_msg.specs.Laws.{MessageStays, MessageEndsTruncated, OpenEarlier, VerdictStays}
 use Rattle.cose_msg.specs.Message.{message, verifying}
 use Rattle.cose_msg.specs.Phases.{nothing_told, protected_told, headers_told, finish, auth, auth_head_fault, past_auth_head, auth_head, past_payload, payload, payload_head_fault, past_payload_head, payload_head, past_choice, key_choice, both_buckets, placed_at, headers_of, past_unprotected, unprotected, past_protected, protected, protected_head_fault, past_protected_head, protected_head}
@@ -67,7 +67,7 @@ module _ (laws : HeadLaws) (rules : Rules) where
   past_tag-lawful at (Err reason) = settled-lawful (λ place. stop nothing_told reason at) (λ place. refl)
 
   second_head-lawful : Lawful (second_head rules)
-  second_head-lawful = with_head-lawful laws nothing_told (past_second_head rules) (λ at head. past_tag-lawful at (cose_tag rules head))
+  second_head-lawful = with_head-lawful laws nothing_told (past_second_head rules) (λ at head. past_tag-lawful at (tag_behind_cwt rules.wanted head))
 
   past_untagged-lawful : (wanted : Wanted) (at : ℕ) (head : Head) → Lawful (past_untagged rules wanted at head)
   past_untagged-lawful wants.Mac0 at head = past_array_head-lawful kinds.Mac0 at head
@@ -76,7 +76,7 @@ module _ (laws : HeadLaws) (rules : Rules) where
 
   past_first_head-lawful : (at : ℕ) (head : Head) → Lawful (past_first_head rules at head)
   past_first_head-lawful at head =
-      either-lawful (is_cwt_tag rules head) (second_head rules) _ second_head-lawful
+      either-lawful (is_cwt_tag rules.cwt head) (second_head rules) _ second_head-lawful
       (either-lawful (is_tag head) (past_tag rules at (kind_of_tag rules.wanted head.arg)) _ (past_tag-lawful at (kind_of_tag rules.wanted head.arg))
       (either-lawful (is_array head) (past_untagged rules rules.wanted at head) (λ place bytes. stop nothing_told WrongType at) (past_untagged-lawful rules.wanted at head)
       (settled-lawful (λ place. stop nothing_told WrongType at) (λ place. refl))))

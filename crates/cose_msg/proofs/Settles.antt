@@ -21,7 +21,7 @@ use Rattle.cose_map.specs.PairFault.{pair_fault}
 use Rattle.cose_msg.specs.declared.context.Wanted.{Wanted}
 use Rattle.cose_msg.specs.declared.context.Wanted.TheVariants as wants
 use Rattle.cose_msg.specs.Answer.{Chosen, Headers}
-use Rattle.cose_msg.specs.Front.{array_head_fault, past_array_head, array_head, kind_of_tag, past_tag, cose_tag, past_second_head, second_head, past_untagged, is_cwt_tag, is_tag, is_array, past_first_head, first_head}
+use Rattle.cose_msg.specs.Front.{array_head_fault, past_array_head, array_head, kind_of_tag, past_tag, tag_behind_cwt, past_second_head, second_head, past_untagged, is_cwt_tag, is_tag, is_array, past_first_head, first_head}
 use Rattle.cose_msg.specs.Laws.{payload_at_most, AuthIsAtMost, MessageIsBounded}
 use Rattle.cose_msg.specs.Message.{message}
 use Rattle.cose_msg.specs.Phases.{nothing_told, protected_told, headers_told, is_bytes_head, is_nil, is_too_long, finish, auth, auth_head_fault, past_auth_head, auth_head, past_payload, payload, payload_head_fault, past_payload_head, payload_head, past_choice, key_choice, both_buckets, placed_at, headers_of, past_unprotected, unprotected, past_protected, protected, protected_head_fault, past_protected_head, protected_head}
@@ -111,10 +111,10 @@ neither : (b c : Bool) → (b || c) ≡ false → (b ≡ false) × (c ≡ false)
 neither true c e = absurd cc
 neither false c e = (refl, e)
 
-short_enough : (rules : Rules) (n : ℕ) → is_too_long rules n ≡ false → n ≤ payload_at_most rules.payload_limit
-short_enough rules n e =
-    let both = neither (nat_le (2 ^ 56) n) (nat_lt rules.payload_limit n) e in
-    omega (arith, leb-false (2 ^ 56) n both.0, ltb-false rules.payload_limit n both.1)
+short_enough : (limit n : ℕ) → is_too_long limit n ≡ false → n ≤ payload_at_most limit
+short_enough limit n e =
+    let both = neither (nat_le (2 ^ 56) n) (nat_lt limit n) e in
+    omega (arith, leb-false (2 ^ 56) n both.0, ltb-false limit n both.1)
 
 -- ---- the phases, the last first
 
@@ -136,7 +136,7 @@ module _ (steps : ReadSteps) (rules : Rules) (most : ℕ) (at_most : AuthIsAtMos
   payload_head-settles : (headers : Headers) (chosen : Option Chosen) → rules.choice headers ≡ Ok chosen → Settles (9 + to_payload) (payload_head rules headers chosen)
   payload_head-settles headers chosen is = with_head-settles (headers_told headers []) to_payload (past_payload_head rules headers chosen)
       (λ at head. unless_fault-settles (headers_told headers []) at to_payload (payload_head_fault rules head) (payload rules headers chosen head.arg)
-      (λ e. payload-settles headers chosen head.arg is (short_enough rules head.arg (passes_payload (is_bytes_head head) (is_too_long rules head.arg) (is_nil head) _ _ _ e))))
+      (λ e. payload-settles headers chosen head.arg is (short_enough rules.payload_limit head.arg (passes_payload (is_bytes_head head) (is_too_long rules.payload_limit head.arg) (is_nil head) _ _ _ e))))
 
   past_choice-settles : (headers : Headers) (found : Result (Option Chosen) Reason) → rules.choice headers ≡ found → Settles (9 + to_payload) (past_choice rules headers found)
   past_choice-settles headers (Ok chosen) is = payload_head-settles headers chosen is
@@ -172,7 +172,7 @@ module _ (steps : ReadSteps) (rules : Rules) (most : ℕ) (at_most : AuthIsAtMos
   past_tag-settles at (Err reason) = λ place bytes le. refl
 
   second_head-settles : Settles (27 + to_protected) (second_head rules)
-  second_head-settles = by_more (9 + (18 + to_protected)) (27 + to_protected) (second_head rules) (omega arith) (with_head-settles nothing_told (18 + to_protected) (past_second_head rules) (λ at head. past_tag-settles at (cose_tag rules head)))
+  second_head-settles = by_more (9 + (18 + to_protected)) (27 + to_protected) (second_head rules) (omega arith) (with_head-settles nothing_told (18 + to_protected) (past_second_head rules) (λ at head. past_tag-settles at (tag_behind_cwt rules.wanted head)))
 
   past_untagged-settles : (wanted : Wanted) (at : ℕ) (head : Head) → Settles (9 + to_protected) (past_untagged rules wanted at head)
   past_untagged-settles wants.Mac0 at head = past_array_head-settles kinds.Mac0 at head
@@ -181,7 +181,7 @@ module _ (steps : ReadSteps) (rules : Rules) (most : ℕ) (at_most : AuthIsAtMos
 
   past_first_head-settles : (at : ℕ) (head : Head) → Settles (27 + to_protected) (past_first_head rules at head)
   past_first_head-settles at head =
-      choose-settles (is_cwt_tag rules head) (second_head rules) _ (27 + to_protected) second_head-settles
+      choose-settles (is_cwt_tag rules.cwt head) (second_head rules) _ (27 + to_protected) second_head-settles
       (choose-settles (is_tag head) (past_tag rules at (kind_of_tag rules.wanted head.arg)) _ (27 + to_protected) (by_more (18 + to_protected) (27 + to_protected) (past_tag rules at (kind_of_tag rules.wanted head.arg)) (omega arith) (past_tag-settles at (kind_of_tag rules.wanted head.arg)))
       (choose-settles (is_array head) (past_untagged rules rules.wanted at head) _ (27 + to_protected) (by_more (9 + to_protected) (27 + to_protected) (past_untagged rules rules.wanted at head) (omega arith) (past_untagged-settles rules.wanted at head))
       (λ place bytes le. refl)))

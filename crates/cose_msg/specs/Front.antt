@@ -52,11 +52,11 @@ past_tag rules at (Ok kind) place bytes = array_head rules kind place bytes
 past_tag rules at (Err reason) place bytes = stop nothing_told reason at
 
 -- Behind the tag of a CWT, 61, comes a COSE tag (RFC 8392 section 6).
-abbrev pub cose_tag : Rules → Head → Result Kind Reason
-cose_tag rules head = if is_tag head then kind_of_tag rules.wanted head.arg else Err CwtTagAlone
+abbrev pub tag_behind_cwt : Wanted → Head → Result Kind Reason
+tag_behind_cwt wanted head = if is_tag head then kind_of_tag wanted head.arg else Err CwtTagAlone
 
 abbrev pub past_second_head : Rules → Next Head
-past_second_head rules at head = past_tag rules at (cose_tag rules head)
+past_second_head rules at head = past_tag rules at (tag_behind_cwt rules.wanted head)
 
 abbrev pub second_head : Rules → Phase
 second_head rules = with_head nothing_told (past_second_head rules)
@@ -68,12 +68,12 @@ past_untagged rules wants.Sign1 at head place bytes = past_array_head rules kind
 past_untagged rules wants.Tagged at head place bytes = stop nothing_told WrongTag at
 
 -- The first head is a tag or the array. The CWT tag counts where one is admitted.
-abbrev pub is_cwt_tag : Rules → Head → Bool
-is_cwt_tag rules head = rules.cwt && (is_tag head && head.arg == 61)
+abbrev pub is_cwt_tag : Bool → Head → Bool
+is_cwt_tag admitted head = admitted && (is_tag head && head.arg == 61)
 
 abbrev pub past_first_head : Rules → Next Head
 past_first_head rules at head place bytes =
-    if is_cwt_tag rules head then second_head rules place bytes else
+    if is_cwt_tag rules.cwt head then second_head rules place bytes else
     if is_tag head then past_tag rules at (kind_of_tag rules.wanted head.arg) place bytes else
     if is_array head then past_untagged rules rules.wanted at head place bytes else stop nothing_told WrongType at
 

@@ -52,16 +52,24 @@ question_of headers = record {
   kid = either (kid_of headers.protected_pairs) (kid_of headers.unprotected_pairs);
 }
 
-abbrev pub with_algorithm : KeyValue → Option Alg → Result (Option Chosen) Reason
-with_algorithm key (Some alg) = Ok (Some (record { key = key; alg = alg }))
+abbrev pub with_algorithm : KeyValue → Option Alg → Result Chosen Reason
+with_algorithm key (Some alg) = Ok (record { key = key; alg = alg })
 with_algorithm key None = Err UnknownAlg
 
-abbrev pub past_chosen : Result (KeyValue × ℤ) Reason → Result (Option Chosen) Reason
+abbrev pub past_chosen : Result (KeyValue × ℤ) Reason → Result Chosen Reason
 past_chosen (Ok found) = with_algorithm found.0 (algorithm_numbered found.1)
 past_chosen (Err reason) = Err reason
 
+-- The one key that fits, with its algorithm (RFC 9052 section 7.1).
+abbrev pub found_key : List KeyValue → Headers → Result Chosen Reason
+found_key keys headers = past_chosen (chosen (question_of headers) keys)
+
+abbrev pub as_choice : Result Chosen Reason → Result (Option Chosen) Reason
+as_choice (Ok found) = Ok (Some found)
+as_choice (Err reason) = Err reason
+
 abbrev pub key_choice_of : List KeyValue → Headers → Result (Option Chosen) Reason
-key_choice_of keys headers = past_chosen (chosen (question_of headers) keys)
+key_choice_of keys headers = as_choice (found_key keys headers)
 
 -- A tag or signature has the length of its algorithm (RFC 9053 sections 2.1 and 3.1). Of a message that is only inspected no
 -- more is asked than that it isn't longer than 65,535 bytes.

@@ -42,9 +42,11 @@ auth rules headers chosen payload auth_at n =
     with_string (λ bytes. headers_told headers payload) n (finish rules headers chosen payload auth_at)
 
 -- Its head: a byte string of a length that the algorithm has.
+abbrev pub auth_fault_where : (ℕ → Bool) → Head → Option Reason
+auth_fault_where fits head = if is_bytes_head head then (if fits head.arg then None else Some BadAuthLength) else Some WrongType
+
 abbrev pub auth_head_fault : Rules → Option Chosen → Head → Option Reason
-auth_head_fault rules chosen head =
-    if is_bytes_head head then (if rules.auth_fits chosen head.arg then None else Some BadAuthLength) else Some WrongType
+auth_head_fault rules chosen = auth_fault_where (rules.auth_fits chosen)
 
 abbrev pub past_auth_head : Rules → Headers → Option Chosen → List ℕ → Next Head
 past_auth_head rules headers chosen payload at head =
@@ -64,13 +66,16 @@ payload rules headers chosen n = with_string (headers_told headers) n (past_payl
 abbrev pub is_nil : Head → Bool
 is_nil head = head.major == 7 && (head.width == 1 && head.arg == 22)
 
-abbrev pub is_too_long : Rules → ℕ → Bool
-is_too_long rules n = nat_le (2 ^ 56) n || nat_lt rules.payload_limit n
+abbrev pub is_too_long : ℕ → ℕ → Bool
+is_too_long limit n = nat_le (2 ^ 56) n || nat_lt limit n
+
+abbrev pub payload_fault_within : ℕ → Head → Option Reason
+payload_fault_within limit head =
+    if is_bytes_head head then (if is_too_long limit head.arg then Some PayloadTooLong else None) else
+    if is_nil head then Some Detached else Some WrongType
 
 abbrev pub payload_head_fault : Rules → Head → Option Reason
-payload_head_fault rules head =
-    if is_bytes_head head then (if is_too_long rules head.arg then Some PayloadTooLong else None) else
-    if is_nil head then Some Detached else Some WrongType
+payload_head_fault rules = payload_fault_within rules.payload_limit
 
 abbrev pub past_payload_head : Rules → Headers → Option Chosen → Next Head
 past_payload_head rules headers chosen at head =
@@ -117,9 +122,12 @@ past_protected rules kind at content =
 abbrev pub protected : Rules → Kind → ℕ → Phase
 protected rules kind n = with_string (λ bytes. nothing_told) n (past_protected rules kind)
 
+abbrev pub protected_fault_within : ℕ → Head → Option Reason
+protected_fault_within room head =
+    if is_bytes_head head then (if nat_lt room head.arg then Some PastRoom else None) else Some WrongType
+
 abbrev pub protected_head_fault : Rules → Head → Option Reason
-protected_head_fault rules head =
-    if is_bytes_head head then (if nat_lt rules.room head.arg then Some PastRoom else None) else Some WrongType
+protected_head_fault rules = protected_fault_within rules.room
 
 abbrev pub past_protected_head : Rules → Kind → Next Head
 past_protected_head rules kind at head =
