@@ -1,0 +1,3 @@
+-- What the laws say.
+pub mod Inside
+pub mod Least
