@@ -4,7 +4,7 @@ use Rattle.cose_head.specs.declared.kind.Kind.TheVariants.{Mac0}
 use Rattle.cose_head.specs.declared.reason.Reason.{Reason}
 use Rattle.cose_head.specs.declared.reason.Reason.TheVariants.{NoAlg, UnknownAlg, AlgUnprotected, NoKey, AmbiguousKey}
 use Rattle.cose_map.specs.Label.{LabelValue, number, words}
-use Rattle.cose_map.specs.KeyValue.{KeyValue, symmetric}
+use Rattle.cose_map.specs.Key.Value.{KeyValue, symmetric}
 use Rattle.cose_map.specs.Choice.{Question, chosen}
 
 abbrev secret : Option (List ℕ) → Option LabelValue → Option (List ℤ) → List ℕ → KeyValue

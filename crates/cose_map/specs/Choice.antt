@@ -1,4 +1,6 @@
 -- Which key authenticates a message, and by which algorithm (RFC 9052 section 7.1).
+pub mod Algorithm
+pub mod View
 use Rattle.std.specs.Prelude.{ℕ, ℤ, Bool, true, false, ◌&&◌, List, [], ◌∷◌, Option, Some, None, Result, Ok, Err, is_some, filter_map, if◌then◌else◌}
 use Rattle.std.specs.List.{list_any}
 use Rattle.std.specs.Ordering.{int_eq}
@@ -6,9 +8,9 @@ use Rattle.std.specs.Str.{bytes_eq}
 use Rattle.cose_head.specs.declared.kind.Kind.{Kind}
 use Rattle.cose_head.specs.declared.reason.Reason.{Reason}
 use Rattle.cose_head.specs.declared.reason.Reason.TheVariants.{NoAlg, UnknownAlg, AlgUnprotected, NoKey, AmbiguousKey}
-use Rattle.cose_map.specs.declared.algorithm.KeyType.{KeyType}
-use Rattle.cose_map.specs.Algorithm.{key_type_of, has_type}
-use Rattle.cose_map.specs.KeyValue.{KeyValue, MaterialValue}
+use Rattle.cose_map.specs.declared.choice.algorithm.KeyType.{KeyType}
+use Rattle.cose_map.specs.Choice.Algorithm.{key_type_of, has_type}
+use Rattle.cose_map.specs.Key.Value.{KeyValue, MaterialValue}
 use Rattle.cose_map.specs.Label.{LabelValue, number, words, same_label}
 
 infixl 10 ◌>>=◌

@@ -3,12 +3,15 @@
 ghost use Rattle.std.specs.Prelude.{◌≡◌, option_map};
 ghost use Rattle.cose_head.specs.ItemRef.{placed};
 ghost use Rattle.cose_map.specs.KeySet.{usable as usable_key};
-ghost use Rattle.cose_map.specs.KeyView.{key_value};
+ghost use Rattle.cose_map.specs.Key.View.{key_value};
 
-use crate::choice::{Fitting, Query};
+mod items;
+
+use crate::choice::fitting::Fitting;
+use crate::choice::query::Query;
 use crate::key::{Key, NESTING};
-use crate::key_items::KeyItems;
-use crate::maps::{read_whole, refused};
+use crate::key_set::items::KeyItems;
+use crate::map::read::{read_whole, refused};
 use cose_head::{ItemRef, Reason, Refusal};
 
 /// A key set has at most so many bytes.
@@ -30,10 +33,10 @@ fn usable<'a>(item: &ItemRef<'a>) -> Option<Key<'a>>
 impl<'a> KeySet<'a> {
     ghost use Rattle.std.specs.Prelude.{◌≤◌, length, IfErr};
     ghost use Rattle.cose_map.specs.Choice.{chosen};
-    ghost use Rattle.cose_map.specs.Chosen.{question, found_value};
+    ghost use Rattle.cose_map.specs.Choice.View.{question, found_value};
     ghost use Rattle.cose_map.specs.KeySet.{keys_of};
-    ghost use Rattle.cose_map.specs.KeySets.{keys};
-    ghost use Rattle.cose_map.specs.Views.{seen_by};
+    ghost use Rattle.cose_map.specs.KeySet.View.{keys};
+    ghost use Rattle.cose_map.specs.Map.View.{seen_by};
 
     /// Reads a key set of at most 65,535 bytes: one map, or an array of one or more items.
     ///

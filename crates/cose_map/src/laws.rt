@@ -1,9 +1,9 @@
 //! Laws of the definitions that the contracts cite. A law is a function that does nothing, and whose contract is the law.
 
-ghost use Rattle.cose_map.specs.Inside.{MapIsRefusedInside, ReadIsRefusedInside, BucketIsRefusedInside, KeyIsRefusedInside, BucketEndsInside, PairIsRefusedInside};
-ghost use Rattle.cose_map.specs.LeastFault.{NoLeastOfNone, LeastIsAmong, NoneBeforeLeast};
-ghost use Rattle.cose_map.specs.Reasons.{BucketIsNotTruncated, KeyIsNotTruncated, KeySetIsNotTruncated, PairIsNotTruncated, ChoiceIsNotTruncated};
-ghost use Rattle.cose_map.specs.Reasons.{ItemIsRefusedFor, MapIsRefusedFor, ReadIsRefusedFor, BucketIsRefusedFor, KeyIsRefusedFor, KeySetIsRefusedFor, PairIsRefusedFor, ChoiceIsRefusedFor};
+ghost use Rattle.cose_map.specs.Laws.Inside.{MapIsRefusedInside, ReadIsRefusedInside, BucketIsRefusedInside, KeyIsRefusedInside, BucketEndsInside, PairIsRefusedInside};
+ghost use Rattle.cose_map.specs.Laws.Least.{NoLeastOfNone, LeastIsAmong, NoneBeforeLeast};
+ghost use Rattle.cose_map.specs.Laws.Reasons.{BucketIsNotTruncated, KeyIsNotTruncated, KeySetIsNotTruncated, PairIsNotTruncated, ChoiceIsNotTruncated};
+ghost use Rattle.cose_map.specs.Laws.Reasons.{ItemIsRefusedFor, MapIsRefusedFor, ReadIsRefusedFor, BucketIsRefusedFor, KeyIsRefusedFor, KeySetIsRefusedFor, PairIsRefusedFor, ChoiceIsRefusedFor};
 
 use cose_head::laws::{children_are_of_tree, read_steps};
 

@@ -16,7 +16,7 @@ use Rattle.cosecmd.specs.declared.first.machine.Machine.TheVariants as phases
 use Rattle.cosecmd.specs.declared.first.machine.Progress.{Progress}
 use Rattle.cosecmd.specs.declared.first.machine.Progress.TheVariants.{Open, Settled}
 use Rattle.cosecmd.specs.declared.first.verdict.Verdict.{Verdict}
-use Rattle.cose_map.specs.KeySets.{keys}
+use Rattle.cose_map.specs.KeySet.View.{keys}
 use Rattle.cosecmd.specs.FirstVerdict.{front, protected, key_choice, payload_head, payload, tag_head, tag}
 use Rattle.cosecmd.specs.Phases.{Reading, with_front}
 

@@ -8,7 +8,7 @@ use Rattle.cose_head.specs.declared.reason.Reason.TheVariants.{Trailing}
 use Rattle.cose_head.specs.Reason.{name_of}
 use Rattle.cose_mac.specs.Algorithm.{number_of}
 use Rattle.cose_map.specs.KeySet.{keys_of}
-use Rattle.cose_map.specs.KeyValue.{KeyValue}
+use Rattle.cose_map.specs.Key.Value.{KeyValue}
 use Rattle.cosecmd.specs.declared.first.verdict.Verdict.{Verdict}
 use Rattle.cosecmd.specs.declared.first.verdict.Verdict.TheVariants.{Authentic, Refused}
 use Rattle.cosecmd.specs.declared.reply.Reply.{Reply}

@@ -1,7 +1,7 @@
 //! Tables of examples: values that the contracts can't show to be the ones that were meant.
 
 use super::*;
-use crate::material::Y;
+use crate::key::material::Y;
 use cose_head::Reason;
 
 #[test]

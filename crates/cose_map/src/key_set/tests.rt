@@ -1,8 +1,8 @@
 //! Tables of examples: values that the contracts can't show to be the ones that were meant.
 
 use super::*;
+use crate::key::material::Material;
 use crate::label::Label;
-use crate::material::Material;
 use cose_head::Kind;
 
 /// A secret key, and the same for HMAC 256/256 alone.
@@ -10,7 +10,7 @@ const PLAIN: &[u8] = b"\xa2\x01\x04\x20\x44Jefe";
 
 const FOR_FIVE: &[u8] = b"\xa3\x01\x04\x03\x05\x20\x44Jefe";
 
-fn fault(reason: Reason, place: u64) -> Result<usize, Refusal> {
+fn refusal(reason: Reason, place: u64) -> Result<usize, Refusal> {
     Err(Refusal { reason, place })
 }
 
@@ -22,16 +22,19 @@ fn counted(bytes: &[u8]) -> Result<usize, Refusal> {
 #[test]
 fn reads_key_sets(rt: HostRuntime) {
     let rows: [(&[u8], Result<usize, Refusal>); 13] = [
-        (b"", fault(Reason::PastRoom, 0)),
-        (b"\x80", fault(Reason::BadKeySet, 0)),
-        (b"\x00", fault(Reason::BadKeySet, 0)),
+        (b"", refusal(Reason::PastRoom, 0)),
+        (b"\x80", refusal(Reason::BadKeySet, 0)),
+        (b"\x00", refusal(Reason::BadKeySet, 0)),
         (b"\xa0", Ok(0)),
         (b"\x81\x00", Ok(0)),
         (PLAIN, Ok(1)),
         (b"\x82\xa2\x01\x04\x20\x41a\xa2\x01\x04\x20\x41b", Ok(2)),
-        (b"\xa2\x01\x04\x20\x44Jefe\x00", fault(Reason::Trailing, 9)),
-        (b"\xa2\x01\x04\x20\x44Jef", fault(Reason::PastRoom, 4)),
-        (&[0; 65_536], fault(Reason::BadKeySet, 0)),
+        (
+            b"\xa2\x01\x04\x20\x44Jefe\x00",
+            refusal(Reason::Trailing, 9),
+        ),
+        (b"\xa2\x01\x04\x20\x44Jef", refusal(Reason::PastRoom, 4)),
+        (&[0; 65_536], refusal(Reason::BadKeySet, 0)),
         // A label twice, an unknown type, and an operation that is a text of no UTF-8.
         (b"\xa3\x01\x04\x01\x04\x20\x41c", Ok(0)),
         (b"\x82\xa2\x01\x01\x20\x06\xa2\x01\x04\x20\x41a", Ok(1)),

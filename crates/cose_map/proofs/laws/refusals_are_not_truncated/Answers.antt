@@ -1,4 +1,4 @@
-use Rattle.cose_map.proofs.Reasons.{bucket_not_truncated, key_not_truncated, key_set_not_truncated, pair_not_truncated, choice_not_truncated}
+use Rattle.cose_map.proofs.lemmas.Laws.Reasons.{bucket_not_truncated, key_not_truncated, key_set_not_truncated, pair_not_truncated, choice_not_truncated}
 use Rattle.cose_map.proofs.laws.refusals_are_not_truncated.Goals as goal
 
 pub returns-clause-bucket : goal.returns-clause-bucket

@@ -1,4 +1,4 @@
-use Rattle.cose_map.proofs.Reasons.{item_refused_for, map_refused_for, read_refused_for, bucket_refused_for, key_refused_for, key_set_refused_for, pair_refused_for, choice_refused_for}
+use Rattle.cose_map.proofs.lemmas.Laws.Reasons.{item_refused_for, map_refused_for, read_refused_for, bucket_refused_for, key_refused_for, key_set_refused_for, pair_refused_for, choice_refused_for}
 use Rattle.cose_map.proofs.laws.refusals_have_their_reasons.Goals as goal
 
 pub returns-clause-item : goal.returns-clause-item

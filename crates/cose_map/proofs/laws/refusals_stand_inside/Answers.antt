@@ -1,4 +1,4 @@
-use Rattle.cose_map.proofs.Inside.{map_refused_inside, read_refused_inside, bucket_refused_inside, key_refused_inside, bucket_ends_inside, pair_refused_inside}
+use Rattle.cose_map.proofs.lemmas.Laws.Inside.{map_refused_inside, read_refused_inside, bucket_refused_inside, key_refused_inside, bucket_ends_inside, pair_refused_inside}
 use Rattle.cose_map.proofs.laws.refusals_stand_inside.Goals as goal
 
 pub returns-clause-map : goal.returns-clause-map

@@ -1,0 +1,4 @@
+pub mod Inside
+pub mod Least
+pub mod ReadReasons
+pub mod Reasons

@@ -1,0 +1,4 @@
+-- What the laws say.
+pub mod Inside
+pub mod Least
+pub mod Reasons
