@@ -2,3 +2,4 @@
 pub mod Inside
 pub mod Least
 pub mod Reasons
+pub mod Tree

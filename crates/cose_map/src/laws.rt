@@ -4,8 +4,9 @@ ghost use Rattle.cose_map.specs.Laws.Inside.{MapIsRefusedInside, ReadIsRefusedIn
 ghost use Rattle.cose_map.specs.Laws.Least.{NoLeastOfNone, LeastIsAmong, NoneBeforeLeast};
 ghost use Rattle.cose_map.specs.Laws.Reasons.{BucketIsNotTruncated, KeyIsNotTruncated, KeySetIsNotTruncated, PairIsNotTruncated, ChoiceIsNotTruncated};
 ghost use Rattle.cose_map.specs.Laws.Reasons.{ItemIsRefusedFor, MapIsRefusedFor, ReadIsRefusedFor, BucketIsRefusedFor, KeyIsRefusedFor, KeySetIsRefusedFor, PairIsRefusedFor, ChoiceIsRefusedFor};
+ghost use Rattle.cose_map.specs.Laws.Tree.{ItemIsTree, MapIsOfTree, BucketIsOfTree, KeyIsOfTree};
 
-use cose_head::laws::{children_are_of_tree, read_steps};
+use cose_head::laws::{children_are_of_tree, look_is_of_tree, read_is_spelling, read_steps};
 
 /// A refusal of a map, of a bucket or of a key stands among its bytes or at their end, and one of two buckets together
 /// no later than the later of their ends, or at the place after both (RFC 9052 sections 3 and 7).
@@ -56,4 +57,18 @@ pub fn refusals_are_not_truncated()
 {
     // What this says of reading is all that the proof rests on.
     read_steps();
+}
+
+/// Bytes are accepted as one item exactly where they spell a tree of the grammar (RFC 8949 section 3), and the pairs of a
+/// map, a bucket or a key that was read are the labels and values of its tree, in their order and none left out.
+pub fn maps_are_of_trees()
+    ensures item { ItemIsTree }
+    ensures map { MapIsOfTree }
+    ensures bucket { BucketIsOfTree }
+    ensures key { KeyIsOfTree }
+{
+    // What these three say of reading, of looks and of children is all that the proof rests on.
+    read_is_spelling();
+    look_is_of_tree();
+    children_are_of_tree();
 }
