@@ -119,7 +119,7 @@ fn gives_what_a_bucket_says(rt: HostRuntime) {
 
 #[test]
 fn finds_the_least_fault_of_both(rt: HostRuntime) {
-    let rows: [(&[u8], &[u8], u64, Refusal); 6] = [
+    let rows: [(&[u8], &[u8], u64, Refusal); 9] = [
         (
             b"\xa2\x01\x05\x02\x81\x01",
             b"\xa1\x02\x81\x01",
@@ -155,6 +155,25 @@ fn finds_the_least_fault_of_both(rt: HostRuntime) {
             b"\xa1\x06\x41\x00",
             13,
             refusal(Reason::BothIvs, 13),
+        ),
+        // Labels that increase in both, in the protected bucket not, and in the unprotected bucket not.
+        (
+            b"\xa3\x01\x05\x04\x41\x00\x05\x41\x00",
+            b"\xa2\x03\x00\x05\x41\x00",
+            18,
+            refusal(Reason::BothBuckets, 15),
+        ),
+        (
+            b"\xa2\x02\x81\x01\x01\x05",
+            b"\xa1\x01\x05",
+            12,
+            refusal(Reason::BothBuckets, 10),
+        ),
+        (
+            b"\xa3\x01\x05\x04\x41\x00\x05\x41\x00",
+            b"\xa3\x0a\x00\x09\x00\x04\x41\x00",
+            20,
+            refusal(Reason::BothBuckets, 17),
         ),
     ];
     for (first, second, after, want) in rows {

@@ -14,7 +14,7 @@ use Rattle.cose_head.specs.Laws.{ReadSteps, Steps}
 use Rattle.cose_head.specs.Placed.{Placed, look, is_a_map, integer_in, bytes_in, is_a_text, truth_in, children_of}
 use Rattle.cose_head.specs.PlacedLaws.{end_of, EndsBy, ChildrenEndInside}
 use Rattle.cose_map.specs.declared.key.curve.Curve.{Curve}
-use Rattle.cose_map.specs.Bucket.{bucket_of, crit_of}
+use Rattle.cose_map.specs.Bucket.{bucket_of}
 use Rattle.cose_map.specs.Bucket.Form.{bucket_table}
 use Rattle.cose_map.specs.Map.Form.{is_bytes, Table}
 use Rattle.cose_map.specs.Map.Pairs.{value_of, Pair, is_named, pair_of, has_label}

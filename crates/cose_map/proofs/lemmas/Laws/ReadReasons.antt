@@ -1,14 +1,13 @@
 -- For which reasons reading an item is refused.
 use Rattle.std.proofs.Common.{ℕ, zero, suc, Bool, true, false, ◌-◌, List, [], ◌∷◌, length, take, Option, Some, None, Ok, Err, if◌then◌else◌, lit<, refl}
-use Rattle.std.specs.Prelude.{IfErr, IfSome, nat_lt, ◌==◌, ◌||◌}
+use Rattle.std.specs.Prelude.{IfErr, IfSome, nat_lt, ◌==◌}
 use Rattle.std.specs.List.{Contains}
 use Rattle.cose_head.specs.declared.head.Head.{Head}
 use Rattle.cose_head.specs.declared.reason.Reason.{Reason}
 use Rattle.cose_head.specs.declared.reason.Reason.TheVariants.{Truncated, Reserved, Indefinite, BadSimple, TooDeep, PastRoom}
-use Rattle.cose_head.specs.declared.refusal.Refusal.{Refusal}
 use Rattle.cose_head.specs.Head.{major_of, low_of, low_fault, argument_length, head_of, is_bad_simple}
-use Rattle.cose_head.specs.Item.{Item, Items}
-use Rattle.cose_head.specs.Reading.{Left, Outcome, Reader, ◌>>=◌, refuse, truncated, checked, past_initial, at_initial, head, is_string, is_parent, string, read_all, child_count, children, parent, leaf, body, read_with, read}
+use Rattle.cose_head.specs.Item.{Item}
+use Rattle.cose_head.specs.Reading.{Left, Outcome, Reader, ◌>>=◌, refuse, truncated, past_initial, at_initial, head, is_string, is_parent, string, read_all, child_count, children, parent, leaf, read_with, read}
 
 abbrev pub read_reasons : List Reason
 read_reasons = Truncated ∷ Reserved ∷ Indefinite ∷ BadSimple ∷ TooDeep ∷ PastRoom ∷ []

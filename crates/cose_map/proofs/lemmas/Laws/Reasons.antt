@@ -1,21 +1,21 @@
 -- For which reasons maps, buckets, keys, key sets, two buckets together and the choice of the key are refused: an answer is
 -- a value, or a refusal whose reason has a property, and this goes through what follows it.
-use Rattle.std.proofs.Common.{◌≡◌, ℕ, zero, suc, ◌<◌, Bool, true, false, not, List, [], ◌∷◌, ◌++◌, length, Option, Some, None, Ok, Err, if◌then◌else◌, lit<, refl, sym, ap, arith}
-use Rattle.std.specs.Prelude.{◌≢◌, ⊤, Result, IfErr, IfSome, ℤ, pos, nat_lt, ◌==◌, ◌&&◌, find, fold, flat_map, filter_map}
+use Rattle.std.proofs.Common.{◌≡◌, ℕ, zero, suc, Bool, true, false, not, List, [], ◌∷◌, ◌++◌, length, Option, Some, None, Ok, Err, if◌then◌else◌, lit<, refl, sym, ap, arith}
+use Rattle.std.specs.Prelude.{◌≢◌, ⊤, IfErr, IfSome, ℤ, pos, nat_lt, ◌==◌, ◌&&◌, filter_map}
 use Rattle.std.specs.List.{AllByRecursion, Contains, list_all}
 use Rattle.std.specs.Ordering.{int_eq}
 use Rattle.std.proofs.lemmas.Bool.{cond_both}
 use Rattle.std.proofs.lemmas.List.Elements.{All-from_recursion, All-contains, Contains-append_left, Contains-append_right}
 use Rattle.std.proofs.lemmas.Result.{IfErr-weaker}
 use Rattle.cose_head.specs.declared.reason.Reason.{Reason}
-use Rattle.cose_head.specs.declared.reason.Reason.TheVariants.{Truncated, Reserved, Indefinite, BadSimple, TooDeep, PastRoom, NotMap, BadLabel, DuplicateLabel, BothBuckets, BadValue, CritUnprotected, CritAbsent, CritUnknown, BothIvs, NoAlg, UnknownAlg, AlgUnprotected, NoKey, AmbiguousKey, BadKeySet, UnknownKey, Trailing}
+use Rattle.cose_head.specs.declared.reason.Reason.TheVariants.{Truncated, Reserved, Indefinite, BadSimple, TooDeep, PastRoom, NotMap, BadLabel, DuplicateLabel, BadValue, UnknownAlg, BadKeySet, UnknownKey, Trailing}
 use Rattle.cose_head.specs.declared.refusal.Refusal.{Refusal}
 use Rattle.cose_head.specs.Item.{Item}
 use Rattle.cose_head.specs.Laws.{ReadSteps, Steps}
 use Rattle.cose_head.specs.Measured.{left_of}
 use Rattle.cose_head.specs.Placed.{Placed, look, is_a_map, integer_in, bytes_in, is_a_text, truth_in, children_of}
 use Rattle.cose_head.specs.Reason.{number_of}
-use Rattle.cose_head.specs.Reading.{Left, Outcome, read, span_of}
+use Rattle.cose_head.specs.Reading.{Outcome, read, span_of}
 use Rattle.cose_map.specs.declared.key.curve.Curve.{Curve}
 use Rattle.cose_map.specs.Bucket.{bucket_of, crit_of}
 use Rattle.cose_map.specs.Bucket.Form.{bucket_form, bucket_table}
@@ -31,7 +31,7 @@ use Rattle.cose_map.specs.Label.{LabelValue, label_of}
 use Rattle.cose_map.specs.Map.Read.{Read, ◌>>=◌, refuse, name_at, new_name, value_at, label_after, pair_after, check_pairs, check_map, past_span, whole, read_map}
 use Rattle.cose_map.specs.Key.Material.{present, member, secret_in, symmetric_key, usable_curve, curve_in, coordinate_of, coordinate_in, sign_in, y_in, private_part, elliptic_key, material_in, material_of}
 use Rattle.cose_map.specs.Key.Curve.{curve_of}
-use Rattle.cose_map.specs.Bucket.Both.{fault_if, critical_faults, element_faults, all_element_faults, crit_faults, is_understood, unprotected_faults, both_ivs, pair_faults, least, pair_fault}
+use Rattle.cose_map.specs.Bucket.Both.{pair_fault}
 use Rattle.cose_map.specs.Laws.Reasons.{item_reasons, map_reasons, bucket_reasons, key_reasons, key_set_reasons, pair_reasons, choice_reasons, RefusedFor, FindsFaults}
 use Rattle.cose_map.proofs.lemmas.Bucket.EachFault.{all_any, pair_fault_has}
 use Rattle.cose_map.proofs.lemmas.Laws.ReadReasons.{read_reasons, read_refused}

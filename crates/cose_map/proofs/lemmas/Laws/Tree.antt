@@ -4,13 +4,12 @@ use Rattle.std.specs.Prelude.{◌↔◌, nat_lt, ◌==◌}
 use Rattle.std.proofs.lemmas.Bool.Decides.{nat_tests}
 use Rattle.cose_head.specs.declared.reason.Reason.{Reason}
 use Rattle.cose_head.specs.declared.reason.Reason.TheVariants.{NotMap, Trailing}
-use Rattle.cose_head.specs.declared.refusal.Refusal.{Refusal}
 use Rattle.cose_head.specs.Item.{Item, unsigned, negative, byte_string, text_string, array, map, tag, simple, float, Items, no_items, item, count_of, Spells}
 use Rattle.cose_head.specs.Laws.{ReadIsSpelled}
 use Rattle.cose_head.specs.Measured.{left_of}
 use Rattle.cose_head.specs.Placed.{Placed, truth, other, look, is_a_map, children_of}
 use Rattle.cose_head.specs.PlacedLaws.{IsItem, look_of_tree, AreItems, LookIsOfTree, MapHasItsPairs}
-use Rattle.cose_head.specs.Reading.{Left, Outcome, read, span_of}
+use Rattle.cose_head.specs.Reading.{Outcome, read, span_of}
 use Rattle.cose_map.specs.Bucket.{bucket_of}
 use Rattle.cose_map.specs.Bucket.Form.{bucket_table}
 use Rattle.cose_map.specs.Key.{key_of, key_with}
@@ -18,7 +17,7 @@ use Rattle.cose_map.specs.Key.Form.{key_table}
 use Rattle.cose_map.specs.Key.Material.{material_of}
 use Rattle.cose_map.specs.Key.Value.{KeyValue, MaterialValue}
 use Rattle.cose_map.specs.Label.{LabelValue, label_of, label_like}
-use Rattle.cose_map.specs.Laws.Tree.{IsTree, label_of_tree, IsPair, ArePairs, items_of, HasPairs}
+use Rattle.cose_map.specs.Laws.Tree.{IsTree, IsPair, ArePairs, items_of, HasPairs}
 use Rattle.cose_map.specs.Map.Form.{Table}
 use Rattle.cose_map.specs.Map.Pairs.{Pair, has_label}
 use Rattle.cose_map.specs.Map.Read.{Read, ◌>>=◌, refuse, name_at, new_name, value_at, pair_after, check_pairs, check_map, past_span, whole, read_map}
