@@ -14,7 +14,7 @@ use Rattle.cose_map.specs.Key.Value.{KeyValue, MaterialValue}
 use Rattle.cose_map.specs.Label.{LabelValue, number, words, same_label}
 
 infixl 10 ◌>>=◌
-abbrev ◌>>=◌ : {A B : Type 0} → Option A → (A → Option B) → Option B
+abbrev pub ◌>>=◌ : {A B : Type 0} → Option A → (A → Option B) → Option B
 (Some x) >>= f = f x
 None >>= f = None
 

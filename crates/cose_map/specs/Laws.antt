@@ -1,3 +1,4 @@
 -- What the laws say.
 pub mod Inside
 pub mod Least
+pub mod Chosen

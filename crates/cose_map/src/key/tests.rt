@@ -3,6 +3,8 @@
 use super::*;
 use crate::key::material::Y;
 use cose_head::Reason;
+use std::alloc::Global;
+use std::test::Fail;
 
 #[test]
 fn refuses_at_the_first_fault(rt: HostRuntime) {
@@ -67,4 +69,35 @@ fn reads_what_a_key_says(rt: HostRuntime) {
         01234567890123456789012345678901\x22\xf5";
     let key = Key::read(point, 0);
     assert_eq!(rt; key.ok().and_then(|key| sign_of(key.material)), Some(true));
+}
+
+/// What a log would show of a key.
+fn shown(alloc: Global, bytes: &[u8]) -> Result<String, Fail> {
+    let Ok(key) = Key::read(bytes, 0) else {
+        return Err("no key".into());
+    };
+    Ok(format!(in alloc; "{key:?}")?)
+}
+
+#[test]
+fn shows_no_bytes_of_keys(rt: HostRuntime) -> Result<(), Fail> {
+    let secret = shown(
+        rt.alloc(),
+        b"\xa4\x01\x04\x02\x411\x04\x82\x0a\x61\xff\x20\x44Jefe",
+    )?;
+    assert_eq!(rt;
+        secret.as_str(),
+        "Key { kid: Some([49]), alg: None, ops: Some(2 operations), material: Symmetric(4 bytes) }"
+    );
+    let point = shown(
+        rt.alloc(),
+        b"\xa4\x01\x02\x20\x01\x21\x58\x20\
+        01234567890123456789012345678901\x22\x58\x20\
+        01234567890123456789012345678901",
+    )?;
+    assert_eq!(rt;
+        point.as_str(),
+        "Key { kid: None, alg: None, ops: None, material: Ec { crv: 1, x: 32 bytes, y: Bytes(32 bytes) } }"
+    );
+    Ok(())
 }

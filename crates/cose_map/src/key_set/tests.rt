@@ -4,6 +4,7 @@ use super::*;
 use crate::key::material::Material;
 use crate::label::Label;
 use cose_head::Kind;
+use std::test::Fail;
 
 /// A secret key, and the same for HMAC 256/256 alone.
 const PLAIN: &[u8] = b"\xa2\x01\x04\x20\x44Jefe";
@@ -139,4 +140,12 @@ fn finds_the_one_key_that_fits(rt: HostRuntime) {
             "of {bytes:?}"
         );
     }
+}
+
+#[test]
+fn shows_no_bytes_of_keys(rt: HostRuntime) -> Result<(), Fail> {
+    let set = KeySet::read(PLAIN);
+    let shown = format!(in rt.alloc(); "{set:?}")?;
+    assert_eq!(rt; shown.as_str(), "Ok(KeySet(9 bytes))");
+    Ok(())
 }
