@@ -1,12 +1,16 @@
 -- The key that is chosen is one of the list and fits, and no other one does.
 use Rattle.std.proofs.Common.{◌≡◌, ◌∙◌, ℕ, ℤ, Bool, true, false, List, [], ◌∷◌, ◌++◌, Option, Some, None, Result, Ok, Err, refl, sym, ap, arith}
-use Rattle.std.specs.Prelude.{◌&&◌, filter_map, if◌then◌else◌}
+use Rattle.std.specs.Prelude.{◌&&◌, filter_map, if◌then◌else◌, option_and_then, IsSomeAnd}
 use Rattle.std.specs.List.{AllByRecursion, Contains, cons_option}
 use Rattle.std.proofs.lemmas.List.Elements.{Contains-append_right}
 use Rattle.cose_head.specs.declared.reason.Reason.{Reason}
-use Rattle.cose_map.specs.Choice.{◌>>=◌, Question, algorithm_used, algorithm_number, fits, fitting, is_of_type, allows_algorithm, allows_operation, allows_kid, is_answerable, only_one, chosen}
-use Rattle.cose_map.specs.Choice.Algorithm.{key_type_of}
-use Rattle.cose_map.specs.Key.Value.{KeyValue}
+use Rattle.cose_head.specs.Algorithm.{kind_of, key_type_of, algorithm_numbered}
+use Rattle.cose_head.specs.declared.algorithm.Alg.{Alg}
+use Rattle.cose_head.specs.declared.kind.Kind.{Kind}
+use Rattle.cose_head.specs.declared.kind.Kind.TheVariants.{Mac0, Sign1}
+use Rattle.cose_map.specs.Choice.{◌>>=◌, Question, algorithm_used, integer_in_label, fits, fitting, is_for, allows_algorithm, allows_operation, allows_kid, is_answerable, only_one, chosen}
+use Rattle.cose_map.specs.Choice.Algorithm.{same_kind, if_of_kind, algorithm_of, has_type}
+use Rattle.cose_map.specs.Key.Value.{KeyValue, MaterialValue}
 use Rattle.cose_map.specs.Label.{LabelValue, number}
 
 -- where one thing alone is found in a list, it was found at one element
@@ -71,9 +75,9 @@ module _ (q : Question) where
   fits_numbered (Some m) own key n found = fits_if (fits q own m) own key m n refl found
 
   fits_named : (name : Option LabelValue) (own key : KeyValue) (n : ℤ) →
-      (name >>= λ alg. algorithm_number alg >>= λ m. if_it_is (fits q own m) own m) ≡ Some (key, n) → (own ≡ key) × (fits q key n ≡ true)
+      (name >>= λ alg. integer_in_label alg >>= λ m. if_it_is (fits q own m) own m) ≡ Some (key, n) → (own ≡ key) × (fits q key n ≡ true)
   fits_named None own key n found = cc
-  fits_named (Some alg) own key n found = fits_numbered (algorithm_number alg) own key n found
+  fits_named (Some alg) own key n found = fits_numbered (integer_in_label alg) own key n found
 
   found_fits : (own key : KeyValue) (n : ℤ) → fitting q own ≡ Some (key, n) → (own ≡ key) × (fits q key n ≡ true)
   found_fits own key n found = fits_named (algorithm_used q.protected_alg q.unprotected_alg own.alg) own key n found
@@ -96,6 +100,33 @@ first_of : (a b c d : Bool) → (a && b && c && d) ≡ true → a ≡ true
 first_of true b c d e = refl
 first_of false b c d e = cc
 
+-- an algorithm that a key is for is one of the kind, and takes the key's type
+same : (a b : Kind) → same_kind a b ≡ true → a ≡ b
+same Mac0 Mac0 e = refl
+same Sign1 Sign1 e = refl
+same Mac0 Sign1 e = cc
+same Sign1 Mac0 e = cc
+
+kind_if : (material : MaterialValue) (kind : Kind) (alg : Alg) (b : Bool) → same_kind (kind_of alg) kind ≡ b →
+    is_for material (if b then Some alg else None) ≡ true → kind_of alg ≡ kind
+kind_if material kind alg true e suits = same (kind_of alg) kind e
+kind_if material kind alg false e suits = cc
+
+type_if : (material : MaterialValue) (alg : Alg) (b : Bool) → is_for material (if b then Some alg else None) ≡ true →
+    has_type material (key_type_of alg) ≡ true
+type_if material alg true suits = suits
+type_if material alg false suits = cc
+
+of_kind : (material : MaterialValue) (kind : Kind) (found : Option Alg) → is_for material (option_and_then (if_of_kind kind) found) ≡ true →
+    IsSomeAnd found (λ alg. kind_of alg ≡ kind)
+of_kind material kind None suits = cc
+of_kind material kind (Some alg) suits = kind_if material kind alg (same_kind (kind_of alg) kind) refl suits
+
+of_type : (material : MaterialValue) (kind : Kind) (found : Option Alg) → is_for material (option_and_then (if_of_kind kind) found) ≡ true →
+    IsSomeAnd found (λ alg. has_type material (key_type_of alg) ≡ true)
+of_type material kind None suits = cc
+of_type material kind (Some alg) suits = type_if material alg (same_kind (kind_of alg) kind) suits
+
 pub chosen_among : (q : Question) (keys : List KeyValue) (key : KeyValue) (n : ℤ) → chosen q keys ≡ Ok (key, n) → Contains keys key
 chosen_among q keys key n e = found_at (fitting q) (Contains keys key) keys (key, n) (only_fitting q keys key n e)
     (λ own among found. rw (found_fits q own key n found).0 at among)
@@ -104,10 +135,18 @@ pub chosen_fits : (q : Question) (keys : List KeyValue) (key : KeyValue) (n : �
 chosen_fits q keys key n e = found_at (fitting q) (fits q key n ≡ true) keys (key, n) (only_fitting q keys key n e)
     (λ own among found. (found_fits q own key n found).1)
 
-pub chosen_typed : (q : Question) (keys : List KeyValue) (key : KeyValue) (n : ℤ) → chosen q keys ≡ Ok (key, n) →
-    is_of_type key.material (key_type_of q.kind n) ≡ true
-chosen_typed q keys key n e = first_of (is_of_type key.material (key_type_of q.kind n)) (allows_algorithm key.alg (number n))
+chosen_for : (q : Question) (keys : List KeyValue) (key : KeyValue) (n : ℤ) → chosen q keys ≡ Ok (key, n) →
+    is_for key.material (algorithm_of q.kind n) ≡ true
+chosen_for q keys key n e = first_of (is_for key.material (algorithm_of q.kind n)) (allows_algorithm key.alg (number n))
     (allows_operation key.operations q.operation) (allows_kid key.kid q.kid) (chosen_fits q keys key n e)
+
+pub chosen_of_kind : (q : Question) (keys : List KeyValue) (key : KeyValue) (n : ℤ) → chosen q keys ≡ Ok (key, n) →
+    IsSomeAnd (algorithm_numbered n) (λ alg. kind_of alg ≡ q.kind)
+chosen_of_kind q keys key n e = of_kind key.material q.kind (algorithm_numbered n) (chosen_for q keys key n e)
+
+pub chosen_typed : (q : Question) (keys : List KeyValue) (key : KeyValue) (n : ℤ) → chosen q keys ≡ Ok (key, n) →
+    IsSomeAnd (algorithm_numbered n) (λ alg. has_type key.material (key_type_of alg) ≡ true)
+chosen_typed q keys key n e = of_type key.material q.kind (algorithm_numbered n) (chosen_for q keys key n e)
 
 pub no_other_fits : (q : Question) (before after : List KeyValue) (key : KeyValue) (n : ℤ) → chosen q (before ++ key ∷ after) ≡ Ok (key, n) →
     AllByRecursion (λ other. fitting q other ≡ None) (before ++ after)
