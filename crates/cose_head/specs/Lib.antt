@@ -1,4 +1,5 @@
 pub mod Reason
+pub mod Algorithm
 pub mod Head
 pub mod Item
 pub mod Reading

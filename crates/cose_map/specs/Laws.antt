@@ -3,3 +3,4 @@ pub mod Inside
 pub mod Least
 pub mod Reasons
 pub mod Tree
+pub mod Chosen

@@ -2,6 +2,7 @@
 
 mod curve;
 mod form;
+pub mod hidden;
 mod labels;
 pub mod material;
 mod members;
@@ -20,6 +21,8 @@ use cose_head::{ItemRef, Refusal};
 pub(crate) const NESTING: usize = 8;
 
 /// A key, as far as it is used: what it is for, where it says so, and what it consists of.
+///
+/// `Debug` prints how many bytes its material has, and none of them.
 #[derive(Clone, Copy, Debug)]
 pub struct Key<'a> {
     /// The identifier.

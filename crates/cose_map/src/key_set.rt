@@ -9,16 +9,19 @@ mod items;
 
 use crate::choice::fitting::Fitting;
 use crate::choice::query::Query;
+use crate::key::hidden::Hidden;
 use crate::key::{Key, NESTING};
 use crate::key_set::items::KeyItems;
 use crate::map::read::{read_whole, refused};
 use cose_head::{ItemRef, Reason, Refusal};
+use std::fmt;
 
 /// A key set has at most so many bytes.
 const MOST_BYTES: usize = 65_535;
 
-/// A set of keys: one key, or an array of keys, of which only the usable ones count.
-#[derive(Clone, Copy, Debug)]
+/// A set of keys: one key, or an array of keys, of which only the usable ones count. `Debug` prints how many bytes
+/// it has, and none of them.
+#[derive(Clone, Copy)]
 pub struct KeySet<'a> {
     set: ItemRef<'a>,
 }
@@ -95,6 +98,14 @@ impl<'a> KeySet<'a> {
             }
         }
         fitting.answer(query)
+    }
+}
+
+impl fmt::Debug for KeySet<'_> {
+    fn fmt<W: fmt::Write>(&self, f: &mut fmt::Formatter<W>) -> fmt::Result {
+        f.debug_tuple("KeySet")
+            .field(&Hidden(self.set.bytes))
+            .finish()
     }
 }
 

@@ -1,6 +1,7 @@
 //! Laws of the definitions that the contracts cite. A law is a function that does nothing, and whose contract is the law.
 
 ghost use Rattle.cose_map.specs.Laws.Inside.{MapIsRefusedInside, ReadIsRefusedInside, BucketIsRefusedInside, KeyIsRefusedInside, BucketEndsInside, PairIsRefusedInside};
+ghost use Rattle.cose_map.specs.Laws.Chosen.{ChosenIsAmong, ChosenFits, ChosenIsOfKind, ChosenIsOfType, NoOtherFits};
 ghost use Rattle.cose_map.specs.Laws.Least.{NoLeastOfNone, LeastIsAmong, NoneBeforeLeast};
 ghost use Rattle.cose_map.specs.Laws.Reasons.{ItemIsRefusedFor, MapIsRefusedFor, ReadIsRefusedFor, BucketIsRefusedFor, KeyIsRefusedFor, KeySetIsRefusedFor, PairIsRefusedFor, ChoiceIsRefusedFor, BucketIsNotTruncated, KeyIsNotTruncated, KeySetIsNotTruncated, PairIsNotTruncated, ChoiceIsNotTruncated};
 ghost use Rattle.cose_map.specs.Laws.Tree.{ItemIsTree, MapIsOfTree, BucketIsOfTree, KeyIsOfTree};
@@ -71,3 +72,13 @@ pub fn maps_are_of_trees()
     look_is_of_tree();
     children_are_of_tree();
 }
+
+/// The key that is chosen is one of those that were there, and fits. The number that comes with it is that of an algorithm
+/// of the message's kind, and the key is of its type and on its curve. No other of the keys fits.
+pub fn chosen_key_fits()
+    ensures among { ChosenIsAmong }
+    ensures fits { ChosenFits }
+    ensures kind { ChosenIsOfKind }
+    ensures typed { ChosenIsOfType }
+    ensures only { NoOtherFits }
+{}

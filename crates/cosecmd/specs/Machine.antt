@@ -2,9 +2,9 @@
 use Rattle.std.specs.Prelude.{◌≡◌, ℕ, ◌+◌, ◌-◌, ◌^◌, true, List, [], ◌∷◌, ◌++◌, length, drop, ⊤}
 use Rattle.arrayvec.specs.ArrayVec.{array_vec_len}
 use Rattle.cose_head.specs.Head.{IsMore, bare_head}
-use Rattle.cose_mac.specs.Fed.{FedMac}
+use Rattle.cose_mac.specs.Running.{FedMac}
 use Rattle.cose_mac.specs.Structure.{mac_structure}
-use Rattle.cose_mac.specs.declared.alg.Alg.TheVariants.{Hmac256}
+use Rattle.cose_head.specs.declared.algorithm.Alg.TheVariants.{Hmac256}
 use Rattle.cose_mac.specs.declared.running.Running.{Running}
 use Rattle.cosecmd.specs.declared.first.phases.Front.{Front}
 use Rattle.cosecmd.specs.declared.first.phases.PayloadHead.{PayloadHead}

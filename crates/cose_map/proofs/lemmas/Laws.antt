@@ -3,3 +3,4 @@ pub mod Least
 pub mod ReadReasons
 pub mod Reasons
 pub mod Tree
+pub mod Chosen

@@ -1,41 +1,36 @@
-//! The algorithms, each with its kind of message and its type of keys (RFC 9053 sections 2.1 and 3.1).
+//! The algorithms of one kind of message, and the keys that each takes.
 
 ghost use Rattle.std.specs.Prelude.{◌≡◌};
-ghost use Rattle.cose_map.specs.Choice.Algorithm.{key_type_of, has_type};
+ghost use Rattle.cose_map.specs.Choice.Algorithm as spec;
 ghost use Rattle.cose_map.specs.Key.View.{material_value};
 
 use crate::key::material::Material;
-use cose_head::Kind;
+use cose_head::{Alg, KeyType, Kind};
 
-/// What material an algorithm wants.
-#[derive(Clone, Copy)]
-pub(crate) enum KeyType {
-    /// A symmetric key.
-    Symmetric,
-    /// A point on the curve of this number.
-    Elliptic(u8),
+/// Whether two kinds are one.
+fn is_same_kind(kind: Kind, other: Kind) -> bool
+    ensures { result ≡ spec.same_kind kind other }
+{
+    kind == other
 }
 
-/// The type of the keys of an algorithm, where it is one of the kind.
-pub(crate) fn key_type(kind: Kind, algorithm: i128) -> Option<KeyType>
-    ensures { result ≡ key_type_of kind algorithm }
+/// The algorithm of this number, where it is one of the kind.
+pub(crate) fn algorithm_of(kind: Kind, number: i128) -> Option<Alg>
+    ensures { result ≡ spec.algorithm_of kind number }
 {
-    match (kind, algorithm) {
-        (Kind::Mac0, 4 | 5 | 6 | 7) => Some(KeyType::Symmetric),
-        (Kind::Sign1, -7) => Some(KeyType::Elliptic(1)),
+    match Alg::from_number(number) {
+        Some(alg) if is_same_kind(alg.kind(), kind) => Some(alg),
         _ => None,
     }
 }
 
-impl KeyType {
-    /// Whether the material is of this type.
-    pub(crate) fn is_of(self, material: &Material) -> bool
-        ensures { result ≡ has_type (material_value material.now) self }
-    {
-        match (self, material) {
-            (KeyType::Symmetric, Material::Symmetric(_)) => true,
-            (KeyType::Elliptic(curve), Material::Ec { crv, .. }) => *crv == curve,
-            _ => false,
-        }
+/// Whether the material is of this type.
+pub(crate) fn is_of_type(material: &Material, wanted: KeyType) -> bool
+    ensures { result ≡ spec.has_type (material_value material.now) wanted }
+{
+    match (wanted, material) {
+        (KeyType::Symmetric, Material::Symmetric(_)) => true,
+        (KeyType::Elliptic(curve), Material::Ec { crv, .. }) => *crv == curve,
+        _ => false,
     }
 }

@@ -12,7 +12,7 @@ use crate::key::Key;
 use cose_head::Reason;
 
 /// The keys that fit, of those that were met.
-#[derive(Clone, Copy, Debug)]
+#[derive(Clone, Copy)]
 pub(crate) enum Fitting<'k> {
     /// None so far.
     Nothing,

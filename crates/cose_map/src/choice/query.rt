@@ -1,19 +1,18 @@
 //! What a message asks of its key, and whether a key fits (RFC 9052 section 7.1).
 
 ghost use Rattle.std.specs.Prelude.{◌≡◌, option_map, option_and_then};
-ghost use Rattle.cose_map.specs.Choice.{fitting as fitting_key, none_fits, fits as fits_key, is_known, is_answerable as is_answerable_query, algorithm_used, algorithm_number, allows_kid, allows_algorithm, allows_operation, is_of_type};
-ghost use Rattle.cose_map.specs.Choice.Algorithm.{key_type_of};
+ghost use Rattle.cose_map.specs.Choice.{fitting as fitting_key, none_fits, fits as fits_key, is_known, is_answerable as is_answerable_query, algorithm_used, integer_in_label, allows_kid, allows_algorithm, allows_operation, is_for as is_for_algorithm};
 ghost use Rattle.cose_map.specs.Key.View.{contents, material_value, key_value, operations_of};
 ghost use Rattle.cose_map.specs.Label.View.{label_value};
 ghost use Rattle.cose_map.specs.Label.{number};
 ghost use Rattle.cose_map.specs.Choice.View.{question};
 
-use crate::choice::algorithm::{KeyType, key_type};
+use crate::choice::algorithm::{algorithm_of, is_of_type};
 use crate::key::Key;
 use crate::key::material::Material;
 use crate::key::operations::Ops;
 use crate::label::Label;
-use cose_head::{Kind, Reason};
+use cose_head::{Alg, Kind, Reason};
 
 /// What a message asks of its key.
 #[derive(Clone, Copy, Debug)]
@@ -35,17 +34,17 @@ fn is_known_algorithm(kind: Kind, label: Label) -> bool
     ensures { result ≡ is_known kind (label_value label.entry) }
 {
     match label {
-        Label::Int(algorithm) => key_type(kind, algorithm).is_some(),
+        Label::Int(algorithm) => algorithm_of(kind, algorithm).is_some(),
         Label::Text(_) => false,
     }
 }
 
-/// Whether the material is what an algorithm wants.
-fn is_material(material: &Material, wanted: Option<KeyType>) -> bool
-    ensures { result ≡ is_of_type (material_value material.now) wanted }
+/// Whether the material is what the algorithm wants, if there is one.
+fn is_for(material: &Material, algorithm: Option<Alg>) -> bool
+    ensures { result ≡ is_for_algorithm (material_value material.now) algorithm }
 {
-    match wanted {
-        Some(wanted) => wanted.is_of(material),
+    match algorithm {
+        Some(alg) => is_of_type(material, alg.key_type()),
         None => false,
     }
 }
@@ -74,9 +73,9 @@ fn is_allowed_kid(own: Option<&[u8]>, asked: Option<&[u8]>) -> bool
     }
 }
 
-/// The number of an algorithm that has one.
+/// The number that a label is, if it is one.
 fn number_of(label: Label) -> Option<i128>
-    ensures { result ≡ algorithm_number (label_value label.entry) }
+    ensures { result ≡ integer_in_label (label_value label.entry) }
 {
     match label {
         Label::Int(algorithm) => Some(algorithm),
@@ -86,7 +85,7 @@ fn number_of(label: Label) -> Option<i128>
 
 /// The algorithm that the unprotected bucket names, where the key's own is equal.
 fn confirmed(own: Option<Label>, unprotected: Label) -> Option<i128>
-    ensures { result ≡ option_and_then algorithm_number (algorithm_used None (Some (label_value unprotected.entry)) (option_map label_value own.entry)) }
+    ensures { result ≡ option_and_then integer_in_label (algorithm_used None (Some (label_value unprotected.entry)) (option_map label_value own.entry)) }
 {
     match own {
         Some(own) if own.is_same(&unprotected) => number_of(unprotected),
@@ -108,7 +107,7 @@ impl<'q> Query<'q> {
 
     /// The algorithm that the key is used with.
     fn algorithm_for(&self, key: &Key) -> Option<i128>
-        ensures { let q = question self.now in result ≡ option_and_then algorithm_number (algorithm_used q.protected_alg q.unprotected_alg (key_value key.now).alg) }
+        ensures { let q = question self.now in result ≡ option_and_then integer_in_label (algorithm_used q.protected_alg q.unprotected_alg (key_value key.now).alg) }
     {
         match (self.protected_alg, self.unprotected_alg) {
             (Some(protected), _) => number_of(protected),
@@ -121,7 +120,7 @@ impl<'q> Query<'q> {
     fn fits(&self, key: &Key, algorithm: i128) -> bool
         ensures { result ≡ fits_key (question self.now) (key_value key.now) algorithm }
     {
-        is_material(&key.material, key_type(self.kind, algorithm))
+        is_for(&key.material, algorithm_of(self.kind, algorithm))
             && is_allowed_algorithm(key.alg, algorithm)
             && is_allowed_operation(key.ops, self.operation)
             && is_allowed_kid(key.kid, self.kid)

@@ -10,11 +10,14 @@ ghost use Rattle.cose_map.specs.Map.View.{seen_by};
 ghost use Rattle.cose_map.specs.Key.View.{contents, material_value, y_value};
 
 use crate::key::curve::Curve;
+use crate::key::hidden::Hidden;
 use crate::map::read::refused;
 use cose_head::{ItemRef, Reason, Refusal};
+use std::fmt;
 
-/// The coordinate y of a point: its bytes, or its sign alone (RFC 9053 section 7.1.1).
-#[derive(Clone, Copy, Debug)]
+/// The coordinate y of a point: its bytes, or its sign alone (RFC 9053 section 7.1.1). `Debug` prints how many
+/// bytes there are, and none of them.
+#[derive(Clone, Copy)]
 pub enum Y<'a> {
     /// The bytes, leading zeros too.
     Bytes(&'a [u8]),
@@ -22,8 +25,8 @@ pub enum Y<'a> {
     Sign(bool),
 }
 
-/// What a key consists of.
-#[derive(Clone, Copy, Debug)]
+/// What a key consists of. `Debug` prints how many bytes it has, and none of them.
+#[derive(Clone, Copy)]
 pub enum Material<'a> {
     /// A secret of one or more bytes.
     Symmetric(&'a [u8]),
@@ -36,6 +39,31 @@ pub enum Material<'a> {
         /// The coordinate y.
         y: Y<'a>,
     },
+}
+
+impl fmt::Debug for Y<'_> {
+    fn fmt<W: fmt::Write>(&self, f: &mut fmt::Formatter<W>) -> fmt::Result {
+        match self {
+            Y::Bytes(bytes) => f.debug_tuple("Bytes").field(&Hidden(bytes)).finish(),
+            Y::Sign(odd) => f.debug_tuple("Sign").field(odd).finish(),
+        }
+    }
+}
+
+impl fmt::Debug for Material<'_> {
+    fn fmt<W: fmt::Write>(&self, f: &mut fmt::Formatter<W>) -> fmt::Result {
+        match self {
+            Material::Symmetric(secret) => {
+                f.debug_tuple("Symmetric").field(&Hidden(secret)).finish()
+            }
+            Material::Ec { crv, x, y } => f
+                .debug_struct("Ec")
+                .field("crv", crv)
+                .field("x", &Hidden(x))
+                .field("y", y)
+                .finish(),
+        }
+    }
 }
 
 /// The secret of a symmetric key.

@@ -24,7 +24,7 @@ const EC2: i128 = 2;
 const SYMMETRIC: i128 = 4;
 
 /// A key's item, and the pairs that were read from it.
-#[derive(Clone, Copy, Debug)]
+#[derive(Clone, Copy)]
 pub(crate) struct Members<'a> {
     /// The key's item, at whose head a missing member is refused.
     pub(crate) key: ItemRef<'a>,

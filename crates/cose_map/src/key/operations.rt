@@ -1,9 +1,10 @@
 //! The operations that a key is for (RFC 9052 section 7.1).
 
 use cose_head::Items;
+use std::fmt;
 
-/// The operations that a key lists.
-#[derive(Clone, Copy, Debug)]
+/// The operations that a key lists. `Debug` prints how many they are.
+#[derive(Clone, Copy)]
 pub struct Ops<'a> {
     /// The elements of key_ops, integers and texts.
     pub(crate) elements: Items<'a>,
@@ -25,5 +26,15 @@ impl Ops<'_> {
             }
         }
         false
+    }
+}
+
+impl fmt::Debug for Ops<'_> {
+    fn fmt<W: fmt::Write>(&self, f: &mut fmt::Formatter<W>) -> fmt::Result {
+        let mut count = 0usize;
+        for _element in self.elements {
+            count = count.saturating_add(1);
+        }
+        write!(f, "{count} operations")
     }
 }

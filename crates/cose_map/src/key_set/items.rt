@@ -3,7 +3,7 @@
 use cose_head::{ItemRef, Items};
 
 /// The items that should be keys and are still to come.
-#[derive(Clone, Copy, Debug)]
+#[derive(Clone, Copy)]
 pub(crate) enum KeyItems<'a> {
     /// No item.
     None,

@@ -15,7 +15,7 @@ use crate::map::read::refused;
 use cose_head::{ItemRef, Reason, Refusal};
 
 /// The first pairs of a map, and the greatest of their labels: one that comes after it is new.
-#[derive(Clone, Copy, Debug)]
+#[derive(Clone, Copy)]
 pub(crate) struct Earlier<'a> {
     /// All pairs of the map.
     pub(crate) pairs: Pairs<'a>,

@@ -2,7 +2,7 @@
 
 ghost use Rattle.std.specs.Prelude.{◌≡◌, ◌<◌, ◌≤◌, ◌+◌, ◌^◌, ℕ, List, [], ◌∷◌, ◌++◌, length, true};
 ghost use Rattle.arrayvec.specs.ArrayVec.{array_vec_len};
-ghost use Rattle.cose_mac.specs.Fed.{makes_mac};
+ghost use Rattle.cose_mac.specs.Running.{makes_mac};
 ghost use Rattle.cose_map.specs.Choice.View.{question};
 ghost use Rattle.cosecmd.specs.FirstVerdict.{first_question};
 

@@ -1,10 +1,10 @@
 -- What was fed to a running hash or MAC.
 use Rattle.std.specs.Prelude.{◌≡◌, ℕ, Bool, List, ◌++◌, Some, is_some, IsTrue, IsFalse}
-use Rattle.cose_mac.specs.Algorithm.{is_mac_of, hash_of}
-use Rattle.cose_mac.specs.Hash.{function_of}
+use Rattle.cose_head.specs.Algorithm.{is_mac_of, hash_of}
+use Rattle.cose_head.specs.declared.algorithm.Alg.{Alg}
+use Rattle.cose_mac.specs.Hash.{function_of_algorithm}
 use Rattle.cose_mac.specs.Hasher.{Holds}
 use Rattle.cose_mac.specs.Hmac.{key_block, xor_pad, ipad, opad}
-use Rattle.cose_mac.specs.declared.alg.Alg.{Alg}
 use Rattle.cose_mac.specs.declared.running.Running.{Running}
 
 -- whether it makes a MAC, and not a digest
@@ -12,7 +12,7 @@ abbrev pub makes_mac : Running → Bool
 makes_mac running = is_some running.outer
 
 abbrev key_block_of : Alg → List ℕ → List ℕ
-key_block_of alg key = key_block (function_of (hash_of alg)) key
+key_block_of alg key = key_block (function_of_algorithm alg) key
 
 -- It makes the MAC under this algorithm and key, and was fed this message so far.
 pub record FedMac (running : Running) (alg : Alg) (key message : List ℕ) : Type 0 where
@@ -31,6 +31,6 @@ pub record FedDigest (running : Running) (alg : Alg) (message : List ℕ) : Type
 
 -- A piece was appended to whatever message was fed before.
 pub record Appends (old new : Running) (piece : List ℕ) : Type 0 where
-  pub kind : makes_mac new ≡ makes_mac old
-  pub mac : (alg : Alg) (key message : List ℕ) → FedMac old alg key message → FedMac new alg key (message ++ piece)
-  pub digest : (alg : Alg) (message : List ℕ) → FedDigest old alg message → FedDigest new alg (message ++ piece)
+  pub purpose : makes_mac new ≡ makes_mac old
+  pub fed_mac : (alg : Alg) (key message : List ℕ) → FedMac old alg key message → FedMac new alg key (message ++ piece)
+  pub fed_digest : (alg : Alg) (message : List ℕ) → FedDigest old alg message → FedDigest new alg (message ++ piece)
