@@ -14,7 +14,7 @@ use crate::key::members::Members;
 use crate::key::operations::Ops;
 use crate::label::Label;
 use crate::laws::refusals_stand_inside;
-use crate::map::read::read_map;
+use crate::map::read::check_map;
 use cose_head::{ItemRef, Refusal};
 
 /// The nesting of a key or a key set.
@@ -47,10 +47,9 @@ impl<'a> Key<'a> {
         requires { at + length bytes.now < 2 ^ 64 }
         ensures { seen_by key_value result ≡ key_of (record { bytes = bytes.now; place = at }) }
     {
-        let members = Members {
-            key: ItemRef { bytes, place: at },
-            pairs: read_map(&KeyForm, bytes, at, NESTING)?,
-        };
+        let key = ItemRef::read(bytes, at, NESTING)?;
+        let pairs = check_map(&KeyForm, &key)?;
+        let members = Members { key, pairs };
         let material = members.material()?;
         Ok(Key {
             kid: members.bytes(&labels::KID),

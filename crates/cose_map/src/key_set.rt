@@ -12,7 +12,7 @@ use crate::choice::query::Query;
 use crate::key::hidden::Hidden;
 use crate::key::{Key, NESTING};
 use crate::key_set::items::KeyItems;
-use crate::map::read::{read_whole, refused};
+use crate::map::read::refused;
 use cose_head::{ItemRef, Reason, Refusal};
 use std::fmt;
 
@@ -56,7 +56,7 @@ impl<'a> KeySet<'a> {
                 place: 0,
             });
         }
-        let set = read_whole(bytes, 0, NESTING)?;
+        let set = ItemRef::read(bytes, 0, NESTING)?;
         let mut items = KeyItems::of(set);
         if items.next().is_none() {
             return Err(refused(Reason::BadKeySet, &set));

@@ -6,7 +6,7 @@ ghost use Rattle.cose_map.specs.Laws.Least.{NoLeastOfNone, LeastIsAmong, NoneBef
 ghost use Rattle.cose_map.specs.Laws.Reasons.{ItemIsRefusedFor, MapIsRefusedFor, ReadIsRefusedFor, BucketIsRefusedFor, KeyIsRefusedFor, KeySetIsRefusedFor, PairIsRefusedFor, ChoiceIsRefusedFor, BucketIsNotTruncated, KeyIsNotTruncated, KeySetIsNotTruncated, PairIsNotTruncated, ChoiceIsNotTruncated};
 ghost use Rattle.cose_map.specs.Laws.Tree.{ItemIsTree, MapIsOfTree, BucketIsOfTree, KeyIsOfTree};
 
-use cose_head::laws::{children_are_of_tree, look_is_of_tree, read_is_spelling, read_steps};
+use cose_head::laws::{children_are_of_tree, look_is_of_tree, read_is_spelling, whole_is_one_item};
 
 /// A refusal of a map, of a bucket or of a key stands among its bytes or at their end, and one of two buckets together
 /// no later than the later of their ends, or at the place after both (RFC 9052 sections 3 and 7).
@@ -19,7 +19,7 @@ pub fn refusals_stand_inside()
     ensures two_buckets { PairIsRefusedInside }
 {
     // What these two say of reading and of children is all that the proof rests on.
-    read_steps();
+    whole_is_one_item();
     children_are_of_tree();
 }
 

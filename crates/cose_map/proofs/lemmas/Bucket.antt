@@ -1,17 +1,11 @@
--- What a bucket of no bytes has.
+-- Whether a bucket has a label.
 pub mod Both
 pub mod EachFault
-use Rattle.std.proofs.Common.{◌≡◌, ◌∙◌, ap, Option, None, ℕ, List, [], ◌∷◌, length, refl, arith}
-use Rattle.cose_head.specs.Head.{bare_head}
-use Rattle.cose_head.specs.Placed.{Placed, head_of_item, children_of}
+use Rattle.std.proofs.Common.{◌≡◌, ◌∙◌, ap, Option, None, List, [], ◌∷◌, refl}
+use Rattle.cose_head.specs.Placed.{Placed}
 use Rattle.std.specs.Prelude.{is_some, option_map, cond, ◌||◌, Bool, true, false, Some}
 use Rattle.cose_map.specs.Label.{LabelValue, same_label}
-use Rattle.cose_map.specs.Map.Pairs.{value_of, Pair, pairs_of, has_label, pair_of}
-
-pub nothing_in : (bytes : List ℕ) (place : ℕ) → length bytes ≡ 0 → pairs_of (children_of (record { bytes = bytes; place = place })) ≡ []
-unfolding pairs_of children_of head_of_item bare_head
-nothing_in [] place e = refl
-nothing_in (b ∷ bs) place e = absurd (omega (arith, e))
+use Rattle.cose_map.specs.Map.Pairs.{value_of, Pair, has_label, pair_of}
 
 has_value : (name : LabelValue) (pairs : List Pair) → is_some (value_of name pairs) ≡ has_label name pairs
 has_value name [] = refl
