@@ -16,3 +16,4 @@ pub mod Walking
 pub mod Walker
 pub mod Laws
 pub mod PlacedLaws
+pub mod WalkerLaws

@@ -1,6 +1,8 @@
 -- What items above the grammar say of its trees (RFC 8949 section 3): what an item is, and which children it has.
-use Rattle.std.specs.Prelude.{◌≡◌, ◌↔◌, ℕ, ◌+◌, ◌-◌, ◌*◌, ◌≤◌, pos, negsuc, Bool, true, false, List, [], ◌∷◌, ◌++◌, length, Some, None, Ok, IfErr, ◌==◌, if◌then◌else◌, ⊤}
-use Rattle.std.specs.List.{AllByRecursion}
+use Rattle.std.specs.Prelude.{◌≡◌, ◌↔◌, ℕ, ◌+◌, ◌-◌, ◌*◌, ◌≤◌, pos, negsuc, Bool, true, false, List, [], ◌∷◌, ◌++◌, length, Some, None, Ok, Err, IfErr, ◌==◌, if◌then◌else◌, ⊤}
+use Rattle.std.specs.List.{AllByRecursion, Contains}
+use Rattle.cose_head.specs.declared.refusal.Refusal.{Refusal}
+use Rattle.cose_head.specs.Reason.{whole_reasons}
 use Rattle.cose_head.specs.Item.{Item, unsigned, negative, byte_string, text_string, array, map, tag, simple, float, Items, no_items, item, count_of, IsHead}
 use Rattle.cose_head.specs.Reading.{Left, read}
 use Rattle.cose_head.specs.Measured.{left_of}
@@ -39,6 +41,10 @@ StandsIn p place = (p.place ≤ place) × (place ≤ end_of p)
 -- What is refused is refused inside.
 abbrev pub WholeIsRefusedInside : Type 0
 WholeIsRefusedInside = (depth : ℕ) (p : Placed) → IfErr (whole depth p) (λ refusal. StandsIn p refusal.place)
+
+-- And for no other reason: never Truncated, since the room is the number of the bytes.
+abbrev pub WholeReasons : Type 0
+WholeReasons = (depth : ℕ) (p : Placed) (refusal : Refusal) → whole depth p ≡ Err refusal → Contains whole_reasons refusal.reason
 
 -- What a tree is at its root. The simple values 20 and 21 are false and true (section 3.3).
 abbrev pub look_of_tree : Item → Look

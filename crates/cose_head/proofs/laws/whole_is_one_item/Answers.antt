@@ -1,3 +1,4 @@
+use Rattle.cose_head.proofs.Reasons.{whole_reason}
 use Rattle.std.proofs.Common.{arith}
 use Rattle.cose_head.proofs.Whole.{whole_is_item, item_is_whole, whole_is_deeper, refused_inside, one_item_is_whole, whole_is_one_item}
 use Rattle.cose_head.proofs.laws.whole_is_one_item.Goals as goal
@@ -16,3 +17,6 @@ returns-clause-inside c = refused_inside
 
 pub returns-clause-test : goal.returns-clause-test
 returns-clause-test c = λ p. (one_item_is_whole p, λ e. whole_is_one_item 32 p p (omega arith) e)
+
+pub returns-clause-reasons : goal.returns-clause-reasons
+returns-clause-reasons c = whole_reason
