@@ -3,7 +3,7 @@
 ghost use Rattle.cose_map.specs.Laws.Inside.{MapIsRefusedInside, ReadIsRefusedInside, BucketIsRefusedInside, KeyIsRefusedInside, BucketEndsInside, PairIsRefusedInside};
 ghost use Rattle.cose_map.specs.Laws.Chosen.{ChosenIsAmong, ChosenFits, ChosenIsOfKind, ChosenIsOfType, NoOtherFits};
 ghost use Rattle.cose_map.specs.Laws.Least.{NoLeastOfNone, LeastIsAmong, NoneBeforeLeast};
-ghost use Rattle.cose_map.specs.Laws.Reasons.{ItemIsRefusedFor, MapIsRefusedFor, ReadIsRefusedFor, BucketIsRefusedFor, KeyIsRefusedFor, KeySetIsRefusedFor, PairIsRefusedFor, ChoiceIsRefusedFor, BucketIsNotTruncated, KeyIsNotTruncated, KeySetIsNotTruncated, PairIsNotTruncated, ChoiceIsNotTruncated};
+ghost use Rattle.cose_map.specs.Laws.Reasons.{MapIsRefusedFor, ReadIsRefusedFor, BucketIsRefusedFor, KeyIsRefusedFor, KeySetIsRefusedFor, PairIsRefusedFor, ChoiceIsRefusedFor, BucketIsNotTruncated, KeyIsNotTruncated, KeySetIsNotTruncated, PairIsNotTruncated, ChoiceIsNotTruncated};
 ghost use Rattle.cose_map.specs.Laws.Tree.{ItemIsTree, MapIsOfTree, BucketIsOfTree, KeyIsOfTree};
 
 use cose_head::laws::{children_are_of_tree, look_is_of_tree, read_is_spelling, whole_is_one_item};
@@ -34,7 +34,6 @@ pub fn least_fault_is_least()
 /// For which reasons each call refuses: a map or bytes that are read with a table (the table's own are besides), a bucket
 /// (RFC 9052 section 3), a key and a key set (section 7), two buckets together (section 3.1), and the choice of the key.
 pub fn refusals_have_their_reasons()
-    ensures item { ItemIsRefusedFor }
     ensures map { MapIsRefusedFor }
     ensures read { ReadIsRefusedFor }
     ensures bucket { BucketIsRefusedFor }
@@ -43,8 +42,8 @@ pub fn refusals_have_their_reasons()
     ensures two_buckets { PairIsRefusedFor }
     ensures choice { ChoiceIsRefusedFor }
 {
-    // What this says of reading is all that the proof rests on.
-    read_steps();
+    // What this says of bytes that have to be one item is all that the proof rests on.
+    whole_is_one_item();
 }
 
 /// None of these refusals is `Truncated`: bytes that end too early for what stands in them are `PastRoom`.
@@ -55,8 +54,8 @@ pub fn refusals_are_not_truncated()
     ensures two_buckets { PairIsNotTruncated }
     ensures choice { ChoiceIsNotTruncated }
 {
-    // What this says of reading is all that the proof rests on.
-    read_steps();
+    // What this says of bytes that have to be one item is all that the proof rests on.
+    whole_is_one_item();
 }
 
 /// Bytes are accepted as one item exactly where they spell a tree of the grammar (RFC 8949 section 3), and the pairs of a
@@ -67,8 +66,9 @@ pub fn maps_are_of_trees()
     ensures bucket { BucketIsOfTree }
     ensures key { KeyIsOfTree }
 {
-    // What these three say of reading, of looks and of children is all that the proof rests on.
+    // What these say of reading, of looks and of children is all that the proof rests on.
     read_is_spelling();
+    whole_is_one_item();
     look_is_of_tree();
     children_are_of_tree();
 }

@@ -1,6 +1,5 @@
 pub mod Inside
 pub mod Least
-pub mod ReadReasons
 pub mod Reasons
 pub mod Tree
 pub mod Chosen

@@ -2,7 +2,8 @@
 use Rattle.std.specs.Prelude.{◌≢◌, ℕ, List, [], ◌∷◌, ◌++◌, IfErr, IfSome}
 use Rattle.std.specs.List.{Contains}
 use Rattle.cose_head.specs.declared.reason.Reason.{Reason}
-use Rattle.cose_head.specs.declared.reason.Reason.TheVariants.{Truncated, Reserved, Indefinite, BadSimple, TooDeep, PastRoom, NotMap, BadLabel, DuplicateLabel, BothBuckets, BadValue, CritUnprotected, CritAbsent, CritUnknown, BothIvs, NoAlg, UnknownAlg, AlgUnprotected, NoKey, AmbiguousKey, BadKeySet, UnknownKey, Trailing}
+use Rattle.cose_head.specs.declared.reason.Reason.TheVariants.{Truncated, NotMap, BadLabel, DuplicateLabel, BothBuckets, BadValue, CritUnprotected, CritAbsent, CritUnknown, BothIvs, NoAlg, UnknownAlg, AlgUnprotected, NoKey, AmbiguousKey, BadKeySet, UnknownKey}
+use Rattle.cose_head.specs.Reason.{whole_reasons}
 use Rattle.cose_head.specs.Placed.{Placed}
 use Rattle.cose_map.specs.Bucket.{bucket_of}
 use Rattle.cose_map.specs.Choice.{Question, chosen}
@@ -10,15 +11,10 @@ use Rattle.cose_map.specs.Key.{key_of}
 use Rattle.cose_map.specs.KeySet.{keys_of}
 use Rattle.cose_map.specs.Key.Value.{KeyValue}
 use Rattle.cose_map.specs.Label.{LabelValue}
-use Rattle.cose_map.specs.Map.Read.{Read, whole, check_map, read_map}
+use Rattle.cose_map.specs.Map.Read.{Read, check_map, read_map}
 use Rattle.cose_map.specs.Map.Form.{Table}
 use Rattle.cose_map.specs.Map.Pairs.{Pair}
 use Rattle.cose_map.specs.Bucket.Both.{pair_fault}
-
--- Bytes that have to be one item: those of reading it (RFC 8949 section 3), and a byte after it. They are never too
--- few: what doesn't fit in them is PastRoom.
-abbrev pub item_reasons : List Reason
-item_reasons = Reserved ∷ Indefinite ∷ BadSimple ∷ TooDeep ∷ PastRoom ∷ Trailing ∷ []
 
 -- An item that has to be a map of labels, none twice (RFC 9052 section 3). The table of the values has its own besides.
 abbrev pub map_reasons : List Reason
@@ -26,15 +22,15 @@ map_reasons = NotMap ∷ BadLabel ∷ DuplicateLabel ∷ []
 
 -- A header bucket (RFC 9052 section 3).
 abbrev pub bucket_reasons : List Reason
-bucket_reasons = item_reasons ++ (map_reasons ++ BadValue ∷ [])
+bucket_reasons = whole_reasons ++ (map_reasons ++ BadValue ∷ [])
 
 -- A key (RFC 9052 section 7).
 abbrev pub key_reasons : List Reason
-key_reasons = item_reasons ++ (map_reasons ++ BadValue ∷ UnknownKey ∷ [])
+key_reasons = whole_reasons ++ (map_reasons ++ BadValue ∷ UnknownKey ∷ [])
 
 -- A key set (RFC 9052 section 7).
 abbrev pub key_set_reasons : List Reason
-key_set_reasons = item_reasons ++ BadKeySet ∷ []
+key_set_reasons = whole_reasons ++ BadKeySet ∷ []
 
 -- The two buckets of a message together (RFC 9052 sections 3 and 3.1).
 abbrev pub pair_reasons : List Reason
@@ -52,16 +48,13 @@ RefusedFor reasons answer = IfErr answer (λ refusal. Contains reasons refusal.r
 abbrev pub FindsFaults : List Reason → Table → Type 0
 FindsFaults reasons table = (name : LabelValue) (value : Placed) → IfSome (table name value) (Contains reasons)
 
-abbrev pub ItemIsRefusedFor : Type 0
-ItemIsRefusedFor = (depth : ℕ) (p : Placed) → RefusedFor item_reasons (whole depth p)
-
 abbrev pub MapIsRefusedFor : Type 0
 MapIsRefusedFor = (reasons : List Reason) (table : Table) → FindsFaults reasons table → (p : Placed) →
     RefusedFor (map_reasons ++ reasons) (check_map table p)
 
 abbrev pub ReadIsRefusedFor : Type 0
 ReadIsRefusedFor = (reasons : List Reason) (table : Table) → FindsFaults reasons table → (depth : ℕ) (p : Placed) →
-    RefusedFor (item_reasons ++ (map_reasons ++ reasons)) (read_map table depth p)
+    RefusedFor (whole_reasons ++ (map_reasons ++ reasons)) (read_map table depth p)
 
 abbrev pub BucketIsRefusedFor : Type 0
 BucketIsRefusedFor = (depth : ℕ) (p : Placed) → RefusedFor bucket_reasons (bucket_of depth p)

@@ -3,6 +3,7 @@ use Rattle.std.specs.Prelude.{◌≡◌, ◌↔◌, ◌⊎◌, ℕ, ◌≤◌, L
 use Rattle.cose_head.specs.Item.{Item, map, Items, no_items, item, Spells, depth_of}
 use Rattle.cose_head.specs.Placed.{Placed, children_of}
 use Rattle.cose_head.specs.PlacedLaws.{look_of_tree}
+use Rattle.cose_head.specs.Whole.{whole}
 use Rattle.cose_map.specs.Bucket.{bucket_of}
 use Rattle.cose_map.specs.Key.{key_of, key_with}
 use Rattle.cose_map.specs.Key.Material.{material_of}
@@ -10,7 +11,7 @@ use Rattle.cose_map.specs.Key.Value.{KeyValue}
 use Rattle.cose_map.specs.Label.{LabelValue, label_like}
 use Rattle.cose_map.specs.Map.Form.{Table}
 use Rattle.cose_map.specs.Map.Pairs.{Pair}
-use Rattle.cose_map.specs.Map.Read.{whole, read_map}
+use Rattle.cose_map.specs.Map.Read.{read_map}
 
 -- The bytes spell a tree of a nesting of at most depth.
 pub record IsTree (depth : ℕ) (p : Placed) (tree : Item) : Type 0 where

@@ -8,14 +8,12 @@ use Rattle.std.proofs.lemmas.Bool.{cond_both}
 use Rattle.std.proofs.lemmas.List.Elements.{All-from_recursion, All-contains, Contains-append_left, Contains-append_right}
 use Rattle.std.proofs.lemmas.Result.{IfErr-weaker}
 use Rattle.cose_head.specs.declared.reason.Reason.{Reason}
-use Rattle.cose_head.specs.declared.reason.Reason.TheVariants.{Truncated, Reserved, Indefinite, BadSimple, TooDeep, PastRoom, NotMap, BadLabel, DuplicateLabel, BadValue, UnknownAlg, BadKeySet, UnknownKey, Trailing}
+use Rattle.cose_head.specs.declared.reason.Reason.TheVariants.{Truncated, NotMap, BadLabel, DuplicateLabel, BadValue, UnknownAlg, BadKeySet, UnknownKey}
 use Rattle.cose_head.specs.declared.refusal.Refusal.{Refusal}
-use Rattle.cose_head.specs.Item.{Item}
-use Rattle.cose_head.specs.Laws.{ReadSteps, Steps}
-use Rattle.cose_head.specs.Measured.{left_of}
 use Rattle.cose_head.specs.Placed.{Placed, look, is_a_map, integer_in, bytes_in, is_a_text, truth_in, children_of}
-use Rattle.cose_head.specs.Reason.{number_of}
-use Rattle.cose_head.specs.Reading.{Outcome, read, span_of}
+use Rattle.cose_head.specs.PlacedLaws.{WholeReasons}
+use Rattle.cose_head.specs.Reason.{number_of, whole_reasons}
+use Rattle.cose_head.specs.Whole.{whole}
 use Rattle.cose_map.specs.declared.key.curve.Curve.{Curve}
 use Rattle.cose_map.specs.Bucket.{bucket_of, crit_of}
 use Rattle.cose_map.specs.Bucket.Form.{bucket_form, bucket_table}
@@ -28,13 +26,12 @@ use Rattle.cose_map.specs.Key.Labels.{key_type, k, crv, x, y, d}
 use Rattle.cose_map.specs.KeySet.{items_in, usable_keys, keys_at, keys_of}
 use Rattle.cose_map.specs.Key.Value.{KeyValue}
 use Rattle.cose_map.specs.Label.{LabelValue, label_of}
-use Rattle.cose_map.specs.Map.Read.{Read, ◌>>=◌, refuse, name_at, new_name, value_at, label_after, pair_after, check_pairs, check_map, past_span, whole, read_map}
+use Rattle.cose_map.specs.Map.Read.{Read, ◌>>=◌, refuse, name_at, new_name, value_at, label_after, pair_after, check_pairs, check_map, read_map}
 use Rattle.cose_map.specs.Key.Material.{present, member, secret_in, symmetric_key, usable_curve, curve_in, coordinate_of, coordinate_in, sign_in, y_in, private_part, elliptic_key, material_in, material_of}
 use Rattle.cose_map.specs.Key.Curve.{curve_of}
 use Rattle.cose_map.specs.Bucket.Both.{pair_fault}
-use Rattle.cose_map.specs.Laws.Reasons.{item_reasons, map_reasons, bucket_reasons, key_reasons, key_set_reasons, pair_reasons, choice_reasons, RefusedFor, FindsFaults}
+use Rattle.cose_map.specs.Laws.Reasons.{map_reasons, bucket_reasons, key_reasons, key_set_reasons, pair_reasons, choice_reasons, RefusedFor, FindsFaults}
 use Rattle.cose_map.proofs.lemmas.Bucket.EachFault.{all_any, pair_fault_has}
-use Rattle.cose_map.proofs.lemmas.Laws.ReadReasons.{read_reasons, read_refused}
 
 -- refusals whose reasons have a property
 module _ (P : Reason → Type 0) where
@@ -174,30 +171,21 @@ key_finds : FindsFaults (BadValue ∷ []) key_table
 unfolding key_table
 key_finds name value = bad_if (key_form name value)
 
--- the reasons of reading, but for the first, where bytes are missing
-not_first : (reason : Reason) → Contains read_reasons reason → (reason ≡ Truncated → ⊥) → Contains item_reasons reason
-not_first reason (zero, within, e) whole = absurd (whole (sym e))
-not_first reason (suc k, within, e) whole =
-    Contains-append_left (Reserved ∷ Indefinite ∷ BadSimple ∷ TooDeep ∷ PastRoom ∷ []) (Trailing ∷ []) reason (k, omega arith, e)
-
--- with what is known of reading
-module _ (steps : ReadSteps) where
-  span_refused_for : (p : Placed) (found : Outcome Item) → Steps 1 (left_of p.bytes (length p.bytes) 0) found → IfErr found (λ refusal. Contains read_reasons refusal.reason) →
-      RefusedFor item_reasons (past_span p (span_of found))
-  span_refused_for p (Ok found) s t =
-      if_refuses (Contains item_reasons) (nat_lt found.1.place (length p.bytes)) _ (Ok p) (5, lit< tt, refl) tt
-  span_refused_for p (Err refusal) s t = not_first refusal.reason t (λ e. let room = (s.ended e).1 in omega arith)
-
-  pub item_refused_for : (depth : ℕ) (p : Placed) → RefusedFor item_reasons (whole depth p)
-  item_refused_for depth p =
-      let l = left_of p.bytes (length p.bytes) 0 in span_refused_for p (read depth l) (steps depth l) (read_refused depth l)
+-- with what is known of bytes that have to be one item
+module _ (reasons : WholeReasons) where
+  whole_refused_for : (depth : ℕ) (p : Placed) → RefusedFor whole_reasons (whole depth p)
+  whole_refused_for depth p = at (whole depth p) refl
+    where
+      at : (answer : Read Placed) → whole depth p ≡ answer → RefusedFor whole_reasons answer
+      at (Ok item) e = tt
+      at (Err refusal) e = reasons depth p refusal e
 
   pub read_refused_for : (reasons : List Reason) (table : Table) → FindsFaults reasons table → (depth : ℕ) (p : Placed) →
-      RefusedFor (item_reasons ++ (map_reasons ++ reasons)) (read_map table depth p)
+      RefusedFor (whole_reasons ++ (map_reasons ++ reasons)) (read_map table depth p)
   read_refused_for reasons table finds depth p =
-      then_refuses (Contains (item_reasons ++ (map_reasons ++ reasons))) (whole depth p) (check_map table)
-      (among_first item_reasons (map_reasons ++ reasons) (whole depth p) (item_refused_for depth p))
-      (λ item. among_last item_reasons (map_reasons ++ reasons) (check_map table item) (map_refused_for reasons table finds item))
+      then_refuses (Contains (whole_reasons ++ (map_reasons ++ reasons))) (whole depth p) (check_map table)
+      (among_first whole_reasons (map_reasons ++ reasons) (whole depth p) (whole_refused_for depth p))
+      (λ item. among_last whole_reasons (map_reasons ++ reasons) (check_map table item) (map_refused_for reasons table finds item))
 
   pub bucket_refused_for : (depth : ℕ) (p : Placed) → RefusedFor bucket_reasons (bucket_of depth p)
   unfolding bucket_of
@@ -217,7 +205,7 @@ module _ (steps : ReadSteps) where
       let set : Placed = record { bytes = bytes; place = 0 } in
       let bad : Contains key_set_reasons BadKeySet = (6, lit< tt, refl) in
       if_refuses (Contains key_set_reasons) (nat_lt 65535 (length bytes)) (refuse BadKeySet set) (keys_at set) bad
-      (then_refuses (Contains key_set_reasons) (whole 8 set) _ (among_first item_reasons (BadKeySet ∷ []) (whole 8 set) (item_refused_for 8 set))
+      (then_refuses (Contains key_set_reasons) (whole 8 set) _ (among_first whole_reasons (BadKeySet ∷ []) (whole 8 set) (whole_refused_for 8 set))
       (λ item. if_refuses (Contains key_set_reasons) (length (items_in item) == 0) (refuse BadKeySet item) (Ok (usable_keys item)) bad tt))
 
 -- two buckets
@@ -274,16 +262,16 @@ module _ (reasons : List Reason) (none : list_all is_other reasons ≡ true) whe
   fault_not_truncated None s = tt
   fault_not_truncated (Some refusal) s = not_truncated refusal.reason s
 
--- with what is known of reading
-module _ (steps : ReadSteps) where
+-- with what is known of bytes that have to be one item
+module _ (reasons : WholeReasons) where
   pub bucket_not_truncated : (depth : ℕ) (p : Placed) → IfErr (bucket_of depth p) (λ refusal. refusal.reason ≢ Truncated)
-  bucket_not_truncated depth p = refusal_not_truncated bucket_reasons refl (bucket_of depth p) (bucket_refused_for steps depth p)
+  bucket_not_truncated depth p = refusal_not_truncated bucket_reasons refl (bucket_of depth p) (bucket_refused_for reasons depth p)
 
   pub key_not_truncated : (p : Placed) → IfErr (key_of p) (λ refusal. refusal.reason ≢ Truncated)
-  key_not_truncated p = refusal_not_truncated key_reasons refl (key_of p) (key_refused_for steps p)
+  key_not_truncated p = refusal_not_truncated key_reasons refl (key_of p) (key_refused_for reasons p)
 
   pub key_set_not_truncated : (bytes : List ℕ) → IfErr (keys_of bytes) (λ refusal. refusal.reason ≢ Truncated)
-  key_set_not_truncated bytes = refusal_not_truncated key_set_reasons refl (keys_of bytes) (key_set_refused_for steps bytes)
+  key_set_not_truncated bytes = refusal_not_truncated key_set_reasons refl (keys_of bytes) (key_set_refused_for reasons bytes)
 
 pub pair_not_truncated : (protected unprotected : List Pair) (understood : List LabelValue) (after : ℕ) →
     IfSome (pair_fault protected unprotected understood after) (λ refusal. refusal.reason ≢ Truncated)

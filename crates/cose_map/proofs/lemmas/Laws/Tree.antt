@@ -3,13 +3,14 @@ use Rattle.std.proofs.Common.{◌≡◌, ◌∙◌, ◌⊎◌, inl, inr, ℕ, �
 use Rattle.std.specs.Prelude.{◌↔◌, nat_lt, ◌==◌}
 use Rattle.std.proofs.lemmas.Bool.Decides.{nat_tests}
 use Rattle.cose_head.specs.declared.reason.Reason.{Reason}
-use Rattle.cose_head.specs.declared.reason.Reason.TheVariants.{NotMap, Trailing}
+use Rattle.cose_head.specs.declared.reason.Reason.TheVariants.{NotMap}
 use Rattle.cose_head.specs.Item.{Item, unsigned, negative, byte_string, text_string, array, map, tag, simple, float, Items, no_items, item, count_of, Spells}
 use Rattle.cose_head.specs.Laws.{ReadIsSpelled}
 use Rattle.cose_head.specs.Measured.{left_of}
 use Rattle.cose_head.specs.Placed.{Placed, truth, other, look, is_a_map, children_of}
-use Rattle.cose_head.specs.PlacedLaws.{IsItem, look_of_tree, AreItems, LookIsOfTree, MapHasItsPairs}
+use Rattle.cose_head.specs.PlacedLaws.{IsItem, WholeIsItem, ItemIsWhole, look_of_tree, AreItems, LookIsOfTree, MapHasItsPairs}
 use Rattle.cose_head.specs.Reading.{Outcome, read, span_of}
+use Rattle.cose_head.specs.Whole.{whole}
 use Rattle.cose_map.specs.Bucket.{bucket_of}
 use Rattle.cose_map.specs.Bucket.Form.{bucket_table}
 use Rattle.cose_map.specs.Key.{key_of, key_with}
@@ -20,7 +21,7 @@ use Rattle.cose_map.specs.Label.{LabelValue, label_of, label_like}
 use Rattle.cose_map.specs.Laws.Tree.{IsTree, IsPair, ArePairs, items_of, HasPairs}
 use Rattle.cose_map.specs.Map.Form.{Table}
 use Rattle.cose_map.specs.Map.Pairs.{Pair, has_label}
-use Rattle.cose_map.specs.Map.Read.{Read, ◌>>=◌, refuse, name_at, new_name, value_at, pair_after, check_pairs, check_map, past_span, whole, read_map}
+use Rattle.cose_map.specs.Map.Read.{Read, ◌>>=◌, refuse, name_at, new_name, value_at, pair_after, check_pairs, check_map, read_map}
 
 -- a pair that passes is made of its label and its value
 abbrev pair_with : LabelValue → Placed → Placed → Pair
@@ -63,19 +64,12 @@ map_tree (simple n) e = absurd (simple_no_map (n == 20) (n == 21) e)
 map_tree (float width bits) e = cc
 
 -- lengths
-not_less : (place size part : ℕ) → nat_lt place size ≡ false → place ≡ 0 + part → size ≤ part
-not_less place size part t e = grind (arith, nat_tests)
-
 is_zero : (n : ℕ) → (n == 0) ≡ true → n ≡ 0
 is_zero n e = grind (arith, nat_tests)
 
 no_bytes : (bytes : List ℕ) → (length bytes == 0) ≡ true → bytes ≡ []
 no_bytes [] e = refl
 no_bytes (b ∷ bs) e = let none : length (b ∷ bs) ≡ 0 = is_zero (length (b ∷ bs)) e in absurd (omega arith)
-
-no_more : (all part rest : List ℕ) → all ≡ part ++ rest → length all ≤ length part → all ≡ part
-no_more all part [] e long = e ∙ append-nil part
-no_more all part (b ∷ rest) e long = absurd (omega (arith, ap length e, length-append part (b ∷ rest)))
 
 -- with what is known of reading and of children
 module _ (spelled : ReadIsSpelled) where
@@ -93,35 +87,14 @@ module _ (spelled : ReadIsSpelled) where
   tree_item : (depth : ℕ) (p : Placed) (tree : Item) → IsTree depth p tree → IsItem depth p tree
   tree_item depth p tree s = record { rest = left_of [] 0 (p.place + length p.bytes); is_read = tree_read depth p tree p.place s; nothing_left = refl }
 
-  -- bytes that are one item
-  span_tree : (depth : ℕ) (p q : Placed) (found : Outcome Item) → read depth (left_of p.bytes (length p.bytes) 0) ≡ found → past_span p (span_of found) ≡ Ok q →
-      (q ≡ p) × ((tree : Item) × IsTree depth p tree)
-  span_tree depth p q (Err refusal) e f = cc
-  span_tree depth p q (Ok found) e f = at (nat_lt found.1.place (length p.bytes)) refl f
-    where
-      at : (b : Bool) → nat_lt found.1.place (length p.bytes) ≡ b →
-          ◌≡◌ {A = Read Placed} (if b then Err (record { reason = Trailing; place = p.place + found.1.place }) else Ok p) (Ok q) → (q ≡ p) × ((tree : Item) × IsTree depth p tree)
-      at true t f = cc
-      at false t f =
-          let s = (spelled depth (left_of p.bytes (length p.bytes) 0) found.0 found.1).0 e in
-          let part = s.0.part in
-          let long : length p.bytes ≤ length part = not_less found.1.place (length p.bytes) (length part) t s.0.place in
-          let all : p.bytes ≡ part = no_more p.bytes part found.1.bytes s.0.whole long in
-          let same : p ≡ q = cc in
-          (sym same, (found.0, record { spelled = subst (λ b. Spells b found.0) (sym all) s.0.is_part; nested = s.1 }))
+  module _ (wholes : WholeIsItem) where
+    whole_tree : (depth : ℕ) (p q : Placed) → whole depth p ≡ Ok q → (q ≡ p) × ((tree : Item) × IsTree depth p tree)
+    whole_tree depth p q e = let found = wholes depth p q e in (found.2, (found.0, item_tree depth p found.0 found.1))
 
-  whole_tree : (depth : ℕ) (p q : Placed) → whole depth p ≡ Ok q → (q ≡ p) × ((tree : Item) × IsTree depth p tree)
-  whole_tree depth p q e = span_tree depth p q (read depth (left_of p.bytes (length p.bytes) 0)) refl e
+    pub item_is_tree : ItemIsWhole → (depth : ℕ) (p : Placed) → (whole depth p ≡ Ok p) ↔ ((tree : Item) × IsTree depth p tree)
+    item_is_tree accepted depth p = (λ e. (whole_tree depth p p e).1, λ s. accepted depth p s.0 (tree_item depth p s.0 s.1))
 
-  tree_whole : (depth : ℕ) (p : Placed) (tree : Item) → IsTree depth p tree → whole depth p ≡ Ok p
-  tree_whole depth p tree s =
-      let fits : nat_lt (0 + length p.bytes) (length p.bytes) ≡ false = grind (arith, nat_tests) in
-      rw (tree_read depth p tree 0 s, fits) refl
-
-  pub item_is_tree : (depth : ℕ) (p : Placed) → (whole depth p ≡ Ok p) ↔ ((tree : Item) × IsTree depth p tree)
-  item_is_tree depth p = (λ e. (whole_tree depth p p e).1, λ s. tree_whole depth p s.0 s.1)
-
-  module _ (looks : LookIsOfTree) (maps : MapHasItsPairs) where
+  module _ (wholes : WholeIsItem) (looks : LookIsOfTree) (maps : MapHasItsPairs) where
     pair_tree : (depth : ℕ) (label value : Placed) (t v : Item) → IsItem depth label t → IsItem depth value v → (name : LabelValue) → label_of label ≡ Some name →
         IsPair (pair_with name label value) t v
     pair_tree depth label value t v s r name e = record {
@@ -190,7 +163,7 @@ module _ (spelled : ReadIsSpelled) where
         at : (answer : Read Placed) → whole depth p ≡ answer → (answer >>= check_map table) ≡ Ok pairs → HasPairs depth p pairs
         at (Err refusal) e c = cc
         at (Ok q) e c =
-            let found = whole_tree depth p q e in
+            let found = whole_tree wholes depth p q e in
             checked_tree table depth p pairs found.1.0 shallow found.1.1 (rw found.0 at c)
 
     pub bucket_of_tree : (depth : ℕ) (p : Placed) (pairs : List Pair) → depth ≤ 32 → bucket_of depth p ≡ Ok pairs → ((p.bytes ≡ []) × (pairs ≡ [])) ⊎ HasPairs depth p pairs
