@@ -2,14 +2,13 @@
 use Rattle.std.proofs.Common.{◌≡◌, ℕ, ◌≤◌, true, Option, Some, None, Result, Ok, Err, arith}
 use Rattle.std.proofs.lemmas.Bool.{eqb-true, leb-true}
 use Rattle.cose_head.specs.declared.reason.Reason.{Reason}
-use Rattle.cose_head.specs.Laws.{ReadSteps}
-use Rattle.cose_mac.specs.declared.alg.Alg.{Alg}
-use Rattle.cose_mac.specs.declared.alg.Alg.TheVariants.{Hmac64, Hmac256, Hmac384, Hmac512, Es256}
-use Rattle.cose_mac.specs.Algorithm.{auth_length_of}
+use Rattle.cose_head.specs.declared.algorithm.Alg.{Alg}
+use Rattle.cose_head.specs.declared.algorithm.Alg.TheVariants.{Hmac64, Hmac256, Hmac384, Hmac512, Es256}
+use Rattle.cose_head.specs.Algorithm.{auth_length_of}
 use Rattle.cose_msg.specs.Answer.{Answer, Chosen, Whole}
 use Rattle.cose_msg.specs.Laws.{AuthIsAtMost, MessageIsVerifiedWithin, MessageIsInspectedWithin}
 use Rattle.cose_msg.specs.Message.{Setting, rules_with, found_key, as_choice, key_choice_of, has_auth_length, uncompared, comparing, verifying, inspecting}
-use Rattle.cose_msg.proofs.Settles.{message_is_bounded}
+use Rattle.cose_msg.proofs.Settles.{BoundLaws, message_is_bounded}
 
 algorithms_are_short : (alg : Alg) → auth_length_of alg ≤ 132
 algorithms_are_short Hmac64 = omega arith
@@ -40,12 +39,12 @@ none-fits : (chosen : Option Chosen) → no_key ≡ Ok chosen → FitsIn 65535 c
 none-fits (Some found) is = absurd cc
 none-fits None is = λ n e. leb-true n 65535 e
 
-pub verified_within : ReadSteps → MessageIsVerifiedWithin
-verified_within steps = (
-  λ room nesting setting bytes le. message_is_bounded steps (uncompared room nesting setting) 132 (verified-fits room nesting setting (uncompared room nesting setting).finish) bytes (omega arith),
-  λ room nesting setting bytes le. message_is_bounded steps (comparing room nesting setting) 132 (verified-fits room nesting setting (comparing room nesting setting).finish) bytes (omega arith),
-  λ decides room nesting setting bytes le. message_is_bounded steps (verifying room nesting setting decides) 132 (verified-fits room nesting setting (verifying room nesting setting decides).finish) bytes (omega arith),
+pub verified_within : BoundLaws → MessageIsVerifiedWithin
+verified_within laws = (
+  λ room nesting setting bytes le. message_is_bounded laws (uncompared room nesting setting) 132 (verified-fits room nesting setting (uncompared room nesting setting).finish) bytes (omega arith),
+  λ room nesting setting bytes le. message_is_bounded laws (comparing room nesting setting) 132 (verified-fits room nesting setting (comparing room nesting setting).finish) bytes (omega arith),
+  λ decides room nesting setting bytes le. message_is_bounded laws (verifying room nesting setting decides) 132 (verified-fits room nesting setting (verifying room nesting setting decides).finish) bytes (omega arith),
 )
 
-pub inspected_within : ReadSteps → MessageIsInspectedWithin
-inspected_within steps room nesting setting bytes le = message_is_bounded steps (inspecting room nesting setting) 65535 (λ headers chosen n is e. none-fits chosen is n e) bytes (omega arith)
+pub inspected_within : BoundLaws → MessageIsInspectedWithin
+inspected_within laws room nesting setting bytes le = message_is_bounded laws (inspecting room nesting setting) 65535 (λ headers chosen n is e. none-fits chosen is n e) bytes (omega arith)

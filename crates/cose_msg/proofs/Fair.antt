@@ -4,11 +4,11 @@ use Rattle.std.specs.Prelude.{◌≢◌, IfErr}
 use Rattle.std.specs.Str.{bytes_eq}
 use Rattle.cose_head.specs.declared.reason.Reason.{Reason}
 use Rattle.cose_head.specs.declared.reason.Reason.TheVariants.{Truncated}
-use Rattle.cose_mac.specs.declared.alg.Alg.{Alg}
-use Rattle.cose_mac.specs.Algorithm.{algorithm_numbered, is_mac_of}
+use Rattle.cose_head.specs.declared.algorithm.Alg.{Alg}
+use Rattle.cose_head.specs.Algorithm.{algorithm_numbered, is_mac_of}
 use Rattle.cose_map.specs.Choice.{chosen}
-use Rattle.cose_map.specs.KeyValue.{KeyValue}
-use Rattle.cose_map.specs.Reasons.{ChoiceIsNotTruncated}
+use Rattle.cose_map.specs.Key.Value.{KeyValue}
+use Rattle.cose_map.specs.Laws.Reasons.{ChoiceIsNotTruncated}
 use Rattle.cose_msg.specs.Answer.{Answer, complete, Chosen, Headers, Whole}
 use Rattle.cose_msg.specs.Laws.{IsDefinite, StandsBy, AreFair, AllAreFair}
 use Rattle.cose_msg.specs.Message.{Setting, Decides, rules_with, question_of, with_algorithm, past_chosen, found_key, as_choice, key_choice_of, tag_of, digest_signed, judged, compare_tag, compared, verified, shape_of}

@@ -8,10 +8,10 @@ use Rattle.cose_head.specs.declared.reason.Reason.{Reason}
 use Rattle.cose_head.specs.declared.reason.Reason.TheVariants.{Truncated, PastRoom, WrongTag, Encrypted, SeveralParties, NotFour, WrongType, Detached, BadAuthLength, PayloadTooLong, CwtTagAlone}
 use Rattle.cose_head.specs.declared.refusal.Refusal.{Refusal}
 use Rattle.cose_map.specs.Bucket.{bucket_of}
-use Rattle.cose_map.specs.Inside.{PairsEndBy, BucketIsRefusedInside, BucketEndsInside, PairIsRefusedInside}
-use Rattle.cose_map.specs.Maps.{Pair}
-use Rattle.cose_map.specs.PairFault.{pair_fault}
-use Rattle.cose_map.specs.Reasons.{BucketIsNotTruncated, PairIsNotTruncated, ChoiceIsNotTruncated}
+use Rattle.cose_map.specs.Laws.Inside.{PairsEndBy, BucketIsRefusedInside, BucketEndsInside, PairIsRefusedInside}
+use Rattle.cose_map.specs.Map.Pairs.{Pair}
+use Rattle.cose_map.specs.Bucket.Both.{pair_fault}
+use Rattle.cose_map.specs.Laws.Reasons.{BucketIsNotTruncated, PairIsNotTruncated, ChoiceIsNotTruncated}
 use Rattle.cose_msg.specs.declared.context.Wanted.{Wanted}
 use Rattle.cose_msg.specs.declared.context.Wanted.TheVariants as wants
 use Rattle.cose_msg.specs.Answer.{Chosen, Headers, Whole}
