@@ -1,5 +1,5 @@
 -- Heads whose bytes come one by one.
-use Rattle.std.proofs.Common.{◌≡◌, ℕ, ◌+◌, ◌-◌, ◌<◌, ◌≤◌, ⊎_elim, true, false, List, [], ◌∷◌, ◌++◌, length, take, drop, Option, Some, None, Err, refl, sym, ap, ◌∙◌, arith, append_assoc, append-nil}
+use Rattle.std.proofs.Common.{◌≡◌, ℕ, ◌+◌, ◌-◌, ◌<◌, ◌≤◌, ⊎_elim, true, false, List, [], ◌∷◌, ◌++◌, length, take, drop, Option, Some, None, Err, refl, sym, ap, ◌∙◌, arith, append_assoc, append-nil, one-add}
 use Rattle.std.proofs.lemmas.Bool.{cases_lt, lt-ltb, le-ltb, ltb-true, cond_both}
 use Rattle.std.proofs.lemmas.Bool.Decides.{nat_tests}
 use Rattle.std.proofs.lemmas.List.{take_all, length-append}
@@ -17,7 +17,7 @@ use Rattle.cose_head.specs.Measured.{left_of}
 use Rattle.cose_head.specs.Laws.{more_after, IsSettled}
 use Rattle.cose_head.specs.HalfHead.{is_more, is_half, IsHeadAt}
 use Rattle.cose_head.proofs.Heads.{of_seen, head_as_seen, got_width}
-use Rattle.cose_head.proofs.BareHeads.{checked_whole}
+use Rattle.cose_head.proofs.BareHeads.{checked_whole, bare_sound}
 use Rattle.cose_head.proofs.HeadCases.{head_cases}
 use Rattle.cose_head.proofs.Stable.{head_same}
 
@@ -60,6 +60,26 @@ half_is_short half e =
     let missing = half_is_more half e in
     let short = bare_head-more half missing.0 missing.1 in
     omega arith
+
+pub short_half : (bytes : List ℕ) → IsMore (bare_head bytes) → length bytes < 9
+short_half bytes half = go (bare_head bytes) refl half
+  where
+    go : (step : HeadStep) → bare_head bytes ≡ step → IsMore step → length bytes < 9
+    go (More n) e s = let short = bare_head-more bytes n e in omega arith
+    go (Got h used) e s = absurd s
+    go (Fault reason) e s = absurd s
+
+-- the length of a head that is there
+pub head_fits : (bytes : List ℕ) (h : Head) (used : ℕ) → bare_head bytes ≡ Got h used → (0 < used) × (used ≤ 9) × (used ≤ length bytes)
+head_fits bytes h used e =
+    let s = bare_sound bytes h used e in
+    let part : length s.part ≡ 1 + length s.is_head.argument_bytes = ap length s.is_head.whole ∙ sym (one-add (length s.is_head.argument_bytes)) in
+    let wide = s.is_head.has_width in
+    let small = argument_length-small (low_of s.is_head.initial) in
+    let whole : length bytes ≡ length s.part + length s.rest = ap length s.whole ∙ length-append s.part s.rest in
+    let ends = s.ends in
+    let width = s.wide in
+    (omega arith, omega arith, omega arith)
 
 -- all bytes are seen where the room holds them
 seen : (first : List ℕ) (room place : ℕ) (step : HeadStep) → bare_head first ≡ step → length first ≤ room

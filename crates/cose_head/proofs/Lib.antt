@@ -22,5 +22,9 @@ pub mod ShortItems
 pub mod ShortLeast
 pub mod ReadLaws
 pub mod Spans
+pub mod Reasons
+pub mod Moves
+pub mod WalkerLaws
 pub mod PlacedTrees
+pub mod Whole
 pub mod Inside

@@ -1,6 +1,7 @@
 //! Heads and items of CBOR (RFC 8949), and the reasons for which COSE messages are refused.
 #![tactic(auto)]
 
+mod algorithm;
 mod half_head;
 mod head;
 mod item;
@@ -12,6 +13,7 @@ mod reason;
 mod refusal;
 mod walker;
 
+pub use algorithm::{Alg, Hash, KeyType};
 pub use head::{Head, HeadStep, parse_head, write_head};
 pub use item::{Span, read_item};
 pub use item_ref::ItemRef;

@@ -2,15 +2,15 @@
 //! MACs and digests of the bytes that are authenticated.
 #![tactic(auto)]
 
-mod alg;
+mod hash;
 mod hasher;
 mod hmac;
+pub mod laws;
 mod running;
 mod structure;
 #[cfg(test)]
 mod tests;
 
-pub use alg::Alg;
-pub use cose_head::Kind;
+pub use cose_head::{Alg, Kind};
 pub use running::Running;
 pub use structure::structure_front;

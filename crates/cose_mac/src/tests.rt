@@ -60,27 +60,6 @@ fn hmac_of_whole(key: &[u8; 4], message: &[u8]) -> [u8; 32] {
         .finalize()
 }
 
-#[test]
-fn has_the_table_of_the_standard(rt: HostRuntime) {
-    let table = [
-        (4, Alg::Hmac64, Kind::Mac0, 8),
-        (5, Alg::Hmac256, Kind::Mac0, 32),
-        (6, Alg::Hmac384, Kind::Mac0, 48),
-        (7, Alg::Hmac512, Kind::Mac0, 64),
-        (-7, Alg::Es256, Kind::Sign1, 64),
-    ];
-    for (number, alg, kind, length) in table {
-        assert_eq!(rt; Alg::from_number(number), Some(alg), "at {number}");
-        assert_eq!(rt; alg.number(), number, "of {alg:?}");
-        assert_eq!(rt; alg.kind(), kind, "of {alg:?}");
-        assert_eq!(rt; alg.is_mac(), kind == Kind::Mac0, "of {alg:?}");
-        assert_eq!(rt; alg.auth_length(), length, "of {alg:?}");
-    }
-    for number in [0, 3, 8, 10, -6, -8, -37, -65535, i128::MIN, i128::MAX] {
-        assert_eq!(rt; Alg::from_number(number), None, "at {number}");
-    }
-}
-
 /// A test case of RFC 4231: its MACs under HMAC 256/256, 384/384 and 512/512.
 #[derive(Clone, Copy)]
 struct Case<'a> {

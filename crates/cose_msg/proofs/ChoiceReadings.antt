@@ -4,8 +4,9 @@ use Rattle.cose_head.specs.declared.kind.Kind.{Kind}
 use Rattle.cose_head.specs.declared.reason.Reason.{Reason}
 use Rattle.cose_head.specs.declared.refusal.Refusal.{Refusal}
 use Rattle.cose_map.specs.Bucket.{bucket_of}
-use Rattle.cose_map.specs.Maps.{Pair, Read}
-use Rattle.cose_map.specs.PairFault.{pair_fault}
+use Rattle.cose_map.specs.Map.Pairs.{Pair}
+use Rattle.cose_map.specs.Map.Read.{Read}
+use Rattle.cose_map.specs.Bucket.Both.{pair_fault}
 use Rattle.std.specs.Prelude.{◌==◌}
 use Rattle.cose_msg.specs.declared.verifier.choice.Choice as code
 use Rattle.cose_msg.specs.Answer.{Chosen}

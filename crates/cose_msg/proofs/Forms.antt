@@ -1,6 +1,6 @@
 -- The laws of each form of a phase: a settled reading stays, and one that isn't settled is Truncated where the bytes end.
-use Rattle.std.proofs.Common.{◌≡◌, ℕ, ◌+◌, ◌-◌, ◌<◌, ◌≤◌, ◌⊎◌, inl, inr, Bool, true, false, cond, List, [], ◌∷◌, ◌++◌, length, take, drop, Option, Some, None, Result, Ok, Err, refl, sym, ap, subst, ◌∙◌, arith, length-append, length-drop}
-use Rattle.std.specs.Prelude.{nat_lt}
+use Rattle.std.proofs.Common.{◌≡◌, ℕ, ◌+◌, ◌≤◌, inl, inr, Bool, true, false, cond, List, ◌++◌, length, take, drop, Option, Some, None, Result, Ok, Err, refl, sym, ap, subst, ◌∙◌, arith, length-append, length-drop}
+use Rattle.std.specs.Prelude.{◌≢◌, nat_lt}
 use Rattle.std.proofs.lemmas.Bool.{cases_lt, le-ltb, lt-ltb}
 use Rattle.std.proofs.lemmas.List.{take-append-le, drop-append-le}
 use Rattle.cose_head.specs.declared.head.Head.{Head}
@@ -11,12 +11,12 @@ use Rattle.cose_head.specs.declared.reason.Reason.TheVariants.{Truncated}
 use Rattle.cose_head.specs.declared.refusal.Refusal.{Refusal}
 use Rattle.cose_head.specs.Head.{bare_head}
 use Rattle.cose_head.specs.Item.{Item}
-use Rattle.cose_head.specs.Laws.{HeadIsSpelled, HeadStays, IsSettled, ReadStays, ReadSteps, Steps, more, more_after}
+use Rattle.cose_head.specs.Laws.{HeadIsSpelled, HeadStays, ReadStays, ReadSteps, Steps, more}
 use Rattle.cose_head.specs.Measured.{left_of}
 use Rattle.cose_head.specs.Reading.{Left, Outcome, read}
 use Rattle.cose_msg.specs.Answer.{refused}
 use Rattle.cose_msg.specs.Laws.{Stays, EndsTruncated}
-use Rattle.cose_msg.specs.Reading.{Told, Reading, Phase, Next, settled, stop, cut, past_head, with_head, with_string, is_truncated, past_item, with_item, unless, unless_fault, with_value}
+use Rattle.cose_msg.specs.Reading.{Told, Reading, Phase, Next, stop, cut, past_head, with_head, with_string, is_truncated, past_item, with_item, unless, unless_fault, with_value}
 
 -- Both laws of a phase.
 pub record Lawful (phase : Phase) : Type 0 where
@@ -24,7 +24,11 @@ pub record Lawful (phase : Phase) : Type 0 where
   pub ends : EndsTruncated phase
 
 -- The laws of heads and items that these rest on.
+abbrev pub HeadIsDefinite : Type 0
+HeadIsDefinite = (bytes : List ℕ) (reason : Reason) → bare_head bytes ≡ Fault reason → reason ≢ Truncated
+
 pub record HeadLaws : Type 0 where
+  pub faults : HeadIsDefinite
   pub spelled : HeadIsSpelled
   pub head_stays : HeadStays
   pub read_stays : ReadStays
@@ -40,7 +44,7 @@ settled-lawful f h = record { stays = λ more place bytes e. refl; ends = λ pla
 -- ---- a head
 
 module _ (laws : HeadLaws) where
-  head_there : (bytes : List ℕ) (head : Head) (used : ℕ) → bare_head bytes ≡ Got head used → used ≤ length bytes
+  pub head_there : (bytes : List ℕ) (head : Head) (used : ℕ) → bare_head bytes ≡ Got head used → used ≤ length bytes
   head_there bytes head used e =
       let spelled = (laws.spelled bytes head used).0 e in
       omega (arith, spelled.ends, spelled.wide, ap length spelled.whole, length-append spelled.part spelled.rest)
@@ -106,7 +110,7 @@ with_string-lawful told n next h = record { stays = with_string-stays told n nex
 
 -- ---- an item
 
-not_truncated : (reason : Reason) → is_truncated reason ≡ false → reason ≡ Truncated → ⊥
+pub not_truncated : (reason : Reason) → is_truncated reason ≡ false → reason ≢ Truncated
 not_truncated reason e is = let never : true ≡ false = sym (ap is_truncated is) ∙ e in absurd cc
 
 pub either_settled : (b : Bool) (x y : Reading) → x.settled ≡ false → (cond b x y).settled ≡ true → b ≡ false
@@ -122,7 +126,7 @@ refused_open true n x y h is e = is
 refused_open false n x y h is e = absurd (let never : true ≡ false = sym h ∙ e in cc)
 
 module _ (laws : HeadLaws) where
-  item_there : (depth room : ℕ) (bytes : List ℕ) (found : Item × Left) → read depth (left_of bytes room 0) ≡ Ok found → found.1.place ≤ length bytes
+  pub item_there : (depth room : ℕ) (bytes : List ℕ) (found : Item × Left) → read depth (left_of bytes room 0) ≡ Ok found → found.1.place ≤ length bytes
   item_there depth room bytes found e =
       let step : Steps 1 (left_of bytes room 0) (Ok found) = rw e at (laws.steps depth (left_of bytes room 0)) in
       let place : found.1.place ≡ 0 + step.used = ap (λ (l : Left). l.place) step.left in

@@ -1,21 +1,21 @@
 -- Every phase of a message is lawful: a settled reading stays, and one that isn't settled is Truncated where the bytes end.
-use Rattle.std.proofs.Common.{◌≡◌, ℕ, ◌+◌, Bool, true, false, cond, List, [], ◌++◌, length, Option, Some, None, Result, Ok, Err, refl, sym, ap, ◌∙◌, arith, zero-add}
+use Rattle.std.proofs.Common.{◌≡◌, ℕ, Bool, true, false, List, [], length, Option, Result, Ok, Err, refl, sym, ap, ◌∙◌, zero-add}
 use Rattle.cose_head.specs.declared.head.Head.{Head}
 use Rattle.cose_head.specs.declared.kind.Kind.{Kind}
 use Rattle.cose_head.specs.declared.kind.Kind.TheVariants as kinds
 use Rattle.cose_head.specs.declared.reason.Reason.{Reason}
 use Rattle.cose_head.specs.declared.reason.Reason.TheVariants.{Truncated, WrongType, WrongTag}
 use Rattle.cose_map.specs.Bucket.{bucket_of}
-use Rattle.cose_map.specs.Maps.{Pair}
-use Rattle.cose_map.specs.PairFault.{pair_fault}
+use Rattle.cose_map.specs.Map.Pairs.{Pair}
+use Rattle.cose_map.specs.Bucket.Both.{pair_fault}
 use Rattle.cose_msg.specs.declared.context.Wanted.{Wanted}
 use Rattle.cose_msg.specs.declared.context.Wanted.TheVariants as wants
 use Rattle.cose_msg.specs.Answer.{Chosen, Headers, refused}
 use Rattle.cose_msg.specs.Front.{array_head_fault, past_array_head, array_head, kind_of_tag, past_tag, tag_behind_cwt, past_second_head, second_head, past_untagged, is_cwt_tag, is_tag, is_array, past_first_head, first_head}
 use Rattle.cose_msg.specs.Laws.{MessageStays, MessageEndsTruncated, OpenEarlier, VerdictStays}
-use Rattle.cose_msg.specs.Message.{Decides, Setting, message, verdict_of, verifying}
+use Rattle.cose_msg.specs.Message.{message, verifying}
 use Rattle.cose_msg.specs.Phases.{nothing_told, protected_told, headers_told, finish, auth, auth_head_fault, past_auth_head, auth_head, past_payload, payload, payload_head_fault, past_payload_head, payload_head, past_choice, key_choice, both_buckets, placed_at, headers_of, past_unprotected, unprotected, past_protected, protected, protected_head_fault, past_protected_head, protected_head}
-use Rattle.cose_msg.specs.Reading.{Reading, Phase, settled, stop}
+use Rattle.cose_msg.specs.Reading.{Reading, stop}
 use Rattle.cose_msg.specs.Rules.{Rules}
 use Rattle.cose_msg.proofs.Forms.{HeadLaws, Lawful, settled-lawful, with_head-lawful, with_string-lawful, with_item-lawful, unless_fault-lawful, unless_at-lawful, with_value-lawful, either-lawful}
 

@@ -3,7 +3,8 @@ use Rattle.std.proofs.Common.{◌≡◌, ℕ, ◌+◌, Bool, true, false, cond, 
 use Rattle.std.specs.Prelude.{◌==◌}
 use Rattle.std.specs.Str.{bytes_eq}
 use Rattle.cose_head.specs.declared.kind.Kind.{Kind}
-use Rattle.cose_mac.specs.Algorithm.{is_mac_of, mac}
+use Rattle.cose_head.specs.Algorithm.{is_mac_of}
+use Rattle.cose_mac.specs.Hmac.{mac}
 use Rattle.cose_mac.specs.Structure.{structure_front, structure_of}
 use Rattle.cose_msg.specs.declared.hashing.Hashing.{Hashing}
 use Rattle.cose_msg.specs.Answer.{Chosen}

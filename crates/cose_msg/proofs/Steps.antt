@@ -14,8 +14,8 @@ use Rattle.cose_head.specs.Laws.{ReadStays}
 use Rattle.cose_head.specs.Measured.{left_of}
 use Rattle.cose_head.specs.Reading.{read}
 use Rattle.cose_head.specs.Walker.{Answers}
-use Rattle.cose_map.specs.Maps.{Read}
-use Rattle.cose_map.specs.Views.{refusal_in}
+use Rattle.cose_map.specs.Map.Read.{Read}
+use Rattle.cose_map.specs.Map.View.{refusal_in}
 use Rattle.cose_msg.specs.declared.phase.Phase as code
 use Rattle.cose_msg.specs.declared.phase.Phase.TheVariants as phases
 use Rattle.cose_msg.specs.Phase.{grown, takes_bytes}

@@ -2,8 +2,9 @@
 use Rattle.std.specs.Prelude.{◌≡◌, Bool, List, length, Result, Ok, Err, ◌==◌}
 use Rattle.cose_head.specs.declared.reason.Reason.{Reason}
 use Rattle.cose_head.specs.declared.refusal.Refusal.{Refusal}
-use Rattle.cose_map.specs.KeyView.{key_value}
-use Rattle.cose_map.specs.Maps.{Pair, Read}
+use Rattle.cose_map.specs.Key.View.{key_value}
+use Rattle.cose_map.specs.Map.Pairs.{Pair}
+use Rattle.cose_map.specs.Map.Read.{Read}
 use Rattle.cose_msg.specs.declared.verifier.Chosen as code
 use Rattle.cose_msg.specs.declared.verifier.choice.Choice as code_choice
 use Rattle.cose_msg.specs.Answer.{Chosen}

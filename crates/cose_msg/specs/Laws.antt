@@ -1,9 +1,11 @@
 -- What holds of the reading of a message.
-use Rattle.std.specs.Prelude.{◌≡◌, ℕ, ◌+◌, List, ◌++◌, length, true, false}
+use Rattle.std.specs.Prelude.{◌≡◌, ◌≢◌, ◌↔◌, ℕ, ◌+◌, ◌-◌, ◌*◌, ◌^◌, ◌≤◌, min, List, ◌++◌, length, true, false, Option, Ok, IfErr, ⊤}
+use Rattle.cose_head.specs.declared.reason.Reason.{Reason}
 use Rattle.cose_head.specs.declared.reason.Reason.TheVariants.{Truncated}
-use Rattle.cose_msg.specs.Answer.{refused}
-use Rattle.cose_msg.specs.Message.{Decides, Setting, message, verdict_of, verifying}
-use Rattle.cose_msg.specs.Reading.{Phase}
+use Rattle.cose_msg.specs.declared.verdict.Verdict.TheVariants.{Authentic, Refused}
+use Rattle.cose_msg.specs.Answer.{Answer, decided, complete, shaped, refused, Chosen, Headers, Whole}
+use Rattle.cose_msg.specs.Message.{Decides, Setting, message, verdict_of, compared, verified, uncompared, comparing, verifying, inspecting}
+use Rattle.cose_msg.specs.Reading.{Reading, Phase}
 use Rattle.cose_msg.specs.Rules.{Rules}
 
 -- A settled reading stays when bytes follow.
@@ -29,3 +31,102 @@ abbrev pub VerdictStays : Type 0
 VerdictStays = (room nesting : ℕ) (setting : Setting) (decides : Decides) (bytes more : List ℕ) →
     (message (verifying room nesting setting decides) bytes).settled ≡ true →
     verdict_of room nesting setting decides (bytes ++ more) ≡ verdict_of room nesting setting decides bytes
+
+-- A refusal for another reason than that bytes are missing, or no refusal.
+abbrev pub IsDefinite : Answer → Type 0
+IsDefinite (decided (Refused refusal)) = refusal.reason ≢ Truncated
+IsDefinite (decided (Authentic kind alg payload taken)) = ⊤
+IsDefinite (complete whole) = ⊤
+IsDefinite (shaped kind payload auth taken) = ⊤
+
+-- A refusal stands no later than a place, and a message ends no later.
+abbrev pub StandsBy : ℕ → Answer → Type 0
+StandsBy end (decided (Refused refusal)) = refusal.place ≤ end
+StandsBy end (decided (Authentic kind alg payload taken)) = taken ≤ end
+StandsBy end (complete whole) = whole.taken ≤ end
+StandsBy end (shaped kind payload auth taken) = taken ≤ end
+
+-- What the rules themselves answer is never Truncated, and stands within the message.
+pub record AreFair (rules : Rules) : Type 0 where
+  pub choice : (headers : Headers) → IfErr (rules.choice headers) (λ reason. reason ≢ Truncated)
+  pub definite : (whole : Whole) → IsDefinite (rules.finish whole)
+  pub inside : (whole : Whole) → whole.auth_at ≤ whole.taken → StandsBy whole.taken (rules.finish whole)
+
+-- The rules of verifying and inspecting are such.
+pub record AllAreFair : Type 0 where
+  pub uncompared : (room nesting : ℕ) (setting : Setting) → AreFair (uncompared room nesting setting)
+  pub comparing : (room nesting : ℕ) (setting : Setting) → AreFair (comparing room nesting setting)
+  pub verifying : (room nesting : ℕ) (setting : Setting) (decides : Decides) → AreFair (verifying room nesting setting decides)
+  pub inspecting : (room nesting : ℕ) (setting : Setting) → AreFair (inspecting room nesting setting)
+
+-- Then of a settled reading nothing is Truncated.
+abbrev pub MessageIsDefinite : Type 0
+MessageIsDefinite = (rules : Rules) → AreFair rules → (bytes : List ℕ) → (message rules bytes).settled ≡ true → IsDefinite (message rules bytes).answer
+
+-- So it isn't settled exactly where it is Truncated at the number of bytes.
+abbrev pub OpenIsTruncated : Type 0
+OpenIsTruncated = (rules : Rules) → AreFair rules → (bytes : List ℕ) →
+    ((message rules bytes).settled ≡ false) ↔ ((message rules bytes).answer ≡ refused Truncated (length bytes))
+
+-- And nothing of it stands after the bytes.
+abbrev pub MessageStandsInside : Type 0
+MessageStandsInside = (rules : Rules) → AreFair rules → (bytes : List ℕ) → StandsBy (length bytes) (message rules bytes).answer
+
+-- The most bytes of a payload; and that a tag or signature under the key that is chosen has at most so many.
+abbrev pub payload_at_most : ℕ → ℕ
+payload_at_most payload_limit = min payload_limit (2 ^ 56 - 1)
+
+abbrev pub AuthIsAtMost : ℕ → Rules → Type 0
+AuthIsAtMost most rules = (headers : Headers) (chosen : Option Chosen) (n : ℕ) → rules.choice headers ≡ Ok chosen →
+    rules.auth_fits chosen n ≡ true → n ≤ most
+
+-- So many bytes settle a message, whatever they are: 9 for each of its six heads, the room of both buckets, the payload, and
+-- the tag or signature.
+abbrev pub MessageIsBounded : Type 0
+MessageIsBounded = (rules : Rules) (most : ℕ) → AuthIsAtMost most rules → (bytes : List ℕ) →
+    2 * rules.room + 54 + payload_at_most rules.payload_limit + most ≤ length bytes → (message rules bytes).settled ≡ true
+
+-- A signature has at most 132 bytes (RFC 9053 section 2.1), and a tag fewer.
+abbrev pub VerifiedWithin : (ℕ → ℕ → Setting → Rules) → Type 0
+VerifiedWithin rules = (room nesting : ℕ) (setting : Setting) (bytes : List ℕ) →
+    2 * room + 186 + payload_at_most setting.payload_limit ≤ length bytes → (message (rules room nesting setting) bytes).settled ≡ true
+
+abbrev pub MessageIsVerifiedWithin : Type 0
+MessageIsVerifiedWithin = VerifiedWithin uncompared × VerifiedWithin comparing
+    × ((decides : Decides) → VerifiedWithin (λ room nesting setting. verifying room nesting setting decides))
+
+abbrev pub MessageIsInspectedWithin : Type 0
+MessageIsInspectedWithin = (room nesting : ℕ) (setting : Setting) (bytes : List ℕ) →
+    2 * room + 65589 + payload_at_most setting.payload_limit ≤ length bytes → (message (inspecting room nesting setting) bytes).settled ≡ true
+
+-- A reading with another answer made of its own.
+abbrev pub answered : (Answer → Answer) → Reading → Reading
+answered change reading = record { answer = change reading.answer; settled = reading.settled; told = reading.told }
+
+-- Where two rules differ in what a whole message comes to alone, so do the answers. Refusals before that are the same.
+abbrev pub FinishGoesLast : Type 0
+FinishGoesLast = (rules : Rules) (finish : Whole → Answer) (change : Answer → Answer) →
+    ((reason : Reason) (place : ℕ) → change (refused reason place) ≡ refused reason place) →
+    ((whole : Whole) → finish whole ≡ change (rules.finish whole)) →
+    (bytes : List ℕ) → message (record rules { finish = finish }) bytes ≡ answered change (message rules bytes)
+
+-- A whole message whose tag is compared then, or whose signature is decided on then.
+abbrev pub then_compared : List ℕ → Answer → Answer
+then_compared aad (complete whole) = compared aad whole.chosen whole
+then_compared aad (decided verdict) = decided verdict
+then_compared aad (shaped kind payload auth taken) = shaped kind payload auth taken
+
+abbrev pub then_verified : List ℕ → Decides → Answer → Answer
+then_verified aad decides (complete whole) = verified aad decides whole.chosen (complete whole)
+then_verified aad decides (decided verdict) = decided verdict
+then_verified aad decides (shaped kind payload auth taken) = shaped kind payload auth taken
+
+-- Comparing is reading everything and then comparing, and verifying is that and then deciding on the signature.
+abbrev pub ComparingGoesLast : Type 0
+ComparingGoesLast = (room nesting : ℕ) (setting : Setting) (bytes : List ℕ) →
+    message (comparing room nesting setting) bytes ≡ answered (then_compared setting.aad) (message (uncompared room nesting setting) bytes)
+
+abbrev pub VerifyingGoesLast : Type 0
+VerifyingGoesLast = (room nesting : ℕ) (setting : Setting) (decides : Decides) (bytes : List ℕ) →
+    message (verifying room nesting setting decides) bytes ≡
+    answered (then_verified setting.aad decides) (message (comparing room nesting setting) bytes)

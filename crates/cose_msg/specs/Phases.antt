@@ -1,13 +1,13 @@
 -- The phases of a message behind its tags and the head of its array (RFC 9052 sections 2, 3, 4.2 and 6.2), the last first.
-use Rattle.std.specs.Prelude.{ℕ, ◌^◌, Bool, List, [], length, Option, Some, None, Result, Ok, Err, nat_lt, nat_le, ◌==◌, ◌&&◌, ◌||◌, if◌then◌else◌}
+use Rattle.std.specs.Prelude.{ℕ, ◌^◌, Bool, List, [], Option, Some, None, Result, Ok, Err, nat_lt, nat_le, ◌==◌, ◌&&◌, ◌||◌, if◌then◌else◌}
 use Rattle.cose_head.specs.declared.head.Head.{Head}
 use Rattle.cose_head.specs.declared.kind.Kind.{Kind}
 use Rattle.cose_head.specs.declared.reason.Reason.{Reason}
 use Rattle.cose_head.specs.declared.reason.Reason.TheVariants.{PastRoom, WrongType, Detached, BadAuthLength, PayloadTooLong}
 use Rattle.cose_head.specs.Placed.{Placed}
 use Rattle.cose_map.specs.Bucket.{bucket_of}
-use Rattle.cose_map.specs.Maps.{Pair}
-use Rattle.cose_map.specs.PairFault.{pair_fault}
+use Rattle.cose_map.specs.Map.Pairs.{Pair}
+use Rattle.cose_map.specs.Bucket.Both.{pair_fault}
 use Rattle.cose_msg.specs.Answer.{Chosen, Headers}
 use Rattle.cose_msg.specs.Reading.{Told, Phase, Next, settled, stop, with_head, with_string, with_item, unless, unless_fault, with_value}
 use Rattle.cose_msg.specs.Rules.{Rules}

@@ -1,6 +1,6 @@
 -- What the bytes of a message come to, phase by phase. A phase is a function of its place and of the bytes that begin
 -- there, and gives what all of them come to: it knows the phases after it.
-use Rattle.std.specs.Prelude.{ℕ, ◌+◌, Bool, true, false, List, [], length, take, drop, Option, Some, None, Result, Ok, Err, nat_lt, if◌then◌else◌}
+use Rattle.std.specs.Prelude.{ℕ, ◌+◌, Bool, true, false, List, length, take, drop, Option, Some, None, Result, Ok, Err, nat_lt, if◌then◌else◌}
 use Rattle.cose_head.specs.declared.head.Head.{Head}
 use Rattle.cose_head.specs.declared.head.HeadStep.{HeadStep}
 use Rattle.cose_head.specs.declared.head.HeadStep.TheVariants.{Got, More, Fault}
@@ -11,7 +11,7 @@ use Rattle.cose_head.specs.Head.{bare_head}
 use Rattle.cose_head.specs.Item.{Item}
 use Rattle.cose_head.specs.Measured.{left_of}
 use Rattle.cose_head.specs.Reading.{Outcome, read}
-use Rattle.cose_map.specs.Maps.{Pair}
+use Rattle.cose_map.specs.Map.Pairs.{Pair}
 use Rattle.cose_msg.specs.Answer.{Answer, refused}
 
 -- What is known of a message so far: the pairs of each header bucket, once it was found good, and the bytes of the

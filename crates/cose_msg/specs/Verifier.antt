@@ -1,13 +1,13 @@
 -- What a verifier stands for: what is left of the reading of a message.
 use Rattle.std.specs.Prelude.{◌≡◌, ℕ, ◌+◌, ◌-◌, ◌<◌, ◌≤◌, Bool, true, false, List, [], ◌∷◌, ◌++◌, length, Option, Some, None, Ok, ⊤, option_map, map, ◌==◌, if◌then◌else◌}
 use Rattle.cose_head.specs.declared.kind.Kind.{Kind}
-use Rattle.cose_mac.specs.declared.alg.Alg.{Alg}
+use Rattle.cose_head.specs.declared.algorithm.Alg.{Alg}
 use Rattle.cose_head.specs.Head.{IsMore, bare_head}
 use Rattle.cose_head.specs.Walker.{HasPut}
-use Rattle.cose_mac.specs.Algorithm.{auth_length_of, is_mac_of}
+use Rattle.cose_head.specs.Algorithm.{auth_length_of, is_mac_of}
 use Rattle.cose_map.specs.Bucket.{bucket_of}
-use Rattle.cose_map.specs.KeySets.{keys}
-use Rattle.cose_map.specs.Views.{label_value}
+use Rattle.cose_map.specs.KeySet.View.{keys}
+use Rattle.cose_map.specs.Label.View.{label_value}
 use Rattle.cose_msg.specs.declared.context.Context.{Context}
 use Rattle.cose_msg.specs.declared.hashing.Hashing.{Hashing}
 use Rattle.cose_msg.specs.declared.phase.Phase.{Phase}

@@ -17,7 +17,7 @@ pub(crate) enum Hashing {
 
 impl Hashing {
     ghost use Rattle.std.specs.Prelude.{◌≡◌, ℕ, List, [], ◌++◌, length};
-    ghost use Rattle.cose_map.specs.KeyValue.{KeyValue};
+    ghost use Rattle.cose_map.specs.Key.Value.{KeyValue};
     ghost use Rattle.cose_mac.specs.Structure.{structure_front, structure_of};
     ghost use Rattle.cose_msg.specs.Answer.{Chosen as Found};
     ghost use Rattle.cose_msg.specs.Hashing.{Hashes, authenticator, result_of};
@@ -52,7 +52,13 @@ impl Hashing {
             → structure_front kind protected.now aad.now payload_length ++ payload ≡ structure_of kind protected.now aad.now payload }
     {
         match self {
-            Hashing::Running(running) => structure_front(kind, protected, aad, payload_length, running),
+            Hashing::Running(running) => structure_front(
+                kind,
+                protected,
+                aad,
+                payload_length,
+                running,
+            ),
             Hashing::Nothing | Hashing::Finished(_) => {}
         }
     }

@@ -1,8 +1,9 @@
 //! Laws of the definitions that the contracts cite. A law is a function that does nothing, and whose contract is the law.
 
-ghost use Rattle.cose_msg.specs.Laws.{MessageStays, MessageEndsTruncated, OpenEarlier, VerdictStays};
+ghost use Rattle.cose_msg.specs.Laws.{AllAreFair, ComparingGoesLast, FinishGoesLast, MessageEndsTruncated, MessageIsBounded, MessageIsDefinite, MessageIsInspectedWithin, MessageIsVerifiedWithin, MessageStandsInside, MessageStays, OpenEarlier, OpenIsTruncated, VerdictStays, VerifyingGoesLast};
 
 use cose_head::laws::{bare_head_is_spelling, read_stays, read_steps};
+use cose_map::laws::{refusals_are_not_truncated, refusals_stand_inside};
 
 /// What the bytes of a message come to stays when bytes follow, once it is settled, whether the message is verified or
 /// inspected. Before that it is Truncated at the number of bytes.
@@ -17,3 +18,40 @@ pub fn settled_stays()
     read_stays();
     read_steps();
 }
+
+/// Once it is settled, what the bytes of a message come to is not Truncated: so it isn't settled exactly where it is Truncated
+/// at the number of bytes. No refusal stands after the bytes, and no message ends after them.
+pub fn nothing_stands_after_the_bytes()
+    ensures fair { AllAreFair }
+    ensures definite { MessageIsDefinite }
+    ensures unsettled { OpenIsTruncated }
+    ensures inside { MessageStandsInside }
+{
+    bare_head_is_spelling();
+    read_stays();
+    read_steps();
+    refusals_stand_inside();
+    refusals_are_not_truncated();
+}
+
+/// A message is settled within 2H + 186 + p bytes, H being the room of a header bucket, and p the lesser of the payload's limit
+/// and 2^56 - 1: six heads have at most 9 bytes each, and a signature has at most 132 (RFC 9053 section 2.1). One that is only
+/// inspected may have a tag or signature of 65,535 bytes, so it is settled within 2H + 65,589 + p.
+pub fn messages_are_bounded()
+    ensures any { MessageIsBounded }
+    ensures verified { MessageIsVerifiedWithin }
+    ensures inspected { MessageIsInspectedWithin }
+{
+    // That a head has nine bytes at most, and that an item uses no more bytes than it has room for, and is cut short only
+    // where it has room for one more.
+    bare_head_is_spelling();
+    read_steps();
+}
+
+/// Comparing the tag and deciding on the signature come last: they change nothing but the answer of a message all of whose bytes
+/// are there. Verifying is reading the whole message, then comparing, then deciding.
+pub fn deciding_goes_last()
+    ensures any { FinishGoesLast }
+    ensures comparing { ComparingGoesLast }
+    ensures verifying { VerifyingGoesLast }
+{}

@@ -14,5 +14,5 @@ pub use context::{Context, Wanted};
 pub use cose_head::{Kind, Reason, Refusal};
 pub use cose_mac::Alg;
 pub use cose_map::{Key, KeySet, Label};
-pub use verifier::Verifier;
 pub use verdict::{Stop, Verdict};
+pub use verifier::Verifier;

@@ -6,7 +6,7 @@ use Rattle.cosecmd.specs.declared.first.verdict.Verdict.{Verdict}
 use Rattle.cosecmd.specs.declared.first.verdict.Verdict.TheVariants.{Refused}
 use Rattle.cose_head.specs.Head.{bare_head}
 use Rattle.cose_map.specs.Choice.{chosen}
-use Rattle.cose_map.specs.KeyValue.{KeyValue, symmetric}
+use Rattle.cose_map.specs.Key.Value.{KeyValue, symmetric}
 use Rattle.cosecmd.specs.Phases.{with_head, with_string}
 use Rattle.cosecmd.specs.FirstVerdict.{first_reading, first_verdict, front, key_choice}
 

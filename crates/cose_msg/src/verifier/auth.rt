@@ -1,7 +1,7 @@
 //! The authentication tag or signature of a message (RFC 9052 sections 6.3 and 4.4).
 
 ghost use Rattle.std.specs.Prelude.{◌≡◌, ◌<◌, ◌≤◌, ◌+◌, ◌^◌, ◌==◌, ℕ, Some};
-ghost use Rattle.cose_mac.specs.Algorithm.{auth_length_of};
+ghost use Rattle.cose_head.specs.Algorithm.{auth_length_of};
 ghost use Rattle.cose_msg.specs.Phases.{auth_fault_where};
 
 use crate::bare_head::take_head_byte;
@@ -68,7 +68,7 @@ impl<'k, const H: usize, const D: usize> Verifier<'k, H, D> {
         ensures stands { (setting : Setting) (known : Known) → setting_of self.old.context ≡ setting
             → HoldsKey known self.old auth_head.kind auth_head.alg → length known.payload ≡ auth_head.payload → IsFed self.old.hashing setting.aad known
             → StandsFor setting known.payload at self.new
-                (λ z. past_auth_head (comparing H D setting) known.headers (Some known.found) known.payload auth_head.at head at z) }
+            (λ z. past_auth_head (comparing H D setting) known.headers (Some known.found) known.payload auth_head.at head at z) }
     {
         match fault_of_auth(&head, auth_head.alg) {
             Some(reason) => self.refuse(reason, auth_head.at),
@@ -116,7 +116,7 @@ impl<'k, const H: usize, const D: usize> Verifier<'k, H, D> {
         ensures stands { (setting : Setting) (known : Known) → setting_of self.old.context ≡ setting
             → HoldsKey known self.old auth.kind auth.alg → length known.payload ≡ auth.payload → IsFed self.old.hashing setting.aad known
             → StandsFor setting known.payload (auth.at + auth.length) self.new
-                (λ z. finish (comparing H D setting) known.headers (Some known.found) known.payload auth.head_at auth.at self.old.auth.items (auth.at + auth.length) z) }
+            (λ z. finish (comparing H D setting) known.headers (Some known.found) known.payload auth.head_at auth.at self.old.auth.items (auth.at + auth.length) z) }
     {
         self.hashing.finish();
         let taken = auth.at + auth.length;

@@ -1,9 +1,9 @@
 //! The choice of the key, once both header buckets are there (RFC 9052 sections 3.1 and 7.1).
 
 ghost use Rattle.std.specs.Prelude.{◌≡◌, ◌<◌, ◌≤◌, ◌+◌, ◌^◌, ℕ, ℤ, Ok, []};
-ghost use Rattle.cose_map.specs.Buckets.{bucket_pairs};
-ghost use Rattle.cose_map.specs.Chosen.{found_value, question};
-ghost use Rattle.cose_map.specs.KeyParts.{material_value};
+ghost use Rattle.cose_map.specs.Bucket.View.{bucket_pairs};
+ghost use Rattle.cose_map.specs.Choice.View.{found_value, question};
+ghost use Rattle.cose_map.specs.Key.View.{material_value};
 ghost use Rattle.cose_msg.specs.Chosen.{found_seen};
 ghost use Rattle.cose_msg.specs.Message.{operation_of as operation_value, question_of, secret_of as secret_bytes, past_chosen};
 ghost use Rattle.cose_msg.specs.Phases.{headers_of};
@@ -70,8 +70,8 @@ fn chosen_of<'k>(found: Result<(Key<'k>, i128), Reason>) -> Result<Chosen<'k>, R
 impl<'k, const H: usize, const D: usize> Verifier<'k, H, D> {
     ghost use Rattle.std.specs.Prelude.{List, length};
     ghost use Rattle.cose_map.specs.Bucket.{bucket_of};
-    ghost use Rattle.cose_map.specs.KeySets.{keys};
-    ghost use Rattle.cose_map.specs.Maps.{Pair};
+    ghost use Rattle.cose_map.specs.KeySet.View.{keys};
+    ghost use Rattle.cose_map.specs.Map.Pairs.{Pair};
     ghost use Rattle.cose_msg.specs.Choosing.{choice_of};
     ghost use Rattle.cose_msg.specs.Chosen.{ChoiceIs};
     ghost use Rattle.cose_msg.specs.Message.{Setting, comparing, found_key};
@@ -119,7 +119,7 @@ impl<'k, const H: usize, const D: usize> Verifier<'k, H, D> {
         ensures stands { (setting : Setting) (pairs : List Pair) → setting_of self.old.context ≡ setting
             → bucket_of D (placed_at protected_at self.old.protected.items) ≡ Ok pairs
             → StandsFor setting [] (at + length self.old.unprotected.items) self.new
-                (λ z. past_unprotected (comparing H D setting) kind self.old.protected.items pairs at self.old.unprotected.items (at + length self.old.unprotected.items) z) }
+            (λ z. past_unprotected (comparing H D setting) kind self.old.protected.items pairs at self.old.unprotected.items (at + length self.old.unprotected.items) z) }
     {
         let after = at + self.unprotected.len() as u64;
         match self.choose(kind, protected_at, at) {

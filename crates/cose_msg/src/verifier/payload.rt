@@ -79,7 +79,11 @@ impl<'k, const H: usize, const D: usize> Verifier<'k, H, D> {
         match take_head_byte(&mut self.head, byte) {
             HeadStep::More(_) => {}
             HeadStep::Fault(reason) => self.refuse(reason, at),
-            HeadStep::Got(head, used) => self.past_payload_head(payload_head, head, at + used as u64),
+            HeadStep::Got(head, used) => self.past_payload_head(
+                payload_head,
+                head,
+                at + used as u64,
+            ),
         }
     }
 
@@ -97,7 +101,8 @@ impl<'k, const H: usize, const D: usize> Verifier<'k, H, D> {
                 // The protected header goes in as it was received, or empty where the bucket has no pair.
                 let protected = empty_if(payload_head.is_bare, self.protected.as_slice());
                 let aad = self.context.aad;
-                self.hashing.front(payload_head.kind, protected, aad, head.arg);
+                self.hashing
+                    .front(payload_head.kind, protected, aad, head.arg);
                 if head.arg == 0 {
                     self.begin_auth_head(payload_head.kind, payload_head.alg, at, 0);
                 } else {
@@ -123,7 +128,12 @@ impl<'k, const H: usize, const D: usize> Verifier<'k, H, D> {
         self.hashing.update(piece);
         let left = payload.left - piece.len() as u64;
         if left == 0 {
-            self.begin_auth_head(payload.kind, payload.alg, payload.at + payload.length, payload.length);
+            self.begin_auth_head(
+                payload.kind,
+                payload.alg,
+                payload.at + payload.length,
+                payload.length,
+            );
         } else {
             self.phase = Phase::Payload(Payload {
                 kind: payload.kind,

@@ -2,8 +2,8 @@
 
 ghost use Rattle.std.specs.Prelude.{◌≡◌, ◌<◌, ◌≤◌, ◌+◌, ◌^◌, ℕ, List, [], ◌∷◌, ◌++◌, length, true};
 ghost use Rattle.arrayvec.specs.ArrayVec.{array_vec_len};
-ghost use Rattle.cose_mac.specs.Fed.{makes_mac};
-ghost use Rattle.cose_map.specs.Chosen.{question};
+ghost use Rattle.cose_mac.specs.Running.{makes_mac};
+ghost use Rattle.cose_map.specs.Choice.View.{question};
 ghost use Rattle.cosecmd.specs.FirstVerdict.{first_question};
 
 use crate::first::machine::{Machine, Progress, refused};
@@ -129,7 +129,7 @@ fn first_query() -> Query<'static>
 }
 
 impl PayloadHead {
-    ghost use Rattle.cose_map.specs.KeySets.{keys};
+    ghost use Rattle.cose_map.specs.KeySet.View.{keys};
     ghost use Rattle.cosecmd.specs.FirstVerdict.{key_choice};
     ghost use Rattle.cosecmd.specs.Machine.{Continues, FeedsPayloadHead, IfOpen, after_payload, budget, left_in_payload_head};
 

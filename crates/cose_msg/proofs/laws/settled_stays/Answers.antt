@@ -1,3 +1,4 @@
+use Rattle.cose_msg.proofs.Heads.{head_definite}
 use Rattle.cose_msg.proofs.Forms.{HeadLaws}
 use Rattle.cose_msg.proofs.Lawful.{message_stays, message_ends_truncated, open_earlier, verdict_stays}
 use Rattle.cose_msg.proofs.laws.settled_stays.Goals as goal
@@ -5,6 +6,7 @@ use Rattle.cose_msg.proofs.laws.settled_stays.Goals as goal
 pub returns : goal.returns
 returns c =
     let laws : HeadLaws = record {
+      faults = head_definite c.bare_head_is_spelling.ensures.reasons;
       spelled = c.bare_head_is_spelling.ensures.spelled;
       head_stays = c.bare_head_is_spelling.ensures.stays;
       read_stays = c.read_stays.ensures.stays;

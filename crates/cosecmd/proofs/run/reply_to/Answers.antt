@@ -1,5 +1,5 @@
 use Rattle.std.proofs.Common.{sym, ap, ◌∙◌}
-use Rattle.cose_map.specs.KeySets.{keys as usable}
+use Rattle.cose_map.specs.KeySet.View.{keys as usable}
 use Rattle.cosecmd.specs.Printed.{with_rest}
 use Rattle.cosecmd.proofs.RunLemmas.{said, takes_up}
 use Rattle.cosecmd.proofs.run.reply_to.Goals as goal

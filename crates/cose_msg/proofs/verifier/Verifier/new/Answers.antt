@@ -7,12 +7,14 @@ use Rattle.cose_msg.proofs.verifier.Verifier.new.Goals as goal
 
 pub returns : goal.returns
 unfolding message bare_head
-returns g c = record { so_far = record {
-  known = unknown [];
-  told = nothing_told;
-  in_setting = refl;
-  payload_known = refl;
-  payload_told = refl;
-  holds = rw c.new-3.ensures (refl, (tt, refl));
-  left = λ z. rw c.new-3.ensures refl;
-} }
+returns g c = record {
+  so_far = record {
+    known = unknown [];
+    told = nothing_told;
+    in_setting = refl;
+    payload_known = refl;
+    payload_told = refl;
+    holds = rw c.new-3.ensures (refl, (tt, refl));
+    left = λ z. rw c.new-3.ensures refl;
+  };
+}

@@ -1,0 +1,114 @@
+-- The forms of a phase, once more: no refusal of a settled reading is Truncated, and nothing of a reading stands after the bytes.
+use Rattle.std.proofs.Common.{◌≡◌, ℕ, ◌+◌, ◌≤◌, inl, inr, Bool, true, false, cond, List, length, take, drop, Option, Some, None, Result, Ok, Err, refl, subst, arith, length-drop}
+use Rattle.std.specs.Prelude.{◌≢◌, IfErr, IfSome}
+use Rattle.std.proofs.lemmas.Bool.{cases_lt, le-ltb, lt-ltb}
+use Rattle.std.proofs.lemmas.List.{length-take-le}
+use Rattle.cose_head.specs.declared.head.Head.{Head}
+use Rattle.cose_head.specs.declared.head.HeadStep.{HeadStep}
+use Rattle.cose_head.specs.declared.head.HeadStep.TheVariants.{Got, More, Fault}
+use Rattle.cose_head.specs.declared.reason.Reason.{Reason}
+use Rattle.cose_head.specs.declared.reason.Reason.TheVariants.{Truncated}
+use Rattle.cose_head.specs.declared.refusal.Refusal.{Refusal}
+use Rattle.cose_head.specs.Head.{bare_head}
+use Rattle.cose_head.specs.Item.{Item}
+use Rattle.cose_head.specs.Laws.{Steps}
+use Rattle.cose_head.specs.Measured.{left_of}
+use Rattle.cose_head.specs.Reading.{Outcome, read}
+use Rattle.cose_msg.specs.declared.verdict.Verdict.TheVariants.{Authentic, Refused}
+use Rattle.cose_msg.specs.Answer.{Answer, decided, complete, shaped}
+use Rattle.cose_msg.specs.Laws.{IsDefinite, StandsBy}
+use Rattle.cose_msg.specs.Reading.{Told, Reading, Phase, Next, stop, cut, past_head, with_head, with_string, is_truncated, past_item, with_item, unless, unless_fault, with_value}
+use Rattle.cose_msg.proofs.Forms.{HeadLaws, head_there, item_there, not_truncated}
+
+-- Of a reading where so many bytes are there.
+pub record IsSound (end : ℕ) (reading : Reading) : Type 0 where
+  pub inside : StandsBy end reading.answer
+  pub definite : reading.settled ≡ true → IsDefinite reading.answer
+
+-- Of a phase, at any place from this one on.
+abbrev pub Sound : ℕ → Phase → Type 0
+Sound from phase = (place : ℕ) (bytes : List ℕ) → from ≤ place → IsSound (place + length bytes) (phase place bytes)
+
+pub stands_later : (end later : ℕ) (answer : Answer) → end ≤ later → StandsBy end answer → StandsBy later answer
+stands_later end later (decided (Refused refusal)) le h = omega arith
+stands_later end later (decided (Authentic kind alg payload taken)) le h = omega arith
+stands_later end later (complete whole) le h = omega arith
+stands_later end later (shaped kind payload auth taken) le h = omega arith
+
+sound_at : (n m : ℕ) (reading : Reading) → n ≡ m → IsSound n reading → IsSound m reading
+sound_at n m reading same h = subst (λ (end : ℕ). IsSound end reading) same h
+
+cut-sound : (told : Told) (end : ℕ) → IsSound end (cut told end)
+cut-sound told end = record { inside = omega arith; definite = λ e. absurd (let never : false ≡ true = e in cc) }
+
+pub stop-sound : (told : Told) (reason : Reason) (place end : ℕ) → place ≤ end → reason ≢ Truncated → IsSound end (stop told reason place)
+stop-sound told reason place end le h = record { inside = le; definite = λ e. h }
+
+-- ---- a head
+
+module _ (laws : HeadLaws) where
+  past_head-sound : (told : Told) (next : Next Head) → ((at : ℕ) (head : Head) → Sound at (next at head)) → (place : ℕ) (bytes : List ℕ) (step : HeadStep) → bare_head bytes ≡ step → IsSound (place + length bytes) (past_head told next place bytes step)
+  past_head-sound told next h place bytes (Got head used) e =
+      let there : used ≤ length bytes = head_there laws bytes head used e in
+      sound_at (place + used + length (drop used bytes)) (place + length bytes) _ (omega (arith, there, length-drop used bytes)) (h place head (place + used) (drop used bytes) (omega arith))
+  past_head-sound told next h place bytes (More wanted) e = cut-sound told (place + length bytes)
+  past_head-sound told next h place bytes (Fault reason) e = stop-sound told reason place (place + length bytes) (omega arith) (laws.faults bytes reason e)
+
+  pub with_head-sound : (told : Told) (next : Next Head) (from : ℕ) → ((at : ℕ) (head : Head) → Sound at (next at head)) → Sound from (with_head told next)
+  unfolding with_head
+  with_head-sound told next from h place bytes le = past_head-sound told next h place bytes (bare_head bytes) refl
+
+-- ---- a string
+
+pub with_string-sound : (told : List ℕ → Told) (n : ℕ) (next : Next (List ℕ)) (from : ℕ) → ((at : ℕ) (string : List ℕ) → from ≤ at → Sound (at + length string) (next at string)) → Sound from (with_string told n next)
+unfolding with_string
+with_string-sound told n next from h place bytes le =
+    elim (cases_lt (length bytes) n) [
+      | inl short ↦ rw (lt-ltb (length bytes) n short) (cut-sound (told bytes) (place + length bytes))
+      | inr there ↦
+          let all : length (take n bytes) ≡ n = length-take-le n bytes there in
+          rw (le-ltb (length bytes) n there) (sound_at (place + n + length (drop n bytes)) (place + length bytes) _ (omega (arith, there, length-drop n bytes)) (h place (take n bytes) le (place + n) (drop n bytes) (omega (arith, all))))
+    ]
+
+-- ---- an item
+
+either-sound : (b : Bool) (end : ℕ) (x y : Reading) → IsSound end x → (b ≡ false → IsSound end y) → IsSound end (cond b x y)
+either-sound true end x y p q = p
+either-sound false end x y p q = q refl
+
+module _ (laws : HeadLaws) where
+  past_item-sound : (told : Told) (next : Next (List ℕ)) (from : ℕ) → ((at : ℕ) (content : List ℕ) → from ≤ at → Sound (at + length content) (next at content)) → (room depth place : ℕ) (bytes : List ℕ) (outcome : Outcome Item) → read depth (left_of bytes room 0) ≡ outcome
+      → Steps 1 (left_of bytes room 0) outcome → from ≤ place → IsSound (place + length bytes) (past_item told next place bytes outcome)
+  past_item-sound told next from h room depth place bytes (Ok found) e step le =
+      let there : found.1.place ≤ length bytes = item_there laws depth room bytes found e in
+      let all : length (take found.1.place bytes) ≡ found.1.place = length-take-le found.1.place bytes there in
+      sound_at (place + found.1.place + length (drop found.1.place bytes)) (place + length bytes) _ (omega (arith, there, length-drop found.1.place bytes)) (h place (take found.1.place bytes) le (place + found.1.place) (drop found.1.place bytes) (omega (arith, all)))
+  past_item-sound told next from h room depth place bytes (Err refusal) e step le =
+      either-sound (is_truncated refusal.reason) (place + length bytes) _ _ (cut-sound told (place + length bytes))
+      (λ definite. stop-sound told refusal.reason (place + refusal.place) (place + length bytes) (omega (arith, step.upto)) (not_truncated refusal.reason definite))
+
+  pub with_item-sound : (told : Told) (room depth : ℕ) (next : Next (List ℕ)) (from : ℕ) → ((at : ℕ) (content : List ℕ) → from ≤ at → Sound (at + length content) (next at content)) → Sound from (with_item told room depth next)
+  unfolding with_item
+  with_item-sound told room depth next from h place bytes le = past_item-sound told next from h room depth place bytes (read depth (left_of bytes room 0)) refl (laws.steps depth (left_of bytes room 0)) le
+
+-- ---- a test
+
+pub unless_fault-sound : (told : Told) (at from : ℕ) (fault : Option Reason) (phase : Phase) → at ≤ from → IfSome fault (λ reason. reason ≢ Truncated) → Sound from phase → Sound from (unless_fault told at fault phase)
+unless_fault-sound told at from (Some reason) phase before definite h place bytes le = stop-sound told reason at (place + length bytes) (omega arith) definite
+unless_fault-sound told at from None phase before definite h place bytes le = h place bytes le
+
+-- A test that looks at the place.
+unless-sound : (told : Told) (fault : Option Refusal) (phase : Phase) (place : ℕ) (bytes : List ℕ) → IfSome fault (λ refusal. refusal.place ≤ place) → IfSome fault (λ refusal. refusal.reason ≢ Truncated) → IsSound (place + length bytes) (phase place bytes) → IsSound (place + length bytes) (unless told fault phase place bytes)
+unless-sound told (Some refusal) phase place bytes inside definite h = stop-sound told refusal.reason refusal.place (place + length bytes) (omega arith) definite
+unless-sound told None phase place bytes inside definite h = h
+
+pub unless_at-sound : (told : Told) (fault : ℕ → Option Refusal) (phase : Phase) (from : ℕ) → ((place : ℕ) → from ≤ place → IfSome (fault place) (λ refusal. refusal.place ≤ place)) → ((place : ℕ) → IfSome (fault place) (λ refusal. refusal.reason ≢ Truncated)) → Sound from phase → Sound from (λ place. unless told (fault place) phase place)
+unless_at-sound told fault phase from inside definite h place bytes le = unless-sound told (fault place) phase place bytes (inside place le) (definite place) (h place bytes le)
+
+pub with_value-sound : {A : Type 0} (told : Told) (value : Result A Refusal) (next : A → Phase) (from : ℕ) → IfErr value (λ refusal. refusal.place ≤ from) → IfErr value (λ refusal. refusal.reason ≢ Truncated) → ((x : A) → value ≡ Ok x → Sound from (next x)) → Sound from (with_value told value next)
+with_value-sound told (Ok x) next from inside definite h = h x refl
+with_value-sound told (Err refusal) next from inside definite h = λ place bytes le. stop-sound told refusal.reason refusal.place (place + length bytes) (omega arith) definite
+
+pub choose-sound : (b : Bool) (f g : Phase) (from : ℕ) → Sound from f → Sound from g → Sound from (λ place bytes. cond b (f place bytes) (g place bytes))
+choose-sound true f g from p q = p
+choose-sound false f g from p q = q

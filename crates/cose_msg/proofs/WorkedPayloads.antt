@@ -1,0 +1,73 @@
+-- The payload and the head of the tag of messages, on examples, by computing (RFC 9052 sections 2, 4.2 and 6.2).
+use Rattle.std.specs.Prelude.{ℕ, ◌^◌, List, [], ◌∷◌, None, refl}
+use Rattle.cose_head.specs.declared.reason.Reason.TheVariants.{Truncated, Reserved, Indefinite, BadSimple, WrongType, Detached, BadAuthLength, PayloadTooLong}
+use Rattle.cose_msg.specs.Answer.{Answer, refused}
+use Rattle.cose_msg.proofs.WorkedMessages.{hex, Gives, reading, verdict, verdict_in, under, secret, plain, point}
+
+-- The head of the payload: a byte string of less than 2^56 bytes. nil stands for a payload that is elsewhere, in one byte alone.
+payload_heads : Gives (verdict plain) (
+    (hex "d18443a10105a0", refused Truncated 7) ∷
+    (hex "d18443a10105a0 1c", refused Reserved 7) ∷
+    (hex "d18443a10105a0 5f", refused Indefinite 7) ∷
+    (hex "d18443a10105a0 f816", refused BadSimple 7) ∷
+    (hex "d18443a10105a0 f6", refused Detached 7) ∷
+    (hex "d18443a10105a0 f90016", refused WrongType 7) ∷
+    (hex "d18443a10105a0 f7", refused WrongType 7) ∷
+    (hex "d18443a10105a0 16", refused WrongType 7) ∷
+    (hex "d18443a10105a0 36", refused WrongType 7) ∷
+    (hex "d18443a10105a0 6161", refused WrongType 7) ∷
+    (hex "d18443a10105a0 7b0100000000000000", refused WrongType 7) ∷
+    (hex "d18443a10105a0 5b0100000000000000", refused PayloadTooLong 7) ∷
+    (hex "d18443a10105a0 5b00ffffffffffffff", refused Truncated 16) ∷ [])
+unfolding reading
+payload_heads = refl
+
+-- The application may take less, and never more.
+abbrev limited : ℕ → List ℕ → Answer
+limited limit bytes = verdict_in (record (under plain) { payload_limit = limit }) bytes
+
+at_most_a_byte : Gives (limited 1) (
+    (hex "d18443a10105a0 41", refused Truncated 8) ∷
+    (hex "d18443a10105a0 42", refused PayloadTooLong 7) ∷
+    (hex "d18443a10105a0 62", refused WrongType 7) ∷
+    (hex "d18443a10105a0 f6", refused Detached 7) ∷ [])
+unfolding reading
+at_most_a_byte = refl
+
+no_more_than_2_to_the_56 : Gives (limited (2 ^ 64)) (
+    (hex "d18443a10105a0 5b0100000000000000", refused PayloadTooLong 7) ∷
+    (hex "d18443a10105a0 5b00ffffffffffffff", refused Truncated 16) ∷ [])
+unfolding reading
+no_more_than_2_to_the_56 = refl
+
+-- The payload, and the head of the tag: a byte string of the algorithm's length, here 32. Its type is looked at first.
+auth_heads : Gives (verdict plain) (
+    (hex "d18443a10105a0 40", refused Truncated 8) ∷
+    (hex "d18443a10105a0 42", refused Truncated 8) ∷
+    (hex "d18443a10105a0 4268", refused Truncated 9) ∷
+    (hex "d18443a10105a0 426869", refused Truncated 10) ∷
+    (hex "d18443a10105a0 426869 5f", refused Indefinite 10) ∷
+    (hex "d18443a10105a0 426869 60", refused WrongType 10) ∷
+    (hex "d18443a10105a0 426869 f6", refused WrongType 10) ∷
+    (hex "d18443a10105a0 426869 7820", refused WrongType 10) ∷
+    (hex "d18443a10105a0 426869 48", refused BadAuthLength 10) ∷
+    (hex "d18443a10105a0 426869 581f", refused BadAuthLength 10) ∷
+    (hex "d18443a10105a0 426869 5821", refused BadAuthLength 10) ∷
+    (hex "d18443a10105a0 426869 5bffffffffffffffff", refused BadAuthLength 10) ∷
+    (hex "d18443a10105a0 426869 5820", refused Truncated 12) ∷
+    (hex "d18443a10105a0 426869 5820 00", refused Truncated 13) ∷ [])
+unfolding reading
+auth_heads = refl
+
+-- The lengths of the other algorithms: HMAC 256/64, 384/384 and 512/512, and ES256.
+auth_lengths : Gives (verdict (secret None None None ∷ point None ∷ [])) (
+    (hex "d18443a10104a0 40 48", refused Truncated 9) ∷
+    (hex "d18443a10104a0 40 5820", refused BadAuthLength 8) ∷
+    (hex "d18443a10106a0 40 5830", refused Truncated 10) ∷
+    (hex "d18443a10106a0 40 5820", refused BadAuthLength 8) ∷
+    (hex "d18443a10107a0 40 5840", refused Truncated 10) ∷
+    (hex "d18443a10107a0 40 5830", refused BadAuthLength 8) ∷
+    (hex "d28443a10126a0 40 5840", refused Truncated 10) ∷
+    (hex "d28443a10126a0 40 5820", refused BadAuthLength 8) ∷ [])
+unfolding reading
+auth_lengths = refl
