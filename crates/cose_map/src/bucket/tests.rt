@@ -225,7 +225,7 @@ fn gives_what_a_bucket_says(rt: HostRuntime) {
 
 #[test]
 fn finds_the_least_fault_of_both(rt: HostRuntime) {
-    let rows: [(&[u8], &[u8], u64, Refusal); 21] = [
+    let rows: [(&[u8], &[u8], u64, Refusal); 18] = [
         // A label in both buckets; where it is that of crit too, the smaller number goes first.
         (
             b"\xa2\x01\x05\x02\x81\x01",
@@ -339,25 +339,6 @@ fn finds_the_least_fault_of_both(rt: HostRuntime) {
             b"\xa2\x05\x41\x00\x06\x41\x00",
             14,
             refusal(Reason::BothBuckets, 8),
-        ),
-        // Labels that increase in both, in the protected bucket not, and in the unprotected bucket not.
-        (
-            b"\xa3\x01\x05\x04\x41\x00\x05\x41\x00",
-            b"\xa2\x03\x00\x05\x41\x00",
-            18,
-            refusal(Reason::BothBuckets, 15),
-        ),
-        (
-            b"\xa2\x02\x81\x01\x01\x05",
-            b"\xa1\x01\x05",
-            12,
-            refusal(Reason::BothBuckets, 10),
-        ),
-        (
-            b"\xa3\x01\x05\x04\x41\x00\x05\x41\x00",
-            b"\xa3\x0a\x00\x09\x00\x04\x41\x00",
-            20,
-            refusal(Reason::BothBuckets, 17),
         ),
     ];
     for (first, second, after, want) in rows {
