@@ -224,6 +224,14 @@ fn gives_what_a_bucket_says(rt: HostRuntime) {
 }
 
 #[test]
+fn gives_a_text_for_alg(rt: HostRuntime) {
+    let read = bucket(&rt, b"\xa1\x01\x61\x35", 0);
+    assert!(rt; read.alg() == Some(Label::Text("5")));
+    assert!(rt; read.kid().is_none());
+    assert!(rt; read.crit().is_none());
+}
+
+#[test]
 fn finds_labels_in_both(rt: HostRuntime) {
     let rows: [(&[u8], &[u8], u64, Refusal); 6] = [
         // A label in both buckets; where it is that of crit too, the smaller number goes first.

@@ -19,7 +19,7 @@ use Rattle.cose_map.specs.Bucket.Header.{crit}
 use Rattle.cose_map.specs.Laws.Inside.{RefusedBy, PairEndsBy, PairsEndBy}
 use Rattle.cose_map.specs.Key.{key_of}
 use Rattle.cose_map.specs.Key.Form.{key_table}
-use Rattle.cose_map.specs.Key.Labels.{key_type, k, crv, x, y, d}
+use Rattle.cose_map.specs.Key.Labels.{kty, k, crv, x, y, d}
 use Rattle.cose_map.specs.Label.{LabelValue, label_of}
 use Rattle.cose_map.specs.Map.Read.{Read, ◌>>=◌, refuse, name_at, new_name, value_at, label_after, pair_after, check_pairs, check_map, read_map}
 use Rattle.cose_map.specs.Key.Material.{present, member, secret_in, symmetric_key, usable_curve, curve_in, coordinate_of, coordinate_in, sign_in, y_in, private_part, elliptic_key, material_in, material_of}
@@ -173,7 +173,7 @@ module _ (end : ℕ) where
 
     material_by : AnyBy end (material_of key pairs)
     unfolding material_of
-    material_by = then_by end (EndsBy end) (λ material. ⊤) (member key pairs key_type) _ (member_by key_type)
+    material_by = then_by end (EndsBy end) (λ material. ⊤) (member key pairs kty) _ (member_by kty)
         (λ value s. typed_by (integer_in (look value)))
 
 -- the faults of two buckets
