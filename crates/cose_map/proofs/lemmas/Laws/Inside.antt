@@ -1,9 +1,9 @@
 -- No refusal of a map, a bucket, a key or two buckets stands after the bytes.
-use Rattle.std.proofs.Common.{◌≡◌, ◌⊎◌, inl, inr, ℕ, ◌+◌, ◌≤◌, Bool, true, false, not, List, [], ◌∷◌, ◌++◌, length, Option, Some, None, Ok, Err, if◌then◌else◌, refl, sym, subst, arith}
-use Rattle.std.specs.Prelude.{⊤, Result, IfErr, ℤ, pos, nat_lt, ◌==◌, IfSome, option_map, find, fold, flat_map}
+use Rattle.std.proofs.Common.{◌≡◌, ◌⊎◌, inl, inr, ℕ, ◌≤◌, Bool, true, false, not, List, [], ◌∷◌, ◌++◌, length, Option, Some, None, Ok, Err, if◌then◌else◌, refl, sym, subst, arith}
+use Rattle.std.specs.Prelude.{⊤, Result, IfErr, ℤ, pos, ◌==◌, IfSome, option_map, find, fold, flat_map}
 use Rattle.std.specs.List.{AllByRecursion}
 use Rattle.std.specs.Ordering.{int_eq}
-use Rattle.std.proofs.lemmas.Bool.{cond_both, ltb-true}
+use Rattle.std.proofs.lemmas.Bool.{cond_both}
 use Rattle.cose_head.specs.declared.reason.Reason.{Reason}
 use Rattle.cose_head.specs.declared.reason.Reason.TheVariants.{NotMap, BadValue, UnknownKey, BothIvs}
 use Rattle.cose_head.specs.declared.refusal.Refusal.{Refusal}
