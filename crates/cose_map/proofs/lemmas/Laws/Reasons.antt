@@ -1,6 +1,6 @@
 -- For which reasons maps, buckets, keys, key sets, two buckets together and the choice of the key are refused: an answer is
 -- a value, or a refusal whose reason has a property, and this goes through what follows it.
-use Rattle.std.proofs.Common.{◌≡◌, ℕ, zero, suc, Bool, true, false, not, List, [], ◌∷◌, ◌++◌, length, Option, Some, None, Ok, Err, if◌then◌else◌, lit<, refl, sym, ap, arith}
+use Rattle.std.proofs.Common.{◌≡◌, ℕ, Bool, true, false, not, List, [], ◌∷◌, ◌++◌, length, Option, Some, None, Ok, Err, if◌then◌else◌, lit<, refl, ap}
 use Rattle.std.specs.Prelude.{◌≢◌, ⊤, IfErr, IfSome, ℤ, pos, nat_lt, ◌==◌, ◌&&◌, filter_map}
 use Rattle.std.specs.List.{AllByRecursion, Contains, list_all}
 use Rattle.std.specs.Ordering.{int_eq}
