@@ -21,7 +21,7 @@ where
         assert_eq!(rt;
             computed.as_slice(),
             expected.as_slice(),
-            "{alg:?}, of {payload:?}"
+            "{alg:?} of {payload:?}"
         );
     }
 }
