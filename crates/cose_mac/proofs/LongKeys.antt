@@ -8,7 +8,7 @@ use Rattle.cose_head.specs.declared.algorithm.Hash.TheVariants.{Sha256, Sha384, 
 use Rattle.cose_mac.proofs.HashLemmas.{length_digest}
 use Rattle.cose_mac.specs.Hash.{function_of, function_of_algorithm, digest_of}
 use Rattle.cose_mac.specs.Hmac.{fitting_key, key_block, xor_pad, ipad, opad, hmac, mac}
-use Rattle.cose_mac.specs.Laws.{MacsOfLongKey, RunningOfLongKey}
+use Rattle.cose_mac.specs.Laws.{MacsOfLongKey, RunningOfLongKey, EndsOfLongKey}
 use Rattle.cose_mac.specs.Running.{FedMac}
 use Rattle.cose_mac.specs.declared.running.Running.{Running}
 
@@ -52,3 +52,7 @@ unfolding digest_of
 FedMac-digest alg key message long running =
     let same = key_block-digest (hash_of alg) key long in
     (FedMac-same running alg key _ message (sym same), FedMac-same running alg _ key message same)
+
+pub ends-digest : EndsOfLongKey
+ends-digest alg key message long one other fed fed_other first second is_first is_second =
+    is_first alg key message fed ∙ sym (mac-digest alg key message long) ∙ sym (is_second alg _ message fed_other)

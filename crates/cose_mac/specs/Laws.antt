@@ -4,7 +4,7 @@ use Rattle.cose_head.specs.Algorithm.{is_mac_of, auth_length_of}
 use Rattle.cose_head.specs.declared.algorithm.Alg.{Alg}
 use Rattle.cose_mac.specs.Hash.{function_of_algorithm, digest_of}
 use Rattle.cose_mac.specs.Hmac.{mac}
-use Rattle.cose_mac.specs.Running.{FedMac}
+use Rattle.cose_mac.specs.Running.{FedMac, IsMacOf}
 use Rattle.cose_mac.specs.declared.running.Running.{Running}
 
 -- A MAC has as many bytes as the table of algorithms says (RFC 9053 section 3.1).
@@ -23,3 +23,9 @@ MacsOfLongKey = (alg : Alg) (key message : List ℕ) → IsLongKey alg key → m
 abbrev pub RunningOfLongKey : Type 0
 RunningOfLongKey = (alg : Alg) (key message : List ℕ) → IsLongKey alg key
     → (running : Running) → FedMac running alg key message ↔ FedMac running alg (digest_of alg key) message
+
+-- Two that were fed one message, one under such a key and one under its digest, end with the same MAC.
+abbrev pub EndsOfLongKey : Type 0
+EndsOfLongKey = (alg : Alg) (key message : List ℕ) → IsLongKey alg key
+    → (one other : Running) → FedMac one alg key message → FedMac other alg (digest_of alg key) message
+    → (first second : List ℕ) → IsMacOf one first → IsMacOf other second → first ≡ second
