@@ -30,6 +30,10 @@ pub enum Fault {
 }
 
 impl From<AllocError> for Fault {
+    ghost use Rattle.cosecmd.specs.declared.fault.Fault.{Fault};
+
+    ghost from_gives = { λ _ fault. fault ≡ Fault.Memory };
+
     fn from(_: AllocError) -> Fault {
         Fault::Memory
     }

@@ -1,6 +1,6 @@
 //! A run of the program, over any reader and writer.
 
-ghost use Rattle.std.specs.Prelude.{◌≡◌, ◌≢◌, ◌≤◌, ◌||◌, ℕ, List, Some, Err, IfOk, is_err};
+ghost use Rattle.std.specs.Prelude.{◌≡◌, ◌≢◌, ◌≤◌, ◌↔◌, ◌||◌, ℕ, List, Some, Ok, Err, IfErr, IfOk, is_err};
 ghost use Rattle.cose_head.specs.declared.refusal.Refusal.{Refusal};
 ghost use Rattle.cose_map.specs.KeySet.{keys_of};
 ghost use Rattle.std.specs.Io.KnownBytes.{Appends};
@@ -20,7 +20,13 @@ use std::io::{Read, Write};
 
 /// The verdict, once the intake was looked at for a byte behind an authentic message.
 fn whole_verdict<I: Intake>(verdict: Verdict, intake: &mut I) -> Result<Verdict, Fault>
+    // Behind a refused message nothing is looked for.
+    ensures refused { (refusal : Refusal) → verdict ≡ Verdict.Refused refusal → result ≡ Ok verdict }
+    ensures unread { (refusal : Refusal) → verdict ≡ Verdict.Refused refusal → intake.new ≡ intake.old }
+
+    // Behind an authentic one nothing may stand.
     ensures whole { (rest : List ℕ) → I.to_come intake.old ≡ Some rest → IfOk result (λ whole. whole ≡ with_rest rest verdict) }
+    ensures fault { IfErr result (λ fault. fault ≡ Fault.Input) }
     ensures failure { I.has_failed intake.new ≡ (I.has_failed intake.old || is_err result) }
 {
     let Verdict::Authentic { taken, .. } = verdict else {
@@ -38,7 +44,8 @@ fn whole_verdict<I: Intake>(verdict: Verdict, intake: &mut I) -> Result<Verdict,
 
 /// The reply that says a verdict.
 fn reply_of(alloc: Global, verdict: Verdict) -> Result<Reply, Fault>
-    ensures { IfOk result (Says verdict) }
+    ensures says { IfOk result (Says verdict) }
+    ensures fault { IfErr result (λ fault. fault ≡ Fault.Memory) }
 {
     let status = match verdict {
         Verdict::Authentic { .. } => Status::Done,
@@ -51,7 +58,7 @@ fn reply_of(alloc: Global, verdict: Verdict) -> Result<Reply, Fault>
 /// What there is to say of the message that the reader gives, under the key set in `keys`.
 fn reply_to<R: Read>(alloc: Global, keys: &[u8], input: &mut R) -> Result<Reply, Fault>
     ensures said { (bytes : List ℕ) → R.remaining input.old ≡ Some bytes → IfOk result (λ reply. (verdict : Verdict) × ProgramVerdict keys.now bytes verdict × Says verdict reply) }
-    ensures keys { (refusal : Refusal) → keys_of keys.now ≡ Err refusal → result ≡ Err (Fault.Keys refusal.reason refusal.place) }
+    ensures keys { (refusal : Refusal) → keys_of keys.now ≡ Err refusal ↔ result ≡ Err (Fault.Keys refusal.reason refusal.place) }
 {
     let keys = match KeySet::read(keys) {
         Ok(keys) => keys,

@@ -95,14 +95,18 @@ fn compares_tags(rt: HostRuntime) -> Result<(), Fail> {
 }
 
 #[test]
-fn refuses_other_payloads(rt: HostRuntime) -> Result<(), Fail> {
-    let rows: [(&str, Reason, u64, usize); 6] = [
+fn refuses_other_heads(rt: HostRuntime) -> Result<(), Fail> {
+    let rows: [(&str, Reason, u64, usize); 9] = [
         ("4268", Reason::Truncated, 9, 9),
         ("5fff", Reason::Indefinite, 7, 8),
         ("5b010000000000000000", Reason::PayloadTooLong, 7, 16),
         ("f600", Reason::Detached, 7, 8),
         ("6161", Reason::WrongType, 7, 8),
         ("f81600", Reason::BadSimple, 7, 9),
+        // nil is the one byte f6: a float whose bits are 22 isn't it
+        ("f9001600", Reason::WrongType, 7, 10),
+        ("5900", Reason::Truncated, 9, 9),
+        ("42686960", Reason::WrongType, 10, 11),
     ];
     for (payload, reason, place, taken) in rows {
         let bytes = hex::decode(rt.alloc(), payload).or(Err("no hexadecimal"))?;
