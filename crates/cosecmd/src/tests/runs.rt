@@ -90,8 +90,20 @@ fn takes_a_key_set(rt: HostRuntime) -> Result<(), Fail> {
 #[test]
 fn explains_its_line(rt: HostRuntime) -> Result<(), Fail> {
     let alloc = rt.alloc();
-    let rows: [(&[&str], &str, u8); 4] = [
+    let rows: [(&[&str], &str, u8); 8] = [
         (&["cosecmd", "--help"], "Usage: cosecmd <COMMAND>", 0),
+        (
+            &["cosecmd", "--help"],
+            "0 authentic, 1 refused, 2 a fault",
+            0,
+        ),
+        (&["cosecmd", "--help"], "no prefix and no spaces", 0),
+        (
+            &["cosecmd", "verify", "--help"],
+            "0 authentic, 1 refused, 2 a fault",
+            0,
+        ),
+        (&["cosecmd", "--version"], "cosecmd 0.1.0\n", 0),
         (
             &["cosecmd", "verify", "--help"],
             "--keys <HEX>  The key set",
