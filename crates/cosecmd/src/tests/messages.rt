@@ -4,7 +4,7 @@ use crate::first::intake::{ReadIntake, SliceIntake};
 use crate::first::sink::{Sink, Store};
 use crate::first::verdict::{Stop, Verdict};
 use crate::first::verify_first;
-use crate::tests::{FRONT, KEY, STRUCTURE, hmac, joined, key_set, message};
+use crate::tests::{FRONT, KEY, STRUCTURE, cut, hmac, joined, key_set, message};
 use cose_head::{Kind, Reason, Refusal};
 use cose_mac::Alg;
 use cose_map::KeySet;
@@ -65,11 +65,6 @@ fn answers(
 fn changed(mut tag: [u8; 32]) -> [u8; 32] {
     tag[31] ^= 1;
     tag
-}
-
-/// The tag without its last byte.
-fn cut(tag: &[u8; 32]) -> &[u8] {
-    &tag[..31]
 }
 
 #[test]
