@@ -1,4 +1,4 @@
-//! The faults of the line, the words, memory and the input, each with the line that is printed for it.
+//! Why a run has no verdict (the command line, the key set, memory, the input), each with the line that is printed for it.
 
 ghost use Rattle.std.specs.Prelude.{◌≡◌, ◌≢◌};
 
@@ -13,7 +13,7 @@ pub enum Fault {
     /// A request for memory was refused.
     #[error("fault memory")]
     Memory,
-    /// The word of this option is no hexadecimal.
+    /// The word that follows this option is no hexadecimal.
     #[error("fault line {0}")]
     Line(&'static str),
     /// The key set is refused.
@@ -21,7 +21,7 @@ pub enum Fault {
     Keys {
         /// Why.
         reason: Reason,
-        /// Where, in bytes from its first.
+        /// Where, in bytes from the first of the key set.
         place: u64,
     },
     /// The input failed.

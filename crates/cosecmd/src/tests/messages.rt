@@ -39,7 +39,7 @@ fn takes_the_message_in_any_pieces(rt: HostRuntime) -> Result<(), Fail> {
     Ok(())
 }
 
-/// The message with these bytes behind its front gets this verdict, and so many of its bytes are taken.
+/// The message with these bytes behind its front gets this verdict, and this number of its bytes is taken.
 fn answers(
     rt: &(impl Abort + Alloc<A = Global>),
     payload: &[u8],
