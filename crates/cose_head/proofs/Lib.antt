@@ -23,4 +23,5 @@ pub mod ShortLeast
 pub mod ReadLaws
 pub mod Spans
 pub mod PlacedTrees
+pub mod Whole
 pub mod Inside

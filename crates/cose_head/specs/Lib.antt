@@ -1,10 +1,12 @@
 pub mod Reason
+pub mod Refusal
 pub mod Head
 pub mod Item
 pub mod Reading
 pub mod Shortest
 pub mod Measured
 pub mod Placed
+pub mod Whole
 pub mod ItemRef
 pub mod Items
 pub mod HalfHead

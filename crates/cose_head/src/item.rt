@@ -137,7 +137,7 @@ fn items_at(
 
 /// The item at the front of `bytes`, which stand at `place`.
 #[cycle(item)]
-fn item_at(bytes: &[u8], room: usize, place: u64, depth: usize) -> Result<Span, Refusal>
+pub(crate) fn item_at(bytes: &[u8], room: usize, place: u64, depth: usize) -> Result<Span, Refusal>
     requires in_range { place + length bytes.now < 2 ^ 64 }
     requires shallow { depth ≤ 32 }
     ensures exact { let l = left_of bytes.now room place in span_found l result ≡ nesting (read depth l) }

@@ -3,7 +3,7 @@
 //! `read` is how an item is read, `Spells` how bytes spell one, `bare_head` how a head outside an item is read.
 
 ghost use Rattle.cose_head.specs.Laws.{ReadIsSpelled, OneItem, ReadElsewhere, ReadStays, RefusedIsNoItem, ReadSteps, ReadAddsUp, TruncatedHasRoom, HeadIsSpelled, HeadStays, HeadWants, HeadEnds, ShortestIsHead};
-ghost use Rattle.cose_head.specs.PlacedLaws.{LookIsOfTree, HeadIsOfItem, ArrayHasItsElements, MapHasItsPairs, OthersHaveNone, ChildrenEndInside};
+ghost use Rattle.cose_head.specs.PlacedLaws.{LookIsOfTree, HeadIsOfItem, WholeIsItem, ItemIsWhole, WholeIsDeeper, WholeIsRefusedInside, OneItemIsWhole, ArrayHasItsElements, MapHasItsPairs, OthersHaveNone, ChildrenEndInside, TagHasItsContent, OthersEncloseNone};
 ghost use Rattle.cose_head.specs.Shortest.{ShortestIsSpelled, ShortestIsLeast};
 
 /// What `read` accepts is exactly what the grammar spells, within the room and the nesting (RFC 8949 section 3).
@@ -46,6 +46,17 @@ pub fn shortest_is_spelling()
     ensures least { ShortestIsLeast }
 {}
 
+/// Bytes that [`ItemRef::read`](crate::ItemRef::read) accepts are exactly one item of the grammar, and those that are one
+/// are accepted, with more nesting allowed too. What is refused is refused at one of the bytes or at their end. The test
+/// that an `ItemRef` keeps says the same of a nesting of at most 32, wherever the bytes stand.
+pub fn whole_is_one_item()
+    ensures tree { WholeIsItem }
+    ensures accepted { ItemIsWhole }
+    ensures deeper { WholeIsDeeper }
+    ensures inside { WholeIsRefusedInside }
+    ensures test { OneItemIsWhole }
+{}
+
 /// What the getters of an `ItemRef` say of the bytes of an item is what the item's tree is at its root.
 pub fn look_is_of_tree()
     ensures look { LookIsOfTree }
@@ -54,10 +65,13 @@ pub fn look_is_of_tree()
 
 /// The children that `Items` gives of an item are those of its tree, in their order, none left out: the bytes of each,
 /// read alone, are exactly its tree. They stand one after another behind the item's head, and end where the item ends.
-/// Of bytes that are no item too, no child ends after them.
+/// Of bytes that are no item too, no child ends after them. The item that a tag encloses stands behind the tag's head, to
+/// the end, and read alone it is that of the tree; an item that is no tag encloses none.
 pub fn children_are_of_tree()
     ensures array { ArrayHasItsElements }
     ensures map { MapHasItsPairs }
     ensures others { OthersHaveNone }
     ensures inside { ChildrenEndInside }
+    ensures enclosed { TagHasItsContent }
+    ensures no_tags { OthersEncloseNone }
 {}

@@ -3,6 +3,7 @@
 ghost use Rattle.std.specs.Prelude.{◌≡◌, Some};
 ghost use Rattle.cose_head.specs.Reason.{number_of, name_of};
 
+use std::error::Error;
 use std::fmt;
 
 /// Why something is refused. Each reason has a number and a name, which never change.
@@ -160,3 +161,5 @@ impl fmt::Display for Reason {
         f.write_str(self.name())
     }
 }
+
+impl Error for Reason {}

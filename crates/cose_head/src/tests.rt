@@ -1,6 +1,7 @@
 //! Tables of examples: values that the contracts can't show to be the ones that were meant.
 
 use super::*;
+use std::alloc::AllocError;
 use std::process::Abort;
 
 fn whole(length: usize, depth: usize) -> Result<Span, Refusal> {
@@ -95,7 +96,7 @@ fn bool_of(meaning: Meaning) -> Option<bool> {
 
 /// Each getter says what the item of these bytes is, or that it isn't that.
 fn expect_meaning(rt: &impl Abort, bytes: &[u8], want: Meaning) {
-    let item = ItemRef { bytes, place: 0 };
+    let item = ItemRef::read(bytes, 0, 2).expect(rt, "one item");
     assert_eq!(rt; item.as_int(), int_of(want), "of {bytes:?}");
     assert_eq!(rt; item.as_bytes(), bytes_of(want), "of {bytes:?}");
     assert_eq!(rt; item.as_text(), text_of(want), "of {bytes:?}");
@@ -308,12 +309,44 @@ fn counts_missing_argument_bytes(rt: HostRuntime) {
     }
 }
 
+/// The item that these bytes are, from place 0 on.
+fn item_of<'a>(rt: &impl Abort, bytes: &'a [u8]) -> ItemRef<'a> {
+    ItemRef::read(bytes, 0, 32).expect(rt, "one item")
+}
+
+// Bytes, the place of the first and the nesting that is allowed; and the refusal, where they aren't one item.
+#[test]
+fn reads_bytes_that_are_one_item(rt: HostRuntime) {
+    let rows: [(&[u8], u64, usize, Option<(Reason, u64)>); 9] = [
+        (b"\x00", 9, 0, None),
+        (b"\x81\x80", 9, 2, None),
+        (b"\x81\x80", 9, 1, Some((Reason::TooDeep, 10))),
+        (b"\x00\x00", 9, 0, Some((Reason::Trailing, 10))),
+        (b"\xa1\x01\x05\x1c", 9, 1, Some((Reason::Trailing, 12))),
+        (b"\x1c\x00", 9, 0, Some((Reason::Reserved, 9))),
+        (b"\x82\x00\x5f", 9, 1, Some((Reason::Indefinite, 11))),
+        (b"\x44\x01", 9, 0, Some((Reason::PastRoom, 9))),
+        (b"", 9, 0, Some((Reason::PastRoom, 9))),
+    ];
+    for (bytes, at, depth, refused) in rows {
+        match (ItemRef::read(bytes, at, depth), refused) {
+            (Ok(item), None) => {
+                assert_eq!(rt; item.bytes, bytes);
+                assert_eq!(rt; item.place, at);
+            }
+            (Err(refusal), Some((reason, place))) => {
+                assert_eq!(rt; refusal, Refusal { reason, place }, "of {bytes:?}");
+            }
+            _ => assert!(rt; false, "of {bytes:?}"),
+        }
+    }
+}
+
 #[test]
 fn gives_children_with_their_places(rt: HostRuntime) {
     let bytes = b"\xa2\x01\x38\x00\x18\x2a\x82\x61\x61\xf9\x3c\x00";
-    let Some(mut children) = Items::new(bytes, 3) else {
-        return assert!(rt; false);
-    };
+    let map = ItemRef::read(bytes, 3, 2).expect(&rt, "one item");
+    let mut children = Items::new(map.bytes, map.place).expect(&rt, "a map");
     let rows: [(u64, usize, Option<i128>); 4] = [
         (4, 1, Some(1)),
         (5, 2, Some(-1)),
@@ -321,30 +354,67 @@ fn gives_children_with_their_places(rt: HostRuntime) {
         (9, 6, None),
     ];
     for (place, length, number) in rows {
-        match children.next() {
-            Some(child) => {
-                assert_eq!(rt; child.place, place);
-                assert_eq!(rt; child.bytes.len(), length);
-                assert_eq!(rt; child.as_int(), number);
-            }
-            None => assert!(rt; false, "no child at {place}"),
-        }
+        let child = children.next().expect(&rt, "a child");
+        assert_eq!(rt; child.place, place);
+        assert_eq!(rt; child.bytes.len(), length);
+        assert_eq!(rt; child.as_int(), number);
     }
     assert!(rt; children.next().is_none());
-    assert!(rt; Items::new(b"\xc1\x80", 0).is_none());
+    let tag = item_of(&rt, b"\xc1\x80");
+    assert!(rt; Items::new(tag.bytes, tag.place).is_none());
+    assert!(rt; Items::of(&tag).next().is_none());
+    assert!(rt; Items::none().next().is_none());
+}
+
+// The item, and of a CBOR tag its number, and the place and the length of what it encloses.
+#[test]
+fn gives_what_a_tag_encloses(rt: HostRuntime) {
+    let rows: [(&[u8], Option<(u64, u64, usize)>); 5] = [
+        (b"\xc1\x1a\x51\x4b\x67\xb0", Some((1, 4, 5))),
+        (b"\xd8\x20\x61\x61", Some((32, 5, 2))),
+        (b"\xd9\x00\x10\xd2\x80", Some((16, 6, 2))),
+        (b"\xa1\x01\x02", None),
+        (b"\xe6", None),
+    ];
+    for (bytes, want) in rows {
+        let item = ItemRef::read(bytes, 3, 3).expect(&rt, "one item");
+        match (item.as_tag(), want) {
+            (Some((number, enclosed)), Some(found)) => {
+                assert_eq!(rt;
+                    (number, enclosed.place, enclosed.bytes.len()),
+                    found,
+                    "of {bytes:?}"
+                );
+            }
+            (None, None) => {}
+            _ => assert!(rt; false, "of {bytes:?}"),
+        }
+    }
 }
 
 #[test]
 fn tells_what_an_item_is(rt: HostRuntime) {
-    let item = |bytes| ItemRef { bytes, place: 0 };
-    assert_eq!(rt; item(b"\x61\x61").as_text(), Some("a"));
-    assert_eq!(rt; item(b"\x61\xff").as_text(), None);
-    assert!(rt; item(b"\x61\xff").is_text());
-    assert_eq!(rt; item(b"\x41\xff").as_bytes(), Some(b"\xff".as_slice()));
-    assert!(rt; item(b"\xf9\x3c\x00").is_float());
-    assert!(rt; !item(b"\xf6").is_float());
-    assert!(rt; item(b"\x80").is_array());
-    assert!(rt; item(b"\xa0").is_map());
-    assert_eq!(rt; item(b"\xc1\x00").head().arg, 1);
-    assert_eq!(rt; item(b"").head().arg, 23);
+    assert_eq!(rt; item_of(&rt, b"\x61\x61").as_text(), Some("a"));
+    assert_eq!(rt; item_of(&rt, b"\x61\xff").as_text(), None);
+    assert!(rt; item_of(&rt, b"\x61\xff").is_text());
+    assert_eq!(rt;
+        item_of(&rt, b"\x41\xff").as_bytes(),
+        Some(b"\xff".as_slice())
+    );
+    assert!(rt; item_of(&rt, b"\xf9\x3c\x00").is_float());
+    assert!(rt; !item_of(&rt, b"\xf6").is_float());
+    assert!(rt; item_of(&rt, b"\x80").is_array());
+    assert!(rt; item_of(&rt, b"\xa0").is_map());
+    assert_eq!(rt; item_of(&rt, b"\xc1\x00").head().arg, 1);
+}
+
+#[test]
+fn writes_a_refusal(rt: HostRuntime) -> Result<(), AllocError> {
+    let refusal = Refusal {
+        reason: Reason::BadAuth,
+        place: 10,
+    };
+    let text = format!(in rt.alloc(); "{refusal}")?;
+    assert_eq!(rt; text.as_str(), "BadAuth at 10");
+    Ok(())
 }

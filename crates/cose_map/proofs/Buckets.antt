@@ -1,4 +1,4 @@
--- What a bucket of no bytes has.
+-- Whether a bucket has a label.
 use Rattle.std.proofs.Common.{◌≡◌, ◌∙◌, ap, Option, None, ℕ, List, [], ◌∷◌, length, refl, arith}
 use Rattle.cose_head.specs.Head.{bare_head}
 use Rattle.cose_head.specs.Placed.{Placed, head_of_item, children_of}
@@ -6,11 +6,6 @@ use Rattle.std.specs.Prelude.{is_some, option_map, cond, ◌||◌, Bool, true, f
 use Rattle.cose_map.specs.Label.{LabelValue, same_label}
 use Rattle.cose_map.specs.Bucket.{value_of}
 use Rattle.cose_map.specs.Maps.{Pair, named, has_label, pair_of}
-
-pub nothing_in : (bytes : List ℕ) (place : ℕ) → length bytes ≡ 0 → named (children_of (record { bytes = bytes; place = place })) ≡ []
-unfolding named children_of head_of_item bare_head
-nothing_in [] place e = refl
-nothing_in (b ∷ bs) place e = absurd (omega (arith, e))
 
 has_value : (name : LabelValue) (pairs : List Pair) → is_some (value_of name pairs) ≡ has_label name pairs
 has_value name [] = refl

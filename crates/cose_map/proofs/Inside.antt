@@ -7,19 +7,16 @@ use Rattle.std.proofs.lemmas.Bool.{cond_both, ltb-true}
 use Rattle.cose_head.specs.declared.reason.Reason.{Reason}
 use Rattle.cose_head.specs.declared.reason.Reason.TheVariants.{NotMap, BadValue, UnknownKey, BothIvs}
 use Rattle.cose_head.specs.declared.refusal.Refusal.{Refusal}
-use Rattle.cose_head.specs.Item.{Item}
-use Rattle.cose_head.specs.Reading.{Outcome, read, span_of}
-use Rattle.cose_head.specs.Measured.{left_of}
-use Rattle.cose_head.specs.Laws.{ReadSteps, Steps}
 use Rattle.cose_head.specs.Placed.{Placed, look, is_a_map, integer_in, bytes_in, is_a_text, truth_in, children_of}
-use Rattle.cose_head.specs.PlacedLaws.{end_of, EndsBy, ChildrenEndInside}
+use Rattle.cose_head.specs.PlacedLaws.{end_of, EndsBy, StandsIn, WholeIsItem, WholeIsRefusedInside, ChildrenEndInside}
+use Rattle.cose_head.specs.Whole.{whole}
 use Rattle.cose_map.specs.declared.curve.Curve.{Curve}
 use Rattle.cose_map.specs.Bucket.{bucket_of, bucket_table, is_bytes, value_of, crit, crit_of}
 use Rattle.cose_map.specs.Inside.{RefusedBy, PairEndsBy, PairsEndBy}
 use Rattle.cose_map.specs.Key.{key_of}
 use Rattle.cose_map.specs.KeyForm.{key_table, key_type}
 use Rattle.cose_map.specs.Label.{LabelValue, label_of}
-use Rattle.cose_map.specs.Maps.{Read, ◌>>=◌, refuse, Table, Pair, is_named, pair_of, has_label, name_at, new_name, value_at, label_at, check_pair, check_pairs, check_map, past_span, whole, read_map}
+use Rattle.cose_map.specs.Maps.{Read, ◌>>=◌, refuse, Table, Pair, is_named, pair_of, has_label, name_at, new_name, value_at, label_at, check_pair, check_pairs, check_map, read_map}
 use Rattle.cose_map.specs.Material.{present, member, k, crv, x, y, d, secret_in, symmetric_key, curve_of, usable_curve, curve_in, coordinate_of, coordinate_in, sign_in, y_in, private_part, elliptic_key, material_in, material_of}
 use Rattle.cose_map.specs.Views.{seen_by}
 use Rattle.cose_map.specs.PairFault.{fault_if, critical_faults, element_faults, all_element_faults, crit_faults, is_understood, unprotected_faults, both_ivs, pair_faults, goes_before, lesser, pair_fault}
@@ -217,21 +214,18 @@ seen_inside view (Ok x) end answer e inside = tt
 seen_inside view (Err refusal) end answer e inside = rw (← e) at inside
 
 -- with what is known of reading and of children
-module _ (steps : ReadSteps) (children : ChildrenEndInside) where
+module _ (wholes : WholeIsItem) (inside : WholeIsRefusedInside) (children : ChildrenEndInside) where
   map_inside : (table : Table) (p : Placed) → AnswersBy (end_of p) (PairsEndBy (end_of p)) (check_map table p)
   map_inside table p = cond_both (is_a_map (look p)) (check_pairs table [] (children_of p)) (refuse NotMap p)
       (AnswersBy (end_of p) (PairsEndBy (end_of p))) (λ e. pairs_by (end_of p) table [] (children_of p) tt (children p)) (λ e. omega arith)
 
-  span_inside : (p : Placed) (found : Outcome Item) → Steps 1 (left_of p.bytes (length p.bytes) 0) found →
-      AnswersBy (end_of p) (λ item. item ≡ p) (past_span p (span_of found))
-  span_inside p (Ok found) s =
-      cond_both (nat_lt found.1.place (length p.bytes)) _ (Ok p) (AnswersBy (end_of p) (λ item. item ≡ p))
-      (λ e. let less = ltb-true found.1.place (length p.bytes) e in omega arith) (λ e. refl)
-  span_inside p (Err refusal) s = let upto : refusal.place ≤ 0 + length p.bytes = s.upto in omega arith
+  whole_inside : (depth : ℕ) (p : Placed) (answer : Read Placed) → whole depth p ≡ answer → AnswersBy (end_of p) (λ item. item ≡ p) answer
+  whole_inside depth p (Ok item) e = (wholes depth p item e).2
+  whole_inside depth p (Err refusal) e = let at : StandsIn p refusal.place = rw e at (inside depth p) in at.1
 
   read_inside : (table : Table) (depth : ℕ) (p : Placed) → AnswersBy (end_of p) (PairsEndBy (end_of p)) (read_map table depth p)
   read_inside table depth p = then_by (end_of p) (λ item. item ≡ p) (PairsEndBy (end_of p)) (whole depth p) (check_map table)
-      (span_inside p (read depth (left_of p.bytes (length p.bytes) 0)) (steps depth (left_of p.bytes (length p.bytes) 0)))
+      (whole_inside depth p (whole depth p) refl)
       (λ item same. subst (λ q. AnswersBy (end_of p) (PairsEndBy (end_of p)) (check_map table q)) (sym same) (map_inside table p))
 
   bucket_inside : (depth : ℕ) (p : Placed) → AnswersBy (end_of p) (PairsEndBy (end_of p)) (bucket_of depth p)

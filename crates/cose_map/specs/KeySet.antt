@@ -3,7 +3,8 @@
 use Rattle.std.specs.Prelude.{ℕ, List, [], ◌∷◌, length, Option, Some, None, Ok, Err, nat_lt, ◌==◌, if◌then◌else◌, filter_map}
 use Rattle.cose_head.specs.declared.reason.Reason.TheVariants.{BadKeySet}
 use Rattle.cose_head.specs.Placed.{Placed, Look, an_array, a_map, look, children_of}
-use Rattle.cose_map.specs.Maps.{Read, refuse, whole, ◌>>=◌}
+use Rattle.cose_head.specs.Whole.{whole}
+use Rattle.cose_map.specs.Maps.{Read, refuse, ◌>>=◌}
 use Rattle.cose_map.specs.Key.{key_of}
 use Rattle.cose_map.specs.KeyValue.{KeyValue}
 

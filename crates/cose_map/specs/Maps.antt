@@ -2,13 +2,11 @@
 -- claims and confirmations differ in the table alone.
 use Rattle.std.specs.Prelude.{ℕ, ◌+◌, Bool, List, [], ◌∷◌, ◌++◌, length, Option, Some, None, Result, Ok, Err, nat_lt, if◌then◌else◌, find}
 use Rattle.std.specs.List.{list_any}
-use Rattle.cose_head.specs.declared.item.Span.{Span}
 use Rattle.cose_head.specs.declared.reason.Reason.{Reason}
-use Rattle.cose_head.specs.declared.reason.Reason.TheVariants.{NotMap, BadLabel, DuplicateLabel, Trailing}
+use Rattle.cose_head.specs.declared.reason.Reason.TheVariants.{NotMap, BadLabel, DuplicateLabel}
 use Rattle.cose_head.specs.declared.refusal.Refusal.{Refusal}
-use Rattle.cose_head.specs.Reading.{read, span_of}
-use Rattle.cose_head.specs.Measured.{left_of}
 use Rattle.cose_head.specs.Placed.{Placed, look, is_a_map, children_of}
+use Rattle.cose_head.specs.Whole.{whole}
 use Rattle.cose_map.specs.Label.{LabelValue, same_label, label_of}
 
 -- What was read, or the first fault and its place.
@@ -86,15 +84,6 @@ named (label ∷ value ∷ others) = named_first (label_of label) label value (n
 -- An item that was read already: it is a map, and its pairs are right.
 abbrev pub check_map : Table → Placed → Read (List Pair)
 check_map table p = if is_a_map (look p) then check_pairs table [] (children_of p) else refuse NotMap p
-
--- Exactly one item, of a nesting of at most depth. A fault's place counts from the item's.
-abbrev pub past_span : Placed → Result Span Refusal → Read Placed
-past_span p (Ok span) =
-    if nat_lt span.length (length p.bytes) then Err (record { reason = Trailing; place = p.place + span.length }) else Ok p
-past_span p (Err refusal) = Err (record { reason = refusal.reason; place = p.place + refusal.place })
-
-abbrev pub whole : ℕ → Placed → Read Placed
-whole depth p = past_span p (span_of (read depth (left_of p.bytes (length p.bytes) 0)))
 
 -- Bytes that are exactly one map.
 abbrev pub read_map : Table → ℕ → Placed → Read (List Pair)

@@ -27,7 +27,7 @@ impl<'a> Bucket<'a> {
     ///
     /// The refusal is the first fault of the reading, with [`cose_head::Reason::PastRoom`] where the bytes end early,
     /// then `Trailing`, `NotMap`, and then in the order of the pairs `BadLabel`, `DuplicateLabel` and `BadValue`.
-    #[tactic(auto, unfolding(crate::specs::Bucket::bucket_of), using(crate::proofs::Buckets::nothing_in))]
+    #[tactic(auto, unfolding(crate::specs::Bucket::bucket_of, crate::specs::Maps::named))]
     pub fn read(bytes: &'a [u8], at: u64, depth: usize) -> Result<Bucket<'a>, Refusal>
         requires shallow { depth ≤ 32 }
         requires in_range { at + length bytes.now < 2 ^ 64 }
@@ -35,8 +35,7 @@ impl<'a> Bucket<'a> {
         ensures within { IfErr result (λ refusal. refusal.place ≤ at + length bytes.now) }
     {
         if bytes.is_empty() {
-            let nothing = ItemRef { bytes, place: at };
-            let items = Items::of(&nothing);
+            let items = Items::none();
             return Ok(Bucket {
                 pairs: Pairs { items },
             });

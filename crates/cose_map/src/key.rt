@@ -4,7 +4,7 @@ use crate::key_form::KeyForm;
 use crate::key_member;
 use crate::label::Label;
 use crate::laws::refusals_stand_inside;
-use crate::maps::read_map;
+use crate::maps::check_map;
 use crate::material::Material;
 use crate::members::Members;
 use crate::ops::Ops;
@@ -38,10 +38,9 @@ impl<'a> Key<'a> {
         requires { at + length bytes.now < 2 ^ 64 }
         ensures { seen_by key_value result ≡ key_of (record { bytes = bytes.now; place = at }) }
     {
-        let members = Members {
-            key: ItemRef { bytes, place: at },
-            pairs: read_map(&KeyForm, bytes, at, NESTING)?,
-        };
+        let key = ItemRef::read(bytes, at, NESTING)?;
+        let pairs = check_map(&KeyForm, &key)?;
+        let members = Members { key, pairs };
         let material = members.material()?;
         Ok(Key {
             kid: members.bytes(&key_member::KID),

@@ -8,7 +8,7 @@ ghost use Rattle.cose_map.specs.KeyView.{key_value};
 use crate::choice::{Fitting, Query};
 use crate::key::{Key, NESTING};
 use crate::key_items::KeyItems;
-use crate::maps::{read_whole, refused};
+use crate::maps::refused;
 use cose_head::{ItemRef, Reason, Refusal};
 
 /// A key set has at most so many bytes.
@@ -50,7 +50,7 @@ impl<'a> KeySet<'a> {
                 place: 0,
             });
         }
-        let set = read_whole(bytes, 0, NESTING)?;
+        let set = ItemRef::read(bytes, 0, NESTING)?;
         let mut items = KeyItems::of(set);
         if items.next().is_none() {
             return Err(refused(Reason::BadKeySet, &set));

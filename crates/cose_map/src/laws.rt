@@ -3,7 +3,7 @@
 ghost use Rattle.cose_map.specs.Inside.{MapIsRefusedInside, ReadIsRefusedInside, BucketIsRefusedInside, KeyIsRefusedInside, BucketEndsInside, PairIsRefusedInside};
 ghost use Rattle.cose_map.specs.LeastFault.{NoLeastOfNone, LeastIsAmong, NoneBeforeLeast};
 
-use cose_head::laws::{children_are_of_tree, read_steps};
+use cose_head::laws::{children_are_of_tree, whole_is_one_item};
 
 /// A refusal of a map, of a bucket or of a key stands among its bytes or at their end, and one of two buckets together
 /// no later than the later of their ends, or at the place after both (RFC 9052 sections 3 and 7).
@@ -16,7 +16,7 @@ pub fn refusals_stand_inside()
     ensures two_buckets { PairIsRefusedInside }
 {
     // What these two say of reading and of children is all that the proof rests on.
-    read_steps();
+    whole_is_one_item();
     children_are_of_tree();
 }
 

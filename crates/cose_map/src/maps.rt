@@ -4,7 +4,7 @@
 ghost use Rattle.std.specs.Prelude.{◌≡◌, ℕ, ◌+◌, ◌<◌, ◌≤◌, ◌^◌, [], ◌∷◌, length, MatchOption, IfErr};
 ghost use Rattle.cose_head.specs.ItemRef.{placed};
 ghost use Rattle.cose_head.specs.Items.{items_left};
-ghost use Rattle.cose_map.specs.Maps.{Table, check_pairs, check_map, read_map, whole};
+ghost use Rattle.cose_map.specs.Maps.{Table, check_pairs, check_map, read_map};
 ghost use Rattle.cose_map.specs.Pairs.{pairs_left};
 ghost use Rattle.cose_map.specs.Views.{label_value, seen_by};
 
@@ -12,7 +12,7 @@ use crate::earlier::Earlier;
 use crate::label::Label;
 use crate::laws::refusals_stand_inside;
 use crate::pairs::Pairs;
-use cose_head::{ItemRef, Items, Reason, Refusal, read_item};
+use cose_head::{ItemRef, Items, Reason, Refusal};
 
 /// Which form the value of each label has.
 pub trait Form {
@@ -72,26 +72,6 @@ pub fn check_map<'a, F: Form>(form: &F, item: &ItemRef<'a>) -> Result<Pairs<'a>,
     check_items(form, Items::of(item))
 }
 
-/// Reads bytes that are exactly one item, of a nesting of at most `depth`.
-pub(crate) fn read_whole<'a>(bytes: &'a [u8], at: u64, depth: usize) -> Result<ItemRef<'a>, Refusal>
-    requires shallow { depth ≤ 32 }
-    requires in_range { at + length bytes.now < 2 ^ 64 }
-    ensures exact { seen_by placed result ≡ whole depth (record { bytes = bytes.now; place = at }) }
-    ensures within { IfErr result (λ refusal. refusal.place ≤ at + length bytes.now) }
-{
-    let span = read_item(bytes, bytes.len(), depth).map_err(|refusal| Refusal {
-        reason: refusal.reason,
-        place: at + refusal.place,
-    })?;
-    if span.length < bytes.len() {
-        return Err(Refusal {
-            reason: Reason::Trailing,
-            place: at + span.length as u64,
-        });
-    }
-    Ok(ItemRef { bytes, place: at })
-}
-
 /// Reads bytes that are exactly one map, of a nesting of at most `depth`.
 ///
 /// The refusal is the first fault of the reading, then [`Reason::Trailing`], then those of [`check_map`].
@@ -106,6 +86,6 @@ pub fn read_map<'a, F: Form>(
     ensures exact { seen_by pairs_left result ≡ read_map (F.table form.now) depth (record { bytes = bytes.now; place = at }) }
     ensures within { IfErr result (λ refusal. refusal.place ≤ at + length bytes.now) }
 {
-    let item = read_whole(bytes, at, depth)?;
+    let item = ItemRef::read(bytes, at, depth)?;
     check_map(form, &item)
 }
