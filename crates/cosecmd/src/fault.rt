@@ -2,7 +2,7 @@
 
 ghost use Rattle.std.specs.Prelude.{◌≡◌, ◌≢◌};
 
-use cose_head::{Reason, Refusal};
+use cose_head::Refusal;
 use hex::FromHexError;
 use std::alloc::AllocError;
 use thiserror::Error;
@@ -16,14 +16,9 @@ pub enum Fault {
     /// The word that follows this option is no hexadecimal.
     #[error("fault line {0}")]
     Line(&'static str),
-    /// The key set is refused.
-    #[error("fault keys {reason} at {place}")]
-    Keys {
-        /// Why.
-        reason: Reason,
-        /// Where, in bytes from the first of the key set.
-        place: u64,
-    },
+    /// The key set is refused. The place is in bytes from the first of the set.
+    #[error("fault keys {0}")]
+    Keys(Refusal),
     /// The input failed.
     #[error("fault input")]
     Input,
@@ -40,14 +35,6 @@ impl From<AllocError> for Fault {
 }
 
 impl Fault {
-    /// A refused key set.
-    pub fn keys(refusal: Refusal) -> Fault
-        ensures { result ≡ Fault.Keys refusal.reason refusal.place }
-    {
-        let Refusal { reason, place } = refusal;
-        Fault::Keys { reason, place }
-    }
-
     /// The word of an option that couldn't be read as hexadecimal.
     pub fn hexadecimal(option: &'static str, error: FromHexError) -> Fault
         ensures memory { error ≡ FromHexError.OutOfMemory → result ≡ Fault.Memory }

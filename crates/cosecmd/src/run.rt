@@ -58,11 +58,11 @@ fn reply_of(alloc: Global, verdict: Verdict) -> Result<Reply, Fault>
 /// The reply to the message that the reader gives, under the key set in `keys`.
 fn reply_to<R: Read>(alloc: Global, keys: &[u8], input: &mut R) -> Result<Reply, Fault>
     ensures said { (bytes : List ℕ) → R.remaining input.old ≡ Some bytes → IfOk result (λ reply. (verdict : Verdict) × ProgramVerdict keys.now bytes verdict × Says verdict reply) }
-    ensures keys { (refusal : Refusal) → keys_of keys.now ≡ Err refusal ↔ result ≡ Err (Fault.Keys refusal.reason refusal.place) }
+    ensures keys { (refusal : Refusal) → keys_of keys.now ≡ Err refusal ↔ result ≡ Err (Fault.Keys refusal) }
 {
     let keys = match KeySet::read(keys) {
         Ok(keys) => keys,
-        Err(refusal) => return Err(Fault::keys(refusal)),
+        Err(refusal) => return Err(Fault::Keys(refusal)),
     };
     let mut intake = ReadIntake::new(input);
     let verdict = match verify_first(&keys, &mut intake, &mut Nothing) {
