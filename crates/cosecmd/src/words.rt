@@ -11,7 +11,7 @@ const VERSION: &str = "0.1.0";
 
 /// What help says below the options.
 const NOTES: &str = "Words in hexadecimal have an even number of digits, no prefix and no spaces.
-Exit status: 0 authentic, 1 refused, 2 a fault of the line, the keys, memory, input or output.";
+Exit status: 0 authentic, 1 refused, 2 no verdict (command line, keys, memory, input or output).";
 
 /// What the words ask for.
 #[derive(Drop)]

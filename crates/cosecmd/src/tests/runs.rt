@@ -94,13 +94,13 @@ fn explains_its_line(rt: HostRuntime) -> Result<(), Fail> {
         (&["cosecmd", "--help"], "Usage: cosecmd <COMMAND>", 0),
         (
             &["cosecmd", "--help"],
-            "0 authentic, 1 refused, 2 a fault",
+            "0 authentic, 1 refused, 2 no verdict",
             0,
         ),
         (&["cosecmd", "--help"], "no prefix and no spaces", 0),
         (
             &["cosecmd", "verify", "--help"],
-            "0 authentic, 1 refused, 2 a fault",
+            "0 authentic, 1 refused, 2 no verdict",
             0,
         ),
         (&["cosecmd", "--version"], "cosecmd 0.1.0\n", 0),
