@@ -105,7 +105,7 @@ fn allowed_children(
     Ok(count as usize)
 }
 
-/// So many items, one after another: their length, and the nesting of the deepest.
+/// `count` items, one after another: their length, and the nesting of the deepest.
 #[cycle(item)]
 fn items_at(
     count: usize,
