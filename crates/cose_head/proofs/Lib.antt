@@ -1,10 +1,12 @@
 pub mod HeadLemmas
+pub mod WorkedHeads
 pub mod WorkedItems
 pub mod WorkedOpen
 pub mod Heads
 pub mod Measuring
 pub mod ItemSteps
 pub mod WorkedPlaced
+pub mod WorkedWhole
 pub mod Looks
 pub mod HalfHeads
 pub mod Walks
