@@ -3,13 +3,13 @@ pub mod WorkedHeads
 pub mod WorkedItems
 pub mod WorkedOpen
 pub mod Heads
-pub mod Measuring
+pub mod Measured
 pub mod ItemSteps
 pub mod WorkedPlaced
 pub mod WorkedWhole
-pub mod Looks
-pub mod HalfHeads
-pub mod Walks
+pub mod Placed
+pub mod HalfHead
+pub mod Walking
 pub mod WalkedHeads
 pub mod WalkSteps
 pub mod WalkerSteps
