@@ -25,7 +25,7 @@ pub struct ItemRef<'a> {
     pub ghost in_range: { place + length bytes.now < 2 ^ 64 },
 }
 
-/// What is after the first bytes, so many or all.
+/// What is after the first `width` bytes; nothing if there are fewer.
 fn bytes_after(bytes: &[u8], width: u8) -> &[u8]
     ensures { result.now ≡ drop width bytes.now }
 {
@@ -33,7 +33,7 @@ fn bytes_after(bytes: &[u8], width: u8) -> &[u8]
     &bytes[width..]
 }
 
-/// The first bytes, so many or all.
+/// The first `count` bytes, or all if there are fewer.
 fn bytes_before(bytes: &[u8], count: u64) -> &[u8]
     ensures { result.now ≡ take count bytes.now }
 {
