@@ -18,7 +18,7 @@ use Rattle.cose_head.specs.Head.{bare_head}
 use Rattle.cose_head.specs.Placed.{Placed, head_or_undefined, head_of_item, past_head}
 use Rattle.cose_head.specs.PlacedLaws.{IsItem, StandsIn, is_tag}
 use Rattle.cose_head.specs.Whole.{nothing_after, whole, is_one_item}
-use Rattle.cose_head.proofs.Measuring.{same_ok}
+use Rattle.cose_head.proofs.Measured.{same_ok}
 use Rattle.cose_head.proofs.PlacedTrees.{at, item_spelled, spelled_item, head_is_of_item, tag_has_its_content, tag_of_head, in_tag}
 use Rattle.cose_head.proofs.BareHeads.{bare_complete}
 use Rattle.cose_head.proofs.Steps.{read_steps}

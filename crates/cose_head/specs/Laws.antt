@@ -101,7 +101,7 @@ abbrev pub TruncatedHasRoom : Type 0
 TruncatedHasRoom = (depth : ℕ) (l : Left) (refusal : Refusal) → read depth l ≡ Err refusal → refusal.reason ≡ Truncated →
     (refusal.place ≡ l.place + length l.bytes) × (length l.bytes < l.room)
 
--- An item is refused for no other reason.
+-- An item is refused for one of these reasons.
 abbrev pub ReadReasons : Type 0
 ReadReasons = (depth : ℕ) (l : Left) (refusal : Refusal) → read depth l ≡ Err refusal → Contains item_reasons refusal.reason
 
@@ -116,7 +116,7 @@ moved_outcome n (Err refusal) = Err (record { reason = refusal.reason; place = n
 abbrev pub ReadMoves : Type 0
 ReadMoves = (n depth : ℕ) (l : Left) → read depth (moved n l) ≡ moved_outcome n (read depth l)
 
--- The same of bare heads.
+-- A bare head is read where bytes spell it, and what is whole stays when bytes follow.
 abbrev pub HeadIsSpelled : Type 0
 HeadIsSpelled = (bytes : List ℕ) (h : Head) (used : ℕ) → (bare_head bytes ≡ Got h used) ↔ SpellsHead bytes h used
 
@@ -139,7 +139,7 @@ HalfIsShort = (bytes : List ℕ) → IsMore (bare_head bytes) → length bytes <
 abbrev pub HeadFits : Type 0
 HeadFits = (bytes : List ℕ) (h : Head) (used : ℕ) → bare_head bytes ≡ Got h used → (0 < used) × (used ≤ 9) × (used ≤ length bytes)
 
--- A bare head is refused for no other reason.
+-- A bare head is refused for one of these reasons.
 abbrev pub HeadReasons : Type 0
 HeadReasons = (bytes : List ℕ) (reason : Reason) → bare_head bytes ≡ Fault reason → Contains head_reasons reason
 

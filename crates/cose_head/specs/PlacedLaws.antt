@@ -42,7 +42,7 @@ StandsIn p place = (p.place ≤ place) × (place ≤ end_of p)
 abbrev pub WholeIsRefusedInside : Type 0
 WholeIsRefusedInside = (depth : ℕ) (p : Placed) → IfErr (whole depth p) (λ refusal. StandsIn p refusal.place)
 
--- And for no other reason: never Truncated, since the room is the number of the bytes.
+-- For one of these reasons: never Truncated, since the room is the number of the bytes.
 abbrev pub WholeReasons : Type 0
 WholeReasons = (depth : ℕ) (p : Placed) (refusal : Refusal) → whole depth p ≡ Err refusal → Contains whole_reasons refusal.reason
 

@@ -25,7 +25,7 @@ pub struct ItemRef<'a> {
     pub ghost in_range: { place + length bytes.now < 2 ^ 64 },
 }
 
-/// What is after the first bytes, so many or all.
+/// What is after the first `width` bytes; nothing if there are fewer.
 fn bytes_after(bytes: &[u8], width: u8) -> &[u8]
     ensures { result.now ≡ drop width bytes.now }
 {
@@ -33,7 +33,7 @@ fn bytes_after(bytes: &[u8], width: u8) -> &[u8]
     &bytes[width..]
 }
 
-/// The first bytes, so many or all.
+/// The first `count` bytes, or all if there are fewer.
 fn bytes_before(bytes: &[u8], count: u64) -> &[u8]
     ensures { result.now ≡ take count bytes.now }
 {
@@ -96,7 +96,7 @@ impl<'a> ItemRef<'a> {
     }
 
     /// The integer that the item is, if it is one.
-    #[tactic(auto, unfolding(crate::specs::Placed::look), using(crate::proofs::Looks::unsigned_found, crate::proofs::Looks::negative_found, crate::proofs::Looks::no_integer))]
+    #[tactic(auto, unfolding(crate::specs::Placed::look), using(crate::proofs::Placed::unsigned_found, crate::proofs::Placed::negative_found, crate::proofs::Placed::no_integer))]
     pub fn as_int(&self) -> Option<i128>
         ensures { result ≡ integer_in (look (placed self.now)) }
     {
@@ -109,7 +109,7 @@ impl<'a> ItemRef<'a> {
     }
 
     /// The content of a byte string.
-    #[tactic(auto, unfolding(crate::specs::Placed::look), using(crate::proofs::Looks::bytes_found, crate::proofs::Looks::no_bytes))]
+    #[tactic(auto, unfolding(crate::specs::Placed::look), using(crate::proofs::Placed::bytes_found, crate::proofs::Placed::no_bytes))]
     pub fn as_bytes(&self) -> Option<&'a [u8]>
         ensures { option_map (λ bytes. bytes.now) result ≡ bytes_in (look (placed self.now)) }
     {
@@ -121,7 +121,7 @@ impl<'a> ItemRef<'a> {
     }
 
     /// The content of a text, if it is UTF-8.
-    #[tactic(auto, unfolding(crate::specs::Placed::look), using(crate::proofs::Looks::text_found, crate::proofs::Looks::no_text))]
+    #[tactic(auto, unfolding(crate::specs::Placed::look), using(crate::proofs::Placed::text_found, crate::proofs::Placed::no_text))]
     pub fn as_text(&self) -> Option<&'a str>
         ensures { option_map (λ text. text.now) result ≡ text_in (look (placed self.now)) }
     {
@@ -133,7 +133,7 @@ impl<'a> ItemRef<'a> {
     }
 
     /// The truth value that the item is.
-    #[tactic(auto, unfolding(crate::specs::Placed::look), using(crate::proofs::Looks::truth_found, crate::proofs::Looks::no_truth))]
+    #[tactic(auto, unfolding(crate::specs::Placed::look), using(crate::proofs::Placed::truth_found, crate::proofs::Placed::no_truth))]
     pub fn as_bool(&self) -> Option<bool>
         ensures { result ≡ truth_in (look (placed self.now)) }
     {
@@ -164,7 +164,7 @@ impl<'a> ItemRef<'a> {
     }
 
     /// Whether the item is a text, UTF-8 or not.
-    #[tactic(auto, unfolding(crate::specs::Placed::look), using(crate::proofs::Looks::any_text_found))]
+    #[tactic(auto, unfolding(crate::specs::Placed::look), using(crate::proofs::Placed::any_text_found))]
     pub fn is_text(&self) -> bool
         ensures { result ≡ is_a_text (look (placed self.now)) }
     {
@@ -172,7 +172,7 @@ impl<'a> ItemRef<'a> {
     }
 
     /// Whether the item is a float.
-    #[tactic(auto, unfolding(crate::specs::Placed::look), using(crate::proofs::Looks::float_found, crate::proofs::Looks::no_float))]
+    #[tactic(auto, unfolding(crate::specs::Placed::look), using(crate::proofs::Placed::float_found, crate::proofs::Placed::no_float))]
     pub fn is_float(&self) -> bool
         ensures { result ≡ is_a_float (look (placed self.now)) }
     {
@@ -181,7 +181,7 @@ impl<'a> ItemRef<'a> {
     }
 
     /// Whether the item is an array.
-    #[tactic(auto, unfolding(crate::specs::Placed::look), using(crate::proofs::Looks::array_found))]
+    #[tactic(auto, unfolding(crate::specs::Placed::look), using(crate::proofs::Placed::array_found))]
     pub fn is_array(&self) -> bool
         ensures { result ≡ is_an_array (look (placed self.now)) }
     {
@@ -189,7 +189,7 @@ impl<'a> ItemRef<'a> {
     }
 
     /// Whether the item is a map.
-    #[tactic(auto, unfolding(crate::specs::Placed::look), using(crate::proofs::Looks::map_found))]
+    #[tactic(auto, unfolding(crate::specs::Placed::look), using(crate::proofs::Placed::map_found))]
     pub fn is_map(&self) -> bool
         ensures { result ≡ is_a_map (look (placed self.now)) }
     {

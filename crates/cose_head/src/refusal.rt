@@ -6,7 +6,7 @@ use crate::reason::Reason;
 use std::error::Error;
 use std::fmt;
 
-/// Why bytes are refused, and where.
+/// Why bytes are refused, and where: the answer to a fault, which is what is wrong in them.
 ///
 /// It is written as the reason's name and the place, for example `BadAuth at 10`.
 #[derive(Clone, Copy, Debug, PartialEq, Eq)]

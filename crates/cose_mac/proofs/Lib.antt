@@ -1,5 +1,6 @@
 pub mod HashLemmas
 pub mod HmacLemmas
+pub mod LongKeys
 pub mod RunningLemmas
 pub mod StructureLemmas
 pub mod WorkedHmac

@@ -58,6 +58,35 @@ front_of_mac : structure_front Mac0 hmac_256 [] 0x10000 ≡ mac0 ++ 0x43 ∷ 0xa
 unfolding structure_front shortest_head
 front_of_mac = refl
 
+-- Its head is the shortest: at each width the last length that fits, and the first that does not.
+front_of_mac_23 : structure_front Mac0 [] [] 23 ≡ mac0 ++ 0x40 ∷ 0x40 ∷ 0x57 ∷ []
+unfolding structure_front shortest_head
+front_of_mac_23 = refl
+
+front_of_mac_24 : structure_front Mac0 [] [] 24 ≡ mac0 ++ 0x40 ∷ 0x40 ∷ 0x58 ∷ 24 ∷ []
+unfolding structure_front shortest_head
+front_of_mac_24 = refl
+
+front_of_mac_255 : structure_front Mac0 [] [] 255 ≡ mac0 ++ 0x40 ∷ 0x40 ∷ 0x58 ∷ 0xff ∷ []
+unfolding structure_front shortest_head
+front_of_mac_255 = refl
+
+front_of_mac_256 : structure_front Mac0 [] [] 256 ≡ mac0 ++ 0x40 ∷ 0x40 ∷ 0x59 ∷ 1 ∷ 0 ∷ []
+unfolding structure_front shortest_head
+front_of_mac_256 = refl
+
+front_of_mac_65_535 : structure_front Mac0 [] [] 65_535 ≡ mac0 ++ 0x40 ∷ 0x40 ∷ 0x59 ∷ 0xff ∷ 0xff ∷ []
+unfolding structure_front shortest_head
+front_of_mac_65_535 = refl
+
+front_of_mac_below_2_32 : structure_front Mac0 [] [] 0xffff_ffff ≡ mac0 ++ 0x40 ∷ 0x40 ∷ 0x5a ∷ 0xff ∷ 0xff ∷ 0xff ∷ 0xff ∷ []
+unfolding structure_front shortest_head
+front_of_mac_below_2_32 = refl
+
+front_of_mac_2_32 : structure_front Mac0 [] [] 0x1_0000_0000 ≡ mac0 ++ 0x40 ∷ 0x40 ∷ 0x5b ∷ 0 ∷ 0 ∷ 0 ∷ 1 ∷ 0 ∷ 0 ∷ 0 ∷ 0 ∷ []
+unfolding structure_front shortest_head
+front_of_mac_2_32 = refl
+
 front_of_signature : structure_front Sign1 [] (0x2a ∷ []) 0 ≡ signature1 ++ 0x40 ∷ 0x41 ∷ 0x2a ∷ 0x40 ∷ []
 unfolding structure_front shortest_head
 front_of_signature = refl

@@ -4,7 +4,7 @@ use Rattle.cose_head.specs.Algorithm.{is_mac_of, hash_of}
 use Rattle.cose_head.specs.declared.algorithm.Alg.{Alg}
 use Rattle.cose_mac.specs.Hash.{function_of_algorithm}
 use Rattle.cose_mac.specs.Hasher.{Holds}
-use Rattle.cose_mac.specs.Hmac.{key_block, xor_pad, ipad, opad}
+use Rattle.cose_mac.specs.Hmac.{key_block, xor_pad, ipad, opad, mac}
 use Rattle.cose_mac.specs.declared.running.Running.{Running}
 
 -- whether it makes a MAC, and not a digest
@@ -21,6 +21,10 @@ pub record FedMac (running : Running) (alg : Alg) (key message : List ℕ) : Typ
   pub is_mac : IsTrue (makes_mac running)
   pub outer : running.outer ≡ Some (record { items = xor_pad (key_block_of alg key) opad })
   pub held : Holds (hash_of alg) running.hasher (xor_pad (key_block_of alg key) ipad ++ message)
+
+-- The bytes are the MAC of the message that it was fed.
+abbrev pub IsMacOf : Running → List ℕ → Type 0
+IsMacOf running bytes = (alg : Alg) (key message : List ℕ) → FedMac running alg key message → bytes ≡ mac alg key message
 
 -- It makes the digest that this algorithm signs, and was fed this message so far.
 pub record FedDigest (running : Running) (alg : Alg) (message : List ℕ) : Type 0 where

@@ -4,7 +4,6 @@ ghost use Rattle.std.specs.Prelude.{◌≡◌, ℕ, List, [], ◌++◌, IsTrue, 
 ghost use Rattle.arrayvec.specs.ArrayVec.{array_vec_len};
 ghost use Rattle.cose_head.specs.Algorithm.{is_mac_of, auth_length_of};
 ghost use Rattle.cose_mac.specs.Hash.{digest_of, digest_length_of};
-ghost use Rattle.cose_mac.specs.Hmac.{mac};
 
 use crate::hasher::Hasher;
 use crate::hmac::{Block, IPAD, OPAD, key_block, xor_pad};
@@ -23,7 +22,7 @@ pub struct Running {
 }
 
 impl Running {
-    ghost use Rattle.cose_mac.specs.Running.{FedMac, FedDigest, Appends, makes_mac};
+    ghost use Rattle.cose_mac.specs.Running.{FedMac, FedDigest, Appends, IsMacOf, makes_mac};
 
     /// The MAC of the empty message under a key of any length (RFC 2104).
     ///
@@ -74,8 +73,7 @@ impl Running {
     /// The MAC of the message, cut to the algorithm's length: [`Alg::auth_length`] bytes.
     pub fn finish_mac(self) -> ArrayVec<u8, 64>
         requires { IsTrue (makes_mac self) }
-        ensures value { (alg : Alg) (key message : List ℕ)
-            → FedMac self alg key message → result.items ≡ mac alg key message }
+        ensures value { IsMacOf self result.items }
         ensures length { (alg : Alg) (key message : List ℕ)
             → FedMac self alg key message → array_vec_len result ≡ auth_length_of alg }
     {

@@ -105,6 +105,11 @@ signature : signed es256 (point 1 ∷ []) ≡ Ok (point 1, negsuc 6)
 unfolding signed
 signature = refl
 
+no_signatures : map (λ n. signed (Some (number n)) (point 1 ∷ [])) (negsuc 5 ∷ negsuc 7 ∷ negsuc 36 ∷ [])
+    ≡ Err UnknownAlg ∷ Err UnknownAlg ∷ Err UnknownAlg ∷ []
+unfolding signed
+no_signatures = refl
+
 other_curve : signed es256 (point 2 ∷ []) ≡ Err NoKey
 unfolding signed
 other_curve = refl

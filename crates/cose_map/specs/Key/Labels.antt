@@ -3,8 +3,8 @@ use Rattle.std.specs.Prelude.{pos, negsuc}
 use Rattle.cose_map.specs.Label.{LabelValue, number}
 
 -- Those of keys of every type (RFC 9052 section 7.1).
-abbrev pub key_type : LabelValue
-key_type = number (pos 1)
+abbrev pub kty : LabelValue
+kty = number (pos 1)
 
 abbrev pub key_kid : LabelValue
 key_kid = number (pos 2)

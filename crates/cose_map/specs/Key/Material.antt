@@ -7,7 +7,7 @@ use Rattle.cose_map.specs.declared.key.curve.Curve.{Curve}
 use Rattle.cose_map.specs.Map.Form.{is_bytes}
 use Rattle.cose_map.specs.Map.Pairs.{value_of, Pair}
 use Rattle.cose_map.specs.Key.Curve.{curve_of}
-use Rattle.cose_map.specs.Key.Labels.{key_type, k, crv, x, y, d}
+use Rattle.cose_map.specs.Key.Labels.{kty, k, crv, x, y, d}
 use Rattle.cose_map.specs.Key.Value.{MaterialValue, symmetric, elliptic, YValue, coordinate, sign}
 use Rattle.cose_map.specs.Label.{LabelValue}
 use Rattle.cose_map.specs.Map.Read.{Read, refuse, ◌>>=◌}
@@ -82,5 +82,5 @@ material_in key pairs (Some z) =
 
 unfoldable pub material_of : Placed → List Pair → Read MaterialValue
 material_of key pairs = do
-  value ← member key pairs key_type
+  value ← member key pairs kty
   material_in key pairs (integer_in (look value))

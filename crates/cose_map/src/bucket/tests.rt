@@ -224,8 +224,16 @@ fn gives_what_a_bucket_says(rt: HostRuntime) {
 }
 
 #[test]
-fn finds_the_least_fault_of_both(rt: HostRuntime) {
-    let rows: [(&[u8], &[u8], u64, Refusal); 21] = [
+fn gives_a_text_for_alg(rt: HostRuntime) {
+    let read = bucket(&rt, b"\xa1\x01\x61\x35", 0);
+    assert!(rt; read.alg() == Some(Label::Text("5")));
+    assert!(rt; read.kid().is_none());
+    assert!(rt; read.crit().is_none());
+}
+
+#[test]
+fn finds_labels_in_both(rt: HostRuntime) {
+    let rows: [(&[u8], &[u8], u64, Refusal); 6] = [
         // A label in both buckets; where it is that of crit too, the smaller number goes first.
         (
             b"\xa2\x01\x05\x02\x81\x01",
@@ -239,7 +247,48 @@ fn finds_the_least_fault_of_both(rt: HostRuntime) {
             9,
             refusal(Reason::BothBuckets, 7),
         ),
-        // A label of crit that the protected bucket lacks.
+        // crit in the unprotected bucket.
+        (
+            b"\xa1\x01\x05",
+            b"\xa1\x02\x81\x01",
+            10,
+            refusal(Reason::CritUnprotected, 7),
+        ),
+        // Of several faults that at the least place.
+        (
+            b"\xa2\x01\x05\x02\x81\x04",
+            b"\xa1\x01\x05",
+            12,
+            refusal(Reason::CritAbsent, 8),
+        ),
+        (
+            b"\xa2\x01\x05\x04\x41\x07",
+            b"\xa2\x04\x41\x07\x01\x05",
+            15,
+            refusal(Reason::BothBuckets, 10),
+        ),
+        (
+            b"\xa1\x05\x41\x00",
+            b"\xa2\x05\x41\x00\x06\x41\x00",
+            14,
+            refusal(Reason::BothBuckets, 8),
+        ),
+    ];
+    for (first, second, after, want) in rows {
+        let protected = bucket(&rt, first, 3);
+        let unprotected = bucket(&rt, second, 3 + first.len() as u64);
+        assert_eq!(rt;
+            check_pair(&protected, &unprotected, &[], after),
+            Err(want),
+            "of {first:?} and {second:?}"
+        );
+    }
+}
+
+#[test]
+fn finds_labels_of_crit_that_are_absent(rt: HostRuntime) {
+    let rows: [(&[u8], &[u8], u64, Refusal); 3] = [
+        // A label that the protected bucket lacks.
         (
             b"\xa2\x01\x05\x02\x81\x18\x2a",
             b"\xa0",
@@ -258,7 +307,22 @@ fn finds_the_least_fault_of_both(rt: HostRuntime) {
             12,
             refusal(Reason::CritAbsent, 9),
         ),
-        // One that nobody knows: 1 to 6 are known, and 7, 0, -1 and texts are not.
+    ];
+    for (first, second, after, want) in rows {
+        let protected = bucket(&rt, first, 3);
+        let unprotected = bucket(&rt, second, 3 + first.len() as u64);
+        assert_eq!(rt;
+            check_pair(&protected, &unprotected, &[], after),
+            Err(want),
+            "of {first:?} and {second:?}"
+        );
+    }
+}
+
+#[test]
+fn finds_labels_of_crit_that_nobody_knows(rt: HostRuntime) {
+    let rows: [(&[u8], &[u8], u64, Refusal); 5] = [
+        // 1 to 6 are known, and 7, 0, -1 and texts are not.
         (
             b"\xa3\x01\x05\x02\x81\x18\x2a\x18\x2a\x00",
             b"\xa0",
@@ -289,14 +353,21 @@ fn finds_the_least_fault_of_both(rt: HostRuntime) {
             12,
             refusal(Reason::CritUnknown, 9),
         ),
-        // crit in the unprotected bucket.
-        (
-            b"\xa1\x01\x05",
-            b"\xa1\x02\x81\x01",
-            10,
-            refusal(Reason::CritUnprotected, 7),
-        ),
-        // IV and Partial IV, in whichever buckets.
+    ];
+    for (first, second, after, want) in rows {
+        let protected = bucket(&rt, first, 3);
+        let unprotected = bucket(&rt, second, 3 + first.len() as u64);
+        assert_eq!(rt;
+            check_pair(&protected, &unprotected, &[], after),
+            Err(want),
+            "of {first:?} and {second:?}"
+        );
+    }
+}
+
+#[test]
+fn finds_both_ivs(rt: HostRuntime) {
+    let rows: [(&[u8], &[u8], u64, Refusal); 4] = [
         (
             b"\xa2\x01\x05\x05\x41\x00",
             b"\xa1\x06\x41\x00",
@@ -320,44 +391,6 @@ fn finds_the_least_fault_of_both(rt: HostRuntime) {
             b"\xa2\x05\x41\x00\x06\x41\x00",
             11,
             refusal(Reason::BothIvs, 11),
-        ),
-        // Of several faults that at the least place.
-        (
-            b"\xa2\x01\x05\x02\x81\x04",
-            b"\xa1\x01\x05",
-            12,
-            refusal(Reason::CritAbsent, 8),
-        ),
-        (
-            b"\xa2\x01\x05\x04\x41\x07",
-            b"\xa2\x04\x41\x07\x01\x05",
-            15,
-            refusal(Reason::BothBuckets, 10),
-        ),
-        (
-            b"\xa1\x05\x41\x00",
-            b"\xa2\x05\x41\x00\x06\x41\x00",
-            14,
-            refusal(Reason::BothBuckets, 8),
-        ),
-        // Labels that increase in both, in the protected bucket not, and in the unprotected bucket not.
-        (
-            b"\xa3\x01\x05\x04\x41\x00\x05\x41\x00",
-            b"\xa2\x03\x00\x05\x41\x00",
-            18,
-            refusal(Reason::BothBuckets, 15),
-        ),
-        (
-            b"\xa2\x02\x81\x01\x01\x05",
-            b"\xa1\x01\x05",
-            12,
-            refusal(Reason::BothBuckets, 10),
-        ),
-        (
-            b"\xa3\x01\x05\x04\x41\x00\x05\x41\x00",
-            b"\xa3\x0a\x00\x09\x00\x04\x41\x00",
-            20,
-            refusal(Reason::BothBuckets, 17),
         ),
     ];
     for (first, second, after, want) in rows {

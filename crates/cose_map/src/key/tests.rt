@@ -68,12 +68,13 @@ fn refuses_symmetric_keys(rt: HostRuntime) {
 
 #[test]
 fn refuses_keys_on_curves(rt: HostRuntime) {
-    let rows: [(&[u8], Reason, u64); 20] = [
+    let rows: [(&[u8], Reason, u64); 21] = [
         // crv
         (b"\xa1\x01\x02", Reason::BadValue, 7),
         (b"\xa2\x01\x02\x20\x40", Reason::BadValue, 11),
         (b"\xa2\x01\x02\x20\x61\x78", Reason::UnknownKey, 7),
         (b"\xa2\x01\x02\x20\x00", Reason::UnknownKey, 7),
+        (b"\xa2\x01\x02\x20\x03", Reason::UnknownKey, 7),
         (b"\xa2\x01\x02\x20\x04", Reason::UnknownKey, 7),
         // crv, and then x
         (b"\xa2\x01\x02\x21\x00", Reason::BadValue, 7),

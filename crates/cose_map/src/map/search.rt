@@ -108,3 +108,6 @@ impl<'a, 'b> Search<'a, 'b> {
         is_first(&name, self.ahead)
     }
 }
+
+#[cfg(test)]
+mod tests;

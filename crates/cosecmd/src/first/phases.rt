@@ -252,7 +252,7 @@ impl TagHead {
     ghost use Rattle.cose_mac.specs.Structure.{mac_structure};
     ghost use Rattle.cosecmd.specs.Machine.{Continues, Fed, FeedsTagHead, IfOpen, after_payload, budget, left_in_tag_head};
 
-    /// The tag's head begins at this place, behind a payload of so many bytes.
+    /// The tag's head begins at `at`, behind a payload of `payload` bytes.
     fn begin(at: u64, payload: u64, mac: Running) -> Progress<'static>
         requires early { at < 2 ^ 57 }
         requires keyed { makes_mac mac ≡ true }

@@ -1,5 +1,5 @@
 use Rattle.cose_head.proofs.Reasons.{head_reason}
-use Rattle.cose_head.proofs.HalfHeads.{short_half, head_fits}
+use Rattle.cose_head.proofs.HalfHead.{short_half, head_fits}
 use Rattle.cose_head.proofs.BareHeads.{bare_sound, bare_complete, bare_stays, bare_wants, bare_ends}
 use Rattle.cose_head.proofs.laws.bare_head_is_spelling.Goals as goal
 

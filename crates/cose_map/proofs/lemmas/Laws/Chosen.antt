@@ -1,5 +1,5 @@
 -- The key that is chosen is one of the list and fits, and no other one does.
-use Rattle.std.proofs.Common.{◌≡◌, ◌∙◌, ℕ, ℤ, Bool, true, false, List, [], ◌∷◌, ◌++◌, Option, Some, None, Result, Ok, Err, refl, sym, ap, arith}
+use Rattle.std.proofs.Common.{◌≡◌, ◌∙◌, ℤ, Bool, true, false, List, [], ◌∷◌, ◌++◌, Option, Some, None, Ok, Err, refl, sym, ap, arith}
 use Rattle.std.specs.Prelude.{◌&&◌, filter_map, if◌then◌else◌, option_and_then, IsSomeAnd}
 use Rattle.std.specs.List.{AllByRecursion, Contains, cons_option}
 use Rattle.std.proofs.lemmas.List.Elements.{Contains-append_right}

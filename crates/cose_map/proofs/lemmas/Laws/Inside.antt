@@ -1,9 +1,9 @@
 -- No refusal of a map, a bucket, a key or two buckets stands after the bytes.
-use Rattle.std.proofs.Common.{◌≡◌, ◌⊎◌, inl, inr, ℕ, ◌+◌, ◌≤◌, max, Bool, true, false, List, [], ◌∷◌, ◌++◌, length, Option, Some, None, Ok, Err, if◌then◌else◌, refl, sym, subst, arith}
-use Rattle.std.specs.Prelude.{⊤, Result, IfErr, ℤ, pos, nat_lt, ◌==◌, IfSome, option_map, find}
+use Rattle.std.proofs.Common.{◌≡◌, ◌⊎◌, inl, inr, ℕ, ◌≤◌, max, Bool, true, false, List, [], ◌∷◌, ◌++◌, length, Option, Some, None, Ok, Err, if◌then◌else◌, refl, sym, subst, arith}
+use Rattle.std.specs.Prelude.{⊤, Result, IfErr, ℤ, pos, ◌==◌, IfSome, option_map, find}
 use Rattle.std.specs.List.{AllByRecursion}
 use Rattle.std.specs.Ordering.{int_eq}
-use Rattle.std.proofs.lemmas.Bool.{cond_both, ltb-true}
+use Rattle.std.proofs.lemmas.Bool.{cond_both}
 use Rattle.cose_head.specs.declared.reason.Reason.{Reason}
 use Rattle.cose_head.specs.declared.reason.Reason.TheVariants.{NotMap, BadValue, UnknownKey}
 use Rattle.cose_head.specs.declared.refusal.Refusal.{Refusal}
@@ -19,7 +19,7 @@ use Rattle.cose_map.specs.Bucket.Header.{crit}
 use Rattle.cose_map.specs.Laws.Inside.{RefusedBy, PairEndsBy, PairsEndBy}
 use Rattle.cose_map.specs.Key.{key_of}
 use Rattle.cose_map.specs.Key.Form.{key_table}
-use Rattle.cose_map.specs.Key.Labels.{key_type, k, crv, x, y, d}
+use Rattle.cose_map.specs.Key.Labels.{kty, k, crv, x, y, d}
 use Rattle.cose_map.specs.Label.{LabelValue, label_of}
 use Rattle.cose_map.specs.Map.Read.{Read, ◌>>=◌, refuse, name_at, new_name, value_at, label_after, pair_after, check_pairs, check_map, read_map}
 use Rattle.cose_map.specs.Key.Material.{present, member, secret_in, symmetric_key, usable_curve, curve_in, coordinate_of, coordinate_in, sign_in, y_in, private_part, elliptic_key, material_in, material_of}
@@ -165,7 +165,7 @@ module _ (end : ℕ) where
 
     material_by : AnyBy end (material_of key pairs)
     unfolding material_of
-    material_by = then_by end (EndsBy end) (λ material. ⊤) (member key pairs key_type) _ (member_by key_type)
+    material_by = then_by end (EndsBy end) (λ material. ⊤) (member key pairs kty) _ (member_by kty)
         (λ value s. typed_by (integer_in (look value)))
 
 -- a refusal that is seen is that of the code

@@ -1,6 +1,6 @@
 -- For which reasons maps, buckets, keys, key sets, two buckets together and the choice of the key are refused: an answer is
 -- a value, or a refusal whose reason has a property, and this goes through what follows it.
-use Rattle.std.proofs.Common.{◌≡◌, ℕ, zero, suc, Bool, true, false, not, List, [], ◌∷◌, ◌++◌, length, Option, Some, None, Ok, Err, if◌then◌else◌, lit<, refl, sym, ap, arith}
+use Rattle.std.proofs.Common.{◌≡◌, ℕ, Bool, true, false, not, List, [], ◌∷◌, ◌++◌, length, Option, Some, None, Ok, Err, if◌then◌else◌, lit<, refl, ap}
 use Rattle.std.specs.Prelude.{◌≢◌, ⊤, IfErr, IfSome, ℤ, pos, nat_lt, ◌==◌, ◌&&◌, filter_map}
 use Rattle.std.specs.List.{AllByRecursion, Contains, list_all}
 use Rattle.std.specs.Ordering.{int_eq}
@@ -22,7 +22,7 @@ use Rattle.cose_map.specs.Map.Pairs.{value_of, Pair, has_label}
 use Rattle.cose_map.specs.Choice.{Question, none_fits, only_one, is_answerable, fitting, chosen}
 use Rattle.cose_map.specs.Key.{key_of}
 use Rattle.cose_map.specs.Key.Form.{key_form, key_table}
-use Rattle.cose_map.specs.Key.Labels.{key_type, k, crv, x, y, d}
+use Rattle.cose_map.specs.Key.Labels.{kty, k, crv, x, y, d}
 use Rattle.cose_map.specs.KeySet.{items_in, usable_keys, keys_at, keys_of}
 use Rattle.cose_map.specs.Key.Value.{KeyValue}
 use Rattle.cose_map.specs.Label.{LabelValue, label_of}
@@ -137,7 +137,7 @@ module _ (P : Reason → Type 0) where
 
     material_refuses : Refuses (material_of key pairs)
     unfolding material_of
-    material_refuses = then_refuses (member key pairs key_type) _ (member_refuses key_type) (λ value. typed_refuses (integer_in (look value)))
+    material_refuses = then_refuses (member key pairs kty) _ (member_refuses kty) (λ value. typed_refuses (integer_in (look value)))
 
 -- one of several reasons is one of more
 among_first : (some others : List Reason) {A : Type 0} (answer : Read A) → RefusedFor some answer → RefusedFor (some ++ others) answer

@@ -1,6 +1,6 @@
 -- Bytes that are one item spell a tree, and the pairs of a map that was read are those of its tree.
-use Rattle.std.proofs.Common.{◌≡◌, ◌∙◌, ◌⊎◌, inl, inr, ℕ, ◌-◌, ◌*◌, ◌≤◌, Bool, true, false, List, [], ◌∷◌, ◌++◌, length, Option, Some, None, Ok, Err, if◌then◌else◌, refl, sym, ap, subst, arith, append-nil, append_assoc, length-append, ◌+◌}
-use Rattle.std.specs.Prelude.{◌↔◌, nat_lt, ◌==◌}
+use Rattle.std.proofs.Common.{◌≡◌, ◌∙◌, ◌⊎◌, inl, inr, ℕ, ◌-◌, ◌*◌, ◌≤◌, Bool, true, false, List, [], ◌∷◌, ◌++◌, length, Option, Some, None, Ok, Err, if◌then◌else◌, refl, sym, ap, subst, arith, append-nil, append_assoc, ◌+◌}
+use Rattle.std.specs.Prelude.{◌↔◌, ◌==◌}
 use Rattle.std.proofs.lemmas.Bool.Decides.{nat_tests}
 use Rattle.cose_head.specs.declared.reason.Reason.{Reason}
 use Rattle.cose_head.specs.declared.reason.Reason.TheVariants.{NotMap}
@@ -9,7 +9,7 @@ use Rattle.cose_head.specs.Laws.{ReadIsSpelled}
 use Rattle.cose_head.specs.Measured.{left_of}
 use Rattle.cose_head.specs.Placed.{Placed, truth, other, look, is_a_map, children_of}
 use Rattle.cose_head.specs.PlacedLaws.{IsItem, WholeIsItem, ItemIsWhole, look_of_tree, AreItems, LookIsOfTree, MapHasItsPairs}
-use Rattle.cose_head.specs.Reading.{Outcome, read, span_of}
+use Rattle.cose_head.specs.Reading.{read}
 use Rattle.cose_head.specs.Whole.{whole}
 use Rattle.cose_map.specs.Bucket.{bucket_of}
 use Rattle.cose_map.specs.Bucket.Form.{bucket_table}

@@ -18,4 +18,4 @@ returns-clause-said g c = λ bytes e.
       takes = took.2;
       answer = c.in_ok-verdict-in-Ok-verify_first.ensures.whole took.0 took.1 ∙ ap (with_rest took.0) (c.in-Ok-verify_first.ensures.answer bytes told);
     })
-    c.reply_of.ensures
+    c.reply_of.ensures.says
