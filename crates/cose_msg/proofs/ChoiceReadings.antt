@@ -1,5 +1,5 @@
 -- What follows the unprotected bucket, by what both buckets come to.
-use Rattle.std.proofs.Common.{◌≡◌, ℕ, ◌+◌, List, [], length, Option, Some, None, Result, Ok, Err, refl, sym, ap, ◌∙◌}
+use Rattle.std.proofs.Common.{◌≡◌, ℕ, ◌+◌, List, [], length, Option, Some, None, Result, Ok, Err, refl, sym, ap}
 use Rattle.cose_head.specs.declared.kind.Kind.{Kind}
 use Rattle.cose_head.specs.declared.reason.Reason.{Reason}
 use Rattle.cose_head.specs.declared.refusal.Refusal.{Refusal}
@@ -11,7 +11,7 @@ use Rattle.std.specs.Prelude.{◌==◌}
 use Rattle.cose_msg.specs.declared.verifier.choice.Choice as code
 use Rattle.cose_msg.specs.Answer.{Chosen}
 use Rattle.cose_msg.specs.Chosen.{ChoiceIs, chosen_value}
-use Rattle.cose_msg.specs.Choosing.{Choice, choice_of, unless_refused, refused_at}
+use Rattle.cose_msg.specs.Choosing.{Choice, choice_of}
 use Rattle.cose_msg.specs.Message.{Setting, comparing, found_key}
 use Rattle.cose_msg.specs.Phases.{headers_of, headers_told, past_unprotected, payload_head, placed_at, protected_told}
 use Rattle.cose_msg.specs.Reading.{Told, stop}

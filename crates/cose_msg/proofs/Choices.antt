@@ -1,5 +1,5 @@
 -- What both buckets come to, step by step.
-use Rattle.std.proofs.Common.{◌≡◌, ℕ, ◌+◌, List, [], length, Option, Some, None, Result, Ok, Err, refl, sym, ap, ◌∙◌}
+use Rattle.std.proofs.Common.{◌≡◌, ℕ, ◌+◌, List, [], length, Some, None, Ok, Err, refl, sym, ◌∙◌}
 use Rattle.cose_head.specs.declared.kind.Kind.{Kind}
 use Rattle.cose_head.specs.declared.reason.Reason.{Reason}
 use Rattle.cose_head.specs.declared.refusal.Refusal.{Refusal}
@@ -8,10 +8,9 @@ use Rattle.cose_map.specs.Map.Pairs.{Pair}
 use Rattle.cose_map.specs.Map.Read.{Read}
 use Rattle.cose_map.specs.Bucket.Both.{pair_fault}
 use Rattle.cose_msg.specs.Answer.{Chosen}
-use Rattle.cose_msg.specs.Choosing.{Choice, choice_of}
-use Rattle.cose_msg.specs.Message.{Setting, comparing, found_key}
-use Rattle.cose_msg.specs.Phases.{headers_of, headers_told, past_unprotected, payload_head, placed_at, protected_told}
-use Rattle.cose_msg.specs.Reading.{Told, stop}
+use Rattle.cose_msg.specs.Choosing.{choice_of}
+use Rattle.cose_msg.specs.Message.{Setting, found_key}
+use Rattle.cose_msg.specs.Phases.{headers_of, placed_at}
 
 pub same_value : {A : Type 0} (value : Read A) (x y : A) → value ≡ Ok x → Ok y ≡ value → x ≡ y
 same_value value x y e f = let both : Ok x ≡ Ok y = sym e ∙ sym f in cc

@@ -1,5 +1,5 @@
 -- The key that was chosen, and what both buckets come to, without where they lie in memory.
-use Rattle.std.specs.Prelude.{◌≡◌, Bool, List, length, Result, Ok, Err, ◌==◌}
+use Rattle.std.specs.Prelude.{◌≡◌, List, length, Result, Ok, Err, ◌==◌}
 use Rattle.cose_head.specs.declared.reason.Reason.{Reason}
 use Rattle.cose_head.specs.declared.refusal.Refusal.{Refusal}
 use Rattle.cose_map.specs.Key.View.{key_value}

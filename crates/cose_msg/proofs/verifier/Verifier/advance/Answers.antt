@@ -1,6 +1,5 @@
-use Rattle.std.proofs.Common.{rules, ◌≡◌, ℕ, ◌+◌, ◌-◌, ◌<◌, ◌≤◌, Bool, List, [], ◌∷◌, ◌++◌, length, take, Some, None, Ok, Err, Result, true, false, cond, refl, sym, ap, subst, ◌∙◌, arith, length-append, zero-add, add-zero, append_assoc, append-nil}
-use Rattle.cose_msg.specs.Phase.{grown, takes_bytes}
-use Rattle.cose_msg.proofs.Standing.{moved}
+use Rattle.std.proofs.Common.{rules, ◌≡◌, take, true}
+use Rattle.cose_msg.specs.Phase.{takes_bytes}
 use Rattle.cose_msg.proofs.Steps.{first_byte, grown_by_byte}
 use Rattle.cose_msg.proofs.verifier.Verifier.advance.Goals as goal
 

@@ -1,4 +1,4 @@
-use Rattle.std.proofs.Common.{◌≡◌, ℕ, ◌+◌, ◌-◌, ◌<◌, ◌≤◌, List, [], ◌∷◌, ◌++◌, length, take, Some, None, Ok, Err, Result, true, false, refl, sym, ap, subst, ◌∙◌, arith, length-append, zero-add, add-zero, append_assoc, append-nil}
+use Rattle.std.proofs.Common.{◌≡◌, ◌+◌, ◌-◌, ◌++◌, length, Some, ◌∙◌, arith, length-append, append_assoc}
 use Rattle.cose_msg.specs.Message.{comparing}
 use Rattle.cose_msg.specs.Phases.{finish, headers_told}
 use Rattle.cose_msg.proofs.Standing.{moved}

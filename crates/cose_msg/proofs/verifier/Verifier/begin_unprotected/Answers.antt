@@ -1,7 +1,6 @@
-use Rattle.std.proofs.Common.{◌≡◌, ℕ, ◌+◌, ◌-◌, ◌<◌, ◌≤◌, List, [], ◌∷◌, ◌++◌, length, Some, None, Ok, Err, Result, true, false, refl, sym, ap, subst, ◌∙◌, arith, length-append, zero-add, add-zero, append_assoc}
+use Rattle.std.proofs.Common.{refl, sym, add-zero}
 use Rattle.cose_msg.specs.Phases.{protected_told}
-use Rattle.cose_msg.specs.Verifier.{Known}
-use Rattle.cose_msg.proofs.Standing.{unknown, under_pairs}
+use Rattle.cose_msg.proofs.Standing.{under_pairs}
 use Rattle.cose_msg.proofs.verifier.Verifier.begin_unprotected.Goals as goal
 
 pub returns : goal.returns

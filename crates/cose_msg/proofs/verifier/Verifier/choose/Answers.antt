@@ -1,12 +1,8 @@
-use Rattle.std.proofs.Common.{◌≡◌, ℕ, ◌+◌, ◌-◌, ◌<◌, ◌≤◌, Bool, List, [], ◌∷◌, ◌++◌, length, take, Some, None, Ok, Err, Result, true, false, cond, refl, sym, ap, subst, ◌∙◌, arith, length-append, zero-add, add-zero, append_assoc, append-nil}
+use Rattle.std.proofs.Common.{◌≡◌, ◌+◌, [], length, Some, None, Ok, Err, refl, sym, ◌∙◌}
 use Rattle.std.proofs.lemmas.Result.{err_from_is_err_and}
 use Rattle.cose_map.specs.Bucket.{bucket_of}
 use Rattle.cose_map.specs.Bucket.View.{bucket_pairs}
-use Rattle.cose_map.specs.Map.Pairs.{Pair}
-use Rattle.cose_map.specs.Map.Read.{Read}
 use Rattle.cose_map.specs.Bucket.Both.{pair_fault}
-use Rattle.cose_map.specs.Label.View.{label_value}
-use Rattle.cose_map.specs.Map.View.{refusal_in}
 use Rattle.cose_msg.specs.Chosen.{chosen_value}
 use Rattle.cose_msg.specs.Message.{found_key}
 use Rattle.cose_msg.specs.Phases.{headers_of, placed_at}

@@ -1,7 +1,6 @@
-use Rattle.std.proofs.Common.{◌≡◌, ℕ, ◌+◌, ◌-◌, ◌<◌, ◌≤◌, Bool, List, [], ◌∷◌, ◌++◌, length, take, Some, None, Ok, Err, Result, true, false, cond, refl, sym, ap, subst, ◌∙◌, arith, length-append, zero-add, add-zero, append_assoc, append-nil}
+use Rattle.std.proofs.Common.{◌≡◌, ◌+◌, true, false, refl, sym, ap, ◌∙◌}
 use Rattle.std.specs.Str.{bytes_eq}
 use Rattle.cose_head.specs.Algorithm.{is_mac_of}
-use Rattle.cose_msg.specs.Answer.{Answer}
 use Rattle.cose_msg.specs.Message.{structure}
 use Rattle.cose_msg.specs.Phases.{headers_told}
 use Rattle.cose_msg.specs.Reading.{settled}

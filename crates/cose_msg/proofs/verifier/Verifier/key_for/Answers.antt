@@ -1,4 +1,4 @@
-use Rattle.std.proofs.Common.{◌≡◌, ℕ, ◌+◌, ◌-◌, ◌<◌, ◌≤◌, Bool, List, [], ◌∷◌, ◌++◌, length, take, Some, None, Ok, Err, Result, true, false, cond, refl, sym, ap, subst, ◌∙◌, arith, length-append, zero-add, add-zero, append_assoc, append-nil}
+use Rattle.std.proofs.Common.{ap, ◌∙◌}
 use Rattle.cose_map.specs.Choice.{chosen, Question}
 use Rattle.cose_map.specs.KeySet.View.{keys}
 use Rattle.cose_msg.specs.Message.{past_chosen}

@@ -1,4 +1,4 @@
-use Rattle.std.proofs.Common.{◌≡◌, ℕ, ◌+◌, ◌-◌, ◌<◌, ◌≤◌, List, [], ◌∷◌, ◌++◌, length, take, Some, None, Ok, Err, Result, true, false, refl, sym, ap, subst, ◌∙◌, arith, length-append, zero-add, add-zero, append_assoc, append-nil}
+use Rattle.std.proofs.Common.{◌≡◌, Some, None, refl, sym, ap, ◌∙◌, zero-add, add-zero}
 use Rattle.std.specs.Prelude.{◌==◌}
 use Rattle.cose_head.specs.Algorithm.{auth_length_of}
 use Rattle.cose_head.specs.declared.algorithm.Alg.{Alg}

@@ -1,6 +1,6 @@
-use Rattle.std.proofs.Common.{◌≡◌, ℕ, ◌+◌, ◌-◌, ◌<◌, ◌≤◌, List, [], ◌∷◌, ◌++◌, length, Some, None, Ok, Err, Result, true, false, refl, sym, ap, subst, ◌∙◌, arith, length-append, zero-add, add-zero, append_assoc}
+use Rattle.std.proofs.Common.{◌≡◌, [], true, false, refl, sym, ap, ◌∙◌}
 use Rattle.cose_msg.specs.declared.context.Wanted.{Wanted}
-use Rattle.cose_msg.specs.Front.{is_array, is_cwt_tag, is_tag, kind_of_tag, past_tag, past_untagged}
+use Rattle.cose_msg.specs.Front.{is_array, is_cwt_tag, is_tag, kind_of_tag, past_untagged}
 use Rattle.cose_msg.specs.Message.{Setting, comparing}
 use Rattle.cose_msg.specs.Phases.{nothing_told}
 use Rattle.cose_msg.proofs.Standing.{moved}

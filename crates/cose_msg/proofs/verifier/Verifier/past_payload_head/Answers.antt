@@ -1,9 +1,7 @@
-use Rattle.std.proofs.Common.{◌≡◌, ℕ, ◌+◌, ◌-◌, ◌<◌, ◌≤◌, Bool, List, [], ◌∷◌, ◌++◌, length, take, Some, None, Ok, Err, Result, true, false, cond, refl, sym, ap, subst, ◌∙◌, arith, length-append, zero-add, add-zero, append_assoc, append-nil}
-use Rattle.std.specs.Prelude.{◌==◌}
+use Rattle.std.proofs.Common.{◌≡◌, ℕ, List, [], length, Some, None, cond, refl, sym, ap, subst, ◌∙◌, zero-add, add-zero}
 use Rattle.cose_msg.specs.Message.{Setting, comparing, protected_content}
 use Rattle.cose_msg.specs.Phases.{headers_told, past_payload, payload_fault_within}
-use Rattle.cose_msg.specs.Verifier.{HoldsKey, IsOpened, Known}
-use Rattle.cose_msg.proofs.Faults.{payload_fits}
+use Rattle.cose_msg.specs.Verifier.{IsOpened}
 use Rattle.cose_msg.proofs.Opened.{opened_first, opened_whole}
 use Rattle.cose_msg.proofs.Standing.{moved}
 use Rattle.cose_msg.proofs.Steps.{string_none}

@@ -1,6 +1,5 @@
-use Rattle.std.proofs.Common.{◌≡◌, ℕ, ◌+◌, ◌-◌, ◌<◌, ◌≤◌, List, [], ◌∷◌, ◌++◌, length, Some, None, Ok, Err, Result, true, false, refl, sym, ap, subst, ◌∙◌, arith, length-append, zero-add, add-zero, append_assoc}
+use Rattle.std.proofs.Common.{◌+◌, [], length, refl, sym}
 use Rattle.cose_map.specs.Bucket.{bucket_of}
-use Rattle.cose_map.specs.Map.View.{refusal_in}
 use Rattle.cose_msg.specs.Message.{comparing}
 use Rattle.cose_msg.specs.Phases.{nothing_told, placed_at, unprotected}
 use Rattle.cose_msg.proofs.Standing.{moved}

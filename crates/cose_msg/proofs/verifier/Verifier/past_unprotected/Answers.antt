@@ -1,9 +1,8 @@
-use Rattle.std.proofs.Common.{◌≡◌, ℕ, ◌+◌, ◌-◌, ◌<◌, ◌≤◌, Bool, List, [], ◌∷◌, ◌++◌, length, take, Some, None, Ok, Err, Result, true, false, cond, refl, sym, ap, subst, ◌∙◌, arith, length-append, zero-add, add-zero, append_assoc, append-nil}
+use Rattle.std.proofs.Common.{◌≡◌, ℕ, ◌+◌, [], length, Some, Ok, Err, refl, sym, ap, subst, ◌∙◌}
 use Rattle.cose_msg.specs.Answer.{Chosen}
-use Rattle.cose_msg.specs.Choosing.{Choice, choice_of}
-use Rattle.cose_msg.specs.Chosen.{chosen_value}
+use Rattle.cose_msg.specs.Choosing.{choice_of}
 use Rattle.cose_msg.specs.Hashing.{Hashes}
-use Rattle.cose_msg.specs.Message.{Setting, comparing, secret_of}
+use Rattle.cose_msg.specs.Message.{Setting, secret_of}
 use Rattle.cose_msg.specs.Phases.{headers_of}
 use Rattle.cose_msg.specs.Verifier.{Known, setting_of}
 use Rattle.cose_msg.proofs.ChoiceReadings.{choice_finds, choice_is_found, choice_is_refused, choice_refuses}

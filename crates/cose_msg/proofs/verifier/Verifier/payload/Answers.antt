@@ -1,7 +1,6 @@
-use Rattle.std.proofs.Common.{◌≡◌, ℕ, ◌+◌, ◌-◌, ◌<◌, ◌≤◌, List, [], ◌∷◌, ◌++◌, length, take, Some, None, Ok, Err, Result, true, false, refl, sym, ap, subst, ◌∙◌, arith, length-append, zero-add, add-zero, append_assoc, append-nil}
+use Rattle.std.proofs.Common.{◌≡◌, ℕ, ◌+◌, ◌-◌, List, ◌++◌, length, Some, refl, ap, ◌∙◌, arith, length-append, append_assoc}
 use Rattle.cose_msg.specs.Message.{comparing}
 use Rattle.cose_msg.specs.Phases.{headers_told, past_payload}
-use Rattle.cose_msg.specs.Verifier.{IsFed, IsOpened, Known}
 use Rattle.cose_msg.proofs.Opened.{opened_more, opened_whole, with_payload}
 use Rattle.cose_msg.proofs.Standing.{moved}
 use Rattle.cose_msg.proofs.Steps.{string_whole}

@@ -1,4 +1,4 @@
-use Rattle.std.proofs.Common.{◌≡◌, ℕ, ◌+◌, ◌-◌, ◌<◌, ◌≤◌, List, [], ◌∷◌, ◌++◌, length, Some, None, Ok, Err, Result, true, false, refl, sym, ap, subst, ◌∙◌, arith, length-append, zero-add, add-zero, append_assoc}
+use Rattle.std.proofs.Common.{◌≡◌, ◌+◌, ◌-◌, ◌++◌, length, ◌∙◌, arith, length-append, append_assoc}
 use Rattle.cose_msg.specs.Message.{comparing}
 use Rattle.cose_msg.specs.Phases.{nothing_told, past_protected}
 use Rattle.cose_msg.proofs.Standing.{moved, told_payload}

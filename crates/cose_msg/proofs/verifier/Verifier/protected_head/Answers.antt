@@ -1,6 +1,6 @@
-use Rattle.std.proofs.Common.{◌≡◌, ℕ, ◌+◌, ◌-◌, ◌<◌, ◌≤◌, List, [], ◌∷◌, ◌++◌, length, Some, None, Ok, Err, Result, true, false, refl, sym, ap, subst, ◌∙◌, arith, length-append, zero-add, add-zero, append_assoc}
+use Rattle.std.proofs.Common.{◌≡◌, ◌+◌, [], ◌∷◌, ◌++◌, refl, ◌∙◌, arith, length-append}
 use Rattle.cose_head.specs.Head.{IsMore, bare_head}
-use Rattle.cose_msg.specs.Message.{Setting, comparing}
+use Rattle.cose_msg.specs.Message.{comparing}
 use Rattle.cose_msg.specs.Phases.{past_protected_head, nothing_told}
 use Rattle.cose_msg.proofs.Standing.{holds_more, moved, told_payload}
 use Rattle.cose_msg.proofs.Steps.{head_refused, head_completed, regrouped}

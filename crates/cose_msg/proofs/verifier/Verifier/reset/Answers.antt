@@ -1,4 +1,4 @@
-use Rattle.std.proofs.Common.{◌≡◌, ℕ, ◌+◌, ◌-◌, ◌<◌, ◌≤◌, Bool, List, [], ◌∷◌, ◌++◌, length, take, Some, None, Ok, Err, Result, true, false, cond, refl, sym, ap, subst, ◌∙◌, arith, length-append, zero-add, add-zero, append_assoc, append-nil}
+use Rattle.std.proofs.Common.{[], refl}
 use Rattle.cose_head.specs.Head.{bare_head}
 use Rattle.cose_msg.specs.Message.{message}
 use Rattle.cose_msg.specs.Phases.{nothing_told}

@@ -1,4 +1,4 @@
-use Rattle.std.proofs.Common.{◌≡◌, ℕ, ◌+◌, ◌-◌, ◌<◌, ◌≤◌, List, [], ◌∷◌, ◌++◌, length, Some, None, Ok, Err, Result, true, false, refl, sym, ap, subst, ◌∙◌, arith, length-append, zero-add, add-zero, append_assoc}
+use Rattle.std.proofs.Common.{◌≡◌, ◌+◌, [], ◌∷◌, ◌++◌, Result, refl, sym, ap, ◌∙◌, arith, length-append}
 use Rattle.cose_head.specs.Head.{IsMore, bare_head}
 use Rattle.cose_msg.specs.Message.{Setting, comparing}
 use Rattle.cose_msg.specs.Front.{past_second_head, past_tag, tag_behind_cwt}

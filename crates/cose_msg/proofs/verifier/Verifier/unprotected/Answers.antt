@@ -1,4 +1,4 @@
-use Rattle.std.proofs.Common.{◌≡◌, ℕ, ◌+◌, ◌-◌, ◌<◌, ◌≤◌, List, [], ◌∷◌, ◌++◌, length, Some, None, Ok, Err, Result, true, false, refl, sym, ap, subst, ◌∙◌, arith, length-append, zero-add, add-zero, append_assoc}
+use Rattle.std.proofs.Common.{◌≡◌, ◌+◌, ◌<◌, [], ◌∷◌, ◌++◌, length, refl, ◌∙◌, arith, length-append}
 use Rattle.std.proofs.Math.Nat.{min-eq_left}
 use Rattle.cose_msg.specs.Message.{comparing}
 use Rattle.cose_msg.specs.Phases.{past_unprotected, protected_told}
