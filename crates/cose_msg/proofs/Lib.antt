@@ -13,6 +13,8 @@ mod ChoiceReadings
 mod Opened
 mod Standing
 mod Steps
+mod Waits
+mod Decisions
 mod WorkedMessages
 mod WorkedFronts
 mod WorkedHeaders

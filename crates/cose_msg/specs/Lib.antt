@@ -11,3 +11,9 @@ pub mod Phase
 pub mod Chosen
 pub mod Verifier
 pub mod Choosing
+pub mod Intake
+pub mod SliceIntake
+pub mod Sink
+pub mod Store
+pub mod Kept
+pub mod Run

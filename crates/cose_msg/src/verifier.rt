@@ -15,6 +15,7 @@ use cose_map::Key;
 
 mod auth;
 mod choice;
+mod decide;
 mod front;
 mod headers;
 mod payload;

@@ -1,0 +1,26 @@
+use Rattle.std.proofs.Common.{◌≡◌, ℕ, ◌<◌, ◌≤◌, List, [], ◌++◌, length, arith}
+use Rattle.std.proofs.lemmas.List.{append-nil}
+use Rattle.cose_msg.proofs.Waits.{WalkerWaits, stands_open, stands_settled, stands_told, stands_payload, stands_truncated}
+use Rattle.cose_msg.proofs.verifier.Verifier.waits.Goals as goal
+
+-- The walker wants a byte at least, so it isn't settled without one.
+walker : (g : Rattle.cose_msg.proofs.verifier.Verifier.waits.Given.Over) (c : goal.After-want-wanted g) → WalkerWaits c.args.self.now
+walker g c = λ put.
+    let some : 0 < c.want-wanted.result = omega (arith, c.want-wanted.ensures.content _ _ put) in
+    let room : 0 < g.row.H = omega (arith, c.args.self.now.some_room) in
+    rw append-nil at (c.want-wanted.ensures.early _ _ [] put room some)
+
+pub returns-clause-open : goal.returns-clause-open
+returns-clause-open g c = λ setting B n reading more h lt. stands_open (walker g c) more h lt
+
+pub returns-clause-settled : goal.returns-clause-settled
+returns-clause-settled g c = λ setting B n reading h. stands_settled (walker g c) h
+
+pub returns-clause-payload : goal.returns-clause-payload
+returns-clause-payload g c = λ setting B n reading h. stands_told (walker g c) h
+
+pub returns-clause-open_payload : goal.returns-clause-open_payload
+returns-clause-open_payload g c = λ setting B n reading more h is le. stands_payload (walker g c) more h is le
+
+pub returns-clause-truncated : goal.returns-clause-truncated
+returns-clause-truncated g c = λ setting B n reading h e. stands_truncated (walker g c) h e

@@ -1,0 +1,7 @@
+-- What is seen of an intake of a slice besides what each intake tells.
+use Rattle.std.specs.Prelude.{ℕ}
+use Rattle.cose_msg.specs.declared.intake.SliceIntake.{SliceIntake}
+
+-- the most bytes that it gives in a call
+abbrev pub cut_of : SliceIntake → ℕ
+cut_of intake = intake.cut

@@ -1,0 +1,66 @@
+//! A store of a payload.
+
+ghost use Rattle.std.specs.Prelude.{◌≡◌, ◌≤◌, ◌<◌, ◌+◌, ℕ, Bool, true, false, List, [], Option, Some, IsErr, IsOk, OnErr, OnOk, length};
+ghost use Rattle.arrayvec.specs.ArrayVec.{array_vec_len};
+ghost use Rattle.cose_msg.specs.Intake.{marks};
+ghost use Rattle.cose_msg.specs.Sink.{Puts};
+ghost use Rattle.cose_msg.specs.Store.{room_left};
+
+use crate::sink::{Sink, SinkFault};
+use arrayvec::ArrayVec;
+
+/// Holds up to `L` bytes. A piece that doesn't fit fails, and so does each after it; neither is kept.
+#[derive(Drop)]
+pub struct Store<const L: usize> {
+    held: ArrayVec<u8, L>,
+    failed: bool,
+}
+
+impl<const L: usize> Store<L> {
+    /// An empty store.
+    pub fn new() -> Self
+        ensures empty { ⟦<Store<L> as Sink>⟧.contents result ≡ Some [] }
+        ensures not_failed { ⟦<Store<L> as Sink>⟧.has_failed result ≡ false }
+        ensures sure { ⟦<Store<L> as Sink>⟧.sure result ≡ L }
+    {
+        Store {
+            held: ArrayVec::new(),
+            failed: false,
+        }
+    }
+
+    /// The bytes that it holds, at most `L`.
+    pub fn bytes(&self) -> &[u8]
+        ensures held { ⟦<Store<L> as Sink>⟧.contents self.now ≡ Some result.now }
+        ensures limit { length result.now ≤ L }
+        // So many bytes more are sure to fit.
+        ensures sure { ⟦<Store<L> as Sink>⟧.sure self.now ≡ room_left L (⟦<Store<L> as Sink>⟧.has_failed self.now) (length result.now) }
+    {
+        self.held.as_slice()
+    }
+}
+
+impl<const L: usize> Sink for Store<L> {
+    ghost contents = { λ store. Some store.held.items };
+
+    ghost has_failed = { λ store. store.failed };
+
+    ghost sure = { λ store. room_left L store.failed (array_vec_len store.held) };
+
+    fn put(&mut self, piece: &[u8]) -> Result<(), SinkFault>
+        requires { 0 < length piece.now }
+        ensures bytes { Puts (⟦<Store<L> as Sink>⟧.contents self.old) (⟦<Store<L> as Sink>⟧.contents self.new) result piece.now }
+        ensures failure { ⟦<Store<L> as Sink>⟧.has_failed self.new ≡ marks (⟦<Store<L> as Sink>⟧.has_failed self.old) result }
+        ensures promised { length piece.now ≤ ⟦<Store<L> as Sink>⟧.sure self.old → IsOk result }
+        ensures promise { OnOk result (⟦<Store<L> as Sink>⟧.sure self.old ≤ ⟦<Store<L> as Sink>⟧.sure self.new + length piece.now) }
+        // A piece that fails isn't kept, and no later one ends the failure.
+        ensures none_kept { OnErr result (⟦<Store<L> as Sink>⟧.contents self.new ≡ ⟦<Store<L> as Sink>⟧.contents self.old) }
+        ensures stays_failed { ⟦<Store<L> as Sink>⟧.has_failed self.old ≡ true → IsErr result }
+    {
+        if self.failed || self.held.try_extend_from_slice(piece).is_err() {
+            self.failed = true;
+            return Err(SinkFault);
+        }
+        Ok(())
+    }
+}
