@@ -10,7 +10,7 @@ use Rattle.cose_head.specs.Item.{Item, unsigned, negative, byte_string, text_str
 use Rattle.cose_head.specs.Reading.{Left, Outcome, Reader, after, string, string_item, is_string, is_parent, leaf, parent, child_count, list_item, read_all, read, head}
 use Rattle.cose_head.specs.Measured.{left_of}
 use Rattle.cose_head.specs.Laws.{Between}
-use Rattle.cose_head.proofs.Measuring.{read_past_head}
+use Rattle.cose_head.proofs.Measured.{read_past_head}
 use Rattle.cose_head.proofs.Steps.{after-zero}
 
 -- the rest is what follows the part

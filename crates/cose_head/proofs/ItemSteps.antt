@@ -10,7 +10,7 @@ use Rattle.cose_head.specs.Item.{Item, depth_of}
 use Rattle.cose_head.specs.declared.refusal.Refusal.{Refusal}
 use Rattle.cose_head.specs.Reading.{Left, Outcome, Reader, after, string, is_string, is_parent, read_all, read, head, span_of}
 use Rattle.cose_head.specs.Measured.{left_of, span_found, nesting, nesting_all, children_allowed}
-use Rattle.cose_head.proofs.Measuring.{same_ok, after-after, deeper, onward, items_go_on, items_end, item_string, item_leaf, item_childless, item_parent}
+use Rattle.cose_head.proofs.Measured.{same_ok, after-after, deeper, onward, items_go_on, items_end, item_string, item_leaf, item_childless, item_parent}
 
 -- what is left after some bytes, as a slice gives it
 abbrev pub cut : ℕ → List ℕ → ℕ → ℕ → Left

@@ -1,31 +1,31 @@
 -- What items say of the trees that their bytes spell.
-use Rattle.std.proofs.Common.{◌≡◌, ℕ, suc, ◌+◌, ◌-◌, ◌*◌, ◌<◌, ◌≤◌, ◌⊎◌, inl, inr, true, false, List, [], ◌∷◌, ◌++◌, length, take, drop, Some, None, Ok, refl, sym, ap, subst, ◌∙◌, arith, append-nil, one-add}
+use Rattle.std.proofs.Common.{◌≡◌, ℕ, suc, ◌+◌, ◌-◌, ◌*◌, ◌<◌, ◌≤◌, ◌⊎◌, inl, inr, Bool, true, false, List, [], ◌∷◌, ◌++◌, length, take, drop, Option, Some, None, Ok, if◌then◌else◌, refl, sym, ap, subst, ◌∙◌, arith, append-nil, one-add}
 use Rattle.std.proofs.lemmas.List.{take_all}
 use Rattle.std.proofs.Math.Seq.{take-append_seam, drop-append_seam}
-use Rattle.std.specs.Prelude.{nat_lt}
+use Rattle.std.specs.Prelude.{nat_lt, ◌==◌}
 use Rattle.cose_head.specs.declared.head.Head.{Head}
 use Rattle.cose_head.specs.Head.{bare_head, is_bad_simple}
 use Rattle.cose_head.specs.Item.{Item, unsigned, negative, byte_string, text_string, array, map, tag, simple, float, Items, no_items, item, count_of, depth_of, deepest, IsHead, Begins, Spells, SpellsAll}
 use Rattle.cose_head.specs.Reading.{child_count, span_of}
 use Rattle.cose_head.specs.Measured.{left_of}
 use Rattle.cose_head.specs.Laws.{SpellsHead}
-use Rattle.cose_head.specs.Placed.{Placed, head_or_undefined, head_of_item, byte_content, text_content, look_with, past_head, look, span_at, items_from, has_children, children_of, children_if_any}
-use Rattle.cose_head.specs.PlacedLaws.{IsItem, look_of_tree, AreItems, bytes_of_all, StandFrom, HasChildren, is_list}
+use Rattle.cose_head.specs.Placed.{Placed, head_or_undefined, head_of_item, byte_content, text_content, look_with, past_head, look, tag_with, tag_in, span_at, items_from, has_children, children_of, children_if_any}
+use Rattle.cose_head.specs.PlacedLaws.{IsItem, look_of_tree, AreItems, bytes_of_all, StandFrom, HasChildren, HasContent, is_list, is_tag}
 use Rattle.cose_head.proofs.Complete.{simple_good, float_large}
 use Rattle.cose_head.proofs.ReadLaws.{sound, spelled_is_read, whole_list}
 use Rattle.cose_head.proofs.BareHeads.{head_complete}
 
-abbrev at : List ℕ → ℕ → Placed
+abbrev pub at : List ℕ → ℕ → Placed
 at bytes place = record { bytes = bytes; place = place }
 
 -- the bytes of an item spell it, and what they spell is read
-item_spelled : (depth : ℕ) (p : Placed) (tree : Item) → IsItem depth p tree → Spells p.bytes tree × (depth_of tree ≤ depth)
+pub item_spelled : (depth : ℕ) (p : Placed) (tree : Item) → IsItem depth p tree → Spells p.bytes tree × (depth_of tree ≤ depth)
 item_spelled depth p tree s =
     let q = sound depth (left_of p.bytes (length p.bytes) p.place) tree s.rest s.is_read in
     let whole : p.bytes ≡ q.0.part = q.0.whole ∙ ap (λ b. q.0.part ++ b) s.nothing_left ∙ append-nil q.0.part in
     (subst (λ b. Spells b tree) (sym whole) q.0.is_part, q.1)
 
-spelled_item : (depth : ℕ) (p : Placed) (tree : Item) → Spells p.bytes tree → depth_of tree ≤ depth → IsItem depth p tree
+pub spelled_item : (depth : ℕ) (p : Placed) (tree : Item) → Spells p.bytes tree → depth_of tree ≤ depth → IsItem depth p tree
 spelled_item depth p tree s shallow = record {
   rest = left_of [] 0 (p.place + length p.bytes);
   is_read = spelled_is_read depth (left_of p.bytes (length p.bytes) p.place) tree (left_of [] 0 (p.place + length p.bytes))
@@ -66,6 +66,12 @@ module _ (p : Placed) (head rest : List ℕ) (major argument : ℕ) (whole : p.b
   unfolding children_of
   no_children none = rw (head_found, none) (refl, refl)
 
+  tag_found : tag_in p ≡ tag_with the_head p
+  tag_found = ap (λ h. tag_with h p) head_found
+
+  past_the_head : past_head the_head p ≡ at rest (p.place + length head)
+  past_the_head = sym (ap (λ h. past_head h p) head_found) ∙ past_found
+
 -- the spelling of an item begins with its head
 record Headed (p : Placed) (tree : Item) : Type 0 where
   head : List ℕ
@@ -77,12 +83,13 @@ record Headed (p : Placed) (tree : Item) : Type 0 where
   good : is_bad_simple (record { major = major; arg = argument; width = length head }) ≡ false
   looks : look_with (record { major = major; arg = argument; width = length head }) rest ≡ look_of_tree tree
   lists : has_children (record { major = major; arg = argument; width = length head }) ≡ is_list tree
+  encloses : major == 6 ≡ is_tag tree
 
 bare : (p : Placed) (tree : Item) (major argument : ℕ) → IsHead p.bytes major argument →
     is_bad_simple (record { major = major; arg = argument; width = length p.bytes }) ≡ false →
     look_with (record { major = major; arg = argument; width = length p.bytes }) [] ≡ look_of_tree tree →
-    has_children (record { major = major; arg = argument; width = length p.bytes }) ≡ is_list tree → Headed p tree
-bare p tree major argument is_head good looks lists = record {
+    has_children (record { major = major; arg = argument; width = length p.bytes }) ≡ is_list tree → major == 6 ≡ is_tag tree → Headed p tree
+bare p tree major argument is_head good looks lists encloses = record {
   head = p.bytes;
   rest = [];
   major = major;
@@ -92,13 +99,14 @@ bare p tree major argument is_head good looks lists = record {
   good = good;
   looks = looks;
   lists = lists;
+  encloses = encloses;
 }
 
 begun : (p : Placed) (tree : Item) (major argument : ℕ) (R : List ℕ → Type 0) (b : Begins p.bytes major argument R) →
     ((width : ℕ) → is_bad_simple (record { major = major; arg = argument; width = width }) ≡ false) →
     ((width : ℕ) → look_with (record { major = major; arg = argument; width = width }) b.rest ≡ look_of_tree tree) →
-    ((width : ℕ) → has_children (record { major = major; arg = argument; width = width }) ≡ is_list tree) → Headed p tree
-begun p tree major argument R b good looks lists = record {
+    ((width : ℕ) → has_children (record { major = major; arg = argument; width = width }) ≡ is_list tree) → major == 6 ≡ is_tag tree → Headed p tree
+begun p tree major argument R b good looks lists encloses = record {
   head = b.head;
   rest = b.rest;
   major = major;
@@ -108,6 +116,7 @@ begun p tree major argument R b good looks lists = record {
   good = good (length b.head);
   looks = looks (length b.head);
   lists = lists (length b.head);
+  encloses = encloses;
 }
 
 -- a simple value has one byte or two, and a float has more
@@ -125,26 +134,26 @@ string_rest content rest e = ap (take (length content)) e ∙ take_all (length c
 
 headed : (tree : Item) (p : Placed) → Spells p.bytes tree → Headed p tree
 unfolding Spells
-headed (unsigned n) p s = bare p (unsigned n) 0 n s refl refl refl
-headed (negative n) p s = bare p (negative n) 1 n s refl refl refl
+headed (unsigned n) p s = bare p (unsigned n) 0 n s refl refl refl refl
+headed (negative n) p s = bare p (negative n) 1 n s refl refl refl refl
 headed (byte_string content) p s =
     begun p (byte_string content) 2 (length content) (λ rest. rest ≡ content) s (λ width. refl)
-    (λ width. ap byte_content (string_rest content s.rest s.is_rest)) (λ width. refl)
+    (λ width. ap byte_content (string_rest content s.rest s.is_rest)) (λ width. refl) refl
 headed (text_string content) p s =
     begun p (text_string content) 3 (length content) (λ rest. rest ≡ content) s (λ width. refl)
-    (λ width. ap text_content (string_rest content s.rest s.is_rest)) (λ width. refl)
+    (λ width. ap text_content (string_rest content s.rest s.is_rest)) (λ width. refl) refl
 headed (array trees) p s =
-    begun p (array trees) 4 (count_of trees) (λ rest. SpellsAll rest trees) s (λ width. refl) (λ width. refl) (λ width. refl)
+    begun p (array trees) 4 (count_of trees) (λ rest. SpellsAll rest trees) s (λ width. refl) (λ width. refl) (λ width. refl) refl
 headed (map trees) p s =
-    begun p (map trees) 5 s.0 (λ rest. SpellsAll rest trees) s.2 (λ width. refl) (λ width. refl) (λ width. refl)
+    begun p (map trees) 5 s.0 (λ rest. SpellsAll rest trees) s.2 (λ width. refl) (λ width. refl) (λ width. refl) refl
 headed (tag n content) p s =
-    begun p (tag n content) 6 n (λ rest. Spells rest content) s (λ width. refl) (λ width. refl) (λ width. refl)
+    begun p (tag n content) 6 n (λ rest. Spells rest content) s (λ width. refl) (λ width. refl) (λ width. refl) refl
 headed (simple n) p s =
-    bare p (simple n) 7 n s.0 (simple_good n (length p.bytes) s.1) (rw (simple_narrow n (length p.bytes) s.1) refl) refl
+    bare p (simple n) 7 n s.0 (simple_good n (length p.bytes) s.1) (rw (simple_narrow n (length p.bytes) s.1) refl) refl refl
 headed (float width bits) p s =
     let n : length p.bytes ≡ 1 + width = s.1 in
     let large = float_large width (length p.bytes) n s.2 in
-    bare p (float width bits) 7 bits s.0 (rw (large.0) refl) (rw (float_wide width (length p.bytes) n s.2) refl) refl
+    bare p (float width bits) 7 bits s.0 (rw (large.0) refl) (rw (float_wide width (length p.bytes) n s.2) refl) refl refl
 
 headed_item : (depth : ℕ) (p : Placed) (tree : Item) → IsItem depth p tree → Headed p tree
 headed_item depth p tree s = headed tree p (item_spelled depth p tree s).0
@@ -165,6 +174,52 @@ pub others_have_none : (depth : ℕ) (p : Placed) (tree : Item) → IsItem depth
 others_have_none depth p tree s none =
     let h = headed_item depth p tree s in
     no_children p h.head h.rest h.major h.argument h.whole h.is_head h.good (h.lists ∙ none)
+
+pub others_enclose_none : (depth : ℕ) (p : Placed) (tree : Item) → IsItem depth p tree → is_tag tree ≡ false → tag_in p ≡ None
+others_enclose_none depth p tree s none =
+    let h = headed_item depth p tree s in
+    tag_found p h.head h.rest h.major h.argument h.whole h.is_head h.good ∙ rw (h.encloses, none) refl
+
+pub tag_has_its_content : (depth : ℕ) (p : Placed) (number : ℕ) (content : Item) → IsItem depth p (tag number content) →
+    HasContent depth p number content
+unfolding Spells depth_of
+tag_has_its_content depth p number content s =
+    let q = item_spelled depth p (tag number content) s in
+    let b : Begins p.bytes 6 number (λ rest. Spells rest content) = q.0 in
+    let shallow : 1 + depth_of content ≤ depth = q.1 in
+    let enclosed : Placed = at b.rest (p.place + length b.head) in
+    record {
+      head = b.head;
+      enclosed = enclosed;
+      is_head = b.is_head;
+      whole = b.whole;
+      place = refl;
+      is_item = spelled_item (depth - 1) enclosed content b.is_rest (omega arith);
+      found = tag_found p b.head b.rest 6 number b.whole b.is_head refl
+          ∙ ap (λ r. Some (number, r)) (past_the_head p b.head b.rest 6 number b.whole b.is_head refl);
+    }
+
+pub tag_of_head : (tree : Item) (p : Placed) → IsItem 32 p tree → (head_of_item p).major ≡ 6 → is_tag tree ≡ true
+tag_of_head tree p s six =
+    let h = headed_item 32 p tree s in
+    let major : (head_of_item p).major ≡ h.major = ap (λ g. g.major) (head_found p h.head h.rest h.major h.argument h.whole h.is_head h.good) in
+    sym h.encloses ∙ ap (λ m. m == 6) (sym major ∙ six)
+
+-- what is found in a tag is behind its head
+abbrev behind : Placed → Option (ℕ × Placed)
+behind p = Some ((head_of_item p).arg, past_head (head_of_item p) p)
+
+abbrev found_behind : Placed → Option (ℕ × Placed) → Placed
+found_behind p None = p
+found_behind p (Some found) = found.1
+
+pub in_tag : (p : Placed) (number : ℕ) (enclosed : Placed) → tag_in p ≡ Some (number, enclosed) → past_head (head_of_item p) p ≡ enclosed
+in_tag p number enclosed e = go ((head_of_item p).major == 6) e
+  where
+    go : (b : Bool) → (if b then behind p else None) ≡ Some (number, enclosed) →
+        past_head (head_of_item p) p ≡ enclosed
+    go true e = ap (found_behind p) e
+    go false e = absurd cc
 
 -- items that are spelled one after another are found
 record Found (depth : ℕ) (bytes : List ℕ) (place : ℕ) (items : List Placed) (trees : Items) : Type 0 where

@@ -12,7 +12,7 @@ use Rattle.cose_head.specs.Item.{Item, item, tag}
 use Rattle.cose_head.specs.Reading.{Left, Outcome, Reader, ◌>>=◌, after, refuse, truncated, string, string_item, is_string, is_parent, leaf, body, parent, children, child_count, list_item, read_all, read_with, read, head}
 use Rattle.cose_head.specs.Laws.{IsStep, IsRefusal, Steps}
 use Rattle.cose_head.proofs.HeadCases.{HasHead, head_cases}
-use Rattle.cose_head.proofs.Measuring.{after-after}
+use Rattle.cose_head.proofs.Measured.{after-after}
 
 pub after-zero : (l : Left) → after 0 l ≡ l
 after-zero l =

@@ -13,8 +13,8 @@ use Rattle.cose_head.specs.Measured.{left_of}
 use Rattle.cose_head.specs.Open.{nothing_open}
 use Rattle.cose_head.specs.Walking.{Walk, ends, walk, walk_all, walk_content, finish, refused}
 use Rattle.cose_head.specs.Walker.{go_on}
-use Rattle.cose_head.proofs.HalfHeads.{head-half}
-use Rattle.cose_head.proofs.Walks.{finish-refused, finish-open}
+use Rattle.cose_head.proofs.HalfHead.{head-half}
+use Rattle.cose_head.proofs.Walking.{finish-refused, finish-open}
 use Rattle.cose_head.proofs.WalkedHeads.{walk-refused, walk-leaf, walk-content, walk-content_past, walk-deep, walk-children_past, walk-children}
 
 pub head-no_room : (l : Left) → l.room ≡ 0 → head l ≡ refuse PastRoom l.place

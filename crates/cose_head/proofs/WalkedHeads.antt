@@ -10,7 +10,7 @@ use Rattle.cose_head.specs.Item.{Item, no_items, item, tag}
 use Rattle.cose_head.specs.Reading.{Left, Outcome, Reader, refuse, after, is_string, is_parent, child_count, string_item, list_item, children, string, body, read, read_all, head, ◌>>=◌}
 use Rattle.cose_head.specs.Open.{Open, nothing_open, open_all, past_head, open_in}
 use Rattle.cose_head.specs.Walking.{end_of, ends, walk, walk_all, walk_content, refused}
-use Rattle.cose_head.proofs.Walks.{end_of-made}
+use Rattle.cose_head.proofs.Walking.{end_of-made}
 
 pub walk-refused : (depth : ℕ) (l : Left) (refusal : Refusal) → head l ≡ Err refusal
     → walk depth l ≡ record { end = Err refusal; opened = nothing_open }

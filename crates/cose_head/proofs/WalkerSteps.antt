@@ -13,7 +13,7 @@ use Rattle.cose_head.specs.Reading.{Left, Outcome, read}
 use Rattle.cose_head.specs.Open.{open_in}
 use Rattle.cose_head.specs.Walking.{Walk, end_of, walk, refused}
 use Rattle.cose_head.specs.Walker.{left_at, go_on, resume, HasPut, Answers, Leads, Passes}
-use Rattle.cose_head.proofs.Walks.{finish-none}
+use Rattle.cose_head.proofs.Walking.{finish-none}
 use Rattle.cose_head.proofs.WalkSteps.{go_on-open, go_on-short}
 
 -- what is equal leads the same way

@@ -104,6 +104,116 @@ pairs_past_room : answer (0xbb ∷ 0x80 ∷ 0 ∷ 0 ∷ 0 ∷ 0 ∷ 0 ∷ 0 ∷ 
 unfolding answer
 pairs_past_room = refl
 
+-- low bits 30 are reserved in every major type, 31 in majors 0, 1 and 6; and that goes before the room and the missing bytes
+reserved_in_strings : answer (0x5e ∷ []) 1 0 ≡ fault Reserved 0
+unfolding answer
+reserved_in_strings = refl
+
+reserved_from_28 : answer (0x5c ∷ []) 1 0 ≡ fault Reserved 0
+unfolding answer
+reserved_from_28 = refl
+
+endless_negative : answer (0x3f ∷ []) 1 0 ≡ fault Reserved 0
+unfolding answer
+endless_negative = refl
+
+endless_map : answer (0xbf ∷ []) 1 1 ≡ fault Indefinite 0
+unfolding answer
+endless_map = refl
+
+-- the argument bytes: first the room, then that they are there, and only then their value
+simple_past_room : answer (0xf8 ∷ []) 1 0 ≡ fault PastRoom 0
+unfolding answer
+simple_past_room = refl
+
+half_simple : answer (0xf8 ∷ []) 2 0 ≡ fault Truncated 1
+unfolding answer
+half_simple = refl
+
+small_in_two_bytes : answer (0x18 ∷ 0x18 ∷ []) 2 0 ≡ whole 2 0
+unfolding answer
+small_in_two_bytes = refl
+
+simple_in_one_byte : answer (0xf0 ∷ []) 1 0 ≡ whole 1 0
+unfolding answer
+simple_in_one_byte = refl
+
+float_of_no_bits : answer (0xf9 ∷ 0 ∷ 0 ∷ []) 3 0 ≡ whole 3 0
+unfolding answer
+float_of_no_bits = refl
+
+-- the nesting goes before the room of the children
+array_too_deep_and_past_room : answer (0x82 ∷ []) 1 0 ≡ fault TooDeep 0
+unfolding answer
+array_too_deep_and_past_room = refl
+
+tag_too_deep : answer (0xc1 ∷ 0 ∷ []) 2 0 ≡ fault TooDeep 0
+unfolding answer
+tag_too_deep = refl
+
+map_too_deep : answer (0xa0 ∷ []) 1 0 ≡ fault TooDeep 0
+unfolding answer
+map_too_deep = refl
+
+-- a string fills its room
+string_in_room : answer (0x42 ∷ 1 ∷ 2 ∷ []) 3 0 ≡ whole 3 0
+unfolding answer
+string_in_room = refl
+
+text_past_room : answer (0x62 ∷ 0x61 ∷ 0x61 ∷ []) 2 0 ≡ fault PastRoom 0
+unfolding answer
+text_past_room = refl
+
+-- how many children: n of an array, 2n of a map, one of a tag whatever its number is
+array_past_room : answer (0x82 ∷ 0 ∷ []) 2 1 ≡ fault PastRoom 0
+unfolding answer
+array_past_room = refl
+
+pair_past_room : answer (0xa1 ∷ 0 ∷ []) 2 1 ≡ fault PastRoom 0
+unfolding answer
+pair_past_room = refl
+
+half_pair : answer (0xa1 ∷ 0 ∷ []) 3 1 ≡ fault Truncated 2
+unfolding answer
+half_pair = refl
+
+whole_pair : answer (0xa1 ∷ 0 ∷ 0 ∷ []) 3 1 ≡ whole 3 1
+unfolding answer
+whole_pair = refl
+
+tag_past_room : answer (0xc1 ∷ []) 1 1 ≡ fault PastRoom 0
+unfolding answer
+tag_past_room = refl
+
+tag_alone : answer (0xc1 ∷ []) 2 1 ≡ fault Truncated 1
+unfolding answer
+tag_alone = refl
+
+tag_five : answer (0xc5 ∷ 0 ∷ []) 2 1 ≡ whole 2 1
+unfolding answer
+tag_five = refl
+
+-- the children in their order, each in the room then left and one nesting less
+first_fault : answer (0x82 ∷ 0x1c ∷ 0x5f ∷ []) 3 1 ≡ fault Reserved 1
+unfolding answer
+first_fault = refl
+
+second_child_past_room : answer (0x82 ∷ 0 ∷ 0x42 ∷ 1 ∷ 2 ∷ []) 4 1 ≡ fault PastRoom 2
+unfolding answer
+second_child_past_room = refl
+
+deep_in_map : answer (0xa1 ∷ 0 ∷ 0x80 ∷ []) 3 1 ≡ fault TooDeep 2
+unfolding answer
+deep_in_map = refl
+
+deepest_first : answer (0x82 ∷ 0x81 ∷ 0 ∷ 0 ∷ []) 4 2 ≡ whole 4 2
+unfolding answer
+deepest_first = refl
+
+deepest_last : answer (0x82 ∷ 0 ∷ 0x81 ∷ 0 ∷ []) 4 2 ≡ whole 4 2
+unfolding answer
+deepest_last = refl
+
 short_tag : shortest (tag 18 (array no_items)) ≡ 0xd2 ∷ 0x80 ∷ []
 unfolding shortest shortest_head
 short_tag = refl

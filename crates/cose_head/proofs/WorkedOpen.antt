@@ -38,3 +38,16 @@ half_string_of_map = refl
 half_head : answer (0x81 ∷ 0x99 ∷ 0 ∷ []) 7 2 ≡ told 1 0
 unfolding answer
 half_head = refl
+
+empty_array_ended : answer (0x82 ∷ 0x80 ∷ []) 3 2 ≡ told 1 0
+unfolding answer
+empty_array_ended = refl
+
+open_tag : answer (0xc1 ∷ []) 2 1 ≡ told 1 0
+unfolding answer
+open_tag = refl
+
+-- what is refused where its head stands isn't open
+too_deep : answer (0x81 ∷ 0x81 ∷ []) 3 1 ≡ told 1 0
+unfolding answer
+too_deep = refl

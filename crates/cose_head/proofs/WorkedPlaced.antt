@@ -1,7 +1,7 @@
 -- Items, what they are, and their children, on examples, by computing.
-use Rattle.std.proofs.Common.{◌≡◌, ℕ, pos, negsuc, true, false, List, [], ◌∷◌, refl}
+use Rattle.std.proofs.Common.{◌≡◌, ℕ, pos, negsuc, true, false, List, [], ◌∷◌, Option, Some, None, refl}
 use Rattle.cose_head.specs.Head.{bare_head}
-use Rattle.cose_head.specs.Placed.{Placed, Look, integer, byte_content, text_content, an_array, a_map, a_tag, truth, a_float, other, look, children_of, items_from, head_of_item}
+use Rattle.cose_head.specs.Placed.{Placed, Look, integer, byte_content, text_content, an_array, a_map, a_tag, truth, a_float, other, look, tag_in, children_of, items_from, head_of_item}
 use Rattle.cose_head.specs.Reading.{read, head}
 use Rattle.cose_head.specs.Item.{depth_of}
 
@@ -15,6 +15,10 @@ seen bytes = look (at 0 bytes)
 unfoldable children : ℕ → List ℕ → List Placed
 unfolding children_of items_from head_of_item bare_head read head depth_of
 children place bytes = children_of (at place bytes)
+
+unfoldable inside : ℕ → List ℕ → Option (ℕ × Placed)
+unfolding head_of_item bare_head
+inside place bytes = tag_in (at place bytes)
 
 wide_number : seen (0x18 ∷ 1 ∷ []) ≡ integer (pos 1)
 unfolding seen
@@ -64,6 +68,37 @@ no_bytes : seen [] ≡ other
 unfolding seen
 no_bytes = refl
 
+-- a string has as many bytes as its head says
+bytes_and_more : seen (0x41 ∷ 1 ∷ 2 ∷ []) ≡ byte_content (1 ∷ [])
+unfolding seen
+bytes_and_more = refl
+
+-- a width of two bytes is no float, and a float's bits are no truth value
+simple_32 : seen (0xf8 ∷ 0x20 ∷ []) ≡ other
+unfolding seen
+simple_32 = refl
+
+float_of_bits_20 : seen (0xf9 ∷ 0 ∷ 0x14 ∷ []) ≡ a_float
+unfolding seen
+float_of_bits_20 = refl
+
+half_head : seen (0x19 ∷ 1 ∷ []) ≡ other
+unfolding seen
+half_head = refl
+
+-- a tag's number and what it encloses, behind a head of any width
+enclosed : inside 3 (0xd8 ∷ 0x20 ∷ 0x61 ∷ 0x61 ∷ []) ≡ Some (32, at 5 (0x61 ∷ 0x61 ∷ []))
+unfolding inside
+enclosed = refl
+
+enclosed_tag : inside 0 (0xd2 ∷ 0xc1 ∷ 0 ∷ []) ≡ Some (18, at 1 (0xc1 ∷ 0 ∷ []))
+unfolding inside
+enclosed_tag = refl
+
+array_encloses_none : inside 0 (0x81 ∷ 0 ∷ []) ≡ None
+unfolding inside
+array_encloses_none = refl
+
 pairs : children 3 (0xa2 ∷ 1 ∷ 5 ∷ 2 ∷ 0x81 ∷ 1 ∷ []) ≡ at 4 (1 ∷ []) ∷ at 5 (5 ∷ []) ∷ at 6 (2 ∷ []) ∷ at 7 (0x81 ∷ 1 ∷ []) ∷ []
 unfolding children
 pairs = refl
@@ -75,3 +110,12 @@ elements = refl
 not_a_parent : children 0 (0xc1 ∷ 0 ∷ []) ≡ []
 unfolding children
 not_a_parent = refl
+
+-- none from where no item is
+cut_elements : children 0 (0x83 ∷ 0 ∷ 0x1c ∷ 0 ∷ []) ≡ at 1 (0 ∷ []) ∷ []
+unfolding children
+cut_elements = refl
+
+no_elements : children 0 (0x80 ∷ 0 ∷ []) ≡ []
+unfolding children
+no_elements = refl

@@ -1,12 +1,15 @@
 -- What holds of reading, in the terms of the grammar.
 use Rattle.std.specs.Prelude.{◌≡◌, ℕ, ◌+◌, ◌-◌, ◌<◌, ◌≤◌, ◌^◌, ◌↔◌, List, [], ◌∷◌, ◌++◌, length, take, false, Ok, Err, ⊤}
+use Rattle.std.specs.List.{Contains}
 use Rattle.cose_head.specs.declared.head.Head.{Head}
-use Rattle.cose_head.specs.declared.head.HeadStep.TheVariants.{Got, More}
+use Rattle.cose_head.specs.declared.head.HeadStep.TheVariants.{Got, More, Fault}
+use Rattle.cose_head.specs.declared.reason.Reason.{Reason}
 use Rattle.cose_head.specs.declared.reason.Reason.TheVariants.{Truncated}
 use Rattle.cose_head.specs.declared.refusal.Refusal.{Refusal}
 use Rattle.cose_head.specs.Head.{bare_head, shortest_head, is_bad_simple, IsWhole, IsMore}
 use Rattle.cose_head.specs.Item.{Item, IsHead, Spells, depth_of}
 use Rattle.cose_head.specs.Reading.{Left, Outcome, after, read}
+use Rattle.cose_head.specs.Reason.{head_reasons, item_reasons}
 
 -- What is left after at least so many bytes, which were there and in the room.
 pub record IsStep (least : ℕ) (l rest : Left) : Type 0 where
@@ -98,7 +101,22 @@ abbrev pub TruncatedHasRoom : Type 0
 TruncatedHasRoom = (depth : ℕ) (l : Left) (refusal : Refusal) → read depth l ≡ Err refusal → refusal.reason ≡ Truncated →
     (refusal.place ≡ l.place + length l.bytes) × (length l.bytes < l.room)
 
--- The same of bare heads.
+-- An item is refused for one of these reasons.
+abbrev pub ReadReasons : Type 0
+ReadReasons = (depth : ℕ) (l : Left) (refusal : Refusal) → read depth l ≡ Err refusal → Contains item_reasons refusal.reason
+
+-- The same bytes, so many places further on: what is read is the same, and each place is so much greater.
+abbrev pub moved : ℕ → Left → Left
+moved n l = record { bytes = l.bytes; room = l.room; place = n + l.place }
+
+abbrev pub moved_outcome : {A : Type 0} → ℕ → Outcome A → Outcome A
+moved_outcome n (Ok found) = Ok (found.0, moved n found.1)
+moved_outcome n (Err refusal) = Err (record { reason = refusal.reason; place = n + refusal.place })
+
+abbrev pub ReadMoves : Type 0
+ReadMoves = (n depth : ℕ) (l : Left) → read depth (moved n l) ≡ moved_outcome n (read depth l)
+
+-- A bare head is read where bytes spell it, and what is whole stays when bytes follow.
 abbrev pub HeadIsSpelled : Type 0
 HeadIsSpelled = (bytes : List ℕ) (h : Head) (used : ℕ) → (bare_head bytes ≡ Got h used) ↔ SpellsHead bytes h used
 
@@ -113,6 +131,17 @@ HeadWants = (bytes next : List ℕ) (wanted : ℕ) → bare_head bytes ≡ More 
 abbrev pub HeadEnds : Type 0
 HeadEnds = (bytes : List ℕ) (byte : ℕ) (h : Head) (used : ℕ) → IsMore (bare_head bytes) → bare_head (bytes ++ byte ∷ []) ≡ Got h used →
     used ≡ length bytes + 1
+
+-- A half head has fewer bytes than the longest head. A head that is there has one byte to nine, and they are there.
+abbrev pub HalfIsShort : Type 0
+HalfIsShort = (bytes : List ℕ) → IsMore (bare_head bytes) → length bytes < 9
+
+abbrev pub HeadFits : Type 0
+HeadFits = (bytes : List ℕ) (h : Head) (used : ℕ) → bare_head bytes ≡ Got h used → (0 < used) × (used ≤ 9) × (used ≤ length bytes)
+
+-- A bare head is refused for one of these reasons.
+abbrev pub HeadReasons : Type 0
+HeadReasons = (bytes : List ℕ) (reason : Reason) → bare_head bytes ≡ Fault reason → Contains head_reasons reason
 
 -- The shortest head of an argument is a head of it, whatever follows.
 abbrev pub ShortestIsHead : Type 0

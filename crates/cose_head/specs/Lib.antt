@@ -1,10 +1,13 @@
 pub mod Reason
+pub mod Algorithm
+pub mod Refusal
 pub mod Head
 pub mod Item
 pub mod Reading
 pub mod Shortest
 pub mod Measured
 pub mod Placed
+pub mod Whole
 pub mod ItemRef
 pub mod Items
 pub mod HalfHead
@@ -13,3 +16,4 @@ pub mod Walking
 pub mod Walker
 pub mod Laws
 pub mod PlacedLaws
+pub mod WalkerLaws

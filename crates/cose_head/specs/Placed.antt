@@ -88,6 +88,13 @@ abbrev pub truth_in : Look → Option Bool
 truth_in (truth b) = Some b
 truth_in _ = None
 
+-- The number of a tag and the item that it encloses, which is behind the tag's head (section 3.4).
+abbrev pub tag_with : Head → Placed → Option (ℕ × Placed)
+tag_with h p = if h.major == 6 then Some (h.arg, past_head h p) else None
+
+abbrev pub tag_in : Placed → Option (ℕ × Placed)
+tag_in p = tag_with (head_of_item p) p
+
 abbrev pub is_an_array : Look → Bool
 is_an_array an_array = true
 is_an_array _ = false

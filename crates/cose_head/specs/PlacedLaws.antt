@@ -1,17 +1,50 @@
 -- What items above the grammar say of its trees (RFC 8949 section 3): what an item is, and which children it has.
-use Rattle.std.specs.Prelude.{◌≡◌, ℕ, ◌+◌, ◌-◌, ◌*◌, ◌≤◌, pos, negsuc, Bool, true, false, List, [], ◌∷◌, ◌++◌, length, Some, None, Ok, ◌==◌, if◌then◌else◌, ⊤}
-use Rattle.std.specs.List.{AllByRecursion}
+use Rattle.std.specs.Prelude.{◌≡◌, ◌↔◌, ℕ, ◌+◌, ◌-◌, ◌*◌, ◌≤◌, pos, negsuc, Bool, true, false, List, [], ◌∷◌, ◌++◌, length, Some, None, Ok, Err, IfErr, ◌==◌, if◌then◌else◌, ⊤}
+use Rattle.std.specs.List.{AllByRecursion, Contains}
+use Rattle.cose_head.specs.declared.refusal.Refusal.{Refusal}
+use Rattle.cose_head.specs.Reason.{whole_reasons}
 use Rattle.cose_head.specs.Item.{Item, unsigned, negative, byte_string, text_string, array, map, tag, simple, float, Items, no_items, item, count_of, IsHead}
 use Rattle.cose_head.specs.Reading.{Left, read}
 use Rattle.cose_head.specs.Measured.{left_of}
 use Rattle.cose_head.specs.Laws.{SpellsHead}
-use Rattle.cose_head.specs.Placed.{Placed, head_of_item, Look, integer, byte_content, text_content, an_array, a_map, a_tag, truth, a_float, other, look, children_of, children_if_any}
+use Rattle.cose_head.specs.Placed.{Placed, head_of_item, Look, integer, byte_content, text_content, an_array, a_map, a_tag, truth, a_float, other, look, tag_in, children_of, children_if_any}
+use Rattle.cose_head.specs.Whole.{whole, is_one_item}
 
 -- The bytes of an item, read alone and within a nesting allowance, are this tree, and nothing is left.
 pub record IsItem (depth : ℕ) (p : Placed) (tree : Item) : Type 0 where
   pub rest : Left
   pub is_read : read depth (left_of p.bytes (length p.bytes) p.place) ≡ Ok (tree, rest)
   pub nothing_left : rest.bytes ≡ []
+
+-- What is read whole is the item of one tree, and the bytes of the item of a tree are read whole.
+abbrev pub WholeIsItem : Type 0
+WholeIsItem = (depth : ℕ) (p q : Placed) → whole depth p ≡ Ok q → (tree : Item) × IsItem depth p tree × (q ≡ p)
+
+abbrev pub ItemIsWhole : Type 0
+ItemIsWhole = (depth : ℕ) (p : Placed) (tree : Item) → IsItem depth p tree → whole depth p ≡ Ok p
+
+-- The same bytes are read whole with more nesting allowed.
+abbrev pub WholeIsDeeper : Type 0
+WholeIsDeeper = (depth deeper : ℕ) (p q : Placed) → depth ≤ deeper → whole depth p ≡ Ok q → whole deeper p ≡ Ok q
+
+-- The test for one item says what is read whole, wherever the bytes stand.
+abbrev pub OneItemIsWhole : Type 0
+OneItemIsWhole = (p : Placed) → (is_one_item p.bytes ≡ true) ↔ (whole 32 p ≡ Ok p)
+
+-- Where an item ends; and that a place is among its bytes or at their end.
+abbrev pub end_of : Placed → ℕ
+end_of p = p.place + length p.bytes
+
+abbrev pub StandsIn : Placed → ℕ → Type 0
+StandsIn p place = (p.place ≤ place) × (place ≤ end_of p)
+
+-- What is refused is refused inside.
+abbrev pub WholeIsRefusedInside : Type 0
+WholeIsRefusedInside = (depth : ℕ) (p : Placed) → IfErr (whole depth p) (λ refusal. StandsIn p refusal.place)
+
+-- For one of these reasons: never Truncated, since the room is the number of the bytes.
+abbrev pub WholeReasons : Type 0
+WholeReasons = (depth : ℕ) (p : Placed) (refusal : Refusal) → whole depth p ≡ Err refusal → Contains whole_reasons refusal.reason
 
 -- What a tree is at its root. The simple values 20 and 21 are false and true (section 3.3).
 abbrev pub look_of_tree : Item → Look
@@ -72,6 +105,28 @@ abbrev pub OthersHaveNone : Type 0
 OthersHaveNone = (depth : ℕ) (p : Placed) (tree : Item) → IsItem depth p tree → is_list tree ≡ false → (children_if_any p ≡ None)
     × (children_of p ≡ [])
 
+-- A tag has its number, and encloses the item of its content: its bytes are a head of major type 6 and the number, and
+-- then the content's, read within a nesting of one less.
+pub record HasContent (depth : ℕ) (p : Placed) (number : ℕ) (content : Item) : Type 0 where
+  pub head : List ℕ
+  pub enclosed : Placed
+  pub is_head : IsHead head 6 number
+  pub whole : p.bytes ≡ head ++ enclosed.bytes
+  pub place : enclosed.place ≡ p.place + length head
+  pub is_item : IsItem (depth - 1) enclosed content
+  pub found : tag_in p ≡ Some (number, enclosed)
+
+abbrev pub TagHasItsContent : Type 0
+TagHasItsContent = (depth : ℕ) (p : Placed) (number : ℕ) (content : Item) → IsItem depth p (tag number content) → HasContent depth p number content
+
+abbrev pub is_tag : Item → Bool
+is_tag (tag number content) = true
+is_tag _ = false
+
+-- Other items are no tags.
+abbrev pub OthersEncloseNone : Type 0
+OthersEncloseNone = (depth : ℕ) (p : Placed) (tree : Item) → IsItem depth p tree → is_tag tree ≡ false → tag_in p ≡ None
+
 -- What an item is, is what its tree is at the root.
 abbrev pub LookIsOfTree : Type 0
 LookIsOfTree = (depth : ℕ) (p : Placed) (tree : Item) → IsItem depth p tree → look p ≡ look_of_tree tree
@@ -80,10 +135,7 @@ LookIsOfTree = (depth : ℕ) (p : Placed) (tree : Item) → IsItem depth p tree 
 abbrev pub HeadIsOfItem : Type 0
 HeadIsOfItem = (depth : ℕ) (p : Placed) (tree : Item) → IsItem depth p tree → SpellsHead p.bytes (head_of_item p) (head_of_item p).width
 
--- Where an item ends; and that it ends no later than a place.
-abbrev pub end_of : Placed → ℕ
-end_of p = p.place + length p.bytes
-
+-- It ends no later than a place.
 abbrev pub EndsBy : ℕ → Placed → Type 0
 EndsBy end p = end_of p ≤ end
 

@@ -51,6 +51,11 @@ Leads before (Ok Whole) w = (length w.half.items ≡ 0) × ((bytes : List ℕ) �
 Leads before (Err reason) w = (reason ≡ Truncated → ⊥) × ((bytes : List ℕ) → (before bytes).end ≡ refused reason w.place)
 
 -- The walker was put these bytes, and goes on: with whatever bytes follow, reading them all is what is left after them.
+--
+-- It is met by the calls `new` and `put` alone: `new` gives it of no bytes, and each `put` that answers Going of one byte
+-- more. The fields that it speaks of are the walker's own, so a caller has it of a walker that it made and put the bytes,
+-- and carries it along with the list of these bytes; of a walker that came from elsewhere it knows nothing until whoever
+-- hands it over says it. After Done or a fault it doesn't hold any more, and no call brings it back.
 pub record HasPut (room : ℕ) (put : List ℕ) {D : ℕ} (w : Walker D) : Type 0 where
   pub rest : (bytes : List ℕ) → walk D (left_of (put ++ bytes) room 0) ≡ resume w bytes
   pub taken : w.place + length w.half.items ≡ length put

@@ -36,7 +36,7 @@ impl Head {
 pub enum HeadStep {
     /// A head, and the number of bytes that it has.
     Got(Head, usize),
-    /// The bytes end inside the head; so many more are wanted for certain.
+    /// The bytes end inside the head; at least this many bytes are missing.
     More(usize),
     /// No head begins so: [`Reason::Reserved`], [`Reason::Indefinite`] or [`Reason::BadSimple`].
     Fault(Reason),

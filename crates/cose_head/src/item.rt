@@ -14,7 +14,7 @@ use crate::refusal::Refusal;
 pub struct Span {
     /// The number of bytes of the item, from its head to its end.
     pub length: usize,
-    /// The nesting of the item: 0 for an item that is no array, map or tag; else 1 more than its deepest child,
+    /// The nesting of the item: 0 for an item that is no array, map or CBOR tag; else 1 more than its deepest child,
     /// and 1 for an empty array or map.
     pub depth: usize,
 }
@@ -105,7 +105,7 @@ fn allowed_children(
     Ok(count as usize)
 }
 
-/// So many items, one after another: their length, and the nesting of the deepest.
+/// `count` items, one after another: their length, and the nesting of the deepest.
 #[cycle(item)]
 fn items_at(
     count: usize,
@@ -137,7 +137,7 @@ fn items_at(
 
 /// The item at the front of `bytes`, which stand at `place`.
 #[cycle(item)]
-fn item_at(bytes: &[u8], room: usize, place: u64, depth: usize) -> Result<Span, Refusal>
+pub(crate) fn item_at(bytes: &[u8], room: usize, place: u64, depth: usize) -> Result<Span, Refusal>
     requires in_range { place + length bytes.now < 2 ^ 64 }
     requires shallow { depth ≤ 32 }
     ensures exact { let l = left_of bytes.now room place in span_found l result ≡ nesting (read depth l) }

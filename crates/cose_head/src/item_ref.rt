@@ -1,25 +1,31 @@
 //! One data item: its bytes and their place (RFC 8949 section 3).
 
-ghost use Rattle.std.specs.Prelude.{◌≡◌, ℕ, ◌+◌, ◌<◌, ◌^◌, length, take, drop, option_map};
+ghost use Rattle.std.specs.Prelude.{◌≡◌, ℕ, ◌+◌, ◌<◌, ◌≤◌, ◌^◌, length, take, drop, true, option_map, IfOk, IfErr};
 ghost use Rattle.cose_head.specs.Placed.{if_utf8};
+ghost use Rattle.cose_head.specs.Whole.{is_one_item, whole};
 
 use crate::head::{Head, HeadStep, parse_head};
+use crate::item::item_at;
+use crate::reason::Reason;
+use crate::refusal::Refusal;
 
 /// A data item: its bytes, and the place of the first.
 ///
-/// What the methods say rests on the bytes alone, and of bytes that begin with no head they say that they are
-/// the simple value `undefined`.
+/// The type keeps that the bytes are exactly one item, of a nesting of at most 32. [`ItemRef::read`] makes one of bytes,
+/// and [`Items`](crate::Items) gives those of children. What the methods say rests on that, and on the bytes alone.
 #[derive(Clone, Copy, Debug)]
 pub struct ItemRef<'a> {
     /// The bytes of the item.
     pub bytes: &'a [u8],
     /// The place of the first byte.
     pub place: u64,
-    /// The place after the last byte is a number too.
+    /// The bytes are exactly one item, of a nesting of at most 32.
+    pub ghost is_item: { is_one_item bytes.now ≡ true },
+    /// The place after the last byte fits in u64.
     pub ghost in_range: { place + length bytes.now < 2 ^ 64 },
 }
 
-/// What is after the first bytes, so many or all.
+/// What is after the first `width` bytes; nothing if there are fewer.
 fn bytes_after(bytes: &[u8], width: u8) -> &[u8]
     ensures { result.now ≡ drop width bytes.now }
 {
@@ -27,7 +33,7 @@ fn bytes_after(bytes: &[u8], width: u8) -> &[u8]
     &bytes[width..]
 }
 
-/// The first bytes, so many or all.
+/// The first `count` bytes, or all if there are fewer.
 fn bytes_before(bytes: &[u8], count: u64) -> &[u8]
     ensures { result.now ≡ take count bytes.now }
 {
@@ -45,21 +51,40 @@ fn utf8(bytes: &[u8]) -> Option<&str>
 }
 
 impl<'a> ItemRef<'a> {
-    ghost use Rattle.cose_head.specs.ItemRef.{placed};
-    ghost use Rattle.cose_head.specs.Placed.{head_of_item, look, integer_in, bytes_in, text_in, truth_in, is_a_text, is_an_array, is_a_map, is_a_float};
+    ghost use Rattle.cose_head.specs.ItemRef.{placed, placed_read, placed_in_tag};
+    ghost use Rattle.cose_head.specs.Placed.{head_of_item, look, tag_in, integer_in, bytes_in, text_in, truth_in, is_a_text, is_an_array, is_a_map, is_a_float};
+
+    /// Reads bytes that are exactly one item, of a nesting of at most `depth`, whose first byte stands at `at`.
+    ///
+    /// The refusal is the first fault of the reading, as of [`read_item`](crate::read_item), with
+    /// [`Reason::PastRoom`] where the bytes end early; then [`Reason::Trailing`] at the first byte after the item.
+    pub fn read(bytes: &'a [u8], at: u64, depth: usize) -> Result<ItemRef<'a>, Refusal>
+        requires shallow { depth ≤ 32 }
+        requires in_range { at + length bytes.now < 2 ^ 64 }
+        ensures exact { placed_read result ≡ whole depth (record { bytes = bytes.now; place = at }) }
+        ensures same { IfOk result (λ item. placed item ≡ record { bytes = bytes.now; place = at }) }
+        ensures from { IfErr result (λ refusal. at ≤ refusal.place) }
+        ensures within { IfErr result (λ refusal. refusal.place ≤ at + length bytes.now) }
+    {
+        let span = item_at(bytes, bytes.len(), at, depth)?;
+        if span.length < bytes.len() {
+            return Err(Refusal {
+                reason: Reason::Trailing,
+                place: at + span.length as u64,
+            });
+        }
+        Ok(ItemRef { bytes, place: at })
+    }
 
     /// The head of the item.
-    #[tactic(auto, unfolding(crate::specs::Placed::head_of_item))]
+    #[tactic(auto, unfolding(crate::specs::Placed::head_of_item), using(crate::proofs::Heads::got_width, crate::proofs::Whole::one_item_is_no_half, crate::proofs::Whole::one_item_is_no_fault))]
     pub fn head(&self) -> Head
-        ensures { result ≡ head_of_item (placed self.now) }
+        ensures exact { result ≡ head_of_item (placed self.now) }
+        ensures there { result.width ≤ length self.now.bytes.now }
     {
         match parse_head(self.bytes) {
             HeadStep::Got(head, _) => head,
-            HeadStep::More(_) | HeadStep::Fault(_) => Head {
-                major: 7,
-                arg: 23,
-                width: 1,
-            },
+            HeadStep::More(_) | HeadStep::Fault(_) => unreachable!(),
         }
     }
 
@@ -71,7 +96,7 @@ impl<'a> ItemRef<'a> {
     }
 
     /// The integer that the item is, if it is one.
-    #[tactic(auto, unfolding(crate::specs::Placed::look), using(crate::proofs::Looks::unsigned_found, crate::proofs::Looks::negative_found, crate::proofs::Looks::no_integer))]
+    #[tactic(auto, unfolding(crate::specs::Placed::look), using(crate::proofs::Placed::unsigned_found, crate::proofs::Placed::negative_found, crate::proofs::Placed::no_integer))]
     pub fn as_int(&self) -> Option<i128>
         ensures { result ≡ integer_in (look (placed self.now)) }
     {
@@ -84,7 +109,7 @@ impl<'a> ItemRef<'a> {
     }
 
     /// The content of a byte string.
-    #[tactic(auto, unfolding(crate::specs::Placed::look), using(crate::proofs::Looks::bytes_found, crate::proofs::Looks::no_bytes))]
+    #[tactic(auto, unfolding(crate::specs::Placed::look), using(crate::proofs::Placed::bytes_found, crate::proofs::Placed::no_bytes))]
     pub fn as_bytes(&self) -> Option<&'a [u8]>
         ensures { option_map (λ bytes. bytes.now) result ≡ bytes_in (look (placed self.now)) }
     {
@@ -96,7 +121,7 @@ impl<'a> ItemRef<'a> {
     }
 
     /// The content of a text, if it is UTF-8.
-    #[tactic(auto, unfolding(crate::specs::Placed::look), using(crate::proofs::Looks::text_found, crate::proofs::Looks::no_text))]
+    #[tactic(auto, unfolding(crate::specs::Placed::look), using(crate::proofs::Placed::text_found, crate::proofs::Placed::no_text))]
     pub fn as_text(&self) -> Option<&'a str>
         ensures { option_map (λ text. text.now) result ≡ text_in (look (placed self.now)) }
     {
@@ -108,7 +133,7 @@ impl<'a> ItemRef<'a> {
     }
 
     /// The truth value that the item is.
-    #[tactic(auto, unfolding(crate::specs::Placed::look), using(crate::proofs::Looks::truth_found, crate::proofs::Looks::no_truth))]
+    #[tactic(auto, unfolding(crate::specs::Placed::look), using(crate::proofs::Placed::truth_found, crate::proofs::Placed::no_truth))]
     pub fn as_bool(&self) -> Option<bool>
         ensures { result ≡ truth_in (look (placed self.now)) }
     {
@@ -123,8 +148,23 @@ impl<'a> ItemRef<'a> {
         }
     }
 
+    /// The number of a CBOR tag, and the item that it encloses (RFC 8949 section 3.4), which stands behind the tag's head.
+    pub fn as_tag(&self) -> Option<(u64, ItemRef<'a>)>
+        ensures { option_map placed_in_tag result ≡ tag_in (placed self.now) }
+    {
+        let head = self.head();
+        if head.major != 6 {
+            return None;
+        }
+        let item = ItemRef {
+            bytes: bytes_after(self.bytes, head.width),
+            place: self.place + u64::from(head.width),
+        };
+        Some((head.arg, item))
+    }
+
     /// Whether the item is a text, UTF-8 or not.
-    #[tactic(auto, unfolding(crate::specs::Placed::look), using(crate::proofs::Looks::any_text_found))]
+    #[tactic(auto, unfolding(crate::specs::Placed::look), using(crate::proofs::Placed::any_text_found))]
     pub fn is_text(&self) -> bool
         ensures { result ≡ is_a_text (look (placed self.now)) }
     {
@@ -132,7 +172,7 @@ impl<'a> ItemRef<'a> {
     }
 
     /// Whether the item is a float.
-    #[tactic(auto, unfolding(crate::specs::Placed::look), using(crate::proofs::Looks::float_found, crate::proofs::Looks::no_float))]
+    #[tactic(auto, unfolding(crate::specs::Placed::look), using(crate::proofs::Placed::float_found, crate::proofs::Placed::no_float))]
     pub fn is_float(&self) -> bool
         ensures { result ≡ is_a_float (look (placed self.now)) }
     {
@@ -141,7 +181,7 @@ impl<'a> ItemRef<'a> {
     }
 
     /// Whether the item is an array.
-    #[tactic(auto, unfolding(crate::specs::Placed::look), using(crate::proofs::Looks::array_found))]
+    #[tactic(auto, unfolding(crate::specs::Placed::look), using(crate::proofs::Placed::array_found))]
     pub fn is_array(&self) -> bool
         ensures { result ≡ is_an_array (look (placed self.now)) }
     {
@@ -149,7 +189,7 @@ impl<'a> ItemRef<'a> {
     }
 
     /// Whether the item is a map.
-    #[tactic(auto, unfolding(crate::specs::Placed::look), using(crate::proofs::Looks::map_found))]
+    #[tactic(auto, unfolding(crate::specs::Placed::look), using(crate::proofs::Placed::map_found))]
     pub fn is_map(&self) -> bool
         ensures { result ≡ is_a_map (look (placed self.now)) }
     {

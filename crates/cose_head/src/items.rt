@@ -1,23 +1,26 @@
 //! The children of arrays and maps (RFC 8949 section 3.1).
 
-ghost use Rattle.std.specs.Prelude.{◌≡◌, ℕ, ◌+◌, ◌<◌, ◌^◌, length, Some, None, if◌then◌else◌, option_map};
+ghost use Rattle.std.specs.Prelude.{◌≡◌, ℕ, ◌+◌, ◌<◌, ◌^◌, [], length, true, Some, None, if◌then◌else◌, option_map};
 ghost use Rattle.cose_head.specs.Placed.{has_children, items_from};
 ghost use Rattle.cose_head.specs.Reading.{child_count};
+ghost use Rattle.cose_head.specs.Whole.{is_one_item};
 
 use crate::head::{Head, HeadStep, parse_head};
 use crate::item::read_item;
 use crate::item_ref::ItemRef;
 
 /// The direct children of an array or a map, in their order. A map's are label, value, label, value.
+///
+/// They are read one by one from the bytes, as the iterator comes to them, each of a nesting of at most 32.
 #[derive(Clone, Copy, Debug)]
 pub struct Items<'a> {
     rest: &'a [u8],
     place: u64,
     // A map of n pairs has 2n children.
     left: u128,
-    /// The place after the last byte is a number too.
+    /// The place after the last byte fits in u64.
     pub ghost in_range: { place + length rest.now < 2 ^ 64 },
-    /// The number of children is one too.
+    /// The number of children fits in u128.
     pub ghost few: { length (items_from left (record { bytes = rest.now; place = place })) < 2 ^ 128 },
 }
 
@@ -36,10 +39,14 @@ impl<'a> Items<'a> {
     ghost use Rattle.cose_head.specs.Items.{items_left};
     ghost use Rattle.cose_head.specs.Placed.{children_if_any, children_of};
 
-    /// The children of the item that these bytes are, from the place `at` on. None where it is neither an array nor a map.
-    #[tactic(auto, unfolding(crate::specs::Placed::head_of_item, crate::specs::Placed::children_of), using(crate::proofs::Heads::got_width, crate::proofs::Looks::few_items))]
+    /// The children of the one item that these bytes are, whose first byte stands at `at`. None where it is neither an
+    /// array nor a map.
+    ///
+    /// [`ItemRef::read`] tells whether bytes are one item, and [`Items::of`] gives the children of what it reads.
+    #[tactic(auto, unfolding(crate::specs::Placed::head_of_item, crate::specs::Placed::children_of), using(crate::proofs::Heads::got_width, crate::proofs::Placed::few_items, crate::proofs::Whole::one_item_is_no_half, crate::proofs::Whole::one_item_is_no_fault))]
     pub fn new(bytes: &'a [u8], at: u64) -> Option<Items<'a>>
-        requires { at + length bytes.now < 2 ^ 64 }
+        requires one_item { is_one_item bytes.now ≡ true }
+        requires in_range { at + length bytes.now < 2 ^ 64 }
         ensures { option_map items_left result ≡ children_if_any (record { bytes = bytes.now; place = at }) }
     {
         match parse_head(bytes) {
@@ -49,22 +56,30 @@ impl<'a> Items<'a> {
                 let place = at + used as u64;
                 Some(Items { rest, place, left })
             }
-            HeadStep::More(_) | HeadStep::Fault(_) => None,
+            HeadStep::More(_) | HeadStep::Fault(_) => unreachable!(),
+        }
+    }
+
+    /// No children.
+    #[tactic(auto, unfolding(crate::specs::Placed::items_from))]
+    pub fn none() -> Items<'a>
+        ensures { items_left result ≡ [] }
+    {
+        Items {
+            rest: &[],
+            place: 0,
+            left: 0,
         }
     }
 
     /// The children of an item, none where it is neither an array nor a map.
-    #[tactic(auto, unfolding(crate::specs::Placed::items_from), using(crate::proofs::Looks::its_children, crate::proofs::Looks::no_children))]
+    #[tactic(auto, unfolding(crate::specs::Placed::items_from), using(crate::proofs::Placed::its_children, crate::proofs::Placed::no_children))]
     pub fn of(item: &ItemRef<'a>) -> Items<'a>
         ensures { items_left result ≡ children_of (placed item.now) }
     {
-        if let Some(items) = Items::new(item.bytes, item.place) {
-            return items;
-        }
-        Items {
-            rest: item.bytes,
-            place: item.place,
-            left: 0,
+        match Items::new(item.bytes, item.place) {
+            Some(items) => items,
+            None => Items::none(),
         }
     }
 }
@@ -80,7 +95,7 @@ impl<'a> Iterator for Items<'a> {
 
     ghost remaining = { item_count items_left };
 
-    #[tactic(auto, unfolding(crate::specs::Placed::items_from), using(crate::proofs::Looks::few_items))]
+    #[tactic(auto, unfolding(crate::specs::Placed::items_from), using(crate::proofs::Placed::few_items))]
     fn next(&mut self) -> Option<ItemRef<'a>> {
         if self.left == 0 {
             return None;

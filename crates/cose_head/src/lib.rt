@@ -1,6 +1,33 @@
 //! Heads and items of CBOR (RFC 8949), and the reasons for which COSE messages are refused.
+//!
+//! [`ItemRef::read`] reads bytes that are exactly one item, whose first byte stands at a place of the caller's. [`Items`]
+//! gives the children of an array or a map, [`ItemRef::as_tag`] what a CBOR tag encloses. [`Walker`] reads an item whose
+//! bytes come one by one. [`parse_head`] and [`write_head`] are for heads that stand outside an item. No memory is taken.
+//!
+//! ```
+//! // A map of one pair, {1: 5}, whose first byte stands at place 3 of a message.
+//! let map = ItemRef::read(b"\xa1\x01\x05", 3, 8)?;
+//! let mut children = Items::of(&map);
+//! if let (Some(label), Some(value)) = (children.next(), children.next()) {
+//!     // Some(1) at place 4, and Some(5) at place 5.
+//!     println!(rt; "{:?} at {}", label.as_int(), label.place)?;
+//!     println!(rt; "{:?} at {}", value.as_int(), value.place)?;
+//! }
+//!
+//! // A byte behind the item is refused: `Trailing at 6`.
+//! if let Err(refusal) = ItemRef::read(b"\xa1\x01\x05\x00", 3, 8) {
+//!     println!(rt; "{refusal}")?;
+//! }
+//!
+//! // The same map, a byte at a time: `Going`, `Going`, `Done`. It may use 3 bytes and be nested 8 deep.
+//! let mut walker: Walker<8> = Walker::new(3);
+//! for byte in b"\xa1\x01\x05" {
+//!     println!(rt; "{:?}", walker.put(*byte))?;
+//! }
+//! ```
 #![tactic(auto)]
 
+mod algorithm;
 mod half_head;
 mod head;
 mod item;
@@ -12,6 +39,7 @@ mod reason;
 mod refusal;
 mod walker;
 
+pub use algorithm::{Alg, Hash, KeyType};
 pub use head::{Head, HeadStep, parse_head, write_head};
 pub use item::{Span, read_item};
 pub use item_ref::ItemRef;

@@ -3,6 +3,7 @@
 ghost use Rattle.std.specs.Prelude.{◌≡◌, Some};
 ghost use Rattle.cose_head.specs.Reason.{number_of, name_of};
 
+use std::error::Error;
 use std::fmt;
 
 /// Why something is refused. Each reason has a number and a name, which never change.
@@ -16,11 +17,11 @@ pub enum Reason {
     Indefinite = 3,
     /// A simple value below 32 in two bytes (RFC 8949 section 3.3).
     BadSimple = 4,
-    /// An array, map or tag with no nesting left.
+    /// An array, map or CBOR tag with no nesting left.
     TooDeep = 5,
     /// A head, a string or the children pass the room.
     PastRoom = 6,
-    /// A tag that isn't wanted here (RFC 9052 section 2).
+    /// A CBOR tag that isn't wanted here (RFC 9052 section 2).
     WrongTag = 7,
     /// COSE_Encrypt0 or COSE_Encrypt (RFC 9052 section 5), which this profile leaves out.
     Encrypted = 8,
@@ -60,13 +61,13 @@ pub enum Reason {
     AmbiguousKey = 25,
     /// The payload is nil (RFC 9052 sections 4.1 and 6.1).
     Detached = 26,
-    /// The tag or signature hasn't the length of its algorithm.
+    /// The authentication tag or the signature hasn't the length of its algorithm.
     BadAuthLength = 27,
-    /// The tag or signature doesn't hold.
+    /// The authentication tag or the signature doesn't hold.
     BadAuth = 28,
     /// The payload passes its limit.
     PayloadTooLong = 29,
-    /// The CWT tag without a COSE tag (RFC 8392 section 6).
+    /// The CBOR tag of a CWT without that of a COSE message (RFC 8392 section 6).
     CwtTagAlone = 30,
     /// A key set that is neither a map nor an array of keys (RFC 9052 section 7).
     BadKeySet = 31,
@@ -74,7 +75,7 @@ pub enum Reason {
     UnknownKey = 32,
     /// A date that is a float, which this profile refuses.
     FloatDate = 33,
-    /// A date with tag 1 (RFC 8392 section 2).
+    /// A date with CBOR tag 1 (RFC 8392 section 2).
     TaggedDate = 34,
     /// The token has expired (RFC 8392 section 3.1.4).
     Expired = 35,
@@ -160,3 +161,5 @@ impl fmt::Display for Reason {
         f.write_str(self.name())
     }
 }
+
+impl Error for Reason {}

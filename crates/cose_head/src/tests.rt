@@ -1,53 +1,24 @@
 //! Tables of examples: values that the contracts can't show to be the ones that were meant.
 
 use super::*;
+use rows::{refused, rows, whole};
+use std::alloc::AllocError;
 use std::process::Abort;
 
-fn whole(length: usize, depth: usize) -> Result<Span, Refusal> {
-    Ok(Span { length, depth })
-}
-
-fn fault(reason: Reason, place: u64) -> Result<Span, Refusal> {
-    Err(Refusal { reason, place })
-}
+pub(crate) mod rows;
 
 #[test]
 fn reads_items_within_room_and_nesting(rt: HostRuntime) {
-    let rows: [(&[u8], usize, usize, Result<Span, Refusal>); 21] = [
-        (b"", 0, 0, fault(Reason::PastRoom, 0)),
-        (b"", 1, 0, fault(Reason::Truncated, 0)),
-        (b"\x18\x00", 2, 0, whole(2, 0)),
-        (b"\x81\x81\x00", 3, 2, whole(3, 2)),
-        (b"\x81\x81\x00", 3, 1, fault(Reason::TooDeep, 1)),
-        (b"\x80", 1, 1, whole(1, 1)),
-        (b"\x80", 1, 0, fault(Reason::TooDeep, 0)),
-        (b"\xf8\x1f", 2, 0, fault(Reason::BadSimple, 0)),
-        (b"\xf8\x20", 2, 0, whole(2, 0)),
-        (b"\xf9", 3, 0, fault(Reason::Truncated, 1)),
-        (b"\xf9", 2, 0, fault(Reason::PastRoom, 0)),
-        (b"\x1c", 1, 0, fault(Reason::Reserved, 0)),
-        (b"\x1f", 1, 0, fault(Reason::Reserved, 0)),
-        (b"\xdf", 1, 0, fault(Reason::Reserved, 0)),
-        (b"\x5f", 1, 0, fault(Reason::Indefinite, 0)),
-        (b"\xff", 1, 0, fault(Reason::Indefinite, 0)),
-        (b"\x44\x01\x02", 5, 0, fault(Reason::Truncated, 3)),
-        (b"\x44\x01\x02", 4, 0, fault(Reason::PastRoom, 0)),
-        (b"\x82\x00", 3, 1, fault(Reason::Truncated, 2)),
-        (b"\x82\x00", 2, 1, fault(Reason::PastRoom, 0)),
-        (
-            b"\xbb\x80\x00\x00\x00\x00\x00\x00\x00",
-            65535,
-            1,
-            fault(Reason::PastRoom, 0),
-        ),
-    ];
-    for (bytes, room, depth, want) in rows {
+    for (bytes, room, depth, _going, want) in rows() {
         assert_eq!(rt;
-            read_item(bytes, room, depth),
+            read_item(bytes, room, depth.min(2)),
             want,
             "of {bytes:?} within {room}, {depth}"
         );
     }
+    // No room goes before no byte.
+    assert_eq!(rt; read_item(b"", 0, 0), refused(Reason::PastRoom, 0));
+    assert_eq!(rt; read_item(b"", 1, 0), refused(Reason::Truncated, 0));
 }
 
 /// What an item is, in the terms of the standard's table. A tag has its number, and a simple value that is no truth
@@ -95,7 +66,7 @@ fn bool_of(meaning: Meaning) -> Option<bool> {
 
 /// Each getter says what the item of these bytes is, or that it isn't that.
 fn expect_meaning(rt: &impl Abort, bytes: &[u8], want: Meaning) {
-    let item = ItemRef { bytes, place: 0 };
+    let item = ItemRef::read(bytes, 0, 2).expect(rt, "one item");
     assert_eq!(rt; item.as_int(), int_of(want), "of {bytes:?}");
     assert_eq!(rt; item.as_bytes(), bytes_of(want), "of {bytes:?}");
     assert_eq!(rt; item.as_text(), text_of(want), "of {bytes:?}");
@@ -279,7 +250,7 @@ fn refuses_indefinite_lengths(rt: HostRuntime) {
     for (bytes, place) in rows {
         assert_eq!(rt;
             read_item(bytes, bytes.len(), 2),
-            fault(Reason::Indefinite, place),
+            refused(Reason::Indefinite, place),
             "of {bytes:?}"
         );
     }
@@ -287,12 +258,14 @@ fn refuses_indefinite_lengths(rt: HostRuntime) {
 
 #[test]
 fn writes_shortest_heads(rt: HostRuntime) {
-    let rows: [(u64, &[u8]); 6] = [
+    let rows: [(u64, &[u8]); 8] = [
         (23, b"\x57"),
         (24, b"\x58\x18"),
         (255, b"\x58\xff"),
         (256, b"\x59\x01\x00"),
+        (65535, b"\x59\xff\xff"),
         (65536, b"\x5a\x00\x01\x00\x00"),
+        (4294967295, b"\x5a\xff\xff\xff\xff"),
         (4294967296, b"\x5b\x00\x00\x00\x01\x00\x00\x00\x00"),
     ];
     for (length, want) in rows {
@@ -308,12 +281,45 @@ fn counts_missing_argument_bytes(rt: HostRuntime) {
     }
 }
 
+/// The item that these bytes are, from place 0 on.
+fn item_of<'a>(rt: &impl Abort, bytes: &'a [u8]) -> ItemRef<'a> {
+    ItemRef::read(bytes, 0, 32).expect(rt, "one item")
+}
+
+// Bytes, the place of the first and the nesting that is allowed; and the refusal, where they aren't one item.
+#[test]
+fn reads_bytes_that_are_one_item(rt: HostRuntime) {
+    let rows: [(&[u8], u64, usize, Option<(Reason, u64)>); 10] = [
+        (b"\x00", 9, 0, None),
+        (b"\x81\x80", 9, 2, None),
+        (b"\x81\x80", 9, 1, Some((Reason::TooDeep, 10))),
+        (b"\x00\x00", 9, 0, Some((Reason::Trailing, 10))),
+        (b"\xa1\x01\x05\x1c", 9, 1, Some((Reason::Trailing, 12))),
+        (b"\x1c\x00", 9, 0, Some((Reason::Reserved, 9))),
+        (b"\xf8\x1f", 9, 0, Some((Reason::BadSimple, 9))),
+        (b"\x82\x00\x5f", 9, 1, Some((Reason::Indefinite, 11))),
+        (b"\x44\x01", 9, 0, Some((Reason::PastRoom, 9))),
+        (b"", 9, 0, Some((Reason::PastRoom, 9))),
+    ];
+    for (bytes, at, depth, refused) in rows {
+        match (ItemRef::read(bytes, at, depth), refused) {
+            (Ok(item), None) => {
+                assert_eq!(rt; item.bytes, bytes);
+                assert_eq!(rt; item.place, at);
+            }
+            (Err(refusal), Some((reason, place))) => {
+                assert_eq!(rt; refusal, Refusal { reason, place }, "of {bytes:?}");
+            }
+            _ => assert!(rt; false, "of {bytes:?}"),
+        }
+    }
+}
+
 #[test]
 fn gives_children_with_their_places(rt: HostRuntime) {
     let bytes = b"\xa2\x01\x38\x00\x18\x2a\x82\x61\x61\xf9\x3c\x00";
-    let Some(mut children) = Items::new(bytes, 3) else {
-        return assert!(rt; false);
-    };
+    let map = ItemRef::read(bytes, 3, 2).expect(&rt, "one item");
+    let mut children = Items::new(map.bytes, map.place).expect(&rt, "a map");
     let rows: [(u64, usize, Option<i128>); 4] = [
         (4, 1, Some(1)),
         (5, 2, Some(-1)),
@@ -321,30 +327,145 @@ fn gives_children_with_their_places(rt: HostRuntime) {
         (9, 6, None),
     ];
     for (place, length, number) in rows {
-        match children.next() {
-            Some(child) => {
-                assert_eq!(rt; child.place, place);
-                assert_eq!(rt; child.bytes.len(), length);
-                assert_eq!(rt; child.as_int(), number);
-            }
-            None => assert!(rt; false, "no child at {place}"),
-        }
+        let child = children.next().expect(&rt, "a child");
+        assert_eq!(rt; child.place, place);
+        assert_eq!(rt; child.bytes.len(), length);
+        assert_eq!(rt; child.as_int(), number);
     }
     assert!(rt; children.next().is_none());
-    assert!(rt; Items::new(b"\xc1\x80", 0).is_none());
+    let tag = item_of(&rt, b"\xc1\x80");
+    assert!(rt; Items::new(tag.bytes, tag.place).is_none());
+    assert!(rt; Items::of(&tag).next().is_none());
+    assert!(rt; Items::none().next().is_none());
+}
+
+// The item, and of a CBOR tag its number, and the place and the length of what it encloses.
+#[test]
+fn gives_what_a_tag_encloses(rt: HostRuntime) {
+    let rows: [(&[u8], Option<(u64, u64, usize)>); 5] = [
+        (b"\xc1\x1a\x51\x4b\x67\xb0", Some((1, 4, 5))),
+        (b"\xd8\x20\x61\x61", Some((32, 5, 2))),
+        (b"\xd9\x00\x10\xd2\x80", Some((16, 6, 2))),
+        (b"\xa1\x01\x02", None),
+        (b"\xe6", None),
+    ];
+    for (bytes, want) in rows {
+        let item = ItemRef::read(bytes, 3, 3).expect(&rt, "one item");
+        match (item.as_tag(), want) {
+            (Some((number, enclosed)), Some(found)) => {
+                assert_eq!(rt;
+                    (number, enclosed.place, enclosed.bytes.len()),
+                    found,
+                    "of {bytes:?}"
+                );
+            }
+            (None, None) => {}
+            _ => assert!(rt; false, "of {bytes:?}"),
+        }
+    }
 }
 
 #[test]
 fn tells_what_an_item_is(rt: HostRuntime) {
-    let item = |bytes| ItemRef { bytes, place: 0 };
-    assert_eq!(rt; item(b"\x61\x61").as_text(), Some("a"));
-    assert_eq!(rt; item(b"\x61\xff").as_text(), None);
-    assert!(rt; item(b"\x61\xff").is_text());
-    assert_eq!(rt; item(b"\x41\xff").as_bytes(), Some(b"\xff".as_slice()));
-    assert!(rt; item(b"\xf9\x3c\x00").is_float());
-    assert!(rt; !item(b"\xf6").is_float());
-    assert!(rt; item(b"\x80").is_array());
-    assert!(rt; item(b"\xa0").is_map());
-    assert_eq!(rt; item(b"\xc1\x00").head().arg, 1);
-    assert_eq!(rt; item(b"").head().arg, 23);
+    assert_eq!(rt; item_of(&rt, b"\x61\x61").as_text(), Some("a"));
+    assert_eq!(rt; item_of(&rt, b"\x61\xff").as_text(), None);
+    assert!(rt; item_of(&rt, b"\x61\xff").is_text());
+    assert_eq!(rt;
+        item_of(&rt, b"\x41\xff").as_bytes(),
+        Some(b"\xff".as_slice())
+    );
+    assert!(rt; item_of(&rt, b"\xf9\x3c\x00").is_float());
+    assert!(rt; !item_of(&rt, b"\xf6").is_float());
+    assert!(rt; item_of(&rt, b"\x80").is_array());
+    assert!(rt; item_of(&rt, b"\xa0").is_map());
+    assert_eq!(rt; item_of(&rt, b"\xc1\x00").head().arg, 1);
+}
+
+#[test]
+fn writes_a_refusal(rt: HostRuntime) -> Result<(), AllocError> {
+    let refusal = Refusal {
+        reason: Reason::BadAuth,
+        place: 10,
+    };
+    let text = format!(in rt.alloc(); "{refusal}")?;
+    assert_eq!(rt; text.as_str(), "BadAuth at 10");
+    Ok(())
+}
+
+// Each reason's number and name, which never change.
+#[test]
+fn numbers_and_names_reasons(rt: HostRuntime) {
+    let rows: [(u8, &str, Reason); 42] = [
+        (1, "Truncated", Reason::Truncated),
+        (2, "Reserved", Reason::Reserved),
+        (3, "Indefinite", Reason::Indefinite),
+        (4, "BadSimple", Reason::BadSimple),
+        (5, "TooDeep", Reason::TooDeep),
+        (6, "PastRoom", Reason::PastRoom),
+        (7, "WrongTag", Reason::WrongTag),
+        (8, "Encrypted", Reason::Encrypted),
+        (9, "SeveralParties", Reason::SeveralParties),
+        (10, "NotFour", Reason::NotFour),
+        (11, "WrongType", Reason::WrongType),
+        (12, "NotMap", Reason::NotMap),
+        (13, "BadLabel", Reason::BadLabel),
+        (14, "DuplicateLabel", Reason::DuplicateLabel),
+        (15, "BothBuckets", Reason::BothBuckets),
+        (16, "BadValue", Reason::BadValue),
+        (17, "CritUnprotected", Reason::CritUnprotected),
+        (18, "CritAbsent", Reason::CritAbsent),
+        (19, "CritUnknown", Reason::CritUnknown),
+        (20, "BothIvs", Reason::BothIvs),
+        (21, "NoAlg", Reason::NoAlg),
+        (22, "UnknownAlg", Reason::UnknownAlg),
+        (23, "AlgUnprotected", Reason::AlgUnprotected),
+        (24, "NoKey", Reason::NoKey),
+        (25, "AmbiguousKey", Reason::AmbiguousKey),
+        (26, "Detached", Reason::Detached),
+        (27, "BadAuthLength", Reason::BadAuthLength),
+        (28, "BadAuth", Reason::BadAuth),
+        (29, "PayloadTooLong", Reason::PayloadTooLong),
+        (30, "CwtTagAlone", Reason::CwtTagAlone),
+        (31, "BadKeySet", Reason::BadKeySet),
+        (32, "UnknownKey", Reason::UnknownKey),
+        (33, "FloatDate", Reason::FloatDate),
+        (34, "TaggedDate", Reason::TaggedDate),
+        (35, "Expired", Reason::Expired),
+        (36, "NotYet", Reason::NotYet),
+        (37, "WrongAudience", Reason::WrongAudience),
+        (38, "EncryptedKey", Reason::EncryptedKey),
+        (39, "PlainKey", Reason::PlainKey),
+        (40, "BadConfirmation", Reason::BadConfirmation),
+        (41, "NestedCwt", Reason::NestedCwt),
+        (42, "Trailing", Reason::Trailing),
+    ];
+    for (number, name, reason) in rows {
+        assert_eq!(rt; reason.number(), number);
+        assert!(rt; reason.name() == name, "of {number}");
+    }
+}
+
+// The example of the crate's documentation.
+#[test]
+fn does_what_the_example_says(rt: HostRuntime) {
+    let map = ItemRef::read(b"\xa1\x01\x05", 3, 8).expect(&rt, "one item");
+    let mut children = Items::of(&map);
+    let label = children.next().expect(&rt, "a label");
+    let value = children.next().expect(&rt, "a value");
+    assert_eq!(rt; (label.as_int(), label.place), (Some(1), 4));
+    assert_eq!(rt; (value.as_int(), value.place), (Some(5), 5));
+
+    let trailing = Refusal {
+        reason: Reason::Trailing,
+        place: 6,
+    };
+    match ItemRef::read(b"\xa1\x01\x05\x00", 3, 8) {
+        Ok(_) => assert!(rt; false, "a byte too many"),
+        Err(refusal) => assert_eq!(rt; refusal, trailing),
+    }
+
+    let mut walker: Walker<8> = Walker::new(3);
+    assert_eq!(rt; walker.put(0xa1), Step::Going);
+    assert_eq!(rt; walker.put(0x01), Step::Going);
+    assert_eq!(rt; walker.put(0x05), Step::Done);
 }

@@ -68,6 +68,9 @@ fn next_child<const D: usize>(counts: &mut ArrayVec<usize, D>) -> bool
 }
 
 /// One data item, walked a byte at a time: at most `D` arrays, maps and tags are open at once.
+///
+/// What its calls say stands under the relation `HasPut` (specs/Walker.antt), which [`Walker::new`] and [`Walker::put`]
+/// alone give: that the walker was put these bytes and goes on.
 #[derive(Drop)]
 pub struct Walker<const D: usize> {
     /// For each open array, map and tag, the outermost first, how many of its children haven't begun.

@@ -1,4 +1,7 @@
-pub mod Lengths
-pub mod Appending
-pub mod Front
+pub mod HashLemmas
+pub mod HmacLemmas
+pub mod LongKeys
+pub mod RunningLemmas
+pub mod StructureLemmas
+pub mod WorkedHmac
 pub mod WorkedStructures

@@ -1,14 +1,11 @@
--- The structures that are authenticated (RFC 9052 sections 6.3 and 4.4), and the blocks of HMAC, on examples, by computing.
+-- The structures that are authenticated (RFC 9052 sections 6.3 and 4.4), on examples, by computing.
 use Rattle.std.proofs.Common.{◌≡◌, ℕ, List, [], ◌∷◌, ◌++◌, refl}
 use Rattle.std.specs.Prelude.{replicate}
 use Rattle.cose_head.specs.Head.{shortest_head}
 use Rattle.cose_head.specs.Shortest.{shortest, shortest_all}
 use Rattle.cose_head.specs.declared.kind.Kind.{Kind}
 use Rattle.cose_head.specs.declared.kind.Kind.TheVariants.{Mac0, Sign1}
-use Rattle.cose_mac.specs.Hash.{function_of}
-use Rattle.cose_mac.specs.Hmac.{key_block, xor_pad, ipad, opad}
 use Rattle.cose_mac.specs.Structure.{mac_structure, sig_structure, structure_of, structure_front}
-use Rattle.cose_mac.specs.declared.hasher.Hash.TheVariants.{Sha256, Sha384, Sha512}
 
 unfoldable structure : Kind → List ℕ → List ℕ → List ℕ → List ℕ
 unfolding mac_structure sig_structure shortest shortest_all shortest_head
@@ -61,35 +58,35 @@ front_of_mac : structure_front Mac0 hmac_256 [] 0x10000 ≡ mac0 ++ 0x43 ∷ 0xa
 unfolding structure_front shortest_head
 front_of_mac = refl
 
+-- Its head is the shortest: at each width the last length that fits, and the first that does not.
+front_of_mac_23 : structure_front Mac0 [] [] 23 ≡ mac0 ++ 0x40 ∷ 0x40 ∷ 0x57 ∷ []
+unfolding structure_front shortest_head
+front_of_mac_23 = refl
+
+front_of_mac_24 : structure_front Mac0 [] [] 24 ≡ mac0 ++ 0x40 ∷ 0x40 ∷ 0x58 ∷ 24 ∷ []
+unfolding structure_front shortest_head
+front_of_mac_24 = refl
+
+front_of_mac_255 : structure_front Mac0 [] [] 255 ≡ mac0 ++ 0x40 ∷ 0x40 ∷ 0x58 ∷ 0xff ∷ []
+unfolding structure_front shortest_head
+front_of_mac_255 = refl
+
+front_of_mac_256 : structure_front Mac0 [] [] 256 ≡ mac0 ++ 0x40 ∷ 0x40 ∷ 0x59 ∷ 1 ∷ 0 ∷ []
+unfolding structure_front shortest_head
+front_of_mac_256 = refl
+
+front_of_mac_65_535 : structure_front Mac0 [] [] 65_535 ≡ mac0 ++ 0x40 ∷ 0x40 ∷ 0x59 ∷ 0xff ∷ 0xff ∷ []
+unfolding structure_front shortest_head
+front_of_mac_65_535 = refl
+
+front_of_mac_below_2_32 : structure_front Mac0 [] [] 0xffff_ffff ≡ mac0 ++ 0x40 ∷ 0x40 ∷ 0x5a ∷ 0xff ∷ 0xff ∷ 0xff ∷ 0xff ∷ []
+unfolding structure_front shortest_head
+front_of_mac_below_2_32 = refl
+
+front_of_mac_2_32 : structure_front Mac0 [] [] 0x1_0000_0000 ≡ mac0 ++ 0x40 ∷ 0x40 ∷ 0x5b ∷ 0 ∷ 0 ∷ 0 ∷ 1 ∷ 0 ∷ 0 ∷ 0 ∷ 0 ∷ []
+unfolding structure_front shortest_head
+front_of_mac_2_32 = refl
+
 front_of_signature : structure_front Sign1 [] (0x2a ∷ []) 0 ≡ signature1 ++ 0x40 ∷ 0x41 ∷ 0x2a ∷ 0x40 ∷ []
 unfolding structure_front shortest_head
 front_of_signature = refl
-
--- The key "Jefe" of RFC 4231 section 4.3, as a block, and the blocks XOR ipad and XOR opad.
-abbrev jefe : List ℕ
-jefe = 0x4a ∷ 0x65 ∷ 0x66 ∷ 0x65 ∷ []
-
-short_key : key_block (function_of Sha256) jefe ≡ jefe ++ replicate 60 0
-unfolding key_block
-short_key = refl
-
-short_key_of_sha384 : key_block (function_of Sha384) jefe ≡ jefe ++ replicate 124 0
-unfolding key_block
-short_key_of_sha384 = refl
-
-short_key_of_sha512 : key_block (function_of Sha512) jefe ≡ jefe ++ replicate 124 0
-unfolding key_block
-short_key_of_sha512 = refl
-
--- A key as long as a block stays as it is.
-key_of_a_block : key_block (function_of Sha256) (replicate 64 0xaa) ≡ replicate 64 0xaa
-unfolding key_block
-key_of_a_block = refl
-
-inner_block : xor_pad (key_block (function_of Sha256) jefe) ipad ≡ 0x7c ∷ 0x53 ∷ 0x50 ∷ 0x53 ∷ replicate 60 0x36
-unfolding key_block xor_pad
-inner_block = refl
-
-outer_block : xor_pad (key_block (function_of Sha256) jefe) opad ≡ 0x16 ∷ 0x39 ∷ 0x3a ∷ 0x39 ∷ replicate 60 0x5c
-unfolding key_block xor_pad
-outer_block = refl

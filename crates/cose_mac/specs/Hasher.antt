@@ -1,8 +1,8 @@
 -- What a hasher holds.
 use Rattle.std.specs.Prelude.{ℕ, List}
 use Rattle.sha2.specs.Hashers.{Holds256, Holds384, Holds512}
-use Rattle.cose_mac.specs.declared.hasher.Hash.{Hash}
-use Rattle.cose_mac.specs.declared.hasher.Hash.TheVariants.{Sha256, Sha384, Sha512}
+use Rattle.cose_head.specs.declared.algorithm.Hash.{Hash}
+use Rattle.cose_head.specs.declared.algorithm.Hash.TheVariants.{Sha256, Sha384, Sha512}
 use Rattle.cose_mac.specs.declared.hasher.Hasher.{Hasher}
 use Rattle.cose_mac.specs.declared.hasher.Hasher.TheVariants as Hashers
 

@@ -1,6 +1,8 @@
--- HMAC (RFC 2104 section 2), over whole lists.
-use Rattle.std.specs.Prelude.{ℕ, ◌-◌, List, ◌++◌, length, map, replicate, bit_xor, nat_lt, if◌then◌else◌}
-use Rattle.cose_mac.specs.Hash.{HashFunction}
+-- HMAC (RFC 2104 section 2), over whole lists, and the MACs that the algorithms make with it.
+use Rattle.std.specs.Prelude.{ℕ, ◌-◌, List, ◌++◌, length, map, replicate, take, bit_xor, nat_lt, if◌then◌else◌}
+use Rattle.cose_head.specs.Algorithm.{auth_length_of}
+use Rattle.cose_head.specs.declared.algorithm.Alg.{Alg}
+use Rattle.cose_mac.specs.Hash.{HashFunction, function_of_algorithm}
 
 -- the bytes that are repeated over a block
 abbrev pub ipad : ℕ
@@ -27,3 +29,7 @@ unfoldable pub hmac : HashFunction → List ℕ → List ℕ → List ℕ
 hmac hash key text =
     let k = key_block hash key in
     hash.digest (xor_pad k opad ++ hash.digest (xor_pad k ipad ++ text))
+
+-- The MAC of a message: its HMAC, cut to the leftmost bytes (RFC 9053 section 3.1).
+unfoldable pub mac : Alg → List ℕ → List ℕ → List ℕ
+mac alg key message = take (auth_length_of alg) (hmac (function_of_algorithm alg) key message)

@@ -1,6 +1,6 @@
 pub mod Hash
 pub mod Hmac
-pub mod Algorithm
 pub mod Hasher
-pub mod Fed
+pub mod Running
 pub mod Structure
+pub mod Laws

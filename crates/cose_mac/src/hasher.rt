@@ -1,42 +1,12 @@
 //! A hasher of any of the hash functions that the algorithms use (FIPS 180-4).
 
-ghost use Rattle.std.specs.Prelude.{◌≡◌, ◌≤◌, List, ℕ, [], ◌++◌};
+ghost use Rattle.std.specs.Prelude.{◌≡◌, List, ℕ, [], ◌++◌};
 ghost use Rattle.cose_mac.specs.Hash.{function_of};
 ghost use Rattle.cose_mac.specs.Hasher.{Holds};
 
 use arrayvec::ArrayVec;
+use cose_head::Hash;
 use sha2::{Digest, Sha256, Sha384, Sha512};
-
-/// A hash function of FIPS 180-4.
-#[derive(Clone, Copy)]
-pub(crate) enum Hash {
-    Sha256,
-    Sha384,
-    Sha512,
-}
-
-impl Hash {
-    /// The number of bytes of the blocks that the function works on.
-    pub(crate) fn block_length(self) -> usize
-        ensures value { result ≡ (function_of self).block_length }
-        ensures at_least { 64 ≤ result }
-        ensures at_most { result ≤ 128 }
-    {
-        match self {
-            Hash::Sha256 => 64,
-            Hash::Sha384 | Hash::Sha512 => 128,
-        }
-    }
-
-    /// The digest of a whole message.
-    pub(crate) fn digest(self, message: &[u8]) -> ArrayVec<u8, 64>
-        ensures { result.items ≡ (function_of self).digest message.now }
-    {
-        let mut hasher = Hasher::new(self);
-        hasher.update(message);
-        hasher.finish()
-    }
-}
 
 /// A message that is being hashed, piece by piece.
 #[derive(Drop)]

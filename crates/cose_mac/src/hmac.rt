@@ -4,8 +4,9 @@ ghost use Rattle.std.specs.Prelude.{◌≡◌, ◌≤◌, length};
 ghost use Rattle.cose_mac.specs.Hash.{function_of};
 ghost use Rattle.cose_mac.specs.Hmac as spec;
 
-use crate::hasher::Hash;
+use crate::hash::{block_length, digest};
 use arrayvec::ArrayVec;
+use cose_head::Hash;
 
 /// A block of any of the hash functions.
 pub(crate) type Block = ArrayVec<u8, 128>;
@@ -21,11 +22,11 @@ pub(crate) const OPAD: u8 = 0x5c;
 pub(crate) fn key_block(hash: Hash, key: &[u8]) -> Block
     ensures { result.items ≡ spec.key_block (function_of hash) key.now }
 {
-    let length = hash.block_length();
+    let length = block_length(hash);
     let mut block = Block::new();
     // What is at most as long as a block fits into it.
     let _ = if length < key.len() {
-        block.try_extend_from_slice(&hash.digest(key))
+        block.try_extend_from_slice(&digest(hash, key))
     } else {
         block.try_extend_from_slice(key)
     };

@@ -1,16 +1,35 @@
-//! The authentication of COSE messages (RFC 9052 sections 4.4 and 6.3): the algorithms, and running
-//! MACs and digests of the bytes that are authenticated.
+//! The authentication of COSE messages (RFC 9052 sections 4.4 and 6.3): running MACs and digests of the bytes that are
+//! authenticated, and the structures that these bytes make.
+//!
+//! The MAC of a COSE_Mac0 is that of its MAC_structure: what stands before the payload goes in by [`structure_front`],
+//! and then the payload in pieces of any length. Here the protected header is {1: 4}, which names HMAC 256/64:
+//!
+//! ```rust
+//! use cose_mac::{Alg, Kind, Running, structure_front};
+//!
+//! let protected = b"\xa1\x01\x04";
+//! let mut running = Running::hmac(Alg::Hmac64, b"Jefe");
+//! structure_front(Kind::Mac0, protected, b"", 11, &mut running);
+//! running.update(b"hello ");
+//! running.update(b"world");
+//! let mac = running.finish_mac();
+//! assert_eq!(rt; mac.as_slice(), b"\x7a\x06\x73\x54\x1f\xac\xc3\xd1".as_slice());
+//! ```
+//!
+//! A signature is made of a digest: [`Running::digest`] in the place of [`Running::hmac`], [`Kind::Sign1`], and at the
+//! end [`Running::finish_digest`]. Which of both an algorithm takes says [`Alg::is_mac`], and the length of its MACs or
+//! signatures [`Alg::auth_length`].
 #![tactic(auto)]
 
-mod alg;
+mod hash;
 mod hasher;
 mod hmac;
+pub mod laws;
 mod running;
 mod structure;
 #[cfg(test)]
 mod tests;
 
-pub use alg::Alg;
-pub use cose_head::Kind;
+pub use cose_head::{Alg, Kind};
 pub use running::Running;
 pub use structure::structure_front;

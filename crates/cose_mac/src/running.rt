@@ -2,12 +2,13 @@
 
 ghost use Rattle.std.specs.Prelude.{◌≡◌, ℕ, List, [], ◌++◌, IsTrue, IsFalse};
 ghost use Rattle.arrayvec.specs.ArrayVec.{array_vec_len};
-ghost use Rattle.cose_mac.specs.Algorithm.{is_mac_of, auth_length_of, mac, digest_of, digest_length_of};
+ghost use Rattle.cose_head.specs.Algorithm.{is_mac_of, auth_length_of};
+ghost use Rattle.cose_mac.specs.Hash.{digest_of, digest_length_of};
 
-use crate::alg::Alg;
 use crate::hasher::Hasher;
 use crate::hmac::{Block, IPAD, OPAD, key_block, xor_pad};
 use arrayvec::ArrayVec;
+use cose_head::Alg;
 
 /// A MAC or a digest of a message that comes in pieces.
 ///
@@ -21,11 +22,11 @@ pub struct Running {
 }
 
 impl Running {
-    ghost use Rattle.cose_mac.specs.Fed.{FedMac, FedDigest, Appends, makes_mac};
+    ghost use Rattle.cose_mac.specs.Running.{FedMac, FedDigest, Appends, IsMacOf, makes_mac};
 
     /// The MAC of the empty message under a key of any length (RFC 2104).
     ///
-    /// The algorithm must be one of MACs: [`Alg::is_mac`] tells it.
+    /// The algorithm must be one of MACs: [`Alg::is_mac`] says so.
     pub fn hmac(alg: Alg, key: &[u8]) -> Running
         requires { IsTrue (is_mac_of alg) }
         ensures { FedMac result alg key.now [] }
@@ -43,7 +44,7 @@ impl Running {
 
     /// The digest of the empty message, for a signature.
     ///
-    /// The algorithm must be one of signatures: [`Alg::is_mac`] denies it.
+    /// The algorithm must be one of signatures: [`Alg::is_mac`] is false.
     pub fn digest(alg: Alg) -> Running
         requires { IsFalse (is_mac_of alg) }
         ensures { FedDigest result alg [] }
@@ -72,21 +73,20 @@ impl Running {
     /// The MAC of the message, cut to the algorithm's length: [`Alg::auth_length`] bytes.
     pub fn finish_mac(self) -> ArrayVec<u8, 64>
         requires { IsTrue (makes_mac self) }
-        ensures value { (alg : Alg) (key message : List ℕ)
-            → FedMac self alg key message → result.items ≡ mac alg key message }
+        ensures value { IsMacOf self result.items }
         ensures length { (alg : Alg) (key message : List ℕ)
             → FedMac self alg key message → array_vec_len result ≡ auth_length_of alg }
     {
         let mut outer = Hasher::new(self.alg.hash());
         outer.update(&self.outer.unwrap());
         outer.update(&self.hasher.finish());
-        let mut tag = outer.finish();
-        tag.truncate(self.alg.auth_length());
-        tag
+        let mut mac = outer.finish();
+        mac.truncate(self.alg.auth_length());
+        mac
     }
 
     /// The digest of the message.
-    #[tactic(auto, unfolding(crate::specs::Algorithm::digest_of))]
+    #[tactic(auto, unfolding(crate::specs::Hash::digest_of))]
     pub fn finish_digest(self) -> ArrayVec<u8, 64>
         requires { IsFalse (makes_mac self) }
         ensures value { (alg : Alg) (message : List ℕ)

@@ -2,7 +2,7 @@
 
 ghost use Rattle.std.specs.Prelude.{◌≡◌, ◌≤◌, ℕ, List, ◌++◌, length};
 ghost use Rattle.cose_head.specs.Head.{shortest_head};
-ghost use Rattle.cose_mac.specs.Fed.{Appends};
+ghost use Rattle.cose_mac.specs.Running.{Appends};
 ghost use Rattle.cose_mac.specs.Structure as spec;
 
 use crate::running::Running;
@@ -33,7 +33,7 @@ fn update_head(into: &mut Running, major: u8, argument: u64)
 }
 
 /// Appends a string with its shortest head.
-#[tactic(auto, using(crate::proofs::Appending::append_both))]
+#[tactic(auto, using(crate::proofs::RunningLemmas::append_both))]
 fn update_string(into: &mut Running, major: u8, content: &[u8])
     requires { major ≤ 6 }
     ensures { Appends into.old into.new (spec.encoded_string major content.now) }
@@ -47,7 +47,7 @@ fn update_string(into: &mut Running, major: u8, content: &[u8])
 ///
 /// `protected` is the content of the protected bucket as received, or empty where the bucket has no
 /// parameters; `aad` is the externally supplied data; `payload_length` counts bytes.
-#[tactic(auto, using(crate::proofs::Front::front_with_payload))]
+#[tactic(auto, using(crate::proofs::StructureLemmas::front_with_payload))]
 pub fn structure_front(
     kind: Kind,
     protected: &[u8],

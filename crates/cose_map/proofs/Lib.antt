@@ -1,15 +1,5 @@
+pub mod lemmas
+pub mod WorkedLabels
 pub mod WorkedBuckets
-pub mod Labels
-pub mod MapSteps
-pub mod Buckets
-pub mod PairFaults
-pub mod LeastFaults
 pub mod WorkedKeys
-pub mod KeyItems
 pub mod WorkedChoice
-pub mod LabelOrders
-pub mod Searches
-pub mod EachFault
-pub mod Inside
-pub mod ReadReasons
-pub mod Reasons

@@ -9,9 +9,11 @@ use Rattle.cose_head.specs.Item.{depth_of}
 use Rattle.cose_head.specs.Reading.{read, head}
 use Rattle.cose_head.specs.Placed.{Placed, look, children_of, items_from, head_of_item}
 use Rattle.cose_map.specs.Label.{LabelValue, number, words}
-use Rattle.cose_map.specs.Maps.{Read, Pair, check_pairs}
-use Rattle.cose_map.specs.Bucket.{bucket_of, bucket_table}
-use Rattle.cose_map.specs.PairFault.{pair_faults, least}
+use Rattle.cose_map.specs.Map.Read.{Read, check_pairs}
+use Rattle.cose_map.specs.Map.Pairs.{Pair}
+use Rattle.cose_map.specs.Bucket.{bucket_of}
+use Rattle.cose_map.specs.Bucket.Form.{bucket_table}
+use Rattle.cose_map.specs.Bucket.Both.{pair_faults, least}
 
 abbrev placed : ℕ → List ℕ → Placed
 placed place bytes = record { bytes = bytes; place = place }
@@ -20,8 +22,8 @@ unfoldable bucket : ℕ → List ℕ → Read (List Pair)
 unfolding bucket_of bucket_table check_pairs children_of items_from look head_of_item bare_head read head depth_of is_utf8 chars lib.Utf8.encode
 bucket place bytes = bucket_of 4 (placed place bytes)
 
-abbrev fault : Reason → ℕ → Read (List Pair)
-fault reason place = Err (record { reason = reason; place = place })
+abbrev refused : Reason → ℕ → Read (List Pair)
+refused reason place = Err (record { reason = reason; place = place })
 
 empty : bucket 0 [] ≡ Ok []
 unfolding bucket
@@ -31,27 +33,27 @@ empty_map : bucket 0 (0xa0 ∷ []) ≡ Ok []
 unfolding bucket
 empty_map = refl
 
-empty_crit : bucket 0 (0xa2 ∷ 1 ∷ 5 ∷ 2 ∷ 0x80 ∷ []) ≡ fault BadValue 4
+empty_crit : bucket 0 (0xa2 ∷ 1 ∷ 5 ∷ 2 ∷ 0x80 ∷ []) ≡ refused BadValue 4
 unfolding bucket
 empty_crit = refl
 
-bytes_as_alg : bucket 0 (0xa1 ∷ 1 ∷ 0x40 ∷ []) ≡ fault BadValue 2
+bytes_as_alg : bucket 0 (0xa1 ∷ 1 ∷ 0x40 ∷ []) ≡ refused BadValue 2
 unfolding bucket
 bytes_as_alg = refl
 
-negative_content_type : bucket 0 (0xa1 ∷ 3 ∷ 0x20 ∷ []) ≡ fault BadValue 2
+negative_content_type : bucket 0 (0xa1 ∷ 3 ∷ 0x20 ∷ []) ≡ refused BadValue 2
 unfolding bucket
 negative_content_type = refl
 
-bytes_in_crit : bucket 0 (0xa1 ∷ 2 ∷ 0x81 ∷ 0x40 ∷ []) ≡ fault BadValue 2
+bytes_in_crit : bucket 0 (0xa1 ∷ 2 ∷ 0x81 ∷ 0x40 ∷ []) ≡ refused BadValue 2
 unfolding bucket
 bytes_in_crit = refl
 
-no_utf8 : bucket 0 (0xa1 ∷ 0x61 ∷ 0xff ∷ 0 ∷ []) ≡ fault BadLabel 1
+no_utf8 : bucket 0 (0xa1 ∷ 0x61 ∷ 0xff ∷ 0 ∷ []) ≡ refused BadLabel 1
 unfolding bucket
 no_utf8 = refl
 
-minus_one_twice : bucket 0 (0xa2 ∷ 0x20 ∷ 0 ∷ 0x38 ∷ 0 ∷ 0 ∷ []) ≡ fault DuplicateLabel 3
+minus_one_twice : bucket 0 (0xa2 ∷ 0x20 ∷ 0 ∷ 0x38 ∷ 0 ∷ 0 ∷ []) ≡ refused DuplicateLabel 3
 unfolding bucket
 minus_one_twice = refl
 
@@ -61,35 +63,35 @@ number_and_words : bucket 0 (0xa2 ∷ 1 ∷ 5 ∷ 0x61 ∷ 0x31 ∷ 0 ∷ []) �
 unfolding bucket
 number_and_words = refl
 
-reading_goes_first : bucket 0 (0xa2 ∷ 0x0a ∷ 0 ∷ 0x0a ∷ 0x41 ∷ []) ≡ fault PastRoom 4
+reading_goes_first : bucket 0 (0xa2 ∷ 0x0a ∷ 0 ∷ 0x0a ∷ 0x41 ∷ []) ≡ refused PastRoom 4
 unfolding bucket
 reading_goes_first = refl
 
-same_number_twice : bucket 3 (0xa2 ∷ 1 ∷ 5 ∷ 0x18 ∷ 1 ∷ 5 ∷ []) ≡ fault DuplicateLabel 6
+same_number_twice : bucket 3 (0xa2 ∷ 1 ∷ 5 ∷ 0x18 ∷ 1 ∷ 5 ∷ []) ≡ refused DuplicateLabel 6
 unfolding bucket
 same_number_twice = refl
 
-too_deep : bucket 6 (0xa1 ∷ 0x0a ∷ 0x81 ∷ 0x81 ∷ 0x81 ∷ 0x81 ∷ 0 ∷ []) ≡ fault TooDeep 11
+too_deep : bucket 6 (0xa1 ∷ 0x0a ∷ 0x81 ∷ 0x81 ∷ 0x81 ∷ 0x81 ∷ 0 ∷ []) ≡ refused TooDeep 11
 unfolding bucket
 too_deep = refl
 
-byte_after : bucket 3 (0xa1 ∷ 1 ∷ 5 ∷ 0 ∷ []) ≡ fault Trailing 6
+byte_after : bucket 3 (0xa1 ∷ 1 ∷ 5 ∷ 0 ∷ []) ≡ refused Trailing 6
 unfolding bucket
 byte_after = refl
 
-no_map : bucket 3 (0x80 ∷ []) ≡ fault NotMap 3
+no_map : bucket 3 (0x80 ∷ []) ≡ refused NotMap 3
 unfolding bucket
 no_map = refl
 
-past_room : bucket 3 (0xa2 ∷ 1 ∷ 5 ∷ []) ≡ fault PastRoom 3
+past_room : bucket 3 (0xa2 ∷ 1 ∷ 5 ∷ []) ≡ refused PastRoom 3
 unfolding bucket
 past_room = refl
 
-bytes_as_label : bucket 6 (0xa1 ∷ 0x40 ∷ 0 ∷ []) ≡ fault BadLabel 7
+bytes_as_label : bucket 6 (0xa1 ∷ 0x40 ∷ 0 ∷ []) ≡ refused BadLabel 7
 unfolding bucket
 bytes_as_label = refl
 
-number_as_kid : bucket 6 (0xa1 ∷ 4 ∷ 0 ∷ []) ≡ fault BadValue 8
+number_as_kid : bucket 6 (0xa1 ∷ 4 ∷ 0 ∷ []) ≡ refused BadValue 8
 unfolding bucket
 number_as_kid = refl
 

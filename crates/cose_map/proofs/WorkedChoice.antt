@@ -1,10 +1,10 @@
 -- The choice of the key on examples, by computing.
-use Rattle.std.proofs.Common.{◌≡◌, ℕ, ℤ, pos, negsuc, List, [], ◌∷◌, Option, Some, None, Result, Ok, Err, refl}
-use Rattle.cose_head.specs.declared.kind.Kind.TheVariants.{Mac0}
+use Rattle.std.proofs.Common.{◌≡◌, ℕ, ℤ, pos, negsuc, true, List, [], ◌∷◌, Option, Some, None, Result, Ok, Err, map, refl}
+use Rattle.cose_head.specs.declared.kind.Kind.TheVariants.{Mac0, Sign1}
 use Rattle.cose_head.specs.declared.reason.Reason.{Reason}
 use Rattle.cose_head.specs.declared.reason.Reason.TheVariants.{NoAlg, UnknownAlg, AlgUnprotected, NoKey, AmbiguousKey}
 use Rattle.cose_map.specs.Label.{LabelValue, number, words}
-use Rattle.cose_map.specs.KeyValue.{KeyValue, symmetric}
+use Rattle.cose_map.specs.Key.Value.{KeyValue, symmetric, elliptic, sign}
 use Rattle.cose_map.specs.Choice.{Question, chosen}
 
 abbrev secret : Option (List ℕ) → Option LabelValue → Option (List ℤ) → List ℕ → KeyValue
@@ -75,3 +75,146 @@ one_operation = refl
 no_kid_fits_each : answer five None (Some one) (plain ∷ []) ≡ Ok (plain, pos 5)
 unfolding answer
 no_kid_fits_each = refl
+
+-- The algorithms for MACs are 4 to 7, and no other number is one.
+macs : map (λ n. answer (Some (number n)) None None (plain ∷ [])) (pos 4 ∷ pos 5 ∷ pos 6 ∷ pos 7 ∷ [])
+    ≡ Ok (plain, pos 4) ∷ Ok (plain, pos 5) ∷ Ok (plain, pos 6) ∷ Ok (plain, pos 7) ∷ []
+unfolding answer
+macs = refl
+
+no_macs : map (λ n. answer (Some (number n)) None None (plain ∷ [])) (pos 3 ∷ pos 8 ∷ pos 0 ∷ negsuc 3 ∷ negsuc 6 ∷ [])
+    ≡ Err UnknownAlg ∷ Err UnknownAlg ∷ Err UnknownAlg ∷ Err UnknownAlg ∷ Err UnknownAlg ∷ []
+unfolding answer
+no_macs = refl
+
+-- A point on P-256, which is curve 1, is for ES256 (-7); a point on another curve, or a secret, isn't, and a point makes no MAC.
+abbrev point : ℕ → KeyValue
+point curve = record { kid = None; alg = None; operations = None; material = elliptic curve (7 ∷ []) (sign true) }
+
+abbrev asks_signature : Option LabelValue → Question
+asks_signature protected = record { kind = Sign1; operation = pos 2; protected_alg = protected; unprotected_alg = None; kid = None }
+
+unfoldable signed : Option LabelValue → List KeyValue → Result (KeyValue × ℤ) Reason
+unfolding chosen
+signed protected keys = chosen (asks_signature protected) keys
+
+abbrev es256 : Option LabelValue
+es256 = Some (number (negsuc 6))
+
+signature : signed es256 (point 1 ∷ []) ≡ Ok (point 1, negsuc 6)
+unfolding signed
+signature = refl
+
+no_signatures : map (λ n. signed (Some (number n)) (point 1 ∷ [])) (negsuc 5 ∷ negsuc 7 ∷ negsuc 36 ∷ [])
+    ≡ Err UnknownAlg ∷ Err UnknownAlg ∷ Err UnknownAlg ∷ []
+unfolding signed
+no_signatures = refl
+
+other_curve : signed es256 (point 2 ∷ []) ≡ Err NoKey
+unfolding signed
+other_curve = refl
+
+secret_for_signature : signed es256 (plain ∷ []) ≡ Err NoKey
+unfolding signed
+secret_for_signature = refl
+
+mac_for_signature : signed five (plain ∷ []) ≡ Err UnknownAlg
+unfolding signed
+mac_for_signature = refl
+
+point_for_mac : answer five None None (point 1 ∷ []) ≡ Err NoKey
+unfolding answer
+point_for_mac = refl
+
+own_algorithm_of_other_kind : answer None None None (secret None (Some (number (negsuc 6))) None (0x61 ∷ []) ∷ []) ≡ Err NoAlg
+unfolding answer
+own_algorithm_of_other_kind = refl
+
+-- The protected bucket's algorithm counts, whatever the unprotected one's is.
+protected_first : answer five (Some (number (pos 99))) None (plain ∷ []) ≡ Ok (plain, pos 5)
+unfolding answer
+protected_first = refl
+
+protected_unknown : answer (Some (number (pos 99))) five None (plain ∷ []) ≡ Err UnknownAlg
+unfolding answer
+protected_unknown = refl
+
+unprotected_unknown : answer None (Some (number (negsuc 6))) None (for_five ∷ []) ≡ Err UnknownAlg
+unfolding answer
+unprotected_unknown = refl
+
+unprotected_differs : answer None (Some (number (pos 4))) None (for_five ∷ []) ≡ Err AlgUnprotected
+unfolding answer
+unprotected_differs = refl
+
+-- An unknown algorithm goes before everything that the keys decide.
+unknown_without_keys : answer (Some (number (pos 99))) None None [] ≡ Err UnknownAlg
+unfolding answer
+unknown_without_keys = refl
+
+unknown_with_two_keys : answer (Some (number (pos 99))) None None (plain ∷ plain ∷ []) ≡ Err UnknownAlg
+unfolding answer
+unknown_with_two_keys = refl
+
+-- Without keys.
+no_keys : answer five None None [] ≡ Err NoKey
+unfolding answer
+no_keys = refl
+
+no_keys_unprotected : answer None five None [] ≡ Err AlgUnprotected
+unfolding answer
+no_keys_unprotected = refl
+
+no_keys_no_algorithm : answer None None None [] ≡ Err NoAlg
+unfolding answer
+no_keys_no_algorithm = refl
+
+-- Identifiers: equal ones, different ones, and a message without one.
+abbrev two : List ℕ
+two = 0x32 ∷ []
+
+abbrev named : KeyValue
+named = secret (Some one) (Some (number (pos 5))) None (0x61 ∷ [])
+
+same_kid : answer five None (Some one) (named ∷ []) ≡ Ok (named, pos 5)
+unfolding answer
+same_kid = refl
+
+other_kid : answer five None (Some two) (named ∷ []) ≡ Err NoKey
+unfolding answer
+other_kid = refl
+
+kid_unasked : answer five None None (named ∷ []) ≡ Ok (named, pos 5)
+unfolding answer
+kid_unasked = refl
+
+-- Whatever made no key fit, the algorithm's absence goes first.
+other_kid_unprotected : answer None five (Some two) (named ∷ []) ≡ Err AlgUnprotected
+unfolding answer
+other_kid_unprotected = refl
+
+other_kid_no_algorithm : answer None None (Some two) (named ∷ []) ≡ Err NoAlg
+unfolding answer
+other_kid_no_algorithm = refl
+
+-- Operations: one that verifies, and none.
+verifies : answer five None None (secret None None (Some (pos 9 ∷ pos 10 ∷ [])) (0x61 ∷ []) ∷ []) ≡ Ok (secret None None (Some (pos 9 ∷ pos 10 ∷ [])) (0x61 ∷ []), pos 5)
+unfolding answer
+verifies = refl
+
+no_operations : answer five None None (secret None None (Some []) (0x61 ∷ []) ∷ []) ≡ Err NoKey
+unfolding answer
+no_operations = refl
+
+-- Three keys, of which the first and the last fit; and two that fit for algorithms of their own.
+first_and_last : answer five None None (plain ∷ secret None (Some (number (pos 4))) None (0x61 ∷ []) ∷ for_five ∷ []) ≡ Err AmbiguousKey
+unfolding answer
+first_and_last = refl
+
+own_algorithms : answer None None None (for_five ∷ secret None (Some (number (pos 7))) None (0x61 ∷ []) ∷ []) ≡ Err AmbiguousKey
+unfolding answer
+own_algorithms = refl
+
+last_one : answer (Some (number (pos 7))) None None (for_five ∷ secret None (Some (number (pos 4))) None (0x61 ∷ []) ∷ plain ∷ []) ≡ Ok (plain, pos 7)
+unfolding answer
+last_one = refl

@@ -8,12 +8,12 @@ use Rattle.cose_head.specs.Item.{depth_of}
 use Rattle.cose_head.specs.Reading.{read, head}
 use Rattle.cose_head.specs.Placed.{look, children_of, items_from, head_of_item}
 use Rattle.cose_map.specs.Label.{LabelValue, number}
-use Rattle.cose_map.specs.Maps.{Read, check_pairs}
+use Rattle.cose_map.specs.Map.Read.{Read, check_pairs}
 use Rattle.cose_map.specs.Key.{key_of}
-use Rattle.cose_map.specs.KeyForm.{key_table}
-use Rattle.cose_map.specs.Material.{material_of}
+use Rattle.cose_map.specs.Key.Form.{key_table}
+use Rattle.cose_map.specs.Key.Material.{material_of}
 use Rattle.cose_map.specs.KeySet.{keys_of}
-use Rattle.cose_map.specs.KeyValue.{KeyValue, symmetric, elliptic, sign}
+use Rattle.cose_map.specs.Key.Value.{KeyValue, symmetric, elliptic, sign}
 
 unfoldable keys : List ℕ → Read (List KeyValue)
 unfolding keys_of key_of key_table material_of check_pairs children_of items_from look head_of_item bare_head read head depth_of is_utf8 chars lib.Utf8.encode
@@ -23,8 +23,8 @@ unfoldable key : List ℕ → Read KeyValue
 unfolding key_of key_table material_of check_pairs children_of items_from look head_of_item bare_head read head depth_of is_utf8 chars lib.Utf8.encode
 key bytes = key_of (record { bytes = bytes; place = 0 })
 
-abbrev fault : {A : Type 0} → Reason → ℕ → Read A
-fault reason place = Err (record { reason = reason; place = place })
+abbrev refused : {A : Type 0} → Reason → ℕ → Read A
+refused reason place = Err (record { reason = reason; place = place })
 
 -- The bytes of 'Jefe', alone and for HMAC 256/256 only.
 abbrev jefe : List ℕ
@@ -41,15 +41,15 @@ key_for_one_algorithm : keys (0xa3 ∷ 1 ∷ 4 ∷ 3 ∷ 5 ∷ 0x20 ∷ 0x44 ∷
 unfolding keys
 key_for_one_algorithm = refl
 
-no_bytes : keys [] ≡ fault PastRoom 0
+no_bytes : keys [] ≡ refused PastRoom 0
 unfolding keys
 no_bytes = refl
 
-empty_array : keys (0x80 ∷ []) ≡ fault BadKeySet 0
+empty_array : keys (0x80 ∷ []) ≡ refused BadKeySet 0
 unfolding keys
 empty_array = refl
 
-a_number : keys (0 ∷ []) ≡ fault BadKeySet 0
+a_number : keys (0 ∷ []) ≡ refused BadKeySet 0
 unfolding keys
 a_number = refl
 
@@ -61,11 +61,11 @@ no_key : keys (0x81 ∷ 0 ∷ []) ≡ Ok []
 unfolding keys
 no_key = refl
 
-byte_after : keys (0xa2 ∷ 1 ∷ 4 ∷ 0x20 ∷ 0x44 ∷ jefe ++ 0 ∷ []) ≡ fault Trailing 9
+byte_after : keys (0xa2 ∷ 1 ∷ 4 ∷ 0x20 ∷ 0x44 ∷ jefe ++ 0 ∷ []) ≡ refused Trailing 9
 unfolding keys
 byte_after = refl
 
-byte_missing : keys (0xa2 ∷ 1 ∷ 4 ∷ 0x20 ∷ 0x44 ∷ 0x4a ∷ 0x65 ∷ 0x66 ∷ []) ≡ fault PastRoom 4
+byte_missing : keys (0xa2 ∷ 1 ∷ 4 ∷ 0x20 ∷ 0x44 ∷ 0x4a ∷ 0x65 ∷ 0x66 ∷ []) ≡ refused PastRoom 4
 unfolding keys
 byte_missing = refl
 
@@ -74,23 +74,23 @@ unknown_type : keys (0x82 ∷ 0xa2 ∷ 1 ∷ 1 ∷ 0x20 ∷ 6 ∷ 0xa2 ∷ 1 ∷
 unfolding keys
 unknown_type = refl
 
-no_type : key (0xa0 ∷ []) ≡ fault BadValue 0
+no_type : key (0xa0 ∷ []) ≡ refused BadValue 0
 unfolding key
 no_type = refl
 
-other_type : key (0xa2 ∷ 1 ∷ 1 ∷ 0x20 ∷ 6 ∷ []) ≡ fault UnknownKey 0
+other_type : key (0xa2 ∷ 1 ∷ 1 ∷ 0x20 ∷ 6 ∷ []) ≡ refused UnknownKey 0
 unfolding key
 other_type = refl
 
-empty_secret : key (0xa2 ∷ 1 ∷ 4 ∷ 0x20 ∷ 0x40 ∷ []) ≡ fault BadValue 4
+empty_secret : key (0xa2 ∷ 1 ∷ 4 ∷ 0x20 ∷ 0x40 ∷ []) ≡ refused BadValue 4
 unfolding key
 empty_secret = refl
 
-missing_secret : key (0xa1 ∷ 1 ∷ 4 ∷ []) ≡ fault BadValue 0
+missing_secret : key (0xa1 ∷ 1 ∷ 4 ∷ []) ≡ refused BadValue 0
 unfolding key
 missing_secret = refl
 
-no_operation : key (0xa3 ∷ 1 ∷ 4 ∷ 4 ∷ 0x80 ∷ 0x20 ∷ 0x41 ∷ 0x61 ∷ []) ≡ fault BadValue 4
+no_operation : key (0xa3 ∷ 1 ∷ 4 ∷ 4 ∷ 0x80 ∷ 0x20 ∷ 0x41 ∷ 0x61 ∷ []) ≡ refused BadValue 4
 unfolding key
 no_operation = refl
 
@@ -108,14 +108,14 @@ sign_of_y : key (0xa4 ∷ 1 ∷ 2 ∷ 0x20 ∷ 1 ∷ 0x21 ∷ 0x58 ∷ 32 ∷ po
 unfolding key
 sign_of_y = refl
 
-other_curve : key (0xa2 ∷ 1 ∷ 2 ∷ 0x20 ∷ 2 ∷ []) ≡ fault UnknownKey 0
+other_curve : key (0xa2 ∷ 1 ∷ 2 ∷ 0x20 ∷ 2 ∷ []) ≡ refused UnknownKey 0
 unfolding key
 other_curve = refl
 
-short_x : key (0xa3 ∷ 1 ∷ 2 ∷ 0x20 ∷ 1 ∷ 0x21 ∷ 0x41 ∷ 7 ∷ []) ≡ fault BadValue 6
+short_x : key (0xa3 ∷ 1 ∷ 2 ∷ 0x20 ∷ 1 ∷ 0x21 ∷ 0x41 ∷ 7 ∷ []) ≡ refused BadValue 6
 unfolding key
 short_x = refl
 
-missing_y : key (0xa3 ∷ 1 ∷ 2 ∷ 0x20 ∷ 1 ∷ 0x21 ∷ 0x58 ∷ 32 ∷ point) ≡ fault BadValue 0
+missing_y : key (0xa3 ∷ 1 ∷ 2 ∷ 0x20 ∷ 1 ∷ 0x21 ∷ 0x58 ∷ 32 ∷ point) ≡ refused BadValue 0
 unfolding key
 missing_y = refl

@@ -1,18 +1,21 @@
 -- Which key authenticates a message, and by which algorithm (RFC 9052 section 7.1).
+pub mod Algorithm
+pub mod View
 use Rattle.std.specs.Prelude.{ℕ, ℤ, Bool, true, false, ◌&&◌, List, [], ◌∷◌, Option, Some, None, Result, Ok, Err, is_some, filter_map, if◌then◌else◌}
 use Rattle.std.specs.List.{list_any}
 use Rattle.std.specs.Ordering.{int_eq}
 use Rattle.std.specs.Str.{bytes_eq}
+use Rattle.cose_head.specs.declared.algorithm.Alg.{Alg}
 use Rattle.cose_head.specs.declared.kind.Kind.{Kind}
 use Rattle.cose_head.specs.declared.reason.Reason.{Reason}
 use Rattle.cose_head.specs.declared.reason.Reason.TheVariants.{NoAlg, UnknownAlg, AlgUnprotected, NoKey, AmbiguousKey}
-use Rattle.cose_map.specs.declared.algorithm.KeyType.{KeyType}
-use Rattle.cose_map.specs.Algorithm.{key_type_of, has_type}
-use Rattle.cose_map.specs.KeyValue.{KeyValue, MaterialValue}
+use Rattle.cose_head.specs.Algorithm.{key_type_of}
+use Rattle.cose_map.specs.Choice.Algorithm.{algorithm_of, has_type}
+use Rattle.cose_map.specs.Key.Value.{KeyValue, MaterialValue}
 use Rattle.cose_map.specs.Label.{LabelValue, number, words, same_label}
 
 infixl 10 ◌>>=◌
-abbrev ◌>>=◌ : {A B : Type 0} → Option A → (A → Option B) → Option B
+abbrev pub ◌>>=◌ : {A B : Type 0} → Option A → (A → Option B) → Option B
 (Some x) >>= f = f x
 None >>= f = None
 
@@ -49,29 +52,29 @@ allows_kid None asked = true
 allows_kid (Some own) None = true
 allows_kid (Some own) (Some asked) = bytes_eq own asked
 
-abbrev pub is_of_type : MaterialValue → Option KeyType → Bool
-is_of_type material None = false
-is_of_type material (Some wanted) = has_type material wanted
+abbrev pub is_for : MaterialValue → Option Alg → Bool
+is_for material None = false
+is_for material (Some alg) = has_type material (key_type_of alg)
 
 -- Whether a key fits: the algorithm is one of the kind and for the key's type and curve, the key's own is the same, its
 -- operations hold the one that is asked, and the identifiers are equal.
 abbrev pub fits : Question → KeyValue → ℤ → Bool
 fits q key algorithm =
-    is_of_type key.material (key_type_of q.kind algorithm)
+    is_for key.material (algorithm_of q.kind algorithm)
     && allows_algorithm key.alg (number algorithm)
     && allows_operation key.operations q.operation
     && allows_kid key.kid q.kid
 
 -- An algorithm that a text names is none of those that are known here.
-abbrev pub algorithm_number : LabelValue → Option ℤ
-algorithm_number (number n) = Some n
-algorithm_number (words name) = None
+abbrev pub integer_in_label : LabelValue → Option ℤ
+integer_in_label (number n) = Some n
+integer_in_label (words name) = None
 
 -- The key with its algorithm, where it fits.
 abbrev pub fitting : Question → KeyValue → Option (KeyValue × ℤ)
 fitting q key = do
   alg ← algorithm_used q.protected_alg q.unprotected_alg key.alg
-  n ← algorithm_number alg
+  n ← integer_in_label alg
   if fits q key n then Some (key, n) else None
 
 -- Why no key fits.
@@ -86,7 +89,7 @@ only_one q (one ∷ []) = Ok one
 only_one q (one ∷ (another ∷ others)) = Err AmbiguousKey
 
 abbrev pub is_known : Kind → LabelValue → Bool
-is_known kind (number n) = is_some (key_type_of kind n)
+is_known kind (number n) = is_some (algorithm_of kind n)
 is_known kind (words name) = false
 
 -- The message's algorithm is that of the protected bucket, else of the unprotected. Where it is there, it is one of the kind.

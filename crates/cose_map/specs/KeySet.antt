@@ -1,11 +1,14 @@
 -- Several keys (RFC 9052 section 7): an array of keys, of which those that are no keys, or of an unknown type, are
 -- passed over. A single key is a set of one.
+pub mod Items
+pub mod View
 use Rattle.std.specs.Prelude.{ℕ, List, [], ◌∷◌, length, Option, Some, None, Ok, Err, nat_lt, ◌==◌, if◌then◌else◌, filter_map}
 use Rattle.cose_head.specs.declared.reason.Reason.TheVariants.{BadKeySet}
 use Rattle.cose_head.specs.Placed.{Placed, Look, an_array, a_map, look, children_of}
-use Rattle.cose_map.specs.Maps.{Read, refuse, whole, ◌>>=◌}
+use Rattle.cose_head.specs.Whole.{whole}
+use Rattle.cose_map.specs.Map.Read.{Read, refuse, ◌>>=◌}
 use Rattle.cose_map.specs.Key.{key_of}
-use Rattle.cose_map.specs.KeyValue.{KeyValue}
+use Rattle.cose_map.specs.Key.Value.{KeyValue}
 
 abbrev pub usable_with : Read KeyValue → Option KeyValue
 usable_with (Ok key) = Some key

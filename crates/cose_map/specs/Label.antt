@@ -1,4 +1,6 @@
 -- Labels of maps (RFC 9052 section 1.5): integers and texts, which are equal by value, whatever their spelling.
+pub mod Order
+pub mod View
 use Rattle.std.specs.Prelude.{ℕ, ℤ, Bool, false, List, Option, Some, None, bytes_eq, if◌then◌else◌}
 use Rattle.std.specs.Ordering.{int_eq}
 use Rattle.std.specs.Str.{is_utf8}

@@ -3,17 +3,20 @@
 ghost use Rattle.std.specs.Prelude.{◌≡◌, ℕ, ◌+◌, ◌<◌, ◌≤◌, ◌^◌, ◌==◌, length, option_map, IfErr};
 ghost use Rattle.cose_head.specs.ItemRef.{placed};
 ghost use Rattle.cose_head.specs.Items.{items_left};
-ghost use Rattle.cose_map.specs.Bucket.{bucket_of, value_of, alg_of, kid_of, crit_of};
-ghost use Rattle.cose_map.specs.Buckets.{bucket_pairs};
-ghost use Rattle.cose_map.specs.Maps.{has_label};
-ghost use Rattle.cose_map.specs.Pairs.{pairs_left};
-ghost use Rattle.cose_map.specs.Views.{label_value, seen_by};
+ghost use Rattle.cose_map.specs.Bucket.{bucket_of, alg_of, kid_of, crit_of};
+ghost use Rattle.cose_map.specs.Map.Pairs.{value_of, has_label};
+ghost use Rattle.cose_map.specs.Bucket.View.{bucket_pairs};
+ghost use Rattle.cose_map.specs.Map.View.{pairs_left, seen_by};
+ghost use Rattle.cose_map.specs.Label.View.{label_value};
 
-use crate::form::HeaderForm;
-use crate::header;
+pub mod both;
+mod form;
+pub mod header;
+
+use crate::bucket::form::HeaderForm;
 use crate::label::Label;
-use crate::maps::read_map;
-use crate::pairs::Pairs;
+use crate::map::pairs::Pairs;
+use crate::map::read::read_map;
 use cose_head::{ItemRef, Items, Refusal};
 
 /// A header bucket: labels, none twice, and their values.
@@ -27,7 +30,7 @@ impl<'a> Bucket<'a> {
     ///
     /// The refusal is the first fault of the reading, with [`cose_head::Reason::PastRoom`] where the bytes end early,
     /// then `Trailing`, `NotMap`, and then in the order of the pairs `BadLabel`, `DuplicateLabel` and `BadValue`.
-    #[tactic(auto, unfolding(crate::specs::Bucket::bucket_of), using(crate::proofs::Buckets::nothing_in))]
+    #[tactic(auto, unfolding(crate::specs::Bucket::bucket_of, crate::specs::Map::Pairs::pairs_of))]
     pub fn read(bytes: &'a [u8], at: u64, depth: usize) -> Result<Bucket<'a>, Refusal>
         requires shallow { depth ≤ 32 }
         requires in_range { at + length bytes.now < 2 ^ 64 }
@@ -35,8 +38,7 @@ impl<'a> Bucket<'a> {
         ensures within { IfErr result (λ refusal. refusal.place ≤ at + length bytes.now) }
     {
         if bytes.is_empty() {
-            let nothing = ItemRef { bytes, place: at };
-            let items = Items::of(&nothing);
+            let items = Items::none();
             return Ok(Bucket {
                 pairs: Pairs { items },
             });
@@ -98,3 +100,6 @@ impl<'a> Bucket<'a> {
         pairs.next().is_none()
     }
 }
+
+#[cfg(test)]
+mod tests;

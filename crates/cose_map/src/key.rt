@@ -1,19 +1,28 @@
 //! One key (RFC 9052 section 7).
 
-use crate::key_form::KeyForm;
-use crate::key_member;
+mod curve;
+mod form;
+pub mod hidden;
+mod labels;
+pub mod material;
+mod members;
+pub mod operations;
+
+use crate::key::form::KeyForm;
+use crate::key::material::Material;
+use crate::key::members::Members;
+use crate::key::operations::Ops;
 use crate::label::Label;
 use crate::laws::refusals_stand_inside;
-use crate::maps::read_map;
-use crate::material::Material;
-use crate::members::Members;
-use crate::ops::Ops;
+use crate::map::read::check_map;
 use cose_head::{ItemRef, Refusal};
 
 /// The nesting of a key or a key set.
 pub(crate) const NESTING: usize = 8;
 
 /// A key, as far as it is used: what it is for, where it says so, and what it consists of.
+///
+/// `Debug` prints how many bytes its material has, and none of them.
 #[derive(Clone, Copy, Debug)]
 pub struct Key<'a> {
     /// The identifier.
@@ -29,8 +38,8 @@ pub struct Key<'a> {
 impl<'a> Key<'a> {
     ghost use Rattle.std.specs.Prelude.{◌≡◌, ◌+◌, ◌<◌, ◌≤◌, ◌^◌, length, Ok, IfErr};
     ghost use Rattle.cose_map.specs.Key.{key_of};
-    ghost use Rattle.cose_map.specs.KeyView.{key_value};
-    ghost use Rattle.cose_map.specs.Views.{seen_by};
+    ghost use Rattle.cose_map.specs.Key.View.{key_value};
+    ghost use Rattle.cose_map.specs.Map.View.{seen_by};
 
     /// The key that a map is, read from these bytes.
     #[tactic(auto, unfolding(crate::specs::Key::key_of))]
@@ -38,15 +47,14 @@ impl<'a> Key<'a> {
         requires { at + length bytes.now < 2 ^ 64 }
         ensures { seen_by key_value result ≡ key_of (record { bytes = bytes.now; place = at }) }
     {
-        let members = Members {
-            key: ItemRef { bytes, place: at },
-            pairs: read_map(&KeyForm, bytes, at, NESTING)?,
-        };
+        let key = ItemRef::read(bytes, at, NESTING)?;
+        let pairs = check_map(&KeyForm, &key)?;
+        let members = Members { key, pairs };
         let material = members.material()?;
         Ok(Key {
-            kid: members.bytes(&key_member::KID),
-            alg: members.label(&key_member::ALG),
-            ops: members.ops(&key_member::KEY_OPS),
+            kid: members.bytes(&labels::KID),
+            alg: members.label(&labels::ALG),
+            ops: members.ops(&labels::KEY_OPS),
             material,
         })
     }
@@ -55,7 +63,7 @@ impl<'a> Key<'a> {
     ///
     /// The refusal is the first fault of the reading, then of the map's pairs in their order, then of the members that
     /// the key's type wants.
-    #[tactic(auto, using(crate::proofs::Inside::seen_inside))]
+    #[tactic(auto, using(crate::proofs::lemmas::Laws::Inside::seen_inside))]
     pub fn read(bytes: &'a [u8], at: u64) -> Result<Key<'a>, Refusal>
         requires { at + length bytes.now < 2 ^ 64 }
         ensures exact { seen_by key_value result ≡ key_of (record { bytes = bytes.now; place = at }) }

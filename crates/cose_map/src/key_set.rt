@@ -3,19 +3,25 @@
 ghost use Rattle.std.specs.Prelude.{◌≡◌, option_map};
 ghost use Rattle.cose_head.specs.ItemRef.{placed};
 ghost use Rattle.cose_map.specs.KeySet.{usable as usable_key};
-ghost use Rattle.cose_map.specs.KeyView.{key_value};
+ghost use Rattle.cose_map.specs.Key.View.{key_value};
 
-use crate::choice::{Fitting, Query};
+mod items;
+
+use crate::choice::fitting::Fitting;
+use crate::choice::query::Query;
+use crate::key::hidden::Hidden;
 use crate::key::{Key, NESTING};
-use crate::key_items::KeyItems;
-use crate::maps::{read_whole, refused};
+use crate::key_set::items::KeyItems;
+use crate::map::read::refused;
 use cose_head::{ItemRef, Reason, Refusal};
+use std::fmt;
 
 /// A key set has at most so many bytes.
 const MOST_BYTES: usize = 65_535;
 
-/// A set of keys: one key, or an array of keys, of which only the usable ones count.
-#[derive(Clone, Copy, Debug)]
+/// A set of keys: one key, or an array of keys, of which only the usable ones count. `Debug` prints how many bytes
+/// it has, and none of them.
+#[derive(Clone, Copy)]
 pub struct KeySet<'a> {
     set: ItemRef<'a>,
 }
@@ -30,10 +36,10 @@ fn usable<'a>(item: &ItemRef<'a>) -> Option<Key<'a>>
 impl<'a> KeySet<'a> {
     ghost use Rattle.std.specs.Prelude.{◌≤◌, length, IfErr};
     ghost use Rattle.cose_map.specs.Choice.{chosen};
-    ghost use Rattle.cose_map.specs.Chosen.{question, found_value};
+    ghost use Rattle.cose_map.specs.Choice.View.{question, found_value};
     ghost use Rattle.cose_map.specs.KeySet.{keys_of};
-    ghost use Rattle.cose_map.specs.KeySets.{keys};
-    ghost use Rattle.cose_map.specs.Views.{seen_by};
+    ghost use Rattle.cose_map.specs.KeySet.View.{keys};
+    ghost use Rattle.cose_map.specs.Map.View.{seen_by};
 
     /// Reads a key set of at most 65,535 bytes: one map, or an array of one or more items.
     ///
@@ -50,7 +56,7 @@ impl<'a> KeySet<'a> {
                 place: 0,
             });
         }
-        let set = read_whole(bytes, 0, NESTING)?;
+        let set = ItemRef::read(bytes, 0, NESTING)?;
         let mut items = KeyItems::of(set);
         if items.next().is_none() {
             return Err(refused(Reason::BadKeySet, &set));
@@ -92,6 +98,14 @@ impl<'a> KeySet<'a> {
             }
         }
         fitting.answer(query)
+    }
+}
+
+impl fmt::Debug for KeySet<'_> {
+    fn fmt<W: fmt::Write>(&self, f: &mut fmt::Formatter<W>) -> fmt::Result {
+        f.debug_tuple("KeySet")
+            .field(&Hidden(self.set.bytes))
+            .finish()
     }
 }
 

@@ -3,8 +3,8 @@
 ghost use Rattle.std.specs.Prelude.{◌≡◌, ◌&&◌, option_map};
 ghost use Rattle.cose_head.specs.ItemRef.{placed};
 ghost use Rattle.cose_map.specs.Label.{label_of, same_label};
-ghost use Rattle.cose_map.specs.LabelOrder as order;
-ghost use Rattle.cose_map.specs.Views.{label_value};
+ghost use Rattle.cose_map.specs.Label.Order as order;
+ghost use Rattle.cose_map.specs.Label.View.{label_value};
 
 use cose_head::ItemRef;
 
@@ -19,7 +19,7 @@ pub enum Label<'a> {
 
 impl<'a> Label<'a> {
     /// The label that an item is, if it is an integer, or a text that is UTF-8.
-    #[tactic(auto, using(crate::proofs::Labels::integer_label, crate::proofs::Labels::text_label, crate::proofs::Labels::no_label))]
+    #[tactic(auto, using(crate::proofs::lemmas::Label::integer_label, crate::proofs::lemmas::Label::text_label, crate::proofs::lemmas::Label::no_label))]
     pub fn of(item: &ItemRef<'a>) -> Option<Label<'a>>
         ensures { option_map label_value result ≡ label_of (placed item.now) }
     {

@@ -1,11 +1,12 @@
 //! Laws of the definitions that the contracts cite. A law is a function that does nothing, and whose contract is the law.
 
-ghost use Rattle.cose_map.specs.Inside.{MapIsRefusedInside, ReadIsRefusedInside, BucketIsRefusedInside, KeyIsRefusedInside, BucketEndsInside, PairIsRefusedInside};
-ghost use Rattle.cose_map.specs.LeastFault.{NoLeastOfNone, LeastIsAmong, NoneBeforeLeast};
-ghost use Rattle.cose_map.specs.Reasons.{BucketIsNotTruncated, KeyIsNotTruncated, KeySetIsNotTruncated, PairIsNotTruncated, ChoiceIsNotTruncated};
-ghost use Rattle.cose_map.specs.Reasons.{ItemIsRefusedFor, MapIsRefusedFor, ReadIsRefusedFor, BucketIsRefusedFor, KeyIsRefusedFor, KeySetIsRefusedFor, PairIsRefusedFor, ChoiceIsRefusedFor};
+ghost use Rattle.cose_map.specs.Laws.Inside.{MapIsRefusedInside, ReadIsRefusedInside, BucketIsRefusedInside, KeyIsRefusedInside, BucketEndsInside, PairIsRefusedInside};
+ghost use Rattle.cose_map.specs.Laws.Chosen.{ChosenIsAmong, ChosenFits, ChosenIsOfKind, ChosenIsOfType, NoOtherFits};
+ghost use Rattle.cose_map.specs.Laws.Least.{NoLeastOfNone, LeastIsAmong, NoneBeforeLeast};
+ghost use Rattle.cose_map.specs.Laws.Reasons.{MapIsRefusedFor, ReadIsRefusedFor, BucketIsRefusedFor, KeyIsRefusedFor, KeySetIsRefusedFor, PairIsRefusedFor, ChoiceIsRefusedFor, BucketIsNotTruncated, KeyIsNotTruncated, KeySetIsNotTruncated, PairIsNotTruncated, ChoiceIsNotTruncated};
+ghost use Rattle.cose_map.specs.Laws.Tree.{ItemIsTree, MapIsOfTree, BucketIsOfTree, KeyIsOfTree};
 
-use cose_head::laws::{children_are_of_tree, read_steps};
+use cose_head::laws::{children_are_of_tree, look_is_of_tree, read_is_spelling, whole_is_one_item};
 
 /// A refusal of a map, of a bucket or of a key stands among its bytes or at their end, and one of two buckets together
 /// no later than the later of their ends, or at the place after both (RFC 9052 sections 3 and 7).
@@ -18,7 +19,7 @@ pub fn refusals_stand_inside()
     ensures two_buckets { PairIsRefusedInside }
 {
     // What these two say of reading and of children is all that the proof rests on.
-    read_steps();
+    whole_is_one_item();
     children_are_of_tree();
 }
 
@@ -33,7 +34,6 @@ pub fn least_fault_is_least()
 /// For which reasons each call refuses: a map or bytes that are read with a table (the table's own are besides), a bucket
 /// (RFC 9052 section 3), a key and a key set (section 7), two buckets together (section 3.1), and the choice of the key.
 pub fn refusals_have_their_reasons()
-    ensures item { ItemIsRefusedFor }
     ensures map { MapIsRefusedFor }
     ensures read { ReadIsRefusedFor }
     ensures bucket { BucketIsRefusedFor }
@@ -42,8 +42,8 @@ pub fn refusals_have_their_reasons()
     ensures two_buckets { PairIsRefusedFor }
     ensures choice { ChoiceIsRefusedFor }
 {
-    // What this says of reading is all that the proof rests on.
-    read_steps();
+    // What this says of bytes that have to be one item is all that the proof rests on.
+    whole_is_one_item();
 }
 
 /// None of these refusals is `Truncated`: bytes that end too early for what stands in them are `PastRoom`.
@@ -54,6 +54,31 @@ pub fn refusals_are_not_truncated()
     ensures two_buckets { PairIsNotTruncated }
     ensures choice { ChoiceIsNotTruncated }
 {
-    // What this says of reading is all that the proof rests on.
-    read_steps();
+    // What this says of bytes that have to be one item is all that the proof rests on.
+    whole_is_one_item();
 }
+
+/// Bytes are accepted as one item exactly where they spell a tree of the grammar (RFC 8949 section 3), and the pairs of a
+/// map, a bucket or a key that was read are the labels and values of its tree, in their order and none left out.
+pub fn maps_are_of_trees()
+    ensures item { ItemIsTree }
+    ensures map { MapIsOfTree }
+    ensures bucket { BucketIsOfTree }
+    ensures key { KeyIsOfTree }
+{
+    // What these say of reading, of looks and of children is all that the proof rests on.
+    read_is_spelling();
+    whole_is_one_item();
+    look_is_of_tree();
+    children_are_of_tree();
+}
+
+/// The key that is chosen is one of those that were there, and fits. The number that comes with it is that of an algorithm
+/// of the message's kind, and the key is of its type and on its curve. No other of the keys fits.
+pub fn chosen_key_fits()
+    ensures among { ChosenIsAmong }
+    ensures fits { ChosenFits }
+    ensures kind { ChosenIsOfKind }
+    ensures typed { ChosenIsOfType }
+    ensures only { NoOtherFits }
+{}

@@ -1,39 +1,55 @@
 //! Maps of labels and values in COSE (RFC 9052): header buckets, keys and key sets.
+//!
+//! From the bytes of a message's two header buckets and of a key set to the key that authenticates the message. The
+//! protected bucket is {1: 5}, which names HMAC 256/256, and the unprotected one is {4: h'31'}, the key's identifier. They
+//! stand at 3 and 6 of the message, and what comes after both at 10:
+//!
+//! ```rust
+//! use cose_map::{Bucket, KeySet, Kind, Material, Query, check_pair};
+//!
+//! let protected = Bucket::read(b"\xa1\x01\x05", 3, 4)?;
+//! let unprotected = Bucket::read(b"\xa1\x04\x411", 6, 4)?;
+//! check_pair(&protected, &unprotected, &[], 10)?;
+//! let keys = KeySet::read(b"\xa3\x01\x04\x02\x411\x20\x44Jefe")?;
+//! let query = Query {
+//!     kind: Kind::Mac0,
+//!     operation: 10,
+//!     protected_alg: protected.alg(),
+//!     unprotected_alg: unprotected.alg(),
+//!     kid: unprotected.kid(),
+//! };
+//! let (key, algorithm) = keys.find(&query)?;
+//! assert_eq!(rt; algorithm, 5);
+//! match key.material {
+//!     Material::Symmetric(secret) => assert_eq!(rt; secret, b"Jefe".as_slice()),
+//!     Material::Ec { .. } => panic!(rt; "a point makes no MAC"),
+//! }
+//! ```
+//!
+//! A fault is what is wrong with some bytes, at a place. A refusal is how a call answers: it names one fault, the first
+//! or the least, by its reason and place.
 #![tactic(auto)]
 
-mod algorithm;
 mod bucket;
 mod choice;
-mod curve;
-mod earlier;
-mod form;
-pub mod header;
 mod key;
-mod key_form;
-mod key_items;
-mod key_member;
 mod key_set;
 mod label;
 pub mod laws;
-mod maps;
-mod material;
-mod members;
-mod ops;
-mod pair_check;
-mod pairs;
-mod search;
+mod map;
 
-pub use bucket::Bucket;
-pub use choice::Query;
+pub use bucket::both::check_pair;
+pub use bucket::{Bucket, header};
+pub use choice::query::Query;
 pub use cose_head::{Head, ItemRef, Items, Kind, Reason, Refusal};
 pub use key::Key;
+pub use key::material::{Material, Y};
+pub use key::operations::Ops;
 pub use key_set::KeySet;
 pub use label::Label;
-pub use maps::{Form, check_map, read_map};
-pub use material::{Material, Y};
-pub use ops::Ops;
-pub use pair_check::check_pair;
-pub use pairs::Pairs;
+pub use map::form::Form;
+pub use map::pairs::Pairs;
+pub use map::read::{check_map, read_map};
 
 #[cfg(test)]
 mod tests;

@@ -1,17 +1,14 @@
 -- The numbers of bytes that settle a message which is verified or inspected.
-use Rattle.std.proofs.Common.{◌≡◌, ℕ, ℤ, ◌≤◌, true, Option, Some, None, Result, Ok, Err, arith}
+use Rattle.std.proofs.Common.{◌≡◌, ℕ, ◌≤◌, true, Option, Some, None, Result, Ok, Err, arith}
 use Rattle.std.proofs.lemmas.Bool.{eqb-true, leb-true}
 use Rattle.cose_head.specs.declared.reason.Reason.{Reason}
-use Rattle.cose_head.specs.Laws.{ReadSteps}
-use Rattle.cose_mac.specs.declared.alg.Alg.{Alg}
-use Rattle.cose_mac.specs.declared.alg.Alg.TheVariants.{Hmac64, Hmac256, Hmac384, Hmac512, Es256}
-use Rattle.cose_mac.specs.Algorithm.{algorithm_numbered, auth_length_of}
-use Rattle.cose_map.specs.Choice.{chosen}
-use Rattle.cose_map.specs.KeyValue.{KeyValue}
+use Rattle.cose_head.specs.declared.algorithm.Alg.{Alg}
+use Rattle.cose_head.specs.declared.algorithm.Alg.TheVariants.{Hmac64, Hmac256, Hmac384, Hmac512, Es256}
+use Rattle.cose_head.specs.Algorithm.{auth_length_of}
 use Rattle.cose_msg.specs.Answer.{Answer, Chosen, Whole}
 use Rattle.cose_msg.specs.Laws.{AuthIsAtMost, MessageIsVerifiedWithin, MessageIsInspectedWithin}
-use Rattle.cose_msg.specs.Message.{Setting, rules_with, question_of, with_algorithm, past_chosen, key_choice_of, has_auth_length, uncompared, comparing, verifying, inspecting}
-use Rattle.cose_msg.proofs.Settles.{message_is_bounded}
+use Rattle.cose_msg.specs.Message.{Setting, rules_with, found_key, as_choice, key_choice_of, has_auth_length, uncompared, comparing, verifying, inspecting}
+use Rattle.cose_msg.proofs.Settles.{BoundLaws, message_is_bounded}
 
 algorithms_are_short : (alg : Alg) → auth_length_of alg ≤ 132
 algorithms_are_short Hmac64 = omega arith
@@ -27,17 +24,13 @@ FitsIn most chosen = (n : ℕ) → has_auth_length chosen n ≡ true → n ≤ m
 found-fits : (found : Chosen) → FitsIn 132 (Some found)
 found-fits found n e = omega (arith, eqb-true n (auth_length_of found.alg) e, algorithms_are_short found.alg)
 
-with_algorithm-fits : (key : KeyValue) (alg : Option Alg) (chosen : Option Chosen) → with_algorithm key alg ≡ Ok chosen → FitsIn 132 chosen
-with_algorithm-fits key (Some alg) (Some found) e = found-fits found
-with_algorithm-fits key (Some alg) None e = absurd cc
-with_algorithm-fits key None chosen e = absurd cc
-
-past_chosen-fits : (found : Result (KeyValue × ℤ) Reason) (chosen : Option Chosen) → past_chosen found ≡ Ok chosen → FitsIn 132 chosen
-past_chosen-fits (Ok found) chosen e = with_algorithm-fits found.0 (algorithm_numbered found.1) chosen e
-past_chosen-fits (Err reason) chosen e = absurd cc
+as_choice-fits : (found : Result Chosen Reason) (chosen : Option Chosen) → as_choice found ≡ Ok chosen → FitsIn 132 chosen
+as_choice-fits (Ok found) (Some other) e = found-fits other
+as_choice-fits (Ok found) None e = absurd cc
+as_choice-fits (Err reason) chosen e = absurd cc
 
 verified-fits : (room nesting : ℕ) (setting : Setting) (finish : Whole → Answer) → AuthIsAtMost 132 (rules_with room nesting setting (key_choice_of setting.keys) finish)
-verified-fits room nesting setting finish headers found n is e = past_chosen-fits (chosen (question_of headers) setting.keys) found is n e
+verified-fits room nesting setting finish headers found n is e = as_choice-fits (found_key setting.keys headers) found is n e
 
 abbrev no_key : Result (Option Chosen) Reason
 no_key = Ok None
@@ -46,12 +39,12 @@ none-fits : (chosen : Option Chosen) → no_key ≡ Ok chosen → FitsIn 65535 c
 none-fits (Some found) is = absurd cc
 none-fits None is = λ n e. leb-true n 65535 e
 
-pub verified_within : ReadSteps → MessageIsVerifiedWithin
-verified_within steps = (
-  λ room nesting setting bytes le. message_is_bounded steps (uncompared room nesting setting) 132 (verified-fits room nesting setting (uncompared room nesting setting).finish) bytes (omega arith),
-  λ room nesting setting bytes le. message_is_bounded steps (comparing room nesting setting) 132 (verified-fits room nesting setting (comparing room nesting setting).finish) bytes (omega arith),
-  λ decides room nesting setting bytes le. message_is_bounded steps (verifying room nesting setting decides) 132 (verified-fits room nesting setting (verifying room nesting setting decides).finish) bytes (omega arith),
+pub verified_within : BoundLaws → MessageIsVerifiedWithin
+verified_within laws = (
+  λ room nesting setting bytes le. message_is_bounded laws (uncompared room nesting setting) 132 (verified-fits room nesting setting (uncompared room nesting setting).finish) bytes (omega arith),
+  λ room nesting setting bytes le. message_is_bounded laws (comparing room nesting setting) 132 (verified-fits room nesting setting (comparing room nesting setting).finish) bytes (omega arith),
+  λ decides room nesting setting bytes le. message_is_bounded laws (verifying room nesting setting decides) 132 (verified-fits room nesting setting (verifying room nesting setting decides).finish) bytes (omega arith),
 )
 
-pub inspected_within : ReadSteps → MessageIsInspectedWithin
-inspected_within steps room nesting setting bytes le = message_is_bounded steps (inspecting room nesting setting) 65535 (λ headers chosen n is e. none-fits chosen is n e) bytes (omega arith)
+pub inspected_within : BoundLaws → MessageIsInspectedWithin
+inspected_within laws room nesting setting bytes le = message_is_bounded laws (inspecting room nesting setting) 65535 (λ headers chosen n is e. none-fits chosen is n e) bytes (omega arith)

@@ -2,10 +2,12 @@
 use Rattle.std.proofs.Common.{◌≡◌, ℕ, ◌<◌, Bool, true, false, cond, List, [], length, Option, None, Some, refl, sym, ap, subst, ◌∙◌}
 use Rattle.std.specs.Prelude.{option_map, if◌then◌else◌}
 use Rattle.cose_head.specs.declared.reason.Reason.TheVariants.{BadAuth}
-use Rattle.cose_mac.specs.declared.alg.Alg.{Alg}
-use Rattle.cose_mac.specs.Algorithm.{digest_of, is_mac_of, mac}
-use Rattle.cose_map.specs.KeyValue.{KeyValue}
-use Rattle.cose_map.specs.KeyView.{key_value}
+use Rattle.cose_head.specs.declared.algorithm.Alg.{Alg}
+use Rattle.cose_mac.specs.Hash.{digest_of}
+use Rattle.cose_head.specs.Algorithm.{is_mac_of}
+use Rattle.cose_mac.specs.Hmac.{mac}
+use Rattle.cose_map.specs.Key.Value.{KeyValue}
+use Rattle.cose_map.specs.Key.View.{key_value}
 use Rattle.cose_msg.specs.declared.phase.Phase.{Phase}
 use Rattle.cose_msg.specs.declared.phase.Phase.TheVariants as phases
 use Rattle.cose_msg.specs.declared.phase.Signed.{Signed}

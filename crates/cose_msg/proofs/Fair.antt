@@ -4,14 +4,14 @@ use Rattle.std.specs.Prelude.{◌≢◌, IfErr}
 use Rattle.std.specs.Str.{bytes_eq}
 use Rattle.cose_head.specs.declared.reason.Reason.{Reason}
 use Rattle.cose_head.specs.declared.reason.Reason.TheVariants.{Truncated}
-use Rattle.cose_mac.specs.declared.alg.Alg.{Alg}
-use Rattle.cose_mac.specs.Algorithm.{algorithm_numbered, is_mac_of}
+use Rattle.cose_head.specs.declared.algorithm.Alg.{Alg}
+use Rattle.cose_head.specs.Algorithm.{algorithm_numbered, is_mac_of}
 use Rattle.cose_map.specs.Choice.{chosen}
-use Rattle.cose_map.specs.KeyValue.{KeyValue}
-use Rattle.cose_map.specs.Reasons.{ChoiceIsNotTruncated}
+use Rattle.cose_map.specs.Key.Value.{KeyValue}
+use Rattle.cose_map.specs.Laws.Reasons.{ChoiceIsNotTruncated}
 use Rattle.cose_msg.specs.Answer.{Answer, complete, Chosen, Headers, Whole}
 use Rattle.cose_msg.specs.Laws.{IsDefinite, StandsBy, AreFair, AllAreFair}
-use Rattle.cose_msg.specs.Message.{Setting, Decides, rules_with, question_of, with_algorithm, past_chosen, key_choice_of, tag_of, digest_signed, judged, compare_tag, compared, verified, shape_of}
+use Rattle.cose_msg.specs.Message.{Setting, Decides, rules_with, question_of, with_algorithm, past_chosen, found_key, as_choice, key_choice_of, tag_of, digest_signed, judged, compare_tag, compared, verified, shape_of}
 
 -- What comes of a whole message.
 pub record IsFairOf (whole : Whole) (answer : Answer) : Type 0 where
@@ -57,8 +57,12 @@ past_chosen-fair : (found : Result (KeyValue × ℤ) Reason) → IfErr found (λ
 past_chosen-fair (Ok found) h = with_algorithm-fair found.0 (algorithm_numbered found.1)
 past_chosen-fair (Err reason) h = h
 
+as_choice-fair : (found : Result Chosen Reason) → IfErr found (λ reason. reason ≢ Truncated) → IfErr (as_choice found) (λ reason. reason ≢ Truncated)
+as_choice-fair (Ok found) h = tt
+as_choice-fair (Err reason) h = h
+
 choice-fair : ChoiceIsNotTruncated → (keys : List KeyValue) (headers : Headers) → IfErr (key_choice_of keys headers) (λ reason. reason ≢ Truncated)
-choice-fair choice keys headers = past_chosen-fair (chosen (question_of headers) keys) (choice (question_of headers) keys)
+choice-fair choice keys headers = as_choice-fair (found_key keys headers) (past_chosen-fair (chosen (question_of headers) keys) (choice (question_of headers) keys))
 
 -- The rules.
 rules-fair : (room nesting : ℕ) (setting : Setting) (choice : Headers → Result (Option Chosen) Reason) (finish : Whole → Answer) → ((headers : Headers) → IfErr (choice headers) (λ reason. reason ≢ Truncated)) → ((whole : Whole) → IsFairOf whole (finish whole)) → AreFair (rules_with room nesting setting choice finish)

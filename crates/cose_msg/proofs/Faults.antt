@@ -1,6 +1,6 @@
 -- What a head that has no fault says of its argument.
 use Rattle.std.proofs.Common.{◌≡◌, ℕ, ◌<◌, ◌≤◌, ◌^◌, Bool, true, false, cond, Option, Some, None, refl, arith}
-use Rattle.std.specs.Prelude.{nat_lt, nat_le, ◌==◌, ◌||◌}
+use Rattle.std.specs.Prelude.{nat_lt, nat_le, ◌||◌}
 use Rattle.std.proofs.lemmas.Bool.{ltb-false, leb-false}
 use Rattle.cose_head.specs.declared.head.Head.{Head}
 use Rattle.cose_head.specs.declared.reason.Reason.{Reason}

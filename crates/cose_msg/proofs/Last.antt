@@ -14,14 +14,14 @@ use Rattle.cose_head.specs.Head.{bare_head}
 use Rattle.cose_head.specs.Item.{Item}
 use Rattle.cose_head.specs.Measured.{left_of}
 use Rattle.cose_head.specs.Reading.{Outcome, read}
-use Rattle.cose_mac.specs.Algorithm.{is_mac_of}
+use Rattle.cose_head.specs.Algorithm.{is_mac_of}
 use Rattle.cose_map.specs.Bucket.{bucket_of}
-use Rattle.cose_map.specs.Maps.{Pair}
-use Rattle.cose_map.specs.PairFault.{pair_fault}
+use Rattle.cose_map.specs.Map.Pairs.{Pair}
+use Rattle.cose_map.specs.Bucket.Both.{pair_fault}
 use Rattle.cose_msg.specs.declared.context.Wanted.{Wanted}
 use Rattle.cose_msg.specs.declared.context.Wanted.TheVariants as wants
 use Rattle.cose_msg.specs.Answer.{Answer, complete, refused, Chosen, Headers, Whole}
-use Rattle.cose_msg.specs.Front.{array_head_fault, past_array_head, array_head, kind_of_tag, past_tag, cose_tag, past_second_head, second_head, past_untagged, is_cwt_tag, is_tag, is_array, past_first_head, first_head}
+use Rattle.cose_msg.specs.Front.{array_head_fault, past_array_head, array_head, kind_of_tag, past_tag, tag_behind_cwt, past_second_head, second_head, past_untagged, is_cwt_tag, is_tag, is_array, past_first_head, first_head}
 use Rattle.cose_msg.specs.Laws.{answered, then_compared, then_verified, FinishGoesLast, ComparingGoesLast, VerifyingGoesLast}
 use Rattle.cose_msg.specs.Message.{Decides, message, tag_of, judged, compare_tag, compared, verified, uncompared, comparing}
 use Rattle.cose_msg.specs.Phases.{nothing_told, protected_told, headers_told, finish, auth, auth_head_fault, past_auth_head, auth_head, past_payload, payload, payload_head_fault, past_payload_head, payload_head, past_choice, key_choice, both_buckets, placed_at, headers_of, past_unprotected, unprotected, past_protected, protected, protected_head_fault, past_protected_head, protected_head}
@@ -131,7 +131,7 @@ module _ (change : Answer → Answer) (keeps : (reason : Reason) (place : ℕ) �
     past_tag-follows at (Err reason) = λ place bytes. stop-follows nothing_told reason at
 
     second_head-follows : Follows (second_head rules) (second_head others)
-    second_head-follows = with_head-follows nothing_told (past_second_head rules) (past_second_head others) (λ at head. past_tag-follows at (cose_tag rules head))
+    second_head-follows = with_head-follows nothing_told (past_second_head rules) (past_second_head others) (λ at head. past_tag-follows at (tag_behind_cwt rules.wanted head))
 
     past_untagged-follows : (wanted : Wanted) (at : ℕ) (head : Head) → Follows (past_untagged rules wanted at head) (past_untagged others wanted at head)
     past_untagged-follows wants.Mac0 at head = past_array_head-follows kinds.Mac0 at head
@@ -140,7 +140,7 @@ module _ (change : Answer → Answer) (keeps : (reason : Reason) (place : ℕ) �
 
     past_first_head-follows : (at : ℕ) (head : Head) → Follows (past_first_head rules at head) (past_first_head others at head)
     past_first_head-follows at head place bytes =
-        choose-follows (is_cwt_tag rules head) (second_head rules place bytes) _ (second_head others place bytes) _ (second_head-follows place bytes)
+        choose-follows (is_cwt_tag rules.cwt head) (second_head rules place bytes) _ (second_head others place bytes) _ (second_head-follows place bytes)
         (choose-follows (is_tag head) (past_tag rules at (kind_of_tag rules.wanted head.arg) place bytes) _ (past_tag others at (kind_of_tag rules.wanted head.arg) place bytes) _ (past_tag-follows at (kind_of_tag rules.wanted head.arg) place bytes)
         (choose-follows (is_array head) (past_untagged rules rules.wanted at head place bytes) (stop nothing_told WrongType at) (past_untagged others rules.wanted at head place bytes) _ (past_untagged-follows rules.wanted at head place bytes)
         (stop-follows nothing_told WrongType at)))

@@ -1,5 +1,5 @@
-mod Faults
 mod Heads
+mod Faults
 mod Forms
 mod Lawful
 mod SoundForms
@@ -8,6 +8,9 @@ mod Fair
 mod Settles
 mod Bounds
 mod Last
+mod Choices
+mod ChoiceReadings
+mod Opened
 mod Standing
 mod Steps
 mod Waits

@@ -12,22 +12,27 @@ use Rattle.cose_head.specs.declared.reason.Reason.TheVariants.{Truncated}
 use Rattle.cose_head.specs.declared.refusal.Refusal.{Refusal}
 use Rattle.cose_head.specs.Head.{bare_head}
 use Rattle.cose_head.specs.Item.{Item}
-use Rattle.cose_head.specs.Laws.{ReadSteps, Steps}
+use Rattle.cose_head.specs.Laws.{HalfIsShort, HeadFits, ReadSteps, Steps}
 use Rattle.cose_head.specs.Measured.{left_of}
 use Rattle.cose_head.specs.Reading.{Left, Outcome, read}
 use Rattle.cose_map.specs.Bucket.{bucket_of}
-use Rattle.cose_map.specs.Maps.{Pair}
-use Rattle.cose_map.specs.PairFault.{pair_fault}
+use Rattle.cose_map.specs.Map.Pairs.{Pair}
+use Rattle.cose_map.specs.Bucket.Both.{pair_fault}
 use Rattle.cose_msg.specs.declared.context.Wanted.{Wanted}
 use Rattle.cose_msg.specs.declared.context.Wanted.TheVariants as wants
 use Rattle.cose_msg.specs.Answer.{Chosen, Headers}
-use Rattle.cose_msg.specs.Front.{array_head_fault, past_array_head, array_head, kind_of_tag, past_tag, cose_tag, past_second_head, second_head, past_untagged, is_cwt_tag, is_tag, is_array, past_first_head, first_head}
+use Rattle.cose_msg.specs.Front.{array_head_fault, past_array_head, array_head, kind_of_tag, past_tag, tag_behind_cwt, past_second_head, second_head, past_untagged, is_cwt_tag, is_tag, is_array, past_first_head, first_head}
 use Rattle.cose_msg.specs.Laws.{payload_at_most, AuthIsAtMost, MessageIsBounded}
 use Rattle.cose_msg.specs.Message.{message}
 use Rattle.cose_msg.specs.Phases.{nothing_told, protected_told, headers_told, is_bytes_head, is_nil, is_too_long, finish, auth, auth_head_fault, past_auth_head, auth_head, past_payload, payload, payload_head_fault, past_payload_head, payload_head, past_choice, key_choice, both_buckets, placed_at, headers_of, past_unprotected, unprotected, past_protected, protected, protected_head_fault, past_protected_head, protected_head}
 use Rattle.cose_msg.specs.Reading.{Told, Reading, Phase, Next, past_head, with_head, with_string, is_truncated, past_item, with_item, unless, unless_fault, with_value}
 use Rattle.cose_msg.specs.Rules.{Rules}
-use Rattle.cose_msg.proofs.Heads.{half_head_is_short, whole_head_is_short}
+
+-- The laws of heads and items that these rest on.
+pub record BoundLaws : Type 0 where
+  pub short : HalfIsShort
+  pub fits : HeadFits
+  pub steps : ReadSteps
 
 abbrev Settles : ℕ → Phase → Type 0
 Settles n phase = (place : ℕ) (bytes : List ℕ) → n ≤ length bytes → (phase place bytes).settled ≡ true
@@ -37,14 +42,15 @@ by_more n m phase le h place bytes there = h place bytes (omega arith)
 
 -- ---- the forms
 
-past_head-settles : (told : Told) (n : ℕ) (next : Next Head) → ((at : ℕ) (head : Head) → Settles n (next at head)) → (place : ℕ) (bytes : List ℕ) → 9 + n ≤ length bytes → (step : HeadStep) → bare_head bytes ≡ step → (past_head told next place bytes step).settled ≡ true
-past_head-settles told n next h place bytes le (Got head used) e = h place head (place + used) (drop used bytes) (omega (arith, le, whole_head_is_short bytes head used e, length-drop used bytes))
-past_head-settles told n next h place bytes le (More wanted) e = absurd (omega (arith, le, half_head_is_short bytes wanted e))
-past_head-settles told n next h place bytes le (Fault reason) e = refl
+module _ (laws : BoundLaws) where
+  past_head-settles : (told : Told) (n : ℕ) (next : Next Head) → ((at : ℕ) (head : Head) → Settles n (next at head)) → (place : ℕ) (bytes : List ℕ) → 9 + n ≤ length bytes → (step : HeadStep) → bare_head bytes ≡ step → (past_head told next place bytes step).settled ≡ true
+  past_head-settles told n next h place bytes le (Got head used) e = h place head (place + used) (drop used bytes) (omega (arith, le, (laws.fits bytes head used e).1, length-drop used bytes))
+  past_head-settles told n next h place bytes le (More wanted) e = absurd (omega (arith, le, laws.short bytes (rw e tt)))
+  past_head-settles told n next h place bytes le (Fault reason) e = refl
 
-with_head-settles : (told : Told) (n : ℕ) (next : Next Head) → ((at : ℕ) (head : Head) → Settles n (next at head)) → Settles (9 + n) (with_head told next)
-unfolding with_head
-with_head-settles told n next h place bytes le = past_head-settles told n next h place bytes le (bare_head bytes) refl
+  with_head-settles : (told : Told) (n : ℕ) (next : Next Head) → ((at : ℕ) (head : Head) → Settles n (next at head)) → Settles (9 + n) (with_head told next)
+  unfolding with_head
+  with_head-settles told n next h place bytes le = past_head-settles told n next h place bytes le (bare_head bytes) refl
 
 with_string-settles : (told : List ℕ → Told) (n m : ℕ) (next : Next (List ℕ)) → ((at : ℕ) (string : List ℕ) → Settles m (next at string)) → Settles (n + m) (with_string told n next)
 unfolding with_string
@@ -60,7 +66,7 @@ either-settled : (b : Bool) (x y : Reading) → (b ≡ true → x.settled ≡ tr
 either-settled true x y p q = p refl
 either-settled false x y p q = q
 
-module _ (steps : ReadSteps) where
+module _ (laws : BoundLaws) where
   past_item-settles : (told : Told) (room n : ℕ) (next : Next (List ℕ)) → ((at : ℕ) (content : List ℕ) → Settles n (next at content)) → (place : ℕ) (bytes : List ℕ) → room + n ≤ length bytes → (outcome : Outcome Item)
       → Steps 1 (left_of bytes room 0) outcome → (past_item told next place bytes outcome).settled ≡ true
   past_item-settles told room n next h place bytes le (Ok found) step =
@@ -71,7 +77,7 @@ module _ (steps : ReadSteps) where
 
   with_item-settles : (told : Told) (room depth n : ℕ) (next : Next (List ℕ)) → ((at : ℕ) (content : List ℕ) → Settles n (next at content)) → Settles (room + n) (with_item told room depth next)
   unfolding with_item
-  with_item-settles told room depth n next h place bytes le = past_item-settles told room n next h place bytes le (read depth (left_of bytes room 0)) (steps depth (left_of bytes room 0))
+  with_item-settles told room depth n next h place bytes le = past_item-settles told room n next h place bytes le (read depth (left_of bytes room 0)) (laws.steps depth (left_of bytes room 0))
 
 unless_fault-settles : (told : Told) (at n : ℕ) (fault : Option Reason) (phase : Phase) → (fault ≡ None → Settles n phase) → Settles n (unless_fault told at fault phase)
 unless_fault-settles told at n (Some reason) phase h = λ place bytes le. refl
@@ -111,19 +117,19 @@ neither : (b c : Bool) → (b || c) ≡ false → (b ≡ false) × (c ≡ false)
 neither true c e = absurd cc
 neither false c e = (refl, e)
 
-short_enough : (rules : Rules) (n : ℕ) → is_too_long rules n ≡ false → n ≤ payload_at_most rules.payload_limit
-short_enough rules n e =
-    let both = neither (nat_le (2 ^ 56) n) (nat_lt rules.payload_limit n) e in
-    omega (arith, leb-false (2 ^ 56) n both.0, ltb-false rules.payload_limit n both.1)
+short_enough : (limit n : ℕ) → is_too_long limit n ≡ false → n ≤ payload_at_most limit
+short_enough limit n e =
+    let both = neither (nat_le (2 ^ 56) n) (nat_lt limit n) e in
+    omega (arith, leb-false (2 ^ 56) n both.0, ltb-false limit n both.1)
 
 -- ---- the phases, the last first
 
-module _ (steps : ReadSteps) (rules : Rules) (most : ℕ) (at_most : AuthIsAtMost most rules) where
+module _ (laws : BoundLaws) (rules : Rules) (most : ℕ) (at_most : AuthIsAtMost most rules) where
   auth-settles : (headers : Headers) (chosen : Option Chosen) (B : List ℕ) (auth_at n : ℕ) → n ≤ most → Settles most (auth rules headers chosen B auth_at n)
   auth-settles headers chosen B auth_at n le = by_more (n + 0) most (auth rules headers chosen B auth_at n) (omega arith) (with_string-settles (λ bytes. headers_told headers B) n 0 (finish rules headers chosen B auth_at) (λ at tag place bytes there. refl))
 
   auth_head-settles : (headers : Headers) (chosen : Option Chosen) (B : List ℕ) → rules.choice headers ≡ Ok chosen → Settles (9 + most) (auth_head rules headers chosen B)
-  auth_head-settles headers chosen B is = with_head-settles (headers_told headers B) most (past_auth_head rules headers chosen B)
+  auth_head-settles headers chosen B is = with_head-settles laws (headers_told headers B) most (past_auth_head rules headers chosen B)
       (λ at head. unless_fault-settles (headers_told headers B) at most (auth_head_fault rules chosen head) (auth rules headers chosen B at head.arg)
       (λ e. auth-settles headers chosen B at head.arg (at_most headers chosen head.arg is (passes_both (is_bytes_head head) (rules.auth_fits chosen head.arg) _ _ e))))
 
@@ -134,9 +140,9 @@ module _ (steps : ReadSteps) (rules : Rules) (most : ℕ) (at_most : AuthIsAtMos
   payload-settles headers chosen n is le = by_more (n + (9 + most)) to_payload (payload rules headers chosen n) (omega arith) (with_string-settles (headers_told headers) n (9 + most) (past_payload rules headers chosen) (λ at B. auth_head-settles headers chosen B is))
 
   payload_head-settles : (headers : Headers) (chosen : Option Chosen) → rules.choice headers ≡ Ok chosen → Settles (9 + to_payload) (payload_head rules headers chosen)
-  payload_head-settles headers chosen is = with_head-settles (headers_told headers []) to_payload (past_payload_head rules headers chosen)
+  payload_head-settles headers chosen is = with_head-settles laws (headers_told headers []) to_payload (past_payload_head rules headers chosen)
       (λ at head. unless_fault-settles (headers_told headers []) at to_payload (payload_head_fault rules head) (payload rules headers chosen head.arg)
-      (λ e. payload-settles headers chosen head.arg is (short_enough rules head.arg (passes_payload (is_bytes_head head) (is_too_long rules head.arg) (is_nil head) _ _ _ e))))
+      (λ e. payload-settles headers chosen head.arg is (short_enough rules.payload_limit head.arg (passes_payload (is_bytes_head head) (is_too_long rules.payload_limit head.arg) (is_nil head) _ _ _ e))))
 
   past_choice-settles : (headers : Headers) (found : Result (Option Chosen) Reason) → rules.choice headers ≡ found → Settles (9 + to_payload) (past_choice rules headers found)
   past_choice-settles headers (Ok chosen) is = payload_head-settles headers chosen is
@@ -146,7 +152,7 @@ module _ (steps : ReadSteps) (rules : Rules) (most : ℕ) (at_most : AuthIsAtMos
   both_buckets-settles headers place bytes le = unless-settles (headers_told headers []) (pair_fault headers.protected_pairs headers.unprotected_pairs rules.understood place) (key_choice rules headers) place bytes (past_choice-settles headers (rules.choice headers) refl place bytes le)
 
   unprotected-settles : (kind : Kind) (P : List ℕ) (pairs : List Pair) → Settles (rules.room + (9 + to_payload)) (unprotected rules kind P pairs)
-  unprotected-settles kind P pairs = with_item-settles steps (protected_told pairs) rules.room rules.nesting (9 + to_payload) (past_unprotected rules kind P pairs)
+  unprotected-settles kind P pairs = with_item-settles laws (protected_told pairs) rules.room rules.nesting (9 + to_payload) (past_unprotected rules kind P pairs)
       (λ at content. with_value-settles (protected_told pairs) (bucket_of rules.nesting (placed_at at content)) (λ others. both_buckets rules (headers_of kind P pairs others)) (9 + to_payload) (λ others. both_buckets-settles (headers_of kind P pairs others)))
 
   abbrev to_protected : ℕ
@@ -157,7 +163,7 @@ module _ (steps : ReadSteps) (rules : Rules) (most : ℕ) (at_most : AuthIsAtMos
       (λ at P. with_value-settles nothing_told (bucket_of rules.nesting (placed_at at P)) (unprotected rules kind P) (rules.room + (9 + to_payload)) (unprotected-settles kind P)))
 
   protected_head-settles : (kind : Kind) → Settles (9 + to_protected) (protected_head rules kind)
-  protected_head-settles kind = with_head-settles nothing_told to_protected (past_protected_head rules kind)
+  protected_head-settles kind = with_head-settles laws nothing_told to_protected (past_protected_head rules kind)
       (λ at head. unless_fault-settles nothing_told at to_protected (protected_head_fault rules head) (protected rules kind head.arg)
       (λ e. protected-settles kind head.arg (ltb-false rules.room head.arg (passes_but (is_bytes_head head) (nat_lt rules.room head.arg) _ _ e))))
 
@@ -165,14 +171,14 @@ module _ (steps : ReadSteps) (rules : Rules) (most : ℕ) (at_most : AuthIsAtMos
   past_array_head-settles kind at head = unless_fault-settles nothing_told at (9 + to_protected) (array_head_fault head) (protected_head rules kind) (λ e. protected_head-settles kind)
 
   array_head-settles : (kind : Kind) → Settles (18 + to_protected) (array_head rules kind)
-  array_head-settles kind = by_more (9 + (9 + to_protected)) (18 + to_protected) (array_head rules kind) (omega arith) (with_head-settles nothing_told (9 + to_protected) (past_array_head rules kind) (past_array_head-settles kind))
+  array_head-settles kind = by_more (9 + (9 + to_protected)) (18 + to_protected) (array_head rules kind) (omega arith) (with_head-settles laws nothing_told (9 + to_protected) (past_array_head rules kind) (past_array_head-settles kind))
 
   past_tag-settles : (at : ℕ) (kind : Result Kind Reason) → Settles (18 + to_protected) (past_tag rules at kind)
   past_tag-settles at (Ok kind) = array_head-settles kind
   past_tag-settles at (Err reason) = λ place bytes le. refl
 
   second_head-settles : Settles (27 + to_protected) (second_head rules)
-  second_head-settles = by_more (9 + (18 + to_protected)) (27 + to_protected) (second_head rules) (omega arith) (with_head-settles nothing_told (18 + to_protected) (past_second_head rules) (λ at head. past_tag-settles at (cose_tag rules head)))
+  second_head-settles = by_more (9 + (18 + to_protected)) (27 + to_protected) (second_head rules) (omega arith) (with_head-settles laws nothing_told (18 + to_protected) (past_second_head rules) (λ at head. past_tag-settles at (tag_behind_cwt rules.wanted head)))
 
   past_untagged-settles : (wanted : Wanted) (at : ℕ) (head : Head) → Settles (9 + to_protected) (past_untagged rules wanted at head)
   past_untagged-settles wants.Mac0 at head = past_array_head-settles kinds.Mac0 at head
@@ -181,16 +187,16 @@ module _ (steps : ReadSteps) (rules : Rules) (most : ℕ) (at_most : AuthIsAtMos
 
   past_first_head-settles : (at : ℕ) (head : Head) → Settles (27 + to_protected) (past_first_head rules at head)
   past_first_head-settles at head =
-      choose-settles (is_cwt_tag rules head) (second_head rules) _ (27 + to_protected) second_head-settles
+      choose-settles (is_cwt_tag rules.cwt head) (second_head rules) _ (27 + to_protected) second_head-settles
       (choose-settles (is_tag head) (past_tag rules at (kind_of_tag rules.wanted head.arg)) _ (27 + to_protected) (by_more (18 + to_protected) (27 + to_protected) (past_tag rules at (kind_of_tag rules.wanted head.arg)) (omega arith) (past_tag-settles at (kind_of_tag rules.wanted head.arg)))
       (choose-settles (is_array head) (past_untagged rules rules.wanted at head) _ (27 + to_protected) (by_more (9 + to_protected) (27 + to_protected) (past_untagged rules rules.wanted at head) (omega arith) (past_untagged-settles rules.wanted at head))
       (λ place bytes le. refl)))
 
   first_head-settles : Settles (36 + to_protected) (first_head rules)
-  first_head-settles = by_more (9 + (27 + to_protected)) (36 + to_protected) (first_head rules) (omega arith) (with_head-settles nothing_told (27 + to_protected) (past_first_head rules) past_first_head-settles)
+  first_head-settles = by_more (9 + (27 + to_protected)) (36 + to_protected) (first_head rules) (omega arith) (with_head-settles laws nothing_told (27 + to_protected) (past_first_head rules) past_first_head-settles)
 
 -- ---- the message
 
-pub message_is_bounded : ReadSteps → MessageIsBounded
+pub message_is_bounded : BoundLaws → MessageIsBounded
 unfolding message
-message_is_bounded steps rules most at_most bytes le = first_head-settles steps rules most at_most 0 bytes (omega (arith, le))
+message_is_bounded laws rules most at_most bytes le = first_head-settles laws rules most at_most 0 bytes (omega (arith, le))

@@ -8,14 +8,14 @@ use Rattle.cose_head.specs.declared.reason.Reason.{Reason}
 use Rattle.cose_head.specs.declared.reason.Reason.TheVariants.{Truncated, PastRoom, WrongTag, Encrypted, SeveralParties, NotFour, WrongType, Detached, BadAuthLength, PayloadTooLong, CwtTagAlone}
 use Rattle.cose_head.specs.declared.refusal.Refusal.{Refusal}
 use Rattle.cose_map.specs.Bucket.{bucket_of}
-use Rattle.cose_map.specs.Inside.{PairsEndBy, BucketIsRefusedInside, BucketEndsInside, PairIsRefusedInside}
-use Rattle.cose_map.specs.Maps.{Pair}
-use Rattle.cose_map.specs.PairFault.{pair_fault}
-use Rattle.cose_map.specs.Reasons.{BucketIsNotTruncated, PairIsNotTruncated, ChoiceIsNotTruncated}
+use Rattle.cose_map.specs.Laws.Inside.{PairsEndBy, BucketIsRefusedInside, BucketEndsInside, PairIsRefusedInside}
+use Rattle.cose_map.specs.Map.Pairs.{Pair}
+use Rattle.cose_map.specs.Bucket.Both.{pair_fault}
+use Rattle.cose_map.specs.Laws.Reasons.{BucketIsNotTruncated, PairIsNotTruncated, ChoiceIsNotTruncated}
 use Rattle.cose_msg.specs.declared.context.Wanted.{Wanted}
 use Rattle.cose_msg.specs.declared.context.Wanted.TheVariants as wants
 use Rattle.cose_msg.specs.Answer.{Chosen, Headers, Whole}
-use Rattle.cose_msg.specs.Front.{array_head_fault, past_array_head, array_head, wanted_kind, wants_kind, kind_of_tag, past_tag, cose_tag, past_second_head, second_head, past_untagged, is_cwt_tag, is_tag, is_array, past_first_head, first_head}
+use Rattle.cose_msg.specs.Front.{array_head_fault, past_array_head, array_head, wanted_kind, wants_kind, kind_of_tag, past_tag, tag_behind_cwt, past_second_head, second_head, past_untagged, is_cwt_tag, is_tag, is_array, past_first_head, first_head}
 use Rattle.cose_msg.specs.Laws.{AreFair, IsDefinite, MessageIsDefinite, OpenIsTruncated, MessageStandsInside}
 use Rattle.cose_msg.specs.Message.{message}
 use Rattle.cose_msg.specs.Phases.{nothing_told, protected_told, headers_told, is_bytes_head, is_nil, is_too_long, finish, auth, auth_head_fault, past_auth_head, auth_head, past_payload, payload, payload_head_fault, past_payload_head, payload_head, past_choice, key_choice, both_buckets, placed_at, headers_of, past_unprotected, unprotected, past_protected, protected, protected_head_fault, past_protected_head, protected_head}
@@ -62,7 +62,7 @@ auth_definite rules chosen head = either (is_bytes_head head) (cond (rules.auth_
 
 payload_definite : (rules : Rules) (head : Head) → Definite (payload_head_fault rules head)
 payload_definite rules head =
-    either (is_bytes_head head) (cond (is_too_long rules head.arg) (Some PayloadTooLong) None) (cond (is_nil head) (Some Detached) (Some WrongType)) (either (is_too_long rules head.arg) (Some PayloadTooLong) None (λ e. absurd cc) tt)
+    either (is_bytes_head head) (cond (is_too_long rules.payload_limit head.arg) (Some PayloadTooLong) None) (cond (is_nil head) (Some Detached) (Some WrongType)) (either (is_too_long rules.payload_limit head.arg) (Some PayloadTooLong) None (λ e. absurd cc) tt)
     (either (is_nil head) (Some Detached) (Some WrongType) (λ e. absurd cc) (λ e. absurd cc))
 
 protected_definite : (rules : Rules) (head : Head) → Definite (protected_head_fault rules head)
@@ -81,8 +81,8 @@ tag_definite wanted number =
     (either_kind (number == 16 || number == 96) (Err Encrypted) _ (λ e. absurd cc)
     (either_kind (number == 97 || number == 98) (Err SeveralParties) (Err WrongTag) (λ e. absurd cc) (λ e. absurd cc))))
 
-cose_tag_definite : (rules : Rules) (head : Head) → DefiniteKind (cose_tag rules head)
-cose_tag_definite rules head = either_kind (is_tag head) (kind_of_tag rules.wanted head.arg) (Err CwtTagAlone) (tag_definite rules.wanted head.arg) (λ e. absurd cc)
+behind_cwt_definite : (wanted : Wanted) (head : Head) → DefiniteKind (tag_behind_cwt wanted head)
+behind_cwt_definite wanted head = either_kind (is_tag head) (kind_of_tag wanted head.arg) (Err CwtTagAlone) (tag_definite wanted head.arg) (λ e. absurd cc)
 
 -- ---- the phases, the last first
 
@@ -150,7 +150,7 @@ module _ (laws : HeadLaws) (maps : MapLaws) (rules : Rules) (fair : AreFair rule
   past_tag-sound at (Err reason) definite = stop_at-sound reason at definite
 
   second_head-sound : (from : ℕ) → Sound from (second_head rules)
-  second_head-sound from = with_head-sound laws nothing_told (past_second_head rules) from (λ at head. past_tag-sound at (cose_tag rules head) (cose_tag_definite rules head))
+  second_head-sound from = with_head-sound laws nothing_told (past_second_head rules) from (λ at head. past_tag-sound at (tag_behind_cwt rules.wanted head) (behind_cwt_definite rules.wanted head))
 
   past_untagged-sound : (wanted : Wanted) (at : ℕ) (head : Head) → Sound at (past_untagged rules wanted at head)
   past_untagged-sound wants.Mac0 at head = past_array_head-sound kinds.Mac0 at head
@@ -159,7 +159,7 @@ module _ (laws : HeadLaws) (maps : MapLaws) (rules : Rules) (fair : AreFair rule
 
   past_first_head-sound : (at : ℕ) (head : Head) → Sound at (past_first_head rules at head)
   past_first_head-sound at head =
-      choose-sound (is_cwt_tag rules head) (second_head rules) _ at (second_head-sound at)
+      choose-sound (is_cwt_tag rules.cwt head) (second_head rules) _ at (second_head-sound at)
       (choose-sound (is_tag head) (past_tag rules at (kind_of_tag rules.wanted head.arg)) _ at (past_tag-sound at (kind_of_tag rules.wanted head.arg) (tag_definite rules.wanted head.arg))
       (choose-sound (is_array head) (past_untagged rules rules.wanted at head) (λ place bytes. stop nothing_told WrongType at) at (past_untagged-sound rules.wanted at head)
       (stop_at-sound WrongType at (λ e. absurd cc))))

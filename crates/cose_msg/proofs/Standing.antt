@@ -1,18 +1,14 @@
 -- What a verifier stands for goes by the reading alone.
-use Rattle.std.proofs.Common.{◌≡◌, ℕ, ◌+◌, List, [], ◌∷◌, ◌++◌, length, Option, None, Some, refl, sym, ap, subst, ◌∙◌, arith, length-append}
+use Rattle.std.proofs.Common.{◌≡◌, ℕ, ◌+◌, List, [], ◌∷◌, ◌++◌, length, None, sym, ap, subst, ◌∙◌, arith, length-append}
 use Rattle.cose_head.specs.declared.kind.Kind.TheVariants.{Mac0}
-use Rattle.cose_head.specs.declared.reason.Reason.{Reason}
-use Rattle.cose_mac.specs.declared.alg.Alg.TheVariants.{Hmac256}
-use Rattle.cose_map.specs.KeyValue.{symmetric}
-use Rattle.cose_map.specs.Maps.{Pair}
+use Rattle.cose_head.specs.declared.algorithm.Alg.TheVariants.{Hmac256}
+use Rattle.cose_map.specs.Key.Value.{symmetric}
+use Rattle.cose_map.specs.Map.Pairs.{Pair}
 use Rattle.cose_msg.specs.declared.verifier.Verifier.{Verifier}
-use Rattle.cose_msg.specs.declared.phase.Phase.TheVariants as phases
-use Rattle.cose_msg.specs.declared.verdict.Verdict.TheVariants.{Refused}
 use Rattle.cose_msg.specs.Message.{Setting}
-use Rattle.cose_msg.specs.Phases.{nothing_told}
-use Rattle.cose_msg.specs.Reading.{Reading, Told, stop}
+use Rattle.cose_msg.specs.Reading.{Reading, Told}
 use Rattle.cose_head.specs.Head.{IsMore, bare_head}
-use Rattle.cose_msg.specs.Verifier.{HoldsIn, Known, StandsFor, setting_of}
+use Rattle.cose_msg.specs.Verifier.{HoldsIn, Known, StandsFor}
 
 -- Where nothing is known yet, anything will do.
 abbrev pub unknown : List ℕ → Known

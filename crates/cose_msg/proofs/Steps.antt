@@ -1,5 +1,5 @@
 -- What a phase comes to when more of its bytes are there: those that are held, and those of a piece.
-use Rattle.std.proofs.Common.{◌≡◌, ℕ, ◌+◌, ◌-◌, ◌<◌, true, false, Bool, List, [], ◌∷◌, ◌++◌, length, take, drop, Some, None, Ok, Err, refl, sym, ap, subst, slice_index, ◌∙◌, append_assoc, add-zero, arith, length-append}
+use Rattle.std.proofs.Common.{◌≡◌, ℕ, ◌+◌, ◌-◌, ◌<◌, true, false, List, [], ◌∷◌, ◌++◌, length, take, drop, Some, None, Ok, Err, refl, sym, ap, slice_index, ◌∙◌, append_assoc, add-zero, arith, length-append}
 use Rattle.std.specs.Prelude.{nat_lt}
 use Rattle.std.proofs.lemmas.Bool.{le-ltb}
 use Rattle.std.proofs.lemmas.List.{take_at, drop_at}
@@ -14,8 +14,11 @@ use Rattle.cose_head.specs.Laws.{ReadStays}
 use Rattle.cose_head.specs.Measured.{left_of}
 use Rattle.cose_head.specs.Reading.{read}
 use Rattle.cose_head.specs.Walker.{Answers}
-use Rattle.cose_map.specs.Maps.{Read}
-use Rattle.cose_map.specs.Views.{refusal_in}
+use Rattle.cose_map.specs.Map.Read.{Read}
+use Rattle.cose_map.specs.Map.View.{refusal_in}
+use Rattle.cose_msg.specs.declared.phase.Phase as code
+use Rattle.cose_msg.specs.declared.phase.Phase.TheVariants as phases
+use Rattle.cose_msg.specs.Phase.{grown, takes_bytes}
 use Rattle.cose_msg.specs.Reading.{Told, Phase, Next, stop, is_truncated, with_head, with_string, with_item, with_value}
 
 -- ---- a head
@@ -87,3 +90,18 @@ value_there (Err refusal) e = absurd cc
 pub first_byte : (piece : List ℕ) → 0 < length piece → take 1 piece ≡ slice_index piece 0 ∷ []
 first_byte [] lt = absurd (omega (arith, lt))
 first_byte (byte ∷ bytes) lt = refl
+
+-- A byte of a head or an item is none of the payload.
+pub grown_by_byte : (phase : code.Phase) (B part : List ℕ) → takes_bytes phase ≡ true → grown phase B part ≡ B
+grown_by_byte phases.FirstHead B part e = refl
+grown_by_byte (phases.TagHead p) B part e = refl
+grown_by_byte (phases.ArrayHead p) B part e = refl
+grown_by_byte (phases.ProtectedHead p) B part e = refl
+grown_by_byte (phases.Protected p) B part e = refl
+grown_by_byte (phases.Unprotected p) B part e = refl
+grown_by_byte (phases.PayloadHead p) B part e = refl
+grown_by_byte (phases.Payload p) B part e = absurd cc
+grown_by_byte (phases.AuthHead p) B part e = refl
+grown_by_byte (phases.Auth p) B part e = refl
+grown_by_byte (phases.Signed p) B part e = refl
+grown_by_byte (phases.Settled verdict) B part e = refl

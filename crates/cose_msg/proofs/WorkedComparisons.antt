@@ -7,11 +7,12 @@ use Rattle.cose_head.specs.Head.{shortest_head}
 use Rattle.cose_head.specs.Shortest.{shortest, shortest_all}
 use Rattle.cose_head.specs.declared.kind.Kind.TheVariants.{Mac0, Sign1}
 use Rattle.cose_head.specs.declared.reason.Reason.TheVariants.{BadAuth}
-use Rattle.cose_mac.specs.declared.alg.Alg.{Alg}
-use Rattle.cose_mac.specs.declared.alg.Alg.TheVariants.{Hmac64, Hmac256, Es256}
-use Rattle.cose_mac.specs.Algorithm.{mac, digest_of}
+use Rattle.cose_head.specs.declared.algorithm.Alg.{Alg}
+use Rattle.cose_head.specs.declared.algorithm.Alg.TheVariants.{Hmac64, Hmac256, Es256}
+use Rattle.cose_mac.specs.Hmac.{mac}
+use Rattle.cose_mac.specs.Hash.{digest_of}
 use Rattle.cose_mac.specs.Structure.{mac_structure, sig_structure}
-use Rattle.cose_map.specs.KeyValue.{KeyValue, symmetric}
+use Rattle.cose_map.specs.Key.Value.{KeyValue, symmetric}
 use Rattle.cose_msg.specs.declared.context.Wanted.TheVariants as wants
 use Rattle.cose_msg.specs.declared.verdict.Verdict.{Verdict}
 use Rattle.cose_msg.specs.declared.verdict.Verdict.TheVariants.{Authentic, Refused}

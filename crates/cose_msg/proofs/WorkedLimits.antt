@@ -5,8 +5,8 @@ use Rattle.cose_head.specs.Head.{shortest_head}
 use Rattle.cose_head.specs.Shortest.{shortest, shortest_all}
 use Rattle.cose_head.specs.declared.kind.Kind.TheVariants.{Mac0}
 use Rattle.cose_head.specs.declared.reason.Reason.TheVariants.{Truncated, TooDeep, PastRoom, BadAuth}
-use Rattle.cose_mac.specs.declared.alg.Alg.TheVariants.{Hmac256}
-use Rattle.cose_mac.specs.Algorithm.{mac}
+use Rattle.cose_head.specs.declared.algorithm.Alg.TheVariants.{Hmac256}
+use Rattle.cose_mac.specs.Hmac.{mac}
 use Rattle.cose_mac.specs.Structure.{mac_structure}
 use Rattle.cose_msg.specs.declared.verdict.Verdict.TheVariants.{Authentic}
 use Rattle.cose_msg.specs.Answer.{Answer, decided, refused}

@@ -6,12 +6,14 @@ use Rattle.cose_head.specs.Head.{bare_head}
 use Rattle.cose_head.specs.Item.{depth_of}
 use Rattle.cose_head.specs.Reading.{read, head}
 use Rattle.cose_head.specs.Placed.{look, children_of, items_from, head_of_item}
-use Rattle.cose_map.specs.Bucket.{bucket_of, bucket_table}
+use Rattle.cose_map.specs.Bucket.{bucket_of}
+use Rattle.cose_map.specs.Bucket.Form.{bucket_table}
 use Rattle.cose_map.specs.Choice.{chosen}
-use Rattle.cose_map.specs.KeyValue.{KeyValue, symmetric, elliptic, coordinate}
+use Rattle.cose_map.specs.Key.Value.{KeyValue, symmetric, elliptic, coordinate}
 use Rattle.cose_map.specs.Label.{LabelValue, number}
-use Rattle.cose_map.specs.Maps.{Pair, check_pairs}
-use Rattle.cose_map.specs.PairFault.{pair_faults}
+use Rattle.cose_map.specs.Map.Pairs.{Pair}
+use Rattle.cose_map.specs.Map.Read.{check_pairs}
+use Rattle.cose_map.specs.Bucket.Both.{pair_faults}
 use Rattle.cose_msg.specs.declared.context.Wanted.TheVariants as wants
 use Rattle.cose_msg.specs.Answer.{Answer}
 use Rattle.cose_msg.specs.Reading.{Reading, with_head, with_string, with_item}

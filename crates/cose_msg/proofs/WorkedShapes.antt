@@ -2,7 +2,7 @@
 use Rattle.std.specs.Prelude.{ℕ, List, [], ◌∷◌, ◌++◌, Option, Some, None, refl}
 use Rattle.cose_head.specs.declared.kind.Kind.TheVariants.{Mac0, Sign1}
 use Rattle.cose_head.specs.declared.reason.Reason.TheVariants.{Truncated, WrongType, WrongTag, BothBuckets, Detached, BadAuthLength}
-use Rattle.cose_map.specs.Maps.{Pair}
+use Rattle.cose_map.specs.Map.Pairs.{Pair}
 use Rattle.cose_msg.specs.Answer.{Answer, shaped, refused}
 use Rattle.cose_msg.specs.Message.{comparing, inspecting}
 use Rattle.cose_msg.specs.Reading.{Told}

@@ -2,9 +2,9 @@
 use Rattle.std.specs.Prelude.{ℕ, List, Option}
 use Rattle.cose_head.specs.declared.kind.Kind.{Kind}
 use Rattle.cose_head.specs.declared.reason.Reason.{Reason}
-use Rattle.cose_mac.specs.declared.alg.Alg.{Alg}
-use Rattle.cose_map.specs.KeyValue.{KeyValue}
-use Rattle.cose_map.specs.Maps.{Pair}
+use Rattle.cose_head.specs.declared.algorithm.Alg.{Alg}
+use Rattle.cose_map.specs.Key.Value.{KeyValue}
+use Rattle.cose_map.specs.Map.Pairs.{Pair}
 use Rattle.cose_msg.specs.declared.verdict.Verdict.{Verdict}
 use Rattle.cose_msg.specs.declared.verdict.Verdict.TheVariants.{Refused}
 

@@ -4,8 +4,10 @@ use Rattle.cose_head.specs.declared.kind.Kind.{Kind}
 use Rattle.cose_head.specs.declared.reason.Reason.{Reason}
 use Rattle.cose_head.specs.declared.refusal.Refusal.{Refusal}
 use Rattle.cose_map.specs.Bucket.{bucket_of}
-use Rattle.cose_map.specs.Maps.{Pair, Read, ◌>>=◌}
-use Rattle.cose_map.specs.PairFault.{pair_fault}
+use Rattle.cose_map.specs.Map.Pairs.{Pair}
+use Rattle.cose_map.specs.Map.Read.{Read}
+use Rattle.cose_map.specs.Map.Read.{◌>>=◌}
+use Rattle.cose_map.specs.Bucket.Both.{pair_fault}
 use Rattle.cose_msg.specs.Answer.{Chosen}
 use Rattle.cose_msg.specs.Message.{Setting, found_key}
 use Rattle.cose_msg.specs.Phases.{headers_of, placed_at}

@@ -1,9 +1,10 @@
 -- The key that was chosen, and what both buckets come to, without where they lie in memory.
-use Rattle.std.specs.Prelude.{◌≡◌, Bool, List, length, Result, Ok, Err, ◌==◌}
+use Rattle.std.specs.Prelude.{◌≡◌, List, length, Result, Ok, Err, ◌==◌}
 use Rattle.cose_head.specs.declared.reason.Reason.{Reason}
 use Rattle.cose_head.specs.declared.refusal.Refusal.{Refusal}
-use Rattle.cose_map.specs.KeyView.{key_value}
-use Rattle.cose_map.specs.Maps.{Pair, Read}
+use Rattle.cose_map.specs.Key.View.{key_value}
+use Rattle.cose_map.specs.Map.Pairs.{Pair}
+use Rattle.cose_map.specs.Map.Read.{Read}
 use Rattle.cose_msg.specs.declared.verifier.Chosen as code
 use Rattle.cose_msg.specs.declared.verifier.choice.Choice as code_choice
 use Rattle.cose_msg.specs.Answer.{Chosen}

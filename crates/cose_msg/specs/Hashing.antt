@@ -1,7 +1,9 @@
 -- What the hash over the authenticated structure was fed, and what it comes to (RFC 9052 sections 4.4 and 6.3).
 use Rattle.std.specs.Prelude.{ℕ, Bool, true, false, List, [], if◌then◌else◌}
-use Rattle.cose_mac.specs.Algorithm.{is_mac_of, mac, digest_of}
-use Rattle.cose_mac.specs.Fed.{FedMac, FedDigest}
+use Rattle.cose_head.specs.Algorithm.{is_mac_of}
+use Rattle.cose_mac.specs.Hmac.{mac}
+use Rattle.cose_mac.specs.Hash.{digest_of}
+use Rattle.cose_mac.specs.Running.{FedMac, FedDigest}
 use Rattle.cose_mac.specs.declared.running.Running.{Running}
 use Rattle.cose_msg.specs.declared.hashing.Hashing.{Hashing}
 use Rattle.cose_msg.specs.declared.hashing.Hashing.TheVariants as states

@@ -5,12 +5,14 @@ use Rattle.cose_head.specs.declared.kind.Kind.{Kind}
 use Rattle.cose_head.specs.declared.kind.Kind.TheVariants as kinds
 use Rattle.cose_head.specs.declared.reason.Reason.{Reason}
 use Rattle.cose_head.specs.declared.reason.Reason.TheVariants.{UnknownAlg, BadAuth}
-use Rattle.cose_mac.specs.declared.alg.Alg.{Alg}
-use Rattle.cose_mac.specs.Algorithm.{algorithm_numbered, auth_length_of, is_mac_of, mac, digest_of}
+use Rattle.cose_head.specs.declared.algorithm.Alg.{Alg}
+use Rattle.cose_head.specs.Algorithm.{algorithm_numbered, auth_length_of, is_mac_of}
+use Rattle.cose_mac.specs.Hmac.{mac}
+use Rattle.cose_mac.specs.Hash.{digest_of}
 use Rattle.cose_mac.specs.Structure.{structure_of}
 use Rattle.cose_map.specs.Bucket.{alg_of, kid_of}
 use Rattle.cose_map.specs.Choice.{Question, chosen}
-use Rattle.cose_map.specs.KeyValue.{KeyValue, MaterialValue, symmetric, elliptic}
+use Rattle.cose_map.specs.Key.Value.{KeyValue, MaterialValue, symmetric, elliptic}
 use Rattle.cose_map.specs.Label.{LabelValue}
 use Rattle.cose_msg.specs.declared.context.Wanted.{Wanted}
 use Rattle.cose_msg.specs.declared.verdict.Verdict.TheVariants.{Authentic}

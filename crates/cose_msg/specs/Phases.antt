@@ -6,8 +6,8 @@ use Rattle.cose_head.specs.declared.reason.Reason.{Reason}
 use Rattle.cose_head.specs.declared.reason.Reason.TheVariants.{PastRoom, WrongType, Detached, BadAuthLength, PayloadTooLong}
 use Rattle.cose_head.specs.Placed.{Placed}
 use Rattle.cose_map.specs.Bucket.{bucket_of}
-use Rattle.cose_map.specs.Maps.{Pair}
-use Rattle.cose_map.specs.PairFault.{pair_fault}
+use Rattle.cose_map.specs.Map.Pairs.{Pair}
+use Rattle.cose_map.specs.Bucket.Both.{pair_fault}
 use Rattle.cose_msg.specs.Answer.{Chosen, Headers}
 use Rattle.cose_msg.specs.Reading.{Told, Phase, Next, settled, stop, with_head, with_string, with_item, unless, unless_fault, with_value}
 use Rattle.cose_msg.specs.Rules.{Rules}

@@ -11,7 +11,7 @@ use Rattle.cose_head.specs.Head.{bare_head}
 use Rattle.cose_head.specs.Item.{Item}
 use Rattle.cose_head.specs.Measured.{left_of}
 use Rattle.cose_head.specs.Reading.{Outcome, read}
-use Rattle.cose_map.specs.Maps.{Pair}
+use Rattle.cose_map.specs.Map.Pairs.{Pair}
 use Rattle.cose_msg.specs.Answer.{Answer, refused}
 
 -- What is known of a message so far: the pairs of each header bucket, once it was found good, and the bytes of the

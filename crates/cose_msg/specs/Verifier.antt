@@ -1,13 +1,13 @@
 -- What a verifier stands for: what is left of the reading of a message.
-use Rattle.std.specs.Prelude.{◌≡◌, ℕ, ◌+◌, ◌-◌, ◌<◌, ◌≤◌, Bool, true, false, List, [], ◌∷◌, ◌++◌, length, Option, Some, None, Ok, ⊤, option_map, map, ◌==◌, if◌then◌else◌}
+use Rattle.std.specs.Prelude.{◌≡◌, ℕ, ◌+◌, ◌≤◌, false, List, [], ◌++◌, length, Some, Ok, ⊤, option_map, map, ◌==◌}
 use Rattle.cose_head.specs.declared.kind.Kind.{Kind}
-use Rattle.cose_mac.specs.declared.alg.Alg.{Alg}
+use Rattle.cose_head.specs.declared.algorithm.Alg.{Alg}
 use Rattle.cose_head.specs.Head.{IsMore, bare_head}
 use Rattle.cose_head.specs.Walker.{HasPut}
-use Rattle.cose_mac.specs.Algorithm.{auth_length_of, is_mac_of}
+use Rattle.cose_head.specs.Algorithm.{is_mac_of}
 use Rattle.cose_map.specs.Bucket.{bucket_of}
-use Rattle.cose_map.specs.KeySets.{keys}
-use Rattle.cose_map.specs.Views.{label_value}
+use Rattle.cose_map.specs.KeySet.View.{keys}
+use Rattle.cose_map.specs.Label.View.{label_value}
 use Rattle.cose_msg.specs.declared.context.Context.{Context}
 use Rattle.cose_msg.specs.declared.hashing.Hashing.{Hashing}
 use Rattle.cose_msg.specs.declared.phase.Phase.{Phase}
@@ -15,11 +15,11 @@ use Rattle.cose_msg.specs.declared.phase.Phase.TheVariants as phases
 use Rattle.cose_msg.specs.declared.verdict.Verdict.{Verdict}
 use Rattle.cose_msg.specs.declared.verdict.Verdict.TheVariants.{Authentic, Refused}
 use Rattle.cose_msg.specs.declared.verifier.Verifier.{Verifier}
-use Rattle.cose_msg.specs.Answer.{Answer, decided, complete, Chosen, Headers, Whole}
+use Rattle.cose_msg.specs.Answer.{decided, complete, Chosen, Headers, Whole}
 use Rattle.cose_msg.specs.Chosen.{chosen_value}
 use Rattle.cose_msg.specs.Front.{first_head, second_head, array_head}
 use Rattle.cose_msg.specs.Hashing.{Hashes, authenticator, result_of}
-use Rattle.cose_msg.specs.Message.{Setting, comparing, message, protected_content, structure}
+use Rattle.cose_msg.specs.Message.{Setting, comparing, message, structure}
 use Rattle.cose_msg.specs.Phases.{nothing_told, protected_told, headers_told, placed_at, protected_head, protected, unprotected, payload_head, payload, auth_head, auth}
 use Rattle.cose_msg.specs.Reading.{Reading, Told, settled}
 use Rattle.cose_msg.specs.Rules.{Rules}

@@ -1,8 +1,8 @@
 //! Who verifies signatures with elliptic curves (RFC 9053 section 2.1).
 
 ghost use Rattle.std.specs.Prelude.{◌≡◌, ℕ, Bool, false, List};
-ghost use Rattle.cose_map.specs.KeyValue.{KeyValue};
-ghost use Rattle.cose_map.specs.KeyView.{key_value};
+ghost use Rattle.cose_map.specs.Key.Value.{KeyValue};
+ghost use Rattle.cose_map.specs.Key.View.{key_value};
 
 use cose_map::Key;
 

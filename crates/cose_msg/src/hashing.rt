@@ -16,9 +16,9 @@ pub(crate) enum Hashing {
 }
 
 impl Hashing {
-    ghost use Rattle.std.specs.Prelude.{◌≡◌, ℕ, List, [], ◌++◌};
-    ghost use Rattle.cose_map.specs.KeyValue.{KeyValue};
-    ghost use Rattle.cose_mac.specs.Structure.{structure_front};
+    ghost use Rattle.std.specs.Prelude.{◌≡◌, ℕ, List, [], ◌++◌, length};
+    ghost use Rattle.cose_map.specs.Key.Value.{KeyValue};
+    ghost use Rattle.cose_mac.specs.Structure.{structure_front, structure_of};
     ghost use Rattle.cose_msg.specs.Answer.{Chosen as Found};
     ghost use Rattle.cose_msg.specs.Hashing.{Hashes, authenticator, result_of};
     ghost use Rattle.cose_msg.specs.Message.{secret_of};
@@ -44,12 +44,21 @@ impl Hashing {
     }
 
     /// Appends what stands before the payload's content in the structure.
-    pub(crate) fn front(&mut self, kind: Kind, protected: &[u8], aad: &[u8], payload: u64)
-        ensures { (found : Found) (message : List ℕ) → Hashes self.old found message
-            → Hashes self.new found (message ++ structure_front kind protected.now aad.now payload) }
+    pub(crate) fn front(&mut self, kind: Kind, protected: &[u8], aad: &[u8], payload_length: u64)
+        ensures appended { (found : Found) (message : List ℕ) → Hashes self.old found message
+            → Hashes self.new found (message ++ structure_front kind protected.now aad.now payload_length) }
+        // Any payload of that length completes it.
+        ensures front { (found : Found) (message payload : List ℕ) → Hashes self.old found message → length payload ≡ payload_length
+            → structure_front kind protected.now aad.now payload_length ++ payload ≡ structure_of kind protected.now aad.now payload }
     {
         match self {
-            Hashing::Running(running) => structure_front(kind, protected, aad, payload, running),
+            Hashing::Running(running) => structure_front(
+                kind,
+                protected,
+                aad,
+                payload_length,
+                running,
+            ),
             Hashing::Nothing | Hashing::Finished(_) => {}
         }
     }

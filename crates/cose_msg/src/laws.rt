@@ -42,7 +42,9 @@ pub fn messages_are_bounded()
     ensures verified { MessageIsVerifiedWithin }
     ensures inspected { MessageIsInspectedWithin }
 {
-    // That an item uses no more bytes than it has room for, and is cut short only where it has room for one more.
+    // That a head has nine bytes at most, and that an item uses no more bytes than it has room for, and is cut short only
+    // where it has room for one more.
+    bare_head_is_spelling();
     read_steps();
 }
 

@@ -2,4 +2,5 @@ pub mod MachineLemmas
 pub mod PhaseLemmas
 pub mod PlaceLemmas
 pub mod RunLemmas
+pub mod WorkedPrinted
 pub mod WorkedVerdicts

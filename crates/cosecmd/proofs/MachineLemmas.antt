@@ -9,7 +9,7 @@ use Rattle.cose_head.specs.declared.head.HeadStep.TheVariants.{Got, More, Fault}
 use Rattle.cose_head.specs.Head.{IsMore, bare_head}
 use Rattle.cosecmd.specs.declared.first.machine.Machine.{Machine}
 use Rattle.cosecmd.specs.declared.first.machine.Machine.TheVariants as phases
-use Rattle.cose_map.specs.KeySets.{keys}
+use Rattle.cose_map.specs.KeySet.View.{keys}
 use Rattle.cosecmd.specs.FirstVerdict.{front, key_choice, past_payload_head, tag_head, past_tag_head, comparison}
 use Rattle.cosecmd.specs.Machine.{Feeds, left_of, payload_byte, place_of}
 use Rattle.cosecmd.proofs.PhaseLemmas.{with_string-whole}

@@ -13,7 +13,7 @@ use Rattle.cose_head.specs.Head.{bare_head}
 use Rattle.cosecmd.specs.declared.first.machine.Progress.{Progress}
 use Rattle.cosecmd.specs.declared.first.machine.Progress.TheVariants.{Open, Settled}
 use Rattle.cose_map.specs.Choice.{chosen}
-use Rattle.cose_map.specs.KeyValue.{KeyValue, symmetric}
+use Rattle.cose_map.specs.Key.Value.{KeyValue, symmetric}
 use Rattle.cosecmd.specs.FirstVerdict.{authentic, comparison, first_question, key_choice, payload_head, tag_of}
 use Rattle.cosecmd.specs.Machine.{Continues}
 use Rattle.cosecmd.specs.Phases.{Phase, Reading, refused, with_front, with_head, with_string}

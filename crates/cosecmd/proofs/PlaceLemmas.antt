@@ -11,7 +11,7 @@ use Rattle.cose_head.specs.declared.reason.Reason.TheVariants.{BadAuth}
 use Rattle.cose_head.specs.Head.{bare_head}
 use Rattle.cose_head.specs.Laws.{HeadIsSpelled}
 use Rattle.cose_map.specs.Choice.{chosen}
-use Rattle.cose_map.specs.KeyValue.{KeyValue, MaterialValue, symmetric, elliptic}
+use Rattle.cose_map.specs.Key.Value.{KeyValue, MaterialValue, symmetric, elliptic}
 use Rattle.cosecmd.specs.FirstVerdict.{authentic, comparison, first_question, first_reading, front, key_choice, past_choice, past_material, past_payload_fault, past_payload_head, past_tag_fault, past_tag_head, payload, payload_fault, payload_head, tag, tag_fault, tag_head, tag_of}
 use Rattle.cosecmd.specs.Phases.{Phase, Reading, VerdictWithin, past_head, refused, unsettled, with_front, with_head, with_string}
 

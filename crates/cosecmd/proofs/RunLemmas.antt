@@ -7,7 +7,7 @@ use Rattle.std.proofs.Math.Seq.{take-append_seam}
 use Rattle.std.proofs.lemmas.Bool.{cases_lt}
 use Rattle.std.proofs.lemmas.List.{append-nil, take-append-le}
 use Rattle.cose_head.specs.Laws.{HeadIsSpelled}
-use Rattle.cose_map.specs.KeyValue.{KeyValue}
+use Rattle.cose_map.specs.Key.Value.{KeyValue}
 use Rattle.cosecmd.specs.declared.first.machine.Machine.{Machine}
 use Rattle.cosecmd.specs.declared.first.machine.Progress.TheVariants.{Open, Settled}
 use Rattle.cosecmd.specs.declared.first.verdict.Verdict.{Verdict}

@@ -6,7 +6,7 @@ use Rattle.cosecmd.specs.declared.first.verdict.Verdict.{Verdict}
 use Rattle.cosecmd.specs.declared.first.verdict.Verdict.TheVariants.{Refused}
 use Rattle.cose_head.specs.Head.{bare_head}
 use Rattle.cose_map.specs.Choice.{chosen}
-use Rattle.cose_map.specs.KeyValue.{KeyValue, symmetric}
+use Rattle.cose_map.specs.Key.Value.{KeyValue, symmetric}
 use Rattle.cosecmd.specs.Phases.{with_head, with_string}
 use Rattle.cosecmd.specs.FirstVerdict.{first_reading, first_verdict, front, key_choice}
 
@@ -64,3 +64,17 @@ nil_in_two_bytes key = refl
 tag_of_eight_bytes : (key : List ℕ) → first_verdict (under key) (front ++ 0x42 ∷ 0x68 ∷ 0x69 ∷ 0x48 ∷ []) ≡ refused_at BadAuthLength 10
 unfolding first_reading key_choice chosen with_head with_string bare_head
 tag_of_eight_bytes key = refl
+
+-- nil is the one byte f6: neither a float whose bits are 22 nor another simple value
+float_of_the_bits_of_nil : (key : List ℕ) → first_verdict (under key) (front ++ 0xf9 ∷ 0x00 ∷ 0x16 ∷ []) ≡ refused_at WrongType 7
+unfolding first_reading key_choice chosen with_head bare_head
+float_of_the_bits_of_nil key = refl
+
+undefined_for_payload : (key : List ℕ) → first_verdict (under key) (front ++ 0xf7 ∷ []) ≡ refused_at WrongType 7
+unfolding first_reading key_choice chosen with_head bare_head
+undefined_for_payload key = refl
+
+-- a text of another length for the authentication tag: its type is judged before its length
+text_for_tag : (key : List ℕ) → first_verdict (under key) (front ++ 0x42 ∷ 0x68 ∷ 0x69 ∷ 0x60 ∷ []) ≡ refused_at WrongType 10
+unfolding first_reading key_choice chosen with_head with_string bare_head
+text_for_tag key = refl

@@ -1,7 +1,7 @@
 -- What a call of the first path did with an intake and a sink.
 use Rattle.std.specs.Prelude.{◌≡◌, ℕ, ◌<◌, Bool, true, false, List, [], ◌++◌, length, take, Option, Result, Ok, Err, IfOk, not}
 use Rattle.std.specs.Io.KnownBytes.{Appends, Consumes, IsAtEnd}
-use Rattle.cose_map.specs.KeyValue.{KeyValue}
+use Rattle.cose_map.specs.Key.Value.{KeyValue}
 use Rattle.cosecmd.specs.declared.first.verdict.Verdict.{Verdict}
 use Rattle.cosecmd.specs.declared.first.verdict.Stop.{Stop}
 use Rattle.cosecmd.specs.declared.first.verdict.Stop.TheVariants as stops

@@ -6,11 +6,12 @@ use Rattle.cose_head.specs.declared.head.Head.{Head}
 use Rattle.cose_head.specs.declared.kind.Kind.TheVariants.{Mac0}
 use Rattle.cose_head.specs.declared.reason.Reason.{Reason}
 use Rattle.cose_head.specs.declared.reason.Reason.TheVariants.{WrongType, NoKey, Detached, BadAuthLength, BadAuth, PayloadTooLong}
-use Rattle.cose_mac.specs.Algorithm.{auth_length_of, mac}
+use Rattle.cose_head.specs.Algorithm.{auth_length_of}
+use Rattle.cose_mac.specs.Hmac.{mac}
 use Rattle.cose_mac.specs.Structure.{mac_structure}
-use Rattle.cose_mac.specs.declared.alg.Alg.TheVariants.{Hmac256}
+use Rattle.cose_head.specs.declared.algorithm.Alg.TheVariants.{Hmac256}
 use Rattle.cose_map.specs.Choice.{Question, chosen}
-use Rattle.cose_map.specs.KeyValue.{KeyValue, MaterialValue, symmetric, elliptic}
+use Rattle.cose_map.specs.Key.Value.{KeyValue, MaterialValue, symmetric, elliptic}
 use Rattle.cose_map.specs.Label.{number}
 use Rattle.cosecmd.specs.declared.first.verdict.Verdict.{Verdict}
 use Rattle.cosecmd.specs.declared.first.verdict.Verdict.TheVariants.{Authentic}

@@ -2,9 +2,9 @@
 use Rattle.std.specs.Prelude.{◌≡◌, ℕ, ◌+◌, ◌-◌, ◌^◌, true, List, [], ◌∷◌, ◌++◌, length, drop, ⊤}
 use Rattle.arrayvec.specs.ArrayVec.{array_vec_len}
 use Rattle.cose_head.specs.Head.{IsMore, bare_head}
-use Rattle.cose_mac.specs.Fed.{FedMac}
+use Rattle.cose_mac.specs.Running.{FedMac}
 use Rattle.cose_mac.specs.Structure.{mac_structure}
-use Rattle.cose_mac.specs.declared.alg.Alg.TheVariants.{Hmac256}
+use Rattle.cose_head.specs.declared.algorithm.Alg.TheVariants.{Hmac256}
 use Rattle.cose_mac.specs.declared.running.Running.{Running}
 use Rattle.cosecmd.specs.declared.first.phases.Front.{Front}
 use Rattle.cosecmd.specs.declared.first.phases.PayloadHead.{PayloadHead}
@@ -16,7 +16,7 @@ use Rattle.cosecmd.specs.declared.first.machine.Machine.TheVariants as phases
 use Rattle.cosecmd.specs.declared.first.machine.Progress.{Progress}
 use Rattle.cosecmd.specs.declared.first.machine.Progress.TheVariants.{Open, Settled}
 use Rattle.cosecmd.specs.declared.first.verdict.Verdict.{Verdict}
-use Rattle.cose_map.specs.KeySets.{keys}
+use Rattle.cose_map.specs.KeySet.View.{keys}
 use Rattle.cosecmd.specs.FirstVerdict.{front, protected, key_choice, payload_head, payload, tag_head, tag}
 use Rattle.cosecmd.specs.Phases.{Reading, with_front}
 

@@ -3,12 +3,11 @@ use Rattle.std.specs.Prelude.{◌≡◌, ℕ, List, ◌∷◌, ◌++◌, Ok, cod
 use Rattle.std.specs.Fmt.{decimal, signed_decimal}
 use Rattle.cose_head.specs.declared.kind.Kind.{Kind}
 use Rattle.cose_head.specs.declared.kind.Kind.TheVariants.{Mac0, Sign1}
-use Rattle.cose_head.specs.declared.reason.Reason.{Reason}
 use Rattle.cose_head.specs.declared.reason.Reason.TheVariants.{Trailing}
-use Rattle.cose_head.specs.Reason.{name_of}
-use Rattle.cose_mac.specs.Algorithm.{number_of}
+use Rattle.cose_head.specs.Refusal.{refusal_text}
+use Rattle.cose_head.specs.Algorithm.{algorithm_number}
 use Rattle.cose_map.specs.KeySet.{keys_of}
-use Rattle.cose_map.specs.KeyValue.{KeyValue}
+use Rattle.cose_map.specs.Key.Value.{KeyValue}
 use Rattle.cosecmd.specs.declared.first.verdict.Verdict.{Verdict}
 use Rattle.cosecmd.specs.declared.first.verdict.Verdict.TheVariants.{Authentic, Refused}
 use Rattle.cosecmd.specs.declared.reply.Reply.{Reply}
@@ -21,13 +20,10 @@ abbrev pub word_of_kind : Kind → List ℕ
 word_of_kind Mac0 = codes "mac0"
 word_of_kind Sign1 = codes "sign1"
 
-abbrev pub refusal_line : Reason → ℕ → List ℕ
-refusal_line reason place = codes "refused " ++ name_of reason ++ codes " at " ++ decimal place
-
 abbrev pub verdict_line : Verdict → List ℕ
 verdict_line (Authentic kind alg payload taken) =
-    codes "authentic " ++ word_of_kind kind ++ codes " alg " ++ signed_decimal (number_of alg) ++ codes " payload " ++ decimal payload ++ codes " taken " ++ decimal taken
-verdict_line (Refused refusal) = refusal_line refusal.reason refusal.place
+    codes "authentic " ++ word_of_kind kind ++ codes " alg " ++ signed_decimal (algorithm_number alg) ++ codes " payload " ++ decimal payload ++ codes " taken " ++ decimal taken
+verdict_line (Refused refusal) = codes "refused " ++ refusal_text refusal
 
 -- The exit status of the process, and how a run ends on a verdict.
 abbrev pub code_of : Status → ℕ

@@ -1,8 +1,8 @@
-//! The faults of the line, the words, memory and the input, each with the line that is printed for it.
+//! Why a run has no verdict (the command line, the key set, memory, the input), each with the line that is printed for it.
 
 ghost use Rattle.std.specs.Prelude.{◌≡◌, ◌≢◌};
 
-use cose_head::{Reason, Refusal};
+use cose_head::Refusal;
 use hex::FromHexError;
 use std::alloc::AllocError;
 use thiserror::Error;
@@ -13,37 +13,28 @@ pub enum Fault {
     /// A request for memory was refused.
     #[error("fault memory")]
     Memory,
-    /// The word of this option is no hexadecimal.
+    /// The word that follows this option is no hexadecimal.
     #[error("fault line {0}")]
     Line(&'static str),
-    /// The key set is refused.
-    #[error("fault keys {reason} at {place}")]
-    Keys {
-        /// Why.
-        reason: Reason,
-        /// Where, in bytes from its first.
-        place: u64,
-    },
+    /// The key set is refused. The place is in bytes from the first of the set.
+    #[error("fault keys {0}")]
+    Keys(Refusal),
     /// The input failed.
     #[error("fault input")]
     Input,
 }
 
 impl From<AllocError> for Fault {
+    ghost use Rattle.cosecmd.specs.declared.fault.Fault.{Fault};
+
+    ghost from_gives = { λ _ fault. fault ≡ Fault.Memory };
+
     fn from(_: AllocError) -> Fault {
         Fault::Memory
     }
 }
 
 impl Fault {
-    /// A refused key set.
-    pub fn keys(refusal: Refusal) -> Fault
-        ensures { result ≡ Fault.Keys refusal.reason refusal.place }
-    {
-        let Refusal { reason, place } = refusal;
-        Fault::Keys { reason, place }
-    }
-
     /// The word of an option that couldn't be read as hexadecimal.
     pub fn hexadecimal(option: &'static str, error: FromHexError) -> Fault
         ensures memory { error ≡ FromHexError.OutOfMemory → result ≡ Fault.Memory }

@@ -1,6 +1,6 @@
 //! A run of the program, over any reader and writer.
 
-ghost use Rattle.std.specs.Prelude.{◌≡◌, ◌≢◌, ◌≤◌, ◌||◌, ℕ, List, Some, Err, IfOk, is_err};
+ghost use Rattle.std.specs.Prelude.{◌≡◌, ◌≢◌, ◌≤◌, ◌↔◌, ◌||◌, ℕ, List, Some, Ok, Err, IfErr, IfOk, is_err};
 ghost use Rattle.cose_head.specs.declared.refusal.Refusal.{Refusal};
 ghost use Rattle.cose_map.specs.KeySet.{keys_of};
 ghost use Rattle.std.specs.Io.KnownBytes.{Appends};
@@ -18,9 +18,15 @@ use cose_map::{KeySet, Reason, Refusal};
 use std::alloc::Global;
 use std::io::{Read, Write};
 
-/// The verdict, once the intake was looked at for a byte behind an authentic message.
+/// The verdict of the whole input: behind an authentic message, a further byte makes it `Trailing`.
 fn whole_verdict<I: Intake>(verdict: Verdict, intake: &mut I) -> Result<Verdict, Fault>
+    // Behind a refused message nothing is looked for.
+    ensures refused { (refusal : Refusal) → verdict ≡ Verdict.Refused refusal → result ≡ Ok verdict }
+    ensures unread { (refusal : Refusal) → verdict ≡ Verdict.Refused refusal → intake.new ≡ intake.old }
+
+    // Behind an authentic one nothing may stand.
     ensures whole { (rest : List ℕ) → I.to_come intake.old ≡ Some rest → IfOk result (λ whole. whole ≡ with_rest rest verdict) }
+    ensures fault { IfErr result (λ fault. fault ≡ Fault.Input) }
     ensures failure { I.has_failed intake.new ≡ (I.has_failed intake.old || is_err result) }
 {
     let Verdict::Authentic { taken, .. } = verdict else {
@@ -36,9 +42,10 @@ fn whole_verdict<I: Intake>(verdict: Verdict, intake: &mut I) -> Result<Verdict,
     }
 }
 
-/// The reply that says a verdict.
+/// The line of a verdict, and how a run ends with it.
 fn reply_of(alloc: Global, verdict: Verdict) -> Result<Reply, Fault>
-    ensures { IfOk result (Says verdict) }
+    ensures says { IfOk result (Says verdict) }
+    ensures fault { IfErr result (λ fault. fault ≡ Fault.Memory) }
 {
     let status = match verdict {
         Verdict::Authentic { .. } => Status::Done,
@@ -48,14 +55,14 @@ fn reply_of(alloc: Global, verdict: Verdict) -> Result<Reply, Fault>
     Ok(Reply { status, text })
 }
 
-/// What there is to say of the message that the reader gives, under the key set in `keys`.
+/// The reply to the message that the reader gives, under the key set in `keys`.
 fn reply_to<R: Read>(alloc: Global, keys: &[u8], input: &mut R) -> Result<Reply, Fault>
     ensures said { (bytes : List ℕ) → R.remaining input.old ≡ Some bytes → IfOk result (λ reply. (verdict : Verdict) × ProgramVerdict keys.now bytes verdict × Says verdict reply) }
-    ensures keys { (refusal : Refusal) → keys_of keys.now ≡ Err refusal → result ≡ Err (Fault.Keys refusal.reason refusal.place) }
+    ensures keys { (refusal : Refusal) → keys_of keys.now ≡ Err refusal ↔ result ≡ Err (Fault.Keys refusal) }
 {
     let keys = match KeySet::read(keys) {
         Ok(keys) => keys,
-        Err(refusal) => return Err(Fault::keys(refusal)),
+        Err(refusal) => return Err(Fault::Keys(refusal)),
     };
     let mut intake = ReadIntake::new(input);
     let verdict = match verify_first(&keys, &mut intake, &mut Nothing) {
@@ -109,8 +116,9 @@ pub fn verify<R: Read, W: Write>(
 /// Runs the program: `words` are those of the command line, the first of them its name. The message comes from
 /// `input`; every line goes to `output`, a fault's too.
 ///
-/// The exit status is 0 for an authentic message (and for help), 1 for a refused one, and 2 for a fault of the line,
-/// the words, the keys, memory, input or output.
+/// The exit status is 0 for an authentic message (and for help and the version), 1 for a refused one, and 2 where there
+/// is no verdict: the command line is wrong, the key set is refused, a request for memory is refused, or the input or
+/// the output fails.
 pub fn run<'a, R: Read, W: Write>(
     alloc: Global,
     words: &'a [&'a str],

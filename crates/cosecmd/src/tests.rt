@@ -3,6 +3,7 @@
 mod failures;
 mod messages;
 mod runs;
+mod using;
 
 use cose_map::KeySet;
 use sha2::{Digest, Sha256};
@@ -40,6 +41,11 @@ fn hmac(alloc: Global, key: &[u8], text: &[u8]) -> Result<[u8; 32], AllocError> 
     inner.extend_from_slice(text)?;
     outer.extend_from_slice(&Sha256::digest(inner.as_slice()))?;
     Ok(Sha256::digest(outer.as_slice()))
+}
+
+/// The tag without its last byte.
+fn cut(tag: &[u8; 32]) -> &[u8] {
+    &tag[..31]
 }
 
 /// The keys of that set.

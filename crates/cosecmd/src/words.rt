@@ -6,6 +6,13 @@ use clap::error::ErrorKind;
 use clap::{Arg, ArgMatches, Command};
 use std::alloc::{AllocError, Global};
 
+/// The version of the program, which `--version` prints.
+const VERSION: &str = "0.1.0";
+
+/// What help says below the options.
+const NOTES: &str = "Words in hexadecimal have an even number of digits, no prefix and no spaces.
+Exit status: 0 authentic, 1 refused, 2 no verdict (command line, keys, memory, input or output).";
+
 /// What the words ask for.
 #[derive(Drop)]
 pub enum Request {
@@ -14,7 +21,7 @@ pub enum Request {
         /// The bytes of the key set.
         keys: Vec<u8>,
     },
-    /// Help, or what is wrong with the line.
+    /// Help, the version, or what is wrong with the line.
     Print(Reply),
 }
 
@@ -27,15 +34,18 @@ fn line<'a>(alloc: Global) -> Result<Command<'a>, AllocError> {
         .help("The key set (RFC 9052 section 7) in hexadecimal");
     let verify = Command::new(alloc, "verify")
         .about("Verifies the COSE message on standard input and prints the verdict")
+        .after_help(NOTES)
         .arg(keys)?;
     Command::new(alloc, "cosecmd")
         .about("Verifies COSE messages (RFC 9052) that come on standard input")
+        .version(VERSION)
+        .after_help(NOTES)
         .subcommand_required(true)
         .arg_required_else_help(true)
         .subcommand(verify)
 }
 
-/// The text of a line that is refused, or the help that it asks for.
+/// The text of a line that is refused, or the help or version that it asks for.
 fn refused_line(alloc: Global, error: clap::Error) -> Result<Reply, Fault> {
     if matches!(error.kind(), ErrorKind::OutOfMemory) {
         return Err(Fault::Memory);

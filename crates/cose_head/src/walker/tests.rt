@@ -1,4 +1,6 @@
 use super::*;
+use crate::item::Span;
+use crate::tests::rows::rows;
 
 /// Puts the bytes, and counts those after which the item goes on.
 fn count_going<const D: usize>(walker: &mut Walker<D>, bytes: &[u8]) -> usize {
@@ -11,44 +13,38 @@ fn count_going<const D: usize>(walker: &mut Walker<D>, bytes: &[u8]) -> usize {
     going
 }
 
-fn fault(reason: Reason, place: u64) -> Step {
-    Step::Fault(Refusal { reason, place })
+/// A new walker is put the bytes: after how many of them it goes on, and its last answer.
+fn walked<const D: usize>(walker: &mut Walker<D>, bytes: &[u8]) -> (usize, Step) {
+    let going = count_going(walker, bytes);
+    (going, walker.step())
+}
+
+/// What a walker says of bytes of which reading gives this.
+fn step_of(answer: Result<Span, Refusal>) -> Step {
+    match answer {
+        Ok(_) => Step::Done,
+        Err(refusal) => {
+            if refusal.reason == Reason::Truncated {
+                return Step::Going;
+            }
+            Step::Fault(refusal)
+        }
+    }
 }
 
 #[test]
 fn answers_as_reading(rt: HostRuntime) {
-    let rows: [(&[u8], usize, usize, Step); 17] = [
-        (b"\x18\x00", 2, 1, Step::Done),
-        (b"\x81\x81\x00", 3, 1, fault(Reason::TooDeep, 1)),
-        (b"\x80", 1, 0, Step::Done),
-        (b"\xf8\x1f", 2, 1, fault(Reason::BadSimple, 0)),
-        (b"\xf8\x20", 2, 1, Step::Done),
-        (b"\xf9", 3, 1, Step::Going),
-        (b"\xf9", 2, 0, fault(Reason::PastRoom, 0)),
-        (b"\x1c", 1, 0, fault(Reason::Reserved, 0)),
-        (b"\x1f", 1, 0, fault(Reason::Reserved, 0)),
-        (b"\xdf", 1, 0, fault(Reason::Reserved, 0)),
-        (b"\x5f", 1, 0, fault(Reason::Indefinite, 0)),
-        (b"\xff", 1, 0, fault(Reason::Indefinite, 0)),
-        (b"\x44\x01\x02", 5, 3, Step::Going),
-        (b"\x44\x01\x02", 4, 0, fault(Reason::PastRoom, 0)),
-        (b"\x82\x00", 3, 2, Step::Going),
-        (b"\x82\x00", 2, 0, fault(Reason::PastRoom, 0)),
-        (
-            b"\xbb\x80\x00\x00\x00\x00\x00\x00\x00",
-            65_535,
-            8,
-            fault(Reason::PastRoom, 0),
-        ),
-    ];
-    for (bytes, room, going, step) in rows {
-        let mut walker: Walker<1> = Walker::new(room);
-        assert_eq!(rt;
-            count_going(&mut walker, bytes),
-            going,
-            "{bytes:?} in {room}"
-        );
-        assert_eq!(rt; walker.step(), step, "{bytes:?} in {room}");
+    for (bytes, room, depth, going, answer) in rows() {
+        let mut leaf: Walker<0> = Walker::new(room);
+        let mut parent: Walker<1> = Walker::new(room);
+        let mut nested: Walker<2> = Walker::new(room);
+        let (after, step) = match depth {
+            0 => walked(&mut leaf, bytes),
+            1 => walked(&mut parent, bytes),
+            _ => walked(&mut nested, bytes),
+        };
+        assert_eq!(rt; after, going, "{bytes:?} in {room}");
+        assert_eq!(rt; step, step_of(answer), "{bytes:?} in {room}");
     }
 }
 

@@ -1,37 +1,145 @@
 //! Tables of examples: values that the contracts can't show to be the ones that were meant.
 
 use super::*;
-use crate::material::Y;
+use crate::key::material::Y;
 use cose_head::Reason;
+use std::alloc::Global;
+use std::test::Fail;
 
 #[test]
 fn refuses_at_the_first_fault(rt: HostRuntime) {
-    let rows: [(&[u8], Reason, u64); 15] = [
+    let rows: [(&[u8], Reason, u64); 21] = [
+        // The item is read first, of a nesting of 8, and is a map.
         (b"", Reason::PastRoom, 7),
         (b"\x80", Reason::NotMap, 7),
-        (b"\xa0", Reason::BadValue, 7),
+        (b"\x80\x00", Reason::Trailing, 8),
+        (
+            b"\xa3\x01\x04\x20\x41\x61\x0a\x81\x81\x81\x81\x81\x81\x81\x81\x00",
+            Reason::TooDeep,
+            21,
+        ),
+        // Then the pairs, one after another.
         (b"\xa1\x01\x40", Reason::BadValue, 9),
+        (b"\xa2\x01\x04\x02\x00", Reason::BadValue, 11),
+        (b"\xa2\x01\x04\x02\x60", Reason::BadValue, 11),
+        (
+            b"\xa3\x01\x04\x03\x61\xff\x20\x41\x61",
+            Reason::BadValue,
+            11,
+        ),
+        (b"\xa2\x01\x04\x03\x40", Reason::BadValue, 11),
+        (b"\xa3\x01\x04\x04\x80\x20\x41\x61", Reason::BadValue, 11),
+        (b"\xa2\x01\x04\x04\x01", Reason::BadValue, 11),
+        (b"\xa2\x01\x04\x04\xa1\x01\x01", Reason::BadValue, 11),
+        (b"\xa2\x01\x04\x04\x82\x01\x40", Reason::BadValue, 11),
+        (b"\xa2\x01\x04\x05\x00", Reason::BadValue, 11),
+        (b"\xa2\x01\x04\x05\x60", Reason::BadValue, 11),
+        (
+            b"\xa3\x01\x04\x01\x04\x20\x41\x61",
+            Reason::DuplicateLabel,
+            10,
+        ),
+        // Then what the type asks for.
+        (b"\xa2\x01\x01\x04\x80", Reason::BadValue, 11),
+        (b"\xa0", Reason::BadValue, 7),
+        (b"\xa1\x01\x03", Reason::UnknownKey, 7),
         (b"\xa2\x01\x01\x20\x06", Reason::UnknownKey, 7),
         (b"\xa1\x01\x61\xff", Reason::UnknownKey, 7),
+    ];
+    for (bytes, reason, place) in rows {
+        let refused = Key::read(bytes, 7).err();
+        assert_eq!(rt; refused, Some(Refusal { reason, place }), "of {bytes:?}");
+    }
+}
+
+#[test]
+fn refuses_symmetric_keys(rt: HostRuntime) {
+    let rows: [(&[u8], Reason, u64); 4] = [
+        (b"\xa1\x01\x04", Reason::BadValue, 7),
+        (b"\xa2\x01\x04\x20\x06", Reason::BadValue, 11),
+        (b"\xa2\x01\x04\x20\x61\x61", Reason::BadValue, 11),
         (b"\xa2\x01\x04\x20\x40", Reason::BadValue, 11),
-        (b"\xa3\x01\x04\x04\x80\x20\x41a", Reason::BadValue, 11),
-        (b"\xa3\x01\x04\x03\x61\xff\x20\x41a", Reason::BadValue, 11),
-        (b"\xa3\x01\x04\x01\x04\x20\x41a", Reason::DuplicateLabel, 10),
+    ];
+    for (bytes, reason, place) in rows {
+        let refused = Key::read(bytes, 7).err();
+        assert_eq!(rt; refused, Some(Refusal { reason, place }), "of {bytes:?}");
+    }
+}
+
+#[test]
+fn refuses_keys_on_curves(rt: HostRuntime) {
+    let rows: [(&[u8], Reason, u64); 21] = [
+        // crv
+        (b"\xa1\x01\x02", Reason::BadValue, 7),
+        (b"\xa2\x01\x02\x20\x40", Reason::BadValue, 11),
+        (b"\xa2\x01\x02\x20\x61\x78", Reason::UnknownKey, 7),
+        (b"\xa2\x01\x02\x20\x00", Reason::UnknownKey, 7),
+        (b"\xa2\x01\x02\x20\x03", Reason::UnknownKey, 7),
+        (b"\xa2\x01\x02\x20\x04", Reason::UnknownKey, 7),
+        // crv, and then x
+        (b"\xa2\x01\x02\x21\x00", Reason::BadValue, 7),
         (b"\xa2\x01\x02\x20\x02", Reason::UnknownKey, 7),
-        (b"\xa3\x01\x02\x20\x01\x21\x41x", Reason::BadValue, 13),
-        // crv is a text
-        (b"\xa2\x01\x02\x20\x61x", Reason::UnknownKey, 7),
-        // y has one byte
+        (b"\xa2\x01\x02\x20\x01", Reason::BadValue, 7),
+        (b"\xa3\x01\x02\x20\x01\x21\x00", Reason::BadValue, 13),
+        (b"\xa3\x01\x02\x20\x01\x21\x41\x78", Reason::BadValue, 13),
+        (
+            b"\xa3\x01\x02\x20\x01\x21\x58\x1f\
+            0123456789012345678901234567890",
+            Reason::BadValue,
+            13,
+        ),
+        (
+            b"\xa3\x01\x02\x20\x01\x21\x58\x21\
+            012345678901234567890123456789012",
+            Reason::BadValue,
+            13,
+        ),
+        // x, and then y
+        (
+            b"\xa4\x01\x02\x20\x01\x22\x00\x21\x41\x78",
+            Reason::BadValue,
+            15,
+        ),
+        (
+            b"\xa3\x01\x02\x20\x01\x21\x58\x20\
+            01234567890123456789012345678901",
+            Reason::BadValue,
+            7,
+        ),
         (
             b"\xa4\x01\x02\x20\x01\x21\x58\x20\
-            01234567890123456789012345678901\x22\x41y",
+            01234567890123456789012345678901\x22\x00",
             Reason::BadValue,
             48,
         ),
-        // d is a number
+        (
+            b"\xa4\x01\x02\x20\x01\x21\x58\x20\
+            01234567890123456789012345678901\x22\xf6",
+            Reason::BadValue,
+            48,
+        ),
+        (
+            b"\xa4\x01\x02\x20\x01\x21\x58\x20\
+            01234567890123456789012345678901\x22\x41\x79",
+            Reason::BadValue,
+            48,
+        ),
+        // y, and then d
+        (
+            b"\xa5\x01\x02\x20\x01\x23\x00\x21\x58\x20\
+            01234567890123456789012345678901\x22\x00",
+            Reason::BadValue,
+            50,
+        ),
         (
             b"\xa5\x01\x02\x20\x01\x21\x58\x20\
             01234567890123456789012345678901\x22\xf5\x23\x00",
+            Reason::BadValue,
+            50,
+        ),
+        (
+            b"\xa5\x01\x02\x20\x01\x21\x58\x20\
+            01234567890123456789012345678901\x22\xf5\x23\x60",
             Reason::BadValue,
             50,
         ),
@@ -39,6 +147,34 @@ fn refuses_at_the_first_fault(rt: HostRuntime) {
     for (bytes, reason, place) in rows {
         let refused = Key::read(bytes, 7).err();
         assert_eq!(rt; refused, Some(Refusal { reason, place }), "of {bytes:?}");
+    }
+}
+
+#[test]
+fn reads_keys(rt: HostRuntime) {
+    let rows: [&[u8]; 13] = [
+        b"\xa2\x01\x04\x20\x41\x61",
+        b"\xa2\x01\x18\x04\x20\x41\x61",
+        // Any alg that is a number or a text, any operations, any Base IV.
+        b"\xa3\x01\x04\x03\x20\x20\x41\x61",
+        b"\xa3\x01\x04\x03\x61\x35\x20\x41\x61",
+        b"\xa3\x01\x04\x04\x82\x01\x61\xff\x20\x41\x61",
+        b"\xa3\x01\x04\x05\x40\x20\x41\x61",
+        // A nesting of exactly 8, and other members.
+        b"\xa3\x01\x04\x20\x41\x61\x0a\x81\x81\x81\x81\x81\x81\x81\x00",
+        b"\xa3\x01\x04\x06\x00\x20\x41\x61",
+        b"\xa3\x01\x04\x21\x00\x20\x41\x61",
+        b"\xa3\x01\x04\x61\x6b\x00\x20\x41\x61",
+        // d, and either sign
+        b"\xa4\x01\x02\x20\x01\x21\x58\x20\
+            01234567890123456789012345678901\x22\xf4",
+        b"\xa5\x01\x02\x20\x01\x21\x58\x20\
+            01234567890123456789012345678901\x22\xf5\x23\x40",
+        b"\xa6\x01\x02\x20\x01\x21\x58\x20\
+            01234567890123456789012345678901\x22\xf5\x23\x41\x00\x24\x00",
+    ];
+    for bytes in rows {
+        assert!(rt; Key::read(bytes, 7).is_ok(), "{bytes:?} is refused");
     }
 }
 
@@ -67,4 +203,35 @@ fn reads_what_a_key_says(rt: HostRuntime) {
         01234567890123456789012345678901\x22\xf5";
     let key = Key::read(point, 0);
     assert_eq!(rt; key.ok().and_then(|key| sign_of(key.material)), Some(true));
+}
+
+/// What a log would show of a key.
+fn shown(alloc: Global, bytes: &[u8]) -> Result<String, Fail> {
+    let Ok(key) = Key::read(bytes, 0) else {
+        return Err("no key".into());
+    };
+    Ok(format!(in alloc; "{key:?}")?)
+}
+
+#[test]
+fn shows_no_bytes_of_keys(rt: HostRuntime) -> Result<(), Fail> {
+    let secret = shown(
+        rt.alloc(),
+        b"\xa4\x01\x04\x02\x411\x04\x82\x0a\x61\xff\x20\x44Jefe",
+    )?;
+    assert_eq!(rt;
+        secret.as_str(),
+        "Key { kid: Some([49]), alg: None, ops: Some(2 operations), material: Symmetric(4 bytes) }"
+    );
+    let point = shown(
+        rt.alloc(),
+        b"\xa4\x01\x02\x20\x01\x21\x58\x20\
+        01234567890123456789012345678901\x22\x58\x20\
+        01234567890123456789012345678901",
+    )?;
+    assert_eq!(rt;
+        point.as_str(),
+        "Key { kid: None, alg: None, ops: None, material: Ec { crv: 1, x: 32 bytes, y: Bytes(32 bytes) } }"
+    );
+    Ok(())
 }

@@ -1,16 +1,19 @@
 //! Tables of examples: values that the contracts can't show to be the ones that were meant.
 
+ghost use Rattle.std.specs.Prelude.{◌≤◌, length};
+
 use super::*;
+use crate::key::material::Material;
 use crate::label::Label;
-use crate::material::Material;
 use cose_head::Kind;
+use std::test::Fail;
 
 /// A secret key, and the same for HMAC 256/256 alone.
 const PLAIN: &[u8] = b"\xa2\x01\x04\x20\x44Jefe";
 
 const FOR_FIVE: &[u8] = b"\xa3\x01\x04\x03\x05\x20\x44Jefe";
 
-fn fault(reason: Reason, place: u64) -> Result<usize, Refusal> {
+fn refusal(reason: Reason, place: u64) -> Result<usize, Refusal> {
     Err(Refusal { reason, place })
 }
 
@@ -22,24 +25,80 @@ fn counted(bytes: &[u8]) -> Result<usize, Refusal> {
 #[test]
 fn reads_key_sets(rt: HostRuntime) {
     let rows: [(&[u8], Result<usize, Refusal>); 13] = [
-        (b"", fault(Reason::PastRoom, 0)),
-        (b"\x80", fault(Reason::BadKeySet, 0)),
-        (b"\x00", fault(Reason::BadKeySet, 0)),
         (b"\xa0", Ok(0)),
         (b"\x81\x00", Ok(0)),
         (PLAIN, Ok(1)),
+        (b"\x81\xa2\x01\x04\x20\x41a", Ok(1)),
         (b"\x82\xa2\x01\x04\x20\x41a\xa2\x01\x04\x20\x41b", Ok(2)),
-        (b"\xa2\x01\x04\x20\x44Jefe\x00", fault(Reason::Trailing, 9)),
-        (b"\xa2\x01\x04\x20\x44Jef", fault(Reason::PastRoom, 4)),
-        (&[0; 65_536], fault(Reason::BadKeySet, 0)),
-        // A label twice, an unknown type, and an operation that is a text of no UTF-8.
+        // A nesting of exactly 8, the set itself counted.
+        (
+            b"\x81\xa3\x01\x04\x20\x41a\x0a\x81\x81\x81\x81\x81\x81\x00",
+            Ok(1),
+        ),
+        // A label twice, an unknown type, bytes that are no map, and an operation that is a text of no UTF-8.
         (b"\xa3\x01\x04\x01\x04\x20\x41c", Ok(0)),
         (b"\x82\xa2\x01\x01\x20\x06\xa2\x01\x04\x20\x41a", Ok(1)),
+        (b"\x82\x81\x00\xa2\x01\x04\x20\x41a", Ok(1)),
+        (b"\x82\xa2\x01\x04\x20\x41a\x41\x00", Ok(1)),
         (b"\xa3\x01\x04\x04\x81\x61\xff\x20\x41a", Ok(1)),
+        (b"\x81\xa1\x01\x04", Ok(0)),
+        (b"\xa1\x01\x04", Ok(0)),
     ];
     for (bytes, want) in rows {
         assert_eq!(rt; counted(bytes), want, "of {bytes:?}");
     }
+}
+
+#[test]
+fn refuses_key_sets(rt: HostRuntime) {
+    let rows: [(&[u8], Result<usize, Refusal>); 11] = [
+        (b"", refusal(Reason::PastRoom, 0)),
+        (b"\xa2\x01\x04\x20\x44Jef", refusal(Reason::PastRoom, 4)),
+        (
+            b"\x81\xa3\x01\x04\x20\x41a\x0a\x81\x81\x81\x81\x81\x81\x81\x00",
+            refusal(Reason::TooDeep, 14),
+        ),
+        (
+            b"\xa2\x01\x04\x20\x44Jefe\x00",
+            refusal(Reason::Trailing, 9),
+        ),
+        // Bytes after the item go first, and then what is no set.
+        (b"\x00\x00", refusal(Reason::Trailing, 1)),
+        (b"\x80\x00", refusal(Reason::Trailing, 1)),
+        (b"\x80", refusal(Reason::BadKeySet, 0)),
+        (b"\x00", refusal(Reason::BadKeySet, 0)),
+        (b"\x41\x00", refusal(Reason::BadKeySet, 0)),
+        (b"\x61a", refusal(Reason::BadKeySet, 0)),
+        (b"\xc1\xa2\x01\x04\x20\x41a", refusal(Reason::BadKeySet, 0)),
+    ];
+    for (bytes, want) in rows {
+        assert_eq!(rt; counted(bytes), want, "of {bytes:?}");
+    }
+}
+
+/// The front of a set of one key: all before the secret, whose length these two bytes are.
+fn begin_set(bytes: &mut [u8], size: [u8; 2])
+    requires { 7 ≤ length bytes.old }
+{
+    bytes[0] = 0xa2;
+    bytes[1] = 0x01;
+    bytes[2] = 0x04;
+    bytes[3] = 0x20;
+    bytes[4] = 0x59;
+    bytes[5] = size[0];
+    bytes[6] = size[1];
+}
+
+#[test]
+fn reads_at_most_65535_bytes(rt: HostRuntime) {
+    let mut most = [0; 65_535];
+    begin_set(&mut most, [0xff, 0xf8]);
+    assert_eq!(rt; counted(&most), Ok(1));
+    let mut more = [0; 65_536];
+    // The number of bytes goes before what they are.
+    assert_eq!(rt; counted(&more), refusal(Reason::BadKeySet, 0));
+    begin_set(&mut more, [0xff, 0xf9]);
+    assert_eq!(rt; counted(&more), refusal(Reason::BadKeySet, 0));
 }
 
 /// The secret of the key that is found for a MAC, and the algorithm.
@@ -136,4 +195,12 @@ fn finds_the_one_key_that_fits(rt: HostRuntime) {
             "of {bytes:?}"
         );
     }
+}
+
+#[test]
+fn shows_no_bytes_of_keys(rt: HostRuntime) -> Result<(), Fail> {
+    let set = KeySet::read(PLAIN);
+    let shown = format!(in rt.alloc(); "{set:?}")?;
+    assert_eq!(rt; shown.as_str(), "Ok(KeySet(9 bytes))");
+    Ok(())
 }

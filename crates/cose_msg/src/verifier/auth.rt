@@ -1,7 +1,7 @@
 //! The authentication tag or signature of a message (RFC 9052 sections 6.3 and 4.4).
 
 ghost use Rattle.std.specs.Prelude.{◌≡◌, ◌<◌, ◌≤◌, ◌+◌, ◌^◌, ◌==◌, ℕ, Some};
-ghost use Rattle.cose_mac.specs.Algorithm.{auth_length_of};
+ghost use Rattle.cose_head.specs.Algorithm.{auth_length_of};
 ghost use Rattle.cose_msg.specs.Phases.{auth_fault_where};
 
 use crate::bare_head::take_head_byte;
@@ -9,7 +9,7 @@ use crate::phase::{Auth, AuthHead, Phase, Signed};
 use crate::store_bytes::append;
 use crate::verdict::Verdict;
 use crate::verifier::Verifier;
-use cose_head::{Head, HeadStep, Kind, Reason, Refusal};
+use cose_head::{Head, HeadStep, Kind, Reason};
 use cose_mac::Alg;
 
 /// What is wrong with the head of a tag or signature under an algorithm.
@@ -68,7 +68,7 @@ impl<'k, const H: usize, const D: usize> Verifier<'k, H, D> {
         ensures stands { (setting : Setting) (known : Known) → setting_of self.old.context ≡ setting
             → HoldsKey known self.old auth_head.kind auth_head.alg → length known.payload ≡ auth_head.payload → IsFed self.old.hashing setting.aad known
             → StandsFor setting known.payload at self.new
-                (λ z. past_auth_head (comparing H D setting) known.headers (Some known.found) known.payload auth_head.at head at z) }
+            (λ z. past_auth_head (comparing H D setting) known.headers (Some known.found) known.payload auth_head.at head at z) }
     {
         match fault_of_auth(&head, auth_head.alg) {
             Some(reason) => self.refuse(reason, auth_head.at),
@@ -116,11 +116,22 @@ impl<'k, const H: usize, const D: usize> Verifier<'k, H, D> {
         ensures stands { (setting : Setting) (known : Known) → setting_of self.old.context ≡ setting
             → HoldsKey known self.old auth.kind auth.alg → length known.payload ≡ auth.payload → IsFed self.old.hashing setting.aad known
             → StandsFor setting known.payload (auth.at + auth.length) self.new
-                (λ z. finish (comparing H D setting) known.headers (Some known.found) known.payload auth.head_at auth.at self.old.auth.items (auth.at + auth.length) z) }
+            (λ z. finish (comparing H D setting) known.headers (Some known.found) known.payload auth.head_at auth.at self.old.auth.items (auth.at + auth.length) z) }
     {
         self.hashing.finish();
         let taken = auth.at + auth.length;
-        if !auth.alg.is_mac() {
+        if auth.alg.is_mac() {
+            if self.auth.as_slice() == self.hashing.result() {
+                self.phase = Phase::Settled(Verdict::Authentic {
+                    kind: auth.kind,
+                    alg: auth.alg,
+                    payload: auth.payload,
+                    taken,
+                });
+            } else {
+                self.refuse(Reason::BadAuth, auth.head_at);
+            }
+        } else {
             self.phase = Phase::Signed(Signed {
                 kind: auth.kind,
                 alg: auth.alg,
@@ -128,15 +139,6 @@ impl<'k, const H: usize, const D: usize> Verifier<'k, H, D> {
                 payload: auth.payload,
                 taken,
             });
-        } else if self.auth.as_slice() == self.hashing.result() {
-            self.phase = Phase::Settled(Verdict::Authentic {
-                kind: auth.kind,
-                alg: auth.alg,
-                payload: auth.payload,
-                taken,
-            });
-        } else {
-            self.refuse(Reason::BadAuth, auth.head_at);
         }
     }
 }

@@ -1,14 +1,18 @@
 //! The choice of the key, once both header buckets are there (RFC 9052 sections 3.1 and 7.1).
 
-ghost use Rattle.std.specs.Prelude.{◌≡◌, ◌<◌, ◌≤◌, ◌+◌, ◌^◌, ℕ, ℤ, Ok};
-ghost use Rattle.cose_map.specs.KeyParts.{material_value};
-ghost use Rattle.cose_msg.specs.Message.{operation_of as operation_value, secret_of as secret_bytes};
+ghost use Rattle.std.specs.Prelude.{◌≡◌, ◌<◌, ◌≤◌, ◌+◌, ◌^◌, ℕ, ℤ, Ok, []};
+ghost use Rattle.cose_map.specs.Bucket.View.{bucket_pairs};
+ghost use Rattle.cose_map.specs.Choice.View.{found_value, question};
+ghost use Rattle.cose_map.specs.Key.View.{material_value};
+ghost use Rattle.cose_msg.specs.Chosen.{found_seen};
+ghost use Rattle.cose_msg.specs.Message.{operation_of as operation_value, question_of, secret_of as secret_bytes, past_chosen};
+ghost use Rattle.cose_msg.specs.Phases.{headers_of};
 
 use crate::hashing::Hashing;
 use crate::verifier::{Chosen, Verifier};
 use cose_head::{Kind, Reason, Refusal};
 use cose_mac::Alg;
-use cose_map::{Bucket, Material, Query, check_pair};
+use cose_map::{Bucket, Key, Material, Query, check_pair};
 
 /// What both buckets come to.
 #[derive(Clone, Copy)]
@@ -39,35 +43,53 @@ fn secret_of<'k>(material: &Material<'k>) -> &'k [u8]
     }
 }
 
+/// What a message asks of its key.
+fn query_of<'q>(kind: Kind, protected: &Bucket<'q>, unprotected: &Bucket<'q>) -> Query<'q>
+    ensures { question result ≡ question_of (headers_of kind [] (bucket_pairs protected.now) (bucket_pairs unprotected.now)) }
+{
+    Query {
+        kind,
+        operation: operation_of(kind),
+        protected_alg: protected.alg(),
+        unprotected_alg: unprotected.alg(),
+        kid: protected.kid().or(unprotected.kid()),
+    }
+}
+
+/// The key that was found, with its algorithm.
+fn chosen_of<'k>(found: Result<(Key<'k>, i128), Reason>) -> Result<Chosen<'k>, Reason>
+    ensures { found_seen result ≡ past_chosen (found_value found.entry) }
+{
+    let (key, number) = found?;
+    match Alg::from_number(number) {
+        Some(alg) => Ok(Chosen { key, alg }),
+        None => Err(Reason::UnknownAlg),
+    }
+}
+
 impl<'k, const H: usize, const D: usize> Verifier<'k, H, D> {
-    ghost use Rattle.std.specs.Prelude.{List, [], length};
+    ghost use Rattle.std.specs.Prelude.{List, length};
     ghost use Rattle.cose_map.specs.Bucket.{bucket_of};
-    ghost use Rattle.cose_map.specs.Buckets.{bucket_pairs};
-    ghost use Rattle.cose_map.specs.KeySets.{keys};
-    ghost use Rattle.cose_map.specs.Maps.{Pair};
+    ghost use Rattle.cose_map.specs.KeySet.View.{keys};
+    ghost use Rattle.cose_map.specs.Map.Pairs.{Pair};
     ghost use Rattle.cose_msg.specs.Choosing.{choice_of};
-    ghost use Rattle.cose_msg.specs.Chosen.{ChoiceIs, found_seen};
+    ghost use Rattle.cose_msg.specs.Chosen.{ChoiceIs};
     ghost use Rattle.cose_msg.specs.Message.{Setting, comparing, found_key};
-    ghost use Rattle.cose_msg.specs.Phases.{headers_of, past_unprotected, placed_at};
+    ghost use Rattle.cose_msg.specs.Phases.{past_unprotected, placed_at};
     ghost use Rattle.cose_msg.specs.Reading.{Reading};
     ghost use Rattle.cose_msg.specs.Verifier.{StandsFor, setting_of};
 
     /// The one key that fits what the buckets say.
-    fn key_for(&self, kind: Kind, protected: &Bucket<'_>, unprotected: &Bucket<'_>) -> Result<Chosen<'k>, Reason>
+    fn key_for(
+        &self,
+        kind: Kind,
+        protected: &Bucket<'_>,
+        unprotected: &Bucket<'_>,
+    ) -> Result<Chosen<'k>, Reason>
         ensures { found_seen result ≡ found_key (keys self.now.context.keys) (headers_of kind [] (bucket_pairs protected.now) (bucket_pairs unprotected.now)) }
     {
-        let query = Query {
-            kind,
-            operation: operation_of(kind),
-            protected_alg: protected.alg(),
-            unprotected_alg: unprotected.alg(),
-            kid: protected.kid().or(unprotected.kid()),
-        };
-        let (key, number) = self.context.keys.find(&query)?;
-        match Alg::from_number(number) {
-            Some(alg) => Ok(Chosen { key, alg }),
-            None => Err(Reason::UnknownAlg),
-        }
+        let query = query_of(kind, protected, unprotected);
+        chosen_of(self.context.keys.find(&query))
     }
 
     /// What both buckets come to, whose contents stand at these places.
@@ -79,17 +101,14 @@ impl<'k, const H: usize, const D: usize> Verifier<'k, H, D> {
     {
         let protected = Bucket::read(self.protected.as_slice(), protected_at, D)?;
         let unprotected = Bucket::read(self.unprotected.as_slice(), at, D)?;
-        let after = at + self.unprotected.len() as u64;
-        check_pair(&protected, &unprotected, self.context.understood, after)?;
+        let place = at + self.unprotected.len() as u64;
+        check_pair(&protected, &unprotected, self.context.understood, place)?;
         match self.key_for(kind, &protected, &unprotected) {
             Ok(chosen) => Ok(Choice {
                 chosen,
                 is_bare: protected.is_empty(),
             }),
-            Err(reason) => Err(Refusal {
-                reason,
-                place: after,
-            }),
+            Err(reason) => Err(Refusal { reason, place }),
         }
     }
 
@@ -100,14 +119,15 @@ impl<'k, const H: usize, const D: usize> Verifier<'k, H, D> {
         ensures stands { (setting : Setting) (pairs : List Pair) → setting_of self.old.context ≡ setting
             → bucket_of D (placed_at protected_at self.old.protected.items) ≡ Ok pairs
             → StandsFor setting [] (at + length self.old.unprotected.items) self.new
-                (λ z. past_unprotected (comparing H D setting) kind self.old.protected.items pairs at self.old.unprotected.items (at + length self.old.unprotected.items) z) }
+            (λ z. past_unprotected (comparing H D setting) kind self.old.protected.items pairs at self.old.unprotected.items (at + length self.old.unprotected.items) z) }
     {
         let after = at + self.unprotected.len() as u64;
         match self.choose(kind, protected_at, at) {
-            Ok(Choice { chosen, is_bare }) => {
+            Ok(choice) => {
+                let chosen = choice.chosen;
                 self.hashing = Hashing::begin(chosen.alg, secret_of(&chosen.key.material));
                 self.chosen = Some(chosen);
-                self.begin_payload_head(kind, chosen.alg, is_bare, after);
+                self.begin_payload_head(kind, chosen.alg, choice.is_bare, after);
             }
             Err(refusal) => self.refuse(refusal.reason, refusal.place),
         }

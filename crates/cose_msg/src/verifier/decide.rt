@@ -12,7 +12,7 @@ use cose_head::{Reason, Refusal};
 const MESSAGE_LIMIT: u64 = 1 << 57;
 
 impl<'k, const H: usize, const D: usize> Verifier<'k, H, D> {
-    ghost use Rattle.cose_map.specs.KeyView.{key_value};
+    ghost use Rattle.cose_map.specs.Key.View.{key_value};
     ghost use Rattle.cose_msg.specs.declared.verifier.Chosen.{Chosen};
     ghost use Rattle.cose_msg.specs.Answer.{decided, refused};
     ghost use Rattle.cose_msg.specs.Hashing.{result_of};

@@ -2,7 +2,7 @@
 
 ghost use Rattle.std.specs.Prelude.{◌≡◌, ◌<◌, ◌≤◌, ◌+◌, ◌^◌, ℕ, Ok, length};
 ghost use Rattle.cose_map.specs.Bucket.{bucket_of};
-ghost use Rattle.cose_map.specs.Views.{refusal_in};
+ghost use Rattle.cose_map.specs.Map.View.{refusal_in};
 
 use crate::bare_head::take_head_byte;
 use crate::phase::{Phase, Protected, ProtectedHead, Unprotected};
@@ -23,7 +23,7 @@ fn refusal_of(bytes: &[u8], at: u64, depth: usize) -> Option<Refusal>
 
 impl<'k, const H: usize, const D: usize> Verifier<'k, H, D> {
     ghost use Rattle.std.specs.Prelude.{List, [], ◌∷◌, ◌++◌};
-    ghost use Rattle.cose_map.specs.Maps.{Pair};
+    ghost use Rattle.cose_map.specs.Map.Pairs.{Pair};
     ghost use Rattle.cose_msg.specs.Message.{Setting, comparing};
     ghost use Rattle.cose_msg.specs.Phases.{past_protected, past_protected_head, past_unprotected, placed_at, protected_head, protected_fault_within, unprotected};
     ghost use Rattle.cose_msg.specs.Reading.{Reading};
@@ -116,7 +116,7 @@ impl<'k, const H: usize, const D: usize> Verifier<'k, H, D> {
         requires early { at ≤ 36 }
         ensures stands { (setting : Setting) → setting_of self.old.context ≡ setting
             → StandsFor setting [] (at + length self.old.protected.items) self.new
-                (λ z. past_protected (comparing H D setting) kind at self.old.protected.items (at + length self.old.protected.items) z) }
+            (λ z. past_protected (comparing H D setting) kind at self.old.protected.items (at + length self.old.protected.items) z) }
     {
         let length = self.protected.len() as u64;
         match refusal_of(self.protected.as_slice(), at, D) {

@@ -50,7 +50,7 @@ impl<'k, const H: usize, const D: usize> Verifier<'k, H, D> {
     ghost use Rattle.cose_msg.specs.Message.{Setting, comparing};
     ghost use Rattle.cose_msg.specs.Phases.{past_payload_head, payload_head};
     ghost use Rattle.cose_msg.specs.Reading.{Reading};
-    ghost use Rattle.cose_msg.specs.Verifier.{HoldsKey, IsOpened, Known, StandsFor, setting_of};
+    ghost use Rattle.cose_msg.specs.Verifier.{HoldsKey, Known, StandsFor, setting_of};
 
     /// The payload's head begins here.
     pub(crate) fn begin_payload_head(&mut self, kind: Kind, alg: Alg, is_bare: bool, at: u64)
@@ -79,7 +79,11 @@ impl<'k, const H: usize, const D: usize> Verifier<'k, H, D> {
         match take_head_byte(&mut self.head, byte) {
             HeadStep::More(_) => {}
             HeadStep::Fault(reason) => self.refuse(reason, at),
-            HeadStep::Got(head, used) => self.past_payload_head(payload_head, head, at + used as u64),
+            HeadStep::Got(head, used) => self.past_payload_head(
+                payload_head,
+                head,
+                at + used as u64,
+            ),
         }
     }
 
@@ -94,7 +98,11 @@ impl<'k, const H: usize, const D: usize> Verifier<'k, H, D> {
         match fault_of_payload(&head, self.context.payload_limit) {
             Some(reason) => self.refuse(reason, payload_head.at),
             None => {
-                self.open_structure(payload_head.kind, payload_head.is_bare, head.arg);
+                // The protected header goes in as it was received, or empty where the bucket has no pair.
+                let protected = empty_if(payload_head.is_bare, self.protected.as_slice());
+                let aad = self.context.aad;
+                self.hashing
+                    .front(payload_head.kind, protected, aad, head.arg);
                 if head.arg == 0 {
                     self.begin_auth_head(payload_head.kind, payload_head.alg, at, 0);
                 } else {
@@ -110,18 +118,6 @@ impl<'k, const H: usize, const D: usize> Verifier<'k, H, D> {
         }
     }
 
-    /// Hashes what stands before a payload of so many bytes in the structure that is authenticated. The protected header
-    /// goes in as it was received, or empty where the bucket has no pair.
-    fn open_structure(&mut self, kind: Kind, is_bare: bool, payload: u64)
-        ensures opened { (known : Known) → known.payload ≡ [] → known.headers.kind ≡ kind → known.headers.protected ≡ self.old.protected.items
-            → is_bare ≡ (length known.headers.protected_pairs == 0) → Hashes self.old.hashing known.found []
-            → IsOpened self.new.hashing self.old.context.aad.now known payload }
-        ensures kept { self.new ≡ record self.old { hashing = self.new.hashing } }
-    {
-        let protected = empty_if(is_bare, self.protected.as_slice());
-        self.hashing.front(kind, protected, self.context.aad, payload);
-    }
-
     /// Takes a piece of the payload.
     pub(crate) fn payload(&mut self, payload: Payload, piece: &[u8])
         requires phase { self.old.phase ≡ Phase.Payload payload }
@@ -132,7 +128,12 @@ impl<'k, const H: usize, const D: usize> Verifier<'k, H, D> {
         self.hashing.update(piece);
         let left = payload.left - piece.len() as u64;
         if left == 0 {
-            self.begin_auth_head(payload.kind, payload.alg, payload.at + payload.length, payload.length);
+            self.begin_auth_head(
+                payload.kind,
+                payload.alg,
+                payload.at + payload.length,
+                payload.length,
+            );
         } else {
             self.phase = Phase::Payload(Payload {
                 kind: payload.kind,

@@ -39,7 +39,7 @@ pub fn refused<'k>(reason: Reason, place: u64) -> Progress<'k>
 }
 
 impl<'k> Machine<'k> {
-    ghost use Rattle.cose_map.specs.KeySets.{keys};
+    ghost use Rattle.cose_map.specs.KeySet.View.{keys};
     ghost use Rattle.cosecmd.specs.TakenByte.{payload_piece};
     ghost use Rattle.cosecmd.specs.Machine.{Continues, Feeds, IfOpen, StandsFor, budget, left_of, payload_byte, place_of};
     ghost use Rattle.cosecmd.specs.FirstVerdict.{first_reading};

@@ -2,8 +2,8 @@
 
 ghost use Rattle.std.specs.Prelude.{◌≡◌, ◌<◌, ◌≤◌, ◌+◌, ◌^◌, ℕ, List, [], ◌∷◌, ◌++◌, length, true};
 ghost use Rattle.arrayvec.specs.ArrayVec.{array_vec_len};
-ghost use Rattle.cose_mac.specs.Fed.{makes_mac};
-ghost use Rattle.cose_map.specs.Chosen.{question};
+ghost use Rattle.cose_mac.specs.Running.{makes_mac};
+ghost use Rattle.cose_map.specs.Choice.View.{question};
 ghost use Rattle.cosecmd.specs.FirstVerdict.{first_question};
 
 use crate::first::machine::{Machine, Progress, refused};
@@ -129,7 +129,7 @@ fn first_query() -> Query<'static>
 }
 
 impl PayloadHead {
-    ghost use Rattle.cose_map.specs.KeySets.{keys};
+    ghost use Rattle.cose_map.specs.KeySet.View.{keys};
     ghost use Rattle.cosecmd.specs.FirstVerdict.{key_choice};
     ghost use Rattle.cosecmd.specs.Machine.{Continues, FeedsPayloadHead, IfOpen, after_payload, budget, left_in_payload_head};
 
@@ -252,7 +252,7 @@ impl TagHead {
     ghost use Rattle.cose_mac.specs.Structure.{mac_structure};
     ghost use Rattle.cosecmd.specs.Machine.{Continues, Fed, FeedsTagHead, IfOpen, after_payload, budget, left_in_tag_head};
 
-    /// The tag's head begins at this place, behind a payload of so many bytes.
+    /// The tag's head begins at `at`, behind a payload of `payload` bytes.
     fn begin(at: u64, payload: u64, mac: Running) -> Progress<'static>
         requires early { at < 2 ^ 57 }
         requires keyed { makes_mac mac ≡ true }

@@ -62,9 +62,7 @@ impl fmt::Display for Verdict {
                     "authentic {kind} alg {alg} payload {payload} taken {taken}"
                 )
             }
-            Verdict::Refused(Refusal { reason, place }) => {
-                write!(f, "refused {reason} at {place}")
-            }
+            Verdict::Refused(refusal) => write!(f, "refused {refusal}"),
         }
     }
 }

@@ -2,7 +2,7 @@
 
 ghost use Rattle.std.specs.Prelude.{◌≡◌, ◌≢◌, ◌<◌, ◌≤◌, ◌+◌, ◌^◌, ◌||◌, ℕ, Bool, true, false, List, [], ◌∷◌, Option, Some, None, Ok, Err, IfOk, IsOk, OnOk, is_err, length, take};
 ghost use Rattle.std.specs.Io.KnownBytes.{Appends};
-ghost use Rattle.cose_map.specs.KeySets.{keys as usable};
+ghost use Rattle.cose_map.specs.KeySet.View.{keys as usable};
 ghost use Rattle.cosecmd.specs.FirstRun.{FirstRun, stops_for_intake, stops_for_sink};
 ghost use Rattle.cosecmd.specs.FirstVerdict.{first_verdict};
 ghost use Rattle.cosecmd.specs.TakenByte.{PutsByte, TakesByte, fails_to_take, payload_piece};

@@ -1,7 +1,7 @@
 //! Readers and writers that fail in mid-stream.
 
 use crate::run::run;
-use crate::tests::{KEYS, message};
+use crate::tests::{FRONT, KEYS, joined, message};
 use std::io;
 use std::io::{Error, ErrorKind, Read, Write};
 use std::test::Fail;
@@ -73,6 +73,30 @@ fn says_that_the_input_failed(rt: HostRuntime) -> Result<(), Fail> {
             "at read {fails_at}"
         );
         assert_eq!(rt; (status, reader.reads), (2, fails_at), "at read {fails_at}");
+    }
+    Ok(())
+}
+
+#[test]
+fn reads_nothing_behind_a_refusal(rt: HostRuntime) -> Result<(), Fail> {
+    let alloc = rt.alloc();
+    let front: [&[u8]; 2] = [FRONT, b"\xf6\0"];
+    let detached = joined(alloc, front.as_slice())?;
+    let rows: [(&[u8], usize, &str); 2] = [
+        (b"\0\0", 1, "refused WrongType at 0\n"),
+        (detached.as_slice(), 8, "refused Detached at 7\n"),
+    ];
+    for (bytes, reads, text) in rows {
+        // The read that would be the first behind the refusal fails.
+        let mut reader = FailingReader {
+            bytes,
+            reads: 0,
+            fails_at: reads.saturating_add(1),
+        };
+        let mut output = Vec::new(alloc);
+        let status = run(alloc, WORDS, &mut reader, &mut output);
+        assert_eq!(rt; output.as_slice(), text.as_bytes());
+        assert_eq!(rt; (status, reader.reads), (1, reads), "{text}");
     }
     Ok(())
 }

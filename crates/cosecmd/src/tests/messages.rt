@@ -4,7 +4,7 @@ use crate::first::intake::{ReadIntake, SliceIntake};
 use crate::first::sink::{Sink, Store};
 use crate::first::verdict::{Stop, Verdict};
 use crate::first::verify_first;
-use crate::tests::{FRONT, KEY, STRUCTURE, hmac, joined, key_set, message};
+use crate::tests::{FRONT, KEY, STRUCTURE, cut, hmac, joined, key_set, message};
 use cose_head::{Kind, Reason, Refusal};
 use cose_mac::Alg;
 use cose_map::KeySet;
@@ -39,7 +39,7 @@ fn takes_the_message_in_any_pieces(rt: HostRuntime) -> Result<(), Fail> {
     Ok(())
 }
 
-/// The message with these bytes behind its front gets this verdict, and so many of its bytes are taken.
+/// The message with these bytes behind its front gets this verdict, and this number of its bytes is taken.
 fn answers(
     rt: &(impl Abort + Alloc<A = Global>),
     payload: &[u8],
@@ -67,11 +67,6 @@ fn changed(mut tag: [u8; 32]) -> [u8; 32] {
     tag
 }
 
-/// The tag without its last byte.
-fn cut(tag: &[u8; 32]) -> &[u8] {
-    &tag[..31]
-}
-
 #[test]
 fn compares_tags(rt: HostRuntime) -> Result<(), Fail> {
     let tag = hmac(rt.alloc(), KEY, STRUCTURE)?;
@@ -95,14 +90,18 @@ fn compares_tags(rt: HostRuntime) -> Result<(), Fail> {
 }
 
 #[test]
-fn refuses_other_payloads(rt: HostRuntime) -> Result<(), Fail> {
-    let rows: [(&str, Reason, u64, usize); 6] = [
+fn refuses_other_heads(rt: HostRuntime) -> Result<(), Fail> {
+    let rows: [(&str, Reason, u64, usize); 9] = [
         ("4268", Reason::Truncated, 9, 9),
         ("5fff", Reason::Indefinite, 7, 8),
         ("5b010000000000000000", Reason::PayloadTooLong, 7, 16),
         ("f600", Reason::Detached, 7, 8),
         ("6161", Reason::WrongType, 7, 8),
         ("f81600", Reason::BadSimple, 7, 9),
+        // nil is the one byte f6: a float whose bits are 22 isn't it
+        ("f9001600", Reason::WrongType, 7, 10),
+        ("5900", Reason::Truncated, 9, 9),
+        ("42686960", Reason::WrongType, 10, 11),
     ];
     for (payload, reason, place, taken) in rows {
         let bytes = hex::decode(rt.alloc(), payload).or(Err("no hexadecimal"))?;

@@ -27,12 +27,15 @@ fn prints(
 fn prints_the_verdict(rt: HostRuntime) -> Result<(), Fail> {
     let message = message(rt.alloc())?;
     let authentic = "authentic mac0 alg 5 payload 2 taken 44\n";
-    let rows: [(&str, &str, u8); 5] = [
+    let rows: [(&str, &str, u8); 8] = [
         (KEYS, authentic, 0),
         ("A2010420444A656665", authentic, 0),
         ("a201042058044a656665", authentic, 0),
         ("zz", "fault line keys\n", 2),
         ("a20", "fault line keys\n", 2),
+        (" a2010420444a656665", "fault line keys\n", 2),
+        ("a2010420444a656665 ", "fault line keys\n", 2),
+        ("0xa2010420444a656665", "fault line keys\n", 2),
     ];
     for (keys, text, status) in rows {
         prints(&rt, keys, message.as_slice(), text, status)?;
@@ -87,8 +90,20 @@ fn takes_a_key_set(rt: HostRuntime) -> Result<(), Fail> {
 #[test]
 fn explains_its_line(rt: HostRuntime) -> Result<(), Fail> {
     let alloc = rt.alloc();
-    let rows: [(&[&str], &str, u8); 4] = [
+    let rows: [(&[&str], &str, u8); 8] = [
         (&["cosecmd", "--help"], "Usage: cosecmd <COMMAND>", 0),
+        (
+            &["cosecmd", "--help"],
+            "0 authentic, 1 refused, 2 no verdict",
+            0,
+        ),
+        (&["cosecmd", "--help"], "no prefix and no spaces", 0),
+        (
+            &["cosecmd", "verify", "--help"],
+            "0 authentic, 1 refused, 2 no verdict",
+            0,
+        ),
+        (&["cosecmd", "--version"], "cosecmd 0.1.0\n", 0),
         (
             &["cosecmd", "verify", "--help"],
             "--keys <HEX>  The key set",

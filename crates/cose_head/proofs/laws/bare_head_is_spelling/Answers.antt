@@ -1,3 +1,5 @@
+use Rattle.cose_head.proofs.Reasons.{head_reason}
+use Rattle.cose_head.proofs.HalfHead.{short_half, head_fits}
 use Rattle.cose_head.proofs.BareHeads.{bare_sound, bare_complete, bare_stays, bare_wants, bare_ends}
 use Rattle.cose_head.proofs.laws.bare_head_is_spelling.Goals as goal
 
@@ -12,3 +14,12 @@ returns-clause-wants c = bare_wants
 
 pub returns-clause-ends : goal.returns-clause-ends
 returns-clause-ends c = bare_ends
+
+pub returns-clause-short : goal.returns-clause-short
+returns-clause-short c = short_half
+
+pub returns-clause-fits : goal.returns-clause-fits
+returns-clause-fits c = head_fits
+
+pub returns-clause-reasons : goal.returns-clause-reasons
+returns-clause-reasons c = head_reason

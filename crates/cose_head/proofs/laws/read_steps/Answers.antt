@@ -1,3 +1,5 @@
+use Rattle.cose_head.proofs.Reasons.{item_reason}
+use Rattle.cose_head.proofs.Moves.{read_moves}
 use Rattle.cose_head.proofs.Steps.{read_steps}
 use Rattle.cose_head.proofs.ReadLaws.{adds_up, truncated_has_room}
 use Rattle.cose_head.proofs.laws.read_steps.Goals as goal
@@ -10,3 +12,9 @@ returns-clause-adds_up c = adds_up
 
 pub returns-clause-truncated : goal.returns-clause-truncated
 returns-clause-truncated c = truncated_has_room
+
+pub returns-clause-reasons : goal.returns-clause-reasons
+returns-clause-reasons c = item_reason
+
+pub returns-clause-moves : goal.returns-clause-moves
+returns-clause-moves c = read_moves

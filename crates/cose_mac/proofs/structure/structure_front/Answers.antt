@@ -1,5 +1,5 @@
 use Rattle.cose_mac.specs.Structure as spec
-use Rattle.cose_mac.proofs.Appending.{append_both}
+use Rattle.cose_mac.proofs.RunningLemmas.{append_both}
 use Rattle.cose_mac.proofs.structure.structure_front.Goals as goal
 
 pub returns-clause-appended : goal.returns-clause-appended

@@ -1,4 +1,4 @@
-use Rattle.cose_map.proofs.LeastFaults.{no_least_of_none, least_is_among, none_before_least}
+use Rattle.cose_map.proofs.lemmas.Laws.Least.{no_least_of_none, least_is_among, none_before_least}
 use Rattle.cose_map.proofs.laws.least_fault_is_least.Goals as goal
 
 pub returns-clause-none : goal.returns-clause-none

@@ -1,23 +1,20 @@
-use Rattle.cose_map.proofs.Reasons.{item_refused_for, map_refused_for, read_refused_for, bucket_refused_for, key_refused_for, key_set_refused_for, pair_refused_for, choice_refused_for}
+use Rattle.cose_map.proofs.lemmas.Laws.Reasons.{map_refused_for, read_refused_for, bucket_refused_for, key_refused_for, key_set_refused_for, pair_refused_for, choice_refused_for}
 use Rattle.cose_map.proofs.laws.refusals_have_their_reasons.Goals as goal
-
-pub returns-clause-item : goal.returns-clause-item
-returns-clause-item c = item_refused_for c.read_steps.ensures.steps
 
 pub returns-clause-map : goal.returns-clause-map
 returns-clause-map c = map_refused_for
 
 pub returns-clause-read : goal.returns-clause-read
-returns-clause-read c = read_refused_for c.read_steps.ensures.steps
+returns-clause-read c = read_refused_for c.whole_is_one_item.ensures.reasons
 
 pub returns-clause-bucket : goal.returns-clause-bucket
-returns-clause-bucket c = bucket_refused_for c.read_steps.ensures.steps
+returns-clause-bucket c = bucket_refused_for c.whole_is_one_item.ensures.reasons
 
 pub returns-clause-key : goal.returns-clause-key
-returns-clause-key c = key_refused_for c.read_steps.ensures.steps
+returns-clause-key c = key_refused_for c.whole_is_one_item.ensures.reasons
 
 pub returns-clause-key_set : goal.returns-clause-key_set
-returns-clause-key_set c = key_set_refused_for c.read_steps.ensures.steps
+returns-clause-key_set c = key_set_refused_for c.whole_is_one_item.ensures.reasons
 
 pub returns-clause-two_buckets : goal.returns-clause-two_buckets
 returns-clause-two_buckets c = pair_refused_for

@@ -1,20 +1,20 @@
-use Rattle.cose_map.proofs.Inside.{map_refused_inside, read_refused_inside, bucket_refused_inside, key_refused_inside, bucket_ends_inside, pair_refused_inside}
+use Rattle.cose_map.proofs.lemmas.Laws.Inside.{map_refused_inside, read_refused_inside, bucket_refused_inside, key_refused_inside, bucket_ends_inside, pair_refused_inside}
 use Rattle.cose_map.proofs.laws.refusals_stand_inside.Goals as goal
 
 pub returns-clause-map : goal.returns-clause-map
-returns-clause-map c = map_refused_inside c.read_steps.ensures.steps c.children_are_of_tree.ensures.inside
+returns-clause-map c = map_refused_inside c.whole_is_one_item.ensures.tree c.whole_is_one_item.ensures.inside c.children_are_of_tree.ensures.inside
 
 pub returns-clause-read : goal.returns-clause-read
-returns-clause-read c = read_refused_inside c.read_steps.ensures.steps c.children_are_of_tree.ensures.inside
+returns-clause-read c = read_refused_inside c.whole_is_one_item.ensures.tree c.whole_is_one_item.ensures.inside c.children_are_of_tree.ensures.inside
 
 pub returns-clause-bucket : goal.returns-clause-bucket
-returns-clause-bucket c = bucket_refused_inside c.read_steps.ensures.steps c.children_are_of_tree.ensures.inside
+returns-clause-bucket c = bucket_refused_inside c.whole_is_one_item.ensures.tree c.whole_is_one_item.ensures.inside c.children_are_of_tree.ensures.inside
 
 pub returns-clause-key : goal.returns-clause-key
-returns-clause-key c = key_refused_inside c.read_steps.ensures.steps c.children_are_of_tree.ensures.inside
+returns-clause-key c = key_refused_inside c.whole_is_one_item.ensures.tree c.whole_is_one_item.ensures.inside c.children_are_of_tree.ensures.inside
 
 pub returns-clause-pairs : goal.returns-clause-pairs
-returns-clause-pairs c = bucket_ends_inside c.read_steps.ensures.steps c.children_are_of_tree.ensures.inside
+returns-clause-pairs c = bucket_ends_inside c.whole_is_one_item.ensures.tree c.whole_is_one_item.ensures.inside c.children_are_of_tree.ensures.inside
 
 pub returns-clause-two_buckets : goal.returns-clause-two_buckets
-returns-clause-two_buckets c = pair_refused_inside c.read_steps.ensures.steps c.children_are_of_tree.ensures.inside
+returns-clause-two_buckets c = pair_refused_inside c.whole_is_one_item.ensures.tree c.whole_is_one_item.ensures.inside c.children_are_of_tree.ensures.inside

@@ -1,12 +1,12 @@
 use Rattle.cose_msg.proofs.Bounds.{verified_within, inspected_within}
-use Rattle.cose_msg.proofs.Settles.{message_is_bounded}
+use Rattle.cose_msg.proofs.Settles.{BoundLaws, message_is_bounded}
 use Rattle.cose_msg.proofs.laws.messages_are_bounded.Goals as goal
 
-pub returns-clause-any : goal.returns-clause-any
-returns-clause-any c = message_is_bounded c.read_steps.ensures.steps
-
-pub returns-clause-verified : goal.returns-clause-verified
-returns-clause-verified c = verified_within c.read_steps.ensures.steps
-
-pub returns-clause-inspected : goal.returns-clause-inspected
-returns-clause-inspected c = inspected_within c.read_steps.ensures.steps
+pub returns : goal.returns
+returns c =
+    let laws : BoundLaws = record {
+      short = c.bare_head_is_spelling.ensures.short;
+      fits = c.bare_head_is_spelling.ensures.fits;
+      steps = c.read_steps.ensures.steps;
+    } in
+    record { any = message_is_bounded laws; verified = verified_within laws; inspected = inspected_within laws }

@@ -7,7 +7,7 @@ use Rattle.cose_msg.proofs.laws.nothing_stands_after_the_bytes.Goals as goal
 pub returns : goal.returns
 returns c =
     let laws : HeadLaws = record {
-      faults = head_definite;
+      faults = head_definite c.bare_head_is_spelling.ensures.reasons;
       spelled = c.bare_head_is_spelling.ensures.spelled;
       head_stays = c.bare_head_is_spelling.ensures.stays;
       read_stays = c.read_stays.ensures.stays;

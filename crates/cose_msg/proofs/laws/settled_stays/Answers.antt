@@ -6,7 +6,7 @@ use Rattle.cose_msg.proofs.laws.settled_stays.Goals as goal
 pub returns : goal.returns
 returns c =
     let laws : HeadLaws = record {
-      faults = head_definite;
+      faults = head_definite c.bare_head_is_spelling.ensures.reasons;
       spelled = c.bare_head_is_spelling.ensures.spelled;
       head_stays = c.bare_head_is_spelling.ensures.stays;
       read_stays = c.read_stays.ensures.stays;

@@ -1,5 +1,5 @@
 use Rattle.std.proofs.Common.{sym, ap, ◌∙◌}
-use Rattle.cose_map.specs.KeySets.{keys as usable}
+use Rattle.cose_map.specs.KeySet.View.{keys as usable}
 use Rattle.cosecmd.specs.Printed.{with_rest}
 use Rattle.cosecmd.proofs.RunLemmas.{said, takes_up}
 use Rattle.cosecmd.proofs.run.reply_to.Goals as goal
@@ -18,4 +18,4 @@ returns-clause-said g c = λ bytes e.
       takes = took.2;
       answer = c.in_ok-verdict-in-Ok-verify_first.ensures.whole took.0 took.1 ∙ ap (with_rest took.0) (c.in-Ok-verify_first.ensures.answer bytes told);
     })
-    c.reply_of.ensures
+    c.reply_of.ensures.says

@@ -1,5 +1,5 @@
-use Rattle.cose_head.proofs.Looks.{children_found}
+use Rattle.cose_head.proofs.Placed.{children_found}
 use Rattle.cose_head.proofs.items.Items.new.Goals as goal
 
-pub returns-in_ok-left-in-Got : goal.returns-in_ok-left-in-Got
-returns-in_ok-left-in-Got c = children_found _ _ _ _ _ _ c.in-Got.ensures.answer c.split_at.ensures.back c.in_ok-left-in-Got.ensures
+pub returns : goal.returns
+returns c = children_found _ _ _ _ _ _ c.in-Got.ensures.answer c.split_at.ensures.back c.in_ok-left-in-Got.ensures

@@ -1,6 +1,6 @@
 use Rattle.std.proofs.Common.{length, ◌∙◌, ap}
-use Rattle.cose_mac.proofs.Lengths.{length_digest}
-use Rattle.cose_mac.specs.Algorithm.{hash_of}
+use Rattle.cose_mac.proofs.HashLemmas.{length_digest}
+use Rattle.cose_head.specs.Algorithm.{hash_of}
 use Rattle.cose_mac.proofs.running.Running.finish_digest.Goals as goal
 
 pub returns-clause-length : goal.returns-clause-length

@@ -1,9 +1,9 @@
 use Rattle.std.proofs.Common.{◌≡◌, [], ◌++◌, length, ◌∙◌, ap}
-use Rattle.cose_mac.proofs.Lengths.{length_mac}
-use Rattle.cose_mac.specs.Algorithm.{hash_of, mac}
+use Rattle.cose_mac.proofs.HmacLemmas.{length_mac}
+use Rattle.cose_head.specs.Algorithm.{hash_of}
 use Rattle.cose_mac.specs.Hash.{function_of}
 use Rattle.cose_mac.specs.Hasher.{Holds}
-use Rattle.cose_mac.specs.Hmac.{key_block, xor_pad, ipad, opad, hmac}
+use Rattle.cose_mac.specs.Hmac.{key_block, xor_pad, ipad, opad, hmac, mac}
 use Rattle.cose_mac.proofs.running.Running.finish_mac.Goals as goal
 
 pub returns-clause-value : goal.returns-clause-value
@@ -15,8 +15,8 @@ returns-clause-value c alg key message fed =
     let outer : c.unwrap.result.items ≡ xor_pad k opad = cc in
     let same : c.hash.result ≡ hash_of alg = cc in
     let empty : Holds (hash_of alg) c.new-outer.result [] = rw same at c.new-outer.ensures in
-    let tag = c.finish-tag.ensures _ _ (c.update-2.ensures _ _ (c.update.ensures _ _ empty)) in
-    let whole : c.finish-tag.result.items ≡ hmac (function_of (hash_of alg)) key message = cc in
+    let both = c.finish-mac.ensures _ _ (c.update-2.ensures _ _ (c.update.ensures _ _ empty)) in
+    let whole : c.finish-mac.result.items ≡ hmac (function_of (hash_of alg)) key message = cc in
     cc
 
 pub returns-clause-length : goal.returns-clause-length

@@ -1,7 +1,7 @@
 use Rattle.std.proofs.Common.{◌∙◌}
-use Rattle.cose_map.specs.Buckets.{bucket_pairs}
-use Rattle.cose_map.specs.Views.{label_value}
-use Rattle.cose_map.proofs.Buckets.{is_there}
+use Rattle.cose_map.specs.Bucket.View.{bucket_pairs}
+use Rattle.cose_map.specs.Label.View.{label_value}
+use Rattle.cose_map.proofs.lemmas.Bucket.{is_there}
 use Rattle.cose_map.proofs.bucket.Bucket.has.Goals as goal
 
 pub returns : goal.returns

@@ -1,7 +1,7 @@
 -- There are at most as many usable keys as items.
 use Rattle.std.proofs.Common.{ap}
-use Rattle.cose_map.proofs.KeyItems.{none_counted}
-use Rattle.cose_map.specs.KeyItems.{key_items_left}
+use Rattle.cose_map.proofs.lemmas.KeySet.Items.{none_counted}
+use Rattle.cose_map.specs.KeySet.Items.{key_items_left}
 use Rattle.cose_map.specs.KeySet.{usable}
 use Rattle.cose_map.proofs.key_set.KeySet.count.Goals as goal
 

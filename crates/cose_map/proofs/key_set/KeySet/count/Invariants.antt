@@ -1,9 +1,9 @@
 -- Those that are counted and those among the items that are left are all usable keys.
 use Rattle.std.proofs.Common.{◌≡◌, ◌+◌, ◌<◌, ◌^◌, length}
 use Rattle.std.specs.Prelude.{filter_map}
-use Rattle.cose_map.specs.KeyItems.{key_items_left}
+use Rattle.cose_map.specs.KeySet.Items.{key_items_left}
 use Rattle.cose_map.specs.KeySet.{usable}
-use Rattle.cose_map.specs.KeySets.{keys}
+use Rattle.cose_map.specs.KeySet.View.{keys}
 use Rattle.cose_map.proofs.key_set.KeySet.count.Given as goal
 
 abbrev pub invariant-loop-item : goal.invariant-loop-item

@@ -2,10 +2,10 @@
 use Rattle.std.proofs.Common.{◌≡◌}
 use Rattle.std.specs.Prelude.{filter_map}
 use Rattle.cose_map.specs.Choice.{fitting, only_one}
-use Rattle.cose_map.specs.Chosen.{question, with_rest}
-use Rattle.cose_map.specs.KeyItems.{key_items_left}
+use Rattle.cose_map.specs.Choice.View.{question, with_rest}
+use Rattle.cose_map.specs.KeySet.Items.{key_items_left}
 use Rattle.cose_map.specs.KeySet.{usable}
-use Rattle.cose_map.specs.KeySets.{keys}
+use Rattle.cose_map.specs.KeySet.View.{keys}
 use Rattle.cose_map.proofs.key_set.KeySet.find.Given as goal
 
 abbrev pub invariant-loop-item : goal.invariant-loop-item

@@ -1,4 +1,4 @@
-use Rattle.std.proofs.Common.{◌≡◌, ℕ, ◌+◌, ◌-◌, ◌<◌, ◌≤◌, List, [], ◌∷◌, ◌++◌, length, Some, None, Ok, Err, Result, true, false, refl, sym, ap, subst, ◌∙◌, arith, length-append, zero-add, add-zero, append_assoc}
+use Rattle.std.proofs.Common.{[], refl, sym, add-zero}
 use Rattle.cose_head.specs.Head.{bare_head}
 use Rattle.cose_msg.specs.Phases.{nothing_told}
 use Rattle.cose_msg.proofs.Standing.{unknown}
@@ -6,12 +6,14 @@ use Rattle.cose_msg.proofs.verifier.Verifier.begin_array_head.Goals as goal
 
 pub returns : goal.returns
 unfolding bare_head
-returns g c = record { stands = λ setting e. record {
-  known = unknown [];
-  told = nothing_told;
-  in_setting = e;
-  payload_known = refl;
-  payload_told = refl;
-  holds = rw c.clear.ensures (refl, (tt, sym (add-zero c.args.at)));
-  left = λ z. rw c.clear.ensures refl;
-} }
+returns g c = record {
+  stands = λ setting e. record {
+    known = unknown [];
+    told = nothing_told;
+    in_setting = e;
+    payload_known = refl;
+    payload_told = refl;
+    holds = rw c.clear.ensures (refl, (tt, sym (add-zero c.args.at)));
+    left = λ z. rw c.clear.ensures refl;
+  };
+}

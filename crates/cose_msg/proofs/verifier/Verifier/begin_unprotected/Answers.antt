@@ -1,16 +1,17 @@
-use Rattle.std.proofs.Common.{◌≡◌, ℕ, ◌+◌, ◌-◌, ◌<◌, ◌≤◌, List, [], ◌∷◌, ◌++◌, length, Some, None, Ok, Err, Result, true, false, refl, sym, ap, subst, ◌∙◌, arith, length-append, zero-add, add-zero, append_assoc}
+use Rattle.std.proofs.Common.{refl, sym, add-zero}
 use Rattle.cose_msg.specs.Phases.{protected_told}
-use Rattle.cose_msg.specs.Verifier.{Known}
-use Rattle.cose_msg.proofs.Standing.{unknown, under_pairs}
+use Rattle.cose_msg.proofs.Standing.{under_pairs}
 use Rattle.cose_msg.proofs.verifier.Verifier.begin_unprotected.Goals as goal
 
 pub returns : goal.returns
-returns g c = record { stands = λ setting pairs e good. record {
-  known = under_pairs pairs;
-  told = protected_told pairs;
-  in_setting = e;
-  payload_known = refl;
-  payload_told = refl;
-  holds = (refl, good, rw c.clear.ensures c.new-self.ensures.put, rw c.clear.ensures (sym (add-zero c.args.at)));
-  left = λ z. rw c.clear.ensures refl;
-} }
+returns g c = record {
+  stands = λ setting pairs e good. record {
+    known = under_pairs pairs;
+    told = protected_told pairs;
+    in_setting = e;
+    payload_known = refl;
+    payload_told = refl;
+    holds = (refl, good, rw c.clear.ensures c.new-self.ensures.put, rw c.clear.ensures (sym (add-zero c.args.at)));
+    left = λ z. rw c.clear.ensures refl;
+  };
+}

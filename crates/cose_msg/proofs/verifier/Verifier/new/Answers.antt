@@ -1,4 +1,4 @@
-use Rattle.std.proofs.Common.{◌≡◌, [], refl}
+use Rattle.std.proofs.Common.{[], refl}
 use Rattle.cose_head.specs.Head.{bare_head}
 use Rattle.cose_msg.specs.Message.{message}
 use Rattle.cose_msg.specs.Phases.{nothing_told}
@@ -7,12 +7,14 @@ use Rattle.cose_msg.proofs.verifier.Verifier.new.Goals as goal
 
 pub returns : goal.returns
 unfolding message bare_head
-returns g c = record { so_far = record {
-  known = unknown [];
-  told = nothing_told;
-  in_setting = refl;
-  payload_known = refl;
-  payload_told = refl;
-  holds = rw c.new-3.ensures (refl, (tt, refl));
-  left = λ z. rw c.new-3.ensures refl;
-} }
+returns g c = record {
+  so_far = record {
+    known = unknown [];
+    told = nothing_told;
+    in_setting = refl;
+    payload_known = refl;
+    payload_told = refl;
+    holds = rw c.new-3.ensures (refl, (tt, refl));
+    left = λ z. rw c.new-3.ensures refl;
+  };
+}

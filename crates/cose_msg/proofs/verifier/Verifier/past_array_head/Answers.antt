@@ -1,4 +1,4 @@
-use Rattle.std.proofs.Common.{◌≡◌, ℕ, ◌+◌, ◌-◌, ◌<◌, ◌≤◌, List, [], ◌∷◌, ◌++◌, length, Some, None, Ok, Err, Result, true, false, refl, sym, ap, subst, ◌∙◌, arith, length-append, zero-add, add-zero, append_assoc}
+use Rattle.std.proofs.Common.{[], refl}
 use Rattle.cose_msg.specs.Phases.{nothing_told}
 use Rattle.cose_msg.proofs.verifier.Verifier.past_array_head.Goals as goal
 

@@ -1,36 +1,44 @@
-use Rattle.std.proofs.Common.{◌≡◌, ℕ, ◌+◌, ◌-◌, ◌<◌, ◌≤◌, List, [], ◌∷◌, ◌++◌, length, Some, None, Ok, Err, Result, true, false, refl, sym, ap, subst, ◌∙◌, arith, length-append, zero-add, add-zero, append_assoc}
+use Rattle.std.proofs.Common.{◌≡◌, [], true, false, refl, sym, ap, ◌∙◌}
 use Rattle.cose_msg.specs.declared.context.Wanted.{Wanted}
-use Rattle.cose_msg.specs.Front.{is_array, is_cwt_tag, is_tag, kind_of_tag, past_tag, past_untagged}
+use Rattle.cose_msg.specs.Front.{is_array, is_cwt_tag, is_tag, kind_of_tag, past_untagged}
 use Rattle.cose_msg.specs.Message.{Setting, comparing}
 use Rattle.cose_msg.specs.Phases.{nothing_told}
 use Rattle.cose_msg.proofs.Standing.{moved}
 use Rattle.cose_msg.proofs.verifier.Verifier.past_first_head.Goals as goal
 
 pub returns-then-is_cwt_tag : goal.returns-then-is_cwt_tag
-returns-then-is_cwt_tag g c = record { stands = λ setting e.
-    let cwt : is_cwt_tag setting.cwt c.args.head ≡ true = ap (λ (s : Setting). is_cwt_tag s.cwt c.args.head) (sym e) ∙ (sym c.is_cwt_tag.ensures ∙ c.if-is_cwt_tag.true) in
-    rw cwt (c.begin_tag_head.ensures.stands setting e) }
+returns-then-is_cwt_tag g c = record {
+  stands = λ setting e.
+      let cwt : is_cwt_tag setting.cwt c.args.head ≡ true = ap (λ (s : Setting). is_cwt_tag s.cwt c.args.head) (sym e) ∙ (sym c.is_cwt_tag.ensures ∙ c.if-is_cwt_tag.true) in
+      rw cwt (c.begin_tag_head.ensures.stands setting e);
+}
 
 pub returns-then-is_tag : goal.returns-then-is_tag
-returns-then-is_tag g c = record { stands = λ setting e.
-    let cwt : is_cwt_tag setting.cwt c.args.head ≡ false = ap (λ (s : Setting). is_cwt_tag s.cwt c.args.head) (sym e) ∙ (sym c.is_cwt_tag.ensures ∙ c.if-is_cwt_tag.false) in
-    let tagged : is_tag c.args.head ≡ true = sym c.is_tag.ensures ∙ c.if-is_tag.true in
-    let says : kind_of_tag setting.wanted c.args.head.arg ≡ c.kind_of_tag.result = ap (λ (s : Setting). kind_of_tag s.wanted c.args.head.arg) (sym e) ∙ sym c.kind_of_tag.ensures in
-    rw (cwt, tagged, says) (c.past_tag.ensures.stands setting e) }
+returns-then-is_tag g c = record {
+  stands = λ setting e.
+      let cwt : is_cwt_tag setting.cwt c.args.head ≡ false = ap (λ (s : Setting). is_cwt_tag s.cwt c.args.head) (sym e) ∙ (sym c.is_cwt_tag.ensures ∙ c.if-is_cwt_tag.false) in
+      let tagged : is_tag c.args.head ≡ true = sym c.is_tag.ensures ∙ c.if-is_tag.true in
+      let says : kind_of_tag setting.wanted c.args.head.arg ≡ c.kind_of_tag.result = ap (λ (s : Setting). kind_of_tag s.wanted c.args.head.arg) (sym e) ∙ sym c.kind_of_tag.ensures in
+      rw (cwt, tagged, says) (c.past_tag.ensures.stands setting e);
+}
 
 pub returns-then-is_array : goal.returns-then-is_array
-returns-then-is_array g c = record { stands = λ setting e.
-    let cwt : is_cwt_tag setting.cwt c.args.head ≡ false = ap (λ (s : Setting). is_cwt_tag s.cwt c.args.head) (sym e) ∙ (sym c.is_cwt_tag.ensures ∙ c.if-is_cwt_tag.false) in
-    let tagged : is_tag c.args.head ≡ false = sym c.is_tag.ensures ∙ c.if-is_tag.false in
-    let listed : is_array c.args.head ≡ true = sym c.is_array.ensures ∙ c.if-is_array.true in
-    let wanted : setting.wanted ≡ c.args.self.now.context.wanted = ap (λ (s : Setting). s.wanted) (sym e) in
-    moved c.past_untagged.new.self _ _ refl refl
+returns-then-is_array g c = record {
+  stands = λ setting e.
+      let cwt : is_cwt_tag setting.cwt c.args.head ≡ false = ap (λ (s : Setting). is_cwt_tag s.cwt c.args.head) (sym e) ∙ (sym c.is_cwt_tag.ensures ∙ c.if-is_cwt_tag.false) in
+      let tagged : is_tag c.args.head ≡ false = sym c.is_tag.ensures ∙ c.if-is_tag.false in
+      let listed : is_array c.args.head ≡ true = sym c.is_array.ensures ∙ c.if-is_array.true in
+      let wanted : setting.wanted ≡ c.args.self.now.context.wanted = ap (λ (s : Setting). s.wanted) (sym e) in
+      moved c.past_untagged.new.self _ _ refl refl
       (λ z. rw (cwt, tagged, listed) (ap (λ (w : Wanted). past_untagged (comparing g.row.H g.row.D setting) w 0 c.args.head c.args.at z) wanted))
-      (c.past_untagged.ensures.stands setting e) }
+      (c.past_untagged.ensures.stands setting e);
+}
 
 pub returns-else-is_array : goal.returns-else-is_array
-returns-else-is_array g c = record { stands = λ setting e.
-    let cwt : is_cwt_tag setting.cwt c.args.head ≡ false = ap (λ (s : Setting). is_cwt_tag s.cwt c.args.head) (sym e) ∙ (sym c.is_cwt_tag.ensures ∙ c.if-is_cwt_tag.false) in
-    let tagged : is_tag c.args.head ≡ false = sym c.is_tag.ensures ∙ c.if-is_tag.false in
-    let listed : is_array c.args.head ≡ false = sym c.is_array.ensures ∙ c.if-is_array.false in
-    rw (cwt, tagged, listed) (c.refuse.ensures setting [] c.args.at nothing_told e refl) }
+returns-else-is_array g c = record {
+  stands = λ setting e.
+      let cwt : is_cwt_tag setting.cwt c.args.head ≡ false = ap (λ (s : Setting). is_cwt_tag s.cwt c.args.head) (sym e) ∙ (sym c.is_cwt_tag.ensures ∙ c.if-is_cwt_tag.false) in
+      let tagged : is_tag c.args.head ≡ false = sym c.is_tag.ensures ∙ c.if-is_tag.false in
+      let listed : is_array c.args.head ≡ false = sym c.is_array.ensures ∙ c.if-is_array.false in
+      rw (cwt, tagged, listed) (c.refuse.ensures setting [] c.args.at nothing_told e refl);
+}

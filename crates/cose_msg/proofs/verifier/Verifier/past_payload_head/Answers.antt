@@ -1,27 +1,47 @@
-use Rattle.std.proofs.Common.{◌≡◌, ℕ, ◌+◌, ◌-◌, ◌<◌, ◌≤◌, List, [], ◌∷◌, ◌++◌, length, Some, None, Ok, Err, Result, true, false, refl, sym, ap, subst, ◌∙◌, arith, length-append, zero-add, add-zero, append_assoc, append-nil}
-use Rattle.cose_msg.specs.Message.{Setting, comparing}
+use Rattle.std.proofs.Common.{◌≡◌, ℕ, List, [], length, Some, None, cond, refl, sym, ap, subst, ◌∙◌, zero-add, add-zero}
+use Rattle.cose_msg.specs.Message.{Setting, comparing, protected_content}
 use Rattle.cose_msg.specs.Phases.{headers_told, past_payload, payload_fault_within}
-use Rattle.cose_msg.specs.Verifier.{IsOpened, Known}
-use Rattle.cose_msg.proofs.Faults.{payload_fits}
+use Rattle.cose_msg.specs.Verifier.{IsOpened}
+use Rattle.cose_msg.proofs.Opened.{opened_first, opened_whole}
 use Rattle.cose_msg.proofs.Standing.{moved}
-use Rattle.cose_msg.proofs.Steps.{opened_at_none, string_none}
+use Rattle.cose_msg.proofs.Steps.{string_none}
 use Rattle.cose_msg.proofs.verifier.Verifier.past_payload_head.Goals as goal
 
 pub returns-in-Some : goal.returns-in-Some
-returns-in-Some g c = record { stands = λ setting known e none key same bare fed.
-    let fault : payload_fault_within setting.payload_limit c.args.head ≡ Some c.in-Some.reason = ap (λ (s : Setting). payload_fault_within s.payload_limit c.args.head) (sym e) ∙ sym c.in-Some.ensures in
-    rw fault (c.refuse.ensures setting [] c.args.at (headers_told known.headers []) e refl) }
+returns-in-Some g c = record {
+  stands = λ setting known e none key same bare fed.
+      let fault : payload_fault_within setting.payload_limit c.args.head ≡ Some c.in-Some.reason = ap (λ (s : Setting). payload_fault_within s.payload_limit c.args.head) (sym e) ∙ sym c.in-Some.ensures in
+      rw fault (c.refuse.ensures setting [] c.args.at (headers_told known.headers []) e refl);
+}
 
 pub returns-then-head-eq0 : goal.returns-then-head-eq0
-returns-then-head-eq0 g c = record { stands = λ setting known e none key same bare fed.
-    let fault : payload_fault_within setting.payload_limit c.args.head ≡ None = ap (λ (s : Setting). payload_fault_within s.payload_limit c.args.head) (sym e) ∙ sym c.in-None.ensures in
-    let opened = rw e at (c.open_structure.ensures.opened known none key.kind_is same bare fed) in
-    rw (fault, c.if-head-eq0.true) (moved c.begin_auth_head.new.self _ _ none refl
-      (λ z. string_none (headers_told known.headers) (past_payload (comparing g.row.H g.row.D setting) known.headers (Some known.found)) c.args.at z ∙ ?)
-      (c.begin_auth_head.ensures.stands setting known ? ? (ap length none) (opened_at_none opened ?))) }
+returns-then-head-eq0 g c = record {
+  stands = λ setting known e none key same bare fed.
+      let fault : payload_fault_within setting.payload_limit c.args.head ≡ None = ap (λ (s : Setting). payload_fault_within s.payload_limit c.args.head) (sym e) ∙ sym c.in-None.ensures in
+      let content : protected_content known.headers ≡ c.empty_if-protected.result.now = rw (← bare, same) (sym (c.empty_if-protected.ensures ∙ ap (λ (bytes : List ℕ). cond c.args.payload_head.is_bare [] bytes) c.as_slice.ensures.value)) in
+      let first = opened_first c.args.self.now.hashing c.front.new.self c.args.self.now.context.aad.now c.empty_if-protected.result.now known c.args.payload_head.kind c.args.head.arg c.front.ensures.appended c.front.ensures.front none key.kind_is content fed in
+      let opened : IsOpened c.front.new.self setting.aad known c.args.head.arg = subst (λ (s : Setting). IsOpened c.front.new.self s.aad known c.args.head.arg) e first in
+      let empty : length known.payload ≡ c.args.head.arg = ap length none ∙ sym c.if-head-eq0.true in
+      let whole = opened_whole c.front.new.self setting.aad known c.args.head.arg opened empty in
+      moved c.begin_auth_head.new.self _ _ none refl
+      (λ z. rw (fault, c.if-head-eq0.true, none) (string_none (headers_told known.headers) (past_payload (comparing g.row.H g.row.D setting) known.headers (Some known.found)) c.args.at z))
+      (c.begin_auth_head.ensures.stands setting known e (record { kind_is = key.kind_is; alg_is = key.alg_is; key_is = key.key_is }) (ap length none) whole);
+}
 
 pub returns-else-head-eq0 : goal.returns-else-head-eq0
-returns-else-head-eq0 g c = record { stands = λ setting known e none key same bare fed.
-    let fault : payload_fault_within setting.payload_limit c.args.head ≡ None = ap (λ (s : Setting). payload_fault_within s.payload_limit c.args.head) (sym e) ∙ sym c.in-None.ensures in
-    let opened = rw e at (c.open_structure.ensures.opened known none key.kind_is same bare fed) in
-    ? }
+returns-else-head-eq0 g c = record {
+  stands = λ setting known e none key same bare fed.
+      let fault : payload_fault_within setting.payload_limit c.args.head ≡ None = ap (λ (s : Setting). payload_fault_within s.payload_limit c.args.head) (sym e) ∙ sym c.in-None.ensures in
+      let content : protected_content known.headers ≡ c.empty_if-protected.result.now = rw (← bare, same) (sym (c.empty_if-protected.ensures ∙ ap (λ (bytes : List ℕ). cond c.args.payload_head.is_bare [] bytes) c.as_slice.ensures.value)) in
+      let first = opened_first c.args.self.now.hashing c.front.new.self c.args.self.now.context.aad.now c.empty_if-protected.result.now known c.args.payload_head.kind c.args.head.arg c.front.ensures.appended c.front.ensures.front none key.kind_is content fed in
+      let opened : IsOpened c.front.new.self setting.aad known c.args.head.arg = subst (λ (s : Setting). IsOpened c.front.new.self s.aad known c.args.head.arg) e first in
+      record {
+        known = known;
+        told = headers_told known.headers known.payload;
+        in_setting = e;
+        payload_known = none;
+        payload_told = none;
+        holds = (refl, rw none (zero-add c.args.head.arg), rw none (sym (add-zero c.args.at)), record { kind_is = key.kind_is; alg_is = key.alg_is; key_is = key.key_is }, opened);
+        left = λ z. rw (fault, none) refl;
+      };
+}

@@ -1,4 +1,4 @@
-use Rattle.std.proofs.Common.{◌≡◌, ℕ, ◌+◌, ◌-◌, ◌<◌, ◌≤◌, List, [], ◌∷◌, ◌++◌, length, Some, None, Ok, Err, Result, true, false, refl, sym, ap, subst, ◌∙◌, arith, length-append, zero-add, add-zero, append_assoc}
+use Rattle.std.proofs.Common.{[], refl, sym, zero-add, add-zero}
 use Rattle.cose_msg.specs.Message.{comparing}
 use Rattle.cose_msg.specs.Phases.{nothing_told, past_protected}
 use Rattle.cose_msg.proofs.Faults.{protected_fits}
@@ -10,17 +10,21 @@ pub returns-in-Some : goal.returns-in-Some
 returns-in-Some g c = record { stands = λ setting e. rw (← c.in-Some.ensures) (c.refuse.ensures setting [] c.args.at nothing_told e refl) }
 
 pub returns-then-head-eq0 : goal.returns-then-head-eq0
-returns-then-head-eq0 g c = record { stands = λ setting e.
-    let after = rw (c.clear.ensures, add-zero) at (c.past_protected.ensures.stands setting e) in
-    rw (← c.in-None.ensures, c.if-head-eq0.true) (moved c.past_protected.new.self _ _ refl refl (string_none (λ w. nothing_told) (past_protected (comparing g.row.H g.row.D setting) c.args.kind) c.args.at) after) }
+returns-then-head-eq0 g c = record {
+  stands = λ setting e.
+      let after = rw (c.clear.ensures, add-zero) at (c.past_protected.ensures.stands setting e) in
+      rw (← c.in-None.ensures, c.if-head-eq0.true) (moved c.past_protected.new.self _ _ refl refl (string_none (λ w. nothing_told) (past_protected (comparing g.row.H g.row.D setting) c.args.kind) c.args.at) after);
+}
 
 pub returns-else-head-eq0 : goal.returns-else-head-eq0
-returns-else-head-eq0 g c = record { stands = λ setting e. record {
-  known = unknown [];
-  told = nothing_told;
-  in_setting = e;
-  payload_known = refl;
-  payload_told = refl;
-  holds = rw c.clear.ensures (refl, zero-add c.args.head.arg, protected_fits g.row.H c.args.head (sym c.in-None.ensures), sym (add-zero c.args.at));
-  left = λ z. rw (← c.in-None.ensures, c.clear.ensures) refl;
-} }
+returns-else-head-eq0 g c = record {
+  stands = λ setting e. record {
+    known = unknown [];
+    told = nothing_told;
+    in_setting = e;
+    payload_known = refl;
+    payload_told = refl;
+    holds = rw c.clear.ensures (refl, zero-add c.args.head.arg, protected_fits g.row.H c.args.head (sym c.in-None.ensures), sym (add-zero c.args.at));
+    left = λ z. rw (← c.in-None.ensures, c.clear.ensures) refl;
+  };
+}

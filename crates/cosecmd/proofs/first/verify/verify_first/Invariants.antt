@@ -1,6 +1,6 @@
 use Rattle.std.proofs.Common.{◌≡◌}
 use Rattle.cosecmd.specs.Machine.{budget}
-use Rattle.cose_map.specs.KeySets.{keys}
+use Rattle.cose_map.specs.KeySet.View.{keys}
 use Rattle.cosecmd.proofs.RunLemmas.{Along}
 use Rattle.cosecmd.proofs.first.verify.verify_first.Given as goal
 

@@ -1,5 +1,5 @@
 use Rattle.std.proofs.Common.{◌≡◌, [], refl, sym, ◌∙◌, arith}
-use Rattle.cose_map.specs.KeySets.{keys}
+use Rattle.cose_map.specs.KeySet.View.{keys}
 use Rattle.cosecmd.specs.FirstVerdict.{front, key_choice}
 use Rattle.cosecmd.proofs.PhaseLemmas.{Continues-along, with_front-same, with_front-other}
 use Rattle.cosecmd.proofs.first.phases.Front.step.Goals as goal

@@ -1,7 +1,7 @@
 use Rattle.std.proofs.Common.{refl, ap}
 use Rattle.cose_head.specs.Head.{bare_head}
-use Rattle.cose_map.specs.KeyParts.{material_value}
-use Rattle.cose_map.specs.KeySets.{keys}
+use Rattle.cose_map.specs.Key.View.{material_value}
+use Rattle.cose_map.specs.KeySet.View.{keys}
 use Rattle.cosecmd.proofs.PhaseLemmas.{key_choice-found}
 use Rattle.cosecmd.proofs.first.phases.PayloadHead.begin.Goals as goal
 

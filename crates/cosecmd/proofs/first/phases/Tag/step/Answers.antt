@@ -1,6 +1,6 @@
 use Rattle.std.proofs.Common.{◌≡◌, ◌+◌, ◌++◌, ◌∷◌, [], true, false, refl, ap, ◌∙◌, arith, length, length-append, sym}
 use Rattle.std.specs.Str.{bytes_eq}
-use Rattle.cose_mac.specs.declared.alg.Alg.TheVariants.{Hmac256}
+use Rattle.cose_head.specs.declared.algorithm.Alg.TheVariants.{Hmac256}
 use Rattle.cosecmd.specs.FirstVerdict.{comparison, protected, tag_of}
 use Rattle.cose_mac.specs.Structure.{mac_structure}
 use Rattle.cosecmd.proofs.PhaseLemmas.{with_string-whole, comparison-holds, comparison-fails}

@@ -1,0 +1,69 @@
+-- Bare heads on examples, by computing.
+use Rattle.std.proofs.Common.{◌≡◌, ℕ, [], ◌∷◌, refl}
+use Rattle.cose_head.specs.declared.head.Head.{Head}
+use Rattle.cose_head.specs.declared.head.HeadStep.TheVariants.{Got, More, Fault}
+use Rattle.cose_head.specs.declared.reason.Reason.TheVariants.{Reserved, Indefinite, BadSimple}
+use Rattle.cose_head.specs.Head.{bare_head}
+
+abbrev head : ℕ → ℕ → ℕ → Head
+head major arg width = record { major = major; arg = arg; width = width }
+
+nothing : bare_head [] ≡ More 1
+unfolding bare_head
+nothing = refl
+
+-- the greatest argument of one byte, and the least width of each other one
+in_one_byte : bare_head (0x17 ∷ []) ≡ Got (head 0 23 1) 1
+unfolding bare_head
+in_one_byte = refl
+
+in_two_bytes : bare_head (0x38 ∷ 5 ∷ []) ≡ Got (head 1 5 2) 2
+unfolding bare_head
+in_two_bytes = refl
+
+in_three_bytes : bare_head (0x59 ∷ 1 ∷ 2 ∷ []) ≡ Got (head 2 258 3) 3
+unfolding bare_head
+in_three_bytes = refl
+
+in_five_bytes : bare_head (0x7a ∷ 0 ∷ 1 ∷ 0 ∷ 0 ∷ []) ≡ Got (head 3 65536 5) 5
+unfolding bare_head
+in_five_bytes = refl
+
+in_nine_bytes : bare_head (0xdb ∷ 0 ∷ 0 ∷ 0 ∷ 1 ∷ 0 ∷ 0 ∷ 0 ∷ 0 ∷ []) ≡ Got (head 6 4294967296 9) 9
+unfolding bare_head
+in_nine_bytes = refl
+
+-- bytes that follow stay out
+followed : bare_head (0x84 ∷ 0x40 ∷ []) ≡ Got (head 4 4 1) 1
+unfolding bare_head
+followed = refl
+
+-- the low bits go before the missing bytes, and the missing bytes before the value
+reserved : bare_head (0x1c ∷ []) ≡ Fault Reserved
+unfolding bare_head
+reserved = refl
+
+indefinite : bare_head (0x9f ∷ []) ≡ Fault Indefinite
+unfolding bare_head
+indefinite = refl
+
+half_simple : bare_head (0xf8 ∷ []) ≡ More 1
+unfolding bare_head
+half_simple = refl
+
+bad_simple : bare_head (0xf8 ∷ 0x1f ∷ []) ≡ Fault BadSimple
+unfolding bare_head
+bad_simple = refl
+
+good_simple : bare_head (0xf8 ∷ 0x20 ∷ 0 ∷ []) ≡ Got (head 7 32 2) 2
+unfolding bare_head
+good_simple = refl
+
+half_argument : bare_head (0x1b ∷ 0 ∷ 0 ∷ []) ≡ More 6
+unfolding bare_head
+half_argument = refl
+
+-- of a number that is no byte the low eight bits count
+no_byte : bare_head (0x141 ∷ []) ≡ Got (head 2 1 1) 1
+unfolding bare_head
+no_byte = refl

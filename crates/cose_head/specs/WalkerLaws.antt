@@ -1,0 +1,22 @@
+-- What holds of a walker, by the bytes that it was put.
+use Rattle.std.specs.Prelude.{◌≡◌, ℕ, ◌<◌, List, length, Ok}
+use Rattle.cose_head.specs.declared.walker.Walker.{Walker}
+use Rattle.cose_head.specs.declared.walker.Step.TheVariants.{Going, Done}
+use Rattle.cose_head.specs.Measured.{left_of}
+use Rattle.cose_head.specs.Placed.{Placed}
+use Rattle.cose_head.specs.Reading.{read}
+use Rattle.cose_head.specs.Walker.{HasPut, Answers}
+use Rattle.cose_head.specs.Whole.{whole}
+
+-- Where there is room at all, a walker that goes on has room for a further byte, and reading says that the bytes end
+-- too early.
+abbrev pub PutHasRoom : Type 0
+PutHasRoom = (D : ℕ) (room : ℕ) (bytes : List ℕ) (w : Walker D) → HasPut room bytes w → 0 < room → length bytes < room
+
+abbrev pub PutIsTruncated : Type 0
+PutIsTruncated = (D : ℕ) (room : ℕ) (bytes : List ℕ) (w : Walker D) → HasPut room bytes w → 0 < room →
+    Answers room bytes Going (read D (left_of bytes room 0))
+
+-- Where a walker is done, the bytes that it was put are exactly one item, wherever they stand.
+abbrev pub DoneIsWhole : Type 0
+DoneIsWhole = (depth room : ℕ) (p : Placed) → Answers room p.bytes Done (read depth (left_of p.bytes room 0)) → whole depth p ≡ Ok p

@@ -1,0 +1,49 @@
+//! The table of RFC 9053, column by column.
+
+use super::{Alg, Hash, KeyType};
+use crate::kind::Kind;
+
+#[test]
+fn has_the_table_of_the_standard(rt: HostRuntime) {
+    let symmetric = KeyType::Symmetric;
+    let p_256 = KeyType::Elliptic(1);
+    let table = [
+        (4, Alg::Hmac64, Kind::Mac0, symmetric, Hash::Sha256, 8),
+        (5, Alg::Hmac256, Kind::Mac0, symmetric, Hash::Sha256, 32),
+        (6, Alg::Hmac384, Kind::Mac0, symmetric, Hash::Sha384, 48),
+        (7, Alg::Hmac512, Kind::Mac0, symmetric, Hash::Sha512, 64),
+        (-7, Alg::Es256, Kind::Sign1, p_256, Hash::Sha256, 64),
+    ];
+    for (number, alg, kind, key_type, hash, length) in table {
+        assert_eq!(rt; Alg::from_number(number), Some(alg), "at {number}");
+        assert_eq!(rt; alg.number(), number, "of {alg:?}");
+        assert_eq!(rt; alg.kind(), kind, "of {alg:?}");
+        assert_eq!(rt; alg.is_mac(), kind == Kind::Mac0, "of {alg:?}");
+        assert_eq!(rt; alg.key_type(), key_type, "of {alg:?}");
+        assert_eq!(rt; alg.hash(), hash, "of {alg:?}");
+        assert_eq!(rt; alg.auth_length(), length, "of {alg:?}");
+    }
+}
+
+#[test]
+fn knows_no_other_number(rt: HostRuntime) {
+    for magnitude in 0..70_000u32 {
+        let number = i128::from(magnitude);
+        let is_hmac = matches!(magnitude, 4..=7);
+        assert_eq!(rt; Alg::from_number(number).is_some(), is_hmac, "at {number}");
+        assert_eq!(rt;
+            Alg::from_number(-number).is_some(),
+            magnitude == 7,
+            "at -{number}"
+        );
+    }
+    for number in [
+        i128::MIN,
+        -(1 << 64) - 7,
+        (1 << 32) + 5,
+        (1 << 64) + 5,
+        i128::MAX,
+    ] {
+        assert_eq!(rt; Alg::from_number(number), None, "at {number}");
+    }
+}

@@ -1,0 +1,5 @@
+pub mod Label
+pub mod Map
+pub mod Bucket
+pub mod KeySet
+pub mod Laws

@@ -1,0 +1,5 @@
+pub mod Inside
+pub mod Least
+pub mod Reasons
+pub mod Tree
+pub mod Chosen

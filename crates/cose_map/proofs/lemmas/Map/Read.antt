@@ -1,0 +1,98 @@
+-- The pairs of a map, checked one after another.
+use Rattle.std.proofs.Common.{◌≡◌, ◌∙◌, ℕ, zero, suc, ◌+◌, ◌-◌, ◌<◌, Bool, true, false, List, [], ◌∷◌, ◌++◌, length, take, drop, Option, Some, None, Ok, Err, refl, sym, ap, arith, add-one, append-nil}
+use Rattle.std.proofs.lemmas.List.{take-append-drop}
+use Rattle.cose_head.specs.declared.reason.Reason.{Reason}
+use Rattle.cose_head.specs.declared.refusal.Refusal.{Refusal}
+use Rattle.cose_head.specs.Placed.{Placed}
+use Rattle.cose_map.specs.Label.{LabelValue, label_of, same_label}
+use Rattle.cose_map.specs.Map.Read.{Read, ◌>>=◌, name_at, new_name, value_at, pair_after, check_pairs}
+use Rattle.cose_map.specs.Map.Form.{Table}
+use Rattle.cose_map.specs.Map.Pairs.{Pair, has_label, pairs_of, pairs_from}
+
+-- a label among the first pairs
+pub taken_next : (name : LabelValue) (left : ℕ) (pairs : List Pair) (pair : Pair) (others : List Pair) → pairs ≡ pair ∷ others → (left ≡ 0 → ⊥) → same_label name pair.name ≡ false →
+    has_label name (take (left - 1) others) ≡ has_label name (take left pairs)
+taken_next name zero pairs pair others e more other = absurd (more refl)
+taken_next name (suc left) pairs pair others e more other = let one : suc left - 1 ≡ left = omega arith in rw (e, one, other) refl
+
+-- the first elements of a list, with one more
+pub one_more : {A : Type 0} (n : ℕ) (all : List A) (x : A) (others : List A) → drop n all ≡ x ∷ others → take (suc n) all ≡ take n all ++ x ∷ []
+one_more zero [] x others e = cc
+one_more zero (y ∷ ys) x others e = let same : y ≡ x = cc in rw same refl
+one_more (suc n) [] x others e = cc
+one_more (suc n) (y ∷ ys) x others e = ap (λ l. y ∷ l) (one_more n ys x others e)
+
+pub one_less : {A : Type 0} (n : ℕ) (all : List A) (x : A) (others : List A) → drop n all ≡ x ∷ others → drop (suc n) all ≡ others
+one_less zero [] x others e = cc
+one_less zero (y ∷ ys) x others e = let same : ys ≡ others = cc in same
+one_less (suc n) [] x others e = cc
+one_less (suc n) (y ∷ ys) x others e = one_less n ys x others e
+
+pub all_taken : {A : Type 0} (n : ℕ) (all : List A) → drop n all ≡ [] → take n all ≡ all
+all_taken n all e = sym (append-nil (take n all)) ∙ ap (λ l. take n all ++ l) (sym e) ∙ take-append-drop n all
+
+-- a pair that was checked is the next one that has a name
+checked_value : (o : Option Reason) (name : LabelValue) (label value : Placed) (pair : Pair) (others : List Pair) → value_at label o name value ≡ Ok pair →
+    ◌≡◌ {A = List Pair} (record { name = name; label = label; value = value } ∷ others) (pair ∷ others)
+checked_value None name label value pair others e = let same : record { name = name; label = label; value = value } ≡ pair = cc in rw same refl
+checked_value (Some reason) name label value pair others e = cc
+
+checked_new : (taken : Bool) (table : Table) (name : LabelValue) (label value : Placed) (pair : Pair) (others : List Pair) →
+    (new_name label taken name >>= λ n. value_at label (table n value) n value) ≡ Ok pair →
+    ◌≡◌ {A = List Pair} (record { name = name; label = label; value = value } ∷ others) (pair ∷ others)
+checked_new true table name label value pair others e = cc
+checked_new false table name label value pair others e = checked_value (table name value) name label value pair others e
+
+checked_name : (o : Option LabelValue) (table : Table) (earlier : List Pair) (label value : Placed) (pair : Pair) (others : List Pair) →
+    ((name_at label o >>= λ n. new_name label (has_label n earlier) n) >>= λ n. value_at label (table n value) n value) ≡ Ok pair →
+    pairs_from o label value others ≡ pair ∷ others
+checked_name None table earlier label value pair others e = cc
+checked_name (Some name) table earlier label value pair others e = checked_new (has_label name earlier) table name label value pair others e
+
+checked_named : (table : Table) (earlier : List Pair) (label value : Placed) (pair : Pair) (others : List Placed) →
+    pair_after table earlier label value ≡ Ok pair → pairs_of (label ∷ value ∷ others) ≡ pair ∷ pairs_of others
+unfolding pairs_of
+checked_named table earlier label value pair others e = checked_name (label_of label) table earlier label value pair (pairs_of others) e
+
+-- the check goes on after a pair that passes, and stops at one that doesn't
+check_on : (table : Table) (earlier : List Pair) (label value : Placed) (others : List Placed) (pair : Pair) → pair_after table earlier label value ≡ Ok pair →
+    check_pairs table earlier (label ∷ value ∷ others) ≡ check_pairs table (earlier ++ pair ∷ []) others
+unfolding check_pairs
+check_on table earlier label value others pair e = rw e refl
+
+check_off : (table : Table) (earlier : List Pair) (label value : Placed) (others : List Placed) (refusal : Refusal) → pair_after table earlier label value ≡ Err refusal →
+    check_pairs table earlier (label ∷ value ∷ others) ≡ Err refusal
+unfolding check_pairs
+check_off table earlier label value others refusal e = rw e refl
+
+pub pairs_on : (table : Table) (all : List Pair) (count : ℕ) (rest : List Placed) (label value : Placed) (others : List Placed) (answer : Read (List Pair)) (pair : Pair) →
+    rest ≡ label ∷ value ∷ others → drop count all ≡ pairs_of rest → check_pairs table (take count all) rest ≡ answer → Ok pair ≡ pair_after table (take count all) label value →
+    (take (count + 1) all ≡ take count all ++ pair ∷ []) × (check_pairs table (take (count + 1) all) others ≡ answer) × (drop (count + 1) all ≡ pairs_of others)
+pairs_on table all count rest label value others answer pair e left same pass =
+    let next : drop count all ≡ pair ∷ pairs_of others = left ∙ ap pairs_of e ∙ checked_named table (take count all) label value pair others (sym pass) in
+    let more : take (count + 1) all ≡ take count all ++ pair ∷ [] = rw (add-one count) (one_more count all pair (pairs_of others) next) in
+    let less : drop (count + 1) all ≡ pairs_of others = rw (add-one count) (one_less count all pair (pairs_of others) next) in
+    (more, rw more (sym (check_on table (take count all) label value others pair (sym pass)) ∙ ap (check_pairs table (take count all)) (sym e) ∙ same), less)
+
+pub pairs_off : (table : Table) (all : List Pair) (count : ℕ) (rest : List Placed) (label value : Placed) (others : List Placed) (answer : Read (List Pair)) (refusal : Refusal) →
+    rest ≡ label ∷ value ∷ others → check_pairs table (take count all) rest ≡ answer → Err refusal ≡ pair_after table (take count all) label value → Err refusal ≡ answer
+pairs_off table all count rest label value others answer refusal e same stop =
+    sym (check_off table (take count all) label value others refusal (sym stop)) ∙ ap (check_pairs table (take count all)) (sym e) ∙ same
+
+few_named : (rest : List Placed) → length rest < 2 → pairs_of rest ≡ []
+unfolding pairs_of
+few_named [] few = refl
+few_named (label ∷ []) few = refl
+few_named (label ∷ value ∷ others) few = absurd (omega (arith, few))
+
+few_checked : (table : Table) (earlier : List Pair) (rest : List Placed) → length rest < 2 → check_pairs table earlier rest ≡ Ok earlier
+unfolding check_pairs
+few_checked table earlier [] few = refl
+few_checked table earlier (label ∷ []) few = refl
+few_checked table earlier (label ∷ value ∷ others) few = absurd (omega (arith, few))
+
+pub pairs_done : (table : Table) (all : List Pair) (count : ℕ) (rest : List Placed) (answer : Read (List Pair)) →
+    length rest < 2 → drop count all ≡ pairs_of rest → check_pairs table (take count all) rest ≡ answer → Ok all ≡ answer
+pairs_done table all count rest answer few left same =
+    let every : take count all ≡ all = all_taken count all (left ∙ few_named rest few) in
+    ap Ok (sym every) ∙ sym (few_checked table (take count all) rest few) ∙ same

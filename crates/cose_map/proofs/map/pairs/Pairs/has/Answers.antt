@@ -1,0 +1,8 @@
+use Rattle.std.proofs.Common.{◌∙◌}
+use Rattle.cose_map.specs.Map.View.{pairs_left}
+use Rattle.cose_map.specs.Label.View.{label_value}
+use Rattle.cose_map.proofs.lemmas.Bucket.{is_there}
+use Rattle.cose_map.proofs.map.pairs.Pairs.has.Goals as goal
+
+pub returns : goal.returns
+returns c = c.is_some.ensures ∙ is_there _ c.get.result (label_value c.args.label.now) (pairs_left c.args.self.now) c.get.ensures

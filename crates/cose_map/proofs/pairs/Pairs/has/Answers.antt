@@ -1,8 +1,0 @@
-use Rattle.std.proofs.Common.{◌∙◌}
-use Rattle.cose_map.specs.Pairs.{pairs_left}
-use Rattle.cose_map.specs.Views.{label_value}
-use Rattle.cose_map.proofs.Buckets.{is_there}
-use Rattle.cose_map.proofs.pairs.Pairs.has.Goals as goal
-
-pub returns : goal.returns
-returns c = c.is_some.ensures ∙ is_there _ c.get.result (label_value c.args.label.now) (pairs_left c.args.self.now) c.get.ensures

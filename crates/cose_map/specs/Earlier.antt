@@ -1,8 +1,0 @@
--- The pairs of a map before the one that is looked at.
-use Rattle.std.specs.Prelude.{List, take}
-use Rattle.cose_map.specs.declared.earlier.Earlier.{Earlier}
-use Rattle.cose_map.specs.Maps.{Pair}
-use Rattle.cose_map.specs.Pairs.{pairs_left}
-
-abbrev pub earlier_pairs : Earlier → List Pair
-earlier_pairs earlier = take earlier.count (pairs_left earlier.pairs)

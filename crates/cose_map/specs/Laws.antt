@@ -1,0 +1,6 @@
+-- What the laws say.
+pub mod Inside
+pub mod Least
+pub mod Reasons
+pub mod Tree
+pub mod Chosen

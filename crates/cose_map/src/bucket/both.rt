@@ -1,0 +1,182 @@
+//! What can be wrong with the two buckets of a message together (RFC 9052 sections 3 and 3.1).
+
+ghost use Rattle.std.specs.Prelude.{◌≡◌, ℕ, List, Option, None, map, fold, flat_map};
+ghost use Rattle.cose_head.specs.ItemRef.{placed};
+ghost use Rattle.cose_head.specs.Items.{items_left};
+ghost use Rattle.cose_map.specs.Bucket.View.{bucket_pairs};
+ghost use Rattle.cose_map.specs.Bucket.Both as spec;
+ghost use Rattle.cose_map.specs.Label.View.{label_value};
+ghost use Rattle.cose_map.specs.Map.View.{pairs_left, refusal_in};
+
+use crate::bucket::{Bucket, header};
+use crate::label::Label;
+use crate::map::search::Search;
+use cose_head::{ItemRef, Items, Reason, Refusal};
+
+/// Whether one fault goes before another: by its place, and at one place by its number.
+fn goes_before(fault: Refusal, other: Refusal) -> bool
+    ensures { result ≡ spec.goes_before fault other }
+{
+    fault.place < other.place
+        || (fault.place == other.place && fault.reason.number() < other.reason.number())
+}
+
+/// The lesser of a fault and the least so far.
+fn lesser(least: Option<Refusal>, fault: Refusal) -> Option<Refusal>
+    ensures { result ≡ spec.lesser least fault }
+{
+    match least {
+        Some(least) => {
+            if goes_before(fault, least) {
+                return Some(fault);
+            }
+            Some(least)
+        }
+        None => Some(fault),
+    }
+}
+
+/// The least fault so far, with one more if something is wrong.
+fn with_fault(least: Option<Refusal>, is_wrong: bool, reason: Reason, place: u64) -> Option<Refusal>
+    ensures { result ≡ fold spec.lesser least (spec.fault_if is_wrong reason place) }
+{
+    if is_wrong {
+        return lesser(least, Refusal { reason, place });
+    }
+    least
+}
+
+/// Whether every reader knows the label: those of [`header`], from alg to Partial IV, are the numbers 1 to 6.
+fn is_common(label: &Label<'_>) -> bool
+    ensures { result ≡ spec.is_common (label_value label.now) }
+{
+    matches!(label, Label::Int(1..=6))
+}
+
+/// Whether the label is known, or one of those that the caller understands.
+fn is_understood(label: &Label<'_>, understood: &[Label<'_>]) -> bool
+    ensures { result ≡ spec.is_understood (map label_value understood.now) (label_value label.now) }
+{
+    if is_common(label) {
+        return true;
+    }
+    'understood: for known in understood {
+        if label.is_same(known) {
+            return true;
+        }
+    }
+    false
+}
+
+/// The least fault so far, with those of an element of crit.
+#[tactic(auto, using(crate::proofs::lemmas::Bucket::Both::fold_more))]
+fn with_element<'b>(
+    least: Option<Refusal>,
+    element: &ItemRef<'b>,
+    protected: &mut Search<'_, 'b>,
+    understood: &[Label<'_>],
+) -> Option<Refusal>
+    ensures least { result ≡ fold spec.lesser least (spec.element_faults (pairs_left protected.old.pairs) (map label_value understood.now) (placed element.now)) }
+    ensures same { pairs_left protected.new.pairs ≡ pairs_left protected.old.pairs }
+{
+    let Some(label) = Label::of(element) else {
+        return least;
+    };
+    let is_absent = !protected.has(label);
+    let is_unknown = !is_understood(&label, understood);
+    let least = with_fault(least, is_absent, Reason::CritAbsent, element.place);
+    with_fault(least, is_unknown, Reason::CritUnknown, element.place)
+}
+
+/// The least fault of the elements of the protected crit.
+#[tactic(auto, using(crate::proofs::lemmas::Bucket::Both::fold_more))]
+fn least_of_elements(
+    elements: Items<'_>,
+    protected: &Bucket<'_>,
+    understood: &[Label<'_>],
+) -> Option<Refusal>
+    ensures { result ≡ spec.least (flat_map (spec.element_faults (bucket_pairs protected.now) (map label_value understood.now)) (items_left elements.entry)) }
+{
+    let mut search = Search::new(protected.pairs());
+    let mut least = None;
+    'elements: for element in elements {
+        least = with_element(least, &element, &mut search, understood);
+    }
+    least
+}
+
+/// The least fault of the protected crit.
+fn least_of_crit(protected: &Bucket<'_>, understood: &[Label<'_>]) -> Option<Refusal>
+    ensures { result ≡ spec.least (spec.crit_faults (bucket_pairs protected.now) (map label_value understood.now)) }
+{
+    match protected.crit() {
+        Some(elements) => least_of_elements(elements, protected, understood),
+        None => None,
+    }
+}
+
+/// The least fault so far, with those of a pair of the unprotected bucket.
+#[tactic(auto, using(crate::proofs::lemmas::Bucket::Both::fold_more))]
+fn with_pair<'b>(
+    least: Option<Refusal>,
+    name: Label<'b>,
+    item: &ItemRef<'_>,
+    protected: &mut Search<'_, 'b>,
+) -> Option<Refusal>
+    ensures least { result ≡ fold spec.lesser least (spec.label_faults (pairs_left protected.old.pairs) (label_value name.entry) item.now.place) }
+    ensures same { pairs_left protected.new.pairs ≡ pairs_left protected.old.pairs }
+{
+    let is_repeated = protected.has(name);
+    let is_crit = name.is_same(&header::CRIT);
+    let least = with_fault(least, is_repeated, Reason::BothBuckets, item.place);
+    with_fault(least, is_crit, Reason::CritUnprotected, item.place)
+}
+
+/// The least fault so far, with those of the unprotected bucket.
+#[tactic(auto, using(crate::proofs::lemmas::Bucket::Both::fold_more))]
+fn with_unprotected(
+    so_far: Option<Refusal>,
+    protected: &Bucket<'_>,
+    unprotected: &Bucket<'_>,
+) -> Option<Refusal>
+    ensures { result ≡ fold spec.lesser so_far (flat_map (spec.unprotected_faults (bucket_pairs protected.now)) (bucket_pairs unprotected.now)) }
+{
+    let mut search = Search::new(protected.pairs());
+    let mut least = so_far;
+    'pairs: for (name, item, _value) in unprotected.pairs() {
+        least = with_pair(least, name, &item, &mut search);
+    }
+    least
+}
+
+/// Whether IV and Partial IV are both there, in whichever buckets.
+fn has_both_ivs(protected: &Bucket<'_>, unprotected: &Bucket<'_>) -> bool
+    ensures { result ≡ spec.both_ivs (bucket_pairs protected.now) (bucket_pairs unprotected.now) }
+{
+    (protected.has(&header::IV) || unprotected.has(&header::IV))
+        && (protected.has(&header::PARTIAL_IV) || unprotected.has(&header::PARTIAL_IV))
+}
+
+/// Checks the two buckets of a message together (RFC 9052 sections 3 and 3.1).
+///
+/// Of all faults the one with the least place is the refusal, and at one place that with the smaller number:
+/// [`Reason::CritAbsent`] and [`Reason::CritUnknown`] at an element of the protected crit, [`Reason::BothBuckets`] and
+/// [`Reason::CritUnprotected`] at a label of the unprotected bucket, and [`Reason::BothIvs`] at `after`, the place after
+/// both. The labels 1 to 6 are known, and the caller names those that it understands besides.
+#[tactic(auto, unfolding(crate::specs::Bucket::Both::pair_faults), using(crate::proofs::lemmas::Bucket::Both::fold_more))]
+pub fn check_pair(
+    protected: &Bucket<'_>,
+    unprotected: &Bucket<'_>,
+    understood: &[Label<'_>],
+    after: u64,
+) -> Result<(), Refusal>
+    ensures { refusal_in result ≡ spec.pair_fault (bucket_pairs protected.now) (bucket_pairs unprotected.now) (map label_value understood.now) after }
+{
+    let has_ivs = has_both_ivs(protected, unprotected);
+    let least = least_of_crit(protected, understood);
+    let least = with_unprotected(least, protected, unprotected);
+    match with_fault(least, has_ivs, Reason::BothIvs, after) {
+        Some(refusal) => Err(refusal),
+        None => Ok(()),
+    }
+}

@@ -1,0 +1,48 @@
+//! The choice among the keys that fit.
+
+ghost use Rattle.std.specs.Prelude.{◌≡◌, ℤ, List, []};
+ghost use Rattle.std.specs.List.{cons_option};
+ghost use Rattle.cose_map.specs.Choice.{fitting as fitting_key};
+ghost use Rattle.cose_map.specs.Choice.View.{question, with_rest, found_value};
+ghost use Rattle.cose_map.specs.Key.Value.{KeyValue};
+ghost use Rattle.cose_map.specs.Key.View.{key_value};
+
+use crate::choice::query::Query;
+use crate::key::Key;
+use cose_head::Reason;
+
+/// The keys that fit, of those that were met.
+#[derive(Clone, Copy)]
+pub(crate) enum Fitting<'k> {
+    /// None so far.
+    Nothing,
+    /// One, with its algorithm.
+    One(Key<'k>, i128),
+    /// Two or more.
+    Several,
+}
+
+impl<'k> Fitting<'k> {
+    /// With one more key, if it fits.
+    pub(crate) fn with(self, key: Key<'k>, query: &Query) -> Fitting<'k>
+        ensures { (rest : List (KeyValue × ℤ)) → with_rest (question query.now) result rest
+            ≡ with_rest (question query.now) self.entry (cons_option (fitting_key (question query.now) (key_value key.entry)) rest) }
+    {
+        match (query.fitting(&key), self) {
+            (None, fitting) => fitting,
+            (Some(algorithm), Fitting::Nothing) => Fitting::One(key, algorithm),
+            (Some(_), _) => Fitting::Several,
+        }
+    }
+
+    /// The one key that fits, where all keys were met.
+    pub(crate) fn answer(self, query: &Query) -> Result<(Key<'k>, i128), Reason>
+        ensures { found_value result ≡ with_rest (question query.now) self.entry [] }
+    {
+        match self {
+            Fitting::Nothing => Err(query.no_key()),
+            Fitting::One(key, algorithm) => Ok((key, algorithm)),
+            Fitting::Several => Err(Reason::AmbiguousKey),
+        }
+    }
+}

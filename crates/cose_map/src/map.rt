@@ -1,0 +1,7 @@
+//! Maps of labels and values, of which header buckets and keys are two.
+
+pub mod earlier;
+pub mod form;
+pub mod pairs;
+pub mod read;
+pub mod search;

@@ -1,0 +1,134 @@
+//! The pairs of a map before the one that is looked at, among which its label must not be (RFC 9052 section 3).
+
+ghost use Rattle.std.specs.Prelude.{◌≡◌, ◌+◌, ◌<◌, ◌^◌, [], take, true, option_map};
+ghost use Rattle.cose_head.specs.ItemRef.{placed};
+ghost use Rattle.cose_map.specs.Label.Order as order;
+ghost use Rattle.cose_map.specs.Map.Pairs.{has_label};
+ghost use Rattle.cose_map.specs.Map.Read.{label_after, pair_after};
+ghost use Rattle.cose_map.specs.Map.View.{pairs_left, pair_value, seen_by};
+ghost use Rattle.cose_map.specs.Label.View.{label_value};
+
+use crate::label::Label;
+use crate::map::form::Form;
+use crate::map::pairs::Pairs;
+use crate::map::read::refused;
+use cose_head::{ItemRef, Reason, Refusal};
+
+/// The first pairs of a map, and the greatest of their labels: one that comes after it is new.
+#[derive(Clone, Copy)]
+pub(crate) struct Earlier<'a> {
+    /// All pairs of the map.
+    pub(crate) pairs: Pairs<'a>,
+    /// How many of them are earlier ones.
+    pub(crate) count: u128,
+    greatest: Option<Label<'a>>,
+    /// No earlier label comes after the greatest.
+    pub ghost greatest_of_them: { order.is_greatest (option_map label_value greatest) (take count (pairs_left pairs)) ≡ true },
+}
+
+/// Whether a label comes after the greatest so far.
+pub(crate) fn passes(greatest: Option<Label<'_>>, name: &Label<'_>) -> bool
+    ensures { result ≡ order.passes (option_map label_value greatest.entry) (label_value name.now) }
+{
+    match greatest {
+        Some(greatest) => greatest.precedes(name),
+        None => true,
+    }
+}
+
+/// The greater of a label and the greatest so far.
+fn greater<'a>(greatest: Option<Label<'a>>, name: Label<'a>) -> Option<Label<'a>>
+    ensures { option_map label_value result ≡ order.greater (option_map label_value greatest.entry) (label_value name.entry) }
+{
+    if passes(greatest, &name) {
+        return Some(name);
+    }
+    greatest
+}
+
+impl<'a> Earlier<'a> {
+    ghost use Rattle.cose_map.specs.Map.Earlier.{earlier_pairs};
+
+    /// Before the first pair there is none.
+    pub(crate) fn none(pairs: Pairs<'a>) -> Earlier<'a>
+        ensures pairs { pairs_left result.pairs ≡ pairs_left pairs.entry }
+        ensures none { result.count ≡ 0 }
+    {
+        Earlier {
+            pairs,
+            count: 0,
+            greatest: None,
+        }
+    }
+
+    /// Whether a label stands among them, looked up one by one.
+    fn is_taken(&self, name: &Label<'_>) -> bool
+        ensures { result ≡ has_label (label_value name.now) (earlier_pairs self.now) }
+    {
+        let mut left = self.count;
+        'earlier: for (earlier, _item, _value) in self.pairs {
+            if left == 0 {
+                return false;
+            }
+            if name.is_same(&earlier) {
+                return true;
+            }
+            left -= 1;
+        }
+        false
+    }
+
+    /// Whether a label stands among them. One that comes after the greatest doesn't.
+    #[tactic(auto, using(crate::proofs::lemmas::Label::Order::none_passed))]
+    fn has(&self, name: &Label<'_>) -> bool
+        ensures { result ≡ has_label (label_value name.now) (earlier_pairs self.now) }
+    {
+        if passes(self.greatest, name) {
+            return false;
+        }
+        self.is_taken(name)
+    }
+
+    /// The label at an item, if it is none of theirs.
+    fn new_label<'b>(&self, item: &ItemRef<'b>) -> Result<Label<'b>, Refusal>
+        ensures { seen_by label_value result ≡ label_after (earlier_pairs self.now) (placed item.now) }
+    {
+        let Some(name) = Label::of(item) else {
+            return Err(refused(Reason::BadLabel, item));
+        };
+        if self.has(&name) {
+            return Err(refused(Reason::DuplicateLabel, item));
+        }
+        Ok(name)
+    }
+
+    /// The label of a pair, if it is none of theirs, and the value has its form.
+    pub(crate) fn check<F: Form>(
+        &self,
+        form: &F,
+        label: &ItemRef<'a>,
+        value: &ItemRef<'a>,
+    ) -> Result<Label<'a>, Refusal>
+        ensures { seen_by (λ name. pair_value (name, label.now, value.now)) result ≡ pair_after (F.table form.now) (earlier_pairs self.now) (placed label.now) (placed value.now) }
+    {
+        let name = self.new_label(label)?;
+        match form.fault(&name, value) {
+            Some(reason) => Err(refused(reason, value)),
+            None => Ok(name),
+        }
+    }
+
+    /// These and the next pair, whose label this is.
+    pub(crate) fn with_next(self, name: Label<'a>) -> Earlier<'a>
+        requires few { self.count + 1 < 2 ^ 128 }
+        requires greatest { order.is_greatest (order.greater (option_map label_value self.greatest) (label_value name)) (take (self.count + 1) (pairs_left self.pairs)) ≡ true }
+        ensures pairs { pairs_left result.pairs ≡ pairs_left self.entry.pairs }
+        ensures count { result.count ≡ self.entry.count + 1 }
+    {
+        Earlier {
+            pairs: self.pairs,
+            count: self.count + 1,
+            greatest: greater(self.greatest, name),
+        }
+    }
+}
