@@ -1,6 +1,3 @@
-pub mod MachineLemmas
-pub mod PhaseLemmas
-pub mod PlaceLemmas
-pub mod RunLemmas
-pub mod WorkedPrinted
-pub mod WorkedVerdicts
+pub mod Replies
+pub mod Trailing
+pub mod Vouches

@@ -1,8 +1,3 @@
-pub mod FirstVerdict
-pub mod FirstRun
-pub mod Intake
-pub mod Machine
-pub mod Phases
+pub mod Job
 pub mod Printed
-pub mod Sink
-pub mod TakenByte
+pub mod Vouch

@@ -1,10 +1,14 @@
 //! The program `cosecmd`: verifies COSE messages (RFC 9052).
 #![tactic(auto)]
 
+mod answer;
 mod fault;
-mod first;
+mod job;
+mod line;
+mod print;
 mod reply;
 mod run;
+mod vouch;
 mod words;
 
 use run::run;

@@ -1,0 +1,28 @@
+-- What stands behind a message in an input.
+use Rattle.std.proofs.Common.{◌≡◌, ℕ, ◌<◌, ◌≤◌, List, [], ◌∷◌, ◌++◌, length, Option, Some, None, Result, Ok, Err, refl, arith, length-append}
+use Rattle.std.specs.Prelude.{IfOk}
+use Rattle.std.specs.Io.KnownBytes.{Consumes}
+use Rattle.std.proofs.lemmas.Bool.{lt-ltb, le-ltb}
+use Rattle.cose_msg.specs.declared.verdict.Verdict.{Verdict}
+use Rattle.cose_msg.specs.declared.verdict.Verdict.TheVariants.{Authentic, Refused}
+use Rattle.cose_msg.specs.Answer.{Answer, decided}
+use Rattle.cose_msg.specs.Verifier.{Counts}
+use Rattle.cosecmd.specs.Printed.{trailed, with_rest}
+
+-- A message that took these bytes of an input leaves the rest.
+pub trails : (bytes taken rest : List ℕ) (verdict : Verdict) → bytes ≡ taken ++ rest → Counts verdict (length taken) → trailed (length bytes) (decided verdict) ≡ decided (with_rest rest verdict)
+trails bytes taken [] (Authentic kind alg payload count) whole counted =
+    let short : length bytes ≤ count = rw (whole, counted) (omega (arith, length-append taken [])) in
+    rw (le-ltb count (length bytes) short) refl
+trails bytes taken (byte ∷ rest) (Authentic kind alg payload count) whole counted =
+    let long : count < length bytes = rw (whole, counted) (omega (arith, length-append taken (byte ∷ rest))) in
+    rw (lt-ltb count (length bytes) long) refl
+trails bytes taken [] (Refused refusal) whole counted = refl
+trails bytes taken (byte ∷ rest) (Refused refusal) whole counted = refl
+
+pub verdict_of_whole : {F : Type 0} (come come_after : Option (List ℕ)) (bytes taken : List ℕ) (answer : Answer) (verdict : Verdict) (whole : Result Verdict F) →
+    come ≡ Some bytes → Consumes come come_after taken → Counts verdict (length taken) → answer ≡ decided verdict →
+    ((rest : List ℕ) → come_after ≡ Some rest → IfOk whole (λ w. w ≡ with_rest rest verdict)) → IfOk whole (λ w. trailed (length bytes) answer ≡ decided w)
+verdict_of_whole come None bytes taken answer verdict whole e consumes counted a h = let none = rw e at consumes in absurd none
+verdict_of_whole come (Some rest) bytes taken answer verdict (Err fault) e consumes counted a h = tt
+verdict_of_whole come (Some rest) bytes taken answer verdict (Ok w) e consumes counted a h = rw (a, h rest refl) (trails bytes taken rest verdict (rw e at consumes) counted)

@@ -1,0 +1,10 @@
+use Rattle.std.proofs.Common.{option_map, sym}
+use Rattle.cose_map.specs.Key.View.{contents}
+use Rattle.cose_map.specs.KeySet.View.{keys as usable}
+use Rattle.cosecmd.proofs.Replies.{says_verified}
+use Rattle.cosecmd.proofs.answer.verify_reply.Goals as goal
+
+pub returns-clause-says : goal.returns-clause-says
+returns-clause-says g c = λ bytes e.
+    says_verified _ (usable c.in-Ok.keys) c.args.aad.now c.args.wanted (option_map contents c.args.vouch) bytes c.in_ok-verdict.verdict c.reply_of.result
+    (sym c.in-Ok.ensures.exact) (c.in_ok-verdict.ensures.verdict bytes e) c.reply_of.ensures.says

@@ -1,0 +1,7 @@
+-- What a job says.
+use Rattle.std.specs.Prelude.{ℕ, List}
+use Rattle.cosecmd.specs.declared.job.Job.{Job}
+use Rattle.cosecmd.specs.declared.job.Job.TheVariants.{Verify}
+
+abbrev pub aad_of : Job → List ℕ
+aad_of (Verify keys aad wanted vouch) = aad.now

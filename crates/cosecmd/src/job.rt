@@ -1,0 +1,19 @@
+//! What a run is asked to do.
+
+use cose_msg::Wanted;
+
+/// What a run is asked to do, as its words say it.
+#[derive(Clone, Copy)]
+pub enum Job<'j> {
+    /// To verify the message on the input.
+    Verify {
+        /// The bytes of the key set (RFC 9052 section 7).
+        keys: &'j [u8],
+        /// The externally supplied data (RFC 9052 section 4.3).
+        aad: &'j [u8],
+        /// The kinds of messages that are wanted.
+        wanted: Wanted,
+        /// The bytes that a signature is vouched for by, where there are any.
+        vouch: Option<&'j [u8]>,
+    },
+}

@@ -1,0 +1,30 @@
+//! Texts that are written whole.
+
+ghost use Rattle.std.specs.Prelude.{◌≡◌, ◌≢◌};
+ghost use Rattle.std.specs.Io.KnownBytes.{Appends};
+
+use crate::fault::Fault;
+use crate::reply::Status;
+use std::alloc::Global;
+use std::io::Write;
+
+/// Writes a text whole, and says how the run ends: as it says itself, or with a fault where the writer failed.
+pub fn print<W: Write>(output: &mut W, text: &str, status: Status) -> Status
+    ensures status { result ≢ Status.Fault → result ≡ status }
+    ensures written { result ≢ Status.Fault → Appends (W.contents output.old) (W.contents output.new) text.now }
+{
+    match output.write_all(text.as_bytes()) {
+        Ok(()) => status,
+        Err(_) => Status::Fault,
+    }
+}
+
+/// Writes the line of a fault. Where there is no memory for it, that is the fault.
+pub fn print_fault<W: Write>(alloc: Global, fault: Fault, output: &mut W) -> Status
+    ensures { result ≡ Status.Fault }
+{
+    match format!(in alloc; "{fault}\n") {
+        Ok(text) => print(output, text.as_str(), Status::Fault),
+        Err(_) => print(output, "fault memory\n", Status::Fault),
+    }
+}
