@@ -15,6 +15,8 @@ mod Standing
 mod Steps
 mod Waits
 mod Decisions
+mod Runs
+mod PayloadLimit
 mod WorkedMessages
 mod WorkedFronts
 mod WorkedHeaders

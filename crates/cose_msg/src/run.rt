@@ -79,6 +79,7 @@ pub fn verify<'k, const C: usize, const H: usize, const D: usize, I: Intake, S: 
         let piece = &chunk[..count];
         let in_payload = verifier.is_in_payload();
         verifier.take_piece(piece);
+        verifier.waits();
         if in_payload && sink.put(piece).is_err() {
             verifier.stop();
             return Err(Stop::Sink);

@@ -1,0 +1,153 @@
+-- No more of a payload is known than a payload may have.
+use Rattle.std.proofs.Common.{◌≡◌, ℕ, ◌+◌, ◌<◌, ◌≤◌, ◌^◌, Bool, true, false, cond, List, [], length, take, drop, Option, Some, None, Result, Ok, Err, refl, arith}
+use Rattle.std.specs.Prelude.{nat_lt, nat_le, ◌||◌, ◌==◌}
+use Rattle.std.proofs.lemmas.Bool.{ltb-true, ltb-false}
+use Rattle.std.proofs.lemmas.List.{length-take}
+use Rattle.cose_head.specs.declared.head.Head.{Head}
+use Rattle.cose_head.specs.declared.head.HeadStep.{HeadStep}
+use Rattle.cose_head.specs.declared.head.HeadStep.TheVariants.{Got, More, Fault}
+use Rattle.cose_head.specs.declared.kind.Kind.{Kind}
+use Rattle.cose_head.specs.declared.kind.Kind.TheVariants as kinds
+use Rattle.cose_head.specs.declared.reason.Reason.{Reason}
+use Rattle.cose_head.specs.declared.reason.Reason.TheVariants.{WrongTag, WrongType}
+use Rattle.cose_head.specs.declared.refusal.Refusal.{Refusal}
+use Rattle.cose_head.specs.Head.{bare_head}
+use Rattle.cose_head.specs.Item.{Item}
+use Rattle.cose_head.specs.Measured.{left_of}
+use Rattle.cose_head.specs.Reading.{Outcome, read}
+use Rattle.cose_map.specs.Bucket.{bucket_of}
+use Rattle.cose_map.specs.Maps.{Pair}
+use Rattle.cose_map.specs.PairFault.{pair_fault}
+use Rattle.cose_msg.specs.declared.context.Wanted.{Wanted}
+use Rattle.cose_msg.specs.declared.context.Wanted.TheVariants as wants
+use Rattle.cose_msg.specs.Answer.{Chosen, Headers}
+use Rattle.cose_msg.specs.Front.{array_head_fault, past_array_head, array_head, kind_of_tag, past_tag, tag_behind_cwt, past_second_head, second_head, past_untagged, is_cwt_tag, is_tag, is_array, past_first_head, first_head}
+use Rattle.cose_msg.specs.Message.{message}
+use Rattle.cose_msg.specs.Phases.{nothing_told, protected_told, headers_told, finish, auth, auth_head_fault, past_auth_head, auth_head, past_payload, payload, payload_head_fault, payload_fault_within, is_bytes_head, is_nil, past_payload_head, payload_head, past_choice, key_choice, both_buckets, placed_at, headers_of, past_unprotected, unprotected, past_protected, protected, protected_head_fault, past_protected_head, protected_head}
+use Rattle.cose_msg.specs.Reading.{Told, Reading, Phase, Next, settled, stop, cut, is_truncated, past_head, with_head, with_string, past_item, with_item, unless, unless_fault, with_value}
+use Rattle.cose_msg.specs.Rules.{Rules}
+
+module _ (limit : ℕ) where
+  abbrev Small : Told → Type 0
+  Small told = length told.payload ≤ limit
+
+  abbrev Within : Phase → Type 0
+  Within phase = (place : ℕ) (bytes : List ℕ) → Small (phase place bytes).told
+
+  past_head-within : (told : Told) (next : Next Head) → Small told → ((at : ℕ) (head : Head) → Within (next at head)) → (place : ℕ) (bytes : List ℕ) (step : HeadStep) → Small (past_head told next place bytes step).told
+  past_head-within told next small h place bytes (Got head used) = h place head (place + used) (drop used bytes)
+  past_head-within told next small h place bytes (More wanted) = small
+  past_head-within told next small h place bytes (Fault reason) = small
+
+  with_head-within : (told : Told) (next : Next Head) → Small told → ((at : ℕ) (head : Head) → Within (next at head)) → Within (with_head told next)
+  unfolding with_head
+  with_head-within told next small h place bytes = past_head-within told next small h place bytes (bare_head bytes)
+
+  string_cases : (told : List ℕ → Told) (n : ℕ) (next : Next (List ℕ)) (place : ℕ) (bytes : List ℕ) (short : Bool) → nat_lt (length bytes) n ≡ short → (length bytes < n → Small (told bytes)) → ((at : ℕ) (string : List ℕ) → length string ≤ n → Within (next at string)) →
+      Small (cond short (cut (told bytes) (place + length bytes)) (next place (take n bytes) (place + n) (drop n bytes))).told
+  string_cases told n next place bytes true e small h = small (ltb-true _ _ e)
+  string_cases told n next place bytes false e small h = h place (take n bytes) (omega (arith, length-take n bytes)) (place + n) (drop n bytes)
+
+  with_string-within : (told : List ℕ → Told) (n : ℕ) (next : Next (List ℕ)) → ((bytes : List ℕ) → length bytes < n → Small (told bytes)) → ((at : ℕ) (string : List ℕ) → length string ≤ n → Within (next at string)) → Within (with_string told n next)
+  unfolding with_string
+  with_string-within told n next small h place bytes = string_cases told n next place bytes (nat_lt (length bytes) n) refl (small bytes) h
+
+  choose-within : (b : Bool) (x y : Reading) → Small x.told → Small y.told → Small (cond b x y).told
+  choose-within true x y p q = p
+  choose-within false x y p q = q
+
+  past_item-within : (told : Told) (next : Next (List ℕ)) → Small told → ((at : ℕ) (content : List ℕ) → Within (next at content)) → (place : ℕ) (bytes : List ℕ) (outcome : Outcome Item) → Small (past_item told next place bytes outcome).told
+  past_item-within told next small h place bytes (Ok found) = h place (take found.1.place bytes) (place + found.1.place) (drop found.1.place bytes)
+  past_item-within told next small h place bytes (Err refusal) = choose-within (is_truncated refusal.reason) (cut told (place + length bytes)) (stop told refusal.reason (place + refusal.place)) small small
+
+  with_item-within : (told : Told) (room nesting : ℕ) (next : Next (List ℕ)) → Small told → ((at : ℕ) (content : List ℕ) → Within (next at content)) → Within (with_item told room nesting next)
+  unfolding with_item
+  with_item-within told room nesting next small h place bytes = past_item-within told next small h place bytes (read nesting (left_of bytes room 0))
+
+  unless_fault-within : (told : Told) (at : ℕ) (fault : Option Reason) (phase : Phase) → Small told → (fault ≡ None → Within phase) → Within (unless_fault told at fault phase)
+  unless_fault-within told at (Some reason) phase small h place bytes = small
+  unless_fault-within told at None phase small h place bytes = h refl place bytes
+
+  unless-within : (told : Told) (fault : Option Refusal) (phase : Phase) → Small told → Within phase → Within (unless told fault phase)
+  unless-within told (Some refusal) phase small h place bytes = small
+  unless-within told None phase small h place bytes = h place bytes
+
+  with_value-within : {A : Type 0} (told : Told) (value : Result A Refusal) (next : A → Phase) → Small told → ((x : A) → Within (next x)) → Within (with_value told value next)
+  with_value-within told (Err refusal) next small h place bytes = small
+  with_value-within told (Ok x) next small h place bytes = h x place bytes
+
+fault_cases : (bytes large over : Bool) (a : Reason) (b : Option Reason) (nil : Bool) (c : Reason) (n limit : ℕ) → (over ≡ false → n ≤ limit) → cond bytes (cond (large || over) (Some a) None) (cond nil b (Some c)) ≡ None → (b ≡ None → ⊥) → n ≤ limit
+fault_cases false large over a b true c n limit h e none = absurd (none e)
+fault_cases false large over a b false c n limit h e none = absurd cc
+fault_cases true true over a b nil c n limit h e none = absurd cc
+fault_cases true false true a b nil c n limit h e none = absurd cc
+fault_cases true false false a b nil c n limit h e none = h refl
+
+payload_is_within : (limit : ℕ) (head : Head) → payload_fault_within limit head ≡ None → head.arg ≤ limit
+payload_is_within limit head e = fault_cases (is_bytes_head head) (nat_le (2 ^ 56) head.arg) (nat_lt limit head.arg) _ _ (is_nil head) _ head.arg limit (λ short. ltb-false limit head.arg short) e (λ none. absurd cc)
+
+module _ (rules : Rules) where
+  none_small : Small rules.payload_limit nothing_told
+  none_small = omega arith
+
+  abbrev Fits : Phase → Type 0
+  Fits phase = Within rules.payload_limit phase
+
+  auth_head-fits : (headers : Headers) (chosen : Option Chosen) (B : List ℕ) → length B ≤ rules.payload_limit → Fits (auth_head rules headers chosen B)
+  auth_head-fits headers chosen B le = with_head-within rules.payload_limit (headers_told headers B) (past_auth_head rules headers chosen B) le
+      (λ at head. unless_fault-within rules.payload_limit (headers_told headers B) at (auth_head_fault rules chosen head) (auth rules headers chosen B at head.arg) le
+      (λ e. with_string-within rules.payload_limit (λ bytes. headers_told headers B) head.arg (finish rules headers chosen B at) (λ bytes lt. le) (λ from string short place bytes. le)))
+
+  payload-fits : (headers : Headers) (chosen : Option Chosen) (n : ℕ) → n ≤ rules.payload_limit → Fits (payload rules headers chosen n)
+  payload-fits headers chosen n le = with_string-within rules.payload_limit (headers_told headers) n (past_payload rules headers chosen) (λ bytes lt. omega (arith, lt, le))
+      (λ at B short. auth_head-fits headers chosen B (omega (arith, short, le)))
+
+  payload_head-fits : (headers : Headers) (chosen : Option Chosen) → Fits (payload_head rules headers chosen)
+  payload_head-fits headers chosen = with_head-within rules.payload_limit (headers_told headers []) (past_payload_head rules headers chosen) (omega arith)
+      (λ at head. unless_fault-within rules.payload_limit (headers_told headers []) at (payload_head_fault rules head) (payload rules headers chosen head.arg) (omega arith)
+      (λ e. payload-fits headers chosen head.arg (payload_is_within rules.payload_limit head e)))
+
+  past_choice-fits : (headers : Headers) (found : Result (Option Chosen) Reason) → Fits (past_choice rules headers found)
+  past_choice-fits headers (Ok chosen) = payload_head-fits headers chosen
+  past_choice-fits headers (Err reason) = λ place bytes. omega arith
+
+  both_buckets-fits : (headers : Headers) → Fits (both_buckets rules headers)
+  both_buckets-fits headers place bytes = unless-within rules.payload_limit (headers_told headers []) (pair_fault headers.protected_pairs headers.unprotected_pairs rules.understood place) (key_choice rules headers) (omega arith) (past_choice-fits headers (rules.choice headers)) place bytes
+
+  unprotected-fits : (kind : Kind) (P : List ℕ) (pairs : List Pair) → Fits (unprotected rules kind P pairs)
+  unprotected-fits kind P pairs = with_item-within rules.payload_limit (protected_told pairs) rules.room rules.nesting (past_unprotected rules kind P pairs) (omega arith)
+      (λ at content. with_value-within rules.payload_limit (protected_told pairs) (bucket_of rules.nesting (placed_at at content)) (λ others. both_buckets rules (headers_of kind P pairs others)) (omega arith) (λ others. both_buckets-fits (headers_of kind P pairs others)))
+
+  protected_head-fits : (kind : Kind) → Fits (protected_head rules kind)
+  protected_head-fits kind = with_head-within rules.payload_limit nothing_told (past_protected_head rules kind) none_small
+      (λ at head. unless_fault-within rules.payload_limit nothing_told at (protected_head_fault rules head) (protected rules kind head.arg) none_small
+      (λ e. with_string-within rules.payload_limit (λ bytes. nothing_told) head.arg (past_protected rules kind) (λ bytes lt. none_small)
+      (λ from P short. with_value-within rules.payload_limit nothing_told (bucket_of rules.nesting (placed_at from P)) (unprotected rules kind P) none_small (unprotected-fits kind P))))
+
+  past_array_head-fits : (kind : Kind) (at : ℕ) (head : Head) → Fits (past_array_head rules kind at head)
+  past_array_head-fits kind at head = unless_fault-within rules.payload_limit nothing_told at (array_head_fault head) (protected_head rules kind) none_small (λ e. protected_head-fits kind)
+
+  array_head-fits : (kind : Kind) → Fits (array_head rules kind)
+  array_head-fits kind = with_head-within rules.payload_limit nothing_told (past_array_head rules kind) none_small (past_array_head-fits kind)
+
+  past_tag-fits : (at : ℕ) (kind : Result Kind Reason) → Fits (past_tag rules at kind)
+  past_tag-fits at (Ok kind) = array_head-fits kind
+  past_tag-fits at (Err reason) = λ place bytes. none_small
+
+  second_head-fits : Fits (second_head rules)
+  second_head-fits = with_head-within rules.payload_limit nothing_told (past_second_head rules) none_small (λ at head. past_tag-fits at (tag_behind_cwt rules.wanted head))
+
+  past_untagged-fits : (wanted : Wanted) (at : ℕ) (head : Head) → Fits (past_untagged rules wanted at head)
+  past_untagged-fits wants.Mac0 at head = past_array_head-fits kinds.Mac0 at head
+  past_untagged-fits wants.Sign1 at head = past_array_head-fits kinds.Sign1 at head
+  past_untagged-fits wants.Tagged at head = λ place bytes. none_small
+
+  past_first_head-fits : (at : ℕ) (head : Head) → Fits (past_first_head rules at head)
+  past_first_head-fits at head place bytes =
+      choose-within rules.payload_limit (is_cwt_tag rules.cwt head) (second_head rules place bytes) _ (second_head-fits place bytes)
+      (choose-within rules.payload_limit (is_tag head) (past_tag rules at (kind_of_tag rules.wanted head.arg) place bytes) _ (past_tag-fits at (kind_of_tag rules.wanted head.arg) place bytes)
+      (choose-within rules.payload_limit (is_array head) (past_untagged rules rules.wanted at head place bytes) (stop nothing_told WrongType at) (past_untagged-fits rules.wanted at head place bytes) none_small))
+
+pub payload_within : (rules : Rules) (bytes : List ℕ) → length (message rules bytes).told.payload ≤ rules.payload_limit
+unfolding message
+payload_within rules bytes = with_head-within rules.payload_limit nothing_told (past_first_head rules) (none_small rules) (past_first_head-fits rules) 0 bytes
