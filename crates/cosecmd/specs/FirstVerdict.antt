@@ -17,7 +17,7 @@ use Rattle.cosecmd.specs.declared.first.verdict.Verdict.{Verdict}
 use Rattle.cosecmd.specs.declared.first.verdict.Verdict.TheVariants.{Authentic}
 use Rattle.cosecmd.specs.Phases.{Reading, Phase, refused, with_front, with_head, with_string}
 
--- tag 17, an array of four, the protected header {1: 5} as a byte string, an empty map
+-- CBOR tag 17, an array of four, the protected header {1: 5} as a byte string, an empty map
 abbrev pub front : List ℕ
 front = 0xd1 ∷ 0x84 ∷ 0x43 ∷ 0xa1 ∷ 0x01 ∷ 0x05 ∷ 0xa0 ∷ []
 
@@ -25,7 +25,7 @@ front = 0xd1 ∷ 0x84 ∷ 0x43 ∷ 0xa1 ∷ 0x01 ∷ 0x05 ∷ 0xa0 ∷ []
 abbrev pub protected : List ℕ
 protected = 0xa1 ∷ 0x01 ∷ 0x05 ∷ []
 
--- A tag of HMAC 256/256 has 32 bytes (RFC 9053 section 3.1).
+-- An authentication tag of HMAC 256/256 has 32 bytes (RFC 9053 section 3.1).
 abbrev pub tag_length : ℕ
 tag_length = auth_length_of Hmac256
 
@@ -39,7 +39,7 @@ authentic payload place = record {
   payload = payload;
 }
 
--- The comparison. Its fault stands at the head of the tag.
+-- The comparison. Its fault stands at the head of the authentication tag.
 abbrev pub comparison : List ℕ → List ℕ → ℕ → List ℕ → Phase
 comparison key payload at tag place bytes =
     if bytes_eq tag (tag_of key payload) then authentic payload place else refused payload BadAuth at

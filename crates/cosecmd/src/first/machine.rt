@@ -16,9 +16,9 @@ pub enum Machine<'k> {
     PayloadHead(PayloadHead),
     /// The payload.
     Payload(Payload),
-    /// The head of the tag.
+    /// The head of the authentication tag.
     TagHead(TagHead),
-    /// The tag.
+    /// The authentication tag.
     Tag(Tag),
 }
 

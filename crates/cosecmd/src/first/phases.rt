@@ -13,13 +13,13 @@ use cose_head::{Head, HeadStep, Kind, Reason, parse_head};
 use cose_mac::{Alg, Running, structure_front};
 use cose_map::{KeySet, Label, Material, Query};
 
-/// The bytes that a message begins with: tag 17, an array of four, the protected header `{1: 5}`, an empty map.
+/// The bytes that a message begins with: CBOR tag 17, an array of four, the protected header `{1: 5}`, an empty map.
 const FRONT: [u8; 7] = [0xd1, 0x84, 0x43, 0xa1, 0x01, 0x05, 0xa0];
 
 /// The content of the protected header, `{1: 5}`.
 const PROTECTED: [u8; 3] = [0xa1, 0x01, 0x05];
 
-/// The number of bytes of a tag of HMAC 256/256 (RFC 9053 section 3.1).
+/// The number of bytes of an authentication tag of HMAC 256/256 (RFC 9053 section 3.1).
 const TAG: usize = 32;
 
 /// The bytes of the front.
@@ -61,7 +61,7 @@ pub struct Payload {
     ghost early: { at ≤ 16 },
 }
 
-/// The head of the tag.
+/// The head of the authentication tag.
 #[derive(Drop)]
 pub struct TagHead {
     /// The place of the head.
@@ -77,14 +77,14 @@ pub struct TagHead {
     ghost early: { at < 2 ^ 57 },
 }
 
-/// The tag.
+/// The authentication tag.
 #[derive(Drop)]
 pub struct Tag {
-    /// The place of the tag's head, where its faults stand.
+    /// The place of the authentication tag's head, where its faults stand.
     pub head_at: u64,
-    /// The place of the tag's first byte.
+    /// The place of its first byte.
     pub at: u64,
-    /// The bytes of the tag that have come.
+    /// Those of its bytes that have come.
     pub held: ArrayVec<u8, 32>,
     /// The number of bytes of the payload.
     pub payload: u64,
@@ -201,7 +201,7 @@ impl Payload {
         }
     }
 
-    /// The payload's first byte is at this place, or the tag's, where the payload is empty.
+    /// The payload's first byte is at this place, or the authentication tag's, where the payload is empty.
     fn begin(at: u64, length: u64, mut mac: Running) -> Progress<'static>
         requires early { at ≤ 16 }
         requires limit { length < 2 ^ 56 }
@@ -252,7 +252,7 @@ impl TagHead {
     ghost use Rattle.cose_mac.specs.Structure.{mac_structure};
     ghost use Rattle.cosecmd.specs.Machine.{Continues, Fed, FeedsTagHead, IfOpen, after_payload, budget, left_in_tag_head};
 
-    /// The tag's head begins at `at`, behind a payload of `payload` bytes.
+    /// The authentication tag's head begins at `at`, behind a payload of `payload` bytes.
     fn begin(at: u64, payload: u64, mac: Running) -> Progress<'static>
         requires early { at < 2 ^ 57 }
         requires keyed { makes_mac mac ≡ true }
@@ -268,7 +268,7 @@ impl TagHead {
         }))
     }
 
-    /// The next byte of the tag's head.
+    /// The next byte of the authentication tag's head.
     pub fn step(self, byte: u8) -> Progress<'static>
         ensures goes { (key so_far : List ℕ) → FeedsTagHead key so_far self
             → Continues so_far result (λ bytes. left_in_tag_head key so_far self (byte ∷ bytes)) }
@@ -299,7 +299,7 @@ impl Tag {
     ghost use Rattle.cose_mac.specs.Structure.{mac_structure};
     ghost use Rattle.cosecmd.specs.Machine.{Continues, Fed, FeedsTag, IfOpen, budget, left_in_tag};
 
-    /// What is wrong with a tag's head.
+    /// What is wrong with the head of an authentication tag.
     fn fault_of_head(head: &Head) -> Option<Reason>
         ensures { result ≡ tag_fault head.now }
     {
@@ -312,7 +312,7 @@ impl Tag {
         None
     }
 
-    /// What follows the tag's head. The tag's bytes begin at `at`.
+    /// What follows the authentication tag's head. Its bytes begin at `at`.
     fn after_head(
         head: Head,
         head_at: u64,
@@ -338,7 +338,7 @@ impl Tag {
         }
     }
 
-    /// The next byte of the tag. With the last one comes the verdict.
+    /// The next byte of the authentication tag. With the last one comes the verdict.
     pub fn step(self, byte: u8) -> Progress<'static>
         ensures goes { (key so_far : List ℕ) → FeedsTag key so_far self
             → Continues so_far result (λ bytes. left_in_tag key so_far self (byte ∷ bytes)) }
