@@ -51,7 +51,7 @@ pub struct Verifier<'k, const H: usize, const D: usize> {
 
 impl<'k, const H: usize, const D: usize> Verifier<'k, H, D> {
     ghost use Rattle.std.specs.Prelude.{◌≡◌, ℕ, List, [], ◌∷◌, ◌++◌, ◌+◌, ◌-◌, length, take, true, false, if◌then◌else◌};
-    ghost use Rattle.cose_msg.specs.Kept.{HasTaken};
+    ghost use Rattle.cose_msg.specs.Kept.{HasTaken, bytes_taken};
     ghost use Rattle.cose_msg.specs.Message.{Setting};
     ghost use Rattle.cose_msg.specs.Phase.{grown, in_payload, is_settled, takes_bytes, want_of};
     ghost use Rattle.cose_msg.specs.Reading.{Reading, stop, Told};
@@ -102,7 +102,7 @@ impl<'k, const H: usize, const D: usize> Verifier<'k, H, D> {
 
     /// The number of bytes of the message that were taken.
     pub fn taken(&self) -> u64
-        ensures { result ≡ self.now.taken }
+        ensures { result ≡ bytes_taken self.now }
     {
         self.taken
     }
