@@ -73,10 +73,14 @@ abbrev pub OneItem : Type 0
 OneItem = (a b rest others : List ℕ) (content other : Item) → Spells a content → Spells b other → a ++ rest ≡ b ++ others → (a ≡ b)
     × (content ≡ other)
 
--- And it is the same item before other bytes, in another room, at another place and with more nesting allowed.
+-- The bytes up to the rest, as many as the places are apart.
+abbrev pub bytes_before : Left → Left → List ℕ
+bytes_before rest l = take (rest.place - l.place) l.bytes
+
+-- And these bytes are the same item before other bytes, in another room, at another place and with more nesting allowed.
 abbrev pub ReadElsewhere : Type 0
 ReadElsewhere = (depth deeper : ℕ) (l rest m last : Left) (content : Item) → depth ≤ deeper → read depth l ≡ Ok (content, rest) →
-    Between m last (λ part. part ≡ take (rest.place - l.place) l.bytes) → read deeper m ≡ Ok (content, last)
+    Between m last (λ part. part ≡ bytes_before rest l) → read deeper m ≡ Ok (content, last)
 
 -- An answer that isn't Truncated stays when bytes follow.
 abbrev pub ReadStays : Type 0

@@ -57,7 +57,8 @@ pub fn shortest_is_spelling()
 
 /// Bytes that [`ItemRef::read`](crate::ItemRef::read) accepts are exactly one item of the grammar, and those that are one
 /// are accepted, with more nesting allowed too. What is refused is refused at one of the bytes or at their end, for one of
-/// the reasons Reserved, Indefinite, BadSimple, TooDeep, PastRoom and Trailing, so never as Truncated. The test that an `ItemRef` keeps says the same of a nesting of at most 32, wherever the bytes stand.
+/// the reasons Reserved, Indefinite, BadSimple, TooDeep, PastRoom and Trailing, so never as Truncated. The test that an
+/// `ItemRef` keeps says the same of a nesting of at most 32, wherever the bytes stand.
 pub fn whole_is_one_item()
     ensures tree { WholeIsItem }
     ensures accepted { ItemIsWhole }

@@ -249,8 +249,8 @@ kept_run goes_last inside fair {H} {D} {setting} {s} {B} {v} decides come conten
     let count : Counts phase.0 v.taken = subst (λ (n : ℕ). Counts phase.0 n) (sym a.stands.counted) holds in
     let done : (message (comparing H D setting) ((s ++ []) ++ [])).settled ≡ true = ap (λ (r : Reading). r.settled) here in
     let run : Run H D setting decides s B come come ended contents contents (Ok phase.0) [] = concluded goes_last inside fair decides phase.0 a (Consumes-nil come)
-        (ap (λ (r : Reading). r.told.payload) here ∙ so_far.payload_told) (ap (λ (r : Reading). then_verified setting.aad decides r.answer) here) count
-        (λ e. let clash : true ≡ false = sym done ∙ e in absurd cc) (λ e lt. absurd (omega arith)) in
+    (ap (λ (r : Reading). r.told.payload) here ∙ so_far.payload_told) (ap (λ (r : Reading). then_verified setting.aad decides r.answer) here) count
+    (λ e. let clash : true ≡ false = sym done ∙ e in absurd cc) (λ e lt. absurd (omega arith)) in
     subst (λ (r : Result Verdict Stop). Run H D setting decides s B come come ended contents contents r []) (sym phase.2) run
 
 -- ---- all bytes of an intake that tells them

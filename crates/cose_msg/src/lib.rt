@@ -1,4 +1,31 @@
 //! COSE_Mac0 and COSE_Sign1 messages (RFC 9052 sections 6.2 and 4.2), verified over any intake in bounded memory.
+//!
+//! A [`Verifier`] holds the header buckets of one message, of at most `H` bytes each, and never the payload. [`verify`] takes
+//! the message from an [`Intake`] in pieces of at most `C` bytes, puts the payload into a [`Sink`] as it comes, and gives one
+//! [`Verdict`]: authentic, or refused with a reason and a place. Drop what the sink got where the message isn't authentic.
+//!
+//! ```rust
+//! use cose_msg::{Context, KeySet, Never, SliceIntake, Store, Wanted, Verifier, verify};
+//!
+//! let Ok(keys) = KeySet::read(b"\xa2\x01\x04\x20\x44Jefe") else {
+//!     return;
+//! };
+//! let mut verifier = Verifier::<1024, 8>::new(Context {
+//!     keys,
+//!     aad: b"",
+//!     wanted: Wanted::Tagged,
+//!     cwt: false,
+//!     understood: &[],
+//!     payload_limit: 4096,
+//! });
+//! let mut payload = Store::<4096>::new();
+//! let mut intake = SliceIntake::new(message, 64);
+//! let verdict = verify::<512, 1024, 8, _, _, _>(&mut verifier, &mut intake, &mut payload, &Never);
+//! ```
+//!
+//! A COSE_Sign1 is authentic where the [`EcVerifier`] that is handed in says so, asked with the key, the digest of the
+//! structure that is signed and the signature; [`Never`] refuses all. After a verdict, or a stop for a failure of the intake
+//! or the sink, the same is answered again until [`Verifier::reset`].
 #![tactic(auto)]
 
 mod bare_head;

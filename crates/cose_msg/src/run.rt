@@ -10,7 +10,9 @@ ghost use Rattle.cose_msg.specs.Run.{Run, stops_for_intake, stops_for_sink};
 
 use crate::elliptic::EcVerifier;
 use crate::intake::Intake;
-use crate::laws::{deciding_goes_last, messages_are_bounded, nothing_stands_after_the_bytes, settled_stays};
+use crate::laws::{
+    deciding_goes_last, messages_are_bounded, nothing_stands_after_the_bytes, settled_stays,
+};
 use crate::sink::Sink;
 use crate::verdict::{Stop, Verdict};
 use crate::verifier::Verifier;
@@ -21,18 +23,21 @@ use crate::verifier::Verifier;
 /// The sink has the payload before the verdict is known: drop what it holds after a refusal or a stop. A verifier that was fed
 /// goes on from there. A verdict is kept and answered again until `reset`; after a stop every call answers [`Stop::Again`].
 /// Of message bytes it holds `C` at most besides what the verifier holds.
-pub fn verify<'k, const C: usize, const H: usize, const D: usize, I: Intake, S: Sink, E: EcVerifier>(
-    verifier: &mut Verifier<'k, H, D>,
-    intake: &mut I,
-    sink: &mut S,
-    ec: &E,
-) -> Result<Verdict, Stop>
+pub fn verify<
+    'k,
+    const C: usize,
+    const H: usize,
+    const D: usize,
+    I: Intake,
+    S: Sink,
+    E: EcVerifier,
+>(verifier: &mut Verifier<'k, H, D>, intake: &mut I, sink: &mut S, ec: &E) -> Result<Verdict, Stop>
     requires some { 1 ≤ C }
     requires limit { C ≤ 65536 }
     // What was taken, what came of it, and what the sink got.
     ensures run { (setting : Setting) (s B : List ℕ) → HasTaken setting s B verifier.old →
         (taken : List ℕ) × Run H D setting (E.decides ec.now) s B (I.to_come intake.old) (I.to_come intake.new) (I.ended intake.new)
-            (S.contents sink.old) (S.contents sink.new) result taken × (bytes_taken verifier.new ≡ length (s ++ taken)) }
+        (S.contents sink.old) (S.contents sink.new) result taken × (bytes_taken verifier.new ≡ length (s ++ taken)) }
     // Where the intake tells its bytes, the verdict is that of all of them.
     ensures answer { (setting : Setting) (s B bytes : List ℕ) → HasTaken setting s B verifier.old → I.to_come intake.old ≡ Some bytes →
         IfOk result (λ verdict. verdict_of H D setting (E.decides ec.now) (s ++ bytes) ≡ decided verdict) }

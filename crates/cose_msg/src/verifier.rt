@@ -51,6 +51,7 @@ pub struct Verifier<'k, const H: usize, const D: usize> {
 
 impl<'k, const H: usize, const D: usize> Verifier<'k, H, D> {
     ghost use Rattle.std.specs.Prelude.{◌≡◌, ℕ, List, [], ◌∷◌, ◌++◌, ◌+◌, ◌-◌, length, take, true, false, if◌then◌else◌};
+    ghost use Rattle.cose_msg.specs.Kept.{HasTaken, bytes_taken};
     ghost use Rattle.cose_msg.specs.Message.{Setting};
     ghost use Rattle.cose_msg.specs.Phase.{grown, in_payload, is_settled, takes_bytes, want_of};
     ghost use Rattle.cose_msg.specs.Reading.{Reading, stop, Told};
@@ -63,6 +64,7 @@ impl<'k, const H: usize, const D: usize> Verifier<'k, H, D> {
         requires nesting { D ≤ 32 }
         requires external { length context.aad.now ≤ 65535 }
         ensures so_far { SoFar (setting_of context.entry) [] [] result }
+        ensures none_taken { HasTaken (setting_of context.entry) [] [] result }
     {
         Verifier {
             context,
@@ -90,6 +92,7 @@ impl<'k, const H: usize, const D: usize> Verifier<'k, H, D> {
     /// Makes the verifier as it was made, in the same context.
     pub fn reset(&mut self)
         ensures so_far { SoFar (setting_of self.old.context) [] [] self.new }
+        ensures none_taken { HasTaken (setting_of self.old.context) [] [] self.new }
     {
         self.head.clear();
         self.phase = Phase::FirstHead;
@@ -99,7 +102,7 @@ impl<'k, const H: usize, const D: usize> Verifier<'k, H, D> {
 
     /// The number of bytes of the message that were taken.
     pub fn taken(&self) -> u64
-        ensures { result ≡ self.now.taken }
+        ensures { result ≡ bytes_taken self.now }
     {
         self.taken
     }

@@ -21,7 +21,7 @@ const KEYS: &str = "a2010420444a656665";
 /// The bytes before the payload's head.
 const FRONT: &[u8] = &[0xd1, 0x84, 0x43, 0xa1, 0x01, 0x05, 0xa0];
 
-/// The payload `hi`, and the head of a tag of 32 bytes.
+/// The payload `hi`, and the head of an authentication tag of 32 bytes.
 const PAYLOAD: &[u8] = &[0x42, 0x68, 0x69, 0x58, 0x20];
 
 /// The MAC_structure of that message (RFC 9052 section 6.3).
@@ -43,7 +43,7 @@ fn hmac(alloc: Global, key: &[u8], text: &[u8]) -> Result<[u8; 32], AllocError> 
     Ok(Sha256::digest(outer.as_slice()))
 }
 
-/// The tag without its last byte.
+/// The authentication tag without its last byte.
 fn cut(tag: &[u8; 32]) -> &[u8] {
     &tag[..31]
 }

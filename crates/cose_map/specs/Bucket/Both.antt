@@ -62,7 +62,7 @@ pair_faults protected unprotected understood after =
     (flat_map (unprotected_faults protected) unprotected ++
     fault_if (both_ivs protected unprotected) BothIvs after)
 
--- The least of several: the least place, and at one place the smaller number. (LeastFault.antt says what it is.)
+-- The least of several: the least place, and at one place the smaller number. (Laws/Least.antt says what it is.)
 abbrev pub goes_before : Refusal → Refusal → Bool
 goes_before a b = nat_lt a.place b.place || (a.place == b.place && nat_lt (number_of a.reason) (number_of b.reason))
 

@@ -61,7 +61,7 @@ fn answers(
     Ok(())
 }
 
-/// The tag with its last byte changed.
+/// The authentication tag with its last byte changed.
 fn changed(mut tag: [u8; 32]) -> [u8; 32] {
     tag[31] ^= 1;
     tag

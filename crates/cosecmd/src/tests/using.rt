@@ -24,7 +24,7 @@ fn begin(keys: &KeySet, protected: &Bucket, unprotected: &Bucket) -> Result<Runn
     }
 }
 
-/// Whether `tag` authenticates the payload, whose `length` bytes come in pieces.
+/// Whether this is the authentication tag of the payload, whose `length` bytes come in pieces.
 fn holds(mut mac: Running, protected: &[u8], length: u64, pieces: &[&[u8]], tag: &[u8]) -> bool {
     structure_front(Kind::Mac0, protected, b"", length, &mut mac);
     for piece in pieces {
@@ -33,7 +33,7 @@ fn holds(mut mac: Running, protected: &[u8], length: u64, pieces: &[&[u8]], tag:
     mac.is_mac() && mac.finish_mac().as_slice() == tag
 }
 
-/// Whether `tag` authenticates `hi`, under the protected header `{1: 5}` and no unprotected one.
+/// Whether this is the authentication tag of `hi`, under the protected header `{1: 5}` and no unprotected one.
 fn is_authentic(key_set: &[u8], tag: &[u8]) -> Result<bool, Refusal> {
     let keys = KeySet::read(key_set)?;
     let content = [0xa1, 0x01, 0x05];

@@ -28,7 +28,7 @@ pieces-preserved g c =
             λ setting s B h.
                 (let a = c.pieces.invariant.0 setting s B h in
                 goes_on _ a (first_of _ _ c.in-Ok.count c.take.new.into _ c.in-Ok.ensures.within c.in-Ok.ensures.bytes.0) (λ more lt. c.waits.ensures.open setting _ _ _ more a.stands.so_far (within _ more lt))
-                    (c.take_piece.ensures.taken setting _ _ a.stands) (c.in-Ok.ensures.end ∙ not_at_end _ some) (rw in_it (put_done _ _ _ w.put.result done w.put.ensures.bytes)) (rw in_it (promise_kept w.put.result _ _ _ done w.put.ensures.promise))),
+                (c.take_piece.ensures.taken setting _ _ a.stands) (c.in-Ok.ensures.end ∙ not_at_end _ some) (rw in_it (put_done _ _ _ w.put.result done w.put.ensures.bytes)) (rw in_it (promise_kept w.put.result _ _ _ done w.put.ensures.promise))),
             stopped,
             c.in-Ok.ensures.failure ∙ c.pieces.invariant.2,
             w.put.ensures.failure ∙ marks_nothing _ w.put.result done ∙ c.pieces.invariant.3,
@@ -39,7 +39,7 @@ pieces-preserved g c =
             λ setting s B h.
                 (let a = c.pieces.invariant.0 setting s B h in
                 goes_on _ a (first_of _ _ c.in-Ok.count c.take.new.into _ c.in-Ok.ensures.within c.in-Ok.ensures.bytes.0) (λ more lt. c.waits.ensures.open setting _ _ _ more a.stands.so_far (within _ more lt))
-                    (c.take_piece.ensures.taken setting _ _ a.stands) (c.in-Ok.ensures.end ∙ not_at_end _ some) (rw in_it (Appends-nil _)) (rw in_it (omega arith))),
+                (c.take_piece.ensures.taken setting _ _ a.stands) (c.in-Ok.ensures.end ∙ not_at_end _ some) (rw in_it (Appends-nil _)) (rw in_it (omega arith))),
             stopped,
             c.in-Ok.ensures.failure ∙ c.pieces.invariant.2,
             c.pieces.invariant.3,
@@ -61,12 +61,13 @@ returns-then-asked-eq0-clause-run g c = λ setting s B h.
     let a = c.pieces.invariant.0 setting s B h in
     let none : c.request-asked.result ≡ 0 = omega (arith, c.if-asked-eq0.true) in
     let room : g.row.H ≤ 65535 = c.pieces.verifier.limit in
-    let done = settled_if_none_asked c.messages_are_bounded.ensures.verified.1 room c.request-asked.result a.stands (c.waits.ensures.settled setting _ _ _ a.stands.so_far) c.request-asked.ensures.some none in
-    (a.taken,
-    concluded c.deciding_goes_last.ensures.verifying c.nothing_stands_after_the_bytes.ensures.inside c.nothing_stands_after_the_bytes.ensures.fair _ c.conclude.result a (Consumes-nil _)
-        (c.waits.ensures.payload setting _ _ _ a.stands.so_far) (c.conclude.ensures.answer setting _ _ (counted_stands a.stands)) (c.conclude.ensures.counted setting _ _ (counted_stands a.stands))
-        (λ e. let clash : true ≡ false = sym done ∙ e in absurd cc) (λ e. a.not_ended),
-    c.conclude.ensures.counts ∙ a.stands.counted)
+    let done = settled_if_none_asked c.messages_are_bounded.ensures.verified.1 room c.request-asked.result a.stands (c.waits.ensures.settled setting _ _ _ a.stands.so_far) c.request-asked.ensures.some none in (
+      a.taken,
+      concluded c.deciding_goes_last.ensures.verifying c.nothing_stands_after_the_bytes.ensures.inside c.nothing_stands_after_the_bytes.ensures.fair _ c.conclude.result a (Consumes-nil _)
+          (c.waits.ensures.payload setting _ _ _ a.stands.so_far) (c.conclude.ensures.answer setting _ _ (counted_stands a.stands)) (c.conclude.ensures.counted setting _ _ (counted_stands a.stands))
+          (λ e. let clash : true ≡ false = sym done ∙ e in absurd cc) (λ e. a.not_ended),
+      c.conclude.ensures.counts ∙ a.stands.counted,
+    )
 
 pub returns-then-asked-eq0-clause-answer : goal.returns-then-asked-eq0-clause-answer
 returns-then-asked-eq0-clause-answer g c = λ setting s B bytes h come.
@@ -76,10 +77,11 @@ returns-then-asked-eq0-clause-answer g c = λ setting s B bytes h come.
 pub returns-in-Err-clause-run : goal.returns-in-Err-clause-run
 returns-in-Err-clause-run g c = λ setting s B h.
     let a = c.pieces.invariant.0 setting s B h in
-    let wanted : 0 < want_of c.pieces.verifier.phase = omega (arith, c.if-asked-eq0.false, c.request-asked.ensures.wanted) in
-    (a.taken,
-    stopped_by_intake c.deciding_goes_last.ensures.verifying _ a c.in-Err.ensures.bytes (c.waits.ensures.payload setting _ _ _ a.stands.so_far) (c.waits.ensures.open setting _ _ _ [] a.stands.so_far wanted),
-    c.stop.ensures.taken ∙ a.stands.counted)
+    let wanted : 0 < want_of c.pieces.verifier.phase = omega (arith, c.if-asked-eq0.false, c.request-asked.ensures.wanted) in (
+      a.taken,
+      stopped_by_intake c.deciding_goes_last.ensures.verifying _ a c.in-Err.ensures.bytes (c.waits.ensures.payload setting _ _ _ a.stands.so_far) (c.waits.ensures.open setting _ _ _ [] a.stands.so_far wanted),
+      c.stop.ensures.taken ∙ a.stands.counted,
+    )
 
 pub returns-then-count-eq0-clause-run : goal.returns-then-count-eq0-clause-run
 returns-then-count-eq0-clause-run g c = λ setting s B h.
@@ -88,12 +90,13 @@ returns-then-count-eq0-clause-run g c = λ setting s B h.
     let none : c.in-Ok.count ≡ 0 = omega (arith, c.if-count-eq0.true) in
     let open_yet = c.waits.ensures.open setting _ _ _ [] a.stands.so_far wanted in
     let took = rw none at c.in-Ok.ensures.bytes in
-    let ended = rw none at c.in-Ok.ensures.end in
-    (a.taken,
-    concluded c.deciding_goes_last.ensures.verifying c.nothing_stands_after_the_bytes.ensures.inside c.nothing_stands_after_the_bytes.ensures.fair _ c.conclude-then-count-eq0.result a took.0
-        (c.waits.ensures.payload setting _ _ _ a.stands.so_far) (c.conclude-then-count-eq0.ensures.answer setting _ _ (counted_stands a.stands)) (c.conclude-then-count-eq0.ensures.counted setting _ _ (counted_stands a.stands))
-        (λ e. (ended, took.1 refl)) (λ e. let clash : true ≡ false = sym e ∙ open_yet in absurd cc),
-    c.conclude-then-count-eq0.ensures.counts ∙ a.stands.counted)
+    let ended = rw none at c.in-Ok.ensures.end in (
+      a.taken,
+      concluded c.deciding_goes_last.ensures.verifying c.nothing_stands_after_the_bytes.ensures.inside c.nothing_stands_after_the_bytes.ensures.fair _ c.conclude-then-count-eq0.result a took.0
+          (c.waits.ensures.payload setting _ _ _ a.stands.so_far) (c.conclude-then-count-eq0.ensures.answer setting _ _ (counted_stands a.stands)) (c.conclude-then-count-eq0.ensures.counted setting _ _ (counted_stands a.stands))
+          (λ e. (ended, took.1 refl)) (λ e. let clash : true ≡ false = sym e ∙ open_yet in absurd cc),
+      c.conclude-then-count-eq0.ensures.counts ∙ a.stands.counted,
+    )
 
 pub returns-then-count-eq0-clause-answer : goal.returns-then-count-eq0-clause-answer
 returns-then-count-eq0-clause-answer g c = λ setting s B bytes h come.
@@ -107,12 +110,13 @@ returns-then-is_err-clause-run g c = λ setting s B h.
     let in_it : in_payload c.pieces.verifier.phase ≡ true = sym c.is_in_payload-in_payload.ensures ∙ c.if-in_payload.true in
     let count : c.in-Ok.count ≤ want_of c.pieces.verifier.phase = omega (arith, c.take.auto.into, c.in-Ok.ensures.within, c.request-asked.ensures.wanted, length-take c.request-asked.result c.pieces.chunk) in
     let fits : (l : List ℕ) → length (take c.in-Ok.count l) ≤ want_of c.pieces.verifier.phase = λ l. omega (arith, take_short c.in-Ok.count l) in
-    let within : (l more : List ℕ) → length more < length (take c.in-Ok.count l) → length more < want_of c.pieces.verifier.phase = λ l more lt. omega (arith, fits l, lt) in
-    (_,
-    stopped_by_sink c.deciding_goes_last.ensures.verifying _ _ a (first_of _ _ c.in-Ok.count c.take.new.into _ c.in-Ok.ensures.within c.in-Ok.ensures.bytes.0)
-        (λ more lt. c.waits.ensures.open setting _ _ _ more a.stands.so_far (within _ more lt)) (c.waits.ensures.open_payload setting _ _ _ _ a.stands.so_far in_it (fits _)) in_it
-        (c.waits-in-pieces.ensures.payload setting _ _ _ stands.so_far) (put_failed _ _ _ c.put.result (sym c.is_err.ensures.value ∙ c.if-is_err.true) c.put.ensures.bytes),
-    c.stop-then-is_err.ensures.taken ∙ stands.counted ∙ ap length (append_assoc s a.taken _))
+    let within : (l more : List ℕ) → length more < length (take c.in-Ok.count l) → length more < want_of c.pieces.verifier.phase = λ l more lt. omega (arith, fits l, lt) in (
+      _,
+      stopped_by_sink c.deciding_goes_last.ensures.verifying _ _ a (first_of _ _ c.in-Ok.count c.take.new.into _ c.in-Ok.ensures.within c.in-Ok.ensures.bytes.0)
+          (λ more lt. c.waits.ensures.open setting _ _ _ more a.stands.so_far (within _ more lt)) (c.waits.ensures.open_payload setting _ _ _ _ a.stands.so_far in_it (fits _)) in_it
+          (c.waits-in-pieces.ensures.payload setting _ _ _ stands.so_far) (put_failed _ _ _ c.put.result (sym c.is_err.ensures.value ∙ c.if-is_err.true) c.put.ensures.bytes),
+      c.stop-then-is_err.ensures.taken ∙ stands.counted ∙ ap length (append_assoc s a.taken _),
+    )
 
 -- The payload is within its limit, so the sink has promised to take the piece.
 pub returns-then-is_err-clause-sure : goal.returns-then-is_err-clause-sure

@@ -7,8 +7,8 @@ use Rattle.cose_msg.proofs.run.verify.Given as goal
 abbrev pub invariant-pieces : goal.invariant-pieces
 invariant-pieces g l =
     ((setting : Setting) (s B : List ℕ) → HasTaken setting s B l.initial.verifier →
-        Along setting s B (g.I.Intake.to_come l.initial.intake) (g.I.Intake.to_come l.intake) (g.I.Intake.ended l.intake)
-        (g.S.Sink.contents l.initial.sink) (g.S.Sink.contents l.sink) (g.S.Sink.sure l.initial.sink) (g.S.Sink.sure l.sink) l.verifier)
+    Along setting s B (g.I.Intake.to_come l.initial.intake) (g.I.Intake.to_come l.intake) (g.I.Intake.ended l.intake)
+    (g.S.Sink.contents l.initial.sink) (g.S.Sink.contents l.sink) (g.S.Sink.sure l.initial.sink) (g.S.Sink.sure l.sink) l.verifier)
     × (l.verifier.stopped ≡ false)
     × (g.I.Intake.has_failed l.intake ≡ g.I.Intake.has_failed l.initial.intake)
     × (g.S.Sink.has_failed l.sink ≡ g.S.Sink.has_failed l.initial.sink)

@@ -5,16 +5,18 @@ use Rattle.cose_msg.specs.Phases.{nothing_told}
 use Rattle.cose_msg.proofs.Standing.{unknown}
 use Rattle.cose_msg.proofs.verifier.Verifier.new.Goals as goal
 
-pub returns : goal.returns
+pub returns-clause-so_far : goal.returns-clause-so_far
 unfolding message bare_head
-returns g c = record {
-  so_far = record {
-    known = unknown [];
-    told = nothing_told;
-    in_setting = refl;
-    payload_known = refl;
-    payload_told = refl;
-    holds = rw c.new-3.ensures (refl, (tt, refl));
-    left = λ z. rw c.new-3.ensures refl;
-  };
+returns-clause-so_far g c = record {
+  known = unknown [];
+  told = nothing_told;
+  in_setting = refl;
+  payload_known = refl;
+  payload_told = refl;
+  holds = rw c.new-3.ensures (refl, (tt, refl));
+  left = λ z. rw c.new-3.ensures refl;
 }
+
+pub returns-clause-none_taken : goal.returns-clause-none_taken
+unfolding message bare_head
+returns-clause-none_taken g c = record { so_far = returns-clause-so_far g c; counted = refl; goes_on = refl }
