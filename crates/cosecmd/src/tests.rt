@@ -2,10 +2,12 @@
 
 mod failures;
 mod messages;
+mod options;
+mod rows;
 mod runs;
 mod using;
 
-use cose_map::KeySet;
+use cose_msg::KeySet;
 use sha2::{Digest, Sha256};
 use std::alloc::{AllocError, Global};
 

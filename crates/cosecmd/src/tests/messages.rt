@@ -1,13 +1,10 @@
 //! Verdicts, and how many bytes they took.
 
-use crate::first::intake::{ReadIntake, SliceIntake};
-use crate::first::sink::{Sink, Store};
-use crate::first::verdict::{Stop, Verdict};
-use crate::first::verify_first;
 use crate::tests::{FRONT, KEY, STRUCTURE, cut, hmac, joined, key_set, message};
-use cose_head::{Kind, Reason, Refusal};
-use cose_mac::Alg;
-use cose_map::KeySet;
+use cose_msg::{
+    Alg, Context, Intake, KeySet, Kind, Never, ReadIntake, Reason, Refusal, Sink, SliceIntake,
+    Stop, Store, Verdict, Verifier, Wanted, verify,
+};
 use std::alloc::{AllocError, Global};
 use std::process::Abort;
 use std::test::Fail;
@@ -25,6 +22,27 @@ const fn refused(reason: Reason, place: u64) -> Verdict {
     Verdict::Refused(Refusal { reason, place })
 }
 
+/// A verifier under these keys.
+fn verifier(keys: KeySet) -> Verifier<1024, 4> {
+    Verifier::new(Context {
+        keys,
+        aad: b"",
+        wanted: Wanted::Tagged,
+        cwt: true,
+        understood: &[],
+        payload_limit: (1 << 56) - 1,
+    })
+}
+
+/// What `verify` answers under these keys.
+fn verdict_of<I: Intake, S: Sink>(
+    keys: KeySet,
+    intake: &mut I,
+    sink: &mut S,
+) -> Result<Verdict, Stop> {
+    verify::<16, 1024, 4, _, _, _>(&mut verifier(keys), intake, sink, &Never)
+}
+
 #[test]
 fn takes_the_message_in_any_pieces(rt: HostRuntime) -> Result<(), Fail> {
     let bytes = message(rt.alloc())?;
@@ -32,7 +50,7 @@ fn takes_the_message_in_any_pieces(rt: HostRuntime) -> Result<(), Fail> {
     for cut in [1, 2, 7, 64] {
         let mut intake = SliceIntake::new(bytes.as_slice(), cut);
         let mut store = Store::<16>::new();
-        let verdict = verify_first(&keys, &mut intake, &mut store);
+        let verdict = verdict_of(keys, &mut intake, &mut store);
         assert_eq!(rt; verdict, Ok(authentic(44)), "in pieces of {cut}");
         assert_eq!(rt; store.bytes(), b"hi".as_slice(), "in pieces of {cut}");
     }
@@ -51,7 +69,7 @@ fn answers(
     let keys = key_set().expect(rt, "a key set");
     let mut reader = bytes.as_slice();
     let mut store = Store::<16>::new();
-    let answer = verify_first(&keys, &mut ReadIntake::new(&mut reader), &mut store);
+    let answer = verdict_of(keys, &mut ReadIntake::new(&mut reader), &mut store);
     assert_eq!(rt; answer, Ok(verdict), "{bytes:?}");
     assert_eq!(rt;
         bytes.len(),
@@ -123,7 +141,7 @@ fn chooses_the_key_behind_the_front(rt: HostRuntime) -> Result<(), Fail> {
         let set = KeySet::read(set.as_slice()).or(Err("no key set"))?;
         let mut reader = bytes.as_slice();
         let mut store = Store::<16>::new();
-        let answer = verify_first(&set, &mut ReadIntake::new(&mut reader), &mut store);
+        let answer = verdict_of(set, &mut ReadIntake::new(&mut reader), &mut store);
         assert_eq!(rt; answer, Ok(refused(reason, 7)), "under {keys}");
         assert_eq!(rt; reader.len(), 37, "under {keys}");
     }
@@ -135,8 +153,8 @@ fn stops_where_the_store_is_full(rt: HostRuntime) -> Result<(), Fail> {
     let bytes = message(rt.alloc())?;
     let keys = key_set().ok_or("no keys")?;
     let mut store = Store::<1>::new();
-    let mut intake = SliceIntake::new(bytes.as_slice(), 64);
-    let answer = verify_first(&keys, &mut intake, &mut store);
+    let mut intake = SliceIntake::new(bytes.as_slice(), 1);
+    let answer = verdict_of(keys, &mut intake, &mut store);
     assert_eq!(rt; answer, Err(Stop::Sink));
     assert_eq!(rt; store.bytes(), b"h".as_slice());
     // Once it failed it takes nothing, not even a piece that would fit.

@@ -104,11 +104,7 @@ fn explains_its_line(rt: HostRuntime) -> Result<(), Fail> {
             0,
         ),
         (&["cosecmd", "--version"], "cosecmd 0.1.0\n", 0),
-        (
-            &["cosecmd", "verify", "--help"],
-            "--keys <HEX>  The key set",
-            0,
-        ),
+        (&["cosecmd", "verify", "--help"], "The key set", 0),
         (&["cosecmd", "verify"], "--keys <HEX>", 2),
         (&["cosecmd", "show"], "unrecognized subcommand 'show'", 2),
     ];

@@ -1,0 +1,281 @@
+//! Messages phase by phase: each refusal with its place and the bytes that were taken, and what is authentic in every cut.
+
+use crate::tests::{KEY, hmac};
+use cose_msg::{
+    Alg, Context, KeySet, Kind, Never, ReadIntake, Reason, Refusal, SliceIntake, Store, Verdict,
+    Verifier, Wanted, verify,
+};
+use std::alloc::Global;
+use std::process::Abort;
+use std::test::Fail;
+
+/// The key `Jefe` alone.
+const PLAIN: &str = "a2010420444a656665";
+
+/// The same for HMAC 256/256 alone.
+const FOR_5: &str = "a30104030520444a656665";
+
+/// The MAC_structure of the payload `hi` with the protected header {1: 5}, and with none (RFC 9052 section 6.3).
+const WITH_5: &str = "84644d41433043a1010540426869";
+
+const WITH_NONE: &str = "84644d4143304040426869";
+
+/// A message with an alg in the unprotected header alone, up to the tag.
+const UNPROTECTED: &str = "d18441a0a101054268695820";
+
+/// A message with the key identifier `1`, up to the tag.
+const WITH_KID: &str = "d18443a10105a10441314268695820";
+
+/// Two keys with that identifier, the secrets of which are `a` and `b`.
+const BOTH_FIT: &str = "82a30104024131204161a30104024131204162";
+
+/// A context under these keys.
+fn context(keys: KeySet, wanted: Wanted) -> Context {
+    Context {
+        keys,
+        aad: b"",
+        wanted,
+        cwt: true,
+        understood: &[],
+        payload_limit: (1 << 56) - 1,
+    }
+}
+
+/// These bytes are refused under these keys for this reason at this place, after so many of them.
+fn refuses(
+    rt: &(impl Abort + Alloc<A = Global>),
+    keys: &str,
+    bytes: &str,
+    answer: (Reason, u64, usize),
+) -> Result<(), Fail> {
+    let set = hex::decode(rt.alloc(), keys).or(Err("no hexadecimal"))?;
+    let message = hex::decode(rt.alloc(), bytes).or(Err("no hexadecimal"))?;
+    let keys = KeySet::read(set.as_slice()).or(Err("no key set"))?;
+    let mut verifier = Verifier::<1024, 4>::new(context(keys, Wanted::Tagged));
+    let mut reader = message.as_slice();
+    let mut store = Store::<16>::new();
+    let verdict = verify::<16, 1024, 4, _, _, _>(
+        &mut verifier,
+        &mut ReadIntake::new(&mut reader),
+        &mut store,
+        &Never,
+    );
+    let (reason, place, taken) = answer;
+    assert_eq!(rt;
+        verdict,
+        Ok(Verdict::Refused(Refusal { reason, place })),
+        "{bytes}"
+    );
+    assert_eq!(rt;
+        message.len(),
+        reader.len().saturating_add(taken),
+        "{bytes}"
+    );
+    Ok(())
+}
+
+#[test]
+fn refuses_what_stands_first(rt: HostRuntime) -> Result<(), Fail> {
+    let rows: [(&str, (Reason, u64, usize)); 14] = [
+        ("", (Reason::Truncated, 0, 0)),
+        ("d0", (Reason::Encrypted, 0, 1)),
+        ("d862", (Reason::SeveralParties, 0, 2)),
+        ("d83d84", (Reason::CwtTagAlone, 2, 3)),
+        ("84", (Reason::WrongTag, 0, 1)),
+        ("d183", (Reason::NotFour, 1, 2)),
+        ("d1a0", (Reason::WrongType, 1, 2)),
+        ("d19c", (Reason::Reserved, 1, 2)),
+        ("d184590401", (Reason::PastRoom, 2, 5)),
+        ("d18444a1010500", (Reason::Trailing, 6, 7)),
+        ("d1844180", (Reason::NotMap, 3, 4)),
+        ("d18443a20105", (Reason::PastRoom, 3, 6)),
+        // labels are equal by value
+        ("d18446a2010518010500", (Reason::DuplicateLabel, 6, 9)),
+        ("d18443a10105a04268", (Reason::Truncated, 9, 9)),
+    ];
+    for (bytes, answer) in rows {
+        refuses(&rt, PLAIN, bytes, answer)?;
+    }
+    Ok(())
+}
+
+#[test]
+fn refuses_headers(rt: HostRuntime) -> Result<(), Fail> {
+    let rows: [(&str, (Reason, u64, usize)); 13] = [
+        ("d18443a10105a1010500", (Reason::BothBuckets, 7, 9)),
+        (
+            "d18446a20105028101a102810100",
+            (Reason::BothBuckets, 10, 13),
+        ),
+        ("d18447a201050281182aa000", (Reason::CritAbsent, 8, 11)),
+        (
+            "d1844aa301050281182a182a00a000",
+            (Reason::CritUnknown, 8, 14),
+        ),
+        ("d18443a10105a102810100", (Reason::CritUnprotected, 7, 10)),
+        ("d18443a10105a10a8181818100", (Reason::TooDeep, 11, 12)),
+        (
+            "d18443a10105bbffffffffffffffff00",
+            (Reason::PastRoom, 6, 15),
+        ),
+        ("d18443a10105a14000", (Reason::BadLabel, 7, 9)),
+        ("d18443a10105a10400", (Reason::BadValue, 8, 9)),
+        ("d18446a20105054100a106410000", (Reason::BothIvs, 13, 13)),
+        ("d18443a10126a000", (Reason::UnknownAlg, 7, 7)),
+        ("d18443a10105a20a000a0042", (Reason::DuplicateLabel, 9, 11)),
+        ("d18443a10105a20a000a", (Reason::Truncated, 10, 10)),
+    ];
+    for (bytes, answer) in rows {
+        refuses(&rt, PLAIN, bytes, answer)?;
+    }
+    Ok(())
+}
+
+#[test]
+fn refuses_where_no_one_key_fits(rt: HostRuntime) -> Result<(), Fail> {
+    let rows: [(&str, &str, (Reason, u64, usize)); 4] = [
+        (PLAIN, UNPROTECTED, (Reason::AlgUnprotected, 7, 7)),
+        (PLAIN, "d18442b800a1010542", (Reason::AlgUnprotected, 8, 8)),
+        (PLAIN, "d18440a042", (Reason::NoAlg, 4, 4)),
+        (BOTH_FIT, WITH_KID, (Reason::AmbiguousKey, 10, 10)),
+    ];
+    for (keys, bytes, answer) in rows {
+        refuses(&rt, keys, bytes, answer)?;
+    }
+    Ok(())
+}
+
+/// A message that is authentic: up to the tag, the structure, the key and the number of bytes of the tag.
+#[derive(Clone, Copy)]
+struct Row<'a> {
+    keys: &'a str,
+    wanted: Wanted,
+    front: &'a str,
+    structure: &'a str,
+    secret: &'a [u8],
+    tag: usize,
+    alg: Alg,
+    taken: u64,
+}
+
+/// A tagged message under HMAC 256/256.
+const fn tagged<'a>(keys: &'a str, front: &'a str, structure: &'a str, taken: u64) -> Row<'a> {
+    Row {
+        keys,
+        wanted: Wanted::Tagged,
+        front,
+        structure,
+        secret: KEY,
+        tag: 32,
+        alg: Alg::Hmac256,
+        taken,
+    }
+}
+
+/// The message is authentic in every cut, and the sink holds its payload.
+fn authenticates(rt: &(impl Abort + Alloc<A = Global>), row: Row) -> Result<(), Fail> {
+    let set = hex::decode(rt.alloc(), row.keys).or(Err("no hexadecimal"))?;
+    let structure = hex::decode(rt.alloc(), row.structure).or(Err("no hexadecimal"))?;
+    let mut message = hex::decode(rt.alloc(), row.front).or(Err("no hexadecimal"))?;
+    let tag = hmac(rt.alloc(), row.secret, structure.as_slice())?;
+    message.extend_from_slice(tag.get(..row.tag).unwrap_or(&[]))?;
+    // A byte behind the message isn't taken.
+    message.push(0xff)?;
+    let authentic = Verdict::Authentic {
+        kind: Kind::Mac0,
+        alg: row.alg,
+        payload: 2,
+        taken: row.taken,
+    };
+    let keys = KeySet::read(set.as_slice()).or(Err("no key set"))?;
+    for cut in [1, 2, 7, 64] {
+        let mut verifier = Verifier::<1024, 4>::new(context(keys, row.wanted));
+        let mut intake = SliceIntake::new(message.as_slice(), cut);
+        let mut store = Store::<16>::new();
+        let verdict = verify::<128, 1024, 4, _, _, _>(
+            &mut verifier,
+            &mut intake,
+            &mut store,
+            &Never,
+        );
+        assert_eq!(rt; verdict, Ok(authentic), "{} in pieces of {cut}", row.front);
+        assert_eq!(rt;
+            store.bytes(),
+            b"hi".as_slice(),
+            "{} in pieces of {cut}",
+            row.front
+        );
+        assert_eq!(rt;
+            verifier.taken(),
+            row.taken,
+            "{} in pieces of {cut}",
+            row.front
+        );
+    }
+    Ok(())
+}
+
+#[test]
+fn takes_heads_of_any_width(rt: HostRuntime) -> Result<(), Fail> {
+    let wide = "db00000000000000119b00000000000000045b0000000000000003a10105a0\
+        5b000000000000000268695b0000000000000020";
+    let rows: [Row; 4] = [
+        tagged(PLAIN, "d18443a10105a04268695820", WITH_5, 44),
+        tagged(PLAIN, "d18443a10105a059000268695820", WITH_5, 46),
+        tagged(PLAIN, "d8118443a10105a04268695820", WITH_5, 45),
+        tagged(PLAIN, wide, WITH_5, 83),
+    ];
+    for row in rows {
+        authenticates(&rt, row)?;
+    }
+    authenticates(
+        &rt,
+        Row {
+            wanted: Wanted::Mac0,
+            ..tagged(PLAIN, "8443a10105a04268695820", WITH_5, 43)
+        },
+    )
+}
+
+#[test]
+fn authenticates_by_the_headers(rt: HostRuntime) -> Result<(), Fail> {
+    let rows: [Row; 4] = [
+        tagged(FOR_5, UNPROTECTED, WITH_NONE, 44),
+        tagged(FOR_5, "d18442b800a101054268695820", WITH_NONE, 45),
+        tagged(FOR_5, "d18440a04268695820", WITH_NONE, 41),
+        tagged(PLAIN, "d18443a10105a10a818181004268695820", WITH_5, 49),
+    ];
+    for row in rows {
+        authenticates(&rt, row)?;
+    }
+    authenticates(
+        &rt,
+        Row {
+            tag: 8,
+            alg: Alg::Hmac64,
+            ..tagged(
+                PLAIN,
+                "d18443a10104a042686948",
+                "84644d41433043a1010440426869",
+                19,
+            )
+        },
+    )
+}
+
+#[test]
+fn authenticates_under_the_one_key_that_fits(rt: HostRuntime) -> Result<(), Fail> {
+    // The second key isn't for verifying, of another type, or no key since a label stands twice in it.
+    for keys in [
+        "82a30104024131204161a40104024131048109204162",
+        "82a30104024131204161a201012006",
+        "82a30104024131204161a301040104204163",
+    ] {
+        let one = Row {
+            secret: b"a",
+            ..tagged(keys, WITH_KID, WITH_5, 47)
+        };
+        authenticates(&rt, one)?;
+    }
+    Ok(())
+}
