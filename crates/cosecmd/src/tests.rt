@@ -7,7 +7,7 @@ mod rows;
 mod runs;
 mod using;
 
-use cose_msg::KeySet;
+use cose_msg::{Context, KeySet, Verifier, Wanted};
 use sha2::{Digest, Sha256};
 use std::alloc::{AllocError, Global};
 
@@ -53,6 +53,18 @@ fn cut(tag: &[u8; 32]) -> &[u8] {
 /// The keys of that set.
 fn key_set() -> Option<KeySet<'static>> {
     KeySet::read(KEY_SET).ok()
+}
+
+/// A verifier under these keys.
+fn verifier(keys: KeySet, wanted: Wanted) -> Verifier<1024, 4> {
+    Verifier::new(Context {
+        keys,
+        aad: b"",
+        wanted,
+        cwt: true,
+        understood: &[],
+        payload_limit: (1 << 56) - 1,
+    })
 }
 
 /// Several pieces, one after another.

@@ -1,9 +1,9 @@
 //! Verdicts, and how many bytes they took.
 
-use crate::tests::{FRONT, KEY, STRUCTURE, cut, hmac, joined, key_set, message};
+use crate::tests::{FRONT, KEY, STRUCTURE, cut, hmac, joined, key_set, message, verifier};
 use cose_msg::{
-    Alg, Context, Intake, KeySet, Kind, Never, ReadIntake, Reason, Refusal, Sink, SliceIntake,
-    Stop, Store, Verdict, Verifier, Wanted, verify,
+    Alg, Intake, KeySet, Kind, Never, ReadIntake, Reason, Refusal, Sink, SliceIntake, Stop, Store,
+    Verdict, Wanted, verify,
 };
 use std::alloc::{AllocError, Global};
 use std::process::Abort;
@@ -22,25 +22,13 @@ const fn refused(reason: Reason, place: u64) -> Verdict {
     Verdict::Refused(Refusal { reason, place })
 }
 
-/// A verifier under these keys.
-fn verifier(keys: KeySet) -> Verifier<1024, 4> {
-    Verifier::new(Context {
-        keys,
-        aad: b"",
-        wanted: Wanted::Tagged,
-        cwt: true,
-        understood: &[],
-        payload_limit: (1 << 56) - 1,
-    })
-}
-
 /// What `verify` answers under these keys.
 fn verdict_of<I: Intake, S: Sink>(
     keys: KeySet,
     intake: &mut I,
     sink: &mut S,
 ) -> Result<Verdict, Stop> {
-    verify::<16, 1024, 4, _, _, _>(&mut verifier(keys), intake, sink, &Never)
+    verify::<16, 1024, 4, _, _, _>(&mut verifier(keys, Wanted::Tagged), intake, sink, &Never)
 }
 
 #[test]

@@ -52,20 +52,27 @@ fn authenticates_external_data(rt: HostRuntime) -> Result<(), Fail> {
     Ok(())
 }
 
+/// With so many bytes of external data and no input a run prints this.
+fn prints_with(
+    rt: &(impl Abort + Alloc<A = Global>),
+    count: usize,
+    text: &str,
+    status: u8,
+) -> Result<(), Fail> {
+    let mut digits = Vec::new(rt.alloc());
+    for _i in 0..count {
+        digits.extend_from_slice(b"00")?;
+    }
+    let word = str::from_utf8(digits.as_slice()).or(Err("no text"))?;
+    let options = ["--keys", KEYS, "--aad", word];
+    prints(rt, options.as_slice(), b"", text, status)?;
+    Ok(())
+}
+
 #[test]
 fn limits_external_data(rt: HostRuntime) -> Result<(), Fail> {
-    let mut digits = Vec::new(rt.alloc());
-    for _i in 0..131_070 {
-        digits.push(b'0')?;
-    }
-    let most = str::from_utf8(digits.as_slice()).or(Err("no text"))?;
-    let options = ["--keys", KEYS, "--aad", most];
-    prints(&rt, options.as_slice(), b"", "refused Truncated at 0\n", 1)?;
-    digits.extend_from_slice(b"00")?;
-    let more = str::from_utf8(digits.as_slice()).or(Err("no text"))?;
-    let options = ["--keys", KEYS, "--aad", more];
-    prints(&rt, options.as_slice(), b"", "fault line aad\n", 2)?;
-    Ok(())
+    prints_with(&rt, 65_535, "refused Truncated at 0\n", 1)?;
+    prints_with(&rt, 65_536, "fault line aad\n", 2)
 }
 
 #[test]

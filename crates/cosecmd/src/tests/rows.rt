@@ -1,9 +1,9 @@
 //! Messages phase by phase: each refusal with its place and the bytes that were taken, and what is authentic in every cut.
 
-use crate::tests::{KEY, hmac};
+use crate::tests::{KEY, hmac, verifier};
 use cose_msg::{
-    Alg, Context, KeySet, Kind, Never, ReadIntake, Reason, Refusal, SliceIntake, Store, Verdict,
-    Verifier, Wanted, verify,
+    Alg, KeySet, Kind, Never, ReadIntake, Reason, Refusal, SliceIntake, Store, Verdict, Wanted,
+    verify,
 };
 use std::alloc::Global;
 use std::process::Abort;
@@ -29,18 +29,6 @@ const WITH_KID: &str = "d18443a10105a10441314268695820";
 /// Two keys with that identifier, the secrets of which are `a` and `b`.
 const BOTH_FIT: &str = "82a30104024131204161a30104024131204162";
 
-/// A context under these keys.
-fn context(keys: KeySet, wanted: Wanted) -> Context {
-    Context {
-        keys,
-        aad: b"",
-        wanted,
-        cwt: true,
-        understood: &[],
-        payload_limit: (1 << 56) - 1,
-    }
-}
-
 /// These bytes are refused under these keys for this reason at this place, after so many of them.
 fn refuses(
     rt: &(impl Abort + Alloc<A = Global>),
@@ -51,7 +39,7 @@ fn refuses(
     let set = hex::decode(rt.alloc(), keys).or(Err("no hexadecimal"))?;
     let message = hex::decode(rt.alloc(), bytes).or(Err("no hexadecimal"))?;
     let keys = KeySet::read(set.as_slice()).or(Err("no key set"))?;
-    let mut verifier = Verifier::<1024, 4>::new(context(keys, Wanted::Tagged));
+    let mut verifier = verifier(keys, Wanted::Tagged);
     let mut reader = message.as_slice();
     let mut store = Store::<16>::new();
     let verdict = verify::<16, 1024, 4, _, _, _>(
@@ -172,7 +160,36 @@ const fn tagged<'a>(keys: &'a str, front: &'a str, structure: &'a str, taken: u6
     }
 }
 
-/// The message is authentic in every cut, and the sink holds its payload.
+/// The message is authentic in pieces of at most this length, and the sink holds its payload.
+fn authenticates_in_pieces(
+    rt: &impl Abort,
+    keys: &KeySet,
+    row: &Row,
+    message: &[u8],
+    cut: usize,
+) -> Result<(), Fail> {
+    let front = row.front;
+    let authentic = Verdict::Authentic {
+        kind: Kind::Mac0,
+        alg: row.alg,
+        payload: 2,
+        taken: row.taken,
+    };
+    let mut verifier = verifier(*keys, row.wanted);
+    let mut intake = SliceIntake::new(message, cut.max(1));
+    let mut store = Store::<16>::new();
+    let verdict = verify::<128, 1024, 4, _, _, _>(&mut verifier, &mut intake, &mut store, &Never);
+    assert_eq!(rt; verdict, Ok(authentic), "{front} in pieces of {cut}");
+    assert_eq!(rt; verifier.taken(), row.taken, "{front} in pieces of {cut}");
+    assert_eq!(rt;
+        store.bytes(),
+        b"hi".as_slice(),
+        "{front} in pieces of {cut}"
+    );
+    Ok(())
+}
+
+/// The message is authentic in every cut.
 fn authenticates(rt: &(impl Abort + Alloc<A = Global>), row: Row) -> Result<(), Fail> {
     let set = hex::decode(rt.alloc(), row.keys).or(Err("no hexadecimal"))?;
     let structure = hex::decode(rt.alloc(), row.structure).or(Err("no hexadecimal"))?;
@@ -181,36 +198,9 @@ fn authenticates(rt: &(impl Abort + Alloc<A = Global>), row: Row) -> Result<(), 
     message.extend_from_slice(tag.get(..row.tag).unwrap_or(&[]))?;
     // A byte behind the message isn't taken.
     message.push(0xff)?;
-    let authentic = Verdict::Authentic {
-        kind: Kind::Mac0,
-        alg: row.alg,
-        payload: 2,
-        taken: row.taken,
-    };
     let keys = KeySet::read(set.as_slice()).or(Err("no key set"))?;
     for cut in [1, 2, 7, 64] {
-        let mut verifier = Verifier::<1024, 4>::new(context(keys, row.wanted));
-        let mut intake = SliceIntake::new(message.as_slice(), cut);
-        let mut store = Store::<16>::new();
-        let verdict = verify::<128, 1024, 4, _, _, _>(
-            &mut verifier,
-            &mut intake,
-            &mut store,
-            &Never,
-        );
-        assert_eq!(rt; verdict, Ok(authentic), "{} in pieces of {cut}", row.front);
-        assert_eq!(rt;
-            store.bytes(),
-            b"hi".as_slice(),
-            "{} in pieces of {cut}",
-            row.front
-        );
-        assert_eq!(rt;
-            verifier.taken(),
-            row.taken,
-            "{} in pieces of {cut}",
-            row.front
-        );
+        authenticates_in_pieces(rt, &keys, &row, message.as_slice(), cut)?;
     }
     Ok(())
 }
