@@ -1,17 +1,15 @@
 -- The verdict of a verifier: what is decided on a signature, and Truncated where the message isn't settled.
-use Rattle.std.proofs.Common.{◌≡◌, ℕ, ◌<◌, Bool, true, false, cond, List, [], length, Option, None, Some, refl, sym, ap, subst, ◌∙◌}
+use Rattle.std.proofs.Common.{◌≡◌, ℕ, Bool, false, List, [], Option, None, Some, refl, sym, ap, subst, ◌∙◌}
 use Rattle.std.specs.Prelude.{option_map, if◌then◌else◌}
 use Rattle.cose_head.specs.declared.reason.Reason.TheVariants.{BadAuth}
 use Rattle.cose_head.specs.declared.algorithm.Alg.{Alg}
 use Rattle.cose_mac.specs.Hash.{digest_of}
 use Rattle.cose_head.specs.Algorithm.{is_mac_of}
-use Rattle.cose_mac.specs.Hmac.{mac}
 use Rattle.cose_map.specs.Key.Value.{KeyValue}
 use Rattle.cose_map.specs.Key.View.{key_value}
 use Rattle.cose_msg.specs.declared.phase.Phase.{Phase}
 use Rattle.cose_msg.specs.declared.phase.Phase.TheVariants as phases
 use Rattle.cose_msg.specs.declared.phase.Signed.{Signed}
-use Rattle.cose_msg.specs.declared.verdict.Verdict.{Verdict}
 use Rattle.cose_msg.specs.declared.verdict.Verdict.TheVariants.{Authentic}
 use Rattle.cose_msg.specs.declared.verifier.Chosen as code
 use Rattle.cose_msg.specs.declared.verifier.Verifier.{Verifier}
@@ -19,7 +17,7 @@ use Rattle.cose_msg.specs.Answer.{Answer, Chosen, complete, decided, refused}
 use Rattle.cose_msg.specs.Chosen.{chosen_value}
 use Rattle.cose_msg.specs.Hashing.{authenticator, result_of}
 use Rattle.cose_msg.specs.Laws.{then_verified}
-use Rattle.cose_msg.specs.Message.{Decides, Setting, comparing, digest_signed, judged, secret_of, structure}
+use Rattle.cose_msg.specs.Message.{Decides, Setting, comparing, digest_signed, judged, structure}
 use Rattle.cose_msg.specs.Phases.{headers_told}
 use Rattle.cose_msg.specs.Reading.{Reading, settled}
 use Rattle.cose_msg.specs.Verifier.{HoldsIn, Known, StandsFor, left_in, whole_of}

@@ -1,5 +1,5 @@
 -- A run of the verifier so far, and its exits.
-use Rattle.std.proofs.Common.{◌≡◌, ℕ, zero, suc, ◌+◌, ◌-◌, ◌*◌, ◌^◌, ◌<◌, ◌≤◌, Bool, true, false, List, [], ◌∷◌, ◌++◌, length, take, Option, None, Some, Ok, Err, refl, sym, ap, subst, ◌∙◌, append_assoc, arith, inl, inr, length-append}
+use Rattle.std.proofs.Common.{◌≡◌, ℕ, zero, suc, ◌+◌, ◌-◌, ◌*◌, ◌^◌, ◌<◌, ◌≤◌, Bool, true, false, List, [], ◌++◌, length, take, Option, None, Some, Ok, Err, refl, sym, ap, subst, ◌∙◌, append_assoc, arith, inl, inr, length-append}
 use Rattle.std.specs.Prelude.{Result, IfOk, IsOk, OnOk, is_err, min, ◌||◌, ◌⊎◌}
 use Rattle.std.specs.Io.KnownBytes.{Appends, Consumes, IsAtEnd}
 use Rattle.std.proofs.KnownBytes.{Consumes-nil, Consumes-trans, Appends-nil, Appends-trans}
@@ -15,14 +15,14 @@ use Rattle.cose_msg.specs.declared.verdict.Stop.{Stop}
 use Rattle.cose_msg.specs.declared.verdict.Stop.TheVariants as stops
 use Rattle.cose_msg.specs.declared.verdict.Verdict.{Verdict}
 use Rattle.cose_msg.specs.declared.verifier.Verifier.{Verifier}
-use Rattle.cose_msg.specs.Answer.{Answer, decided}
+use Rattle.cose_msg.specs.Answer.{decided}
 use Rattle.cose_msg.specs.Intake.{KeepsOrForgets, TakesInAll, is_end, marks}
 use Rattle.cose_msg.specs.Kept.{HasTaken, answer_kept, verdict_in}
-use Rattle.cose_msg.specs.Laws.{AllAreFair, MessageStandsInside, VerdictStays, VerifiedWithin, VerifyingGoesLast, StandsBy, answered, payload_at_most, then_verified}
+use Rattle.cose_msg.specs.Laws.{AllAreFair, MessageStandsInside, VerdictStays, VerifiedWithin, VerifyingGoesLast, payload_at_most, then_verified}
 use Rattle.cose_msg.specs.Message.{Decides, Setting, comparing, message, verdict_of, verifying}
 use Rattle.cose_msg.specs.Phase.{grown, in_payload, is_settled, want_of}
 use Rattle.cose_msg.specs.Reading.{Reading, settled}
-use Rattle.cose_msg.specs.Run.{IsVerdict, Run, read_as}
+use Rattle.cose_msg.specs.Run.{Run, read_as}
 use Rattle.cose_msg.specs.Sink.{AppendsFront, Puts}
 use Rattle.cose_msg.specs.Verifier.{Counts, HoldsIn, StandsFor, left_in}
 

@@ -91,3 +91,6 @@ pub fn verify<
         }
     }
 }
+
+#[cfg(test)]
+mod tests;

@@ -1,10 +1,10 @@
-use Rattle.std.proofs.Common.{◌≡◌, ℕ, ◌<◌, ◌≤◌, true, false, List, [], ◌++◌, length, take, Option, Some, None, Ok, Err, refl, sym, ap, subst, ◌∙◌, arith, append_assoc}
+use Rattle.std.proofs.Common.{◌≡◌, ℕ, ◌<◌, ◌≤◌, true, false, List, [], length, take, refl, sym, ap, ◌∙◌, arith, append_assoc}
 use Rattle.std.proofs.lemmas.List.{length-take}
 use Rattle.std.proofs.KnownBytes.{Consumes-nil, Appends-nil}
 use Rattle.cose_msg.specs.Message.{comparing}
 use Rattle.cose_msg.specs.Phase.{in_payload, want_of}
 use Rattle.cose_msg.proofs.PayloadLimit.{payload_within}
-use Rattle.cose_msg.proofs.Runs.{at_start, concluded, counted_stands, first_of, goes_on, is_done, kept_run, marks_nothing, not_at_end, not_stopped, promise_kept, put_done, put_failed, sure_enough, of_all, of_any, or_false, settled_if_none_asked, stopped_by_intake, stopped_by_sink, take_short, wanted_is_open}
+use Rattle.cose_msg.proofs.Runs.{at_start, concluded, counted_stands, first_of, goes_on, is_done, kept_run, marks_nothing, not_at_end, not_stopped, promise_kept, put_done, put_failed, sure_enough, of_all, of_any, settled_if_none_asked, stopped_by_intake, stopped_by_sink, take_short}
 use Rattle.cose_msg.proofs.run.verify.Goals.{else-in_payload-via-then-in_payload+else-is_err, else-in_payload-via-else-in_payload}
 use Rattle.cose_msg.proofs.run.verify.Goals as goal
 

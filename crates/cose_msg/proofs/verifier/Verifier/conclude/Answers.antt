@@ -1,6 +1,5 @@
-use Rattle.std.proofs.Common.{rules, ◌≡◌, true, false, Some, ◌∙◌, sym, ap, refl}
+use Rattle.std.proofs.Common.{rules, ◌≡◌, false, ◌∙◌, sym, ap, refl}
 use Rattle.cose_msg.specs.Answer.{decided}
-use Rattle.cose_msg.specs.Laws.{then_verified}
 use Rattle.cose_msg.specs.Phase.{is_settled}
 use Rattle.cose_msg.proofs.verifier.Verifier.conclude.Goals as goal
 

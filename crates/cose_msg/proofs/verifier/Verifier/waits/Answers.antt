@@ -1,4 +1,4 @@
-use Rattle.std.proofs.Common.{◌≡◌, ℕ, ◌<◌, ◌≤◌, List, [], ◌++◌, length, arith}
+use Rattle.std.proofs.Common.{◌<◌, [], arith}
 use Rattle.std.proofs.lemmas.List.{append-nil}
 use Rattle.cose_msg.proofs.Waits.{WalkerWaits, stands_open, stands_settled, stands_told, stands_payload, stands_truncated}
 use Rattle.cose_msg.proofs.verifier.Verifier.waits.Goals as goal
