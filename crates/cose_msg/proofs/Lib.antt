@@ -8,6 +8,9 @@ mod Fair
 mod Settles
 mod Bounds
 mod Last
+mod Spelled
+mod SpelledMessages
+mod Authentications
 mod Choices
 mod ChoiceReadings
 mod Opened

@@ -6,6 +6,8 @@ pub mod Front
 pub mod Message
 pub mod Grammar
 pub mod Making
+pub mod Authentic
+pub mod GrammarLaws
 pub mod Laws
 pub mod BareHead
 pub mod Hashing

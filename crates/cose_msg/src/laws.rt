@@ -1,8 +1,9 @@
 //! Laws of the definitions that the contracts cite. A law is a function that does nothing, and whose contract is the law.
 
+ghost use Rattle.cose_msg.specs.GrammarLaws.{MessageIsArrayOfFour, MessageIsAuthentic, MessageIsRead};
 ghost use Rattle.cose_msg.specs.Laws.{AllAreFair, ComparingGoesLast, FinishGoesLast, MessageEndsTruncated, MessageIsBounded, MessageIsDefinite, MessageIsInspectedWithin, MessageIsVerifiedWithin, MessageStandsInside, MessageStays, OpenEarlier, OpenIsTruncated, VerdictStays, VerifyingGoesLast};
 
-use cose_head::laws::{bare_head_is_spelling, read_stays, read_steps};
+use cose_head::laws::{bare_head_is_spelling, read_is_spelling, read_stays, read_steps};
 use cose_map::laws::{refusals_are_not_truncated, refusals_stand_inside};
 
 /// What the bytes of a message come to stays when bytes follow, once it is settled, whether the message is verified or
@@ -55,3 +56,24 @@ pub fn deciding_goes_last()
     ensures comparing { ComparingGoesLast }
     ensures verifying { VerifyingGoesLast }
 {}
+
+/// A message that the grammar spells is read as what it is, whatever bytes follow it: its parts are those that are spelled (RFC
+/// 9052 sections 2, 3, 4.2 and 6.2). It is one item: an array of four elements, perhaps in the message's tag, and that perhaps in
+/// the tag of a CWT (RFC 8392 section 6).
+pub fn spelled_is_read()
+    ensures read { MessageIsRead }
+    ensures one_item { MessageIsArrayOfFour }
+{
+    // That what spells a head or an item is read as one is all that the proof rests on.
+    bare_head_is_spelling();
+    read_is_spelling();
+}
+
+/// A message whose authentication holds is authentic, whatever bytes follow it: its tag is the MAC of its structure (RFC 9052
+/// section 6.3), or whoever verifies signatures says that its signature is good for the digest of its structure (section 4.4).
+pub fn authentication_decides()
+    ensures holds { MessageIsAuthentic }
+{
+    bare_head_is_spelling();
+    read_is_spelling();
+}
