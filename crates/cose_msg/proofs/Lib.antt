@@ -8,8 +8,13 @@ mod Fair
 mod Settles
 mod Bounds
 mod Last
+mod Spellings
 mod Spelled
 mod SpelledMessages
+mod FoundForms
+mod Found
+mod FoundFronts
+mod FoundMessages
 mod Authentications
 mod Choices
 mod ChoiceReadings

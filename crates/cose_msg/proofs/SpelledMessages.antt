@@ -12,11 +12,12 @@ use Rattle.cose_msg.specs.declared.context.Wanted.{Wanted}
 use Rattle.cose_msg.specs.declared.context.Wanted.TheVariants as wants
 use Rattle.cose_msg.specs.Answer.{Chosen, Headers, Whole}
 use Rattle.cose_msg.specs.Front.{wants_kind, array_head, past_array_head, kind_of_tag, past_tag, past_second_head, second_head, past_untagged, past_first_head, first_head}
-use Rattle.cose_msg.specs.Grammar.{tag_number, is_untagged, IsArrayOfFour, IsFront, untagged, tagged, in_cwt, Spellings, spelling, protected_at, unprotected_at, payload_at, auth_at, IsMessage, four_elements, SpellsMessage, bare, in_tag, in_cwt_tag}
+use Rattle.cose_msg.specs.Grammar.{tag_number, is_untagged, IsArrayOfFour, IsFront, untagged, tagged, in_cwt, Spellings, protected_at, unprotected_at, payload_at, auth_at, IsMessage, four_elements, SpellsMessage, bare, in_tag, in_cwt_tag}
 use Rattle.cose_msg.specs.Message.{message}
 use Rattle.cose_msg.specs.Phases.{nothing_told, protected_told, headers_told, finish, auth_head, auth_head_fault, past_payload, payload_head, payload_head_fault, is_too_long, both_buckets, placed_at, past_unprotected, unprotected, past_protected, protected_head, protected_head_fault}
 use Rattle.cose_msg.specs.Reading.{Phase, settled}
 use Rattle.cose_msg.specs.Rules.{Rules}
+use Rattle.cose_msg.proofs.Spellings.{all_apart, spelled_length}
 use Rattle.cose_msg.proofs.Spelled.{SpellingLaws, head_of_width, head_read, item_read, byte_string_read}
 
 module _ (laws : SpellingLaws) (rules : Rules) where
@@ -119,17 +120,6 @@ module _ (laws : SpellingLaws) (rules : Rules) where
       ∙ ends_at kind place front begins.head begins.rest more begins.whole))
 
   -- ---- the message
-
-  all_apart : (s : Spellings) (more : List ℕ) → spelling s ++ more ≡ s.front ++ (s.protected ++ (s.unprotected ++ (s.payload ++ (s.auth ++ more))))
-  all_apart s more =
-      append_assoc s.front (s.protected ++ (s.unprotected ++ (s.payload ++ s.auth))) more
-      ∙ ap (λ (rest : List ℕ). s.front ++ rest) (append_assoc s.protected (s.unprotected ++ (s.payload ++ s.auth)) more
-      ∙ ap (λ (rest : List ℕ). s.protected ++ rest) (append_assoc s.unprotected (s.payload ++ s.auth) more
-      ∙ ap (λ (rest : List ℕ). s.unprotected ++ rest) (append_assoc s.payload s.auth more)))
-
-  -- A message ends where its last element does.
-  spelled_length : (s : Spellings) → length (spelling s) ≡ auth_at s + length s.auth
-  spelled_length s = omega (arith, length-append s.front (s.protected ++ (s.unprotected ++ (s.payload ++ s.auth))), length-append s.protected (s.unprotected ++ (s.payload ++ s.auth)), length-append s.unprotected (s.payload ++ s.auth), length-append s.payload s.auth)
 
   elements_read : (bytes more : List ℕ) (whole : Whole) (m : IsMessage rules bytes whole) → let s = m.spelled in
       protected_head rules whole.headers.kind (protected_at s) (s.protected ++ (s.unprotected ++ (s.payload ++ (s.auth ++ more)))) ≡ settled (headers_told whole.headers whole.payload) (rules.finish (record {

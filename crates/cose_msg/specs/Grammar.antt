@@ -1,5 +1,5 @@
 -- A message by the grammar of items (RFC 9052 sections 2, 4.2 and 6.2, RFC 8392 section 6): its parts, each with its spelling.
-use Rattle.std.specs.Prelude.{◌≡◌, ℕ, ◌+◌, ◌-◌, ◌≤◌, List, ◌++◌, length, Bool, true, false, None, Some, Ok}
+use Rattle.std.specs.Prelude.{◌≡◌, ℕ, ◌+◌, ◌-◌, ◌≤◌, List, ◌++◌, length, Bool, true, false, None, Ok}
 use Rattle.cose_head.specs.declared.kind.Kind.{Kind}
 use Rattle.cose_head.specs.declared.kind.Kind.TheVariants as kinds
 use Rattle.cose_head.specs.Item.{Item, byte_string, array, tag, no_items, item, depth_of, Spells, IsHead, Begins}

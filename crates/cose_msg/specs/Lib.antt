@@ -8,6 +8,7 @@ pub mod Grammar
 pub mod Making
 pub mod Authentic
 pub mod GrammarLaws
+pub mod Unrefused
 pub mod Laws
 pub mod BareHead
 pub mod Hashing

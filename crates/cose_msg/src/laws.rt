@@ -1,7 +1,8 @@
 //! Laws of the definitions that the contracts cite. A law is a function that does nothing, and whose contract is the law.
 
-ghost use Rattle.cose_msg.specs.GrammarLaws.{MessageIsArrayOfFour, MessageIsAuthentic, MessageIsRead};
+ghost use Rattle.cose_msg.specs.GrammarLaws.{AuthenticIsMessage, MessageIsArrayOfFour, MessageIsRead};
 ghost use Rattle.cose_msg.specs.Laws.{AllAreFair, ComparingGoesLast, FinishGoesLast, MessageEndsTruncated, MessageIsBounded, MessageIsDefinite, MessageIsInspectedWithin, MessageIsVerifiedWithin, MessageStandsInside, MessageStays, OpenEarlier, OpenIsTruncated, VerdictStays, VerifyingGoesLast};
+ghost use Rattle.cose_msg.specs.Unrefused.{ShapedIsMessage, UnrefusedIsMessage, WholeIsMessage};
 
 use cose_head::laws::{bare_head_is_spelling, read_is_spelling, read_stays, read_steps};
 use cose_map::laws::{refusals_are_not_truncated, refusals_stand_inside};
@@ -57,6 +58,19 @@ pub fn deciding_goes_last()
     ensures verifying { VerifyingGoesLast }
 {}
 
+/// Bytes that aren't refused begin with a message by the grammar (RFC 9052 sections 2, 3, 4.2 and 6.2): each part that was read is
+/// spelled, and within its limits, and the bytes come to what the parts do. So they are read as a whole message exactly where they
+/// begin with one that has these parts, and have a shape exactly where they begin with one of that kind and of these lengths.
+pub fn unrefused_is_message()
+    ensures any { UnrefusedIsMessage }
+    ensures whole { WholeIsMessage }
+    ensures shaped { ShapedIsMessage }
+{
+    // That what is read as a head or an item is spelled, and what is spelled is read, is all that the proof rests on.
+    bare_head_is_spelling();
+    read_is_spelling();
+}
+
 /// A message that the grammar spells is read as what it is, whatever bytes follow it: its parts are those that are spelled (RFC
 /// 9052 sections 2, 3, 4.2 and 6.2). It is one item: an array of four elements, perhaps in the message's tag, and that perhaps in
 /// the tag of a CWT (RFC 8392 section 6).
@@ -69,10 +83,11 @@ pub fn spelled_is_read()
     read_is_spelling();
 }
 
-/// A message whose authentication holds is authentic, whatever bytes follow it: its tag is the MAC of its structure (RFC 9052
-/// section 6.3), or whoever verifies signatures says that its signature is good for the digest of its structure (section 4.4).
+/// Bytes are authentic exactly where they begin with a message by the grammar, with the one key that fits, whose authentication
+/// holds: its tag is the MAC of its structure (RFC 9052 section 6.3), or whoever verifies signatures says that its signature is
+/// good for the digest of its structure (section 4.4).
 pub fn authentication_decides()
-    ensures holds { MessageIsAuthentic }
+    ensures authentic { AuthenticIsMessage }
 {
     bare_head_is_spelling();
     read_is_spelling();
