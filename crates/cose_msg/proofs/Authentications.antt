@@ -24,12 +24,25 @@ front_finished rules finish kind front (in_cwt admitted wanted begins) = in_cwt 
 -- Two rules that differ in what a whole message comes to alone have the same messages.
 finished : (rules : Rules) (finish : Whole → Answer) (bytes : List ℕ) (whole : Whole) → IsMessage rules bytes whole → IsMessage (record rules { finish = finish }) bytes whole
 finished rules finish bytes whole m = record {
-  spelled = m.spelled; is = m.is; front = front_finished rules finish whole.headers.kind m.spelled.front m.front;
-  protected = m.protected; protected_fits = m.protected_fits; protected_read = m.protected_read;
-  bucket = m.bucket; unprotected = m.unprotected; unprotected_fits = m.unprotected_fits; unprotected_nests = m.unprotected_nests; unprotected_read = m.unprotected_read;
-  together = m.together; chosen = m.chosen;
-  payload = m.payload; payload_fits = m.payload_fits;
-  auth = m.auth; auth_fits = m.auth_fits; auth_place = m.auth_place; ends = m.ends;
+  spelled = m.spelled;
+  is = m.is;
+  front = front_finished rules finish whole.headers.kind m.spelled.front m.front;
+  protected = m.protected;
+  protected_fits = m.protected_fits;
+  protected_read = m.protected_read;
+  bucket = m.bucket;
+  unprotected = m.unprotected;
+  unprotected_fits = m.unprotected_fits;
+  unprotected_nests = m.unprotected_nests;
+  unprotected_read = m.unprotected_read;
+  together = m.together;
+  chosen = m.chosen;
+  payload = m.payload;
+  payload_fits = m.payload_fits;
+  auth = m.auth;
+  auth_fits = m.auth_fits;
+  auth_place = m.auth_place;
+  ends = m.ends;
 }
 
 -- ---- comparing, and deciding where nothing was compared
@@ -53,7 +66,7 @@ pub message_is_authentic : SpellingLaws → MessageIsAuthentic
 message_is_authentic laws room nesting setting decides bytes kind alg payload taken a =
     let rules : Rules = verifying room nesting setting decides in
     let is : IsMessage rules (take a.whole.taken bytes) a.whole =
-        finished (uncompared room nesting setting) rules.finish (take a.whole.taken bytes) a.whole (subst (λ (n : ℕ). IsMessage (uncompared room nesting setting) (take n bytes) a.whole) a.taken_is a.message) in
+    finished (uncompared room nesting setting) rules.finish (take a.whole.taken bytes) a.whole (subst (λ (n : ℕ). IsMessage (uncompared room nesting setting) (take n bytes) a.whole) a.taken_is a.message) in
     begins_read laws rules bytes a.whole (record { within = omega (arith, a.taken_is, a.within); message = is })
     ∙ (ap (λ (chosen : Option Chosen). verified setting.aad decides chosen (compared setting.aad chosen a.whole)) a.chosen
     ∙ (judged_by setting.aad decides a.found a.whole
@@ -92,15 +105,21 @@ authentic_is_message laws room nesting setting decides bytes kind alg payload ta
   where
     rules : Rules
     rules = verifying room nesting setting decides
+
     there : verdict_of room nesting setting decides bytes ≡ decided (Authentic kind alg payload taken) → IsAuthentic room nesting setting decides bytes kind alg payload taken
     there e =
         let m = message_found laws rules bytes (decided (Authentic kind alg payload taken)) (λ reason place never. cc) e in
         let a = authentication_found setting.aad decides m.whole.chosen m.whole kind alg payload taken m.comes in
         let is : IsMessage (uncompared room nesting setting) (take m.whole.taken bytes) m.whole = finished rules complete (take m.whole.taken bytes) m.whole m.begins.message in
         record {
-          whole = m.whole; found = a.found;
+          whole = m.whole;
+          found = a.found;
           within = omega (arith, a.holds.taken_is, m.begins.within);
           message = subst (λ (n : ℕ). IsMessage (uncompared room nesting setting) (take n bytes) m.whole) (sym a.holds.taken_is) is;
-          chosen = a.chosen_is; holds = a.holds.is;
-          kind_is = a.holds.kind_is; alg_is = a.holds.alg_is; payload_is = a.holds.payload_is; taken_is = a.holds.taken_is;
+          chosen = a.chosen_is;
+          holds = a.holds.is;
+          kind_is = a.holds.kind_is;
+          alg_is = a.holds.alg_is;
+          payload_is = a.holds.payload_is;
+          taken_is = a.holds.taken_is;
         }

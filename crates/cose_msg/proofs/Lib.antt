@@ -16,6 +16,10 @@ mod Found
 mod FoundFronts
 mod FoundMessages
 mod Authentications
+mod SpelledItems
+mod SpelledBuckets
+mod MadeHeaders
+mod MadeMessages
 mod Choices
 mod ChoiceReadings
 mod Opened

@@ -32,7 +32,7 @@ string_read told n next place content more is =
 module _ (laws : SpellingLaws) where
   -- ---- a head
 
-  head_found : (major argument : ℕ) (head more : List ℕ) → (major == 7) ≡ false → IsHead head major argument → bare_head (head ++ more) ≡ Got (head_of_width major argument (length head)) (length head)
+  pub head_found : (major argument : ℕ) (head more : List ℕ) → (major == 7) ≡ false → IsHead head major argument → bare_head (head ++ more) ≡ Got (head_of_width major argument (length head)) (length head)
   head_found major argument head more leaf is = (laws.head (head ++ more) (head_of_width major argument (length head)) (length head)).1 (record {
     part = head;
     rest = more;

@@ -9,6 +9,7 @@ pub mod Making
 pub mod Authentic
 pub mod GrammarLaws
 pub mod Unrefused
+pub mod MakingLaws
 pub mod Laws
 pub mod BareHead
 pub mod Hashing

@@ -1,10 +1,15 @@
 //! Laws of the definitions that the contracts cite. A law is a function that does nothing, and whose contract is the law.
 
 ghost use Rattle.cose_msg.specs.GrammarLaws.{AuthenticIsMessage, MessageIsArrayOfFour, MessageIsRead};
+ghost use Rattle.cose_msg.specs.MakingLaws.{MadeIsAuthentic};
 ghost use Rattle.cose_msg.specs.Laws.{AllAreFair, ComparingGoesLast, FinishGoesLast, MessageEndsTruncated, MessageIsBounded, MessageIsDefinite, MessageIsInspectedWithin, MessageIsVerifiedWithin, MessageStandsInside, MessageStays, OpenEarlier, OpenIsTruncated, VerdictStays, VerifyingGoesLast};
 ghost use Rattle.cose_msg.specs.Unrefused.{ShapedIsMessage, UnrefusedIsMessage, WholeIsMessage};
 
-use cose_head::laws::{bare_head_is_spelling, read_is_spelling, read_stays, read_steps};
+use cose_head::laws::{
+    bare_head_is_spelling, look_is_of_tree, read_is_spelling, read_stays, read_steps,
+    shortest_is_spelling, whole_is_one_item,
+};
+use cose_mac::laws::mac_has_its_length;
 use cose_map::laws::{refusals_are_not_truncated, refusals_stand_inside};
 
 /// What the bytes of a message come to stays when bytes follow, once it is settled, whether the message is verified or
@@ -91,4 +96,18 @@ pub fn authentication_decides()
 {
     bare_head_is_spelling();
     read_is_spelling();
+}
+
+/// What is made is authentic, whatever bytes follow it: for whoever wants a COSE_Mac0 (RFC 9052 section 6.2) or any tagged message,
+/// has the same external data, and one key that fits, with the same secret, and has room for the unprotected header and the payload.
+pub fn made_is_authentic()
+    ensures { MadeIsAuthentic }
+{
+    // That the shortest spelling of an item is read as the item, and that a MAC has its algorithm's length.
+    bare_head_is_spelling();
+    read_is_spelling();
+    shortest_is_spelling();
+    whole_is_one_item();
+    look_is_of_tree();
+    mac_has_its_length();
 }

@@ -1,0 +1,13 @@
+use Rattle.cose_msg.proofs.MadeMessages.{MadeLaws, made_is_authentic}
+use Rattle.cose_msg.proofs.Spelled.{SpellingLaws}
+use Rattle.cose_msg.proofs.SpelledItems.{ItemLaws}
+use Rattle.cose_msg.proofs.SpelledBuckets.{ShortestLaws}
+use Rattle.cose_msg.proofs.laws.made_is_authentic.Goals as goal
+
+pub returns : goal.returns
+returns c =
+    let spelling : SpellingLaws = record { head = c.bare_head_is_spelling.ensures.spelled; item = c.read_is_spelling.ensures.spelled } in
+    let items : ItemLaws = record { read = c.read_is_spelling.ensures.spelled; whole = c.whole_is_one_item.ensures.accepted; look = c.look_is_of_tree.ensures.look } in
+    let shortest : ShortestLaws = record { spelling = spelling; items = items; shortest = c.shortest_is_spelling.ensures.item } in
+    let laws : MadeLaws = record { shortest = shortest; mac = c.mac_has_its_length.ensures } in
+    made_is_authentic laws

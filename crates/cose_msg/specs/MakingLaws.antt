@@ -1,0 +1,45 @@
+-- What is made is authentic.
+use Rattle.std.specs.Prelude.{◌≡◌, ℕ, ◌^◌, ◌<◌, ◌≤◌, true, List, ◌++◌, length, Option, Some, None, Ok}
+use Rattle.cose_head.specs.Algorithm.{algorithm_number}
+use Rattle.cose_head.specs.Shortest.{shortest}
+use Rattle.cose_head.specs.declared.algorithm.Alg.{Alg}
+use Rattle.cose_head.specs.declared.kind.Kind.TheVariants.{Mac0}
+use Rattle.cose_map.specs.Choice.{Question, chosen}
+use Rattle.cose_map.specs.Key.Value.{KeyValue}
+use Rattle.cose_map.specs.Label.{number}
+use Rattle.cose_msg.specs.declared.verdict.Verdict.TheVariants.{Authentic}
+use Rattle.cose_msg.specs.Answer.{decided}
+use Rattle.cose_msg.specs.Front.{wants_kind}
+use Rattle.cose_msg.specs.Making.{made, unprotected_made}
+use Rattle.cose_msg.specs.Message.{Decides, Setting, operation_of, secret_of, verdict_of}
+
+-- What the message that is made asks of the key that verifies it (RFC 9052 section 7.1): its algorithm is protected, and
+-- its kid, if there is one, is not.
+abbrev pub question_made : Alg → Option (List ℕ) → Question
+question_made alg kid = record {
+  kind = Mac0;
+  operation = operation_of Mac0;
+  protected_alg = Some (number (algorithm_number alg));
+  unprotected_alg = None;
+  kid = kid;
+}
+
+-- Who verifies has room for it, wants its kind, and has one key that fits, with the same secret.
+pub record Admits (room nesting : ℕ) (setting : Setting) (alg : Alg) (secret : List ℕ) (kid : Option (List ℕ)) (payload : List ℕ) : Type 0 where
+  pub some_room : 16 ≤ room
+  pub limit : room ≤ 65535
+  pub nests : 1 ≤ nesting
+  pub unprotected_fits : length (shortest (unprotected_made kid)) ≤ room
+  pub payload_below : length payload < 2 ^ 56
+  pub payload_within : length payload ≤ setting.payload_limit
+  pub wanted : wants_kind setting.wanted Mac0 ≡ true
+  pub key : KeyValue
+  pub secret_is : secret_of key.material ≡ secret
+  pub chosen : chosen (question_made alg kid) setting.keys ≡ Ok (key, algorithm_number alg)
+
+-- What is made under the same external data is authentic there, whatever bytes follow it.
+abbrev pub MadeIsAuthentic : Type 0
+MadeIsAuthentic = (room nesting : ℕ) (setting : Setting) (decides : Decides) (alg : Alg) (secret : List ℕ) (kid : Option (List ℕ)) (payload more : List ℕ) →
+    Admits room nesting setting alg secret kid payload →
+    let message = made alg secret kid setting.aad payload in
+    verdict_of room nesting setting decides (message ++ more) ≡ decided (Authentic Mac0 alg (length payload) (length message))
