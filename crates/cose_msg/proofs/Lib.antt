@@ -11,6 +11,7 @@ mod Last
 mod Spellings
 mod Spelled
 mod SpelledMessages
+mod OneSpelling
 mod FoundForms
 mod Found
 mod FoundFronts
@@ -37,3 +38,4 @@ mod WorkedPayloads
 mod WorkedComparisons
 mod WorkedLimits
 mod WorkedShapes
+mod WorkedMaking

@@ -1,6 +1,7 @@
 -- What holds of a message that the grammar spells: it is read as what it is, and is authentic where its authentication holds.
 use Rattle.std.specs.Prelude.{◌≡◌, ◌↔◌, ℕ, List, ◌++◌}
 use Rattle.cose_head.specs.declared.kind.Kind.{Kind}
+use Rattle.cose_head.specs.Item.{Item}
 use Rattle.cose_head.specs.declared.algorithm.Alg.{Alg}
 use Rattle.cose_msg.specs.declared.verdict.Verdict.TheVariants.{Authentic}
 use Rattle.cose_msg.specs.Answer.{Whole, decided}
@@ -20,6 +21,12 @@ MessageIsRead = (rules : Rules) (bytes more : List ℕ) (whole : Whole) → IsMe
 abbrev pub MessageIsArrayOfFour : Type 0
 MessageIsArrayOfFour = (rules : Rules) (bytes : List ℕ) (whole : Whole) (m : IsMessage rules bytes whole) →
     SpellsMessage bytes whole.headers.kind (four_elements whole.headers.protected m.bucket whole.payload whole.auth)
+
+-- Bytes are at most one such array: what its elements are is determined.
+abbrev pub OneArrayOfFour : Type 0
+OneArrayOfFour = (bytes : List ℕ) (kind other : Kind) (protected payload auth other_protected other_payload other_auth : List ℕ) (bucket other_bucket : Item) →
+    SpellsMessage bytes kind (four_elements protected bucket payload auth) → SpellsMessage bytes other (four_elements other_protected other_bucket other_payload other_auth) →
+    four_elements protected bucket payload auth ≡ four_elements other_protected other_bucket other_payload other_auth
 
 -- Where the authentication of a message holds, the verdict is that it is authentic.
 abbrev pub MessageIsAuthentic : Type 0
