@@ -6,7 +6,7 @@ use Rattle.std.proofs.lemmas.List.{append-nil, take_at}
 use Rattle.std.proofs.lemmas.Slice.Eq.{bytes_eq-Decides}
 use Rattle.cose_head.specs.Algorithm.{auth_length_of, is_mac_of, algorithm_number}
 use Rattle.cose_head.specs.Head.{shortest_head}
-use Rattle.cose_head.specs.Item.{byte_string, depth_of, IsHead}
+use Rattle.cose_head.specs.Item.{byte_string, depth_of}
 use Rattle.cose_head.specs.Shortest.{shortest, shortest_all, HasShortest}
 use Rattle.cose_head.specs.declared.algorithm.Alg.{Alg}
 use Rattle.cose_head.specs.declared.algorithm.Alg.TheVariants.{Hmac64, Hmac256, Hmac384, Hmac512, Es256}
@@ -23,6 +23,7 @@ use Rattle.cose_msg.specs.Message.{Decides, Setting, key_choice_of, structure, t
 use Rattle.cose_msg.specs.Phases.{is_too_long}
 use Rattle.cose_msg.proofs.Authentications.{message_is_authentic}
 use Rattle.cose_msg.proofs.MadeHeaders.{numbered, chosen_is_mac, protected_length, kid_length, KidIsShort, headers_made, good_together, protected_bucket, unprotected_bucket, asks}
+use Rattle.cose_msg.proofs.Spelled.{one_byte_head}
 use Rattle.cose_msg.proofs.SpelledBuckets.{ShortestLaws}
 
 -- The laws of spellings and of MACs that these rest on.
@@ -47,14 +48,8 @@ made_is_spelled alg secret kid aad payload =
     ap (λ (last : List ℕ). 0xd1 ∷ 0x84 ∷ (shortest (byte_string (protected_made alg)) ++ (shortest (unprotected_made kid) ++ (shortest (byte_string payload) ++ last)))) (append-nil (shortest (byte_string (auth_made alg secret aad payload))))
 
 -- Tag 17, and the head of an array of four.
-tag_head : IsHead (0xd1 ∷ []) 6 17
-tag_head = record { initial = 0xd1; argument_bytes = []; whole = refl; has_major = refl; is_definite = omega arith; has_width = refl; has_argument = refl }
-
-array_head : IsHead (0x84 ∷ []) 4 4
-array_head = record { initial = 0x84; argument_bytes = []; whole = refl; has_major = refl; is_definite = omega arith; has_width = refl; has_argument = refl }
-
 front_is : (room nesting : ℕ) (setting : Setting) → wants_kind setting.wanted Mac0 ≡ true → IsFront (uncompared room nesting setting) Mac0 (0xd1 ∷ 0x84 ∷ [])
-front_is room nesting setting wanted = tagged wanted (record { head = 0xd1 ∷ []; rest = 0x84 ∷ []; whole = refl; is_head = tag_head; is_rest = array_head })
+front_is room nesting setting wanted = tagged wanted (record { head = 0xd1 ∷ []; rest = 0x84 ∷ []; whole = refl; is_head = one_byte_head 6 17 (omega arith) (omega arith); is_rest = one_byte_head 4 4 (omega arith) (omega arith) })
 
 kid_is_short : (kid : Option (List ℕ)) (room : ℕ) → room ≤ 65535 → length (shortest (unprotected_made kid)) ≤ room → KidIsShort kid
 kid_is_short None room limit fits = tt

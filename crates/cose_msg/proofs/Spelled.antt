@@ -1,12 +1,12 @@
 -- What is spelled is read: a head, a string and an item, each as a phase takes it.
-use Rattle.std.proofs.Common.{◌≡◌, ℕ, ◌+◌, ◌-◌, ◌≤◌, false, List, ◌++◌, length, Option, None, refl, sym, ap, ◌∙◌, append_assoc, arith, length-append, zero-add}
+use Rattle.std.proofs.Common.{◌≡◌, ℕ, ◌+◌, ◌-◌, ◌*◌, ◌<◌, ◌≤◌, true, false, List, [], ◌∷◌, ◌++◌, length, Option, None, refl, sym, ap, ◌∙◌, append_assoc, arith, length-append, zero-add}
 use Rattle.std.specs.Prelude.{◌==◌, Ok, nat_lt}
-use Rattle.std.proofs.lemmas.Bool.{le-ltb}
+use Rattle.std.proofs.lemmas.Bool.{le-ltb, lt-ltb}
 use Rattle.std.proofs.lemmas.List.{take_at, drop_at}
 use Rattle.cose_head.specs.declared.head.Head.{Head}
 use Rattle.cose_head.specs.declared.head.HeadStep.TheVariants.{Got}
 use Rattle.cose_head.specs.declared.reason.Reason.{Reason}
-use Rattle.cose_head.specs.Head.{bare_head}
+use Rattle.cose_head.specs.Head.{bare_head, low_of}
 use Rattle.cose_head.specs.Item.{Item, byte_string, depth_of, IsHead, Spells}
 use Rattle.cose_head.specs.Laws.{HeadIsSpelled, ReadIsSpelled}
 use Rattle.cose_head.specs.Measured.{left_of}
@@ -20,6 +20,22 @@ pub record SpellingLaws : Type 0 where
 
 abbrev pub head_of_width : ℕ → ℕ → ℕ → Head
 head_of_width major argument width = record { major = major; arg = argument; width = width }
+
+-- A head whose argument stands in its initial byte.
+pub one_byte_head : (major argument : ℕ) → major < 8 → argument < 24 → IsHead ((32 * major + argument) ∷ []) major argument
+one_byte_head major argument is_major is_low =
+    let initial : ℕ = 32 * major + argument in
+    let low : low_of initial ≡ argument = omega (arith, is_low) in
+    let small : nat_lt argument 24 ≡ true = lt-ltb argument 24 is_low in
+    record {
+      initial = initial;
+      argument_bytes = [];
+      whole = refl;
+      has_major = omega (arith, is_major, is_low);
+      is_definite = omega (arith, low, is_low);
+      has_width = rw (low, small) refl;
+      has_argument = rw (low, small) refl;
+    }
 
 -- ---- a string
 

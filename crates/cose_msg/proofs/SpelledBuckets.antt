@@ -16,7 +16,7 @@ use Rattle.cose_map.specs.Map.Pairs.{Pair}
 use Rattle.cose_map.specs.Map.Read.{check_pairs}
 use Rattle.cose_msg.specs.Making.{map_of_one}
 use Rattle.cose_msg.specs.Phases.{placed_at}
-use Rattle.cose_msg.proofs.Spelled.{SpellingLaws, head_found}
+use Rattle.cose_msg.proofs.Spelled.{SpellingLaws, head_found, one_byte_head}
 use Rattle.cose_msg.proofs.SpelledItems.{ItemLaws, whole_spelled, look_spelled, first_spelled}
 
 -- The laws of spellings that these rest on.
@@ -32,13 +32,6 @@ bucket_read depth p children pairs some is_whole is_map are_children good = rw (
 
 some_bytes : (byte : ℕ) (rest : List ℕ) → (length (byte ∷ rest) == 0) ≡ false
 some_bytes byte rest = ne_eqb (length (byte ∷ rest)) 0 (λ e. absurd (omega (arith, e)))
-
--- The heads of a map of no pair, and of one.
-head_of_none : IsHead (160 ∷ []) 5 0
-head_of_none = record { initial = 160; argument_bytes = []; whole = refl; has_major = refl; is_definite = omega arith; has_width = refl; has_argument = refl }
-
-head_of_one : IsHead (161 ∷ []) 5 1
-head_of_one = record { initial = 161; argument_bytes = []; whole = refl; has_major = refl; is_definite = omega arith; has_width = refl; has_argument = refl }
 
 -- One pair, whose value has its form.
 one_pair : (name : LabelValue) (label value : Placed) → label_of label ≡ Some name → bucket_table name value ≡ None
@@ -63,7 +56,7 @@ module _ (laws : ShortestLaws) where
   empty_bucket depth place nests =
       let p : Placed = placed_at place (160 ∷ []) in
       let spelled : Spells p.bytes (map no_items) = laws.shortest (map no_items) (0, omega arith, refl, tt) in
-      bucket_read depth p [] [] refl (whole_spelled laws.items depth p (map no_items) spelled nests) (look_spelled laws.items p (map no_items) spelled) (map_children place 0 (160 ∷ []) [] head_of_none) refl
+      bucket_read depth p [] [] refl (whole_spelled laws.items depth p (map no_items) spelled nests) (look_spelled laws.items p (map no_items) spelled) (map_children place 0 (160 ∷ []) [] (one_byte_head 5 0 (omega arith) (omega arith))) refl
 
   two_items : (place : ℕ) (label value : Item) → HasShortest label → HasShortest value → depth_of label ≡ 0 → depth_of value ≡ 0
       → items_from 2 (placed_at place (shortest label ++ (shortest value ++ []))) ≡ placed_at place (shortest label) ∷ placed_at (place + length (shortest label)) (shortest value) ∷ []
@@ -90,6 +83,6 @@ module _ (laws : ShortestLaws) where
       let rest : List ℕ = shortest label ++ (shortest value ++ []) in
       let p : Placed = placed_at place (161 ∷ rest) in
       let is = one_pair_whole depth p label value refl nests has_label has_value flat_label flat_value in
-      let children = map_children place 1 (161 ∷ []) rest head_of_one ∙ two_items (place + 1) label value has_label has_value flat_label flat_value in
+      let children = map_children place 1 (161 ∷ []) rest (one_byte_head 5 1 (omega arith) (omega arith)) ∙ two_items (place + 1) label value has_label has_value flat_label flat_value in
       let pair = one_pair name (placed_at (place + 1) (shortest label)) (placed_at (place + 1 + length (shortest label)) (shortest value)) (shortest_label (place + 1) label has_label ∙ named) formed in
       bucket_read depth p _ _ (some_bytes 161 rest) is.0 is.1 children pair

@@ -81,7 +81,8 @@ pub record IsMessage (rules : Rules) (bytes : List ℕ) (whole : Whole) : Type 0
   pub auth_place : whole.auth_at ≡ auth_at spelled
   pub ends : whole.taken ≡ length bytes
 
--- As one item of the grammar: an array of four, perhaps in the message's tag, and that perhaps in the tag of a CWT.
+-- As one item of the grammar: an array of four, perhaps in the message's tag, and that perhaps in the tag of a CWT. Bytes are
+-- at most one such array (GrammarLaws.antt).
 abbrev pub four_elements : List ℕ → Item → List ℕ → List ℕ → Item
 four_elements protected unprotected payload auth =
     array (item (byte_string protected) (item unprotected (item (byte_string payload) (item (byte_string auth) no_items))))

@@ -24,14 +24,17 @@ question_made alg kid = record {
   kid = kid;
 }
 
--- Who verifies has room for it, wants its kind, and has one key that fits, with the same secret.
+-- Who verifies admits the message: it fits, its kind is wanted, and one key fits, with the same secret.
 pub record Admits (room nesting : ℕ) (setting : Setting) (alg : Alg) (secret : List ℕ) (kid : Option (List ℕ)) (payload : List ℕ) : Type 0 where
+  -- the sizes of any verifier; a bucket that is a map has a nesting of 1
   pub some_room : 16 ≤ room
   pub limit : room ≤ 65535
   pub nests : 1 ≤ nesting
+  -- the unprotected header and the payload
   pub unprotected_fits : length (shortest (unprotected_made kid)) ≤ room
   pub payload_below : length payload < 2 ^ 56
   pub payload_within : length payload ≤ setting.payload_limit
+  -- the kind and the key
   pub wanted : wants_kind setting.wanted Mac0 ≡ true
   pub key : KeyValue
   pub secret_is : secret_of key.material ≡ secret
