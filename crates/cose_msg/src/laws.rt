@@ -102,7 +102,7 @@ pub fn authentication_decides()
 /// What is made is authentic, whatever bytes follow it: for whoever wants a COSE_Mac0 (RFC 9052 section 6.2) or any tagged message,
 /// has the same external data, and one key that fits, with the same secret, and has room for the unprotected header and the payload.
 pub fn made_is_authentic()
-    ensures { MadeIsAuthentic }
+    ensures authentic { MadeIsAuthentic }
 {
     // That the shortest spelling of an item is read as the item, and that a MAC has its algorithm's length.
     bare_head_is_spelling();

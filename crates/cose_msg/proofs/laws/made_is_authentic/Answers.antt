@@ -10,4 +10,4 @@ returns c =
     let items : ItemLaws = record { read = c.read_is_spelling.ensures.spelled; whole = c.whole_is_one_item.ensures.accepted; look = c.look_is_of_tree.ensures.look } in
     let shortest : ShortestLaws = record { spelling = spelling; items = items; shortest = c.shortest_is_spelling.ensures.item } in
     let laws : MadeLaws = record { shortest = shortest; mac = c.mac_has_its_length.ensures } in
-    made_is_authentic laws
+    record { authentic = made_is_authentic laws }
