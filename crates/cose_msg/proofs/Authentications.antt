@@ -5,45 +5,14 @@ use Rattle.cose_head.specs.Algorithm.{is_mac_of}
 use Rattle.cose_head.specs.declared.algorithm.Alg.{Alg}
 use Rattle.cose_head.specs.declared.kind.Kind.{Kind}
 use Rattle.cose_msg.specs.declared.verdict.Verdict.TheVariants.{Authentic}
-use Rattle.cose_msg.specs.Answer.{Answer, Chosen, Whole, complete, decided}
+use Rattle.cose_msg.specs.Answer.{Chosen, Whole, complete, decided}
 use Rattle.cose_msg.specs.Authentic.{authentication_holds, IsAuthentic}
-use Rattle.cose_msg.specs.Grammar.{IsFront, untagged, tagged, in_cwt, IsMessage}
+use Rattle.cose_msg.specs.Grammar.{IsMessage}
 use Rattle.cose_msg.specs.GrammarLaws.{AuthenticIsMessage, MessageIsAuthentic}
 use Rattle.cose_msg.specs.Message.{Decides, compared, digest_signed, judged, tag_of, uncompared, verdict_of, verified, verifying}
 use Rattle.cose_msg.specs.Rules.{Rules}
-use Rattle.cose_msg.proofs.FoundMessages.{message_found, begins_read}
+use Rattle.cose_msg.proofs.FoundMessages.{message_found, finished, begins_read}
 use Rattle.cose_msg.proofs.Spelled.{SpellingLaws}
-
--- ---- what a message is, whatever it comes to
-
-front_finished : (rules : Rules) (finish : Whole → Answer) (kind : Kind) (front : List ℕ) → IsFront rules kind front → IsFront (record rules { finish = finish }) kind front
-front_finished rules finish kind front (untagged wanted is) = untagged wanted is
-front_finished rules finish kind front (tagged wanted begins) = tagged wanted begins
-front_finished rules finish kind front (in_cwt admitted wanted begins) = in_cwt admitted wanted begins
-
--- Two rules that differ in what a whole message comes to alone have the same messages.
-finished : (rules : Rules) (finish : Whole → Answer) (bytes : List ℕ) (whole : Whole) → IsMessage rules bytes whole → IsMessage (record rules { finish = finish }) bytes whole
-finished rules finish bytes whole m = record {
-  spelled = m.spelled;
-  is = m.is;
-  front = front_finished rules finish whole.headers.kind m.spelled.front m.front;
-  protected = m.protected;
-  protected_fits = m.protected_fits;
-  protected_read = m.protected_read;
-  bucket = m.bucket;
-  unprotected = m.unprotected;
-  unprotected_fits = m.unprotected_fits;
-  unprotected_nests = m.unprotected_nests;
-  unprotected_read = m.unprotected_read;
-  together = m.together;
-  chosen = m.chosen;
-  payload = m.payload;
-  payload_fits = m.payload_fits;
-  auth = m.auth;
-  auth_fits = m.auth_fits;
-  auth_place = m.auth_place;
-  ends = m.ends;
-}
 
 -- ---- comparing, and deciding where nothing was compared
 

@@ -108,13 +108,13 @@ module _ (answer : Answer) (unrefused : NotRefused answer) (laws : SpellingLaws)
   auth_found : (headers : Headers) (chosen : Option Chosen) (payload : List ℕ) (place : ℕ) (bytes : List ℕ) → Comes (auth_head rules headers chosen payload) place bytes answer → AuthFound rules headers chosen payload place bytes answer
   auth_found headers chosen payload place bytes comes =
       let s = string_found answer unrefused laws (headers_told headers payload) (λ list. headers_told headers payload) (auth_head_fault rules chosen) (λ n. rules.auth_fits chosen n ≡ true)
-          (auth_passes (rules.auth_fits chosen)) (finish rules headers chosen payload) place bytes comes in
+      (auth_passes (rules.auth_fits chosen)) (finish rules headers chosen payload) place bytes comes in
       record { auth = s.content; part = s.part; rest = s.rest; is = s.is; spelled = s.spelled; fits = s.fits; comes = s.comes }
 
   payload_found : (headers : Headers) (chosen : Option Chosen) (place : ℕ) (bytes : List ℕ) → Comes (payload_head rules headers chosen) place bytes answer → PayloadFound rules headers chosen place bytes answer
   payload_found headers chosen place bytes comes =
       let s = string_found answer unrefused laws (headers_told headers []) (headers_told headers) (payload_head_fault rules) (λ n. is_too_long rules.payload_limit n ≡ false)
-          (payload_passes rules.payload_limit) (λ at. past_payload rules headers chosen) place bytes comes in
+      (payload_passes rules.payload_limit) (λ at. past_payload rules headers chosen) place bytes comes in
       record { payload = s.content; part = s.part; rest = s.rest; is = s.is; spelled = s.spelled; fits = s.fits; next = auth_found headers chosen s.content (place + length s.part) s.rest s.comes }
 
   choice_found : (headers : Headers) (choice : Result (Option Chosen) Reason) (place : ℕ) (bytes : List ℕ) → Comes (past_choice rules headers choice) place bytes answer → ValueFound choice (payload_head rules headers) place bytes answer
@@ -130,18 +130,35 @@ module _ (answer : Answer) (unrefused : NotRefused answer) (laws : SpellingLaws)
       let both = unless_found answer unrefused (headers_told headers []) (pair_fault pairs v.found rules.understood end) (key_choice rules headers) end s.rest v.comes in
       let c = choice_found headers (rules.choice headers) end s.rest both.1 in
       record {
-        bucket = s.content; part = s.part; rest = s.rest; is = s.is; spelled = s.spelled; fits = s.fits; nests = s.nests;
-        found = v.found; read = v.is; together = both.0; chosen = c.found; chosen_is = c.is;
+        bucket = s.content;
+        part = s.part;
+        rest = s.rest;
+        is = s.is;
+        spelled = s.spelled;
+        fits = s.fits;
+        nests = s.nests;
+        found = v.found;
+        read = v.is;
+        together = both.0;
+        chosen = c.found;
+        chosen_is = c.is;
         next = payload_found headers c.found end s.rest c.comes;
       }
 
   pub protected_found : (kind : Kind) (place : ℕ) (bytes : List ℕ) → Comes (protected_head rules kind) place bytes answer → ProtectedFound rules kind place bytes answer
   protected_found kind place bytes comes =
       let s = string_found answer unrefused laws nothing_told (λ list. nothing_told) (protected_head_fault rules) (λ n. n ≤ rules.room)
-          (protected_passes rules.room) (λ at. past_protected rules kind) place bytes comes in
+      (protected_passes rules.room) (λ at. past_protected rules kind) place bytes comes in
       let end : ℕ = place + length s.part in
       let v = value_found answer unrefused nothing_told (bucket_of rules.nesting (placed_at (end - length s.content) s.content)) (unprotected rules kind s.content) end s.rest s.comes in
       record {
-        protected = s.content; part = s.part; rest = s.rest; is = s.is; spelled = s.spelled; fits = s.fits;
-        found = v.found; read = v.is; next = unprotected_found kind s.content v.found end s.rest v.comes;
+        protected = s.content;
+        part = s.part;
+        rest = s.rest;
+        is = s.is;
+        spelled = s.spelled;
+        fits = s.fits;
+        found = v.found;
+        read = v.is;
+        next = unprotected_found kind s.content v.found end s.rest v.comes;
       }

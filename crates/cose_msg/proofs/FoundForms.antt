@@ -133,7 +133,11 @@ module _ (answer : Answer) (unrefused : NotRefused answer) where
         let long : length s.part ≡ used = s.wide ∙ sym s.ends in
         let left : drop used bytes ≡ s.rest = ap (λ (list : List ℕ). drop used list) s.whole ∙ drop_at s.part s.rest used long in
         record {
-          head = head; part = s.part; rest = s.rest; is = s.whole; is_head = s.is_head;
+          head = head;
+          part = s.part;
+          rest = s.rest;
+          is = s.whole;
+          is_head = s.is_head;
           comes = comes_at (next place head) (place + used) (place + length s.part) (drop used bytes) s.rest answer (ap (λ (n : ℕ). place + n) (sym long)) left comes;
         }
     past_head_found told next place bytes (More wanted) e comes = absurd (unrefused Truncated (place + length bytes) comes)
@@ -152,9 +156,13 @@ module _ (answer : Answer) (unrefused : NotRefused answer) where
         let front : take found.1.place bytes ≡ s.0.part = ap (λ (list : List ℕ). take found.1.place list) s.0.whole ∙ take_at s.0.part found.1.bytes found.1.place long in
         let left : drop found.1.place bytes ≡ found.1.bytes = ap (λ (list : List ℕ). drop found.1.place list) s.0.whole ∙ drop_at s.0.part found.1.bytes found.1.place long in
         let after : Comes (next place s.0.part) (place + found.1.place) (drop found.1.place bytes) answer =
-            subst (λ (list : List ℕ). Comes (next place list) (place + found.1.place) (drop found.1.place bytes) answer) front comes in
+        subst (λ (list : List ℕ). Comes (next place list) (place + found.1.place) (drop found.1.place bytes) answer) front comes in
         record {
-          content = found.0; part = s.0.part; rest = found.1.bytes; is = s.0.whole; spelled = s.0.is_part;
+          content = found.0;
+          part = s.0.part;
+          rest = found.1.bytes;
+          is = s.0.whole;
+          spelled = s.0.is_part;
           fits = omega (arith, s.0.room);
           nests = s.1;
           comes = comes_at (next place s.0.part) (place + found.1.place) (place + length s.0.part) (drop found.1.place bytes) found.1.bytes answer (ap (λ (n : ℕ). place + n) (sym long)) left after;
@@ -181,12 +189,14 @@ module _ (answer : Answer) (unrefused : NotRefused answer) where
         let fits = good h.head tested.0 in
         let s = bytes_found along h.head.arg (next place) begun h.rest tested.1 in
         let is_head : IsHead h.part 2 (length s.content) =
-            subst (λ (n : ℕ). IsHead h.part 2 n) (sym s.long) (subst (λ (major : ℕ). IsHead h.part major h.head.arg) fits.0 h.is_head) in
+        subst (λ (n : ℕ). IsHead h.part 2 n) (sym s.long) (subst (λ (major : ℕ). IsHead h.part major h.head.arg) fits.0 h.is_head) in
         let end : ℕ = place + length (h.part ++ s.content) in
         let begins : begun ≡ end - length s.content = omega (arith, length-append h.part s.content) in
         let ends : begun + h.head.arg ≡ end = omega (arith, length-append h.part s.content, s.long) in
         record {
-          content = s.content; part = h.part ++ s.content; rest = s.rest;
+          content = s.content;
+          part = h.part ++ s.content;
+          rest = s.rest;
           is = h.is ∙ ap (λ (list : List ℕ). h.part ++ list) s.is ∙ sym (append_assoc h.part s.content s.rest);
           spelled = spelled_string h.part s.content is_head;
           fits = subst Fits (sym s.long) fits.1;

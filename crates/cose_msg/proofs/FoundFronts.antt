@@ -130,7 +130,8 @@ module _ (answer : Answer) (unrefused : NotRefused answer) (laws : SpellingLaws)
   behind_tag IsPart kind place number bytes tag rest is is_head p =
       let end : place + length tag + length p.part ≡ place + length (tag ++ p.part) = omega (arith, length-append tag p.part) in
       record {
-        part = tag ++ p.part; rest = p.rest;
+        part = tag ++ p.part;
+        rest = p.rest;
         is = is ∙ ap (λ (list : List ℕ). tag ++ list) p.is ∙ sym (append_assoc tag p.part p.rest);
         is_part = record { head = tag; rest = p.part; whole = refl; is_head = is_head; is_rest = p.is_part };
         comes = comes_at (protected_head rules kind) (place + length tag + length p.part) (place + length (tag ++ p.part)) p.rest p.rest answer end refl p.comes;
@@ -143,7 +144,8 @@ module _ (answer : Answer) (unrefused : NotRefused answer) (laws : SpellingLaws)
       let number = kind_found rules.wanted head.arg k.found k.is in
       let array = array_found k.found (place + length part) rest k.comes in
       record {
-        kind = k.found; wanted = number.1;
+        kind = k.found;
+        wanted = number.1;
         found = behind_tag IsArrayOfFour k.found place (tag_number k.found) bytes part rest is (is_head_of part head 6 (tag_number k.found) is_head major number.0) array;
       }
 
@@ -166,7 +168,11 @@ module _ (answer : Answer) (unrefused : NotRefused answer) (laws : SpellingLaws)
 
   front_of : (IsPart : List ℕ → Type 0) (kind : Kind) (bytes : List ℕ) (p : PartFound IsPart rules kind 0 bytes answer) → IsFront rules kind p.part → FrontFound rules bytes answer
   front_of IsPart kind bytes p front = record {
-    kind = kind; part = p.part; rest = p.rest; is = p.is; front = front;
+    kind = kind;
+    part = p.part;
+    rest = p.rest;
+    is = p.is;
+    front = front;
     next = protected_found answer unrefused laws rules kind (length p.part) p.rest (comes_at (protected_head rules kind) (0 + length p.part) (length p.part) p.rest p.rest answer (zero-add (length p.part)) refl p.comes);
   }
 
@@ -175,7 +181,7 @@ module _ (answer : Answer) (unrefused : NotRefused answer) (laws : SpellingLaws)
       let h = head_found answer unrefused laws nothing_told (past_first_head rules) 0 bytes comes in
       let end : ℕ = 0 + length h.part in
       elim (one_of_three (is_cwt_tag rules.cwt h.head) (is_tag h.head) (is_array h.head) (second_head rules end h.rest) (past_tag rules 0 (kind_of_tag rules.wanted h.head.arg) end h.rest)
-          (past_untagged rules rules.wanted 0 h.head end h.rest) 0 h.comes) [
+      (past_untagged rules rules.wanted 0 h.head end h.rest) 0 h.comes) [
         | inl cwt ↦
             let tests = is_cwt_head rules.cwt h.head cwt.0 in
             let t = second_found end h.rest cwt.1 in

@@ -13,14 +13,19 @@ IsUnrefused (decided (Authentic kind alg payload taken)) = ⊤
 IsUnrefused (complete whole) = ⊤
 IsUnrefused (shaped kind payload auth taken) = ⊤
 
--- The first bytes, as many as are taken, are a message with these parts.
+-- The first bytes, as many as it takes, are a message with these parts.
 pub record BeginsWithMessage (rules : Rules) (bytes : List ℕ) (whole : Whole) : Type 0 where
   pub within : whole.taken ≤ length bytes
   pub message : IsMessage rules (take whole.taken bytes) whole
 
+-- Then there is one that they begin with, and they come to what the rules make of it.
 abbrev pub UnrefusedIsMessage : Type 0
 UnrefusedIsMessage = (rules : Rules) (bytes : List ℕ) → IsUnrefused (message rules bytes).answer →
     (whole : Whole) × BeginsWithMessage rules bytes whole × ((message rules bytes).answer ≡ rules.finish whole)
+
+-- It is the only one that they begin with.
+abbrev pub OneMessage : Type 0
+OneMessage = (rules : Rules) (bytes : List ℕ) (one other : Whole) → BeginsWithMessage rules bytes one → BeginsWithMessage rules bytes other → one ≡ other
 
 -- So they are read as a whole message, which nobody has decided on, exactly where they begin with one that has these parts.
 abbrev pub WholeIsMessage : Type 0

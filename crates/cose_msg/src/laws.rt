@@ -3,7 +3,7 @@
 ghost use Rattle.cose_msg.specs.GrammarLaws.{AuthenticIsMessage, MessageIsArrayOfFour, MessageIsRead, OneArrayOfFour};
 ghost use Rattle.cose_msg.specs.MakingLaws.{MadeIsAuthentic};
 ghost use Rattle.cose_msg.specs.Laws.{AllAreFair, ComparingGoesLast, FinishGoesLast, MessageEndsTruncated, MessageIsBounded, MessageIsDefinite, MessageIsInspectedWithin, MessageIsVerifiedWithin, MessageStandsInside, MessageStays, OpenEarlier, OpenIsTruncated, VerdictStays, VerifyingGoesLast};
-ghost use Rattle.cose_msg.specs.Unrefused.{ShapedIsMessage, UnrefusedIsMessage, WholeIsMessage};
+ghost use Rattle.cose_msg.specs.Unrefused.{OneMessage, ShapedIsMessage, UnrefusedIsMessage, WholeIsMessage};
 
 use cose_head::laws::{
     bare_head_is_spelling, look_is_of_tree, read_is_spelling, read_stays, read_steps,
@@ -63,11 +63,12 @@ pub fn deciding_goes_last()
     ensures verifying { VerifyingGoesLast }
 {}
 
-/// Bytes that aren't refused begin with a message by the grammar (RFC 9052 sections 2, 3, 4.2 and 6.2): each part that was read is
-/// spelled, and within its limits, and the bytes come to what the parts do. So they are read as a whole message exactly where they
-/// begin with one that has these parts, and have a shape exactly where they begin with one of that kind and of these lengths.
+/// Bytes that aren't refused begin with a message by the grammar (RFC 9052 sections 2, 3, 4.2 and 6.2), and with one alone: each
+/// part that was read is spelled, and within its limits, and the bytes come to what the parts do. So they are read as a whole
+/// message exactly where they begin with it, and have a shape exactly where they begin with one of that kind and of these lengths.
 pub fn unrefused_is_message()
     ensures any { UnrefusedIsMessage }
+    ensures one { OneMessage }
     ensures whole { WholeIsMessage }
     ensures shaped { ShapedIsMessage }
 {

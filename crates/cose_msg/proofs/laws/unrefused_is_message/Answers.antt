@@ -1,8 +1,8 @@
-use Rattle.cose_msg.proofs.FoundMessages.{unrefused_is_message, whole_is_message, shaped_is_message}
+use Rattle.cose_msg.proofs.FoundMessages.{unrefused_is_message, one_message, whole_is_message, shaped_is_message}
 use Rattle.cose_msg.proofs.Spelled.{SpellingLaws}
 use Rattle.cose_msg.proofs.laws.unrefused_is_message.Goals as goal
 
 pub returns : goal.returns
 returns c =
     let laws : SpellingLaws = record { head = c.bare_head_is_spelling.ensures.spelled; item = c.read_is_spelling.ensures.spelled } in
-    record { any = unrefused_is_message laws; whole = whole_is_message laws; shaped = shaped_is_message laws }
+    record { any = unrefused_is_message laws; one = one_message laws; whole = whole_is_message laws; shaped = shaped_is_message laws }
