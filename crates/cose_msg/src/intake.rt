@@ -130,3 +130,6 @@ impl<R: Read> Intake for ReadIntake<R> {
         }
     }
 }
+
+#[cfg(test)]
+pub(crate) mod tests;

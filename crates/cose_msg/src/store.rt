@@ -64,3 +64,6 @@ impl<const L: usize> Sink for Store<L> {
         Ok(())
     }
 }
+
+#[cfg(test)]
+mod tests;

@@ -1,3 +1,4 @@
 pub mod Replies
 pub mod Trailing
 pub mod Vouches
+pub mod WorkedPrinted

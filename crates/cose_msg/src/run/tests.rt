@@ -2,12 +2,11 @@
 
 ghost use Rattle.std.specs.Prelude.{◌<◌, ◌≤◌, IfSome, length};
 
+use crate::intake::tests::FailingReader;
 use crate::{
     Alg, Context, Intake, KeySet, Kind, Never, Nothing, ReadIntake, Reason, Refusal, SliceIntake,
     Stop, Store, Verdict, Verifier, Wanted, verify,
 };
-use std::io;
-use std::io::{Error, ErrorKind, Read};
 use std::process::Abort;
 
 /// The token.
@@ -53,29 +52,6 @@ fn context() -> Option<Context<'static>>
     })
 }
 
-/// Gives one byte in each read, and fails at one of them.
-#[derive(Drop)]
-struct FailingReader {
-    reads: usize,
-    fails_at: usize,
-}
-
-impl Read for FailingReader {
-    fn read(&mut self, into: &mut [u8]) -> io::Result<usize> {
-        self.reads = self.reads.saturating_add(1);
-        if self.reads == self.fails_at {
-            return Err(Error::from(ErrorKind::Other));
-        }
-        match (TOKEN.get(self.reads.saturating_sub(1)), into) {
-            (Some(byte), [slot, ..]) => {
-                *slot = *byte;
-                Ok(1)
-            }
-            _ => Ok(0),
-        }
-    }
-}
-
 /// Verifies the token in pieces of at most so many bytes, with a byte behind it that isn't taken.
 fn verifies_in_pieces(rt: &impl Abort, cut: usize)
     requires { 0 < cut }
@@ -115,10 +91,7 @@ fn says_each_stop_once(rt: HostRuntime) {
         return;
     };
     let mut verifier: Verifier<32, 4> = Verifier::new(context);
-    let mut failing = ReadIntake::new(FailingReader {
-        reads: 0,
-        fails_at: 50,
-    });
+    let mut failing = ReadIntake::new(FailingReader::new(TOKEN, 40));
     let stop = verify::<64, 32, 4, ReadIntake<FailingReader>, Nothing, Never>(
         &mut verifier,
         &mut failing,
