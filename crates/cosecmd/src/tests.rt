@@ -1,11 +1,18 @@
 //! Messages and runs whose answers come from the standards' equations, not from this program.
 
+mod contexts;
 mod failures;
+mod long;
 mod messages;
 mod options;
 mod rows;
 mod runs;
+mod signatures;
+mod stops;
+mod streams;
 mod using;
+
+ghost use Rattle.std.specs.Prelude.{◌≤◌, length};
 
 use cose_msg::{Context, KeySet, Verifier, Wanted};
 use sha2::{Digest, Sha256};
@@ -31,18 +38,44 @@ const STRUCTURE: &[u8] = &[
     0x84, 0x64, 0x4d, 0x41, 0x43, 0x30, 0x43, 0xa1, 0x01, 0x05, 0x40, 0x42, 0x68, 0x69,
 ];
 
-/// HMAC with SHA-256 (RFC 2104) over whole lists, for a key of at most 64 bytes.
-fn hmac(alloc: Global, key: &[u8], text: &[u8]) -> Result<[u8; 32], AllocError> {
-    let mut inner = Vec::new(alloc);
-    let mut outer = Vec::new(alloc);
+/// The front of a COSE_Sign1 without payload, up to the signature.
+const SIGNED: &str = "d28443a10126a0405840";
+
+/// The Sig_structure of it (RFC 9052 section 4.4).
+const SIGNED_STRUCTURE: &str = "846a5369676e61747572653143a101264040";
+
+/// The hash of a key's block, each byte of it changed by a pad (RFC 2104 section 2), for a key of at most 64 bytes.
+fn padded(key: &[u8], pad: u8) -> Sha256 {
+    let mut block = [pad; 64];
     for i in 0..64 {
-        let byte = key.get(i).copied().unwrap_or(0);
-        inner.push(byte ^ 0x36)?;
-        outer.push(byte ^ 0x5c)?;
+        block[i] ^= key.get(i).copied().unwrap_or(0);
     }
-    inner.extend_from_slice(text)?;
-    outer.extend_from_slice(&Sha256::digest(inner.as_slice()))?;
-    Ok(Sha256::digest(outer.as_slice()))
+    let mut hash = Sha256::new();
+    hash.update(block.as_slice());
+    hash
+}
+
+/// The MAC of what went into the inner hash.
+fn sealed(key: &[u8], inner: Sha256) -> [u8; 32] {
+    let mut outer = padded(key, 0x5c);
+    outer.update(inner.finalize().as_slice());
+    outer.finalize()
+}
+
+/// HMAC with SHA-256 (RFC 2104), for a key of at most 64 bytes.
+fn hmac(key: &[u8], text: &[u8]) -> [u8; 32] {
+    let mut inner = padded(key, 0x36);
+    inner.update(text);
+    sealed(key, inner)
+}
+
+/// Bytes that differ from those beside them.
+fn counted<const N: usize>() -> [u8; N] {
+    let mut bytes = [0; N];
+    for i in 0..N {
+        bytes[i] = (i % 251) as u8;
+    }
+    bytes
 }
 
 /// The authentication tag without its last byte.
@@ -55,15 +88,25 @@ fn key_set() -> Option<KeySet<'static>> {
     KeySet::read(KEY_SET).ok()
 }
 
-/// A verifier under these keys.
-fn verifier(keys: KeySet, wanted: Wanted) -> Verifier<1024, 4> {
-    Verifier::new(Context {
+/// What messages are verified under: these keys, and nothing that is known besides the CWT tag.
+fn context(keys: KeySet) -> Context
+    ensures { length result.aad.now ≤ 65535 }
+{
+    Context {
         keys,
         aad: b"",
-        wanted,
+        wanted: Wanted::Tagged,
         cwt: true,
         understood: &[],
         payload_limit: (1 << 56) - 1,
+    }
+}
+
+/// A verifier under these keys.
+fn verifier(keys: KeySet, wanted: Wanted) -> Verifier<1024, 4> {
+    Verifier::new(Context {
+        wanted,
+        ..context(keys)
     })
 }
 
@@ -78,6 +121,12 @@ fn joined(alloc: Global, pieces: &[&[u8]]) -> Result<Vec<u8>, AllocError> {
 
 /// The message of 44 bytes.
 fn message(alloc: Global) -> Result<Vec<u8>, AllocError> {
-    let tag = hmac(alloc, KEY, STRUCTURE)?;
+    let tag = hmac(KEY, STRUCTURE);
     joined(alloc, &[FRONT, PAYLOAD, &tag])
+}
+
+/// A point of P-256, by its coordinates in hexadecimal: x of 32 bytes 11, and y as a member of the key.
+fn point(alloc: Global, y: &str) -> Result<String, AllocError> {
+    let x = "1111111111111111111111111111111111111111111111111111111111111111";
+    format!(in alloc; "a401022001215820{x}22{y}")
 }

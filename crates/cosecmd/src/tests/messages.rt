@@ -75,7 +75,7 @@ fn changed(mut tag: [u8; 32]) -> [u8; 32] {
 
 #[test]
 fn compares_tags(rt: HostRuntime) -> Result<(), Fail> {
-    let tag = hmac(rt.alloc(), KEY, STRUCTURE)?;
+    let tag = hmac(KEY, STRUCTURE);
     let other = changed(tag);
     let payload = b"\x42hi\x58\x20";
     answers(&rt, payload, &tag, authentic(44), 44)?;

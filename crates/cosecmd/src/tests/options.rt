@@ -1,17 +1,13 @@
 //! The options of `verify`: external data, the kind, and the word that vouches for a signature.
 
 use crate::run::run;
-use crate::tests::{FRONT, KEY, KEYS, PAYLOAD, hmac, joined, message};
+use crate::tests::{
+    FRONT, KEY, KEYS, PAYLOAD, SIGNED, SIGNED_STRUCTURE, hmac, joined, message, point,
+};
 use sha2::{Digest, Sha256};
 use std::alloc::{AllocError, Global};
 use std::process::Abort;
 use std::test::Fail;
-
-/// The front of a COSE_Sign1 without payload, up to the signature.
-const SIGNED: &str = "d28443a10126a0405840";
-
-/// The Sig_structure of it (RFC 9052 section 4.4).
-const SIGNED_STRUCTURE: &str = "846a5369676e61747572653143a101264040";
 
 /// A run with these words behind `verify` prints this text for the message, and ends with this status.
 fn prints(
@@ -36,7 +32,7 @@ fn prints(
 #[test]
 fn authenticates_external_data(rt: HostRuntime) -> Result<(), Fail> {
     let structure = b"\x84\x64MAC0\x43\xa1\x01\x05\x42\x01\x02\x42hi";
-    let tag = hmac(rt.alloc(), KEY, structure)?;
+    let tag = hmac(KEY, structure);
     let bytes = joined(rt.alloc(), &[FRONT, PAYLOAD, &tag])?;
     let authentic = "authentic mac0 alg 5 payload 2 taken 44\n";
     let refused = "refused BadAuth at 10\n";
@@ -107,12 +103,6 @@ fn wants_a_kind(rt: HostRuntime) -> Result<(), Fail> {
         prints(&rt, options.as_slice(), bytes, text, status)?;
     }
     Ok(())
-}
-
-/// A point of P-256, by its coordinates in hexadecimal: x of 32 bytes 11, and y as a member of the key.
-fn point(alloc: Global, y: &str) -> Result<String, AllocError> {
-    let x = "1111111111111111111111111111111111111111111111111111111111111111";
-    format!(in alloc; "a401022001215820{x}22{y}")
 }
 
 #[test]

@@ -194,7 +194,7 @@ fn authenticates(rt: &(impl Abort + Alloc<A = Global>), row: Row) -> Result<(), 
     let set = hex::decode(rt.alloc(), row.keys).or(Err("no hexadecimal"))?;
     let structure = hex::decode(rt.alloc(), row.structure).or(Err("no hexadecimal"))?;
     let mut message = hex::decode(rt.alloc(), row.front).or(Err("no hexadecimal"))?;
-    let tag = hmac(rt.alloc(), row.secret, structure.as_slice())?;
+    let tag = hmac(row.secret, structure.as_slice());
     message.extend_from_slice(tag.get(..row.tag).unwrap_or(&[]))?;
     // A byte behind the message isn't taken.
     message.push(0xff)?;
@@ -266,6 +266,34 @@ fn authenticates_under_the_one_key_that_fits(rt: HostRuntime) -> Result<(), Fail
             ..tagged(keys, WITH_KID, WITH_5, 47)
         };
         authenticates(&rt, one)?;
+    }
+    Ok(())
+}
+
+#[test]
+fn refuses_a_tag_of_another_key(rt: HostRuntime) -> Result<(), Fail> {
+    // A key without an identifier fits every identifier.
+    let set = hex::decode(rt.alloc(), PLAIN).or(Err("no hexadecimal"))?;
+    let keys = KeySet::read(set.as_slice()).or(Err("no key set"))?;
+    let structure = hex::decode(rt.alloc(), WITH_5).or(Err("no hexadecimal"))?;
+    let mut message = hex::decode(rt.alloc(), WITH_KID).or(Err("no hexadecimal"))?;
+    message.extend_from_slice(&hmac(b"a", structure.as_slice()))?;
+    let refused = Verdict::Refused(Refusal {
+        reason: Reason::BadAuth,
+        place: 13,
+    });
+    for cut in [1usize, 2, 7, 64] {
+        let mut verifier = verifier(keys, Wanted::Tagged);
+        let mut intake = SliceIntake::new(message.as_slice(), cut.max(1));
+        let mut store = Store::<16>::new();
+        let verdict = verify::<128, 1024, 4, _, _, _>(
+            &mut verifier,
+            &mut intake,
+            &mut store,
+            &Never,
+        );
+        assert_eq!(rt; verdict, Ok(refused), "in pieces of {cut}");
+        assert_eq!(rt; verifier.taken(), 47, "in pieces of {cut}");
     }
     Ok(())
 }

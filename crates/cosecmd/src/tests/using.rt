@@ -1,10 +1,115 @@
-//! The example of docs/USING.md: from bytes to the MAC under a key, by the libraries alone.
+//! The examples of docs/USING.md: from bytes to a payload that is authentic, and from header buckets to a MAC, by the libraries
+//! alone.
 
-use crate::tests::{KEY, KEY_SET, STRUCTURE, cut, hmac};
+ghost use Rattle.std.specs.Prelude.{◌≤◌, length};
+
+use crate::tests::streams::FailingIntake;
+use crate::tests::{KEY, KEY_SET, STRUCTURE, cut, hmac, key_set, message};
 use cose_mac::{Alg, Running, structure_front};
 use cose_map::{Bucket, KeySet, Kind, Material, Query, Reason, Refusal, check_pair};
+use cose_msg::{
+    Context, Intake, Never, SliceIntake, Stop, Store, Verdict, Verifier, Wanted, verify,
+};
 use std::test::Fail;
 
+/// Why there is no payload.
+#[derive(Clone, Copy, Debug, PartialEq, Eq)]
+enum Problem {
+    /// The key set is refused.
+    Keys(Refusal),
+    /// The message is refused.
+    Message(Refusal),
+    /// There is no verdict.
+    Stopped(Stop),
+}
+
+/// What the application knows before the message: its keys, no external data, no CWT tag, payloads of at most 4,096 bytes.
+fn context(keys: KeySet) -> Context
+    ensures { length result.aad.now ≤ 65535 }
+{
+    Context {
+        keys,
+        aad: b"",
+        wanted: Wanted::Tagged,
+        cwt: false,
+        understood: &[],
+        payload_limit: 4_096,
+    }
+}
+
+/// The payload of a message that is authentic.
+fn payload_of<'p, I: Intake>(
+    verifier: &mut Verifier<1_024, 8>,
+    intake: &mut I,
+    store: &'p mut Store<4_096>,
+) -> Result<&'p [u8], Problem> {
+    match verify::<512, 1_024, 8, _, _, _>(verifier, intake, store, &Never) {
+        Ok(Verdict::Authentic { .. }) => Ok(store.bytes()),
+        Ok(Verdict::Refused(refusal)) => Err(Problem::Message(refusal)),
+        Err(stop) => Err(Problem::Stopped(stop)),
+    }
+}
+
+/// The number of bytes of the payload of a message in memory.
+fn payload_length(key_set: &[u8], message: &[u8]) -> Result<usize, Problem> {
+    let keys = match KeySet::read(key_set) {
+        Ok(keys) => keys,
+        Err(refusal) => return Err(Problem::Keys(refusal)),
+    };
+    let mut verifier = Verifier::new(context(keys));
+    let mut intake = SliceIntake::new(message, 512);
+    let mut store = Store::new();
+    let payload = payload_of(&mut verifier, &mut intake, &mut store)?;
+    Ok(payload.len())
+}
+
+#[test]
+fn hands_out_what_is_authentic(rt: HostRuntime) -> Result<(), Fail> {
+    let mut bytes = message(rt.alloc())?;
+    assert_eq!(rt; payload_length(KEY_SET, bytes.as_slice()), Ok(2));
+    let bad_set = Refusal {
+        reason: Reason::BadKeySet,
+        place: 0,
+    };
+    assert_eq!(rt;
+        payload_length(&[0x80], bytes.as_slice()),
+        Err(Problem::Keys(bad_set))
+    );
+    bytes.push(0)?;
+    assert_eq!(rt; payload_length(KEY_SET, bytes.as_slice()), Ok(2));
+    if let Some(byte) = bytes.get_mut(43) {
+        *byte ^= 1;
+    }
+    let bad_auth = Refusal {
+        reason: Reason::BadAuth,
+        place: 10,
+    };
+    assert_eq!(rt;
+        payload_length(KEY_SET, bytes.as_slice()),
+        Err(Problem::Message(bad_auth))
+    );
+    Ok(())
+}
+
+#[test]
+fn begins_again_after_a_stop(rt: HostRuntime) -> Result<(), Fail> {
+    let bytes = message(rt.alloc())?;
+    let mut verifier = Verifier::new(context(key_set().ok_or("no keys")?));
+    for stop in [Stop::Intake, Stop::Again] {
+        let mut failing = FailingIntake::new(bytes.as_slice(), 3);
+        let mut store = Store::new();
+        let payload = payload_of(&mut verifier, &mut failing, &mut store);
+        assert_eq!(rt; payload, Err(Problem::Stopped(stop)));
+    }
+    verifier.reset();
+    let mut intake = SliceIntake::new(bytes.as_slice(), 512);
+    let mut store = Store::new();
+    let payload = payload_of(&mut verifier, &mut intake, &mut store);
+    assert_eq!(rt; payload, Ok(b"hi".as_slice()));
+    Ok(())
+}
+
+/// The MAC of a COSE_Mac0 before its first byte, under the one key of the set that fits what the headers ask for.
 /// The MAC of a COSE_Mac0 before its first byte, under the one key of the set that fits what the headers ask for.
 fn begin(keys: &KeySet, protected: &Bucket, unprotected: &Bucket) -> Result<Running, Reason> {
     let query = Query {
@@ -48,7 +153,7 @@ fn is_authentic(key_set: &[u8], tag: &[u8]) -> Result<bool, Refusal> {
 
 #[test]
 fn authenticates_by_the_libraries_alone(rt: HostRuntime) -> Result<(), Fail> {
-    let mut tag = hmac(rt.alloc(), KEY, STRUCTURE)?;
+    let mut tag = hmac(KEY, STRUCTURE);
     assert_eq!(rt; is_authentic(KEY_SET, &tag), Ok(true));
     let no_key = Refusal {
         reason: Reason::NoKey,

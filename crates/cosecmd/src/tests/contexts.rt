@@ -1,0 +1,124 @@
+//! What the context of a message changes: the labels that are understood, the CWT tag, the limit of the payload.
+
+use crate::tests::{KEY, context, hmac, key_set};
+use cose_msg::{
+    Alg, Context, KeySet, Kind, Label, Never, Reason, Refusal, SliceIntake, Store, Verdict, Verifier,
+    Wanted, verify,
+};
+use std::process::Abort;
+use std::test::Fail;
+
+/// A front whose protected header is {1: 5, 2: [42], 42: 0}.
+const CRITICAL: &str = "d1844aa301050281182a182a00a0";
+
+const fn refused(reason: Reason, place: u64) -> Verdict {
+    Verdict::Refused(Refusal { reason, place })
+}
+
+/// The payload `hi` is authentic.
+const fn authentic(taken: u64) -> Verdict {
+    Verdict::Authentic {
+        kind: Kind::Mac0,
+        alg: Alg::Hmac256,
+        payload: 2,
+        taken,
+    }
+}
+
+/// What messages are verified under by who understands these labels.
+fn knowing<'k>(keys: KeySet<'k>, understood: &'k [Label<'k>]) -> Context<'k> {
+    Context {
+        keys,
+        aad: b"",
+        wanted: Wanted::Tagged,
+        cwt: true,
+        understood,
+        payload_limit: (1 << 56) - 1,
+    }
+}
+
+/// Or where no CWT tag may stand in front.
+fn without_cwt<'k>(keys: KeySet<'k>) -> Context<'k> {
+    let mut context = context(keys);
+    context.cwt = false;
+    context
+}
+
+/// Or for payloads of at most so many bytes.
+fn limited<'k>(keys: KeySet<'k>, payload_limit: u64) -> Context<'k> {
+    let mut context = context(keys);
+    context.payload_limit = payload_limit;
+    context
+}
+
+/// In this context the bytes come to this verdict in every cut, after so many of them.
+fn comes_to(rt: &impl Abort, context: Context, bytes: &[u8], verdict: Verdict, taken: u64) {
+    assert!(rt; context.aad.len() <= 65_535);
+    for cut in [1usize, 2, 7, 64] {
+        let mut verifier = Verifier::<1024, 4>::new(context);
+        let mut intake = SliceIntake::new(bytes, cut.max(1));
+        let mut store = Store::<16>::new();
+        let answer =
+            verify::<128, 1024, 4, _, _, _>(&mut verifier, &mut intake, &mut store, &Never);
+        assert_eq!(rt; answer, Ok(verdict), "{bytes:?} in pieces of {cut}");
+        assert_eq!(rt; verifier.taken(), taken, "{bytes:?} in pieces of {cut}");
+    }
+}
+
+#[test]
+fn refuses_in_a_context(rt: HostRuntime) -> Result<(), Fail> {
+    let keys = key_set().ok_or("no keys")?;
+    let understood = [Label::Int(42)];
+    let rows: [(Context, &str, Verdict, u64); 6] = [
+        (context(keys), CRITICAL, refused(Reason::CritUnknown, 8), 14),
+        (knowing(keys, &understood), CRITICAL, refused(Reason::Truncated, 14), 14),
+        (
+            knowing(keys, &understood),
+            "d1844aa301050281182a182a00a0f600",
+            refused(Reason::Detached, 14),
+            15,
+        ),
+        (without_cwt(keys), "d83d84", refused(Reason::WrongTag, 0), 2),
+        (
+            limited(keys, 1),
+            "d18443a10105a042686958",
+            refused(Reason::PayloadTooLong, 7),
+            8,
+        ),
+        (
+            limited(keys, 1),
+            "d18443a10105a04168",
+            refused(Reason::Truncated, 9),
+            9,
+        ),
+    ];
+    for (context, bytes, verdict, taken) in rows {
+        let bytes = hex::decode(rt.alloc(), bytes).or(Err("no hexadecimal"))?;
+        comes_to(&rt, context, bytes.as_slice(), verdict, taken);
+    }
+    Ok(())
+}
+
+#[test]
+fn authenticates_in_a_context(rt: HostRuntime) -> Result<(), Fail> {
+    let keys = key_set().ok_or("no keys")?;
+    let understood = [Label::Int(42)];
+    let plain = "84644d41433043a1010540426869";
+    let rows: [(Context, &str, &str, u64); 3] = [
+        (
+            knowing(keys, &understood),
+            "d1844aa301050281182a182a00a04268695820",
+            "84644d4143304aa301050281182a182a0040426869",
+            51,
+        ),
+        (context(keys), "d83dd18443a10105a04268695820", plain, 46),
+        (limited(keys, 2), "d18443a10105a04268695820", plain, 44),
+    ];
+    for (context, front, structure, taken) in rows {
+        let structure = hex::decode(rt.alloc(), structure).or(Err("no hexadecimal"))?;
+        let mut bytes = hex::decode(rt.alloc(), front).or(Err("no hexadecimal"))?;
+        bytes.extend_from_slice(&hmac(KEY, structure.as_slice()))?;
+        comes_to(&rt, context, bytes.as_slice(), authentic(taken), taken);
+    }
+    Ok(())
+}

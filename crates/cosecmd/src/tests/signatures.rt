@@ -1,0 +1,60 @@
+//! What the verifier of signatures is asked, and what comes of its answer.
+
+use crate::tests::streams::Asked;
+use crate::tests::{SIGNED, SIGNED_STRUCTURE, counted, point, verifier};
+use cose_msg::{Alg, KeySet, Kind, Reason, Refusal, SliceIntake, Store, Verdict, Wanted, verify};
+use sha2::{Digest, Sha256};
+use std::test::Fail;
+
+/// The verdict where the signature holds, and where it doesn't.
+const fn verdict(holds: bool) -> Verdict {
+    if holds {
+        return Verdict::Authentic {
+            kind: Kind::Sign1,
+            alg: Alg::Es256,
+            payload: 0,
+            taken: 74,
+        };
+    }
+    Verdict::Refused(Refusal {
+        reason: Reason::BadAuth,
+        place: 8,
+    })
+}
+
+#[test]
+fn asks_about_the_signature(rt: HostRuntime) -> Result<(), Fail> {
+    let alloc = rt.alloc();
+    let y = "58202222222222222222222222222222222222222222222222222222222222222222";
+    let set = hex::decode(alloc, point(alloc, y)?.as_str()).or(Err("no hexadecimal"))?;
+    let keys = KeySet::read(set.as_slice()).or(Err("no key set"))?;
+    let structure = hex::decode(alloc, SIGNED_STRUCTURE).or(Err("no hexadecimal"))?;
+    let digest = Sha256::digest(structure.as_slice());
+    let signature: [u8; 64] = counted();
+    let mut bytes = hex::decode(alloc, SIGNED).or(Err("no hexadecimal"))?;
+    bytes.extend_from_slice(&signature)?;
+    // A byte behind the message isn't taken.
+    bytes.push(0xff)?;
+    for says in [true, false] {
+        // Asked about anything else it would say the contrary.
+        let asked = Asked {
+            digest: &digest,
+            signature: &signature,
+            says,
+        };
+        for cut in [1usize, 2, 7, 64] {
+            let mut verifier = verifier(keys, Wanted::Tagged);
+            let mut intake = SliceIntake::new(bytes.as_slice(), cut.max(1));
+            let mut store = Store::<16>::new();
+            let answer = verify::<128, 1024, 4, _, _, _>(
+                &mut verifier,
+                &mut intake,
+                &mut store,
+                &asked,
+            );
+            assert_eq!(rt; answer, Ok(verdict(says)), "in pieces of {cut}");
+            assert_eq!(rt; verifier.taken(), 74, "in pieces of {cut}");
+        }
+    }
+    Ok(())
+}

@@ -1,0 +1,82 @@
+//! An intake or a sink that fails in the course of a message.
+
+use crate::tests::streams::{FailingIntake, FailingSink};
+use crate::tests::{key_set, message, verifier};
+use cose_msg::{
+    Alg, Intake, Kind, Never, Sink, SliceIntake, Stop, Store, Verdict, Verifier, Wanted, verify,
+};
+use std::process::Abort;
+use std::test::Fail;
+
+/// The verdict on the message.
+const AUTHENTIC: Verdict = Verdict::Authentic {
+    kind: Kind::Mac0,
+    alg: Alg::Hmac256,
+    payload: 2,
+    taken: 44,
+};
+
+/// What `verify` answers where it takes a byte at a time.
+fn answer<I: Intake, S: Sink>(
+    verifier: &mut Verifier<1024, 4>,
+    intake: &mut I,
+    sink: &mut S,
+) -> Result<Verdict, Stop> {
+    verify::<1, 1024, 4, _, _, _>(verifier, intake, sink, &Never)
+}
+
+/// After `reset` the message is authentic.
+fn authenticates(rt: &impl Abort, verifier: &mut Verifier<1024, 4>, bytes: &[u8]) {
+    verifier.reset();
+    let mut intake = SliceIntake::new(bytes, 64);
+    let mut store = Store::<16>::new();
+    let verdict = answer(verifier, &mut intake, &mut store);
+    assert_eq!(rt; verdict, Ok(AUTHENTIC));
+    assert_eq!(rt; store.bytes(), b"hi".as_slice());
+}
+
+#[test]
+fn stops_where_the_intake_fails(rt: HostRuntime) -> Result<(), Fail> {
+    let bytes = message(rt.alloc())?;
+    let keys = key_set().ok_or("no keys")?;
+    for fails_at in 1..=44 {
+        let mut verifier = verifier(keys, Wanted::Tagged);
+        let mut intake = FailingIntake::new(bytes.as_slice(), fails_at);
+        let mut store = Store::<16>::new();
+        let stop = answer(&mut verifier, &mut intake, &mut store);
+        assert_eq!(rt; stop, Err(Stop::Intake), "at call {fails_at}");
+        let again = answer(&mut verifier, &mut intake, &mut store);
+        assert_eq!(rt; again, Err(Stop::Again), "at call {fails_at}");
+        assert_eq!(rt; intake.takes(), fails_at);
+        authenticates(&rt, &mut verifier, bytes.as_slice());
+    }
+    let mut verifier = verifier(keys, Wanted::Tagged);
+    let mut intake = FailingIntake::new(bytes.as_slice(), 45);
+    let verdict = answer(&mut verifier, &mut intake, &mut Store::<16>::new());
+    assert_eq!(rt; (verdict, intake.takes()), (Ok(AUTHENTIC), 44));
+    Ok(())
+}
+
+#[test]
+fn stops_where_the_sink_fails(rt: HostRuntime) -> Result<(), Fail> {
+    let bytes = message(rt.alloc())?;
+    let keys = key_set().ok_or("no keys")?;
+    let rows: [(usize, &[u8]); 2] = [(1, b""), (2, b"h")];
+    for (fails_at, held) in rows {
+        let mut verifier = verifier(keys, Wanted::Tagged);
+        let mut intake = SliceIntake::new(bytes.as_slice(), 64);
+        let mut sink = FailingSink::<16>::new(fails_at);
+        let stop = answer(&mut verifier, &mut intake, &mut sink);
+        assert_eq!(rt; stop, Err(Stop::Sink), "at call {fails_at}");
+        let again = answer(&mut verifier, &mut intake, &mut sink);
+        assert_eq!(rt; again, Err(Stop::Again), "at call {fails_at}");
+        assert_eq!(rt; (sink.puts(), sink.bytes()), (fails_at, held));
+        authenticates(&rt, &mut verifier, bytes.as_slice());
+    }
+    let mut verifier = verifier(keys, Wanted::Tagged);
+    let mut intake = SliceIntake::new(bytes.as_slice(), 64);
+    let mut sink = FailingSink::<16>::new(3);
+    let verdict = answer(&mut verifier, &mut intake, &mut sink);
+    assert_eq!(rt; (verdict, sink.puts()), (Ok(AUTHENTIC), 2));
+    Ok(())
+}
