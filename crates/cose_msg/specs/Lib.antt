@@ -19,3 +19,4 @@ pub mod Sink
 pub mod Store
 pub mod Kept
 pub mod Run
+pub mod Make
