@@ -29,3 +29,4 @@ mod WorkedPayloads
 mod WorkedComparisons
 mod WorkedLimits
 mod WorkedShapes
+mod WorkedMaking
