@@ -1,7 +1,7 @@
 -- What a call of `make_mac0` did, from what its parts did.
-use Rattle.std.proofs.Common.{◌≡◌, ℕ, zero, suc, ◌+◌, ◌<◌, ◌≤◌, Bool, true, false, List, [], ◌∷◌, ◌++◌, length, take, Option, None, Some, Ok, Err, refl, sym, ap, subst, ◌∙◌, append_assoc, append-nil, arith, length-append, IsTrue}
-use Rattle.std.specs.Prelude.{Result, IsOk, nat_lt, if◌then◌else◌}
-use Rattle.std.specs.Io.KnownBytes.{Appends, Consumes, IsAtEnd}
+use Rattle.std.proofs.Common.{◌≡◌, ℕ, ◌+◌, ◌≤◌, Bool, true, false, List, [], ◌++◌, length, take, Option, None, Some, Ok, Err, refl, sym, ap, subst, ◌∙◌, append_assoc, append-nil, arith, length-append, IsTrue}
+use Rattle.std.specs.Prelude.{Result, IsOk, if◌then◌else◌}
+use Rattle.std.specs.Io.KnownBytes.{Appends}
 use Rattle.std.proofs.KnownBytes.{Consumes-nil, Appends-trans}
 use Rattle.std.proofs.Math.Seq.{take-append_seam}
 use Rattle.std.proofs.lemmas.Bool.{le-ltb}
@@ -17,7 +17,8 @@ use Rattle.cose_mac.specs.Structure.{encoded_string, structure_of}
 use Rattle.cose_mac.specs.declared.running.Running.{Running}
 use Rattle.cose_msg.specs.declared.make.MakeFault.{MakeFault}
 use Rattle.cose_msg.specs.declared.make.MakeFault.TheVariants as faults
-use Rattle.cose_msg.specs.Make.{Feeds, Makes, Seen, Streams, Writes, answer_over, front_of, stops_for_sink}
+use Rattle.cose_msg.specs.Make.{Makes, answer_over, stops_for_sink}
+use Rattle.cose_msg.specs.Writes.{Feeds, Seen, Streams, Writes, front_of}
 use Rattle.cose_msg.specs.Making.{auth_made, made, protected_made}
 use Rattle.cose_msg.specs.Sink.{AppendsFront, IsFront}
 use Rattle.cose_msg.proofs.Making.{in_parts}
@@ -36,7 +37,7 @@ front_of_each : (message : List ℕ → List ℕ) (n : ℕ) (front : List ℕ) (
     (payload : List ℕ) → length payload ≡ n → IsFront payload taken → AppendsFront old new (message payload)
 front_of_each message n front tail taken old new parts p payload count (rest, whole) =
     let regrouped : message payload ≡ (front ++ taken) ++ (rest ++ tail payload) =
-      parts payload count ∙ ap (λ (t : List ℕ). front ++ (t ++ tail payload)) whole ∙ ap (λ (t : List ℕ). front ++ t) (append_assoc taken rest (tail payload)) ∙ sym (append_assoc front taken (rest ++ tail payload)) in
+    parts payload count ∙ ap (λ (t : List ℕ). front ++ (t ++ tail payload)) whole ∙ ap (λ (t : List ℕ). front ++ t) (append_assoc taken rest (tail payload)) ∙ sym (append_assoc front taken (rest ++ tail payload)) in
     subst (λ (t : List ℕ). AppendsFront old new t) (sym regrouped) (front_of_more old new (front ++ taken) (rest ++ tail payload) p)
 
 -- A payload that begins with as many bytes as it has is these.
@@ -81,7 +82,7 @@ module _ (message : List ℕ → List ℕ) (n : ℕ) (front : List ℕ) (tail : 
       Streams n come come_after ended now next before after (Ok m) taken → Writes next new (Err fault) (tail taken) → Makes message n come come_after ended old.contents new.contents (Err fault) taken
   tail_failed {old} {now} {next} {new} {k} {m} {come} {come_after} {ended} {before} {after} {fault} taken p q r =
       let grown : AppendsFront old.contents new.contents (front ++ (taken ++ tail taken)) =
-        AppendsFront-then old.contents now.contents new.contents front (taken ++ tail taken) p.put (AppendsFront-then now.contents next.contents new.contents taken (tail taken) q.put r.put.0) in
+      AppendsFront-then old.contents now.contents new.contents front (taken ++ tail taken) p.put (AppendsFront-then now.contents next.contents new.contents taken (tail taken) q.put r.put.0) in
       let whole : AppendsFront old.contents new.contents (message taken) = subst (λ (t : List ℕ). AppendsFront old.contents new.contents t) (sym (parts taken q.count)) grown in
       subst (λ (f : MakeFault). Makes message n come come_after ended old.contents new.contents (Err f) taken) (sym r.put.1) (record {
         bytes = q.bytes;
@@ -95,7 +96,7 @@ module _ (message : List ℕ → List ℕ) (n : ℕ) (front : List ℕ) (tail : 
   all_made {old} {now} {next} {new} {k} {m} {j} {come} {come_after} {ended} {before} {after} taken p q r =
       let whole = parts taken q.count in
       let grown : Appends old.contents new.contents (front ++ (taken ++ tail taken)) =
-        Appends-trans old.contents now.contents new.contents front (taken ++ tail taken) p.put (Appends-trans now.contents next.contents new.contents taken (tail taken) q.put r.put) in
+      Appends-trans old.contents now.contents new.contents front (taken ++ tail taken) p.put (Appends-trans now.contents next.contents new.contents taken (tail taken) q.put r.put) in
       record {
         bytes = q.bytes;
         count = q.count;

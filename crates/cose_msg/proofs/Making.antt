@@ -1,12 +1,12 @@
 -- The message that is made, piece by piece.
-use Rattle.std.proofs.Common.{◌≡◌, ℕ, ◌+◌, List, [], ◌∷◌, ◌++◌, length, Option, None, Some, refl, sym, ap, ◌∙◌, append_assoc, append-nil, IsTrue, true, false}
+use Rattle.std.proofs.Common.{◌≡◌, ℕ, List, ◌++◌, length, Option, None, Some, refl, ap, append_assoc, append-nil, IsTrue}
 use Rattle.cose_head.specs.Algorithm.{is_mac_of}
 use Rattle.cose_head.specs.Head.{shortest_head}
 use Rattle.cose_head.specs.Shortest.{shortest, shortest_all}
 use Rattle.cose_head.specs.declared.algorithm.Alg.{Alg}
 use Rattle.cose_head.specs.declared.algorithm.Alg.TheVariants.{Hmac64, Hmac256, Hmac384, Hmac512, Es256}
 use Rattle.cose_mac.specs.Structure.{encoded_string}
-use Rattle.cose_msg.specs.Make.{front_of}
+use Rattle.cose_msg.specs.Writes.{front_of}
 use Rattle.cose_msg.specs.Making.{auth_made, made, protected_made, unprotected_made}
 
 -- The unprotected header: an empty map, or one pair.

@@ -1,13 +1,9 @@
 -- Bytes that are put one piece after another.
-use Rattle.std.proofs.Common.{◌≡◌, ℕ, ◌+◌, ◌<◌, ◌≤◌, Bool, true, false, List, [], ◌++◌, length, Option, None, Some, Ok, Err, refl, sym, ap, subst, ◌∙◌, append_assoc, arith, length-append}
-use Rattle.std.specs.Prelude.{Result, IfOk, IsOk, OnOk, ◌||◌}
-use Rattle.std.specs.Io.KnownBytes.{Appends}
+use Rattle.std.proofs.Common.{◌≡◌, ℕ, ◌+◌, List, ◌++◌, Option, Ok, Err, refl, ap, subst, ◌∙◌, append_assoc, arith, length-append}
 use Rattle.std.proofs.KnownBytes.{Appends-trans}
 use Rattle.cose_msg.specs.declared.make.MakeFault.{MakeFault}
-use Rattle.cose_msg.specs.declared.make.MakeFault.TheVariants as faults
-use Rattle.cose_msg.specs.Intake.{marks}
-use Rattle.cose_msg.specs.Make.{Puts, Seen, Writes}
-use Rattle.cose_msg.specs.Sink.{AppendsFront, IsFront}
+use Rattle.cose_msg.specs.Writes.{Seen, Writes}
+use Rattle.cose_msg.specs.Sink.{AppendsFront}
 use Rattle.cose_msg.proofs.Runs.{AppendsFront-then}
 
 -- A front of the bytes is a front of more.
@@ -44,10 +40,6 @@ writes_none {a} {b} {fault} {x} y p = record {
   promised = λ enough. p.promised (omega (arith, enough, length-append x y));
   promise = tt;
 }
-
--- What is answered after a failure is that failure.
-pub writes_stopped : {a b : Seen} {fault : MakeFault} {x : List ℕ} {result : Result ℕ MakeFault} → result ≡ Err fault → Writes a b (Err fault) x → Writes a b result x
-writes_stopped {a} {b} {fault} {x} {result} e p = subst (λ (r : Result ℕ MakeFault). Writes a b r x) (sym e) p
 
 pub writes_counted : {a b : Seen} {n : ℕ} {x : List ℕ} (m : ℕ) → n ≡ m → Writes a b (Ok n) x → Writes a b (Ok m) x
 writes_counted {a} {b} {n} {x} m e p = subst (λ (k : ℕ). Writes a b (Ok k) x) e p

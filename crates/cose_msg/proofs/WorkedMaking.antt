@@ -1,6 +1,6 @@
 -- The COSE_Mac0 that is made, and the faults of the arguments, on examples, by computing (RFC 9052 section 6.2, RFC 9053 section
 -- 3.1). The MAC stands as it is defined.
-use Rattle.std.specs.Prelude.{◌≡◌, ℕ, ◌^◌, ◌-◌, ℤ, pos, List, [], ◌∷◌, ◌++◌, map, Option, None, Some, refl}
+use Rattle.std.specs.Prelude.{◌≡◌, ℕ, ◌^◌, ◌-◌, pos, List, [], ◌∷◌, ◌++◌, map, Option, None, Some, refl}
 use Rattle.std.proofs.Common.{ap, ◌∙◌}
 use Prim.Native.String.{String}
 use Rattle.cose_head.specs.Head.{shortest_head}
@@ -11,7 +11,7 @@ use Rattle.cose_mac.specs.Hmac.{mac}
 use Rattle.cose_mac.specs.Laws.{MacHasItsLength}
 use Rattle.cose_mac.specs.Structure.{encoded_string, mac_structure}
 use Rattle.cose_map.specs.Key.Value.{KeyValue}
-use Rattle.cose_map.specs.Label.{LabelValue, number, words}
+use Rattle.cose_map.specs.Label.{number, words}
 use Rattle.cose_msg.specs.declared.make.MakeFault.{MakeFault}
 use Rattle.cose_msg.specs.declared.make.MakeFault.TheVariants.{WrongKey, TooLong}
 use Rattle.cose_msg.specs.Make.{make_fault}

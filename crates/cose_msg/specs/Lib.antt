@@ -20,3 +20,4 @@ pub mod Store
 pub mod Kept
 pub mod Run
 pub mod Make
+pub mod Writes

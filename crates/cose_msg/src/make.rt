@@ -1,12 +1,13 @@
 //! Making a COSE_Mac0 (RFC 9052 section 6.2) of a payload that comes in pieces.
 
-ghost use Rattle.std.specs.Prelude.{◌≡◌, ◌≤◌, ◌<◌, ◌+◌, ◌^◌, ◌||◌, ℕ, true, false, List, ◌++◌, length as length_of, None, Some, option_map, is_some, IfOk, IsTrue, if◌then◌else◌};
+ghost use Rattle.std.specs.Prelude.{◌≡◌, ◌≤◌, ◌+◌, ◌||◌, ℕ, true, false, List, length as length_of, None, Some, option_map, is_some, IfOk, IsTrue, if◌then◌else◌};
 ghost use Rattle.cose_head.specs.Algorithm.{is_mac_of};
 ghost use Rattle.cose_head.specs.Head.{shortest_head};
 ghost use Rattle.cose_head.specs.Shortest.{shortest};
 ghost use Rattle.cose_mac.specs.Structure.{encoded_string};
 ghost use Rattle.cose_map.specs.Key.View.{contents, key_value};
-ghost use Rattle.cose_msg.specs.Make.{Makes, Streams, Writes, answer_over, argument_fault, front_of, is_long_kid, is_too_long as is_too_long_for, make_fault, seen, stops_for_intake, stops_for_sink};
+ghost use Rattle.cose_msg.specs.Make.{Makes, answer_over, argument_fault, is_long_kid, is_too_long as is_too_long_for, make_fault, stops_for_intake, stops_for_sink};
+ghost use Rattle.cose_msg.specs.Writes.{Streams, Writes, front_of, seen};
 ghost use Rattle.cose_msg.specs.Making.{allows_making as allows_making_by, fits_making, made, protected_made, unprotected_made};
 ghost use Rattle.cose_msg.specs.Message.{secret_of};
 
@@ -56,7 +57,8 @@ const MAC_CREATE: i128 = 9;
 fn allows_making(key: &Key, alg: Alg) -> bool
     ensures { result ≡ allows_making_by (key_value key.now) alg }
 {
-    key.alg.is_none_or(|own| own.is_same(&Label::Int(alg.number())))
+    key.alg
+        .is_none_or(|own| own.is_same(&Label::Int(alg.number())))
         && key.ops.is_none_or(|ops| ops.holds(MAC_CREATE))
 }
 
@@ -133,7 +135,12 @@ fn put_unprotected<S: Sink>(sink: &mut S, kid: Option<&[u8]>) -> Result<u64, Mak
 }
 
 /// Puts all that stands before the payload's content.
-fn put_front<S: Sink>(sink: &mut S, protected: &[u8], kid: Option<&[u8]>, length: u64) -> Result<u64, MakeFault>
+fn put_front<S: Sink>(
+    sink: &mut S,
+    protected: &[u8],
+    kid: Option<&[u8]>,
+    length: u64,
+) -> Result<u64, MakeFault>
     requires protected { length_of protected.now ≡ 3 }
     requires kid { is_long_kid (option_map contents kid) ≡ false }
     ensures written { Writes (seen (S.contents sink.old) (S.has_failed sink.old) (S.sure sink.old)) (seen (S.contents sink.new) (S.has_failed sink.new) (S.sure sink.new)) result (front_of protected.now (option_map contents kid.entry) length) }

@@ -1,6 +1,6 @@
 //! Messages made under the key `Jefe`, against an independent HMAC, and what stops the making.
 
-ghost use Rattle.std.specs.Prelude.{◌≡◌, ◌≤◌, ◌<◌, None, length};
+ghost use Rattle.std.specs.Prelude.{None};
 
 use crate::{
     Alg, Intake, Key, MakeFault, ReadIntake, Sink, SinkFault, SliceIntake, Store, make_mac0,
@@ -10,9 +10,13 @@ use std::io;
 use std::io::{Error, ErrorKind, Read};
 use std::process::Abort;
 
-/// The symmetric key `Jefe`: without more, for HMAC 256/256 alone, and for the operation 10 alone, which verifies.
+/// The symmetric key `Jefe`.
 const KEY: &[u8] = b"\xa2\x01\x04\x20\x44Jefe";
+
+/// The same for HMAC 256/256 alone.
 const KEY_OF_FIVE: &[u8] = b"\xa3\x01\x04\x03\x05\x20\x44Jefe";
+
+/// A key for operation 10 alone, which verifies.
 const KEY_THAT_VERIFIES: &[u8] = b"\xa3\x01\x04\x04\x81\x0a\x20\x41a";
 
 /// The message of the payload `hi` by HMAC 256/256, of 44 bytes.
@@ -53,7 +57,14 @@ const EMPTY: &[u8] = &[
 ];
 
 /// Makes a message in pieces of one byte and of many, and leaves the byte behind the payload.
-fn makes(rt: &impl Abort, alg: Alg, kid: Option<&[u8]>, aad: &[u8], payload: &[u8], message: &[u8]) {
+fn makes(
+    rt: &impl Abort,
+    alg: Alg,
+    kid: Option<&[u8]>,
+    aad: &[u8],
+    payload: &[u8],
+    message: &[u8],
+) {
     let Ok(key) = Key::read(KEY, 0) else {
         return;
     };
@@ -99,7 +110,14 @@ fn makes_messages(rt: HostRuntime) {
 }
 
 /// Refuses the arguments, and takes and puts nothing.
-fn refuses(rt: &impl Abort, alg: Alg, key: &[u8], kid: Option<&[u8]>, length: u64, fault: MakeFault) {
+fn refuses(
+    rt: &impl Abort,
+    alg: Alg,
+    key: &[u8],
+    kid: Option<&[u8]>,
+    length: u64,
+    fault: MakeFault,
+) {
     let Ok(key) = Key::read(key, 0) else {
         return;
     };
@@ -124,9 +142,23 @@ fn refuses_arguments(rt: HostRuntime) {
     assert!(rt; Key::read(KEY_OF_FIVE, 0).is_ok());
     assert!(rt; Key::read(KEY_THAT_VERIFIES, 0).is_ok());
     refuses(&rt, Alg::Hmac64, KEY_OF_FIVE, None, 2, MakeFault::WrongKey);
-    refuses(&rt, Alg::Hmac256, KEY_THAT_VERIFIES, None, 2, MakeFault::WrongKey);
+    refuses(
+        &rt,
+        Alg::Hmac256,
+        KEY_THAT_VERIFIES,
+        None,
+        2,
+        MakeFault::WrongKey,
+    );
     refuses(&rt, Alg::Es256, KEY, None, 2, MakeFault::WrongKey);
-    refuses(&rt, Alg::Hmac256, KEY, Some(&[0x31; 256]), 2, MakeFault::TooLong);
+    refuses(
+        &rt,
+        Alg::Hmac256,
+        KEY,
+        Some(&[0x31; 256]),
+        2,
+        MakeFault::TooLong,
+    );
     refuses(&rt, Alg::Hmac256, KEY, None, 1 << 56, MakeFault::TooLong);
     refuses(&rt, Alg::Es256, KEY, None, 1 << 56, MakeFault::WrongKey);
 }

@@ -1,8 +1,6 @@
-use Rattle.std.proofs.Common.{◌≡◌, ℕ, List, [], length, Option, Some, option_map, refl, ap, subst, sym, ◌∙◌, arith}
+use Rattle.std.proofs.Common.{◌≡◌, [], option_map, refl}
 use Rattle.std.proofs.lemmas.Result.{err_from_is_err_and}
 use Rattle.cose_map.specs.Key.View.{contents, material_value}
-use Rattle.cose_mac.specs.Structure.{encoded_string}
-use Rattle.cose_msg.specs.Make.{Writes}
 use Rattle.cose_msg.specs.Message.{secret_of}
 use Rattle.cose_msg.proofs.Makes.{all_made, answered, auth_is, front_failed, front_sure, parts_of, payload_failed, payload_sure, same_length, secret_is, tail_failed, tail_sure}
 use Rattle.cose_msg.proofs.make.make_mac0.Goals as goal

@@ -1,4 +1,4 @@
-use Rattle.std.proofs.Common.{◌≡◌, ℕ, List, [], ◌∷◌, IsTrue, nat_abs, to_z, of_z, refl}
+use Rattle.std.proofs.Common.{◌≡◌, [], ◌∷◌, IsTrue, nat_abs, to_z, of_z, refl}
 use Rattle.std.specs.Int.{w128}
 use Rattle.cose_head.specs.Algorithm.{algorithm_number, is_mac_of}
 use Rattle.cose_head.specs.Head.{shortest_head}

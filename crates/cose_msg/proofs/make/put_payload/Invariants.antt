@@ -1,5 +1,5 @@
-use Rattle.std.proofs.Common.{◌≡◌, ℕ}
-use Rattle.cose_msg.specs.Make.{seen}
+use Rattle.std.proofs.Common.{◌≡◌}
+use Rattle.cose_msg.specs.Writes.{seen}
 use Rattle.cose_msg.proofs.Streaming.{Along}
 use Rattle.cose_msg.proofs.make.put_payload.Given as goal
 
