@@ -6,8 +6,13 @@ use Rattle.cose_map.specs.Key.Value.{KeyValue}
 use Rattle.cose_msg.specs.declared.make.MakeFault.{MakeFault}
 use Rattle.cose_msg.specs.declared.make.MakeFault.TheVariants as faults
 use Rattle.cose_msg.specs.Intake.{TakesInAll}
-use Rattle.cose_msg.specs.Making.{fits_making}
+use Rattle.cose_msg.specs.Making.{fits_making, made}
+use Rattle.cose_msg.specs.Message.{secret_of}
 use Rattle.cose_msg.specs.Sink.{AppendsFront, IsFront}
+
+-- The message that is made under a key.
+abbrev pub made_under : Alg → KeyValue → Option (List ℕ) → List ℕ → List ℕ → List ℕ
+made_under alg key kid aad payload = made alg (secret_of key.material) kid aad payload
 
 -- What is too long: a payload of 2^56 bytes or more, external data of more than 65,535 bytes, an identifier of more than 255.
 abbrev pub is_long_kid : Option (List ℕ) → Bool

@@ -6,9 +6,9 @@ ghost use Rattle.cose_head.specs.Head.{shortest_head};
 ghost use Rattle.cose_head.specs.Shortest.{shortest};
 ghost use Rattle.cose_mac.specs.Structure.{encoded_string};
 ghost use Rattle.cose_map.specs.Key.View.{contents, key_value};
-ghost use Rattle.cose_msg.specs.Make.{Makes, answer_over, argument_fault, is_long_kid, is_too_long as is_too_long_for, make_fault, stops_for_intake, stops_for_sink};
+ghost use Rattle.cose_msg.specs.Make.{Makes, answer_over, argument_fault, is_long_kid, is_too_long as is_too_long_for, made_under, make_fault, stops_for_intake, stops_for_sink};
 ghost use Rattle.cose_msg.specs.Writes.{Streams, Writes, front_of, seen};
-ghost use Rattle.cose_msg.specs.Making.{allows_making as allows_making_by, fits_making, made, protected_made, unprotected_made};
+ghost use Rattle.cose_msg.specs.Making.{allows_making as allows_making_by, fits_making, protected_made, unprotected_made};
 ghost use Rattle.cose_msg.specs.Message.{secret_of};
 
 use crate::intake::Intake;
@@ -192,8 +192,9 @@ fn put_payload<const C: usize, I: Intake, S: Sink>(
 }
 
 /// Makes a COSE_Mac0 under its tag (RFC 9052 section 6.2), in its shortest spelling: the protected header {1: alg}, the
-/// unprotected one {4: kid} or {}, a payload of so many bytes, which the intake gives, and the MAC of both and of the
-/// externally supplied data under the key. It goes to the sink as it is made, and its number of bytes is answered.
+/// unprotected one {4: kid} or {}, a payload of so many bytes, which the intake gives, and the MAC of the protected header,
+/// the externally supplied data and the payload, under the key. It goes to the sink as it is made, and its number of bytes
+/// is answered.
 ///
 /// `WrongKey`, and then `TooLong`, come before anything is taken or put. After the other faults the sink holds a front of
 /// the message: drop it. It takes no byte after the payload, and of the payload it holds `C` bytes at most.
@@ -208,22 +209,22 @@ pub fn make_mac0<const C: usize, I: Intake, S: Sink>(
 ) -> Result<u64, MakeFault>
     requires some { 1 ≤ C }
     requires limit { C ≤ 65536 }
-    // The arguments are at fault before anything is taken or put.
+    // A fault of the arguments is answered before anything is taken or put.
     ensures fault { argument_fault result ≡ make_fault alg (key_value key.now) (option_map contents kid.entry) aad.now length }
     ensures untouched { is_some (argument_fault result) ≡ true → (intake.new ≡ intake.old) × (sink.new ≡ sink.old) }
     // Else: what was taken, what the sink got, and what is answered.
-    ensures makes { argument_fault result ≡ None → (taken : List ℕ) × Makes (made alg (secret_of (key_value key.now).material) (option_map contents kid.entry) aad.now)
+    ensures makes { argument_fault result ≡ None → (taken : List ℕ) × Makes (made_under alg (key_value key.now) (option_map contents kid.entry) aad.now)
         length (I.to_come intake.old) (I.to_come intake.new) (I.ended intake.new) (S.contents sink.old) (S.contents sink.new) result taken }
     // Where the intake tells its bytes, and neither it nor the sink fails.
     ensures answer { (bytes : List ℕ) → argument_fault result ≡ None → I.to_come intake.old ≡ Some bytes
         → stops_for_intake result ≡ false → stops_for_sink result ≡ false
-        → result ≡ answer_over (made alg (secret_of (key_value key.now).material) (option_map contents kid.entry) aad.now) length bytes }
+        → result ≡ answer_over (made_under alg (key_value key.now) (option_map contents kid.entry) aad.now) length bytes }
 
     // It stops only for a failure in this call.
     ensures intake_failure { I.has_failed intake.new ≡ (I.has_failed intake.old || stops_for_intake result) }
     ensures sink_failure { S.has_failed sink.new ≡ (S.has_failed sink.old || stops_for_sink result) }
     // A sink that is sure of the whole message doesn't stop it.
-    ensures sure { (payload : List ℕ) → length_of payload ≡ length → length_of (made alg (secret_of (key_value key.now).material) (option_map contents kid.entry) aad.now payload) ≤ S.sure sink.old
+    ensures sure { (payload : List ℕ) → length_of payload ≡ length → length_of (made_under alg (key_value key.now) (option_map contents kid.entry) aad.now payload) ≤ S.sure sink.old
         → stops_for_sink result ≡ false }
 {
     // What `sure` rests on.
