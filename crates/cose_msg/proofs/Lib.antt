@@ -30,6 +30,10 @@ mod Waits
 mod Decisions
 mod Runs
 mod PayloadLimit
+mod Making
+mod Makes
+mod Puts
+mod Streaming
 mod WorkedMessages
 mod WorkedFronts
 mod WorkedHeaders
@@ -39,3 +43,4 @@ mod WorkedComparisons
 mod WorkedLimits
 mod WorkedShapes
 mod WorkedMaking
+mod WorkedAdmission

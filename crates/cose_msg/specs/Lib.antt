@@ -23,3 +23,5 @@ pub mod Sink
 pub mod Store
 pub mod Kept
 pub mod Run
+pub mod Make
+pub mod Writes

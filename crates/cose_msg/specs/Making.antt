@@ -44,10 +44,9 @@ made alg secret kid aad payload = shortest (
 abbrev pub mac_create : ℤ
 mac_create = pos 9
 
--- Whether a key makes MACs by an algorithm: it is a secret, for no other algorithm, and for no other operations alone.
+-- Whether a key makes MACs by an algorithm: it is a secret, and neither for another algorithm nor for other operations alone.
+abbrev pub allows_making : KeyValue → Alg → Bool
+allows_making key alg = allows_algorithm key.alg (number (algorithm_number alg)) && allows_operation key.operations mac_create
+
 abbrev pub fits_making : KeyValue → Alg → Bool
-fits_making key alg =
-    is_mac_of alg && (
-    has_type key.material Symmetric && (
-    allows_algorithm key.alg (number (algorithm_number alg)) &&
-    allows_operation key.operations mac_create))
+fits_making key alg = is_mac_of alg && (has_type key.material Symmetric && allows_making key alg)
