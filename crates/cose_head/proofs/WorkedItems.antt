@@ -80,6 +80,10 @@ endless_string : answer (0x5f ∷ []) 1 0 ≡ fault Indefinite 0
 unfolding answer
 endless_string = refl
 
+endless_text : answer (0x7f ∷ []) 1 0 ≡ fault Indefinite 0
+unfolding answer
+endless_text = refl
+
 break_alone : answer (0xff ∷ []) 1 0 ≡ fault Indefinite 0
 unfolding answer
 break_alone = refl
