@@ -25,3 +25,4 @@ mod WorkedPayloads
 mod WorkedComparisons
 mod WorkedLimits
 mod WorkedShapes
+mod WorkedSettled
