@@ -166,6 +166,23 @@ other_curve : key (0xa2 ∷ 1 ∷ 2 ∷ 0x20 ∷ 2 ∷ []) ≡ refused UnknownKe
 unfolding key
 other_curve = refl
 
+-- A member of another form is refused at its value: bytes for a curve, a number for x, nil for y, and a number for d.
+bytes_for_a_curve : key (0xa2 ∷ 1 ∷ 2 ∷ 0x20 ∷ 0x40 ∷ []) ≡ refused BadValue 4
+unfolding key
+bytes_for_a_curve = refl
+
+number_for_x : key (0xa3 ∷ 1 ∷ 2 ∷ 0x20 ∷ 1 ∷ 0x21 ∷ 0 ∷ []) ≡ refused BadValue 6
+unfolding key
+number_for_x = refl
+
+nil_for_y : key (0xa4 ∷ 1 ∷ 2 ∷ 0x20 ∷ 1 ∷ 0x21 ∷ 0x58 ∷ 32 ∷ point ++ 0x22 ∷ 0xf6 ∷ []) ≡ refused BadValue 41
+unfolding key
+nil_for_y = refl
+
+number_for_d : key (0xa5 ∷ 1 ∷ 2 ∷ 0x20 ∷ 1 ∷ 0x21 ∷ 0x58 ∷ 32 ∷ point ++ 0x22 ∷ 0xf5 ∷ 0x23 ∷ 0 ∷ []) ≡ refused BadValue 43
+unfolding key
+number_for_d = refl
+
 short_x : key (0xa3 ∷ 1 ∷ 2 ∷ 0x20 ∷ 1 ∷ 0x21 ∷ 0x41 ∷ 7 ∷ []) ≡ refused BadValue 6
 unfolding key
 short_x = refl
