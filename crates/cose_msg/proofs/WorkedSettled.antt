@@ -24,6 +24,25 @@ by_a_head : Gives is_settled (
 unfolding reading
 by_a_head = refl
 
+-- Also one of another type than has to stand there: its argument bytes are waited for.
+by_a_head_of_another_type : Gives is_settled (
+    (hex "18", false) ∷
+    (hex "1800", true) ∷
+    (hex "d83d 98", false) ∷
+    (hex "d83d 9800", true) ∷
+    (hex "d1 b8", false) ∷
+    (hex "d1 b800", true) ∷
+    (hex "d184 78", false) ∷
+    (hex "d184 7800", true) ∷
+    (hex "d18443a10105a0 1b00000000000000", false) ∷
+    (hex "d18443a10105a0 1b0000000000000000", true) ∷
+    (hex "d18443a10105a0 f8", false) ∷
+    (hex "d18443a10105a0 f8ff", true) ∷
+    (hex "d18443a10105a0 426869 78", false) ∷
+    (hex "d18443a10105a0 426869 7800", true) ∷ [])
+unfolding reading
+by_a_head_of_another_type = refl
+
 -- A bucket, both buckets and the choice of the key need no byte behind the bucket.
 by_a_bucket : Gives is_settled (
     (hex "d18441", false) ∷
