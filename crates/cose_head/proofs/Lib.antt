@@ -1,6 +1,9 @@
 pub mod HeadLemmas
 pub mod WorkedHeads
 pub mod WorkedItems
+mod WorkedTrees
+mod WorkedAlgorithms
+mod WorkedReasons
 pub mod WorkedOpen
 pub mod Heads
 pub mod Measured

@@ -1,9 +1,9 @@
--- Bare heads on examples, by computing.
+-- Bare heads and shortest heads on examples, by computing.
 use Rattle.std.proofs.Common.{◌≡◌, ℕ, [], ◌∷◌, refl}
 use Rattle.cose_head.specs.declared.head.Head.{Head}
 use Rattle.cose_head.specs.declared.head.HeadStep.TheVariants.{Got, More, Fault}
 use Rattle.cose_head.specs.declared.reason.Reason.TheVariants.{Reserved, Indefinite, BadSimple}
-use Rattle.cose_head.specs.Head.{bare_head}
+use Rattle.cose_head.specs.Head.{bare_head, shortest_head}
 
 abbrev head : ℕ → ℕ → ℕ → Head
 head major arg width = record { major = major; arg = arg; width = width }
@@ -67,3 +67,41 @@ half_argument = refl
 no_byte : bare_head (0x141 ∷ []) ≡ Got (head 2 1 1) 1
 unfolding bare_head
 no_byte = refl
+
+-- the shortest head of an argument: at each width the last one that fits, and the first that doesn't
+short_23 : shortest_head 2 23 ≡ 0x57 ∷ []
+unfolding shortest_head
+short_23 = refl
+
+short_24 : shortest_head 2 24 ≡ 0x58 ∷ 24 ∷ []
+unfolding shortest_head
+short_24 = refl
+
+short_255 : shortest_head 2 255 ≡ 0x58 ∷ 0xff ∷ []
+unfolding shortest_head
+short_255 = refl
+
+short_256 : shortest_head 2 256 ≡ 0x59 ∷ 1 ∷ 0 ∷ []
+unfolding shortest_head
+short_256 = refl
+
+short_65_535 : shortest_head 2 65_535 ≡ 0x59 ∷ 0xff ∷ 0xff ∷ []
+unfolding shortest_head
+short_65_535 = refl
+
+short_65_536 : shortest_head 2 65_536 ≡ 0x5a ∷ 0 ∷ 1 ∷ 0 ∷ 0 ∷ []
+unfolding shortest_head
+short_65_536 = refl
+
+short_below_2_32 : shortest_head 2 0xffff_ffff ≡ 0x5a ∷ 0xff ∷ 0xff ∷ 0xff ∷ 0xff ∷ []
+unfolding shortest_head
+short_below_2_32 = refl
+
+short_2_32 : shortest_head 2 0x1_0000_0000 ≡ 0x5b ∷ 0 ∷ 0 ∷ 0 ∷ 1 ∷ 0 ∷ 0 ∷ 0 ∷ 0 ∷ []
+unfolding shortest_head
+short_2_32 = refl
+
+-- the major type is in the high three bits, whatever the width
+short_tag_61 : shortest_head 6 61 ≡ 0xd8 ∷ 61 ∷ []
+unfolding shortest_head
+short_tag_61 = refl

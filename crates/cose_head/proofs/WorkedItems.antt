@@ -24,6 +24,19 @@ no_room : answer [] 0 0 ≡ fault PastRoom 0
 unfolding answer
 no_room = refl
 
+-- no room goes before what the byte is
+no_room_for_a_number : answer (0 ∷ []) 0 0 ≡ fault PastRoom 0
+unfolding answer
+no_room_for_a_number = refl
+
+no_room_for_reserved_bits : answer (0x1c ∷ []) 0 0 ≡ fault PastRoom 0
+unfolding answer
+no_room_for_reserved_bits = refl
+
+no_room_for_a_child : answer (0x82 ∷ 0x41 ∷ 1 ∷ 0x1c ∷ []) 3 1 ≡ fault PastRoom 3
+unfolding answer
+no_room_for_a_child = refl
+
 no_bytes : answer [] 1 0 ≡ fault Truncated 0
 unfolding answer
 no_bytes = refl
@@ -79,6 +92,10 @@ endless_tag = refl
 endless_string : answer (0x5f ∷ []) 1 0 ≡ fault Indefinite 0
 unfolding answer
 endless_string = refl
+
+endless_text : answer (0x7f ∷ []) 1 0 ≡ fault Indefinite 0
+unfolding answer
+endless_text = refl
 
 break_alone : answer (0xff ∷ []) 1 0 ≡ fault Indefinite 0
 unfolding answer

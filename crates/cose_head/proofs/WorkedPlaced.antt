@@ -64,6 +64,15 @@ nil : seen (0xf6 ∷ []) ≡ other
 unfolding seen
 nil = refl
 
+-- the simple values next to the truth values
+simple_19 : seen (0xf3 ∷ []) ≡ other
+unfolding seen
+simple_19 = refl
+
+undefined_value : seen (0xf7 ∷ []) ≡ other
+unfolding seen
+undefined_value = refl
+
 no_bytes : seen [] ≡ other
 unfolding seen
 no_bytes = refl

@@ -1,13 +1,13 @@
 -- The lengths of the hash functions (FIPS 180-4, figure 1) and the blocks of HMAC (RFC 2104 section 2), on examples, by computing.
 use Rattle.std.proofs.Common.{◌≡◌, ℕ, List, [], ◌∷◌, ◌++◌, refl}
-use Rattle.std.specs.Prelude.{replicate}
+use Rattle.std.specs.Prelude.{replicate, take}
 use Rattle.sha2.specs.Sha256.{sha256}
 use Rattle.sha2.specs.Sha512.{sha384, sha512}
-use Rattle.cose_head.specs.declared.algorithm.Alg.TheVariants.{Hmac384, Hmac512, Es256}
+use Rattle.cose_head.specs.declared.algorithm.Alg.TheVariants.{Hmac64, Hmac256, Hmac384, Hmac512, Es256}
 use Rattle.cose_head.specs.declared.algorithm.Hash.TheVariants.{Sha256, Sha384, Sha512}
 use Rattle.cose_mac.proofs.HashLemmas.{length_digest}
 use Rattle.cose_mac.specs.Hash.{function_of, digest_of, digest_length_of}
-use Rattle.cose_mac.specs.Hmac.{key_block, xor_pad, ipad, opad, hmac}
+use Rattle.cose_mac.specs.Hmac.{key_block, xor_pad, ipad, opad, hmac, mac}
 
 block_of_sha256 : (function_of Sha256).block_length ≡ 64
 block_of_sha256 = refl
@@ -54,6 +54,12 @@ inner_of_jefe = 0x7c ∷ 0x53 ∷ 0x50 ∷ 0x53 ∷ replicate 60 0x36
 abbrev outer_of_jefe : List ℕ
 outer_of_jefe = 0x16 ∷ 0x39 ∷ 0x3a ∷ 0x39 ∷ replicate 60 0x5c
 
+abbrev long_inner_of_jefe : List ℕ
+long_inner_of_jefe = 0x7c ∷ 0x53 ∷ 0x50 ∷ 0x53 ∷ replicate 124 0x36
+
+abbrev long_outer_of_jefe : List ℕ
+long_outer_of_jefe = 0x16 ∷ 0x39 ∷ 0x3a ∷ 0x39 ∷ replicate 124 0x5c
+
 inner_block : xor_pad (key_block (function_of Sha256) jefe) ipad ≡ inner_of_jefe
 unfolding key_block xor_pad
 inner_block = refl
@@ -66,6 +72,26 @@ outer_block = refl
 hmac_of_jefe : (text : List ℕ) → hmac (function_of Sha256) jefe text ≡ sha256 (outer_of_jefe ++ sha256 (inner_of_jefe ++ text))
 unfolding hmac key_block xor_pad
 hmac_of_jefe text = refl
+
+-- HMAC 256/64 keeps the leftmost 8 bytes of it, and HMAC 256/256 all 32 (RFC 9053 section 3.1).
+mac_of_eight_bytes : (text : List ℕ) → mac Hmac64 jefe text ≡ take 8 (sha256 (outer_of_jefe ++ sha256 (inner_of_jefe ++ text)))
+unfolding mac hmac key_block xor_pad
+mac_of_eight_bytes text = refl
+
+mac_of_32_bytes : (text : List ℕ) → mac Hmac256 jefe text ≡ take 32 (sha256 (outer_of_jefe ++ sha256 (inner_of_jefe ++ text)))
+unfolding mac hmac key_block xor_pad
+mac_of_32_bytes text = refl
+
+-- HMAC 384/384 and 512/512 hash by SHA-384 and by SHA-512, whose blocks have 128 bytes.
+mac_by_sha384 : (text : List ℕ) → mac Hmac384 jefe text
+    ≡ take 48 (sha384 (long_outer_of_jefe ++ sha384 (long_inner_of_jefe ++ text)))
+unfolding mac hmac key_block xor_pad
+mac_by_sha384 text = refl
+
+mac_by_sha512 : (text : List ℕ) → mac Hmac512 jefe text
+    ≡ take 64 (sha512 (long_outer_of_jefe ++ sha512 (long_inner_of_jefe ++ text)))
+unfolding mac hmac key_block xor_pad
+mac_by_sha512 text = refl
 
 -- A key of a byte less than a block gets one zero.
 key_below_a_block : key_block (function_of Sha256) (replicate 63 0xaa) ≡ replicate 63 0xaa ++ 0 ∷ []

@@ -3,3 +3,4 @@ pub mod WorkedLabels
 pub mod WorkedBuckets
 pub mod WorkedKeys
 pub mod WorkedChoice
+mod WorkedReasons

@@ -1,5 +1,5 @@
 -- Buckets and pairs of buckets on examples, by computing.
-use Rattle.std.proofs.Common.{◌≡◌, ℕ, pos, List, [], ◌∷◌, Option, Some, None, Ok, Err, refl}
+use Rattle.std.proofs.Common.{◌≡◌, ℕ, pos, List, [], ◌∷◌, Option, Some, None, Ok, Err, map, refl}
 use Rattle.std.specs.Str.{is_utf8, chars}
 use Rattle.cose_head.specs.declared.reason.Reason.{Reason}
 use Rattle.cose_head.specs.declared.reason.Reason.TheVariants.{NotMap, BadLabel, DuplicateLabel, BothBuckets, BadValue, CritUnprotected, CritAbsent, CritUnknown, BothIvs, PastRoom, TooDeep, Trailing}
@@ -11,7 +11,7 @@ use Rattle.cose_head.specs.Placed.{Placed, look, children_of, items_from, head_o
 use Rattle.cose_map.specs.Label.{LabelValue, number, words}
 use Rattle.cose_map.specs.Map.Read.{Read, check_pairs}
 use Rattle.cose_map.specs.Map.Pairs.{Pair}
-use Rattle.cose_map.specs.Bucket.{bucket_of}
+use Rattle.cose_map.specs.Bucket.{bucket_of, alg_of, kid_of}
 use Rattle.cose_map.specs.Bucket.Form.{bucket_table}
 use Rattle.cose_map.specs.Bucket.Both.{pair_faults, least}
 
@@ -52,6 +52,34 @@ bytes_in_crit = refl
 no_utf8 : bucket 0 (0xa1 ∷ 0x61 ∷ 0xff ∷ 0 ∷ []) ≡ refused BadLabel 1
 unfolding bucket
 no_utf8 = refl
+
+-- Neither an integer nor a text: bytes, an array, a map, a tag, a truth value, nil and a float.
+other_labels : map (bucket 0) (
+    (0xa1 ∷ 0x40 ∷ 0 ∷ []) ∷
+    (0xa1 ∷ 0x80 ∷ 0 ∷ []) ∷
+    (0xa1 ∷ 0xa0 ∷ 0 ∷ []) ∷
+    (0xa1 ∷ 0xc1 ∷ 1 ∷ 0 ∷ []) ∷
+    (0xa1 ∷ 0xf4 ∷ 0 ∷ []) ∷
+    (0xa1 ∷ 0xf6 ∷ 0 ∷ []) ∷
+    (0xa1 ∷ 0xf9 ∷ 0 ∷ 0 ∷ 0 ∷ []) ∷ [])
+    ≡ refused BadLabel 1 ∷ refused BadLabel 1 ∷ refused BadLabel 1 ∷ refused BadLabel 1 ∷ refused BadLabel 1 ∷ refused BadLabel 1 ∷
+    refused BadLabel 1 ∷ []
+unfolding bucket
+other_labels = refl
+
+-- "b", "a" and "b": the third is the first again.
+words_twice : bucket 0 (0xa3 ∷ 0x61 ∷ 0x62 ∷ 0 ∷ 0x61 ∷ 0x61 ∷ 0 ∷ 0x61 ∷ 0x62 ∷ 0 ∷ []) ≡ refused DuplicateLabel 7
+unfolding bucket
+words_twice = refl
+
+-- A label goes before its value, and a pair before the next one.
+label_before_value : bucket 0 (0xa2 ∷ 4 ∷ 0x41 ∷ 0 ∷ 4 ∷ 0 ∷ []) ≡ refused DuplicateLabel 4
+unfolding bucket
+label_before_value = refl
+
+value_before_next_label : bucket 0 (0xa2 ∷ 4 ∷ 0 ∷ 0x40 ∷ 0 ∷ []) ≡ refused BadValue 2
+unfolding bucket
+value_before_next_label = refl
 
 minus_one_twice : bucket 0 (0xa2 ∷ 0x20 ∷ 0 ∷ 0x38 ∷ 0 ∷ 0 ∷ []) ≡ refused DuplicateLabel 3
 unfolding bucket
@@ -100,6 +128,19 @@ abbrev pairs_in : Read (List Pair) → List Pair
 pairs_in (Ok pairs) = pairs
 pairs_in (Err refusal) = []
 
+-- An empty identifier is one, and an algorithm may be named by a text.
+empty_kid : kid_of (pairs_in (bucket 0 (0xa1 ∷ 4 ∷ 0x40 ∷ []))) ≡ Some []
+unfolding bucket look head_of_item bare_head
+empty_kid = refl
+
+no_kid : kid_of (pairs_in (bucket 0 (0xa1 ∷ 5 ∷ 0x40 ∷ []))) ≡ None
+unfolding bucket look head_of_item bare_head
+no_kid = refl
+
+named_algorithm : alg_of (pairs_in (bucket 0 (0xa1 ∷ 1 ∷ 0x61 ∷ 0x35 ∷ []))) ≡ Some (words (0x35 ∷ []))
+unfolding bucket look head_of_item bare_head is_utf8 chars lib.Utf8.encode
+named_algorithm = refl
+
 unfoldable both : List ℕ → ℕ → List ℕ → List LabelValue → ℕ → Option Refusal
 unfolding bucket pair_faults children_of items_from look head_of_item bare_head read head depth_of is_utf8 chars lib.Utf8.encode
 both protected place unprotected understood after = least (pair_faults (pairs_in (bucket 3 protected)) (pairs_in (bucket place unprotected)) understood after)
@@ -134,3 +175,70 @@ crit_unprotected = refl
 both_are_there : both (0xa2 ∷ 1 ∷ 5 ∷ 5 ∷ 0x41 ∷ 0 ∷ []) 9 (0xa1 ∷ 6 ∷ 0x41 ∷ 0 ∷ []) [] 13 ≡ wrong BothIvs 13
 unfolding both
 both_are_there = refl
+
+-- Both are in one bucket, or the other way round.
+both_in_the_protected : both (0xa2 ∷ 5 ∷ 0x41 ∷ 0 ∷ 6 ∷ 0x41 ∷ 0 ∷ []) 10 (0xa0 ∷ []) [] 11 ≡ wrong BothIvs 11
+unfolding both
+both_in_the_protected = refl
+
+both_in_the_unprotected : both (0xa0 ∷ []) 4 (0xa2 ∷ 5 ∷ 0x41 ∷ 0 ∷ 6 ∷ 0x41 ∷ 0 ∷ []) [] 11 ≡ wrong BothIvs 11
+unfolding both
+both_in_the_unprotected = refl
+
+partial_in_the_protected : both (0xa1 ∷ 6 ∷ 0x41 ∷ 0 ∷ []) 7 (0xa1 ∷ 5 ∷ 0x41 ∷ 0 ∷ []) [] 11 ≡ wrong BothIvs 11
+unfolding both
+partial_in_the_protected = refl
+
+one_iv : both (0xa1 ∷ 5 ∷ 0x41 ∷ 0 ∷ []) 7 (0xa1 ∷ 4 ∷ 0x41 ∷ 0 ∷ []) [] 11 ≡ None
+unfolding both
+one_iv = refl
+
+-- A label that every reader knows has to be there all the same, and in the protected bucket; and so has a later element.
+known_and_absent : both (0xa2 ∷ 1 ∷ 5 ∷ 2 ∷ 0x81 ∷ 4 ∷ []) 9 (0xa1 ∷ 4 ∷ 0x41 ∷ 7 ∷ []) [] 13 ≡ wrong CritAbsent 8
+unfolding both
+known_and_absent = refl
+
+second_is_absent : both (0xa2 ∷ 1 ∷ 5 ∷ 2 ∷ 0x82 ∷ 1 ∷ 0x18 ∷ 0x2a ∷ []) 11 (0xa0 ∷ []) [] 12 ≡ wrong CritAbsent 9
+unfolding both
+second_is_absent = refl
+
+-- The labels 1 to 6 are known, and those next to them and texts are not.
+seven_is_unknown : both (0xa3 ∷ 1 ∷ 5 ∷ 2 ∷ 0x81 ∷ 7 ∷ 7 ∷ 0 ∷ []) 11 (0xa0 ∷ []) [] 12 ≡ wrong CritUnknown 8
+unfolding both
+seven_is_unknown = refl
+
+zero_is_unknown : both (0xa2 ∷ 0 ∷ 0 ∷ 2 ∷ 0x81 ∷ 0 ∷ []) 9 (0xa0 ∷ []) [] 10 ≡ wrong CritUnknown 8
+unfolding both
+zero_is_unknown = refl
+
+words_are_unknown : both (0xa2 ∷ 0x61 ∷ 0x31 ∷ 0 ∷ 2 ∷ 0x81 ∷ 0x61 ∷ 0x31 ∷ []) 11 (0xa0 ∷ []) [] 12 ≡ wrong CritUnknown 9
+unfolding both
+words_are_unknown = refl
+
+six_is_known : both (0xa2 ∷ 2 ∷ 0x81 ∷ 6 ∷ 6 ∷ 0x40 ∷ []) 9 (0xa0 ∷ []) [] 10 ≡ None
+unfolding both
+six_is_known = refl
+
+-- Of the elements of crit the first at fault is told, whatever its fault is.
+first_of_two_absent : both (0xa2 ∷ 1 ∷ 5 ∷ 2 ∷ 0x82 ∷ 0x18 ∷ 0x2a ∷ 0x18 ∷ 0x2b ∷ []) 12 (0xa0 ∷ []) [] 13 ≡ wrong CritAbsent 8
+unfolding both
+first_of_two_absent = refl
+
+unknown_before_a_later_absent : both (0xa3 ∷ 1 ∷ 5 ∷ 2 ∷ 0x82 ∷ 0x18 ∷ 0x2a ∷ 0x18 ∷ 0x2b ∷ 0x18 ∷ 0x2a ∷ 0 ∷ []) 15 (0xa0 ∷ []) [] 16
+    ≡ wrong CritUnknown 8
+unfolding both
+unknown_before_a_later_absent = refl
+
+-- The places decide and not the order of the buckets: here the unprotected one stands first, or its label where the
+-- element of crit does.
+least_place_in_the_unprotected : both (0xa2 ∷ 1 ∷ 5 ∷ 2 ∷ 0x81 ∷ 4 ∷ []) 0 (0xa1 ∷ 1 ∷ 5 ∷ []) [] 12 ≡ wrong BothBuckets 1
+unfolding both
+least_place_in_the_unprotected = refl
+
+smaller_number_in_the_unprotected : both (0xa2 ∷ 1 ∷ 5 ∷ 2 ∷ 0x81 ∷ 4 ∷ []) 7 (0xa1 ∷ 1 ∷ 5 ∷ []) [] 12 ≡ wrong BothBuckets 8
+unfolding both
+smaller_number_in_the_unprotected = refl
+
+both_ivs_at_the_least_place : both (0xa2 ∷ 1 ∷ 5 ∷ 5 ∷ 0x41 ∷ 0 ∷ []) 9 (0xa2 ∷ 1 ∷ 5 ∷ 6 ∷ 0x41 ∷ 0 ∷ []) [] 2 ≡ wrong BothIvs 2
+unfolding both
+both_ivs_at_the_least_place = refl

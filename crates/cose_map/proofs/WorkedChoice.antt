@@ -130,10 +130,30 @@ own_algorithm_of_other_kind : answer None None None (secret None (Some (number (
 unfolding answer
 own_algorithm_of_other_kind = refl
 
+-- A key for an algorithm that a text names.
+abbrev for_words : KeyValue
+for_words = secret None (Some (words (0x35 ∷ []))) None (0x61 ∷ [])
+
+own_named_algorithm : answer None None None (for_words ∷ []) ≡ Err NoAlg
+unfolding answer
+own_named_algorithm = refl
+
+other_named_algorithm : answer five None None (for_words ∷ []) ≡ Err NoKey
+unfolding answer
+other_named_algorithm = refl
+
+same_named_algorithm : answer None (Some (words (0x35 ∷ []))) None (for_words ∷ []) ≡ Err UnknownAlg
+unfolding answer
+same_named_algorithm = refl
+
 -- The protected bucket's algorithm counts, whatever the unprotected one's is.
 protected_first : answer five (Some (number (pos 99))) None (plain ∷ []) ≡ Ok (plain, pos 5)
 unfolding answer
 protected_first = refl
+
+protected_against_own : answer (Some (number (pos 4))) five None (for_five ∷ []) ≡ Err NoKey
+unfolding answer
+protected_against_own = refl
 
 protected_unknown : answer (Some (number (pos 99))) five None (plain ∷ []) ≡ Err UnknownAlg
 unfolding answer
@@ -188,6 +208,26 @@ kid_unasked : answer five None None (named ∷ []) ≡ Ok (named, pos 5)
 unfolding answer
 kid_unasked = refl
 
+longer_kid : answer five None (Some (0x31 ∷ 0x32 ∷ [])) (named ∷ []) ≡ Err NoKey
+unfolding answer
+longer_kid = refl
+
+-- An empty identifier is one, of a key as of a message.
+abbrev with_empty_kid : KeyValue
+with_empty_kid = secret (Some []) None None (0x61 ∷ [])
+
+empty_kid : answer five None (Some one) (with_empty_kid ∷ []) ≡ Err NoKey
+unfolding answer
+empty_kid = refl
+
+empty_kid_asked : answer five None (Some []) (named ∷ []) ≡ Err NoKey
+unfolding answer
+empty_kid_asked = refl
+
+same_empty_kid : answer five None (Some []) (with_empty_kid ∷ []) ≡ Ok (with_empty_kid, pos 5)
+unfolding answer
+same_empty_kid = refl
+
 -- Whatever made no key fit, the algorithm's absence goes first.
 other_kid_unprotected : answer None five (Some two) (named ∷ []) ≡ Err AlgUnprotected
 unfolding answer
@@ -201,6 +241,11 @@ other_kid_no_algorithm = refl
 verifies : answer five None None (secret None None (Some (pos 9 ∷ pos 10 ∷ [])) (0x61 ∷ []) ∷ []) ≡ Ok (secret None None (Some (pos 9 ∷ pos 10 ∷ [])) (0x61 ∷ []), pos 5)
 unfolding answer
 verifies = refl
+
+verifies_and_creates : answer five None None (secret None None (Some (pos 10 ∷ pos 9 ∷ [])) (0x61 ∷ []) ∷ [])
+    ≡ Ok (secret None None (Some (pos 10 ∷ pos 9 ∷ [])) (0x61 ∷ []), pos 5)
+unfolding answer
+verifies_and_creates = refl
 
 no_operations : answer five None None (secret None None (Some []) (0x61 ∷ []) ∷ []) ≡ Err NoKey
 unfolding answer

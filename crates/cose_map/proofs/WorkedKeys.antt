@@ -1,5 +1,5 @@
 -- Keys and key sets on examples, by computing.
-use Rattle.std.proofs.Common.{◌≡◌, ℕ, pos, true, List, [], ◌∷◌, ◌++◌, replicate, Option, Some, None, Ok, Err, refl}
+use Rattle.std.proofs.Common.{◌≡◌, ℕ, pos, true, false, List, [], ◌∷◌, ◌++◌, replicate, Option, Some, None, Ok, Err, refl}
 use Rattle.std.specs.Str.{is_utf8, chars}
 use Rattle.cose_head.specs.declared.reason.Reason.{Reason}
 use Rattle.cose_head.specs.declared.reason.Reason.TheVariants.{PastRoom, BadValue, BadKeySet, UnknownKey, Trailing}
@@ -7,13 +7,13 @@ use Rattle.cose_head.specs.Head.{bare_head}
 use Rattle.cose_head.specs.Item.{depth_of}
 use Rattle.cose_head.specs.Reading.{read, head}
 use Rattle.cose_head.specs.Placed.{look, children_of, items_from, head_of_item}
-use Rattle.cose_map.specs.Label.{LabelValue, number}
+use Rattle.cose_map.specs.Label.{LabelValue, number, words}
 use Rattle.cose_map.specs.Map.Read.{Read, check_pairs}
 use Rattle.cose_map.specs.Key.{key_of}
 use Rattle.cose_map.specs.Key.Form.{key_table}
 use Rattle.cose_map.specs.Key.Material.{material_of}
 use Rattle.cose_map.specs.KeySet.{keys_of}
-use Rattle.cose_map.specs.Key.Value.{KeyValue, symmetric, elliptic, sign}
+use Rattle.cose_map.specs.Key.Value.{KeyValue, symmetric, elliptic, coordinate, sign}
 
 unfoldable keys : List ℕ → Read (List KeyValue)
 unfolding keys_of key_of key_table material_of check_pairs children_of items_from look head_of_item bare_head read head depth_of is_utf8 chars lib.Utf8.encode
@@ -74,6 +74,11 @@ unknown_type : keys (0x82 ∷ 0xa2 ∷ 1 ∷ 1 ∷ 0x20 ∷ 6 ∷ 0xa2 ∷ 1 ∷
 unfolding keys
 unknown_type = refl
 
+keys_in_order : keys (0x82 ∷ 0xa2 ∷ 1 ∷ 4 ∷ 0x20 ∷ 0x41 ∷ 0x61 ∷ 0xa2 ∷ 1 ∷ 4 ∷ 0x20 ∷ 0x44 ∷ jefe)
+    ≡ Ok (record { kid = None; alg = None; operations = None; material = symmetric (0x61 ∷ []) } ∷ secret None ∷ [])
+unfolding keys
+keys_in_order = refl
+
 no_type : key (0xa0 ∷ []) ≡ refused BadValue 0
 unfolding key
 no_type = refl
@@ -100,6 +105,22 @@ operations : key (0xa3 ∷ 1 ∷ 4 ∷ 4 ∷ 0x82 ∷ 0x0a ∷ 0x61 ∷ 0xff ∷
 unfolding key
 operations = refl
 
+all_operations : key (0xa3 ∷ 1 ∷ 4 ∷ 4 ∷ 0x83 ∷ 9 ∷ 0x61 ∷ 0x61 ∷ 0x0a ∷ 0x20 ∷ 0x41 ∷ 0x61 ∷ [])
+    ≡ Ok (record { kid = None; alg = None; operations = Some (pos 9 ∷ pos 10 ∷ []); material = symmetric (0x61 ∷ []) })
+unfolding key
+all_operations = refl
+
+-- An algorithm may be named by a text, and an empty identifier is one.
+kid_and_named_algorithm : key (0xa4 ∷ 1 ∷ 4 ∷ 2 ∷ 0x41 ∷ 0x31 ∷ 3 ∷ 0x61 ∷ 0x35 ∷ 0x20 ∷ 0x41 ∷ 0x61 ∷ [])
+    ≡ Ok (record { kid = Some (0x31 ∷ []); alg = Some (words (0x35 ∷ [])); operations = None; material = symmetric (0x61 ∷ []) })
+unfolding key
+kid_and_named_algorithm = refl
+
+empty_kid : key (0xa3 ∷ 1 ∷ 4 ∷ 2 ∷ 0x40 ∷ 0x20 ∷ 0x41 ∷ 0x61 ∷ [])
+    ≡ Ok (record { kid = Some []; alg = None; operations = None; material = symmetric (0x61 ∷ []) })
+unfolding key
+empty_kid = refl
+
 abbrev point : List ℕ
 point = replicate 32 7
 
@@ -108,9 +129,59 @@ sign_of_y : key (0xa4 ∷ 1 ∷ 2 ∷ 0x20 ∷ 1 ∷ 0x21 ∷ 0x58 ∷ 32 ∷ po
 unfolding key
 sign_of_y = refl
 
+sign_of_even_y : key (0xa4 ∷ 1 ∷ 2 ∷ 0x20 ∷ 1 ∷ 0x21 ∷ 0x58 ∷ 32 ∷ point ++ 0x22 ∷ 0xf4 ∷ [])
+    ≡ Ok (record { kid = None; alg = None; operations = None; material = elliptic 1 point (sign false) })
+unfolding key
+sign_of_even_y = refl
+
+-- Both coordinates, with their leading zeros (RFC 9053 section 7.1.1).
+abbrev small : List ℕ
+small = 0 ∷ 0 ∷ replicate 30 8
+
+both_coordinates : key (0xa4 ∷ 1 ∷ 2 ∷ 0x20 ∷ 1 ∷ 0x21 ∷ 0x58 ∷ 32 ∷ point ++ 0x22 ∷ 0x58 ∷ 32 ∷ small)
+    ≡ Ok (record { kid = None; alg = None; operations = None; material = elliptic 1 point (coordinate small) })
+unfolding key
+both_coordinates = refl
+
+leading_zeros : key (0xa4 ∷ 1 ∷ 2 ∷ 0x20 ∷ 1 ∷ 0x21 ∷ 0x58 ∷ 32 ∷ small ++ 0x22 ∷ 0x58 ∷ 32 ∷ point)
+    ≡ Ok (record { kid = None; alg = None; operations = None; material = elliptic 1 small (coordinate point) })
+unfolding key
+leading_zeros = refl
+
+-- A coordinate without its leading zero, and one that has a zero too many.
+short_y : key (0xa4 ∷ 1 ∷ 2 ∷ 0x20 ∷ 1 ∷ 0x21 ∷ 0x58 ∷ 32 ∷ point ++ 0x22 ∷ 0x58 ∷ 31 ∷ replicate 31 7) ≡ refused BadValue 41
+unfolding key
+short_y = refl
+
+long_y : key (0xa4 ∷ 1 ∷ 2 ∷ 0x20 ∷ 1 ∷ 0x21 ∷ 0x58 ∷ 32 ∷ point ++ 0x22 ∷ 0x58 ∷ 33 ∷ 0 ∷ point) ≡ refused BadValue 41
+unfolding key
+long_y = refl
+
+-- A curve that a text names isn't known, also where the text is no UTF-8.
+named_curve : key (0xa2 ∷ 1 ∷ 2 ∷ 0x20 ∷ 0x61 ∷ 0xff ∷ []) ≡ refused UnknownKey 0
+unfolding key
+named_curve = refl
+
 other_curve : key (0xa2 ∷ 1 ∷ 2 ∷ 0x20 ∷ 2 ∷ []) ≡ refused UnknownKey 0
 unfolding key
 other_curve = refl
+
+-- A member of another form is refused at its value: bytes for a curve, a number for x, nil for y, and a number for d.
+bytes_for_a_curve : key (0xa2 ∷ 1 ∷ 2 ∷ 0x20 ∷ 0x40 ∷ []) ≡ refused BadValue 4
+unfolding key
+bytes_for_a_curve = refl
+
+number_for_x : key (0xa3 ∷ 1 ∷ 2 ∷ 0x20 ∷ 1 ∷ 0x21 ∷ 0 ∷ []) ≡ refused BadValue 6
+unfolding key
+number_for_x = refl
+
+nil_for_y : key (0xa4 ∷ 1 ∷ 2 ∷ 0x20 ∷ 1 ∷ 0x21 ∷ 0x58 ∷ 32 ∷ point ++ 0x22 ∷ 0xf6 ∷ []) ≡ refused BadValue 41
+unfolding key
+nil_for_y = refl
+
+number_for_d : key (0xa5 ∷ 1 ∷ 2 ∷ 0x20 ∷ 1 ∷ 0x21 ∷ 0x58 ∷ 32 ∷ point ++ 0x22 ∷ 0xf5 ∷ 0x23 ∷ 0 ∷ []) ≡ refused BadValue 43
+unfolding key
+number_for_d = refl
 
 short_x : key (0xa3 ∷ 1 ∷ 2 ∷ 0x20 ∷ 1 ∷ 0x21 ∷ 0x41 ∷ 7 ∷ []) ≡ refused BadValue 6
 unfolding key

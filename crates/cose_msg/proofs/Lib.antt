@@ -44,3 +44,4 @@ mod WorkedLimits
 mod WorkedShapes
 mod WorkedMaking
 mod WorkedAdmission
+mod WorkedSettled

@@ -33,6 +33,15 @@ under_five : Gives (verdict for_five) (
 unfolding reading
 under_five = refl
 
+-- An algorithm that isn't known, or that a text names, goes before what the keys say, in the unprotected bucket too.
+unknown_algorithms : Gives (verdict for_five) (
+    (hex "d18441a0a10126", refused UnknownAlg 7) ∷
+    (hex "d18441a0a1016135", refused UnknownAlg 8) ∷
+    (hex "d18444a1016135a0", refused UnknownAlg 8) ∷
+    (hex "d18443a10103a0", refused UnknownAlg 7) ∷ [])
+unfolding reading
+unknown_algorithms = refl
+
 -- The kind is that of the tag, or the one that is wanted.
 other_kinds : Gives (verdict plain) (
     (hex "d28443a10105a0", refused UnknownAlg 7) ∷
@@ -68,6 +77,18 @@ same_kid : Gives (verdict (secret one None None ∷ secret two None None ∷ [])
     (hex "d18443a10105a0", refused AmbiguousKey 7) ∷ [])
 unfolding reading
 same_kid = refl
+
+-- An empty identifier is one.
+empty_kid : Gives (verdict (secret one None None ∷ secret (Some []) None None ∷ [])) (
+    (hex "d18443a10105a10440", refused Truncated 9) ∷
+    (hex "d18443a10105a1044133", refused NoKey 10) ∷
+    (hex "d18443a10105a0", refused AmbiguousKey 7) ∷ [])
+unfolding reading
+empty_kid = refl
+
+empty_kid_of_none : Gives (verdict (secret one None None ∷ [])) ((hex "d18443a10105a10440", refused NoKey 9) ∷ [])
+unfolding reading
+empty_kid_of_none = refl
 
 any_kid : Gives (verdict plain) ((hex "d18443a10105a1044131", refused Truncated 10) ∷ [])
 unfolding reading

@@ -116,6 +116,14 @@ sign1 : (decides : Decides) (byte : ℕ → ℕ) →
 unfolding reading structure sig_structure shortest shortest_all shortest_head
 sign1 decides byte = refl
 
+-- The signature is of the external data and the payload too.
+sign1_with_data : (decides : Decides) (byte : ℕ → ℕ) →
+    (reading (verifying 1024 4 (record (under (point None ∷ [])) { aad = hex "2a" }) decides) (hex "d28443a10126a0 426869 5840" ++ any byte 64)).answer ≡
+    (if decides (point None) (digest_of Es256 (hex "846a5369676e61747572653143a10126412a426869")) (any byte 64)
+    then decided (Authentic Sign1 Es256 2 76) else refused BadAuth 10)
+unfolding reading structure sig_structure shortest shortest_all shortest_head
+sign1_with_data decides byte = refl
+
 -- Nobody is asked where tags alone are compared: all bytes of the signature are there, and that is all.
 signature_left : (byte : ℕ → ℕ) →
     (reading (comparing 1024 4 (under (point None ∷ []))) (hex "d28443a10126a0 40 5840" ++ any byte 64)).answer ≡

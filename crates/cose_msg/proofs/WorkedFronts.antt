@@ -86,6 +86,34 @@ wanting_sign1 : Gives (wanting wants.Sign1) (
 unfolding reading
 wanting_sign1 = refl
 
+-- Behind the tag of a CWT the array alone doesn't do, also where the one kind that is wanted may stand without its tag.
+behind_the_cwt_tag_wanting_mac0 : Gives (wanting wants.Mac0) (
+    (hex "d83dd1", refused Truncated 3) ∷
+    (hex "d83d84", refused CwtTagAlone 2) ∷
+    (hex "d83dd83d", refused WrongTag 2) ∷ [])
+unfolding reading
+behind_the_cwt_tag_wanting_mac0 = refl
+
+behind_the_cwt_tag_wanting_sign1 : Gives (wanting wants.Sign1) (
+    (hex "d83dd2", refused Truncated 3) ∷
+    (hex "d83d84", refused CwtTagAlone 2) ∷ [])
+unfolding reading
+behind_the_cwt_tag_wanting_sign1 = refl
+
+-- The number of a head is that of a tag where its type is.
+numbers_of_no_tags : Gives (verdict plain) (
+    (hex "11", refused WrongType 0) ∷
+    (hex "183d", refused WrongType 0) ∷
+    (hex "583d", refused WrongType 0) ∷
+    (hex "983d", refused WrongTag 0) ∷
+    (hex "d83d11", refused CwtTagAlone 2) ∷
+    (hex "d83d92", refused CwtTagAlone 2) ∷
+    (hex "d104", refused WrongType 1) ∷
+    (hex "d144", refused WrongType 1) ∷
+    (hex "d1c4", refused WrongType 1) ∷ [])
+unfolding reading
+numbers_of_no_tags = refl
+
 -- Behind the tag of a CWT comes a COSE tag, and no second one of a CWT.
 behind_the_cwt_tag : Gives (verdict plain) (
     (hex "d83d", refused Truncated 2) ∷

@@ -57,6 +57,28 @@ unprotected_buckets : Gives (verdict plain) (
 unfolding reading
 unprotected_buckets = refl
 
+-- A bucket that is no map is read to its end before it is refused for that.
+no_maps : Gives (verdict plain) (
+    (hex "d184 42811c", refused Reserved 4) ∷
+    (hex "d184 428000", refused Trailing 4) ∷
+    (hex "d184 42c1a0", refused NotMap 3) ∷
+    (hex "d18443a10105 81", refused Truncated 7) ∷
+    (hex "d18443a10105 811c", refused Reserved 7) ∷
+    (hex "d18443a10105 8100", refused NotMap 6) ∷
+    (hex "d18443a10105 c1", refused Truncated 7) ∷
+    (hex "d18443a10105 c1a0", refused NotMap 6) ∷ [])
+unfolding reading
+no_maps = refl
+
+-- What crit lists is looked at with both buckets, so behind every fault of the unprotected one, though it stands before it.
+crit_behind_the_unprotected : Gives (verdict plain) (
+    (hex "d18447a201050281182a", refused Truncated 10) ∷
+    (hex "d18447a201050281182a a1", refused Truncated 11) ∷
+    (hex "d18447a201050281182a 80", refused NotMap 10) ∷
+    (hex "d18447a201050281182a a14000", refused BadLabel 11) ∷ [])
+unfolding reading
+crit_behind_the_unprotected = refl
+
 -- Both buckets together, once each alone has no fault.
 both_buckets : Gives (verdict plain) (
     (hex "d18443a10105 a10105", refused BothBuckets 7) ∷

@@ -13,6 +13,9 @@ payload_heads : Gives (verdict plain) (
     (hex "d18443a10105a0 f6", refused Detached 7) ∷
     (hex "d18443a10105a0 f90016", refused WrongType 7) ∷
     (hex "d18443a10105a0 f7", refused WrongType 7) ∷
+    (hex "d18443a10105a0 f5", refused WrongType 7) ∷
+    (hex "d18443a10105a0 96", refused WrongType 7) ∷
+    (hex "d18443a10105a0 c2", refused WrongType 7) ∷
     (hex "d18443a10105a0 16", refused WrongType 7) ∷
     (hex "d18443a10105a0 36", refused WrongType 7) ∷
     (hex "d18443a10105a0 6161", refused WrongType 7) ∷
@@ -33,6 +36,12 @@ at_most_a_byte : Gives (limited 1) (
     (hex "d18443a10105a0 f6", refused Detached 7) ∷ [])
 unfolding reading
 at_most_a_byte = refl
+
+no_byte : Gives (limited 0) (
+    (hex "d18443a10105a0 40", refused Truncated 8) ∷
+    (hex "d18443a10105a0 41", refused PayloadTooLong 7) ∷ [])
+unfolding reading
+no_byte = refl
 
 no_more_than_2_to_the_56 : Gives (limited (2 ^ 64)) (
     (hex "d18443a10105a0 5b0100000000000000", refused PayloadTooLong 7) ∷
