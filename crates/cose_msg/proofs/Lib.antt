@@ -10,12 +10,14 @@ mod Bounds
 mod Last
 mod Choices
 mod ChoiceReadings
+mod Keys
 mod Opened
 mod Standing
 mod Steps
 mod Waits
 mod Decisions
 mod Runs
+mod Answered
 mod PayloadLimit
 mod WorkedMessages
 mod WorkedFronts
