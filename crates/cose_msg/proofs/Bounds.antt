@@ -10,7 +10,7 @@ use Rattle.cose_msg.specs.Laws.{AuthIsAtMost, MessageIsVerifiedWithin, MessageIs
 use Rattle.cose_msg.specs.Message.{Setting, rules_with, found_key, as_choice, key_choice_of, has_auth_length, uncompared, comparing, verifying, inspecting}
 use Rattle.cose_msg.proofs.Settles.{BoundLaws, message_is_bounded}
 
-algorithms_are_short : (alg : Alg) → auth_length_of alg ≤ 132
+pub algorithms_are_short : (alg : Alg) → auth_length_of alg ≤ 132
 algorithms_are_short Hmac64 = omega arith
 algorithms_are_short Hmac256 = omega arith
 algorithms_are_short Hmac384 = omega arith

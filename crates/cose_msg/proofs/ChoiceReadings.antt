@@ -1,91 +1,95 @@
--- What follows the unprotected bucket, by what both buckets come to.
-use Rattle.std.proofs.Common.{◌≡◌, ℕ, ◌+◌, List, [], length, Option, Some, None, Result, Ok, Err, refl, sym, ap}
-use Rattle.cose_head.specs.declared.kind.Kind.{Kind}
+-- What follows both buckets, by what they come to together.
+use Rattle.std.proofs.Common.{◌≡◌, ℕ, Bool, true, false, List, [], length, Option, Some, None, Result, Ok, Err, refl, sym, ap}
+use Rattle.std.specs.Prelude.{◌==◌, option_map}
 use Rattle.cose_head.specs.declared.reason.Reason.{Reason}
 use Rattle.cose_head.specs.declared.refusal.Refusal.{Refusal}
-use Rattle.cose_map.specs.Bucket.{bucket_of}
 use Rattle.cose_map.specs.Map.Pairs.{Pair}
 use Rattle.cose_map.specs.Map.Read.{Read}
 use Rattle.cose_map.specs.Bucket.Both.{pair_fault}
-use Rattle.std.specs.Prelude.{◌==◌}
 use Rattle.cose_msg.specs.declared.verifier.choice.Choice as code
-use Rattle.cose_msg.specs.Answer.{Chosen}
+use Rattle.cose_msg.specs.Answer.{Chosen, Headers}
 use Rattle.cose_msg.specs.Chosen.{ChoiceIs, chosen_value}
-use Rattle.cose_msg.specs.Choosing.{Choice, choice_of}
-use Rattle.cose_msg.specs.Message.{Setting, comparing, found_key}
-use Rattle.cose_msg.specs.Phases.{headers_of, headers_told, past_unprotected, payload_head, placed_at, protected_told}
-use Rattle.cose_msg.specs.Reading.{Told, stop}
+use Rattle.cose_msg.specs.Choosing.{choice_of, refused_at}
+use Rattle.cose_msg.specs.Message.{Setting, as_choice, found_key}
+use Rattle.cose_msg.specs.Phases.{both_buckets, headers_told, payload_head}
+use Rattle.cose_msg.specs.Reading.{stop}
+use Rattle.cose_msg.specs.Task.{Task, choice_for, rules_of}
+use Rattle.cose_msg.specs.Verifier.{is_none}
 
--- A refusal of the buckets or of the choice, with what is told where it comes.
-pub record Refuses (room nesting : ℕ) (setting : Setting) (kind : Kind) (P : List ℕ) (pairs : List Pair) (at : ℕ) (content : List ℕ) (refusal : Refusal) : Type 0 where
-  pub told : Told
-  pub no_payload : told.payload ≡ []
-  pub reads : (z : List ℕ) → past_unprotected (comparing room nesting setting) kind P pairs at content (at + length content) z ≡ stop told refusal.reason refusal.place
+module _ (room nesting : ℕ) (task : Task) (headers : Headers) (place : ℕ) where
+  fault : Option Refusal
+  fault = pair_fault headers.protected_pairs headers.unprotected_pairs task.setting.understood place
 
-pub record Finds (room nesting : ℕ) (setting : Setting) (kind : Kind) (P : List ℕ) (pairs : List Pair) (at : ℕ) (content : List ℕ) (choice : Choice) : Type 0 where
-  pub reads : (z : List ℕ) → past_unprotected (comparing room nesting setting) kind P pairs at content (at + length content) z
-      ≡ payload_head (comparing room nesting setting) (headers_of kind P pairs choice.unprotected_pairs) (Some choice.found) (at + length content) z
+  finds_key : (choice : Result (Option Chosen) Reason) (chosen : Option Chosen) → fault ≡ None → choice_for task.inspects task.setting headers ≡ choice → refused_at place choice ≡ Ok chosen
+      → (z : List ℕ) → both_buckets (rules_of room nesting task) headers place z ≡ payload_head (rules_of room nesting task) headers chosen place z
+  unfolding fault
+  finds_key (Ok other) chosen f k is z = let same : other ≡ chosen = cc in rw (f, k, same) refl
+  finds_key (Err reason) chosen f k is z = absurd cc
 
-module _ (room nesting : ℕ) (setting : Setting) (kind : Kind) (P : List ℕ) (pairs : List Pair) (at : ℕ) (content : List ℕ) where
-  key_cases : (others : List Pair) (found : Result Chosen Reason) (choice : Choice) → bucket_of nesting (placed_at at content) ≡ Ok others → pair_fault pairs others setting.understood (at + length content) ≡ None → found_key setting.keys (headers_of kind [] pairs others) ≡ found
-      → choice_of nesting setting kind pairs at content ≡ Ok choice → Finds room nesting setting kind P pairs at content choice
-  unfolding choice_of
-  key_cases others (Ok found) choice e f k is =
-      let same : record { unprotected_pairs = others; found = found } ≡ choice = (let both = rw (e, f, k) at is in cc) in
-      rw (← same) (record { reads = λ z. rw (e, f, k) refl })
-  key_cases others (Err reason) choice e f k is = absurd (let both = rw (e, f, k) at is in cc)
+  finds : (found : Option Refusal) (chosen : Option Chosen) → fault ≡ found → choice_of task headers place ≡ Ok chosen
+      → (z : List ℕ) → both_buckets (rules_of room nesting task) headers place z ≡ payload_head (rules_of room nesting task) headers chosen place z
+  unfolding fault choice_of
+  finds None chosen f is z = finds_key (choice_for task.inspects task.setting headers) chosen f refl (rw f at is) z
+  finds (Some refusal) chosen f is z = absurd (let both = rw f at is in cc)
 
-  key_refusals : (others : List Pair) (found : Result Chosen Reason) (refusal : Refusal) → bucket_of nesting (placed_at at content) ≡ Ok others → pair_fault pairs others setting.understood (at + length content) ≡ None → found_key setting.keys (headers_of kind [] pairs others) ≡ found
-      → choice_of nesting setting kind pairs at content ≡ Err refusal → Refuses room nesting setting kind P pairs at content refusal
-  unfolding choice_of
-  key_refusals others (Ok found) refusal e f k is = absurd (let both = rw (e, f, k) at is in cc)
-  key_refusals others (Err reason) refusal e f k is =
-      let same : record { reason = reason; place = at + length content } ≡ refusal = (let both = rw (e, f, k) at is in cc) in
-      rw (← same) (record { told = headers_told (headers_of kind P pairs others) []; no_payload = refl; reads = λ z. rw (e, f, k) refl })
+  pub choice_finds : (chosen : Option Chosen) → choice_of task headers place ≡ Ok chosen
+      → (z : List ℕ) → both_buckets (rules_of room nesting task) headers place z ≡ payload_head (rules_of room nesting task) headers chosen place z
+  choice_finds chosen is z = finds fault chosen refl is z
 
-  pair_cases : (others : List Pair) (fault : Option Refusal) (choice : Choice) → bucket_of nesting (placed_at at content) ≡ Ok others → pair_fault pairs others setting.understood (at + length content) ≡ fault
-      → choice_of nesting setting kind pairs at content ≡ Ok choice → Finds room nesting setting kind P pairs at content choice
-  unfolding choice_of
-  pair_cases others None choice e f is = key_cases others (found_key setting.keys (headers_of kind [] pairs others)) choice e f refl is
-  pair_cases others (Some fault) choice e f is = absurd (let both = rw (e, f) at is in cc)
+  refuses_key : (choice : Result (Option Chosen) Reason) (refusal : Refusal) → fault ≡ None → choice_for task.inspects task.setting headers ≡ choice → refused_at place choice ≡ Err refusal
+      → (z : List ℕ) → both_buckets (rules_of room nesting task) headers place z ≡ stop (headers_told headers []) refusal.reason refusal.place
+  unfolding fault
+  refuses_key (Ok other) refusal f k is z = absurd cc
+  refuses_key (Err reason) refusal f k is z = let same : record { reason = reason; place = place } ≡ refusal = cc in rw (f, k, ← same) refl
 
-  pair_refusals : (others : List Pair) (fault : Option Refusal) (refusal : Refusal) → bucket_of nesting (placed_at at content) ≡ Ok others → pair_fault pairs others setting.understood (at + length content) ≡ fault
-      → choice_of nesting setting kind pairs at content ≡ Err refusal → Refuses room nesting setting kind P pairs at content refusal
-  unfolding choice_of
-  pair_refusals others None refusal e f is = key_refusals others (found_key setting.keys (headers_of kind [] pairs others)) refusal e f refl is
-  pair_refusals others (Some fault) refusal e f is =
-      let same : fault ≡ refusal = (let both = rw (e, f) at is in cc) in
-      rw (← same) (record { told = headers_told (headers_of kind P pairs others) []; no_payload = refl; reads = λ z. rw (e, f) refl })
+  refuses : (found : Option Refusal) (refusal : Refusal) → fault ≡ found → choice_of task headers place ≡ Err refusal
+      → (z : List ℕ) → both_buckets (rules_of room nesting task) headers place z ≡ stop (headers_told headers []) refusal.reason refusal.place
+  unfolding fault choice_of
+  refuses None refusal f is z = refuses_key (choice_for task.inspects task.setting headers) refusal f refl (rw f at is) z
+  refuses (Some other) refusal f is z = let same : other ≡ refusal = (let both = rw f at is in cc) in rw (f, same) refl
 
-  bucket_cases : (read : Read (List Pair)) (choice : Choice) → bucket_of nesting (placed_at at content) ≡ read → choice_of nesting setting kind pairs at content ≡ Ok choice → Finds room nesting setting kind P pairs at content choice
-  unfolding choice_of
-  bucket_cases (Ok others) choice e is = pair_cases others (pair_fault pairs others setting.understood (at + length content)) choice e refl is
-  bucket_cases (Err fault) choice e is = absurd (let both = rw e at is in cc)
+  pub choice_refuses : (refusal : Refusal) → choice_of task headers place ≡ Err refusal
+      → (z : List ℕ) → both_buckets (rules_of room nesting task) headers place z ≡ stop (headers_told headers []) refusal.reason refusal.place
+  choice_refuses refusal is z = refuses fault refusal refl is z
 
-  bucket_refusals : (read : Read (List Pair)) (refusal : Refusal) → bucket_of nesting (placed_at at content) ≡ read → choice_of nesting setting kind pairs at content ≡ Err refusal → Refuses room nesting setting kind P pairs at content refusal
-  unfolding choice_of
-  bucket_refusals (Ok others) refusal e is = pair_refusals others (pair_fault pairs others setting.understood (at + length content)) refusal e refl is
-  bucket_refusals (Err fault) refusal e is =
-      let same : fault ≡ refusal = (let both = rw e at is in cc) in
-      rw (← same) (record { told = protected_told pairs; no_payload = refl; reads = λ z. rw e refl })
+-- A key is chosen exactly where a message isn't only inspected.
+chosen_is_key : (found : Result Chosen Reason) (chosen : Option Chosen) → as_choice found ≡ Ok chosen → is_none chosen ≡ false
+chosen_is_key (Ok found) (Some other) e = refl
+chosen_is_key (Ok found) None e = absurd cc
+chosen_is_key (Err reason) chosen e = absurd cc
 
-  pub choice_finds : (choice : Choice) → choice_of nesting setting kind pairs at content ≡ Ok choice → Finds room nesting setting kind P pairs at content choice
-  choice_finds choice is = bucket_cases (bucket_of nesting (placed_at at content)) choice refl is
+abbrev no_key : Result (Option Chosen) Reason
+no_key = Ok None
 
-  pub choice_refuses : (refusal : Refusal) → choice_of nesting setting kind pairs at content ≡ Err refusal → Refuses room nesting setting kind P pairs at content refusal
-  choice_refuses refusal is = bucket_refusals (bucket_of nesting (placed_at at content)) refusal refl is
+chosen_is_none : (chosen : Option Chosen) → no_key ≡ Ok chosen → is_none chosen ≡ true
+chosen_is_none None e = refl
+chosen_is_none (Some found) e = absurd cc
+
+key_if_verified : (inspects : Bool) (setting : Setting) (headers : Headers) (chosen : Option Chosen) → choice_for inspects setting headers ≡ Ok chosen → is_none chosen ≡ inspects
+key_if_verified true setting headers chosen e = chosen_is_none chosen e
+key_if_verified false setting headers chosen e = chosen_is_key (found_key setting.keys headers) chosen e
+
+past_refused : {A : Type 0} (place : ℕ) (choice : Result A Reason) (x : A) → refused_at place choice ≡ Ok x → choice ≡ Ok x
+past_refused place (Ok y) x e = let same : y ≡ x = cc in rw same refl
+past_refused place (Err reason) x e = absurd cc
+
+key_among : (task : Task) (headers : Headers) (place : ℕ) (found : Option Refusal) (chosen : Option Chosen) → pair_fault headers.protected_pairs headers.unprotected_pairs task.setting.understood place ≡ found → choice_of task headers place ≡ Ok chosen → is_none chosen ≡ task.inspects
+unfolding choice_of
+key_among task headers place None chosen f is = key_if_verified task.inspects task.setting headers chosen (past_refused place (choice_for task.inspects task.setting headers) chosen (rw f at is))
+key_among task headers place (Some refusal) chosen f is = absurd (let both = rw f at is in cc)
+
+pub chooses_if_verified : (task : Task) (headers : Headers) (place : ℕ) (chosen : Option Chosen) → choice_of task headers place ≡ Ok chosen → is_none chosen ≡ task.inspects
+chooses_if_verified task headers place chosen is = key_among task headers place (pair_fault headers.protected_pairs headers.unprotected_pairs task.setting.understood place) chosen refl is
 
 -- What the code's choice says of the definition's.
-pub record IsFound (pairs : List Pair) (choice : code.Choice) (answer : Read Choice) : Type 0 where
-  pub found : Choice
-  pub is : answer ≡ Ok found
-  pub key_is : chosen_value choice.chosen ≡ found.found
+pub record IsFound (pairs : List Pair) (choice : code.Choice) (answer : Read (Option Chosen)) : Type 0 where
+  pub is : answer ≡ Ok (option_map chosen_value choice.chosen)
   pub bare_is : choice.is_bare ≡ (length pairs == 0)
 
-pub choice_is_found : (pairs : List Pair) (choice : code.Choice) (answer : Read Choice) → ChoiceIs pairs (Ok choice) answer → IsFound pairs choice answer
-choice_is_found pairs choice (Ok found) h = record { found = found; is = refl; key_is = h.0; bare_is = h.1 }
+pub choice_is_found : (pairs : List Pair) (choice : code.Choice) (answer : Read (Option Chosen)) → ChoiceIs pairs (Ok choice) answer → IsFound pairs choice answer
+choice_is_found pairs choice (Ok chosen) h = record { is = ap (λ (c : Option Chosen). Ok c) (sym h.0); bare_is = h.1 }
 choice_is_found pairs choice (Err refusal) h = absurd h
 
-pub choice_is_refused : (pairs : List Pair) (refusal : Refusal) (answer : Read Choice) → ChoiceIs pairs (Err refusal) answer → answer ≡ Err refusal
+pub choice_is_refused : (pairs : List Pair) (refusal : Refusal) (answer : Read (Option Chosen)) → ChoiceIs pairs (Err refusal) answer → answer ≡ Err refusal
 choice_is_refused pairs refusal (Ok found) h = absurd h
-choice_is_refused pairs refusal (Err fault) h = ap (λ (r : Refusal). Err r) (sym h)
+choice_is_refused pairs refusal (Err other) h = ap (λ (r : Refusal). Err r) (sym h)

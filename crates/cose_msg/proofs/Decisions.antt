@@ -1,5 +1,5 @@
--- The verdict of a verifier: what is decided on a signature, and Truncated where the message isn't settled.
-use Rattle.std.proofs.Common.{◌≡◌, ℕ, Bool, false, List, [], Option, None, Some, refl, sym, ap, subst, ◌∙◌}
+-- The answer of a verifier: what is decided on a signature, and Truncated where the message isn't settled.
+use Rattle.std.proofs.Common.{◌≡◌, ℕ, Bool, true, false, List, [], length, Option, None, Some, refl, sym, ap, subst, ◌∙◌}
 use Rattle.std.specs.Prelude.{option_map, if◌then◌else◌}
 use Rattle.cose_head.specs.declared.reason.Reason.TheVariants.{BadAuth}
 use Rattle.cose_head.specs.declared.algorithm.Alg.{Alg}
@@ -7,20 +7,33 @@ use Rattle.cose_mac.specs.Hash.{digest_of}
 use Rattle.cose_head.specs.Algorithm.{is_mac_of}
 use Rattle.cose_map.specs.Key.Value.{KeyValue}
 use Rattle.cose_map.specs.Key.View.{key_value}
+use Rattle.cose_map.specs.Map.Pairs.{Pair}
 use Rattle.cose_msg.specs.declared.phase.Phase.{Phase}
 use Rattle.cose_msg.specs.declared.phase.Phase.TheVariants as phases
 use Rattle.cose_msg.specs.declared.phase.Signed.{Signed}
-use Rattle.cose_msg.specs.declared.verdict.Verdict.TheVariants.{Authentic}
+use Rattle.cose_msg.specs.declared.verdict.Inspected.{Inspected}
+use Rattle.cose_msg.specs.declared.verdict.Inspected.TheVariants as inspected
+use Rattle.cose_msg.specs.declared.verdict.Verdict.{Verdict}
+use Rattle.cose_msg.specs.declared.verdict.Verdict.TheVariants.{Authentic, Refused}
 use Rattle.cose_msg.specs.declared.verifier.Chosen as code
+use Rattle.cose_msg.specs.declared.verifier.Place.{Place}
 use Rattle.cose_msg.specs.declared.verifier.Verifier.{Verifier}
-use Rattle.cose_msg.specs.Answer.{Answer, Chosen, complete, decided, refused}
+use Rattle.cose_msg.specs.Answer.{Answer, Chosen, Whole, complete, decided, refused}
 use Rattle.cose_msg.specs.Chosen.{chosen_value}
 use Rattle.cose_msg.specs.Hashing.{authenticator, result_of}
+use Rattle.cose_msg.specs.Kept.{inspected_in, refusal_in, verdict_in}
 use Rattle.cose_msg.specs.Laws.{then_verified}
-use Rattle.cose_msg.specs.Message.{Decides, Setting, comparing, digest_signed, judged, structure}
+use Rattle.cose_msg.specs.Message.{Decides, Setting, digest_signed, judged, structure, verified}
+use Rattle.cose_msg.specs.Phase.{awaits_decision, is_settled}
 use Rattle.cose_msg.specs.Phases.{headers_told}
-use Rattle.cose_msg.specs.Reading.{Reading, settled}
-use Rattle.cose_msg.specs.Verifier.{HoldsIn, Known, StandsFor, left_in, whole_of}
+use Rattle.cose_msg.specs.Reading.{Reading, Told, settled}
+use Rattle.cose_msg.specs.Run.{SaysCount, inspection}
+use Rattle.cose_msg.specs.Shown.{SignInput, Shown, held_input, input_in, pairs_at, shown_in, shown_of, sign_input_in}
+use Rattle.cose_msg.specs.Task.{Task, rules_of, to_inspect, to_verify}
+use Rattle.cose_msg.specs.Verifier.{Counts, HoldsBucket, HoldsIn, IsSigned, Known, StandsFor, is_authentic, left_in, whole_of}
+use Rattle.cose_msg.proofs.Waits.{WalkerWaits, here, told_in, truncated_in}
+
+-- ---- a signature
 
 no_mac : (found : Chosen) (alg : Alg) (message held : List ℕ) → found.alg ≡ alg → is_mac_of alg ≡ false → held ≡ authenticator found message → digest_of found.alg message ≡ held
 no_mac found alg message held same no_tag e =
@@ -35,26 +48,209 @@ some_is chosen one found e is = let there : option_map chosen_value (Some one) �
 abbrev pub decision : Signed → Bool → Answer
 decision p holds = if holds then decided (Authentic p.kind p.alg p.payload p.taken) else refused BadAuth p.head_at
 
-pub signed_answer : {H D : ℕ} {setting : Setting} {B : List ℕ} {n : ℕ} {v : Verifier H D} {reading : List ℕ → Reading} (p : Signed) (decides : Decides) → v.phase ≡ phases.Signed p → StandsFor setting B n v reading → (chosen : code.Chosen) → v.chosen ≡ Some chosen → (holds : Bool) →
-    holds ≡ decides (key_value chosen.key) (result_of v.hashing) v.auth.items → then_verified setting.aad decides (reading []).answer ≡ decision p holds
-signed_answer {H} {D} {setting} {B} {n} {v} {reading} p decides e h chosen is holds asked =
-    let k : Known = h.known in
-    let there : HoldsIn setting k h.told n v (phases.Signed p) = subst (λ (phase : Phase). HoldsIn setting k h.told n v phase) e h.holds in
-    let whole = whole_of k v.auth.items p.head_at p.taken in
-    let same : reading [] ≡ settled (headers_told k.headers k.payload) (complete whole) = h.left [] ∙ ap (λ (phase : Phase). left_in (comparing H D setting) k h.told v phase []) e in
-    let key : chosen_value chosen ≡ k.found = some_is v.chosen chosen k.found is there.2.key_is in
-    let key_is : k.found.key ≡ key_value chosen.key = sym (ap (λ (c : Chosen). c.key) key) in
-    let digest : digest_signed setting.aad k.found whole ≡ result_of v.hashing = no_mac k.found p.alg (structure setting.aad k.headers k.payload) (result_of v.hashing) there.2.alg_is there.3 there.5 in
-    let answer : then_verified setting.aad decides (reading []).answer ≡ judged (decides k.found.key (digest_signed setting.aad k.found whole) v.auth.items) k.found whole = ap (λ (r : Reading). then_verified setting.aad decides r.answer) same in
-    let told : judged (decides k.found.key (digest_signed setting.aad k.found whole) v.auth.items) k.found whole ≡ judged holds k.found whole = ap (λ (b : Bool). judged b k.found whole) (ap (λ (key : KeyValue). decides key (digest_signed setting.aad k.found whole) v.auth.items) key_is ∙ ap (λ (d : List ℕ). decides (key_value chosen.key) d v.auth.items) digest ∙ sym asked) in
-    answer ∙ told ∙ rw (there.2.kind_is, there.2.alg_is, there.4) refl
+said_as : (p : Signed) (holds : Bool) (found : Chosen) (all : Whole) → all.headers.kind ≡ p.kind → found.alg ≡ p.alg → length all.payload ≡ p.payload → all.taken ≡ p.taken → all.auth_at ≡ p.head_at → judged holds found all ≡ decision p holds
+said_as p holds found all kind alg payload taken head_at = rw (kind, alg, payload, taken, head_at) refl
 
 some_chosen : (chosen : Option code.Chosen) (found : Chosen) → option_map chosen_value chosen ≡ Some found → (one : code.Chosen) × (chosen ≡ Some one)
 some_chosen (Some one) found e = (one, refl)
 some_chosen None found e = absurd cc
 
--- There is a key.
-pub signed_has_key : {H D : ℕ} {setting : Setting} {B : List ℕ} {n : ℕ} {v : Verifier H D} {reading : List ℕ → Reading} (p : Signed) → v.phase ≡ phases.Signed p → StandsFor setting B n v reading → (chosen : code.Chosen) × (v.chosen ≡ Some chosen)
-signed_has_key {H} {D} {setting} {B} {n} {v} {reading} p e h =
-    let there : HoldsIn setting h.known h.told n v (phases.Signed p) = subst (λ (phase : Phase). HoldsIn setting h.known h.told n v phase) e h.holds in
-    some_chosen v.chosen h.known.found there.2.key_is
+module _ {H D : ℕ} {task : Task} {B : List ℕ} {n : ℕ} {v : Verifier H D} {reading : List ℕ → Reading} (p : Signed) (e : v.phase ≡ phases.Signed p) (h : StandsFor task B n v reading) where
+  pub signed_in : IsSigned task h.known v.chosen v.hashing v.auth.items p
+  signed_in = (subst (λ (phase : Phase). HoldsIn task h.known h.told n v phase) e h.holds).2
+
+  pub signed_count : n ≡ p.taken
+  signed_count = (subst (λ (phase : Phase). HoldsIn task h.known h.told n v phase) e h.holds).1
+
+  whole : Whole
+  whole = whole_of h.known p.head_at p.taken
+
+  read_whole : reading [] ≡ settled (headers_told h.known.headers h.known.payload) (complete whole)
+  unfolding whole
+  read_whole = h.left [] ∙ ap (λ (phase : Phase). left_in (rules_of H D task) h.known h.told v phase []) e
+
+  pub signed_answer : (decides : Decides) (chosen : code.Chosen) → v.chosen ≡ Some chosen → (holds : Bool) →
+      holds ≡ decides (key_value chosen.key) (result_of v.hashing) v.auth.items → then_verified task.setting.aad decides (reading []).answer ≡ decision p holds
+  unfolding whole
+  signed_answer decides chosen is holds asked =
+      let s : IsSigned task h.known v.chosen v.hashing v.auth.items p = signed_in in
+      let key : chosen_value chosen ≡ s.found = some_is v.chosen chosen s.found is s.key_is in
+      let key_is : s.found.key ≡ key_value chosen.key = sym (ap (λ (c : Chosen). c.key) key) in
+      let digest : digest_signed task.setting.aad s.found whole ≡ result_of v.hashing = no_mac s.found p.alg (structure task.setting.aad h.known.headers h.known.payload) (result_of v.hashing) s.alg_is s.no_tag s.digest_is in
+      let answer : then_verified task.setting.aad decides (reading []).answer ≡ verified task.setting.aad decides h.known.chosen (complete whole) = ap (λ (r : Reading). then_verified task.setting.aad decides r.answer) read_whole in
+      let found : verified task.setting.aad decides h.known.chosen (complete whole) ≡ judged (decides s.found.key (digest_signed task.setting.aad s.found whole) h.known.auth) s.found whole = ap (λ (c : Option Chosen). verified task.setting.aad decides c (complete whole)) s.chosen_is in
+      let told : judged (decides s.found.key (digest_signed task.setting.aad s.found whole) h.known.auth) s.found whole ≡ judged holds s.found whole = ap (λ (b : Bool). judged b s.found whole)
+      (ap (λ (key : KeyValue). decides key (digest_signed task.setting.aad s.found whole) h.known.auth) key_is ∙ ap (λ (d : List ℕ). decides (key_value chosen.key) d h.known.auth) digest ∙ ap (λ (auth : List ℕ). decides (key_value chosen.key) (result_of v.hashing) auth) (sym s.auth_is) ∙ sym asked) in
+      answer ∙ found ∙ told ∙ said_as p holds s.found whole s.kind_is s.alg_is s.payload_is refl refl
+
+  -- There is a key.
+  pub signed_has_key : (chosen : code.Chosen) × (v.chosen ≡ Some chosen)
+  signed_has_key = let s : IsSigned task h.known v.chosen v.hashing v.auth.items p = signed_in in some_chosen v.chosen s.found s.key_is
+
+-- ---- an answer that is there
+
+module _ {H D : ℕ} (task : Task) (known : Known) (told : Told) (n : ℕ) (v : Verifier H D) where
+  left : Phase → Reading
+  left phase = left_in (rules_of H D task) known told v phase []
+
+  -- A verdict that is known, and no signature was decided on.
+  verdict_read : (phase : Phase) (verdict : Verdict) → HoldsIn task known told n v phase → verdict_in phase ≡ Some verdict → ((left phase).answer ≡ decided verdict) × ((left phase).settled ≡ true) × Counts verdict n
+  unfolding left
+  verdict_read (phases.Settled other) verdict h e = let same : other ≡ verdict = cc in (ap decided same, refl, subst (λ (w : Verdict). Counts w n) same h.0)
+  verdict_read (phases.Decided other) verdict h e = absurd h
+  verdict_read phases.FirstHead verdict h e = absurd cc
+  verdict_read (phases.TagHead p) verdict h e = absurd cc
+  verdict_read (phases.ArrayHead p) verdict h e = absurd cc
+  verdict_read (phases.ProtectedHead p) verdict h e = absurd cc
+  verdict_read (phases.Protected p) verdict h e = absurd cc
+  verdict_read (phases.Unprotected p) verdict h e = absurd cc
+  verdict_read (phases.PayloadHead p) verdict h e = absurd cc
+  verdict_read (phases.Payload p) verdict h e = absurd cc
+  verdict_read (phases.AuthHead p) verdict h e = absurd cc
+  verdict_read (phases.Auth p) verdict h e = absurd cc
+  verdict_read (phases.Signed p) verdict h e = absurd cc
+  verdict_read (phases.Shaped p) verdict h e = absurd cc
+
+  refusal_read : (verdict : Verdict) (shown : Inspected) → refusal_in verdict ≡ Some shown → (decided verdict ≡ inspection shown) × SaysCount (inspection shown) n
+  refusal_read (Refused refusal) shown e = let same : inspected.Refused refusal ≡ shown = cc in rw (← same) (refl, tt)
+  refusal_read (Authentic kind alg payload taken) shown e = absurd cc
+
+  -- What an inspection came to.
+  inspected_read : (phase : Phase) (shown : Inspected) → HoldsIn task known told n v phase → inspected_in phase ≡ Some shown → ((left phase).answer ≡ inspection shown) × ((left phase).settled ≡ true) × SaysCount (inspection shown) n
+  unfolding left
+  inspected_read (phases.Settled verdict) shown h e = let r = refusal_read verdict shown e in (r.0, refl, r.1)
+  inspected_read (phases.Shaped p) shown h e = let same : inspected.Shape p.kind p.payload p.auth p.taken ≡ shown = cc in rw (← same) (refl, refl, h.0)
+  inspected_read (phases.Decided verdict) shown h e = absurd h
+  inspected_read phases.FirstHead shown h e = absurd cc
+  inspected_read (phases.TagHead p) shown h e = absurd cc
+  inspected_read (phases.ArrayHead p) shown h e = absurd cc
+  inspected_read (phases.ProtectedHead p) shown h e = absurd cc
+  inspected_read (phases.Protected p) shown h e = absurd cc
+  inspected_read (phases.Unprotected p) shown h e = absurd cc
+  inspected_read (phases.PayloadHead p) shown h e = absurd cc
+  inspected_read (phases.Payload p) shown h e = absurd cc
+  inspected_read (phases.AuthHead p) shown h e = absurd cc
+  inspected_read (phases.Auth p) shown h e = absurd cc
+  inspected_read (phases.Signed p) shown h e = absurd cc
+
+pub stands_with_verdict : {H D : ℕ} {task : Task} {B : List ℕ} {n : ℕ} {v : Verifier H D} {reading : List ℕ → Reading} (verdict : Verdict) → StandsFor task B n v reading → verdict_in v.phase ≡ Some verdict → ((reading []).answer ≡ decided verdict) × ((reading []).settled ≡ true) × Counts verdict n
+unfolding left
+stands_with_verdict {H} {D} {task} {B} {n} {v} {reading} verdict h e =
+    let r = verdict_read task h.known h.told n v v.phase verdict h.holds e in
+    (ap (λ (x : Reading). x.answer) (h.left []) ∙ r.0, ap (λ (x : Reading). x.settled) (h.left []) ∙ r.1, r.2)
+
+pub stands_inspected : {H D : ℕ} {task : Task} {B : List ℕ} {n : ℕ} {v : Verifier H D} {reading : List ℕ → Reading} (shown : Inspected) → StandsFor task B n v reading → inspected_in v.phase ≡ Some shown → ((reading []).answer ≡ inspection shown) × ((reading []).settled ≡ true) × SaysCount (inspection shown) n
+unfolding left
+stands_inspected {H} {D} {task} {B} {n} {v} {reading} shown h e =
+    let r = inspected_read task h.known h.told n v v.phase shown h.holds e in
+    (ap (λ (x : Reading). x.answer) (h.left []) ∙ r.0, ap (λ (x : Reading). x.settled) (h.left []) ∙ r.1, r.2)
+
+-- ---- no answer yet
+
+module _ {H D : ℕ} (setting : Setting) (known : Known) (told : Told) (n : ℕ) (v : Verifier H D) where
+  open_without_verdict : (phase : Phase) → HoldsIn (to_verify setting) known told n v phase → verdict_in phase ≡ None → awaits_decision phase ≡ false → is_settled phase ≡ false
+  open_without_verdict (phases.Settled verdict) h none e = absurd cc
+  open_without_verdict (phases.Decided verdict) h none e = absurd h
+  open_without_verdict (phases.Shaped p) h none e = let clash : false ≡ true = h.1 in absurd cc
+  open_without_verdict (phases.Signed p) h none e = absurd cc
+  open_without_verdict phases.FirstHead h none e = refl
+  open_without_verdict (phases.TagHead p) h none e = refl
+  open_without_verdict (phases.ArrayHead p) h none e = refl
+  open_without_verdict (phases.ProtectedHead p) h none e = refl
+  open_without_verdict (phases.Protected p) h none e = refl
+  open_without_verdict (phases.Unprotected p) h none e = refl
+  open_without_verdict (phases.PayloadHead p) h none e = refl
+  open_without_verdict (phases.Payload p) h none e = refl
+  open_without_verdict (phases.AuthHead p) h none e = refl
+  open_without_verdict (phases.Auth p) h none e = refl
+
+  not_authentic : (verdict : Verdict) → Counts verdict n × (is_authentic verdict ≡ true → true ≡ false) → refusal_in verdict ≡ None → ⊥
+  not_authentic (Refused refusal) h none = absurd cc
+  not_authentic (Authentic kind alg payload taken) h none = let clash : true ≡ false = h.1 refl in absurd cc
+
+  open_without_shape : (phase : Phase) → HoldsIn (to_inspect setting) known told n v phase → inspected_in phase ≡ None → is_settled phase ≡ false
+  open_without_shape (phases.Settled verdict) h none = absurd (not_authentic verdict h none)
+  open_without_shape (phases.Decided verdict) h none = absurd h
+  open_without_shape (phases.Shaped p) h none = absurd cc
+  open_without_shape (phases.Signed p) h none = let clash : true ≡ false = h.2.verifies in absurd cc
+  open_without_shape phases.FirstHead h none = refl
+  open_without_shape (phases.TagHead p) h none = refl
+  open_without_shape (phases.ArrayHead p) h none = refl
+  open_without_shape (phases.ProtectedHead p) h none = refl
+  open_without_shape (phases.Protected p) h none = refl
+  open_without_shape (phases.Unprotected p) h none = refl
+  open_without_shape (phases.PayloadHead p) h none = refl
+  open_without_shape (phases.Payload p) h none = refl
+  open_without_shape (phases.AuthHead p) h none = refl
+  open_without_shape (phases.Auth p) h none = refl
+
+pub stands_without_verdict : {H D : ℕ} {setting : Setting} {B : List ℕ} {n : ℕ} {v : Verifier H D} {reading : List ℕ → Reading} → StandsFor (to_verify setting) B n v reading → verdict_in v.phase ≡ None → awaits_decision v.phase ≡ false → is_settled v.phase ≡ false
+stands_without_verdict {H} {D} {setting} {B} {n} {v} {reading} h none e = open_without_verdict setting h.known h.told n v v.phase h.holds none e
+
+pub stands_without_shape : {H D : ℕ} {setting : Setting} {B : List ℕ} {n : ℕ} {v : Verifier H D} {reading : List ℕ → Reading} → StandsFor (to_inspect setting) B n v reading → inspected_in v.phase ≡ None → is_settled v.phase ≡ false
+stands_without_shape {H} {D} {setting} {B} {n} {v} {reading} h none = open_without_shape setting h.known h.told n v v.phase h.holds none
+
+pub open_shows_no_input : (phase : Phase) (held : Option SignInput) → is_settled phase ≡ false → input_in phase held ≡ None
+open_shows_no_input (phases.Settled verdict) held e = refl
+open_shows_no_input (phases.Decided verdict) held e = absurd cc
+open_shows_no_input (phases.Shaped p) held e = refl
+open_shows_no_input (phases.Signed p) held e = absurd cc
+open_shows_no_input phases.FirstHead held e = refl
+open_shows_no_input (phases.TagHead p) held e = refl
+open_shows_no_input (phases.ArrayHead p) held e = refl
+open_shows_no_input (phases.ProtectedHead p) held e = refl
+open_shows_no_input (phases.Protected p) held e = refl
+open_shows_no_input (phases.Unprotected p) held e = refl
+open_shows_no_input (phases.PayloadHead p) held e = refl
+open_shows_no_input (phases.Payload p) held e = refl
+open_shows_no_input (phases.AuthHead p) held e = refl
+open_shows_no_input (phases.Auth p) held e = refl
+
+-- ---- what is shown
+
+bucket_shown : (nesting : ℕ) (told : Option (List Pair)) (place : Option Place) (content : List ℕ) → HoldsBucket nesting told place content → pairs_at nesting place content ≡ told
+bucket_shown nesting None place content h = rw h refl
+bucket_shown nesting (Some pairs) (Some place) content h = rw h refl
+bucket_shown nesting (Some pairs) None content h = absurd h
+
+abbrev shown : Option (List Pair) → Option (List Pair) → Option SignInput → Shown
+shown protected unprotected sign_input = record { protected = protected; unprotected = unprotected; sign_input = sign_input }
+
+shown_alike : (p q : Option (List Pair)) (r t : Option (List Pair)) (x y : Option SignInput) → p ≡ q → r ≡ t → x ≡ y → shown p r x ≡ shown q t y
+shown_alike p q r t x y e f g = rw (e, f, g) refl
+
+module _ {H D : ℕ} (task : Task) (known : Known) (told : Told) (n : ℕ) (v : Verifier H D) (waits : WalkerWaits v) where
+  open_input : (phase : Phase) → HoldsIn task known told n v phase → is_settled phase ≡ false → input_in phase (held_input v) ≡ sign_input_in task.setting.aad (left task known told n v phase).answer
+  unfolding left here
+  open_input phase h e = open_shows_no_input phase (held_input v) e ∙ sym (ap (sign_input_in task.setting.aad) (truncated_in task known told n v waits phase h e))
+
+  signed_input : (p : Signed) → IsSigned task known v.chosen v.hashing v.auth.items p → held_input v ≡ sign_input_in task.setting.aad (complete (whole_of known p.head_at p.taken))
+  signed_input p s =
+      let digest : digest_signed task.setting.aad s.found (whole_of known p.head_at p.taken) ≡ result_of v.hashing = no_mac s.found p.alg (structure task.setting.aad known.headers known.payload) (result_of v.hashing) s.alg_is s.no_tag s.digest_is in
+      rw (s.key_is, s.chosen_is, digest, s.auth_is) refl
+
+  input_shown : (phase : Phase) → HoldsIn task known told n v phase → input_in phase (held_input v) ≡ sign_input_in task.setting.aad (left task known told n v phase).answer
+  unfolding left
+  input_shown (phases.Settled verdict) h = refl
+  input_shown (phases.Shaped p) h = refl
+  input_shown (phases.Decided verdict) h = absurd h
+  input_shown (phases.Signed p) h = signed_input p h.2
+  input_shown phases.FirstHead h = open_input phases.FirstHead h refl
+  input_shown (phases.TagHead p) h = open_input (phases.TagHead p) h refl
+  input_shown (phases.ArrayHead p) h = open_input (phases.ArrayHead p) h refl
+  input_shown (phases.ProtectedHead p) h = open_input (phases.ProtectedHead p) h refl
+  input_shown (phases.Protected p) h = open_input (phases.Protected p) h refl
+  input_shown (phases.Unprotected p) h = open_input (phases.Unprotected p) h refl
+  input_shown (phases.PayloadHead p) h = open_input (phases.PayloadHead p) h refl
+  input_shown (phases.Payload p) h = open_input (phases.Payload p) h refl
+  input_shown (phases.AuthHead p) h = open_input (phases.AuthHead p) h refl
+  input_shown (phases.Auth p) h = open_input (phases.Auth p) h refl
+
+pub stands_shown : {H D : ℕ} {task : Task} {B : List ℕ} {n : ℕ} {v : Verifier H D} {reading : List ℕ → Reading} → WalkerWaits v → StandsFor task B n v reading → shown_of v ≡ shown_in task.setting (reading [])
+unfolding left here
+stands_shown {H} {D} {task} {B} {n} {v} {reading} waits h =
+    let same : (reading []).told ≡ h.told = ap (λ (r : Reading). r.told) (h.left []) ∙ told_in task h.known h.told n v waits v.phase h.holds in
+    shown_alike _ _ _ _ _ _
+    (bucket_shown D h.told.protected v.protected_at v.protected.items h.shows.1 ∙ sym (ap (λ (t : Told). t.protected) same))
+    (bucket_shown D h.told.unprotected v.unprotected_at v.unprotected.items h.shows.2 ∙ sym (ap (λ (t : Told). t.unprotected) same))
+    (input_shown task h.known h.told n v waits v.phase h.holds ∙ sym (ap (λ (r : Reading). sign_input_in task.setting.aad r.answer) (h.left [])))

@@ -31,3 +31,7 @@ auth_cases true false a b e = absurd cc
 
 pub auth_fits : (fits : ℕ → Bool) (head : Head) → auth_fault_where fits head ≡ None → fits head.arg ≡ true
 auth_fits fits head e = auth_cases (is_bytes_head head) (fits head.arg) _ _ e
+
+-- The fault goes by the lengths that fit.
+pub auth_fault_same : (fits other : ℕ → Bool) → ((n : ℕ) → fits n ≡ other n) → (head : Head) → auth_fault_where fits head ≡ auth_fault_where other head
+auth_fault_same fits other same head = rw (same head.arg) refl

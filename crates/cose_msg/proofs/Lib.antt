@@ -23,12 +23,14 @@ mod MadeHeaders
 mod MadeMessages
 mod Choices
 mod ChoiceReadings
+mod Keys
 mod Opened
 mod Standing
 mod Steps
 mod Waits
 mod Decisions
 mod Runs
+mod Answered
 mod PayloadLimit
 mod Making
 mod Makes

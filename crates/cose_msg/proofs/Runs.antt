@@ -13,18 +13,18 @@ use Rattle.cose_msg.specs.declared.phase.Phase.TheVariants as phases
 use Rattle.cose_msg.specs.declared.sink.SinkFault.{SinkFault}
 use Rattle.cose_msg.specs.declared.verdict.Stop.{Stop}
 use Rattle.cose_msg.specs.declared.verdict.Stop.TheVariants as stops
-use Rattle.cose_msg.specs.declared.verdict.Verdict.{Verdict}
 use Rattle.cose_msg.specs.declared.verifier.Verifier.{Verifier}
-use Rattle.cose_msg.specs.Answer.{decided}
 use Rattle.cose_msg.specs.Intake.{KeepsOrForgets, TakesInAll, is_end, marks}
-use Rattle.cose_msg.specs.Kept.{HasTaken, answer_kept, verdict_in}
-use Rattle.cose_msg.specs.Laws.{AllAreFair, MessageStandsInside, VerdictStays, VerifiedWithin, VerifyingGoesLast, payload_at_most, then_verified}
-use Rattle.cose_msg.specs.Message.{Decides, Setting, comparing, message, verdict_of, verifying}
+use Rattle.cose_msg.specs.Kept.{HasTaken, answer_kept}
+use Rattle.cose_msg.specs.Laws.{MessageIsInspectedWithin, VerifiedWithin, payload_at_most}
+use Rattle.cose_msg.specs.Message.{Setting, comparing, message}
 use Rattle.cose_msg.specs.Phase.{grown, in_payload, is_settled, want_of}
-use Rattle.cose_msg.specs.Reading.{Reading, settled}
-use Rattle.cose_msg.specs.Run.{Run, read_as}
+use Rattle.cose_msg.specs.Reading.{Reading}
+use Rattle.cose_msg.specs.Run.{Drive}
+use Rattle.cose_msg.specs.Shown.{Tells, shown_in, shown_of}
 use Rattle.cose_msg.specs.Sink.{AppendsFront, Puts}
-use Rattle.cose_msg.specs.Verifier.{Counts, HoldsIn, StandsFor, left_in}
+use Rattle.cose_msg.specs.Task.{Task, rules_of}
+use Rattle.cose_msg.specs.Verifier.{StandsFor}
 
 pub or_false : (b other : Bool) → other ≡ false → (b || other) ≡ b
 or_false true other e = refl
@@ -44,22 +44,22 @@ taken_before_failure (Some xs) (Some ys) (Some zs) x p q = p ∙ ap (λ (t : Lis
 
 -- ---- a run so far
 
-pub record Along {H D : ℕ} (setting : Setting) (s B : List ℕ) (come come_now : Option (List ℕ)) (ended_now : Bool) (contents contents_now : Option (List ℕ)) (sure sure_now : ℕ) (v : Verifier H D) : Type 0 where
+pub record Along {H D : ℕ} (task : Task) (s B : List ℕ) (come come_now : Option (List ℕ)) (ended_now : Bool) (contents contents_now : Option (List ℕ)) (sure sure_now : ℕ) (v : Verifier H D) : Type 0 where
   pub taken : List ℕ
   pub part : List ℕ
   pub bytes : Consumes come come_now taken
-  pub stands : HasTaken setting (s ++ taken) (B ++ part) v
-  pub none_after_end : (n : ℕ) → n < length taken → (message (comparing H D setting) (s ++ take n taken)).settled ≡ false
+  pub stands : HasTaken task (s ++ taken) (B ++ part) v
+  pub none_after_end : (n : ℕ) → n < length taken → (message (rules_of H D task) (s ++ take n taken)).settled ≡ false
   pub not_ended : 0 < length taken → ended_now ≡ false
   pub payload : Appends contents contents_now part
   pub promise : sure ≤ sure_now + length part
 
-abbrev pub at_start : {H D : ℕ} {setting : Setting} {s B : List ℕ} {v : Verifier H D} (come contents : Option (List ℕ)) (ended : Bool) (sure : ℕ) → HasTaken setting s B v → Along setting s B come come ended contents contents sure sure v
-at_start {H} {D} {setting} {s} {B} {v} come contents ended sure stands = record {
+abbrev pub at_start : {H D : ℕ} {task : Task} {s B : List ℕ} {v : Verifier H D} (come contents : Option (List ℕ)) (ended : Bool) (sure : ℕ) → HasTaken task s B v → Along task s B come come ended contents contents sure sure v
+at_start {H} {D} {task} {s} {B} {v} come contents ended sure stands = record {
   taken = [];
   part = [];
   bytes = Consumes-nil come;
-  stands = subst (λ (t : List ℕ). HasTaken setting t (B ++ []) v) (sym (append-nil s)) (subst (λ (t : List ℕ). HasTaken setting s t v) (sym (append-nil B)) stands);
+  stands = subst (λ (t : List ℕ). HasTaken task t (B ++ []) v) (sym (append-nil s)) (subst (λ (t : List ℕ). HasTaken task s t v) (sym (append-nil B)) stands);
   none_after_end = λ n lt. absurd (omega arith);
   not_ended = λ lt. absurd (omega arith);
   payload = Appends-nil contents;
@@ -75,30 +75,27 @@ take_short n l = omega (arith, length-take n l)
 
 -- ---- a kept verdict
 
-pub not_stopped : (stopped : Bool) (verdict : Option Verdict) → answer_kept stopped verdict ≡ None → stopped ≡ false
-not_stopped true verdict e = absurd cc
-not_stopped false verdict e = refl
+pub not_stopped : {A : Type 0} (stopped : Bool) (answer : Option A) → answer_kept stopped answer ≡ None → stopped ≡ false
+not_stopped true answer e = absurd cc
+not_stopped false (Some answer) e = refl
+not_stopped false None e = refl
 
-kept_phase : (phase : Phase) (answer : Result Verdict Stop) → answer_kept false (verdict_in phase) ≡ Some answer → (verdict : Verdict) × (phase ≡ phases.Settled verdict) × (answer ≡ Ok verdict)
-kept_phase (phases.Settled verdict) answer e = let same : answer ≡ Ok verdict = cc in (verdict, refl, same)
-kept_phase phases.FirstHead answer e = absurd cc
-kept_phase (phases.TagHead p) answer e = absurd cc
-kept_phase (phases.ArrayHead p) answer e = absurd cc
-kept_phase (phases.ProtectedHead p) answer e = absurd cc
-kept_phase (phases.Protected p) answer e = absurd cc
-kept_phase (phases.Unprotected p) answer e = absurd cc
-kept_phase (phases.PayloadHead p) answer e = absurd cc
-kept_phase (phases.Payload p) answer e = absurd cc
-kept_phase (phases.AuthHead p) answer e = absurd cc
-kept_phase (phases.Auth p) answer e = absurd cc
-kept_phase (phases.Signed p) answer e = absurd cc
+-- An answer that is kept by a verifier that goes on.
+pub record IsKept {A : Type 0} (kept : Option A) (result : Result A Stop) : Type 0 where
+  pub answer : A
+  pub kept_is : kept ≡ Some answer
+  pub result_is : result ≡ Ok answer
+
+pub kept_by : {A : Type 0} (kept : Option A) (result : Result A Stop) → answer_kept false kept ≡ Some result → IsKept kept result
+kept_by (Some answer) result e = let same : result ≡ Ok answer = cc in record { answer = answer; kept_is = refl; result_is = same }
+kept_by None result e = absurd cc
 
 -- The number of bytes is the one that is counted.
-pub counted_stands : {H D : ℕ} {setting : Setting} {s B : List ℕ} {v : Verifier H D} → HasTaken setting s B v → StandsFor setting B v.taken v (λ z. message (comparing H D setting) (s ++ z))
-counted_stands {H} {D} {setting} {s} {B} {v} h = subst (λ (n : ℕ). StandsFor setting B n v (λ z. message (comparing H D setting) (s ++ z))) (sym h.counted) h.so_far
+pub counted_stands : {H D : ℕ} {task : Task} {s B : List ℕ} {v : Verifier H D} → HasTaken task s B v → StandsFor task B v.taken v (λ z. message (rules_of H D task) (s ++ z))
+counted_stands {H} {D} {task} {s} {B} {v} h = subst (λ (n : ℕ). StandsFor task B n v (λ z. message (rules_of H D task) (s ++ z))) (sym h.counted) h.so_far
 
-pub without_more : (H D : ℕ) (setting : Setting) (bytes : List ℕ) → message (comparing H D setting) (bytes ++ []) ≡ message (comparing H D setting) bytes
-without_more H D setting bytes = ap (message (comparing H D setting)) (append-nil bytes)
+pub without_more : (H D : ℕ) (task : Task) (bytes : List ℕ) → message (rules_of H D task) (bytes ++ []) ≡ message (rules_of H D task) bytes
+without_more H D task bytes = ap (message (rules_of H D task)) (append-nil bytes)
 
 -- ---- what a phase says of a step
 
@@ -114,7 +111,9 @@ wanted_is_open (phases.Payload p) lt = refl
 wanted_is_open (phases.AuthHead p) lt = refl
 wanted_is_open (phases.Auth p) lt = refl
 wanted_is_open (phases.Signed p) lt = absurd (omega (arith, lt))
+wanted_is_open (phases.Decided verdict) lt = absurd (omega (arith, lt))
 wanted_is_open (phases.Settled verdict) lt = absurd (omega (arith, lt))
+wanted_is_open (phases.Shaped p) lt = absurd (omega (arith, lt))
 
 -- What of a piece is payload.
 abbrev pub payload_of : Bool → List ℕ → List ℕ
@@ -133,15 +132,17 @@ grown_by (phases.PayloadHead p) B piece = sym (append-nil B)
 grown_by (phases.AuthHead p) B piece = sym (append-nil B)
 grown_by (phases.Auth p) B piece = sym (append-nil B)
 grown_by (phases.Signed p) B piece = sym (append-nil B)
+grown_by (phases.Decided verdict) B piece = sym (append-nil B)
 grown_by (phases.Settled verdict) B piece = sym (append-nil B)
+grown_by (phases.Shaped p) B piece = sym (append-nil B)
 
 -- ---- a piece more
 
 -- None of the bytes but the last settles it.
-pub none_after_more : (H D : ℕ) (setting : Setting) (s taken piece : List ℕ) → ((n : ℕ) → n < length taken → (message (comparing H D setting) (s ++ take n taken)).settled ≡ false) →
-    ((more : List ℕ) → length more < length piece → (message (comparing H D setting) ((s ++ taken) ++ more)).settled ≡ false) →
-    (n : ℕ) → n < length (taken ++ piece) → (message (comparing H D setting) (s ++ take n (taken ++ piece))).settled ≡ false
-none_after_more H D setting s taken piece before within n lt = elim (cases_lt n (length taken)) [
+pub none_after_more : (H D : ℕ) (task : Task) (s taken piece : List ℕ) → ((n : ℕ) → n < length taken → (message (rules_of H D task) (s ++ take n taken)).settled ≡ false) →
+    ((more : List ℕ) → length more < length piece → (message (rules_of H D task) ((s ++ taken) ++ more)).settled ≡ false) →
+    (n : ℕ) → n < length (taken ++ piece) → (message (rules_of H D task) (s ++ take n (taken ++ piece))).settled ≡ false
+none_after_more H D task s taken piece before within n lt = elim (cases_lt n (length taken)) [
   | inl earlier ↦ (let le : n ≤ length taken = omega arith in rw (take-append-le n taken piece le) (before n earlier))
   | inr later ↦ (
       let m : ℕ = n - length taken in
@@ -151,18 +152,18 @@ none_after_more H D setting s taken piece before within n lt = elim (cases_lt n 
       rw (e, ← append_assoc s taken (take m piece)) (within (take m piece) short))
 ]
 
-pub goes_on : {H D : ℕ} {setting : Setting} {s B : List ℕ} {come come_now come_after contents contents_now contents_after : Option (List ℕ)} {ended ended_after : Bool} {sure sure_now sure_after : ℕ} {v next : Verifier H D} (piece : List ℕ) → (a : Along setting s B come come_now ended contents contents_now sure sure_now v) → Consumes come_now come_after piece →
-    ((more : List ℕ) → length more < length piece → (message (comparing H D setting) ((s ++ a.taken) ++ more)).settled ≡ false) → HasTaken setting ((s ++ a.taken) ++ piece) (grown v.phase (B ++ a.part) piece) next → ended_after ≡ false →
-    Appends contents_now contents_after (payload_of (in_payload v.phase) piece) → sure_now ≤ sure_after + length (payload_of (in_payload v.phase) piece) → Along setting s B come come_after ended_after contents contents_after sure sure_after next
-goes_on {H} {D} {setting} {s} {B} {come} {come_now} {come_after} {contents} {contents_now} {contents_after} {ended} {ended_after} {sure} {sure_now} {sure_after} {v} {next} piece a took within stands e grew promise =
+pub goes_on : {H D : ℕ} {task : Task} {s B : List ℕ} {come come_now come_after contents contents_now contents_after : Option (List ℕ)} {ended ended_after : Bool} {sure sure_now sure_after : ℕ} {v next : Verifier H D} (piece : List ℕ) → (a : Along task s B come come_now ended contents contents_now sure sure_now v) → Consumes come_now come_after piece →
+    ((more : List ℕ) → length more < length piece → (message (rules_of H D task) ((s ++ a.taken) ++ more)).settled ≡ false) → HasTaken task ((s ++ a.taken) ++ piece) (grown v.phase (B ++ a.part) piece) next → ended_after ≡ false →
+    Appends contents_now contents_after (payload_of (in_payload v.phase) piece) → sure_now ≤ sure_after + length (payload_of (in_payload v.phase) piece) → Along task s B come come_after ended_after contents contents_after sure sure_after next
+goes_on {H} {D} {task} {s} {B} {come} {come_now} {come_after} {contents} {contents_now} {contents_after} {ended} {ended_after} {sure} {sure_now} {sure_after} {v} {next} piece a took within stands e grew promise =
     let more : List ℕ = payload_of (in_payload v.phase) piece in
     let payload_is : grown v.phase (B ++ a.part) piece ≡ B ++ (a.part ++ more) = grown_by v.phase (B ++ a.part) piece ∙ append_assoc B a.part more in
     record {
       taken = a.taken ++ piece;
       part = a.part ++ more;
       bytes = Consumes-trans come come_now come_after a.taken piece a.bytes took;
-      stands = subst (λ (t : List ℕ). HasTaken setting t (B ++ (a.part ++ more)) next) (append_assoc s a.taken piece) (subst (λ (t : List ℕ). HasTaken setting ((s ++ a.taken) ++ piece) t next) payload_is stands);
-      none_after_end = none_after_more H D setting s a.taken piece a.none_after_end within;
+      stands = subst (λ (t : List ℕ). HasTaken task t (B ++ (a.part ++ more)) next) (append_assoc s a.taken piece) (subst (λ (t : List ℕ). HasTaken task ((s ++ a.taken) ++ piece) t next) payload_is stands);
+      none_after_end = none_after_more H D task s a.taken piece a.none_after_end within;
       not_ended = λ some. e;
       payload = Appends-trans contents contents_now contents_after a.part more a.payload grew;
       promise = omega (arith, a.promise, promise, length-append a.part more);
@@ -170,110 +171,71 @@ goes_on {H} {D} {setting} {s} {B} {come} {come_now} {come_after} {contents} {con
 
 -- ---- exits
 
-module _ (goes_last : VerifyingGoesLast) (H D : ℕ) (setting : Setting) (decides : Decides) where
-  same_settled : (bytes : List ℕ) → (read_as H D setting decides bytes).settled ≡ (message (comparing H D setting) bytes).settled
-  same_settled bytes = ap (λ (r : Reading). r.settled) (goes_last H D setting decides bytes)
+-- What the bytes tell that were taken in all.
+told_of_all : {H D : ℕ} (task : Task) (v : Verifier H D) (bytes all : List ℕ) → bytes ≡ all → shown_of v ≡ shown_in task.setting (message (rules_of H D task) (bytes ++ [])) → Tells task all v
+told_of_all {H} {D} task v bytes all same h = subst (λ (b : List ℕ). Tells task b v) same (h ∙ ap (shown_in task.setting) (without_more H D task bytes))
 
-  same_told : (bytes : List ℕ) → (read_as H D setting decides bytes).told.payload ≡ (message (comparing H D setting) bytes).told.payload
-  same_told bytes = ap (λ (r : Reading). r.told.payload) (goes_last H D setting decides bytes)
-
-  same_answer : (bytes : List ℕ) → (read_as H D setting decides bytes).answer ≡ then_verified setting.aad decides (message (comparing H D setting) bytes).answer
-  same_answer bytes = ap (λ (r : Reading). r.answer) (goes_last H D setting decides bytes)
-
-  none_earlier : (s taken : List ℕ) → ((n : ℕ) → n < length taken → (message (comparing H D setting) (s ++ take n taken)).settled ≡ false) → (n : ℕ) → n < length taken → (read_as H D setting decides (s ++ take n taken)).settled ≡ false
-  none_earlier s taken before n lt = same_settled (s ++ take n taken) ∙ before n lt
-
--- A verdict, without a byte more.
-pub concluded : VerifyingGoesLast → MessageStandsInside → AllAreFair → {H D : ℕ} {setting : Setting} {s B : List ℕ} {come come_now come_after contents contents_now : Option (List ℕ)} {ended ended_after : Bool} {sure sure_now : ℕ} {v : Verifier H D} (decides : Decides) (verdict : Verdict) → (a : Along setting s B come come_now ended contents contents_now sure sure_now v) →
-    Consumes come_now come_after [] → (message (comparing H D setting) ((s ++ a.taken) ++ [])).told.payload ≡ B ++ a.part → then_verified setting.aad decides (message (comparing H D setting) ((s ++ a.taken) ++ [])).answer ≡ decided verdict → Counts verdict v.taken →
-    ((message (comparing H D setting) ((s ++ a.taken) ++ [])).settled ≡ false → (ended_after ≡ true) × IsAtEnd come_after) → ((message (comparing H D setting) ((s ++ a.taken) ++ [])).settled ≡ true → 0 < length a.taken → ended_after ≡ false) →
-    Run H D setting decides s B come come_after ended_after contents contents_now (Ok verdict) a.taken
-concluded goes_last inside fair {H} {D} {setting} {s} {B} {come} {come_now} {come_after} {contents} {contents_now} {ended} {ended_after} {sure} {sure_now} {v} decides verdict a took told answer count not_yet once =
+-- Nothing more is wanted, or the intake has ended.
+pub concluded : {H D : ℕ} {task : Task} {s B : List ℕ} {come come_now come_after contents contents_now : Option (List ℕ)} {ended ended_after : Bool} {sure sure_now : ℕ} {v : Verifier H D} → (a : Along task s B come come_now ended contents contents_now sure sure_now v) →
+    Consumes come_now come_after [] → (message (rules_of H D task) ((s ++ a.taken) ++ [])).told.payload ≡ B ++ a.part → shown_of v ≡ shown_in task.setting (message (rules_of H D task) ((s ++ a.taken) ++ [])) →
+    ((message (rules_of H D task) ((s ++ a.taken) ++ [])).settled ≡ false → (ended_after ≡ true) × IsAtEnd come_after) → ((message (rules_of H D task) ((s ++ a.taken) ++ [])).settled ≡ true → 0 < length a.taken → ended_after ≡ false) →
+    Drive task s B come come_after ended_after contents contents_now None v
+concluded {H} {D} {task} {s} {B} {come} {come_now} {come_after} {contents} {contents_now} {ended} {ended_after} {sure} {sure_now} {v} a took told shown not_yet once =
     let bytes : List ℕ = s ++ a.taken in
-    let here : message (comparing H D setting) (bytes ++ []) ≡ message (comparing H D setting) bytes = without_more H D setting bytes in
-    let same : (read_as H D setting decides bytes).settled ≡ (message (comparing H D setting) (bytes ++ [])).settled = same_settled goes_last H D setting decides bytes ∙ ap (λ (r : Reading). r.settled) (sym here) in
+    let here : message (rules_of H D task) (bytes ++ []) ≡ message (rules_of H D task) bytes = without_more H D task bytes in
+    let same : (message (rules_of H D task) bytes).settled ≡ (message (rules_of H D task) (bytes ++ [])).settled = ap (λ (r : Reading). r.settled) (sym here) in
     record {
+      taken = a.taken;
+      part = a.part;
       bytes = subst (λ (t : List ℕ). Consumes come come_after t) (append-nil a.taken) (Consumes-trans come come_now come_after a.taken [] a.bytes took);
-      none_after_end = none_earlier goes_last H D setting decides s a.taken a.none_after_end;
-      answer = record {
-        answer = same_answer goes_last H D setting decides bytes ∙ ap (λ (r : Reading). then_verified setting.aad decides r.answer) (sym here) ∙ answer;
-        counted = subst (λ (n : ℕ). Counts verdict n) a.stands.counted count;
-        placed = inside (verifying H D setting decides) (fair.verifying H D setting decides) bytes;
-        unsettled = λ e. not_yet (sym same ∙ e);
-        settled = λ e. once (sym same ∙ e);
-      };
-      payload = (a.part, same_told goes_last H D setting decides bytes ∙ ap (λ (r : Reading). r.told.payload) (sym here) ∙ told, a.payload);
+      none_after_end = a.none_after_end;
+      stands = (a.stands, record { unsettled = λ e. not_yet (sym same ∙ e); settled = λ e. once (sym same ∙ e) });
+      counted = a.stands.counted;
+      tells = told_of_all task v bytes bytes refl shown;
+      payload = ap (λ (r : Reading). r.told.payload) (sym here) ∙ told;
+      grows = a.payload;
     }
 
 -- A failed intake.
-pub stopped_by_intake : VerifyingGoesLast → {H D : ℕ} {setting : Setting} {s B : List ℕ} {come come_now come_after contents contents_now : Option (List ℕ)} {ended ended_after : Bool} {sure sure_now : ℕ} {v : Verifier H D} (decides : Decides) → (a : Along setting s B come come_now ended contents contents_now sure sure_now v) →
-    KeepsOrForgets come_now come_after → (message (comparing H D setting) ((s ++ a.taken) ++ [])).told.payload ≡ B ++ a.part → (message (comparing H D setting) ((s ++ a.taken) ++ [])).settled ≡ false →
-    Run H D setting decides s B come come_after ended_after contents contents_now (Err stops.Intake) a.taken
-stopped_by_intake goes_last {H} {D} {setting} {s} {B} {come} {come_now} {come_after} {contents} {contents_now} {ended} {ended_after} {sure} {sure_now} {v} decides a keeps told unsettled_yet =
+pub stopped_by_intake : {H D : ℕ} {task : Task} {s B : List ℕ} {come come_now come_after contents contents_now : Option (List ℕ)} {ended ended_after : Bool} {sure sure_now : ℕ} {v next : Verifier H D} → (a : Along task s B come come_now ended contents contents_now sure sure_now v) →
+    KeepsOrForgets come_now come_after → (message (rules_of H D task) ((s ++ a.taken) ++ [])).told.payload ≡ B ++ a.part → shown_of v ≡ shown_in task.setting (message (rules_of H D task) ((s ++ a.taken) ++ [])) → (message (rules_of H D task) ((s ++ a.taken) ++ [])).settled ≡ false →
+    next.taken ≡ v.taken → shown_of next ≡ shown_of v → Drive task s B come come_after ended_after contents contents_now (Some stops.Intake) next
+stopped_by_intake {H} {D} {task} {s} {B} {come} {come_now} {come_after} {contents} {contents_now} {ended} {ended_after} {sure} {sure_now} {v} {next} a keeps told shown unsettled_yet count same =
     let bytes : List ℕ = s ++ a.taken in
-    let here : message (comparing H D setting) (bytes ++ []) ≡ message (comparing H D setting) bytes = without_more H D setting bytes in
+    let here : message (rules_of H D task) (bytes ++ []) ≡ message (rules_of H D task) bytes = without_more H D task bytes in
     record {
+      taken = a.taken;
+      part = a.part;
       bytes = taken_before_failure come come_now come_after a.taken a.bytes keeps;
-      none_after_end = none_earlier goes_last H D setting decides s a.taken a.none_after_end;
-      answer = same_settled goes_last H D setting decides bytes ∙ ap (λ (r : Reading). r.settled) (sym here) ∙ unsettled_yet;
-      payload = (a.part, same_told goes_last H D setting decides bytes ∙ ap (λ (r : Reading). r.told.payload) (sym here) ∙ told, a.payload);
+      none_after_end = a.none_after_end;
+      stands = ap (λ (r : Reading). r.settled) (sym here) ∙ unsettled_yet;
+      counted = count ∙ a.stands.counted;
+      tells = told_of_all task next bytes bytes refl (same ∙ shown);
+      payload = ap (λ (r : Reading). r.told.payload) (sym here) ∙ told;
+      grows = a.payload;
     }
 
 -- A failed sink: the piece was of the payload.
-pub stopped_by_sink : VerifyingGoesLast → {H D : ℕ} {setting : Setting} {s B : List ℕ} {come come_now come_after contents contents_now contents_after : Option (List ℕ)} {ended ended_after : Bool} {sure sure_now : ℕ} {v : Verifier H D} (decides : Decides) (piece : List ℕ) → (a : Along setting s B come come_now ended contents contents_now sure sure_now v) →
-    Consumes come_now come_after piece → ((more : List ℕ) → length more < length piece → (message (comparing H D setting) ((s ++ a.taken) ++ more)).settled ≡ false) → (message (comparing H D setting) ((s ++ a.taken) ++ piece)).settled ≡ false → in_payload v.phase ≡ true →
-    (message (comparing H D setting) (((s ++ a.taken) ++ piece) ++ [])).told.payload ≡ grown v.phase (B ++ a.part) piece → AppendsFront contents_now contents_after piece →
-    Run H D setting decides s B come come_after ended_after contents contents_after (Err stops.Sink) (a.taken ++ piece)
-stopped_by_sink goes_last {H} {D} {setting} {s} {B} {come} {come_now} {come_after} {contents} {contents_now} {contents_after} {ended} {ended_after} {sure} {sure_now} {v} decides piece a took within unsettled_yet in_it told front =
+pub stopped_by_sink : {H D : ℕ} {task : Task} {s B : List ℕ} {come come_now come_after contents contents_now contents_after : Option (List ℕ)} {ended ended_after : Bool} {sure sure_now : ℕ} {v next : Verifier H D} (stepped : Verifier H D) (piece : List ℕ) → (a : Along task s B come come_now ended contents contents_now sure sure_now v) →
+    Consumes come_now come_after piece → ((more : List ℕ) → length more < length piece → (message (rules_of H D task) ((s ++ a.taken) ++ more)).settled ≡ false) → (message (rules_of H D task) ((s ++ a.taken) ++ piece)).settled ≡ false → in_payload v.phase ≡ true →
+    (message (rules_of H D task) (((s ++ a.taken) ++ piece) ++ [])).told.payload ≡ grown v.phase (B ++ a.part) piece → shown_of stepped ≡ shown_in task.setting (message (rules_of H D task) (((s ++ a.taken) ++ piece) ++ [])) → AppendsFront contents_now contents_after piece →
+    stepped.taken ≡ length ((s ++ a.taken) ++ piece) → next.taken ≡ stepped.taken → shown_of next ≡ shown_of stepped → Drive task s B come come_after ended_after contents contents_after (Some stops.Sink) next
+stopped_by_sink {H} {D} {task} {s} {B} {come} {come_now} {come_after} {contents} {contents_now} {contents_after} {ended} {ended_after} {sure} {sure_now} {v} {next} stepped piece a took within unsettled_yet in_it told shown front counted count same =
     let bytes : List ℕ = (s ++ a.taken) ++ piece in
     let regrouped : bytes ≡ s ++ (a.taken ++ piece) = append_assoc s a.taken piece in
-    let here : message (comparing H D setting) (bytes ++ []) ≡ message (comparing H D setting) bytes = without_more H D setting bytes in
+    let here : message (rules_of H D task) (bytes ++ []) ≡ message (rules_of H D task) bytes = without_more H D task bytes in
     let payload_is : grown v.phase (B ++ a.part) piece ≡ B ++ (a.part ++ piece) = grown_by v.phase (B ++ a.part) piece ∙ rw in_it (append_assoc B a.part piece) in
     record {
+      taken = a.taken ++ piece;
+      part = a.part ++ piece;
       bytes = Consumes-trans come come_now come_after a.taken piece a.bytes took;
-      none_after_end = none_earlier goes_last H D setting decides s (a.taken ++ piece) (none_after_more H D setting s a.taken piece a.none_after_end within);
-      answer = subst (λ (t : List ℕ). (read_as H D setting decides t).settled ≡ false) regrouped (same_settled goes_last H D setting decides bytes ∙ unsettled_yet);
-      payload = (a.part ++ piece, subst (λ (t : List ℕ). (read_as H D setting decides t).told.payload ≡ B ++ (a.part ++ piece)) regrouped (same_told goes_last H D setting decides bytes ∙ ap (λ (r : Reading). r.told.payload) (sym here) ∙ told ∙ payload_is), AppendsFront-then contents contents_now contents_after a.part piece a.payload front);
+      none_after_end = none_after_more H D task s a.taken piece a.none_after_end within;
+      stands = subst (λ (t : List ℕ). (message (rules_of H D task) t).settled ≡ false) regrouped unsettled_yet;
+      counted = count ∙ counted ∙ ap length regrouped;
+      tells = told_of_all task next bytes (s ++ (a.taken ++ piece)) regrouped (same ∙ shown);
+      payload = subst (λ (t : List ℕ). (message (rules_of H D task) t).told.payload ≡ B ++ (a.part ++ piece)) regrouped (ap (λ (r : Reading). r.told.payload) (sym here) ∙ told ∙ payload_is);
+      grows = AppendsFront-then contents contents_now contents_after a.part piece a.payload front;
     }
-
--- A verdict that is kept: nothing is taken.
-pub kept_run : VerifyingGoesLast → MessageStandsInside → AllAreFair → {H D : ℕ} {setting : Setting} {s B : List ℕ} {v : Verifier H D} (decides : Decides) (come contents : Option (List ℕ)) (ended : Bool) (answer : Result Verdict Stop) → HasTaken setting s B v → answer_kept v.stopped (verdict_in v.phase) ≡ Some answer →
-    Run H D setting decides s B come come ended contents contents answer []
-kept_run goes_last inside fair {H} {D} {setting} {s} {B} {v} decides come contents ended answer h kept =
-    let going : answer_kept false (verdict_in v.phase) ≡ Some answer = rw h.goes_on at kept in
-    let phase = kept_phase v.phase answer going in
-    let a : Along setting s B come come ended contents contents 0 0 v = at_start come contents ended 0 h in
-    let so_far : StandsFor setting (B ++ []) (length (s ++ [])) v (λ z. message (comparing H D setting) ((s ++ []) ++ z)) = a.stands.so_far in
-    let here : message (comparing H D setting) ((s ++ []) ++ []) ≡ settled so_far.told (decided phase.0) = so_far.left [] ∙ ap (λ (p : Phase). left_in (comparing H D setting) so_far.known so_far.told v p []) phase.1 in
-    let holds : HoldsIn setting so_far.known so_far.told (length (s ++ [])) v (phases.Settled phase.0) = subst (λ (p : Phase). HoldsIn setting so_far.known so_far.told (length (s ++ [])) v p) phase.1 so_far.holds in
-    let count : Counts phase.0 v.taken = subst (λ (n : ℕ). Counts phase.0 n) (sym a.stands.counted) holds in
-    let done : (message (comparing H D setting) ((s ++ []) ++ [])).settled ≡ true = ap (λ (r : Reading). r.settled) here in
-    let run : Run H D setting decides s B come come ended contents contents (Ok phase.0) [] = concluded goes_last inside fair decides phase.0 a (Consumes-nil come)
-    (ap (λ (r : Reading). r.told.payload) here ∙ so_far.payload_told) (ap (λ (r : Reading). then_verified setting.aad decides r.answer) here) count
-    (λ e. let clash : true ≡ false = sym done ∙ e in absurd cc) (λ e lt. absurd (omega arith)) in
-    subst (λ (r : Result Verdict Stop). Run H D setting decides s B come come ended contents contents r []) (sym phase.2) run
-
--- ---- all bytes of an intake that tells them
-
-all_settled : VerdictStays → (H D : ℕ) (setting : Setting) (decides : Decides) (bytes rest : List ℕ) (verdict : Verdict) (settled : Bool) → (read_as H D setting decides bytes).settled ≡ settled → (read_as H D setting decides bytes).answer ≡ decided verdict → ((read_as H D setting decides bytes).settled ≡ false → rest ≡ []) →
-    verdict_of H D setting decides (bytes ++ rest) ≡ decided verdict
-all_settled stays H D setting decides bytes rest verdict true e answer none = stays H D setting decides bytes rest e ∙ answer
-all_settled stays H D setting decides bytes rest verdict false e answer none =
-    let empty : bytes ++ rest ≡ bytes = ap (λ (t : List ℕ). bytes ++ t) (none e) ∙ append-nil bytes in
-    ap (verdict_of H D setting decides) empty ∙ answer
-
-pub of_all : VerdictStays → {H D : ℕ} {setting : Setting} {decides : Decides} {s B : List ℕ} {come contents contents_after : Option (List ℕ)} {ended : Bool} {verdict : Verdict} (come_after : Option (List ℕ)) (taken bytes : List ℕ) → Run H D setting decides s B come come_after ended contents contents_after (Ok verdict) taken → come ≡ Some bytes →
-    verdict_of H D setting decides (s ++ bytes) ≡ decided verdict
-of_all stays {H} {D} {setting} {decides} {s} {B} {come} {contents} {contents_after} {ended} {verdict} None taken bytes r e = let none = rw e at r.bytes in absurd none
-of_all stays {H} {D} {setting} {decides} {s} {B} {come} {contents} {contents_after} {ended} {verdict} (Some rest) taken bytes r e =
-    let whole : bytes ≡ taken ++ rest = rw e at r.bytes in
-    let regrouped : s ++ bytes ≡ (s ++ taken) ++ rest = ap (λ (t : List ℕ). s ++ t) whole ∙ sym (append_assoc s taken rest) in
-    ap (verdict_of H D setting decides) regrouped ∙ all_settled stays H D setting decides (s ++ taken) rest verdict (read_as H D setting decides (s ++ taken)).settled refl r.answer.answer (λ unsettled_yet. (r.answer.unsettled unsettled_yet).1)
-
-pub of_any : VerdictStays → {H D : ℕ} {setting : Setting} {decides : Decides} {s B : List ℕ} {come contents contents_after : Option (List ℕ)} {ended : Bool} (answer : Result Verdict Stop) (come_after : Option (List ℕ)) (taken bytes : List ℕ) → Run H D setting decides s B come come_after ended contents contents_after answer taken → come ≡ Some bytes →
-    IfOk answer (λ verdict. verdict_of H D setting decides (s ++ bytes) ≡ decided verdict)
-of_any stays (Ok verdict) come_after taken bytes r e = of_all stays come_after taken bytes r e
-of_any stays (Err stop) come_after taken bytes r e = tt
 
 -- ---- what a failed put says
 
@@ -302,9 +264,9 @@ not_at_end zero lt = absurd (omega (arith, lt))
 not_at_end (suc n) lt = refl
 
 -- A sink that is sure of every payload doesn't fail.
-pub sure_enough : {H D : ℕ} {setting : Setting} {s B : List ℕ} {come come_now contents contents_now : Option (List ℕ)} {ended : Bool} {sure sure_now : ℕ} {v : Verifier H D} (piece known : List ℕ) → (a : Along setting s B come come_now ended contents contents_now sure sure_now v) → in_payload v.phase ≡ true → known ≡ grown v.phase (B ++ a.part) piece →
-    length known ≤ setting.payload_limit → setting.payload_limit ≤ sure → length piece ≤ sure_now
-sure_enough {H} {D} {setting} {s} {B} {come} {come_now} {contents} {contents_now} {ended} {sure} {sure_now} {v} piece known a in_it e limit enough =
+pub sure_enough : {H D : ℕ} {task : Task} {s B : List ℕ} {come come_now contents contents_now : Option (List ℕ)} {ended : Bool} {sure sure_now : ℕ} {v : Verifier H D} (piece known : List ℕ) → (a : Along task s B come come_now ended contents contents_now sure sure_now v) → in_payload v.phase ≡ true → known ≡ grown v.phase (B ++ a.part) piece →
+    length known ≤ task.setting.payload_limit → task.setting.payload_limit ≤ sure → length piece ≤ sure_now
+sure_enough {H} {D} {task} {s} {B} {come} {come_now} {contents} {contents_now} {ended} {sure} {sure_now} {v} piece known a in_it e limit enough =
     let payload_is : known ≡ B ++ (a.part ++ piece) = e ∙ grown_by v.phase (B ++ a.part) piece ∙ rw in_it (append_assoc B a.part piece) in
     omega (arith, a.promise, ap length payload_is, length-append B (a.part ++ piece), length-append a.part piece)
 
@@ -314,15 +276,27 @@ asked_for_more : (asked taken : ℕ) → (taken < 2 ^ 57 → 0 < asked) → aske
 asked_for_more asked taken some none (inl early) = let positive : 0 < asked = some early in absurd (omega arith)
 asked_for_more asked taken some none (inr late) = late
 
-within_limit : (room limit n : ℕ) → room ≤ 65535 → 2 ^ 57 ≤ n → 2 * room + 186 + payload_at_most limit ≤ n
-within_limit room limit n le late = let short : min limit (2 ^ 56 - 1) ≤ 2 ^ 56 - 1 = min-le_right limit (2 ^ 56 - 1) in omega arith
+within_limit : (room limit n : ℕ) → room ≤ 65535 → 2 ^ 57 ≤ n → (2 * room + 186 + payload_at_most limit ≤ n) × (2 * room + 65589 + payload_at_most limit ≤ n)
+within_limit room limit n le late = let short : min limit (2 ^ 56 - 1) ≤ 2 ^ 56 - 1 = min-le_right limit (2 ^ 56 - 1) in (omega arith, omega arith)
 
-too_long : (room limit : ℕ) (bytes : List ℕ) (settled : Bool) → (2 * room + 186 + payload_at_most limit ≤ length bytes → settled ≡ true) → room ≤ 65535 → (settled ≡ false → 2 ^ 57 ≤ length bytes) → settled ≡ true
-too_long room limit bytes true within le late = refl
-too_long room limit bytes false within le late = within (within_limit room limit (length bytes) le (late refl))
+-- So many bytes settle any message.
+pub record Bounded : Type 0 where
+  pub compared : VerifiedWithin comparing
+  pub inspected : MessageIsInspectedWithin
 
-pub settled_if_none_asked : {H D : ℕ} → VerifiedWithin comparing → H ≤ 65535 → {setting : Setting} {s B : List ℕ} {v : Verifier H D} (asked : ℕ) → HasTaken setting s B v → (message (comparing H D setting) (s ++ [])).settled ≡ is_settled v.phase → (is_settled v.phase ≡ false → v.taken < 2 ^ 57 → 0 < asked) → asked ≡ 0 →
-    (message (comparing H D setting) (s ++ [])).settled ≡ true
-settled_if_none_asked {H} {D} within limit {setting} {s} {B} {v} asked h same some none =
-    too_long H setting.payload_limit (s ++ []) (message (comparing H D setting) (s ++ [])).settled (within H D setting (s ++ [])) limit
-    (λ unsettled_yet. let late : 2 ^ 57 ≤ v.taken = asked_for_more asked v.taken (some (sym same ∙ unsettled_yet)) none (cases_lt v.taken (2 ^ 57)) in rw append-nil (let there : 2 ^ 57 ≤ length s = omega (arith, late, h.counted) in there))
+settled_by_limit : Bounded → (H D : ℕ) (inspects : Bool) (setting : Setting) (bytes : List ℕ) → H ≤ 65535 → 2 ^ 57 ≤ length bytes → (message (rules_of H D (record { setting = setting; inspects = inspects })) bytes).settled ≡ true
+settled_by_limit within H D false setting bytes le late = within.compared H D setting bytes (within_limit H setting.payload_limit (length bytes) le late).0
+settled_by_limit within H D true setting bytes le late = within.inspected H D setting bytes (within_limit H setting.payload_limit (length bytes) le late).1
+
+too_long : (settled : Bool) → (settled ≡ false → settled ≡ true) → settled ≡ true
+too_long true h = refl
+too_long false h = h refl
+
+pub settled_if_none_asked : {H D : ℕ} → Bounded → H ≤ 65535 → {task : Task} {s B : List ℕ} {v : Verifier H D} (asked : ℕ) → HasTaken task s B v → (message (rules_of H D task) (s ++ [])).settled ≡ is_settled v.phase → (is_settled v.phase ≡ false → v.taken < 2 ^ 57 → 0 < asked) → asked ≡ 0 →
+    (message (rules_of H D task) (s ++ [])).settled ≡ true
+settled_if_none_asked {H} {D} within limit {task} {s} {B} {v} asked h same some none =
+    too_long (message (rules_of H D task) (s ++ [])).settled
+    (λ unsettled_yet.
+    let late : 2 ^ 57 ≤ v.taken = asked_for_more asked v.taken (some (sym same ∙ unsettled_yet)) none (cases_lt v.taken (2 ^ 57)) in
+    let there : 2 ^ 57 ≤ length (s ++ []) = rw append-nil (let counted : 2 ^ 57 ≤ length s = omega (arith, late, h.counted) in counted) in
+    settled_by_limit within H D task.inspects task.setting (s ++ []) limit there)

@@ -1,36 +1,37 @@
 -- What a verifier stands for goes by the reading alone.
-use Rattle.std.proofs.Common.{◌≡◌, ℕ, ◌+◌, List, [], ◌∷◌, ◌++◌, length, None, sym, ap, subst, ◌∙◌, arith, length-append}
+use Rattle.std.proofs.Common.{◌≡◌, ℕ, ◌+◌, List, [], ◌∷◌, ◌++◌, length, take, None, refl, sym, ap, subst, ◌∙◌, arith, append_assoc, length-append}
+use Rattle.std.proofs.Math.Seq.{take-length}
 use Rattle.cose_head.specs.declared.kind.Kind.TheVariants.{Mac0}
-use Rattle.cose_head.specs.declared.algorithm.Alg.TheVariants.{Hmac256}
-use Rattle.cose_map.specs.Key.Value.{symmetric}
 use Rattle.cose_map.specs.Map.Pairs.{Pair}
 use Rattle.cose_msg.specs.declared.verifier.Verifier.{Verifier}
-use Rattle.cose_msg.specs.Message.{Setting}
 use Rattle.cose_msg.specs.Reading.{Reading, Told}
 use Rattle.cose_head.specs.Head.{IsMore, bare_head}
-use Rattle.cose_msg.specs.Verifier.{HoldsIn, Known, StandsFor}
+use Rattle.cose_msg.specs.Task.{Task}
+use Rattle.cose_msg.specs.Verifier.{HoldsIn, Known, Shows, StandsFor}
 
 -- Where nothing is known yet, anything will do.
 abbrev pub unknown : List ℕ → Known
 unknown B = record {
   headers = record { kind = Mac0; protected = []; protected_pairs = []; unprotected_pairs = [] };
-  found = record { key = record { kid = None; alg = None; operations = None; material = symmetric [] }; alg = Hmac256 };
+  chosen = None;
   payload = B;
+  auth = [];
 }
 
 -- Where the pairs of the protected bucket are known.
 abbrev pub under_pairs : List Pair → Known
 under_pairs pairs = record {
   headers = record { kind = Mac0; protected = []; protected_pairs = pairs; unprotected_pairs = [] };
-  found = (unknown []).found;
+  chosen = None;
   payload = [];
+  auth = [];
 }
 
-pub along : {H D : ℕ} {setting : Setting} {B : List ℕ} {n : ℕ} (v : Verifier H D) (new old : List ℕ → Reading) → ((z : List ℕ) → new z ≡ old z) → StandsFor setting B n v old → StandsFor setting B n v new
+pub along : {H D : ℕ} {task : Task} {B : List ℕ} {n : ℕ} (v : Verifier H D) (new old : List ℕ → Reading) → ((z : List ℕ) → new z ≡ old z) → StandsFor task B n v old → StandsFor task B n v new
 along v new old same h = record {
   known = h.known;
   told = h.told;
-  in_setting = h.in_setting;
+  shows = h.shows;
   payload_known = h.payload_known;
   payload_told = h.payload_told;
   holds = h.holds;
@@ -38,16 +39,20 @@ along v new old same h = record {
 }
 
 -- The same with other numbers and lists that are equal.
-pub moved : {H D : ℕ} {setting : Setting} {B B' : List ℕ} {n n' : ℕ} (v : Verifier H D) (new old : List ℕ → Reading) → B' ≡ B → n' ≡ n → ((z : List ℕ) → new z ≡ old z) → StandsFor setting B' n' v old → StandsFor setting B n v new
-moved {H} {D} {setting} {B} {B'} {n} {n'} v new old same_payload same_count same h = record {
+pub moved : {H D : ℕ} {task : Task} {B B' : List ℕ} {n n' : ℕ} (v : Verifier H D) (new old : List ℕ → Reading) → B' ≡ B → n' ≡ n → ((z : List ℕ) → new z ≡ old z) → StandsFor task B' n' v old → StandsFor task B n v new
+moved {H} {D} {task} {B} {B'} {n} {n'} v new old same_payload same_count same h = record {
   known = h.known;
   told = h.told;
-  in_setting = h.in_setting;
+  shows = h.shows;
   payload_known = h.payload_known ∙ same_payload;
   payload_told = h.payload_told ∙ same_payload;
-  holds = subst (λ (m : ℕ). HoldsIn setting h.known h.told m v v.phase) same_count h.holds;
+  holds = subst (λ (m : ℕ). HoldsIn task h.known h.told m v v.phase) same_count h.holds;
   left = λ z. same z ∙ h.left z;
 }
+
+-- What is told may be said in other words.
+pub shows_as : {H D : ℕ} (task : Task) (v : Verifier H D) (told other : Told) → told ≡ other → Shows task told v → Shows task other v
+shows_as task v told other same h = subst (λ (t : Told). Shows task t v) same h
 
 -- One byte more of a head is held, and it isn't whole.
 pub holds_more : (at n byte : ℕ) (held now : List ℕ) → n ≡ at + length held → now ≡ held ++ byte ∷ [] → IsMore (bare_head (held ++ byte ∷ [])) → IsMore (bare_head now) × (n + 1 ≡ at + length now)
@@ -58,3 +63,15 @@ holds_more at n byte held now count kept half =
 -- A payload that is told is the one so far.
 pub told_payload : (told other : Told) (B : List ℕ) → told ≡ other → told.payload ≡ B → other.payload ≡ B
 told_payload told other B same is = sym (ap (λ (t : Told). t.payload) same) ∙ is
+
+-- A verifier of one context and the other's purpose, both of one task.
+pub same_task : (task a b : Task) → a ≡ task → b ≡ task → record { setting = a.setting; inspects = b.inspects } ≡ task
+same_task task a b e f = rw (e, f) refl
+
+-- A piece was taken whole.
+pub took_piece : {H D : ℕ} {task : Task} (v : Verifier H D) (s piece : List ℕ) (grows : List ℕ → List ℕ) (used : ℕ) (reading : List ℕ → Reading) → used ≡ length piece
+    → StandsFor task (grows (take used piece)) (length s + used) v (λ z. reading (s ++ (take used piece ++ z))) → StandsFor task (grows piece) (length (s ++ piece)) v (λ z. reading ((s ++ piece) ++ z))
+took_piece v s piece grows used reading e h =
+    let all : take used piece ≡ piece = ap (λ (n : ℕ). take n piece) e ∙ take-length piece in
+    let count : length s + used ≡ length (s ++ piece) = omega (arith, e, length-append s piece) in
+    moved v _ _ (ap grows all) count (λ z. ap reading (append_assoc s piece z ∙ ap (λ (t : List ℕ). s ++ (t ++ z)) (sym all))) h

@@ -104,4 +104,6 @@ grown_by_byte (phases.Payload p) B part e = absurd cc
 grown_by_byte (phases.AuthHead p) B part e = refl
 grown_by_byte (phases.Auth p) B part e = refl
 grown_by_byte (phases.Signed p) B part e = refl
+grown_by_byte (phases.Decided verdict) B part e = refl
 grown_by_byte (phases.Settled verdict) B part e = refl
+grown_by_byte (phases.Shaped p) B part e = refl

@@ -17,10 +17,10 @@ use Rattle.cose_msg.specs.declared.phase.Phase.TheVariants as phases
 use Rattle.cose_msg.specs.declared.verifier.Verifier.{Verifier}
 use Rattle.cose_msg.specs.Answer.{refused}
 use Rattle.cose_msg.specs.Front.{past_array_head, past_first_head, past_second_head}
-use Rattle.cose_msg.specs.Message.{Setting, comparing}
 use Rattle.cose_msg.specs.Phase.{in_payload, is_settled, want_of}
 use Rattle.cose_msg.specs.Phases.{nothing_told, protected_told, headers_told, finish, past_auth_head, past_payload, past_payload_head, past_protected, past_protected_head, past_unprotected}
 use Rattle.cose_msg.specs.Reading.{Next, Reading, Told, cut, past_head, with_head, with_item, with_string}
+use Rattle.cose_msg.specs.Task.{Task, rules_of}
 use Rattle.cose_msg.specs.Verifier.{HoldsIn, Known, StandsFor, left_in}
 use Rattle.cose_msg.proofs.Steps.{string_whole}
 
@@ -70,60 +70,64 @@ fewer held more n left count lt = omega (arith, length-append held more)
 
 -- ---- the phases
 
-module _ {H D : ℕ} (setting : Setting) (known : Known) (told : Told) (n : ℕ) (v : Verifier H D) (waits : HasPut H v.unprotected.items v.walker → read D (left_of v.unprotected.items H 0) ≡ refuse Truncated (length v.unprotected.items)) where
+module _ {H D : ℕ} (task : Task) (known : Known) (told : Told) (n : ℕ) (v : Verifier H D) (waits : HasPut H v.unprotected.items v.walker → read D (left_of v.unprotected.items H 0) ≡ refuse Truncated (length v.unprotected.items)) where
   -- A phase at the bytes that are held of it.
-  here : Phase → List ℕ → Reading
-  here phase z = left_in (comparing H D setting) known told v phase z
+  unfoldable pub here : Phase → List ℕ → Reading
+  here phase z = left_in (rules_of H D task) known told v phase z
 
-  open_in : (phase : Phase) → HoldsIn setting known told n v phase → (more : List ℕ) → length more < want_of phase → (here phase more).settled ≡ false
+  open_in : (phase : Phase) → HoldsIn task known told n v phase → (more : List ℕ) → length more < want_of phase → (here phase more).settled ≡ false
   unfolding here
   open_in phases.FirstHead h more lt = one_wanted (here phases.FirstHead) more lt
-      (unsettled _ _ _ (head_waits nothing_told (past_first_head (comparing H D setting)) 0 v.head.items h.1.0))
+      (unsettled _ _ _ (head_waits nothing_told (past_first_head (rules_of H D task)) 0 v.head.items h.1.0))
   open_in (phases.TagHead p) h more lt = one_wanted (here (phases.TagHead p)) more lt
-      (unsettled _ _ _ (head_waits nothing_told (past_second_head (comparing H D setting)) p.at v.head.items h.1.0))
+      (unsettled _ _ _ (head_waits nothing_told (past_second_head (rules_of H D task)) p.at v.head.items h.1.0))
   open_in (phases.ArrayHead p) h more lt = one_wanted (here (phases.ArrayHead p)) more lt
-      (unsettled _ _ _ (head_waits nothing_told (past_array_head (comparing H D setting) p.kind) p.at v.head.items h.1.0))
+      (unsettled _ _ _ (head_waits nothing_told (past_array_head (rules_of H D task) p.kind) p.at v.head.items h.1.0))
   open_in (phases.ProtectedHead p) h more lt = one_wanted (here (phases.ProtectedHead p)) more lt
-      (unsettled _ _ _ (head_waits nothing_told (past_protected_head (comparing H D setting) p.kind) p.at v.head.items h.1.0))
+      (unsettled _ _ _ (head_waits nothing_told (past_protected_head (rules_of H D task) p.kind) p.at v.head.items h.1.0))
   open_in (phases.Protected p) h more lt =
-      unsettled _ _ _ (string_waits (λ bytes. nothing_told) p.length (past_protected (comparing H D setting) p.kind) p.at (v.protected.items ++ more) (fewer v.protected.items more p.length p.left h.1 lt))
+      unsettled _ _ _ (string_waits (λ bytes. nothing_told) p.length (past_protected (rules_of H D task) p.kind) p.at (v.protected.items ++ more) (fewer v.protected.items more p.length p.left h.1 lt))
   open_in (phases.Unprotected p) h more lt = one_wanted (here (phases.Unprotected p)) more lt
-      (unsettled _ _ _ (item_waits (protected_told known.headers.protected_pairs) H D (past_unprotected (comparing H D setting) p.kind v.protected.items known.headers.protected_pairs) p.at v.unprotected.items (waits h.2)))
+      (unsettled _ _ _ (item_waits (protected_told known.headers.protected_pairs) H D (past_unprotected (rules_of H D task) p.kind v.protected.items known.headers.protected_pairs) p.at v.unprotected.items (waits h.2)))
   open_in (phases.PayloadHead p) h more lt = one_wanted (here (phases.PayloadHead p)) more lt
-      (unsettled _ _ _ (head_waits (headers_told known.headers []) (past_payload_head (comparing H D setting) known.headers (Some known.found)) p.at v.head.items h.1.0))
+      (unsettled _ _ _ (head_waits (headers_told known.headers []) (past_payload_head (rules_of H D task) known.headers known.chosen) p.at v.head.items h.1.0))
   open_in (phases.Payload p) h more lt =
-      unsettled _ _ _ (string_waits (headers_told known.headers) p.length (past_payload (comparing H D setting) known.headers (Some known.found)) p.at (known.payload ++ more) (fewer known.payload more p.length p.left h.1 lt))
+      unsettled _ _ _ (string_waits (headers_told known.headers) p.length (past_payload (rules_of H D task) known.headers known.chosen) p.at (known.payload ++ more) (fewer known.payload more p.length p.left h.1 lt))
   open_in (phases.AuthHead p) h more lt = one_wanted (here (phases.AuthHead p)) more lt
-      (unsettled _ _ _ (head_waits (headers_told known.headers known.payload) (past_auth_head (comparing H D setting) known.headers (Some known.found) known.payload) p.at v.head.items h.1.0))
+      (unsettled _ _ _ (head_waits (headers_told known.headers known.payload) (past_auth_head (rules_of H D task) known.headers known.chosen known.payload) p.at v.head.items h.1.0))
   open_in (phases.Auth p) h more lt =
-      unsettled _ _ _ (string_waits (λ bytes. headers_told known.headers known.payload) p.length (finish (comparing H D setting) known.headers (Some known.found) known.payload p.head_at) p.at (v.auth.items ++ more) (fewer v.auth.items more p.length p.left h.1 lt))
+      unsettled _ _ _ (string_waits (λ bytes. headers_told known.headers known.payload) p.length (finish (rules_of H D task) known.headers known.chosen known.payload p.head_at) p.at (known.auth ++ more) (fewer known.auth more p.length p.left h.1 lt))
   open_in (phases.Signed p) h more lt = absurd (omega (arith, lt))
+  open_in (phases.Decided verdict) h more lt = absurd (omega (arith, lt))
   open_in (phases.Settled verdict) h more lt = absurd (omega (arith, lt))
+  open_in (phases.Shaped p) h more lt = absurd (omega (arith, lt))
 
   -- What is told so far is what the phase tells without a further byte.
-  told_in : (phase : Phase) → HoldsIn setting known told n v phase → (here phase []).told ≡ told
+  pub told_in : (phase : Phase) → HoldsIn task known told n v phase → (here phase []).told ≡ told
   unfolding here
-  told_in phases.FirstHead h = told_as _ told _ _ (head_waits nothing_told (past_first_head (comparing H D setting)) 0 v.head.items h.1.0) h.0
-  told_in (phases.TagHead p) h = told_as _ told _ _ (head_waits nothing_told (past_second_head (comparing H D setting)) p.at v.head.items h.1.0) h.0
-  told_in (phases.ArrayHead p) h = told_as _ told _ _ (head_waits nothing_told (past_array_head (comparing H D setting) p.kind) p.at v.head.items h.1.0) h.0
-  told_in (phases.ProtectedHead p) h = told_as _ told _ _ (head_waits nothing_told (past_protected_head (comparing H D setting) p.kind) p.at v.head.items h.1.0) h.0
+  told_in phases.FirstHead h = told_as _ told _ _ (head_waits nothing_told (past_first_head (rules_of H D task)) 0 v.head.items h.1.0) h.0
+  told_in (phases.TagHead p) h = told_as _ told _ _ (head_waits nothing_told (past_second_head (rules_of H D task)) p.at v.head.items h.1.0) h.0
+  told_in (phases.ArrayHead p) h = told_as _ told _ _ (head_waits nothing_told (past_array_head (rules_of H D task) p.kind) p.at v.head.items h.1.0) h.0
+  told_in (phases.ProtectedHead p) h = told_as _ told _ _ (head_waits nothing_told (past_protected_head (rules_of H D task) p.kind) p.at v.head.items h.1.0) h.0
   told_in (phases.Protected p) h = told_as _ told _ _
-      (string_waits (λ bytes. nothing_told) p.length (past_protected (comparing H D setting) p.kind) p.at (v.protected.items ++ []) (fewer v.protected.items [] p.length p.left h.1 p.some_left)) h.0
+      (string_waits (λ bytes. nothing_told) p.length (past_protected (rules_of H D task) p.kind) p.at (v.protected.items ++ []) (fewer v.protected.items [] p.length p.left h.1 p.some_left)) h.0
   told_in (phases.Unprotected p) h = told_as _ told _ _
-      (item_waits (protected_told known.headers.protected_pairs) H D (past_unprotected (comparing H D setting) p.kind v.protected.items known.headers.protected_pairs) p.at v.unprotected.items (waits h.2)) h.0
+      (item_waits (protected_told known.headers.protected_pairs) H D (past_unprotected (rules_of H D task) p.kind v.protected.items known.headers.protected_pairs) p.at v.unprotected.items (waits h.2)) h.0
   told_in (phases.PayloadHead p) h = told_as _ told _ _
-      (head_waits (headers_told known.headers []) (past_payload_head (comparing H D setting) known.headers (Some known.found)) p.at v.head.items h.1.0) h.0
+      (head_waits (headers_told known.headers []) (past_payload_head (rules_of H D task) known.headers known.chosen) p.at v.head.items h.1.0) h.0
   told_in (phases.Payload p) h = told_as _ told _ _
-      (string_waits (headers_told known.headers) p.length (past_payload (comparing H D setting) known.headers (Some known.found)) p.at (known.payload ++ []) (fewer known.payload [] p.length p.left h.1 p.some_left))
+      (string_waits (headers_told known.headers) p.length (past_payload (rules_of H D task) known.headers known.chosen) p.at (known.payload ++ []) (fewer known.payload [] p.length p.left h.1 p.some_left))
       (h.0 ∙ ap (headers_told known.headers) (sym (append-nil known.payload)))
   told_in (phases.AuthHead p) h = told_as _ told _ _
-      (head_waits (headers_told known.headers known.payload) (past_auth_head (comparing H D setting) known.headers (Some known.found) known.payload) p.at v.head.items h.1.0) h.0
+      (head_waits (headers_told known.headers known.payload) (past_auth_head (rules_of H D task) known.headers known.chosen known.payload) p.at v.head.items h.1.0) h.0
   told_in (phases.Auth p) h = told_as _ told _ _
-      (string_waits (λ bytes. headers_told known.headers known.payload) p.length (finish (comparing H D setting) known.headers (Some known.found) known.payload p.head_at) p.at (v.auth.items ++ []) (fewer v.auth.items [] p.length p.left h.1 p.some_left)) h.0
+      (string_waits (λ bytes. headers_told known.headers known.payload) p.length (finish (rules_of H D task) known.headers known.chosen known.payload p.head_at) p.at (known.auth ++ []) (fewer known.auth [] p.length p.left h.1 p.some_left)) h.0
   told_in (phases.Signed p) h = sym h.0
+  told_in (phases.Decided verdict) h = refl
   told_in (phases.Settled verdict) h = refl
+  told_in (phases.Shaped p) h = refl
 
-  settled_in : (phase : Phase) → HoldsIn setting known told n v phase → (here phase []).settled ≡ is_settled phase
+  settled_in : (phase : Phase) → HoldsIn task known told n v phase → (here phase []).settled ≡ is_settled phase
   unfolding here
   settled_in phases.FirstHead h = open_in phases.FirstHead h [] (lit< tt)
   settled_in (phases.TagHead p) h = open_in (phases.TagHead p) h [] (lit< tt)
@@ -136,40 +140,44 @@ module _ {H D : ℕ} (setting : Setting) (known : Known) (told : Told) (n : ℕ)
   settled_in (phases.AuthHead p) h = open_in (phases.AuthHead p) h [] (lit< tt)
   settled_in (phases.Auth p) h = open_in (phases.Auth p) h [] p.some_left
   settled_in (phases.Signed p) h = refl
+  settled_in (phases.Decided verdict) h = refl
   settled_in (phases.Settled verdict) h = refl
+  settled_in (phases.Shaped p) h = refl
 
   -- Without a further byte an unsettled message is Truncated at the number of bytes.
-  truncated_in : (phase : Phase) → HoldsIn setting known told n v phase → is_settled phase ≡ false → (here phase []).answer ≡ refused Truncated n
+  pub truncated_in : (phase : Phase) → HoldsIn task known told n v phase → is_settled phase ≡ false → (here phase []).answer ≡ refused Truncated n
   unfolding here
-  truncated_in phases.FirstHead h e = cut_at _ _ _ (head_waits nothing_told (past_first_head (comparing H D setting)) 0 v.head.items h.1.0) h.1.1
-  truncated_in (phases.TagHead p) h e = cut_at _ _ _ (head_waits nothing_told (past_second_head (comparing H D setting)) p.at v.head.items h.1.0) h.1.1
-  truncated_in (phases.ArrayHead p) h e = cut_at _ _ _ (head_waits nothing_told (past_array_head (comparing H D setting) p.kind) p.at v.head.items h.1.0) h.1.1
-  truncated_in (phases.ProtectedHead p) h e = cut_at _ _ _ (head_waits nothing_told (past_protected_head (comparing H D setting) p.kind) p.at v.head.items h.1.0) h.1.1
+  truncated_in phases.FirstHead h e = cut_at _ _ _ (head_waits nothing_told (past_first_head (rules_of H D task)) 0 v.head.items h.1.0) h.1.1
+  truncated_in (phases.TagHead p) h e = cut_at _ _ _ (head_waits nothing_told (past_second_head (rules_of H D task)) p.at v.head.items h.1.0) h.1.1
+  truncated_in (phases.ArrayHead p) h e = cut_at _ _ _ (head_waits nothing_told (past_array_head (rules_of H D task) p.kind) p.at v.head.items h.1.0) h.1.1
+  truncated_in (phases.ProtectedHead p) h e = cut_at _ _ _ (head_waits nothing_told (past_protected_head (rules_of H D task) p.kind) p.at v.head.items h.1.0) h.1.1
   truncated_in (phases.Protected p) h e = cut_at _ _ _
-      (string_waits (λ bytes. nothing_told) p.length (past_protected (comparing H D setting) p.kind) p.at (v.protected.items ++ []) (fewer v.protected.items [] p.length p.left h.1 p.some_left)) (with_none n p.at v.protected.items h.3)
+      (string_waits (λ bytes. nothing_told) p.length (past_protected (rules_of H D task) p.kind) p.at (v.protected.items ++ []) (fewer v.protected.items [] p.length p.left h.1 p.some_left)) (with_none n p.at v.protected.items h.3)
   truncated_in (phases.Unprotected p) h e = cut_at _ _ _
-      (item_waits (protected_told known.headers.protected_pairs) H D (past_unprotected (comparing H D setting) p.kind v.protected.items known.headers.protected_pairs) p.at v.unprotected.items (waits h.2)) h.3
+      (item_waits (protected_told known.headers.protected_pairs) H D (past_unprotected (rules_of H D task) p.kind v.protected.items known.headers.protected_pairs) p.at v.unprotected.items (waits h.2)) h.3
   truncated_in (phases.PayloadHead p) h e = cut_at _ _ _
-      (head_waits (headers_told known.headers []) (past_payload_head (comparing H D setting) known.headers (Some known.found)) p.at v.head.items h.1.0) h.1.1
+      (head_waits (headers_told known.headers []) (past_payload_head (rules_of H D task) known.headers known.chosen) p.at v.head.items h.1.0) h.1.1
   truncated_in (phases.Payload p) h e = cut_at _ _ _
-      (string_waits (headers_told known.headers) p.length (past_payload (comparing H D setting) known.headers (Some known.found)) p.at (known.payload ++ []) (fewer known.payload [] p.length p.left h.1 p.some_left)) (with_none n p.at known.payload h.2)
+      (string_waits (headers_told known.headers) p.length (past_payload (rules_of H D task) known.headers known.chosen) p.at (known.payload ++ []) (fewer known.payload [] p.length p.left h.1 p.some_left)) (with_none n p.at known.payload h.2)
   truncated_in (phases.AuthHead p) h e = cut_at _ _ _
-      (head_waits (headers_told known.headers known.payload) (past_auth_head (comparing H D setting) known.headers (Some known.found) known.payload) p.at v.head.items h.1.0) h.1.1
+      (head_waits (headers_told known.headers known.payload) (past_auth_head (rules_of H D task) known.headers known.chosen known.payload) p.at v.head.items h.1.0) h.1.1
   truncated_in (phases.Auth p) h e = cut_at _ _ _
-      (string_waits (λ bytes. headers_told known.headers known.payload) p.length (finish (comparing H D setting) known.headers (Some known.found) known.payload p.head_at) p.at (v.auth.items ++ []) (fewer v.auth.items [] p.length p.left h.1 p.some_left)) (with_none n p.at v.auth.items h.2)
+      (string_waits (λ bytes. headers_told known.headers known.payload) p.length (finish (rules_of H D task) known.headers known.chosen known.payload p.head_at) p.at (known.auth ++ []) (fewer known.auth [] p.length p.left h.1 p.some_left)) (with_none n p.at known.auth h.2)
   truncated_in (phases.Signed p) h e = absurd cc
+  truncated_in (phases.Decided verdict) h e = absurd cc
   truncated_in (phases.Settled verdict) h e = absurd cc
+  truncated_in (phases.Shaped p) h e = absurd cc
 
   -- Behind a payload comes a head, of which no byte is there.
   payload_ends_open : (p : Payload) → (more : List ℕ) → length (known.payload ++ more) ≡ p.length → (here (phases.Payload p) more).settled ≡ false
   unfolding here bare_head
   payload_ends_open p more whole =
-      let e : here (phases.Payload p) (more ++ []) ≡ past_payload (comparing H D setting) known.headers (Some known.found) p.at (known.payload ++ more) (p.at + p.length) [] = string_whole (headers_told known.headers) p.length (past_payload (comparing H D setting) known.headers (Some known.found)) p.at known.payload more whole [] in
-      let next = past_auth_head (comparing H D setting) known.headers (Some known.found) (known.payload ++ more) in
+      let e : here (phases.Payload p) (more ++ []) ≡ past_payload (rules_of H D task) known.headers known.chosen p.at (known.payload ++ more) (p.at + p.length) [] = string_whole (headers_told known.headers) p.length (past_payload (rules_of H D task) known.headers known.chosen) p.at known.payload more whole [] in
+      let next = past_auth_head (rules_of H D task) known.headers known.chosen (known.payload ++ more) in
       let waiting = head_waits (headers_told known.headers (known.payload ++ more)) next (p.at + p.length) [] tt in
       subst (λ (m : List ℕ). (here (phases.Payload p) m).settled ≡ false) (append-nil more) (ap (λ (r : Reading). r.settled) e ∙ ap (λ (r : Reading). r.settled) waiting)
 
-  payload_open : (phase : Phase) → HoldsIn setting known told n v phase → in_payload phase ≡ true → (more : List ℕ) → length more ≤ want_of phase → (here phase more).settled ≡ false
+  payload_open : (phase : Phase) → HoldsIn task known told n v phase → in_payload phase ≡ true → (more : List ℕ) → length more ≤ want_of phase → (here phase more).settled ≡ false
   payload_open (phases.Payload p) h is more le = elim (cases_lt (length more) p.left) [
     | inl shorter ↦ open_in (phases.Payload p) h more shorter
     | inr not_shorter ↦ payload_ends_open p more (omega (arith, h.1, le, not_shorter, length-append known.payload more))
@@ -184,7 +192,9 @@ module _ {H D : ℕ} (setting : Setting) (known : Known) (told : Told) (n : ℕ)
   payload_open (phases.AuthHead p) h is more le = absurd cc
   payload_open (phases.Auth p) h is more le = absurd cc
   payload_open (phases.Signed p) h is more le = absurd cc
+  payload_open (phases.Decided verdict) h is more le = absurd cc
   payload_open (phases.Settled verdict) h is more le = absurd cc
+  payload_open (phases.Shaped p) h is more le = absurd cc
 
 -- ---- a verifier
 
@@ -192,22 +202,22 @@ module _ {H D : ℕ} (setting : Setting) (known : Known) (told : Told) (n : ℕ)
 abbrev pub WalkerWaits : {H D : ℕ} → Verifier H D → Type 0
 WalkerWaits {H} {D} v = HasPut H v.unprotected.items v.walker → read D (left_of v.unprotected.items H 0) ≡ refuse Truncated (length v.unprotected.items)
 
-pub stands_open : {H D : ℕ} {setting : Setting} {B : List ℕ} {n : ℕ} {v : Verifier H D} {reading : List ℕ → Reading} → WalkerWaits v → (more : List ℕ) → StandsFor setting B n v reading → length more < want_of v.phase → (reading more).settled ≡ false
+pub stands_open : {H D : ℕ} {task : Task} {B : List ℕ} {n : ℕ} {v : Verifier H D} {reading : List ℕ → Reading} → WalkerWaits v → (more : List ℕ) → StandsFor task B n v reading → length more < want_of v.phase → (reading more).settled ≡ false
 unfolding here
-stands_open {H} {D} {setting} {B} {n} {v} {reading} waits more h lt = ap (λ (r : Reading). r.settled) (h.left more) ∙ open_in setting h.known h.told n v waits v.phase h.holds more lt
+stands_open {H} {D} {task} {B} {n} {v} {reading} waits more h lt = ap (λ (r : Reading). r.settled) (h.left more) ∙ open_in task h.known h.told n v waits v.phase h.holds more lt
 
-pub stands_settled : {H D : ℕ} {setting : Setting} {B : List ℕ} {n : ℕ} {v : Verifier H D} {reading : List ℕ → Reading} → WalkerWaits v → StandsFor setting B n v reading → (reading []).settled ≡ is_settled v.phase
+pub stands_settled : {H D : ℕ} {task : Task} {B : List ℕ} {n : ℕ} {v : Verifier H D} {reading : List ℕ → Reading} → WalkerWaits v → StandsFor task B n v reading → (reading []).settled ≡ is_settled v.phase
 unfolding here
-stands_settled {H} {D} {setting} {B} {n} {v} {reading} waits h = ap (λ (r : Reading). r.settled) (h.left []) ∙ settled_in setting h.known h.told n v waits v.phase h.holds
+stands_settled {H} {D} {task} {B} {n} {v} {reading} waits h = ap (λ (r : Reading). r.settled) (h.left []) ∙ settled_in task h.known h.told n v waits v.phase h.holds
 
-pub stands_told : {H D : ℕ} {setting : Setting} {B : List ℕ} {n : ℕ} {v : Verifier H D} {reading : List ℕ → Reading} → WalkerWaits v → StandsFor setting B n v reading → (reading []).told.payload ≡ B
+pub stands_told : {H D : ℕ} {task : Task} {B : List ℕ} {n : ℕ} {v : Verifier H D} {reading : List ℕ → Reading} → WalkerWaits v → StandsFor task B n v reading → (reading []).told.payload ≡ B
 unfolding here
-stands_told {H} {D} {setting} {B} {n} {v} {reading} waits h = ap (λ (r : Reading). r.told.payload) (h.left []) ∙ ap (λ (t : Told). t.payload) (told_in setting h.known h.told n v waits v.phase h.holds) ∙ h.payload_told
+stands_told {H} {D} {task} {B} {n} {v} {reading} waits h = ap (λ (r : Reading). r.told.payload) (h.left []) ∙ ap (λ (t : Told). t.payload) (told_in task h.known h.told n v waits v.phase h.holds) ∙ h.payload_told
 
-pub stands_payload : {H D : ℕ} {setting : Setting} {B : List ℕ} {n : ℕ} {v : Verifier H D} {reading : List ℕ → Reading} → WalkerWaits v → (more : List ℕ) → StandsFor setting B n v reading → in_payload v.phase ≡ true → length more ≤ want_of v.phase → (reading more).settled ≡ false
+pub stands_payload : {H D : ℕ} {task : Task} {B : List ℕ} {n : ℕ} {v : Verifier H D} {reading : List ℕ → Reading} → WalkerWaits v → (more : List ℕ) → StandsFor task B n v reading → in_payload v.phase ≡ true → length more ≤ want_of v.phase → (reading more).settled ≡ false
 unfolding here
-stands_payload {H} {D} {setting} {B} {n} {v} {reading} waits more h is le = ap (λ (r : Reading). r.settled) (h.left more) ∙ payload_open setting h.known h.told n v waits v.phase h.holds is more le
+stands_payload {H} {D} {task} {B} {n} {v} {reading} waits more h is le = ap (λ (r : Reading). r.settled) (h.left more) ∙ payload_open task h.known h.told n v waits v.phase h.holds is more le
 
-pub stands_truncated : {H D : ℕ} {setting : Setting} {B : List ℕ} {n : ℕ} {v : Verifier H D} {reading : List ℕ → Reading} → WalkerWaits v → StandsFor setting B n v reading → is_settled v.phase ≡ false → (reading []).answer ≡ refused Truncated n
+pub stands_truncated : {H D : ℕ} {task : Task} {B : List ℕ} {n : ℕ} {v : Verifier H D} {reading : List ℕ → Reading} → WalkerWaits v → StandsFor task B n v reading → is_settled v.phase ≡ false → (reading []).answer ≡ refused Truncated n
 unfolding here
-stands_truncated {H} {D} {setting} {B} {n} {v} {reading} waits h e = ap (λ (r : Reading). r.answer) (h.left []) ∙ truncated_in setting h.known h.told n v waits v.phase h.holds e
+stands_truncated {H} {D} {task} {B} {n} {v} {reading} waits h e = ap (λ (r : Reading). r.answer) (h.left []) ∙ truncated_in task h.known h.told n v waits v.phase h.holds e

@@ -1,5 +1,5 @@
 -- What the hash over the authenticated structure was fed, and what it comes to (RFC 9052 sections 4.4 and 6.3).
-use Rattle.std.specs.Prelude.{ℕ, Bool, true, false, List, [], if◌then◌else◌}
+use Rattle.std.specs.Prelude.{ℕ, Bool, true, false, List, [], Option, Some, None, if◌then◌else◌, ⊤}
 use Rattle.cose_head.specs.Algorithm.{is_mac_of}
 use Rattle.cose_mac.specs.Hmac.{mac}
 use Rattle.cose_mac.specs.Hash.{digest_of}
@@ -19,6 +19,11 @@ abbrev pub Hashes : Hashing → Chosen → List ℕ → Type 0
 Hashes (states.Running running) found message = FedAs (is_mac_of found.alg) running found message
 Hashes states.Nothing found message = ⊥
 Hashes (states.Finished bytes) found message = ⊥
+
+-- Where no key is chosen, nothing is asked of it.
+abbrev pub HashesFor : Hashing → Option Chosen → List ℕ → Type 0
+HashesFor hashing (Some found) message = Hashes hashing found message
+HashesFor hashing None message = ⊤
 
 -- The finished bytes.
 abbrev pub result_of : Hashing → List ℕ

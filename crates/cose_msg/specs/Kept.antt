@@ -2,11 +2,14 @@
 use Rattle.std.specs.Prelude.{◌≡◌, ℕ, Bool, true, false, List, length, Option, Some, None, Result, Ok, Err}
 use Rattle.cose_msg.specs.declared.phase.Phase.{Phase}
 use Rattle.cose_msg.specs.declared.phase.Phase.TheVariants as phases
+use Rattle.cose_msg.specs.declared.verdict.Inspected.{Inspected}
+use Rattle.cose_msg.specs.declared.verdict.Inspected.TheVariants as inspected
 use Rattle.cose_msg.specs.declared.verdict.Stop.{Stop}
 use Rattle.cose_msg.specs.declared.verdict.Stop.TheVariants as stops
 use Rattle.cose_msg.specs.declared.verdict.Verdict.{Verdict}
+use Rattle.cose_msg.specs.declared.verdict.Verdict.TheVariants.{Authentic, Refused}
 use Rattle.cose_msg.specs.declared.verifier.Verifier.{Verifier}
-use Rattle.cose_msg.specs.Message.{Setting}
+use Rattle.cose_msg.specs.Task.{Task}
 use Rattle.cose_msg.specs.Verifier.{SoFar}
 
 abbrev pub bytes_taken : {H D : ℕ} → Verifier H D → ℕ
@@ -15,26 +18,45 @@ bytes_taken v = v.taken
 abbrev pub is_stopped : {H D : ℕ} → Verifier H D → Bool
 is_stopped v = v.stopped
 
+-- Whether it was made for inspecting alone.
+abbrev pub is_inspecting : {H D : ℕ} → Verifier H D → Bool
+is_inspecting v = v.inspecting
+
 abbrev pub verdict_in : Phase → Option Verdict
+verdict_in (phases.Decided verdict) = Some verdict
 verdict_in (phases.Settled verdict) = Some verdict
 verdict_in _ = None
 
-abbrev pub answer_kept : Bool → Option Verdict → Option (Result Verdict Stop)
-answer_kept true verdict = Some (Err stops.Again)
-answer_kept false (Some verdict) = Some (Ok verdict)
+-- A refusal says the same of a message that is only inspected.
+abbrev pub refusal_in : Verdict → Option Inspected
+refusal_in (Refused refusal) = Some (inspected.Refused refusal)
+refusal_in (Authentic kind alg payload taken) = None
+
+abbrev pub inspected_in : Phase → Option Inspected
+inspected_in (phases.Settled verdict) = refusal_in verdict
+inspected_in (phases.Shaped p) = Some (inspected.Shape p.kind p.payload p.auth p.taken)
+inspected_in _ = None
+
+abbrev pub answer_kept : {A : Type 0} → Bool → Option A → Option (Result A Stop)
+answer_kept true answer = Some (Err stops.Again)
+answer_kept false (Some answer) = Some (Ok answer)
 answer_kept false None = None
 
 -- The answer that is kept until the verifier is reset: that it had stopped, or the verdict.
 abbrev pub kept_answer : {H D : ℕ} → Verifier H D → Option (Result Verdict Stop)
 kept_answer v = answer_kept v.stopped (verdict_in v.phase)
 
--- A verdict is answered again as it is. Why the verifier stopped is told once.
-abbrev pub answered_again : Result Verdict Stop → Result Verdict Stop
-answered_again (Ok verdict) = Ok verdict
+-- The same of a verifier that inspects.
+abbrev pub kept_inspection : {H D : ℕ} → Verifier H D → Option (Result Inspected Stop)
+kept_inspection v = answer_kept v.stopped (inspected_in v.phase)
+
+-- What came of a message is answered again as it is. Why the verifier stopped is told once.
+abbrev pub answered_again : {A : Type 0} → Result A Stop → Result A Stop
+answered_again (Ok answer) = Ok answer
 answered_again (Err stop) = Err stops.Again
 
 -- The verifier has taken the bytes s, the payload B among them, has counted them, and hasn't stopped.
-pub record HasTaken {H D : ℕ} (setting : Setting) (s B : List ℕ) (v : Verifier H D) : Type 0 where
-  pub so_far : SoFar setting s B v
+pub record HasTaken {H D : ℕ} (task : Task) (s B : List ℕ) (v : Verifier H D) : Type 0 where
+  pub so_far : SoFar task s B v
   pub counted : v.taken ≡ length s
   pub goes_on : v.stopped ≡ false

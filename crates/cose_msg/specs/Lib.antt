@@ -15,6 +15,7 @@ pub mod BareHead
 pub mod Hashing
 pub mod Phase
 pub mod Chosen
+pub mod Task
 pub mod Verifier
 pub mod Choosing
 pub mod Intake
@@ -22,6 +23,7 @@ pub mod SliceIntake
 pub mod Sink
 pub mod Store
 pub mod Kept
+pub mod Shown
 pub mod Run
 pub mod Make
 pub mod Writes

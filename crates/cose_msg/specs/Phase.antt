@@ -11,8 +11,15 @@ in_payload _ = false
 -- Whether no further byte is wanted.
 abbrev pub is_settled : Phase → Bool
 is_settled (phases.Signed p) = true
+is_settled (phases.Decided verdict) = true
 is_settled (phases.Settled verdict) = true
+is_settled (phases.Shaped p) = true
 is_settled _ = false
+
+-- Whether a signature is to be decided on.
+abbrev pub awaits_decision : Phase → Bool
+awaits_decision (phases.Signed p) = true
+awaits_decision _ = false
 
 -- How many bytes are to come for certain: those of a string that are left, one of a head or an item.
 abbrev pub want_of : Phase → ℕ
@@ -20,7 +27,9 @@ want_of (phases.Protected p) = p.left
 want_of (phases.Payload p) = p.left
 want_of (phases.Auth p) = p.left
 want_of (phases.Signed p) = 0
+want_of (phases.Decided verdict) = 0
 want_of (phases.Settled verdict) = 0
+want_of (phases.Shaped p) = 0
 want_of _ = 1
 
 -- Whether bytes are taken one by one: in a head, or in an item.
@@ -29,7 +38,9 @@ takes_bytes (phases.Protected p) = false
 takes_bytes (phases.Payload p) = false
 takes_bytes (phases.Auth p) = false
 takes_bytes (phases.Signed p) = false
+takes_bytes (phases.Decided verdict) = false
 takes_bytes (phases.Settled verdict) = false
+takes_bytes (phases.Shaped p) = false
 takes_bytes _ = true
 
 -- The payload so far, after some bytes of a phase.

@@ -1,66 +1,109 @@
--- What a call of `verify` did with an intake and a sink.
-use Rattle.std.specs.Prelude.{◌≡◌, ℕ, ◌<◌, Bool, true, false, List, ◌++◌, length, take, Option, Result, Ok, Err}
+-- What a call of `verify` or of `inspect` did with an intake and a sink.
+use Rattle.std.specs.Prelude.{◌≡◌, ℕ, ◌<◌, Bool, true, false, List, ◌++◌, length, take, Option, Some, None, Result, Ok, Err, ⊤}
 use Rattle.std.specs.Io.KnownBytes.{Appends, Consumes, IsAtEnd}
+use Rattle.cose_msg.specs.declared.verdict.Inspected.{Inspected}
+use Rattle.cose_msg.specs.declared.verdict.Inspected.TheVariants as inspected
 use Rattle.cose_msg.specs.declared.verdict.Stop.{Stop}
 use Rattle.cose_msg.specs.declared.verdict.Stop.TheVariants as stops
-use Rattle.cose_msg.specs.declared.verdict.Verdict.{Verdict}
-use Rattle.cose_msg.specs.Answer.{decided}
+use Rattle.cose_msg.specs.declared.verdict.Verdict.TheVariants.{Refused}
+use Rattle.cose_msg.specs.declared.verifier.Verifier.{Verifier}
+use Rattle.cose_msg.specs.Answer.{Answer, decided, complete, shaped}
 use Rattle.cose_msg.specs.Intake.{TakesInAll}
+use Rattle.cose_msg.specs.Kept.{HasTaken}
 use Rattle.cose_msg.specs.Laws.{StandsBy}
-use Rattle.cose_msg.specs.Message.{Decides, Setting, message, verifying}
+use Rattle.cose_msg.specs.Message.{message}
 use Rattle.cose_msg.specs.Reading.{Reading}
+use Rattle.cose_msg.specs.Rules.{Rules}
+use Rattle.cose_msg.specs.Shown.{Tells}
 use Rattle.cose_msg.specs.Sink.{AppendsFront}
+use Rattle.cose_msg.specs.Task.{Task, rules_of}
 use Rattle.cose_msg.specs.Verifier.{Counts}
 
-abbrev pub stops_for_intake : Result Verdict Stop → Bool
-stops_for_intake (Ok verdict) = false
-stops_for_intake (Err stops.Intake) = true
-stops_for_intake (Err stops.Sink) = false
-stops_for_intake (Err stops.Again) = false
+-- Why it stopped, if it did.
+abbrev pub stop_in : {A : Type 0} → Result A Stop → Option Stop
+stop_in (Ok answer) = None
+stop_in (Err stop) = Some stop
 
-abbrev pub stops_for_sink : Result Verdict Stop → Bool
-stops_for_sink (Ok verdict) = false
-stops_for_sink (Err stops.Intake) = false
-stops_for_sink (Err stops.Sink) = true
-stops_for_sink (Err stops.Again) = false
+abbrev pub is_intake_stop : Option Stop → Bool
+is_intake_stop (Some stops.Intake) = true
+is_intake_stop _ = false
+
+abbrev pub is_sink_stop : Option Stop → Bool
+is_sink_stop (Some stops.Sink) = true
+is_sink_stop _ = false
+
+abbrev pub stops_for_intake : {A : Type 0} → Result A Stop → Bool
+stops_for_intake result = is_intake_stop (stop_in result)
+
+abbrev pub stops_for_sink : {A : Type 0} → Result A Stop → Bool
+stops_for_sink result = is_sink_stop (stop_in result)
 
 -- The intake's bytes are taken in their order, each once. Only an intake that failed may tell nothing more.
-abbrev pub Takes : Option (List ℕ) → Option (List ℕ) → Result Verdict Stop → List ℕ → Type 0
-Takes old new (Ok verdict) taken = Consumes old new taken
-Takes old new (Err stops.Intake) taken = TakesInAll old new taken
-Takes old new (Err stops.Sink) taken = Consumes old new taken
-Takes old new (Err stops.Again) taken = Consumes old new taken
+abbrev pub Takes : Option (List ℕ) → Option (List ℕ) → Option Stop → List ℕ → Type 0
+Takes old new (Some stops.Intake) taken = TakesInAll old new taken
+Takes old new (Some stops.Sink) taken = Consumes old new taken
+Takes old new (Some stops.Again) taken = Consumes old new taken
+Takes old new None taken = Consumes old new taken
 
 -- The sink grows by the payload among the bytes taken, or by a front of it where the sink failed.
-abbrev pub Grows : Option (List ℕ) → Option (List ℕ) → Result Verdict Stop → List ℕ → Type 0
-Grows old new (Ok verdict) payload = Appends old new payload
-Grows old new (Err stops.Intake) payload = Appends old new payload
-Grows old new (Err stops.Sink) payload = AppendsFront old new payload
-Grows old new (Err stops.Again) payload = Appends old new payload
+abbrev pub Grows : Option (List ℕ) → Option (List ℕ) → Option Stop → List ℕ → Type 0
+Grows old new (Some stops.Sink) payload = AppendsFront old new payload
+Grows old new (Some stops.Intake) payload = Appends old new payload
+Grows old new (Some stops.Again) payload = Appends old new payload
+Grows old new None payload = Appends old new payload
 
--- A verdict after so many bytes of the message, some of which were taken in this call.
-pub record IsVerdict (count taken : ℕ) (verdict : Verdict) (ended : Bool) (come_after : Option (List ℕ)) (reading : Reading) : Type 0 where
-  -- It is what these bytes come to. An authentic message says their number, and a refusal no place after them.
-  pub answer : reading.answer ≡ decided verdict
-  pub counted : Counts verdict count
-  pub placed : StandsBy count reading.answer
-  -- They have settled it, but where the intake has ended and gives no further byte.
+-- What is answered for a shape that is inspected, or for a refusal.
+abbrev pub inspection : Inspected → Answer
+inspection (inspected.Shape kind payload auth taken) = shaped kind payload auth taken
+inspection (inspected.Refused refusal) = decided (Refused refusal)
+
+-- An authentic message says the number of its bytes, and so does a shape.
+abbrev pub SaysCount : Answer → ℕ → Type 0
+SaysCount (decided verdict) n = Counts verdict n
+SaysCount (shaped kind payload auth taken) n = taken ≡ n
+SaysCount (complete whole) n = ⊤
+
+-- They have settled it, but where the intake has ended and gives no further byte.
+pub record Ends (taken : ℕ) (ended : Bool) (come_after : Option (List ℕ)) (reading : Reading) : Type 0 where
   pub unsettled : reading.settled ≡ false → (ended ≡ true) × IsAtEnd come_after
   pub settled : reading.settled ≡ true → 0 < taken → ended ≡ false
 
--- Where there is no verdict, the bytes taken haven't settled it.
-abbrev pub Answers : ℕ → ℕ → Result Verdict Stop → Bool → Option (List ℕ) → Reading → Type 0
-Answers count taken (Ok verdict) ended come_after reading = IsVerdict count taken verdict ended come_after reading
-Answers count taken (Err stop) ended come_after reading = reading.settled ≡ false
+-- An answer after so many bytes of the message, some of which were taken in this call.
+pub record IsAnswer (count taken : ℕ) (said : Answer) (ended : Bool) (come_after : Option (List ℕ)) (reading : Reading) : Type 0 where
+  -- It is what these bytes come to, and says their number, where it says one. A refusal names no place after them.
+  pub answer : reading.answer ≡ said
+  pub counted : SaysCount said count
+  pub placed : StandsBy count reading.answer
+  pub ends : Ends taken ended come_after reading
 
-abbrev pub read_as : ℕ → ℕ → Setting → Decides → List ℕ → Reading
-read_as room nesting setting decides bytes = message (verifying room nesting setting decides) bytes
+-- Where there is no answer, the bytes taken haven't settled it.
+abbrev pub Answers : {A : Type 0} → (A → Answer) → ℕ → ℕ → Result A Stop → Bool → Option (List ℕ) → Reading → Type 0
+Answers answer_of count taken (Ok answer) ended come_after reading = IsAnswer count taken (answer_of answer) ended come_after reading
+Answers answer_of count taken (Err stop) ended come_after reading = reading.settled ≡ false
 
--- A verifier that had taken the bytes s, the payload B among them, has taken these after them.
-pub record Run (room nesting : ℕ) (setting : Setting) (decides : Decides) (s B : List ℕ) (come come_after : Option (List ℕ)) (ended : Bool) (contents contents_after : Option (List ℕ)) (result : Result Verdict Stop) (taken : List ℕ) : Type 0 where
-  pub bytes : Takes come come_after result taken
-  -- None was taken after the one that settles the verdict.
-  pub none_after_end : (n : ℕ) → n < length taken → (read_as room nesting setting decides (s ++ take n taken)).settled ≡ false
-  pub answer : Answers (length (s ++ taken)) (length taken) result ended come_after (read_as room nesting setting decides (s ++ taken))
+-- A verifier that had taken the bytes s, the payload B among them, has taken these after them. They are read by these rules.
+pub record Run {A : Type 0} (rules : Rules) (answer_of : A → Answer) (s B : List ℕ) (come come_after : Option (List ℕ)) (ended : Bool) (contents contents_after : Option (List ℕ)) (result : Result A Stop) (taken : List ℕ) : Type 0 where
+  pub bytes : Takes come come_after (stop_in result) taken
+  -- None was taken after the one that settles the message.
+  pub none_after_end : (n : ℕ) → n < length taken → (message rules (s ++ take n taken)).settled ≡ false
+  pub answer : Answers answer_of (length (s ++ taken)) (length taken) result ended come_after (message rules (s ++ taken))
   -- The payload that is known now, less the one that was known before, went to the sink.
-  pub payload : (grown : List ℕ) × ((read_as room nesting setting decides (s ++ taken)).told.payload ≡ B ++ grown) × Grows contents contents_after result grown
+  pub payload : (grown : List ℕ) × ((message rules (s ++ taken)).told.payload ≡ B ++ grown) × Grows contents contents_after (stop_in result) grown
+
+-- Where the taking stopped, the bytes haven't settled the message.
+abbrev pub Stands : {H D : ℕ} → Task → List ℕ → List ℕ → ℕ → Option Stop → Bool → Option (List ℕ) → Verifier H D → Type 0
+Stands {H} {D} task s B taken None ended come_after v = HasTaken task s B v × Ends taken ended come_after (message (rules_of H D task) s)
+Stands {H} {D} task s B taken (Some stop) ended come_after v = (message (rules_of H D task) s).settled ≡ false
+
+-- A verifier that had taken the bytes s, the payload B among them, has taken bytes until none was wanted or the intake had ended,
+-- or until one of both failed.
+pub record Drive {H D : ℕ} (task : Task) (s B : List ℕ) (come come_after : Option (List ℕ)) (ended : Bool) (contents contents_after : Option (List ℕ)) (stop : Option Stop) (v : Verifier H D) : Type 0 where
+  pub taken : List ℕ
+  pub part : List ℕ
+  pub bytes : Takes come come_after stop taken
+  pub none_after_end : (n : ℕ) → n < length taken → (message (rules_of H D task) (s ++ take n taken)).settled ≡ false
+  pub stands : Stands task (s ++ taken) (B ++ part) (length taken) stop ended come_after v
+  pub counted : v.taken ≡ length (s ++ taken)
+  pub tells : Tells task (s ++ taken) v
+  pub payload : (message (rules_of H D task) (s ++ taken)).told.payload ≡ B ++ part
+  pub grows : Grows contents contents_after stop part

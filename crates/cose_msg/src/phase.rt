@@ -69,8 +69,6 @@ pub(crate) struct Unprotected {
 pub(crate) struct PayloadHead {
     /// The kind of the message.
     pub(crate) kind: Kind,
-    /// The algorithm that the key is used with.
-    pub(crate) alg: Alg,
     /// Whether the protected bucket has no pair.
     pub(crate) is_bare: bool,
     /// Its place.
@@ -83,8 +81,6 @@ pub(crate) struct PayloadHead {
 pub(crate) struct Payload {
     /// The kind of the message.
     pub(crate) kind: Kind,
-    /// The algorithm that the key is used with.
-    pub(crate) alg: Alg,
     /// The place of its first byte.
     pub(crate) at: u64,
     /// The number of its bytes.
@@ -102,8 +98,6 @@ pub(crate) struct Payload {
 pub(crate) struct AuthHead {
     /// The kind of the message.
     pub(crate) kind: Kind,
-    /// The algorithm that the key is used with.
-    pub(crate) alg: Alg,
     /// Its place.
     pub(crate) at: u64,
     /// The number of the payload's bytes.
@@ -116,8 +110,6 @@ pub(crate) struct AuthHead {
 pub(crate) struct Auth {
     /// The kind of the message.
     pub(crate) kind: Kind,
-    /// The algorithm that the key is used with.
-    pub(crate) alg: Alg,
     /// The place of its head, where it is refused.
     pub(crate) head_at: u64,
     /// The place of its first byte.
@@ -130,8 +122,23 @@ pub(crate) struct Auth {
     pub(crate) payload: u64,
     ghost some_left: { 0 < left },
     ghost within: { left ≤ length },
-    ghost limit: { length ≤ 132 },
+    ghost limit: { length ≤ 65535 },
     ghost early: { at < 2 ^ 58 },
+}
+
+/// A message all bytes of which are there.
+#[derive(Clone, Copy)]
+pub(crate) struct Whole {
+    /// The kind of the message.
+    pub(crate) kind: Kind,
+    /// The place of the head of its tag or signature, where it is refused.
+    pub(crate) head_at: u64,
+    /// The number of the payload's bytes.
+    pub(crate) payload: u64,
+    /// The number of bytes of the tag or signature.
+    pub(crate) auth: u64,
+    /// The number of the message's bytes.
+    pub(crate) taken: u64,
 }
 
 /// A message with a signature, all bytes of which are there.
@@ -145,6 +152,19 @@ pub(crate) struct Signed {
     pub(crate) head_at: u64,
     /// The number of the payload's bytes.
     pub(crate) payload: u64,
+    /// The number of the message's bytes.
+    pub(crate) taken: u64,
+}
+
+/// A message that is only inspected, all bytes of which are there.
+#[derive(Clone, Copy)]
+pub(crate) struct Shape {
+    /// The kind of the message.
+    pub(crate) kind: Kind,
+    /// The number of the payload's bytes.
+    pub(crate) payload: u64,
+    /// The number of bytes of the tag or signature.
+    pub(crate) auth: u64,
     /// The number of the message's bytes.
     pub(crate) taken: u64,
 }
@@ -174,6 +194,10 @@ pub(crate) enum Phase {
     Auth(Auth),
     /// All bytes are there, and the signature is to be decided on.
     Signed(Signed),
-    /// The verdict is settled.
+    /// All bytes are there, and the signature was decided on.
+    Decided(Verdict),
+    /// The verdict is settled, and no signature was to be decided on.
     Settled(Verdict),
+    /// All bytes of a message that is only inspected are there.
+    Shaped(Shape),
 }

@@ -1,12 +1,15 @@
 //! The verifier over an intake and a sink.
 
-ghost use Rattle.std.specs.Prelude.{◌≡◌, ◌↔◌, ◌≤◌, ◌||◌, ℕ, true, false, List, ◌++◌, length, Some, None, Result, Err, IfOk};
+ghost use Rattle.std.specs.Prelude.{◌≡◌, ◌≢◌, ◌↔◌, ◌<◌, ◌≤◌, ◌||◌, ℕ, true, false, List, ◌++◌, length, Some, None, Result, Err, IfOk, is_err};
+ghost use Rattle.cose_msg.specs.declared.verdict.Inspected.{Inspected};
 ghost use Rattle.cose_msg.specs.declared.verdict.Stop.{Stop};
 ghost use Rattle.cose_msg.specs.declared.verdict.Verdict.{Verdict};
 ghost use Rattle.cose_msg.specs.Answer.{decided};
-ghost use Rattle.cose_msg.specs.Kept.{HasTaken, answered_again, bytes_taken, is_stopped, kept_answer};
-ghost use Rattle.cose_msg.specs.Message.{Setting, verdict_of};
-ghost use Rattle.cose_msg.specs.Run.{Run, stops_for_intake, stops_for_sink};
+ghost use Rattle.cose_msg.specs.Kept.{HasTaken, answered_again, bytes_taken, is_inspecting, is_stopped, kept_answer, kept_inspection};
+ghost use Rattle.cose_msg.specs.Message.{Setting, inspecting, message, verdict_of, verifying};
+ghost use Rattle.cose_msg.specs.Run.{Drive, Run, inspection, stop_in, stops_for_intake, stops_for_sink};
+ghost use Rattle.cose_msg.specs.Shown.{Tells};
+ghost use Rattle.cose_msg.specs.Task.{Task, to_inspect, to_verify};
 
 use crate::elliptic::EcVerifier;
 use crate::intake::Intake;
@@ -14,8 +17,61 @@ use crate::laws::{
     deciding_goes_last, messages_are_bounded, nothing_stands_after_the_bytes, settled_stays,
 };
 use crate::sink::Sink;
-use crate::verdict::{Stop, Verdict};
+use crate::verdict::{Inspected, Stop, Verdict};
 use crate::verifier::Verifier;
+
+/// Takes pieces of a message until no further byte is wanted, or the intake has ended. It takes none after the message, and hands
+/// the payload to the sink as it comes.
+fn take_message<'k, const C: usize, const H: usize, const D: usize, I: Intake, S: Sink>(
+    verifier: &mut Verifier<'k, H, D>,
+    intake: &mut I,
+    sink: &mut S,
+) -> Result<(), Stop>
+    requires some { 1 ≤ C }
+    requires limit { C ≤ 65536 }
+    requires goes_on { is_stopped verifier.old ≡ false }
+    ensures drive { (task : Task) (s B : List ℕ) → HasTaken task s B verifier.old →
+        Drive task s B (I.to_come intake.old) (I.to_come intake.new) (I.ended intake.new)
+        (S.contents sink.old) (S.contents sink.new) (stop_in result) verifier.new }
+    ensures stopped { is_stopped verifier.new ≡ is_err result }
+    ensures inspects { is_inspecting verifier.new ≡ is_inspecting verifier.old }
+    ensures once { result ≢ Err Stop.Again }
+
+    // It stops only for a failure in this call.
+    ensures intake_failure { I.has_failed intake.new ≡ (I.has_failed intake.old || stops_for_intake result) }
+    ensures sink_failure { S.has_failed sink.new ≡ (S.has_failed sink.old || stops_for_sink result) }
+    ensures sure { (task : Task) (s B : List ℕ) → HasTaken task s B verifier.old → task.setting.payload_limit ≤ S.sure sink.old →
+        stops_for_sink result ≡ false }
+{
+    // What this says of messages is all that the proof rests on.
+    messages_are_bounded();
+    let mut chunk = [0u8; C];
+    'pieces: loop {
+        verifier.waits();
+        let asked = verifier.request(C);
+        if asked == 0 {
+            return Ok(());
+        }
+        let count = match intake.take(&mut chunk[..asked]) {
+            Ok(count) => count,
+            Err(_) => {
+                verifier.stop();
+                return Err(Stop::Intake);
+            }
+        };
+        if count == 0 {
+            return Ok(());
+        }
+        let piece = &chunk[..count];
+        let in_payload = verifier.is_in_payload();
+        verifier.take_piece(piece);
+        verifier.waits();
+        if in_payload && sink.put(piece).is_err() {
+            verifier.stop();
+            return Err(Stop::Sink);
+        }
+    }
+}
 
 /// Verifies one message: it takes bytes from the intake, and none after the message, hands the payload to the sink as it comes,
 /// and asks `ec` about the signature of a COSE_Sign1 (RFC 9052 section 4.4), once.
@@ -34,12 +90,14 @@ pub fn verify<
 >(verifier: &mut Verifier<'k, H, D>, intake: &mut I, sink: &mut S, ec: &E) -> Result<Verdict, Stop>
     requires some { 1 ≤ C }
     requires limit { C ≤ 65536 }
-    // What was taken, what came of it, and what the sink got.
-    ensures run { (setting : Setting) (s B : List ℕ) → HasTaken setting s B verifier.old →
-        (taken : List ℕ) × Run H D setting (E.decides ec.now) s B (I.to_come intake.old) (I.to_come intake.new) (I.ended intake.new)
-        (S.contents sink.old) (S.contents sink.new) result taken × (bytes_taken verifier.new ≡ length (s ++ taken)) }
+    requires verifies { is_inspecting verifier.old ≡ false }
+    // What was taken, what came of it, what the sink got, and what the verifier tells.
+    ensures run { (setting : Setting) (s B : List ℕ) → HasTaken (to_verify setting) s B verifier.old →
+        (taken : List ℕ) × Run (verifying H D setting (E.decides ec.now)) decided s B (I.to_come intake.old) (I.to_come intake.new) (I.ended intake.new)
+        (S.contents sink.old) (S.contents sink.new) result taken
+        × (bytes_taken verifier.new ≡ length (s ++ taken)) × Tells (to_verify setting) (s ++ taken) verifier.new }
     // Where the intake tells its bytes, the verdict is that of all of them.
-    ensures answer { (setting : Setting) (s B bytes : List ℕ) → HasTaken setting s B verifier.old → I.to_come intake.old ≡ Some bytes →
+    ensures answer { (setting : Setting) (s B bytes : List ℕ) → HasTaken (to_verify setting) s B verifier.old → I.to_come intake.old ≡ Some bytes →
         IfOk result (λ verdict. verdict_of H D setting (E.decides ec.now) (s ++ bytes) ≡ decided verdict) }
 
     // The answer is kept, and a kept one is answered again.
@@ -47,48 +105,76 @@ pub fn verify<
     ensures again { (answer : Result Verdict Stop) → kept_answer verifier.old ≡ Some answer →
         (result ≡ answer) × (verifier.new ≡ verifier.old) × (intake.new ≡ intake.old) × (sink.new ≡ sink.old) }
     ensures stopped { (result ≡ Err Stop.Again) ↔ (is_stopped verifier.old ≡ true) }
+    ensures inspects { is_inspecting verifier.new ≡ false }
 
     // It stops only for a failure in this call.
     ensures intake_failure { I.has_failed intake.new ≡ (I.has_failed intake.old || stops_for_intake result) }
     ensures sink_failure { S.has_failed sink.new ≡ (S.has_failed sink.old || stops_for_sink result) }
     // A sink that is sure of every payload doesn't stop it.
-    ensures sure { (setting : Setting) (s B : List ℕ) → HasTaken setting s B verifier.old → setting.payload_limit ≤ S.sure sink.old →
+    ensures sure { (setting : Setting) (s B : List ℕ) → HasTaken (to_verify setting) s B verifier.old → setting.payload_limit ≤ S.sure sink.old →
         stops_for_sink result ≡ false }
 {
     // What these say of messages is all that the proof rests on.
     settled_stays();
     nothing_stands_after_the_bytes();
-    messages_are_bounded();
     deciding_goes_last();
+    verifier.waits();
     match verifier.kept_answer() {
         Some(answer) => return answer,
         None => {}
     }
-    let mut chunk = [0u8; C];
-    'pieces: loop {
-        verifier.waits();
-        let asked = verifier.request(C);
-        if asked == 0 {
-            return Ok(verifier.conclude(ec));
-        }
-        let count = match intake.take(&mut chunk[..asked]) {
-            Ok(count) => count,
-            Err(_) => {
-                verifier.stop();
-                return Err(Stop::Intake);
-            }
-        };
-        if count == 0 {
-            return Ok(verifier.conclude(ec));
-        }
-        let piece = &chunk[..count];
-        let in_payload = verifier.is_in_payload();
-        verifier.take_piece(piece);
-        verifier.waits();
-        if in_payload && sink.put(piece).is_err() {
-            verifier.stop();
-            return Err(Stop::Sink);
-        }
+    match take_message::<C, H, D, I, S>(verifier, intake, sink) {
+        Ok(()) => Ok(verifier.conclude(ec)),
+        Err(stop) => Err(stop),
+    }
+}
+
+/// Inspects one message: as [`verify`], but no key is chosen and nothing is compared, so that nothing is authenticated. The tag or
+/// signature may have 65,535 bytes, and is passed over.
+///
+/// The answer is kept, and what stops it is told, as by [`verify`].
+pub fn inspect<'k, const C: usize, const H: usize, const D: usize, I: Intake, S: Sink>(
+    verifier: &mut Verifier<'k, H, D>,
+    intake: &mut I,
+    sink: &mut S,
+) -> Result<Inspected, Stop>
+    requires some { 1 ≤ C }
+    requires limit { C ≤ 65536 }
+    requires inspects { is_inspecting verifier.old ≡ true }
+    // What was taken, what came of it, what the sink got, and what the verifier tells.
+    ensures run { (setting : Setting) (s B : List ℕ) → HasTaken (to_inspect setting) s B verifier.old →
+        (taken : List ℕ) × Run (inspecting H D setting) inspection s B (I.to_come intake.old) (I.to_come intake.new) (I.ended intake.new)
+        (S.contents sink.old) (S.contents sink.new) result taken
+        × (bytes_taken verifier.new ≡ length (s ++ taken)) × Tells (to_inspect setting) (s ++ taken) verifier.new }
+    // Where the intake tells its bytes, the answer is that of all of them.
+    ensures answer { (setting : Setting) (s B bytes : List ℕ) → HasTaken (to_inspect setting) s B verifier.old → I.to_come intake.old ≡ Some bytes →
+        IfOk result (λ inspected. (message (inspecting H D setting) (s ++ bytes)).answer ≡ inspection inspected) }
+
+    // The answer is kept, and a kept one is answered again.
+    ensures kept { kept_inspection verifier.new ≡ Some (answered_again result) }
+    ensures again { (answer : Result Inspected Stop) → kept_inspection verifier.old ≡ Some answer →
+        (result ≡ answer) × (verifier.new ≡ verifier.old) × (intake.new ≡ intake.old) × (sink.new ≡ sink.old) }
+    ensures stopped { (result ≡ Err Stop.Again) ↔ (is_stopped verifier.old ≡ true) }
+    ensures inspects { is_inspecting verifier.new ≡ true }
+
+    // It stops only for a failure in this call.
+    ensures intake_failure { I.has_failed intake.new ≡ (I.has_failed intake.old || stops_for_intake result) }
+    ensures sink_failure { S.has_failed sink.new ≡ (S.has_failed sink.old || stops_for_sink result) }
+    // A sink that is sure of every payload doesn't stop it.
+    ensures sure { (setting : Setting) (s B : List ℕ) → HasTaken (to_inspect setting) s B verifier.old → setting.payload_limit ≤ S.sure sink.old →
+        stops_for_sink result ≡ false }
+{
+    // What these say of messages is all that the proof rests on.
+    settled_stays();
+    nothing_stands_after_the_bytes();
+    verifier.waits();
+    match verifier.kept_inspection() {
+        Some(answer) => return answer,
+        None => {}
+    }
+    match take_message::<C, H, D, I, S>(verifier, intake, sink) {
+        Ok(()) => Ok(verifier.conclude_inspection()),
+        Err(stop) => Err(stop),
     }
 }
 

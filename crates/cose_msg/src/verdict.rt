@@ -21,6 +21,24 @@ pub enum Verdict {
     Refused(Refusal),
 }
 
+/// What a message that is only inspected comes to: nothing is authenticated.
+#[derive(Clone, Copy, Debug, PartialEq, Eq)]
+pub enum Inspected {
+    /// The message is well formed, and this is its shape.
+    Shape {
+        /// The kind of the message.
+        kind: Kind,
+        /// The number of bytes of the payload.
+        payload: u64,
+        /// The number of bytes of the authentication tag or signature.
+        auth: u64,
+        /// The number of bytes of the message.
+        taken: u64,
+    },
+    /// The message is refused. The place counts from the message's first byte.
+    Refused(Refusal),
+}
+
 /// Why a verifier stopped before it came to a verdict.
 #[derive(Clone, Copy, Debug, PartialEq, Eq)]
 pub enum Stop {

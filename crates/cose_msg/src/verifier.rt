@@ -1,6 +1,6 @@
 //! A verifier of one message, changed in place: its stores are fields, and where the message stands is counts alone.
 
-ghost use Rattle.std.specs.Prelude.{◌<◌, ◌≤◌};
+ghost use Rattle.std.specs.Prelude.{◌<◌, ◌≤◌, ◌^◌};
 ghost use Rattle.arrayvec.specs.ArrayVec.{array_vec_len};
 
 use crate::context::Context;
@@ -29,12 +29,23 @@ pub(crate) struct Chosen<'k> {
     pub(crate) alg: Alg,
 }
 
+/// Where the content of a header bucket begins, which was found good.
+#[derive(Clone, Copy)]
+pub(crate) struct Place {
+    /// The place of its first byte.
+    pub(crate) at: u64,
+    ghost early: { at < 2 ^ 17 },
+}
+
 /// A verifier of one message at a time, of header buckets of at most `H` bytes each, nested at most `D` deep.
 #[derive(Drop)]
 pub struct Verifier<'k, const H: usize, const D: usize> {
     context: Context<'k>,
+    inspecting: bool,
     protected: ArrayVec<u8, H>,
     unprotected: ArrayVec<u8, H>,
+    protected_at: Option<Place>,
+    unprotected_at: Option<Place>,
     head: ArrayVec<u8, 9>,
     auth: ArrayVec<u8, 132>,
     walker: Walker<D>,
@@ -51,28 +62,33 @@ pub struct Verifier<'k, const H: usize, const D: usize> {
 
 impl<'k, const H: usize, const D: usize> Verifier<'k, H, D> {
     ghost use Rattle.std.specs.Prelude.{◌≡◌, ℕ, List, [], ◌∷◌, ◌++◌, ◌+◌, ◌-◌, length, take, true, false, if◌then◌else◌};
-    ghost use Rattle.cose_msg.specs.Kept.{HasTaken, bytes_taken};
-    ghost use Rattle.cose_msg.specs.Message.{Setting};
+    ghost use Rattle.cose_msg.specs.Kept.{HasTaken, bytes_taken, is_inspecting};
     ghost use Rattle.cose_msg.specs.Phase.{grown, in_payload, is_settled, takes_bytes, want_of};
     ghost use Rattle.cose_msg.specs.Reading.{Reading, stop, Told};
-    ghost use Rattle.cose_msg.specs.Verifier.{SoFar, StandsFor, setting_of};
+    ghost use Rattle.cose_msg.specs.Shown.{Tells};
+    ghost use Rattle.cose_msg.specs.Task.{Task, to_inspect, to_verify};
+    ghost use Rattle.cose_msg.specs.Verifier.{Shows, SoFar, StandsFor, setting_of, task_of};
 
-    /// A verifier of a message in this context.
-    pub fn new(context: Context<'k>) -> Self
+    /// A verifier for one of both purposes.
+    fn made(context: Context<'k>, inspecting: bool) -> Self
         requires some_room { 16 ≤ H }
         requires limit { H ≤ 65535 }
         requires nesting { D ≤ 32 }
-        requires external { length context.aad.now ≤ 65535 }
-        ensures so_far { SoFar (setting_of context.entry) [] [] result }
-        ensures none_taken { HasTaken (setting_of context.entry) [] [] result }
+        ensures so_far { SoFar (record { setting = setting_of context.entry; inspects = inspecting }) [] [] result }
+        ensures none_taken { HasTaken (record { setting = setting_of context.entry; inspects = inspecting }) [] [] result }
+        ensures tells { Tells (record { setting = setting_of context.entry; inspects = inspecting }) [] result }
+        ensures inspects { is_inspecting result ≡ inspecting }
     {
         Verifier {
             context,
+            inspecting,
             protected: ArrayVec::new(),
             unprotected: ArrayVec::new(),
+            protected_at: None,
+            unprotected_at: None,
             head: ArrayVec::new(),
             auth: ArrayVec::new(),
-            walker: Walker::new(0),
+            walker: Walker::new(H),
             hashing: Hashing::Nothing,
             chosen: None,
             phase: Phase::FirstHead,
@@ -81,20 +97,65 @@ impl<'k, const H: usize, const D: usize> Verifier<'k, H, D> {
         }
     }
 
+    /// A verifier of a message in this context.
+    pub fn new(context: Context<'k>) -> Self
+        requires some_room { 16 ≤ H }
+        requires limit { H ≤ 65535 }
+        requires nesting { D ≤ 32 }
+        requires external { length context.aad.now ≤ 65535 }
+        ensures so_far { SoFar (to_verify (setting_of context.entry)) [] [] result }
+        ensures none_taken { HasTaken (to_verify (setting_of context.entry)) [] [] result }
+        ensures tells { Tells (to_verify (setting_of context.entry)) [] result }
+        ensures inspects { is_inspecting result ≡ false }
+    {
+        Self::made(context, false)
+    }
+
+    /// A verifier of a message that is only inspected in this context: its keys are not looked at, and nothing is authenticated.
+    pub fn inspecting(context: Context<'k>) -> Self
+        requires some_room { 16 ≤ H }
+        requires limit { H ≤ 65535 }
+        requires nesting { D ≤ 32 }
+        requires external { length context.aad.now ≤ 65535 }
+        ensures so_far { SoFar (to_inspect (setting_of context.entry)) [] [] result }
+        ensures none_taken { HasTaken (to_inspect (setting_of context.entry)) [] [] result }
+        ensures tells { Tells (to_inspect (setting_of context.entry)) [] result }
+        ensures inspects { is_inspecting result ≡ true }
+    {
+        Self::made(context, true)
+    }
+
+    /// Whether it was made for inspecting alone.
+    pub fn is_inspecting(&self) -> bool
+        ensures { result ≡ is_inspecting self.now }
+    {
+        self.inspecting
+    }
+
     /// Refuses the message.
     fn refuse(&mut self, reason: Reason, place: u64)
-        ensures { (setting : Setting) (B : List ℕ) (n : ℕ) (told : Told) → setting_of self.old.context ≡ setting → told.payload ≡ B
-            → StandsFor setting B n self.new (λ z. stop told reason place) }
+        ensures { (task : Task) (B : List ℕ) (n : ℕ) (told : Told) → Shows task told self.old → told.payload ≡ B
+            → StandsFor task B n self.new (λ z. stop told reason place) }
     {
         self.phase = Phase::Settled(Verdict::Refused(Refusal { reason, place }));
     }
 
-    /// Makes the verifier as it was made, in the same context.
+    /// Makes the verifier as it was made, in the same context and for the same purpose.
     pub fn reset(&mut self)
-        ensures so_far { SoFar (setting_of self.old.context) [] [] self.new }
-        ensures none_taken { HasTaken (setting_of self.old.context) [] [] self.new }
+        ensures so_far { SoFar (task_of self.old) [] [] self.new }
+        ensures none_taken { HasTaken (task_of self.old) [] [] self.new }
+        ensures tells { Tells (task_of self.old) [] self.new }
+        ensures inspects { is_inspecting self.new ≡ is_inspecting self.old }
     {
+        self.protected.clear();
+        self.unprotected.clear();
+        self.protected_at = None;
+        self.unprotected_at = None;
         self.head.clear();
+        self.auth.clear();
+        self.walker = Walker::new(H);
+        self.hashing = Hashing::Nothing;
+        self.chosen = None;
         self.phase = Phase::FirstHead;
         self.taken = 0;
         self.stopped = false;
@@ -111,7 +172,10 @@ impl<'k, const H: usize, const D: usize> Verifier<'k, H, D> {
     pub(crate) fn is_settled(&self) -> bool
         ensures { result ≡ is_settled self.now.phase }
     {
-        matches!(self.phase, Phase::Signed(_) | Phase::Settled(_))
+        matches!(
+            self.phase,
+            Phase::Signed(_) | Phase::Decided(_) | Phase::Settled(_) | Phase::Shaped(_)
+        )
     }
 
     /// Whether the next byte is one of the payload.
@@ -138,15 +202,15 @@ impl<'k, const H: usize, const D: usize> Verifier<'k, H, D> {
             Phase::Protected(protected) => protected.left,
             Phase::Payload(payload) => payload.left,
             Phase::Auth(auth) => auth.left,
-            Phase::Signed(_) | Phase::Settled(_) => 0,
+            Phase::Signed(_) | Phase::Decided(_) | Phase::Settled(_) | Phase::Shaped(_) => 0,
         }
     }
 
     /// Takes the next byte of a head or of the unprotected bucket. Where none is wanted, nothing changes.
     fn take_byte(&mut self, byte: u8)
         requires { takes_bytes self.old.phase ≡ true }
-        ensures { (setting : Setting) (B : List ℕ) (n : ℕ) (reading : List ℕ → Reading) → StandsFor setting B n self.old reading
-            → StandsFor setting B (n + 1) self.new (λ z. reading (byte ∷ z)) }
+        ensures { (task : Task) (B : List ℕ) (n : ℕ) (reading : List ℕ → Reading) → StandsFor task B n self.old reading
+            → StandsFor task B (n + 1) self.new (λ z. reading (byte ∷ z)) }
     {
         match self.phase {
             Phase::FirstHead => self.first_head(byte),
@@ -160,7 +224,9 @@ impl<'k, const H: usize, const D: usize> Verifier<'k, H, D> {
             | Phase::Payload(_)
             | Phase::Auth(_)
             | Phase::Signed(_)
-            | Phase::Settled(_) => {}
+            | Phase::Decided(_)
+            | Phase::Settled(_)
+            | Phase::Shaped(_) => {}
         }
     }
 
@@ -170,8 +236,8 @@ impl<'k, const H: usize, const D: usize> Verifier<'k, H, D> {
         ensures fits { result ≤ length piece.now }
         ensures uses { is_settled self.old.phase ≡ false → 0 < result }
         ensures whole { length piece.now ≤ want_of self.old.phase → result ≡ length piece.now }
-        ensures stands { (setting : Setting) (B : List ℕ) (n : ℕ) (reading : List ℕ → Reading) → StandsFor setting B n self.old reading
-            → StandsFor setting (grown self.old.phase B (take result piece.now)) (n + result) self.new (λ z. reading (take result piece.now ++ z)) }
+        ensures stands { (task : Task) (B : List ℕ) (n : ℕ) (reading : List ℕ → Reading) → StandsFor task B n self.old reading
+            → StandsFor task (grown self.old.phase B (take result piece.now)) (n + result) self.new (λ z. reading (take result piece.now ++ z)) }
     {
         match self.phase {
             Phase::Protected(protected) => {
@@ -199,7 +265,7 @@ impl<'k, const H: usize, const D: usize> Verifier<'k, H, D> {
                 self.take_byte(piece[0]);
                 1
             }
-            Phase::Signed(_) | Phase::Settled(_) => 0,
+            Phase::Signed(_) | Phase::Decided(_) | Phase::Settled(_) | Phase::Shaped(_) => 0,
         }
     }
 }

@@ -17,8 +17,8 @@ use cose_map::{Bucket, Key, Material, Query, check_pair};
 /// What both buckets come to.
 #[derive(Clone, Copy)]
 pub(crate) struct Choice<'k> {
-    /// The key, and its algorithm.
-    pub(crate) chosen: Chosen<'k>,
+    /// The key, and its algorithm, if one is to be chosen.
+    pub(crate) chosen: Option<Chosen<'k>>,
     /// Whether the protected bucket has no pair.
     pub(crate) is_bare: bool,
 }
@@ -68,36 +68,44 @@ fn chosen_of<'k>(found: Result<(Key<'k>, i128), Reason>) -> Result<Chosen<'k>, R
 }
 
 impl<'k, const H: usize, const D: usize> Verifier<'k, H, D> {
-    ghost use Rattle.std.specs.Prelude.{List, length};
+    ghost use Rattle.std.specs.Prelude.{List, length, option_map};
     ghost use Rattle.cose_map.specs.Bucket.{bucket_of};
-    ghost use Rattle.cose_map.specs.KeySet.View.{keys};
     ghost use Rattle.cose_map.specs.Map.Pairs.{Pair};
     ghost use Rattle.cose_msg.specs.Choosing.{choice_of};
-    ghost use Rattle.cose_msg.specs.Chosen.{ChoiceIs};
-    ghost use Rattle.cose_msg.specs.Message.{Setting, comparing, found_key};
-    ghost use Rattle.cose_msg.specs.Phases.{past_unprotected, placed_at};
+    ghost use Rattle.cose_msg.specs.Chosen.{ChoiceIs, choice_seen, chosen_value};
+    ghost use Rattle.cose_msg.specs.Hashing.{HashesFor};
+    ghost use Rattle.cose_msg.specs.Phases.{both_buckets, headers_told, placed_at};
     ghost use Rattle.cose_msg.specs.Reading.{Reading};
-    ghost use Rattle.cose_msg.specs.Verifier.{StandsFor, setting_of};
+    ghost use Rattle.cose_msg.specs.Task.{Task, choice_for, rules_of};
+    ghost use Rattle.cose_msg.specs.Verifier.{Shows, StandsFor, setting_of, task_of};
 
-    /// The one key that fits what the buckets say.
+    /// The one key that fits what the buckets say, if one is to be chosen.
     fn key_for(
         &self,
         kind: Kind,
         protected: &Bucket<'_>,
         unprotected: &Bucket<'_>,
-    ) -> Result<Chosen<'k>, Reason>
-        ensures { found_seen result ≡ found_key (keys self.now.context.keys) (headers_of kind [] (bucket_pairs protected.now) (bucket_pairs unprotected.now)) }
+    ) -> Result<Option<Chosen<'k>>, Reason>
+        ensures { (content : List ℕ) → choice_seen result
+            ≡ choice_for self.now.inspecting (setting_of self.now.context) (headers_of kind content (bucket_pairs protected.now) (bucket_pairs unprotected.now)) }
     {
+        if self.inspecting {
+            return Ok(None);
+        }
         let query = query_of(kind, protected, unprotected);
-        chosen_of(self.context.keys.find(&query))
+        match chosen_of(self.context.keys.find(&query)) {
+            Ok(chosen) => Ok(Some(chosen)),
+            Err(reason) => Err(reason),
+        }
     }
 
-    /// What both buckets come to, whose contents stand at these places.
+    /// What both buckets come to, whose contents stand at these places and were found good.
     fn choose(&self, kind: Kind, protected_at: u64, at: u64) -> Result<Choice<'k>, Refusal>
         requires protected_early { protected_at ≤ 36 }
         requires early { at < 2 ^ 17 }
-        ensures { (pairs : List Pair) → bucket_of D (placed_at protected_at self.now.protected.items) ≡ Ok pairs
-            → ChoiceIs pairs result (choice_of D (setting_of self.now.context) kind pairs at self.now.unprotected.items) }
+        ensures { (pairs others : List Pair) → bucket_of D (placed_at protected_at self.now.protected.items) ≡ Ok pairs
+            → bucket_of D (placed_at at self.now.unprotected.items) ≡ Ok others
+            → ChoiceIs pairs result (choice_of (task_of self.now) (headers_of kind self.now.protected.items pairs others) (at + length self.now.unprotected.items)) }
     {
         let protected = Bucket::read(self.protected.as_slice(), protected_at, D)?;
         let unprotected = Bucket::read(self.unprotected.as_slice(), at, D)?;
@@ -112,22 +120,33 @@ impl<'k, const H: usize, const D: usize> Verifier<'k, H, D> {
         }
     }
 
-    /// What follows the unprotected bucket: its check, that of both, and the choice of the key.
-    pub(crate) fn past_unprotected(&mut self, kind: Kind, protected_at: u64, at: u64)
+    /// Begins the hash over the structure, where a key was chosen.
+    fn begin_hashing(chosen: &Option<Chosen<'k>>) -> Hashing
+        ensures { HashesFor result (option_map chosen_value chosen.now) [] }
+    {
+        match chosen {
+            Some(chosen) => Hashing::begin(chosen.alg, secret_of(&chosen.key.material)),
+            None => Hashing::Nothing,
+        }
+    }
+
+    /// What follows both buckets, whose contents stand at these places: their check together, and the choice of the key.
+    pub(crate) fn past_buckets(&mut self, kind: Kind, protected_at: u64, at: u64)
         requires protected_early { protected_at ≤ 36 }
         requires early { at < 2 ^ 17 }
-        ensures stands { (setting : Setting) (pairs : List Pair) → setting_of self.old.context ≡ setting
+        ensures stands { (task : Task) (pairs others : List Pair)
+            → Shows task (headers_told (headers_of kind self.old.protected.items pairs others) []) self.old
             → bucket_of D (placed_at protected_at self.old.protected.items) ≡ Ok pairs
-            → StandsFor setting [] (at + length self.old.unprotected.items) self.new
-            (λ z. past_unprotected (comparing H D setting) kind self.old.protected.items pairs at self.old.unprotected.items (at + length self.old.unprotected.items) z) }
+            → bucket_of D (placed_at at self.old.unprotected.items) ≡ Ok others
+            → StandsFor task [] (at + length self.old.unprotected.items) self.new
+            (λ z. both_buckets (rules_of H D task) (headers_of kind self.old.protected.items pairs others) (at + length self.old.unprotected.items) z) }
     {
         let after = at + self.unprotected.len() as u64;
         match self.choose(kind, protected_at, at) {
             Ok(choice) => {
-                let chosen = choice.chosen;
-                self.hashing = Hashing::begin(chosen.alg, secret_of(&chosen.key.material));
-                self.chosen = Some(chosen);
-                self.begin_payload_head(kind, chosen.alg, choice.is_bare, after);
+                self.hashing = Self::begin_hashing(&choice.chosen);
+                self.chosen = choice.chosen;
+                self.begin_payload_head(kind, choice.is_bare, after);
             }
             Err(refusal) => self.refuse(refusal.reason, refusal.place),
         }

@@ -1,37 +1,52 @@
 //! What a verifier counts and keeps: the number of bytes taken, whether it stopped, and the verdict.
 
-ghost use Rattle.std.specs.Prelude.{◌≡◌, ◌<◌, ◌≤◌, ◌+◌, ◌^◌, ℕ, Bool, true, false, List, [], ◌++◌, Some, length};
+ghost use Rattle.std.specs.Prelude.{◌≡◌, ◌<◌, ◌≤◌, ◌+◌, ◌^◌, ℕ, true, false, List, [], ◌++◌, None, Some, length};
+ghost use Rattle.cose_msg.specs.Kept.{answer_kept};
 
 use crate::elliptic::EcVerifier;
 use crate::phase::{Phase, Signed};
-use crate::verdict::{Stop, Verdict};
+use crate::verdict::{Inspected, Stop, Verdict};
 use crate::verifier::Verifier;
 use cose_head::{Reason, Refusal};
 
 /// No message has so many bytes: its payload has fewer than 2^56.
 const MESSAGE_LIMIT: u64 = 1 << 57;
 
+/// The answer that is kept: that the verifier has stopped, or what came of the message, once it is known.
+fn kept<A: Copy>(stopped: bool, answer: Option<A>) -> Option<Result<A, Stop>>
+    ensures { result ≡ answer_kept stopped answer }
+{
+    if stopped {
+        return Some(Err(Stop::Again));
+    }
+    match answer {
+        Some(answer) => Some(Ok(answer)),
+        None => None,
+    }
+}
+
 impl<'k, const H: usize, const D: usize> Verifier<'k, H, D> {
     ghost use Rattle.cose_map.specs.Key.View.{key_value};
     ghost use Rattle.cose_msg.specs.declared.verifier.Chosen.{Chosen};
     ghost use Rattle.cose_msg.specs.Answer.{decided, refused};
     ghost use Rattle.cose_msg.specs.Hashing.{result_of};
-    ghost use Rattle.cose_msg.specs.Kept.{HasTaken, answer_kept, kept_answer};
+    ghost use Rattle.cose_msg.specs.Kept.{HasTaken, inspected_in, is_inspecting, kept_answer, kept_inspection, verdict_in};
     ghost use Rattle.cose_msg.specs.Laws.{then_verified};
     ghost use Rattle.cose_msg.specs.Message.{Setting};
     ghost use Rattle.cose_msg.specs.Phase.{grown, in_payload, is_settled, want_of};
     ghost use Rattle.cose_msg.specs.Reading.{Reading};
+    ghost use Rattle.cose_msg.specs.Run.{SaysCount, inspection};
+    ghost use Rattle.cose_msg.specs.Shown.{shown_in, shown_of, sign_input_of};
+    ghost use Rattle.cose_msg.specs.Task.{Task, to_inspect, to_verify};
     ghost use Rattle.cose_msg.specs.Verifier.{Counts, StandsFor};
 
-    /// The answer that is kept until `reset`: that it had stopped, or the verdict.
-    pub(crate) fn kept_answer(&self) -> Option<Result<Verdict, Stop>>
-        ensures { result ≡ kept_answer self.now }
+    /// The verdict, once it is known.
+    fn verdict(&self) -> Option<Verdict>
+        ensures { result ≡ verdict_in self.now.phase }
     {
-        if self.stopped {
-            return Some(Err(Stop::Again));
-        }
         match self.phase {
-            Phase::Settled(verdict) => Some(Ok(verdict)),
+            Phase::Decided(verdict) => Some(verdict),
+            Phase::Settled(verdict) => Some(verdict),
             Phase::FirstHead
             | Phase::TagHead(_)
             | Phase::ArrayHead(_)
@@ -42,22 +57,68 @@ impl<'k, const H: usize, const D: usize> Verifier<'k, H, D> {
             | Phase::Payload(_)
             | Phase::AuthHead(_)
             | Phase::Auth(_)
-            | Phase::Signed(_) => None,
+            | Phase::Signed(_)
+            | Phase::Shaped(_) => None,
         }
+    }
+
+    /// What a message that is only inspected comes to, once it is known.
+    fn inspected(&self) -> Option<Inspected>
+        ensures { result ≡ inspected_in self.now.phase }
+    {
+        match self.phase {
+            Phase::Settled(Verdict::Refused(refusal)) => Some(Inspected::Refused(refusal)),
+            Phase::Shaped(shape) => Some(Inspected::Shape {
+                kind: shape.kind,
+                payload: shape.payload,
+                auth: shape.auth,
+                taken: shape.taken,
+            }),
+            Phase::Settled(Verdict::Authentic { .. })
+            | Phase::FirstHead
+            | Phase::TagHead(_)
+            | Phase::ArrayHead(_)
+            | Phase::ProtectedHead(_)
+            | Phase::Protected(_)
+            | Phase::Unprotected(_)
+            | Phase::PayloadHead(_)
+            | Phase::Payload(_)
+            | Phase::AuthHead(_)
+            | Phase::Auth(_)
+            | Phase::Signed(_)
+            | Phase::Decided(_) => None,
+        }
+    }
+
+    /// The answer that is kept until `reset`: that it had stopped, or the verdict.
+    pub(crate) fn kept_answer(&self) -> Option<Result<Verdict, Stop>>
+        ensures { result ≡ kept_answer self.now }
+    {
+        kept(self.stopped, self.verdict())
+    }
+
+    /// The same of a verifier that inspects.
+    pub(crate) fn kept_inspection(&self) -> Option<Result<Inspected, Stop>>
+        ensures { result ≡ kept_inspection self.now }
+    {
+        kept(self.stopped, self.inspected())
     }
 
     /// Fewer bytes than are wanted don't settle the message. This does nothing.
     pub(crate) fn waits(&self)
-        ensures open { (setting : Setting) (B : List ℕ) (n : ℕ) (reading : List ℕ → Reading) (more : List ℕ) → StandsFor setting B n self.now reading
+        ensures open { (task : Task) (B : List ℕ) (n : ℕ) (reading : List ℕ → Reading) (more : List ℕ) → StandsFor task B n self.now reading
             → length more < want_of self.now.phase → (reading more).settled ≡ false }
-        ensures settled { (setting : Setting) (B : List ℕ) (n : ℕ) (reading : List ℕ → Reading) → StandsFor setting B n self.now reading
+        ensures settled { (task : Task) (B : List ℕ) (n : ℕ) (reading : List ℕ → Reading) → StandsFor task B n self.now reading
             → (reading []).settled ≡ is_settled self.now.phase }
-        ensures payload { (setting : Setting) (B : List ℕ) (n : ℕ) (reading : List ℕ → Reading) → StandsFor setting B n self.now reading
+        ensures payload { (task : Task) (B : List ℕ) (n : ℕ) (reading : List ℕ → Reading) → StandsFor task B n self.now reading
             → (reading []).told.payload ≡ B }
-        ensures truncated { (setting : Setting) (B : List ℕ) (n : ℕ) (reading : List ℕ → Reading) → StandsFor setting B n self.now reading
+        ensures truncated { (task : Task) (B : List ℕ) (n : ℕ) (reading : List ℕ → Reading) → StandsFor task B n self.now reading
             → is_settled self.now.phase ≡ false → (reading []).answer ≡ refused Reason.Truncated n }
+        // What it shows so far is what these bytes tell.
+        ensures shows { (task : Task) (B : List ℕ) (n : ℕ) (reading : List ℕ → Reading) → StandsFor task B n self.now reading
+            → shown_of self.now ≡ shown_in task.setting (reading []) }
         // A payload doesn't settle it either: a tag or signature follows.
-        ensures open_payload { (setting : Setting) (B : List ℕ) (n : ℕ) (reading : List ℕ → Reading) (more : List ℕ) → StandsFor setting B n self.now reading
+        ensures open_payload { (task : Task) (B : List ℕ) (n : ℕ) (reading : List ℕ → Reading) (more : List ℕ) → StandsFor task B n self.now reading
             → in_payload self.now.phase ≡ true → length more ≤ want_of self.now.phase → (reading more).settled ≡ false }
     {
         // What this says of the item that is being read is all that the proof rests on.
@@ -87,33 +148,44 @@ impl<'k, const H: usize, const D: usize> Verifier<'k, H, D> {
         requires short { length piece.now ≤ 65536 }
         ensures counted { self.new.taken ≡ self.old.taken + length piece.now }
         ensures marked { self.new.stopped ≡ self.old.stopped }
-        ensures taken { (setting : Setting) (s B : List ℕ) → HasTaken setting s B self.old
-            → HasTaken setting (s ++ piece.now) (grown self.old.phase B piece.now) self.new }
+        ensures inspects { is_inspecting self.new ≡ is_inspecting self.old }
+        ensures taken { (task : Task) (s B : List ℕ) → HasTaken task s B self.old
+            → HasTaken task (s ++ piece.now) (grown self.old.phase B piece.now) self.new }
     {
         let taken = self.taken + piece.len() as u64;
         let stopped = self.stopped;
+        let inspecting = self.inspecting;
         self.advance(piece);
         self.taken = taken;
         self.stopped = stopped;
+        self.inspecting = inspecting;
     }
 
     /// Stops until `reset`.
     pub(crate) fn stop(&mut self)
         ensures stopped { self.new.stopped ≡ true }
         ensures taken { self.new.taken ≡ self.old.taken }
+        ensures shown { shown_of self.new ≡ shown_of self.old }
+        ensures inspects { is_inspecting self.new ≡ is_inspecting self.old }
     {
         self.stopped = true;
     }
 
-    /// Keeps a verdict.
-    fn keep(&mut self, verdict: Verdict) -> Verdict
-        ensures same { result ≡ verdict }
-        ensures phase { self.new.phase ≡ Phase.Settled verdict }
+    /// The message is Truncated where the intake has ended, and that is kept.
+    fn truncate(&mut self) -> Refusal
+        ensures same { result ≡ record { reason = Reason.Truncated; place = self.old.taken } }
+        ensures phase { self.new.phase ≡ Phase.Settled (Verdict.Refused result) }
         ensures stopped { self.new.stopped ≡ self.old.stopped }
         ensures taken { self.new.taken ≡ self.old.taken }
+        ensures inspects { is_inspecting self.new ≡ is_inspecting self.old }
+        ensures shown { sign_input_of self.old ≡ None → shown_of self.new ≡ shown_of self.old }
     {
-        self.phase = Phase::Settled(verdict);
-        verdict
+        let refusal = Refusal {
+            reason: Reason::Truncated,
+            place: self.taken,
+        };
+        self.phase = Phase::Settled(Verdict::Refused(refusal));
+        refusal
     }
 
     /// Whether the signature holds: `ec` is asked about the key, the digest of the structure that is signed (RFC 9052 section 4.4)
@@ -131,8 +203,8 @@ impl<'k, const H: usize, const D: usize> Verifier<'k, H, D> {
     /// The verdict on a message with a signature, all bytes of which are there.
     fn signed_verdict<E: EcVerifier>(&self, signed: Signed, ec: &E) -> Verdict
         requires phase { self.now.phase ≡ Phase.Signed signed }
-        ensures answer { (setting : Setting) (B : List ℕ) (n : ℕ) (reading : List ℕ → Reading) → StandsFor setting B n self.now reading
-            → then_verified setting.aad (E.decides ec.now) (reading []).answer ≡ decided result }
+        ensures answer { (task : Task) (B : List ℕ) (n : ℕ) (reading : List ℕ → Reading) → StandsFor task B n self.now reading
+            → then_verified task.setting.aad (E.decides ec.now) (reading []).answer ≡ decided result }
         ensures counted { Counts result signed.taken }
     {
         if self.is_signed(ec) {
@@ -154,17 +226,21 @@ impl<'k, const H: usize, const D: usize> Verifier<'k, H, D> {
     pub(crate) fn conclude<E: EcVerifier>(&mut self, ec: &E) -> Verdict
         ensures kept { kept_answer self.new ≡ answer_kept self.old.stopped (Some result) }
         ensures counts { self.new.taken ≡ self.old.taken }
-        ensures answer { (setting : Setting) (B : List ℕ) (reading : List ℕ → Reading) → StandsFor setting B self.old.taken self.old reading
+        ensures inspects { is_inspecting self.new ≡ is_inspecting self.old }
+        ensures shown { shown_of self.new ≡ shown_of self.old }
+        ensures answer { (setting : Setting) (B : List ℕ) (reading : List ℕ → Reading) → StandsFor (to_verify setting) B self.old.taken self.old reading
             → then_verified setting.aad (E.decides ec.now) (reading []).answer ≡ decided result }
-        ensures counted { (setting : Setting) (B : List ℕ) (reading : List ℕ → Reading) → StandsFor setting B self.old.taken self.old reading
+        ensures counted { (setting : Setting) (B : List ℕ) (reading : List ℕ → Reading) → StandsFor (to_verify setting) B self.old.taken self.old reading
             → Counts result self.old.taken }
     {
         self.waits();
         match self.phase {
+            Phase::Decided(verdict) => verdict,
             Phase::Settled(verdict) => verdict,
             Phase::Signed(signed) => {
                 let verdict = self.signed_verdict(signed, ec);
-                self.keep(verdict)
+                self.phase = Phase::Decided(verdict);
+                verdict
             }
             Phase::FirstHead
             | Phase::TagHead(_)
@@ -175,10 +251,28 @@ impl<'k, const H: usize, const D: usize> Verifier<'k, H, D> {
             | Phase::PayloadHead(_)
             | Phase::Payload(_)
             | Phase::AuthHead(_)
-            | Phase::Auth(_) => self.keep(Verdict::Refused(Refusal {
-                reason: Reason::Truncated,
-                place: self.taken,
-            })),
+            | Phase::Auth(_)
+            | Phase::Shaped(_) => Verdict::Refused(self.truncate()),
+        }
+    }
+
+    /// What the bytes taken of a message come to that is only inspected, which is kept: the message is Truncated where it isn't
+    /// settled.
+    pub(crate) fn conclude_inspection(&mut self) -> Inspected
+        ensures kept { kept_inspection self.new ≡ answer_kept self.old.stopped (Some result) }
+        ensures counts { self.new.taken ≡ self.old.taken }
+        ensures inspects { is_inspecting self.new ≡ is_inspecting self.old }
+        ensures shown { (setting : Setting) (B : List ℕ) (reading : List ℕ → Reading) → StandsFor (to_inspect setting) B self.old.taken self.old reading
+            → shown_of self.new ≡ shown_of self.old }
+        ensures answer { (setting : Setting) (B : List ℕ) (reading : List ℕ → Reading) → StandsFor (to_inspect setting) B self.old.taken self.old reading
+            → (reading []).answer ≡ inspection result }
+        ensures counted { (setting : Setting) (B : List ℕ) (reading : List ℕ → Reading) → StandsFor (to_inspect setting) B self.old.taken self.old reading
+            → SaysCount (inspection result) self.old.taken }
+    {
+        self.waits();
+        match self.inspected() {
+            Some(inspected) => inspected,
+            None => Inspected::Refused(self.truncate()),
         }
     }
 }

@@ -82,15 +82,16 @@ fn fault_of_array(head: &Head) -> Option<Reason>
 impl<'k, const H: usize, const D: usize> Verifier<'k, H, D> {
     ghost use Rattle.std.specs.Prelude.{ℕ, ◌+◌, ◌≤◌, List, [], ◌∷◌};
     ghost use Rattle.cose_msg.specs.Front.{array_head, past_array_head, past_tag, past_untagged, past_first_head, second_head};
-    ghost use Rattle.cose_msg.specs.Message.{Setting, comparing};
+    ghost use Rattle.cose_msg.specs.Phases.{nothing_told};
     ghost use Rattle.cose_msg.specs.Reading.{Reading};
-    ghost use Rattle.cose_msg.specs.Verifier.{StandsFor, setting_of};
+    ghost use Rattle.cose_msg.specs.Task.{Task, rules_of};
+    ghost use Rattle.cose_msg.specs.Verifier.{Shows, StandsFor};
 
     /// Takes the next byte of the first head.
     pub(crate) fn first_head(&mut self, byte: u8)
         requires phase { self.old.phase ≡ Phase.FirstHead }
-        ensures stands { (setting : Setting) (B : List ℕ) (n : ℕ) (reading : List ℕ → Reading) → StandsFor setting B n self.old reading
-            → StandsFor setting B (n + 1) self.new (λ z. reading (byte ∷ z)) }
+        ensures stands { (task : Task) (B : List ℕ) (n : ℕ) (reading : List ℕ → Reading) → StandsFor task B n self.old reading
+            → StandsFor task B (n + 1) self.new (λ z. reading (byte ∷ z)) }
     {
         match take_head_byte(&mut self.head, byte) {
             HeadStep::More(_) => {}
@@ -102,8 +103,8 @@ impl<'k, const H: usize, const D: usize> Verifier<'k, H, D> {
     /// What follows the first head.
     fn past_first_head(&mut self, head: Head, at: u64)
         requires early { at ≤ 9 }
-        ensures stands { (setting : Setting) → setting_of self.old.context ≡ setting
-            → StandsFor setting [] at self.new (λ z. past_first_head (comparing H D setting) 0 head at z) }
+        ensures stands { (task : Task) → Shows task nothing_told self.old
+            → StandsFor task [] at self.new (λ z. past_first_head (rules_of H D task) 0 head at z) }
     {
         let wanted = self.context.wanted;
         if is_cwt_tag(self.context.cwt, &head) {
@@ -120,8 +121,8 @@ impl<'k, const H: usize, const D: usize> Verifier<'k, H, D> {
     /// What follows the head of an array without a tag.
     fn past_untagged(&mut self, wanted: Wanted, head: Head, at: u64)
         requires early { at ≤ 9 }
-        ensures stands { (setting : Setting) → setting_of self.old.context ≡ setting
-            → StandsFor setting [] at self.new (λ z. past_untagged (comparing H D setting) wanted 0 head at z) }
+        ensures stands { (task : Task) → Shows task nothing_told self.old
+            → StandsFor task [] at self.new (λ z. past_untagged (rules_of H D task) wanted 0 head at z) }
     {
         match wanted {
             Wanted::Mac0 => self.past_array_head(Kind::Mac0, head, 0, at),
@@ -133,8 +134,8 @@ impl<'k, const H: usize, const D: usize> Verifier<'k, H, D> {
     /// The head of another tag begins here.
     fn begin_tag_head(&mut self, at: u64)
         requires early { at ≤ 9 }
-        ensures stands { (setting : Setting) → setting_of self.old.context ≡ setting
-            → StandsFor setting [] at self.new (λ z. second_head (comparing H D setting) at z) }
+        ensures stands { (task : Task) → Shows task nothing_told self.old
+            → StandsFor task [] at self.new (λ z. second_head (rules_of H D task) at z) }
     {
         self.head.clear();
         self.phase = Phase::TagHead(TagHead { at });
@@ -143,8 +144,8 @@ impl<'k, const H: usize, const D: usize> Verifier<'k, H, D> {
     /// Takes the next byte of the head behind the CWT tag.
     pub(crate) fn tag_head(&mut self, tag_head: TagHead, byte: u8)
         requires phase { self.old.phase ≡ Phase.TagHead tag_head }
-        ensures stands { (setting : Setting) (B : List ℕ) (n : ℕ) (reading : List ℕ → Reading) → StandsFor setting B n self.old reading
-            → StandsFor setting B (n + 1) self.new (λ z. reading (byte ∷ z)) }
+        ensures stands { (task : Task) (B : List ℕ) (n : ℕ) (reading : List ℕ → Reading) → StandsFor task B n self.old reading
+            → StandsFor task B (n + 1) self.new (λ z. reading (byte ∷ z)) }
     {
         let at = tag_head.at;
         match take_head_byte(&mut self.head, byte) {
@@ -160,8 +161,8 @@ impl<'k, const H: usize, const D: usize> Verifier<'k, H, D> {
     /// What follows a tag, which says this kind or why it is refused.
     fn past_tag(&mut self, kind: Result<Kind, Reason>, tag_at: u64, at: u64)
         requires early { at ≤ 18 }
-        ensures stands { (setting : Setting) → setting_of self.old.context ≡ setting
-            → StandsFor setting [] at self.new (λ z. past_tag (comparing H D setting) tag_at kind at z) }
+        ensures stands { (task : Task) → Shows task nothing_told self.old
+            → StandsFor task [] at self.new (λ z. past_tag (rules_of H D task) tag_at kind at z) }
     {
         match kind {
             Ok(kind) => self.begin_array_head(kind, at),
@@ -172,8 +173,8 @@ impl<'k, const H: usize, const D: usize> Verifier<'k, H, D> {
     /// The head of the array begins here.
     fn begin_array_head(&mut self, kind: Kind, at: u64)
         requires early { at ≤ 18 }
-        ensures stands { (setting : Setting) → setting_of self.old.context ≡ setting
-            → StandsFor setting [] at self.new (λ z. array_head (comparing H D setting) kind at z) }
+        ensures stands { (task : Task) → Shows task nothing_told self.old
+            → StandsFor task [] at self.new (λ z. array_head (rules_of H D task) kind at z) }
     {
         self.head.clear();
         self.phase = Phase::ArrayHead(ArrayHead { kind, at });
@@ -182,8 +183,8 @@ impl<'k, const H: usize, const D: usize> Verifier<'k, H, D> {
     /// Takes the next byte of the array's head.
     pub(crate) fn array_head(&mut self, array_head: ArrayHead, byte: u8)
         requires phase { self.old.phase ≡ Phase.ArrayHead array_head }
-        ensures stands { (setting : Setting) (B : List ℕ) (n : ℕ) (reading : List ℕ → Reading) → StandsFor setting B n self.old reading
-            → StandsFor setting B (n + 1) self.new (λ z. reading (byte ∷ z)) }
+        ensures stands { (task : Task) (B : List ℕ) (n : ℕ) (reading : List ℕ → Reading) → StandsFor task B n self.old reading
+            → StandsFor task B (n + 1) self.new (λ z. reading (byte ∷ z)) }
     {
         let ArrayHead { kind, at } = array_head;
         match take_head_byte(&mut self.head, byte) {
@@ -196,8 +197,8 @@ impl<'k, const H: usize, const D: usize> Verifier<'k, H, D> {
     /// What follows the array's head.
     fn past_array_head(&mut self, kind: Kind, head: Head, head_at: u64, at: u64)
         requires early { at ≤ 27 }
-        ensures stands { (setting : Setting) → setting_of self.old.context ≡ setting
-            → StandsFor setting [] at self.new (λ z. past_array_head (comparing H D setting) kind head_at head at z) }
+        ensures stands { (task : Task) → Shows task nothing_told self.old
+            → StandsFor task [] at self.new (λ z. past_array_head (rules_of H D task) kind head_at head at z) }
     {
         match fault_of_array(&head) {
             Some(reason) => self.refuse(reason, head_at),

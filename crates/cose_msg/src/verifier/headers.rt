@@ -7,7 +7,7 @@ ghost use Rattle.cose_map.specs.Map.View.{refusal_in};
 use crate::bare_head::take_head_byte;
 use crate::phase::{Phase, Protected, ProtectedHead, Unprotected};
 use crate::store_bytes::{append, append_byte};
-use crate::verifier::Verifier;
+use crate::verifier::{Place, Verifier};
 use cose_head::laws::read_stays;
 use cose_head::{Head, HeadStep, Kind, Reason, Refusal, Step, Walker};
 use cose_map::Bucket;
@@ -24,16 +24,16 @@ fn refusal_of(bytes: &[u8], at: u64, depth: usize) -> Option<Refusal>
 impl<'k, const H: usize, const D: usize> Verifier<'k, H, D> {
     ghost use Rattle.std.specs.Prelude.{List, [], ◌∷◌, ◌++◌};
     ghost use Rattle.cose_map.specs.Map.Pairs.{Pair};
-    ghost use Rattle.cose_msg.specs.Message.{Setting, comparing};
-    ghost use Rattle.cose_msg.specs.Phases.{past_protected, past_protected_head, past_unprotected, placed_at, protected_head, protected_fault_within, unprotected};
+    ghost use Rattle.cose_msg.specs.Phases.{nothing_told, past_protected, past_protected_head, past_unprotected, placed_at, protected_head, protected_fault_within, protected_told, unprotected};
     ghost use Rattle.cose_msg.specs.Reading.{Reading};
-    ghost use Rattle.cose_msg.specs.Verifier.{StandsFor, setting_of};
+    ghost use Rattle.cose_msg.specs.Task.{Task, rules_of};
+    ghost use Rattle.cose_msg.specs.Verifier.{Shows, StandsFor};
 
     /// The head of the protected bucket begins here.
     pub(crate) fn begin_protected_head(&mut self, kind: Kind, at: u64)
         requires early { at ≤ 27 }
-        ensures stands { (setting : Setting) → setting_of self.old.context ≡ setting
-            → StandsFor setting [] at self.new (λ z. protected_head (comparing H D setting) kind at z) }
+        ensures stands { (task : Task) → Shows task nothing_told self.old
+            → StandsFor task [] at self.new (λ z. protected_head (rules_of H D task) kind at z) }
     {
         self.head.clear();
         self.phase = Phase::ProtectedHead(ProtectedHead { kind, at });
@@ -42,8 +42,8 @@ impl<'k, const H: usize, const D: usize> Verifier<'k, H, D> {
     /// Takes the next byte of the protected bucket's head.
     pub(crate) fn protected_head(&mut self, protected_head: ProtectedHead, byte: u8)
         requires phase { self.old.phase ≡ Phase.ProtectedHead protected_head }
-        ensures stands { (setting : Setting) (B : List ℕ) (n : ℕ) (reading : List ℕ → Reading) → StandsFor setting B n self.old reading
-            → StandsFor setting B (n + 1) self.new (λ z. reading (byte ∷ z)) }
+        ensures stands { (task : Task) (B : List ℕ) (n : ℕ) (reading : List ℕ → Reading) → StandsFor task B n self.old reading
+            → StandsFor task B (n + 1) self.new (λ z. reading (byte ∷ z)) }
     {
         let ProtectedHead { kind, at } = protected_head;
         match take_head_byte(&mut self.head, byte) {
@@ -69,8 +69,8 @@ impl<'k, const H: usize, const D: usize> Verifier<'k, H, D> {
     /// What follows the protected bucket's head.
     fn past_protected_head(&mut self, kind: Kind, head: Head, head_at: u64, at: u64)
         requires early { at ≤ 36 }
-        ensures stands { (setting : Setting) → setting_of self.old.context ≡ setting
-            → StandsFor setting [] at self.new (λ z. past_protected_head (comparing H D setting) kind head_at head at z) }
+        ensures stands { (task : Task) → Shows task nothing_told self.old
+            → StandsFor task [] at self.new (λ z. past_protected_head (rules_of H D task) kind head_at head at z) }
     {
         match Self::fault_of_protected(&head) {
             Some(reason) => self.refuse(reason, head_at),
@@ -94,8 +94,8 @@ impl<'k, const H: usize, const D: usize> Verifier<'k, H, D> {
     pub(crate) fn protected(&mut self, protected: Protected, piece: &[u8])
         requires phase { self.old.phase ≡ Phase.Protected protected }
         requires fits { length piece.now ≤ protected.left }
-        ensures stands { (setting : Setting) (B : List ℕ) (n : ℕ) (reading : List ℕ → Reading) → StandsFor setting B n self.old reading
-            → StandsFor setting B (n + length piece.now) self.new (λ z. reading (piece.now ++ z)) }
+        ensures stands { (task : Task) (B : List ℕ) (n : ℕ) (reading : List ℕ → Reading) → StandsFor task B n self.old reading
+            → StandsFor task B (n + length piece.now) self.new (λ z. reading (piece.now ++ z)) }
     {
         append(&mut self.protected, piece);
         let left = protected.left - piece.len() as u64;
@@ -114,9 +114,9 @@ impl<'k, const H: usize, const D: usize> Verifier<'k, H, D> {
     /// What follows the protected bucket, whose content stands at this place.
     fn past_protected(&mut self, kind: Kind, at: u64)
         requires early { at ≤ 36 }
-        ensures stands { (setting : Setting) → setting_of self.old.context ≡ setting
-            → StandsFor setting [] (at + length self.old.protected.items) self.new
-            (λ z. past_protected (comparing H D setting) kind at self.old.protected.items (at + length self.old.protected.items) z) }
+        ensures stands { (task : Task) → Shows task nothing_told self.old
+            → StandsFor task [] (at + length self.old.protected.items) self.new
+            (λ z. past_protected (rules_of H D task) kind at self.old.protected.items (at + length self.old.protected.items) z) }
     {
         let length = self.protected.len() as u64;
         match refusal_of(self.protected.as_slice(), at, D) {
@@ -129,10 +129,11 @@ impl<'k, const H: usize, const D: usize> Verifier<'k, H, D> {
     fn begin_unprotected(&mut self, kind: Kind, protected_at: u64, at: u64)
         requires protected_early { protected_at ≤ 36 }
         requires early { at < 2 ^ 17 }
-        ensures stands { (setting : Setting) (pairs : List Pair) → setting_of self.old.context ≡ setting
+        ensures stands { (task : Task) (pairs : List Pair) → Shows task nothing_told self.old
             → bucket_of D (placed_at protected_at self.old.protected.items) ≡ Ok pairs
-            → StandsFor setting [] at self.new (λ z. unprotected (comparing H D setting) kind self.old.protected.items pairs at z) }
+            → StandsFor task [] at self.new (λ z. unprotected (rules_of H D task) kind self.old.protected.items pairs at z) }
     {
+        self.protected_at = Some(Place { at: protected_at });
         self.unprotected.clear();
         self.walker = Walker::new(H);
         self.phase = Phase::Unprotected(Unprotected {
@@ -142,11 +143,29 @@ impl<'k, const H: usize, const D: usize> Verifier<'k, H, D> {
         });
     }
 
+    /// What follows the unprotected bucket: the check of its content, then what both buckets come to.
+    fn past_unprotected(&mut self, kind: Kind, protected_at: u64, at: u64)
+        requires protected_early { protected_at ≤ 36 }
+        requires early { at < 2 ^ 17 }
+        ensures stands { (task : Task) (pairs : List Pair) → Shows task (protected_told pairs) self.old
+            → bucket_of D (placed_at protected_at self.old.protected.items) ≡ Ok pairs
+            → StandsFor task [] (at + length self.old.unprotected.items) self.new
+            (λ z. past_unprotected (rules_of H D task) kind self.old.protected.items pairs at self.old.unprotected.items (at + length self.old.unprotected.items) z) }
+    {
+        match refusal_of(self.unprotected.as_slice(), at, D) {
+            Some(refusal) => self.refuse(refusal.reason, refusal.place),
+            None => {
+                self.unprotected_at = Some(Place { at });
+                self.past_buckets(kind, protected_at, at);
+            }
+        }
+    }
+
     /// Takes the next byte of the unprotected bucket.
     pub(crate) fn unprotected(&mut self, unprotected: Unprotected, byte: u8)
         requires phase { self.old.phase ≡ Phase.Unprotected unprotected }
-        ensures stands { (setting : Setting) (B : List ℕ) (n : ℕ) (reading : List ℕ → Reading) → StandsFor setting B n self.old reading
-            → StandsFor setting B (n + 1) self.new (λ z. reading (byte ∷ z)) }
+        ensures stands { (task : Task) (B : List ℕ) (n : ℕ) (reading : List ℕ → Reading) → StandsFor task B n self.old reading
+            → StandsFor task B (n + 1) self.new (λ z. reading (byte ∷ z)) }
     {
         // What this says of reading is all that the proof rests on.
         read_stays();

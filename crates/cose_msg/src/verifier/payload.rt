@@ -1,13 +1,12 @@
 //! The payload of a message, which is hashed as it comes.
 
-ghost use Rattle.std.specs.Prelude.{◌≡◌, ◌<◌, ◌≤◌, ◌+◌, ◌^◌, ℕ, Some, [], if◌then◌else◌};
+ghost use Rattle.std.specs.Prelude.{◌≡◌, ◌<◌, ◌≤◌, ◌+◌, ◌^◌, ℕ, [], if◌then◌else◌};
 ghost use Rattle.cose_msg.specs.Phases.{is_nil as is_nil_head, payload_fault_within};
 
 use crate::bare_head::take_head_byte;
 use crate::phase::{Payload, PayloadHead, Phase};
 use crate::verifier::Verifier;
 use cose_head::{Head, HeadStep, Kind, Reason};
-use cose_mac::Alg;
 
 /// Whether a head is nil, which stands for a detached payload (RFC 9052 sections 4.2 and 6.2).
 fn is_nil(head: &Head) -> bool
@@ -43,37 +42,30 @@ fn empty_if(is_bare: bool, bytes: &[u8]) -> &[u8]
 }
 
 impl<'k, const H: usize, const D: usize> Verifier<'k, H, D> {
-    ghost use Rattle.std.specs.Prelude.{List, ◌∷◌, ◌++◌, length, option_map, ◌==◌};
-    ghost use Rattle.cose_msg.specs.Answer.{Headers};
-    ghost use Rattle.cose_msg.specs.Chosen.{chosen_value};
-    ghost use Rattle.cose_msg.specs.Hashing.{Hashes};
-    ghost use Rattle.cose_msg.specs.Message.{Setting, comparing};
-    ghost use Rattle.cose_msg.specs.Phases.{past_payload_head, payload_head};
+    ghost use Rattle.std.specs.Prelude.{List, ◌∷◌, ◌++◌, length, ◌==◌};
+    ghost use Rattle.cose_msg.specs.Hashing.{HashesFor};
+    ghost use Rattle.cose_msg.specs.Phases.{headers_told, past_payload_head, payload_head};
     ghost use Rattle.cose_msg.specs.Reading.{Reading};
-    ghost use Rattle.cose_msg.specs.Verifier.{HoldsKey, Known, StandsFor, setting_of};
+    ghost use Rattle.cose_msg.specs.Task.{Task, rules_of};
+    ghost use Rattle.cose_msg.specs.Verifier.{HoldsKey, Known, Shows, StandsFor};
 
     /// The payload's head begins here.
-    pub(crate) fn begin_payload_head(&mut self, kind: Kind, alg: Alg, is_bare: bool, at: u64)
+    pub(crate) fn begin_payload_head(&mut self, kind: Kind, is_bare: bool, at: u64)
         requires early { at < 2 ^ 18 }
-        ensures stands { (setting : Setting) (known : Known) → setting_of self.old.context ≡ setting → known.payload ≡ []
-            → HoldsKey known self.old kind alg → known.headers.protected ≡ self.old.protected.items
-            → is_bare ≡ (length known.headers.protected_pairs == 0) → Hashes self.old.hashing known.found []
-            → StandsFor setting [] at self.new (λ z. payload_head (comparing H D setting) known.headers (Some known.found) at z) }
+        ensures stands { (task : Task) (known : Known) → Shows task (headers_told known.headers []) self.old → known.payload ≡ []
+            → HoldsKey task known self.old kind → known.headers.protected ≡ self.old.protected.items
+            → is_bare ≡ (length known.headers.protected_pairs == 0) → HashesFor self.old.hashing known.chosen []
+            → StandsFor task [] at self.new (λ z. payload_head (rules_of H D task) known.headers known.chosen at z) }
     {
         self.head.clear();
-        self.phase = Phase::PayloadHead(PayloadHead {
-            kind,
-            alg,
-            is_bare,
-            at,
-        });
+        self.phase = Phase::PayloadHead(PayloadHead { kind, is_bare, at });
     }
 
     /// Takes the next byte of the payload's head.
     pub(crate) fn payload_head(&mut self, payload_head: PayloadHead, byte: u8)
         requires phase { self.old.phase ≡ Phase.PayloadHead payload_head }
-        ensures stands { (setting : Setting) (B : List ℕ) (n : ℕ) (reading : List ℕ → Reading) → StandsFor setting B n self.old reading
-            → StandsFor setting B (n + 1) self.new (λ z. reading (byte ∷ z)) }
+        ensures stands { (task : Task) (B : List ℕ) (n : ℕ) (reading : List ℕ → Reading) → StandsFor task B n self.old reading
+            → StandsFor task B (n + 1) self.new (λ z. reading (byte ∷ z)) }
     {
         let at = payload_head.at;
         match take_head_byte(&mut self.head, byte) {
@@ -90,10 +82,10 @@ impl<'k, const H: usize, const D: usize> Verifier<'k, H, D> {
     /// What follows the payload's head.
     fn past_payload_head(&mut self, payload_head: PayloadHead, head: Head, at: u64)
         requires early { at < 2 ^ 19 }
-        ensures stands { (setting : Setting) (known : Known) → setting_of self.old.context ≡ setting → known.payload ≡ []
-            → HoldsKey known self.old payload_head.kind payload_head.alg → known.headers.protected ≡ self.old.protected.items
-            → payload_head.is_bare ≡ (length known.headers.protected_pairs == 0) → Hashes self.old.hashing known.found []
-            → StandsFor setting [] at self.new (λ z. past_payload_head (comparing H D setting) known.headers (Some known.found) payload_head.at head at z) }
+        ensures stands { (task : Task) (known : Known) → Shows task (headers_told known.headers []) self.old → known.payload ≡ []
+            → HoldsKey task known self.old payload_head.kind → known.headers.protected ≡ self.old.protected.items
+            → payload_head.is_bare ≡ (length known.headers.protected_pairs == 0) → HashesFor self.old.hashing known.chosen []
+            → StandsFor task [] at self.new (λ z. past_payload_head (rules_of H D task) known.headers known.chosen payload_head.at head at z) }
     {
         match fault_of_payload(&head, self.context.payload_limit) {
             Some(reason) => self.refuse(reason, payload_head.at),
@@ -104,11 +96,10 @@ impl<'k, const H: usize, const D: usize> Verifier<'k, H, D> {
                 self.hashing
                     .front(payload_head.kind, protected, aad, head.arg);
                 if head.arg == 0 {
-                    self.begin_auth_head(payload_head.kind, payload_head.alg, at, 0);
+                    self.begin_auth_head(payload_head.kind, at, 0);
                 } else {
                     self.phase = Phase::Payload(Payload {
                         kind: payload_head.kind,
-                        alg: payload_head.alg,
                         at,
                         length: head.arg,
                         left: head.arg,
@@ -122,22 +113,16 @@ impl<'k, const H: usize, const D: usize> Verifier<'k, H, D> {
     pub(crate) fn payload(&mut self, payload: Payload, piece: &[u8])
         requires phase { self.old.phase ≡ Phase.Payload payload }
         requires fits { length piece.now ≤ payload.left }
-        ensures stands { (setting : Setting) (B : List ℕ) (n : ℕ) (reading : List ℕ → Reading) → StandsFor setting B n self.old reading
-            → StandsFor setting (B ++ piece.now) (n + length piece.now) self.new (λ z. reading (piece.now ++ z)) }
+        ensures stands { (task : Task) (B : List ℕ) (n : ℕ) (reading : List ℕ → Reading) → StandsFor task B n self.old reading
+            → StandsFor task (B ++ piece.now) (n + length piece.now) self.new (λ z. reading (piece.now ++ z)) }
     {
         self.hashing.update(piece);
         let left = payload.left - piece.len() as u64;
         if left == 0 {
-            self.begin_auth_head(
-                payload.kind,
-                payload.alg,
-                payload.at + payload.length,
-                payload.length,
-            );
+            self.begin_auth_head(payload.kind, payload.at + payload.length, payload.length);
         } else {
             self.phase = Phase::Payload(Payload {
                 kind: payload.kind,
-                alg: payload.alg,
                 at: payload.at,
                 length: payload.length,
                 left,

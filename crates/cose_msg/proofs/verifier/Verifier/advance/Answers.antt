@@ -4,18 +4,18 @@ use Rattle.cose_msg.proofs.Steps.{first_byte, grown_by_byte}
 use Rattle.cose_msg.proofs.verifier.Verifier.advance.Goals as goal
 
 pub returns-in-Protected-clause-stands : goal.returns-in-Protected-clause-stands
-returns-in-Protected-clause-stands g c = λ setting B n reading h.
-    rw (c.in-Protected.is, ← c.front_of-part.ensures.front) (c.protected.ensures.stands setting B n reading h)
+returns-in-Protected-clause-stands g c = λ task B n reading h.
+    rw (c.in-Protected.is, ← c.front_of-part.ensures.front) (c.protected.ensures.stands task B n reading h)
 
 pub returns-in-Payload-clause-stands : goal.returns-in-Payload-clause-stands
-returns-in-Payload-clause-stands g c = λ setting B n reading h.
-    rw (c.in-Payload.is, ← c.front_of-part-in-Payload.ensures.front) (c.payload.ensures.stands setting B n reading h)
+returns-in-Payload-clause-stands g c = λ task B n reading h.
+    rw (c.in-Payload.is, ← c.front_of-part-in-Payload.ensures.front) (c.payload.ensures.stands task B n reading h)
 
 pub returns-in-Auth-clause-stands : goal.returns-in-Auth-clause-stands
-returns-in-Auth-clause-stands g c = λ setting B n reading h.
-    rw (c.in-Auth.is, ← c.front_of-part-in-Auth.ensures.front) (c.auth.ensures.stands setting B n reading h)
+returns-in-Auth-clause-stands g c = λ task B n reading h.
+    rw (c.in-Auth.is, ← c.front_of-part-in-Auth.ensures.front) (c.auth.ensures.stands task B n reading h)
 
 pub returns-in-FirstHead-clause-stands : goal.returns-in-FirstHead-clause-stands
-returns-in-FirstHead-clause-stands g c = λ setting B n reading h.
+returns-in-FirstHead-clause-stands g c = λ task B n reading h.
     let byte : takes_bytes c.args.self.now.phase ≡ true = search rules in
-    rw (grown_by_byte c.args.self.now.phase B (take 1 c.args.piece.now) byte, first_byte c.args.piece.now c.requires.some) (c.take_byte.ensures setting B n reading h)
+    rw (grown_by_byte c.args.self.now.phase B (take 1 c.args.piece.now) byte, first_byte c.args.piece.now c.requires.some) (c.take_byte.ensures task B n reading h)

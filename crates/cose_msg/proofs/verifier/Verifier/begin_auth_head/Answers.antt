@@ -6,13 +6,13 @@ use Rattle.cose_msg.proofs.verifier.Verifier.begin_auth_head.Goals as goal
 pub returns : goal.returns
 unfolding bare_head
 returns g c = record {
-  stands = λ setting known e key count fed. record {
+  stands = λ task known e key count fed. record {
     known = known;
     told = headers_told known.headers known.payload;
-    in_setting = e;
+    shows = e;
     payload_known = refl;
     payload_told = refl;
-    holds = (refl, rw c.clear.ensures (tt, sym (add-zero c.args.at)), record { kind_is = key.kind_is; alg_is = key.alg_is; key_is = key.key_is }, count, fed);
+    holds = (refl, rw c.clear.ensures (tt, sym (add-zero c.args.at)), key, count, fed);
     left = λ z. rw c.clear.ensures refl;
   };
 }

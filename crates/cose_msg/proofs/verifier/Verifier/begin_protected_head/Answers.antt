@@ -7,10 +7,10 @@ use Rattle.cose_msg.proofs.verifier.Verifier.begin_protected_head.Goals as goal
 pub returns : goal.returns
 unfolding bare_head
 returns g c = record {
-  stands = λ setting e. record {
+  stands = λ task e. record {
     known = unknown [];
     told = nothing_told;
-    in_setting = e;
+    shows = e;
     payload_known = refl;
     payload_told = refl;
     holds = rw c.clear.ensures (refl, (tt, sym (add-zero c.args.at)));

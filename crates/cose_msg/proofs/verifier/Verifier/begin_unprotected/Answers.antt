@@ -5,10 +5,10 @@ use Rattle.cose_msg.proofs.verifier.Verifier.begin_unprotected.Goals as goal
 
 pub returns : goal.returns
 returns g c = record {
-  stands = λ setting pairs e good. record {
+  stands = λ task pairs e good. record {
     known = under_pairs pairs;
     told = protected_told pairs;
-    in_setting = e;
+    shows = (e.0, good, e.2);
     payload_known = refl;
     payload_told = refl;
     holds = (refl, good, rw c.clear.ensures c.new-self.ensures.put, rw c.clear.ensures (sym (add-zero c.args.at)));

@@ -1,19 +1,48 @@
-use Rattle.std.proofs.Common.{rules, ◌≡◌, false, ◌∙◌, sym, ap, refl}
-use Rattle.cose_msg.specs.Answer.{decided}
-use Rattle.cose_msg.specs.Phase.{is_settled}
+use Rattle.std.proofs.Common.{rules, ◌≡◌, ℕ, false, None, ◌∙◌, sym, ap, refl, subst}
+use Rattle.cose_msg.specs.Kept.{verdict_in}
+use Rattle.cose_msg.specs.Laws.{then_verified}
+use Rattle.cose_msg.specs.Phase.{awaits_decision}
+use Rattle.cose_msg.specs.Shown.{sign_input_of}
+use Rattle.cose_msg.specs.Task.{to_verify}
+use Rattle.cose_msg.specs.Verifier.{Counts}
+use Rattle.cose_msg.proofs.Decisions.{signed_count, stands_with_verdict, stands_without_verdict}
 use Rattle.cose_msg.proofs.verifier.Verifier.conclude.Goals as goal
 
+pub returns-in-Decided-clause-answer : goal.returns-in-Decided-clause-answer
+returns-in-Decided-clause-answer g c = λ setting B reading h.
+    ap (then_verified setting.aad (g.E.EcVerifier.decides c.args.ec.now)) (stands_with_verdict c.in-Decided.verdict h (ap verdict_in c.in-Decided.is)).0
+
+pub returns-in-Decided-clause-counted : goal.returns-in-Decided-clause-counted
+returns-in-Decided-clause-counted g c = λ setting B reading h. (stands_with_verdict c.in-Decided.verdict h (ap verdict_in c.in-Decided.is)).2
+
+pub returns-in-Settled-clause-answer : goal.returns-in-Settled-clause-answer
+returns-in-Settled-clause-answer g c = λ setting B reading h.
+    ap (then_verified setting.aad (g.E.EcVerifier.decides c.args.ec.now)) (stands_with_verdict c.in-Settled.verdict h (ap verdict_in c.in-Settled.is)).0
+
+pub returns-in-Settled-clause-counted : goal.returns-in-Settled-clause-counted
+returns-in-Settled-clause-counted g c = λ setting B reading h. (stands_with_verdict c.in-Settled.verdict h (ap verdict_in c.in-Settled.is)).2
+
 pub returns-in-Signed-clause-answer : goal.returns-in-Signed-clause-answer
-returns-in-Signed-clause-answer g c = λ setting B reading h.
-    c.signed_verdict-verdict.ensures.answer setting B _ reading h ∙ ap decided (sym c.keep.ensures.same)
+returns-in-Signed-clause-answer g c = λ setting B reading h. c.signed_verdict-verdict.ensures.answer (to_verify setting) B _ reading h
+
+pub returns-in-Signed-clause-counted : goal.returns-in-Signed-clause-counted
+returns-in-Signed-clause-counted g c = λ setting B reading h.
+    subst (λ (n : ℕ). Counts c.signed_verdict-verdict.result n) (sym (signed_count c.in-Signed.signed c.in-Signed.is h)) c.signed_verdict-verdict.ensures.counted
+
+pub returns-in-Signed-clause-shown : goal.returns-in-Signed-clause-shown
+returns-in-Signed-clause-shown g c = rw c.in-Signed.is refl
 
 pub returns-in-FirstHead : goal.returns-in-FirstHead
 returns-in-FirstHead g c =
-    let open_phase : is_settled c.args.self.now.phase ≡ false = search rules in
-    let same = c.keep-in-FirstHead.ensures in
+    let none : verdict_in c.args.self.now.phase ≡ None = search rules in
+    let undecided : awaits_decision c.args.self.now.phase ≡ false = search rules in
+    let no_input : sign_input_of c.args.self.now ≡ None = search rules in
+    let same = c.truncate.ensures in
     record {
-      kept = rw (same.phase, same.stopped, same.same) refl;
+      kept = rw (same.phase, same.stopped) refl;
       counts = same.taken;
-      answer = λ setting B reading h. rw (c.waits.ensures.truncated setting B _ reading h open_phase, same.same) refl;
-      counted = λ setting B reading h. rw same.same tt;
+      inspects = same.inspects;
+      shown = same.shown no_input;
+      answer = λ setting B reading h. rw (c.waits.ensures.truncated (to_verify setting) B _ reading h (stands_without_verdict h none undecided), same.same) refl;
+      counted = λ setting B reading h. tt;
     }

@@ -1,53 +1,28 @@
-use Rattle.std.proofs.Common.{◌≡◌, ◌+◌, true, false, refl, sym, ap, ◌∙◌}
-use Rattle.std.specs.Str.{bytes_eq}
-use Rattle.cose_head.specs.Algorithm.{is_mac_of}
-use Rattle.cose_msg.specs.Message.{structure}
+use Rattle.std.proofs.Common.{refl, ap, sym, ◌∙◌}
 use Rattle.cose_msg.specs.Phases.{headers_told}
 use Rattle.cose_msg.specs.Reading.{settled}
-use Rattle.cose_msg.proofs.Opened.{tag_compared}
-use Rattle.cose_msg.proofs.Standing.{moved}
+use Rattle.cose_msg.proofs.Keys.{holds_auth, is_inspected, key_of_alg, no_key_without_alg}
 use Rattle.cose_msg.proofs.verifier.Verifier.finish.Goals as goal
 
-pub returns-then-eq : goal.returns-then-eq
-returns-then-eq g c = record {
-  stands = λ setting known e key count fed.
-      let mac : is_mac_of known.found.alg ≡ true = ap is_mac_of key.alg_is ∙ (sym c.is_mac.ensures ∙ c.if-is_mac.true) in
-      let computed = c.result.ensures ∙ c.finish.ensures known.found (structure setting.aad known.headers known.payload) fed in
-      let same : bytes_eq c.args.self.now.auth.items c.result.result.now ≡ true = rw c.as_slice.ensures.value at (sym c.eq.ensures ∙ c.if-eq.true) in
+pub returns-in-Some : goal.returns-in-Some
+returns-in-Some g c = record {
+  stands = λ task known at e key count length fed held.
+      let is = key_of_alg c.args.self.now.chosen known.chosen c.in-Some.alg (sym c.in-Some.is ∙ c.alg.ensures) key.1 in
+      c.compare.ensures.stands task known is.found at e key is.chosen_is is.alg_is count fed (holds_auth known.chosen is.found c.args.self.now.auth.items known.auth is.chosen_is held);
+}
+
+pub returns-in-None : goal.returns-in-None
+returns-in-None g c = record {
+  stands = λ task known at e key count length fed held.
+      let none = no_key_without_alg c.args.self.now.chosen known.chosen (sym c.in-None.is ∙ c.alg.ensures) key.1 in
+      let inspects = is_inspected known.chosen task.inspects none key.2 in
       record {
         known = known;
         told = headers_told known.headers known.payload;
-        in_setting = e;
+        shows = e;
         payload_known = refl;
         payload_told = refl;
-        holds = refl;
-        left = λ z. ap (settled (headers_told known.headers known.payload)) (tag_compared setting.aad known c.args.self.now.auth.items c.result.result.now c.args.auth.head_at (c.args.auth.at + c.args.auth.length) true mac computed same ∙ rw (key.kind_is, key.alg_is, count) refl);
-      };
-}
-
-pub returns-else-eq : goal.returns-else-eq
-returns-else-eq g c = record {
-  stands = λ setting known e key count fed.
-      let mac : is_mac_of known.found.alg ≡ true = ap is_mac_of key.alg_is ∙ (sym c.is_mac.ensures ∙ c.if-is_mac.true) in
-      let computed = c.result.ensures ∙ c.finish.ensures known.found (structure setting.aad known.headers known.payload) fed in
-      let same : bytes_eq c.args.self.now.auth.items c.result.result.now ≡ false = rw c.as_slice.ensures.value at (sym c.eq.ensures ∙ c.if-eq.false) in
-      moved c.refuse.new.self _ _ refl refl
-      (λ z. ap (settled (headers_told known.headers known.payload)) (tag_compared setting.aad known c.args.self.now.auth.items c.result.result.now c.args.auth.head_at (c.args.auth.at + c.args.auth.length) false mac computed same))
-      (c.refuse.ensures setting known.payload (c.args.auth.at + c.args.auth.length) (headers_told known.headers known.payload) e refl);
-}
-
-pub returns-else-is_mac : goal.returns-else-is_mac
-returns-else-is_mac g c = record {
-  stands = λ setting known e key count fed.
-      let none : is_mac_of c.args.auth.alg ≡ false = sym c.is_mac.ensures ∙ c.if-is_mac.false in
-      let digest : is_mac_of known.found.alg ≡ false = ap is_mac_of key.alg_is ∙ none in
-      record {
-        known = known;
-        told = headers_told known.headers known.payload;
-        in_setting = e;
-        payload_known = refl;
-        payload_told = refl;
-        holds = (refl, refl, record { kind_is = key.kind_is; alg_is = key.alg_is; key_is = key.key_is }, none, count, c.finish.ensures known.found (structure setting.aad known.headers known.payload) fed);
-        left = λ z. rw digest refl;
+        holds = (refl, inspects);
+        left = λ z. rw (inspects, key.0, count, length) refl;
       };
 }

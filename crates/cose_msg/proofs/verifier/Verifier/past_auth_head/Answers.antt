@@ -1,28 +1,45 @@
-use Rattle.std.proofs.Common.{◌≡◌, Some, None, refl, sym, ap, ◌∙◌, zero-add, add-zero}
-use Rattle.std.specs.Prelude.{◌==◌}
-use Rattle.cose_head.specs.Algorithm.{auth_length_of}
-use Rattle.cose_head.specs.declared.algorithm.Alg.{Alg}
-use Rattle.cose_msg.specs.Phases.{auth_fault_where, headers_told}
+use Rattle.std.proofs.Common.{◌≡◌, [], Some, None, refl, sym, ◌∙◌, zero-add, add-zero}
+use Rattle.cose_msg.specs.Chosen.{has_length_of}
+use Rattle.cose_msg.specs.Message.{has_auth_length}
+use Rattle.cose_msg.specs.Phases.{auth_fault_where, finish, headers_told}
+use Rattle.cose_msg.specs.Task.{rules_of}
+use Rattle.cose_msg.proofs.Faults.{auth_fault_same, auth_fits}
+use Rattle.cose_msg.proofs.Keys.{length_by_alg, nothing_held}
+use Rattle.cose_msg.proofs.Opened.{with_auth}
+use Rattle.cose_msg.proofs.Standing.{moved}
+use Rattle.cose_msg.proofs.Steps.{string_none}
 use Rattle.cose_msg.proofs.verifier.Verifier.past_auth_head.Goals as goal
 
 pub returns-in-Some : goal.returns-in-Some
 returns-in-Some g c = record {
-  stands = λ setting known e key count fed.
-      let fault : auth_fault_where (λ n. n == auth_length_of known.found.alg) c.args.head ≡ Some c.in-Some.reason = ap (λ (alg : Alg). auth_fault_where (λ n. n == auth_length_of alg) c.args.head) key.alg_is ∙ sym c.in-Some.ensures in
-      rw fault (c.refuse.ensures setting known.payload c.args.at (headers_told known.headers known.payload) e refl);
+  stands = λ task known e key count fed.
+      let fits = length_by_alg c.args.self.now.chosen known.chosen c.alg.result c.alg.ensures key.1 in
+      let fault : auth_fault_where (has_auth_length known.chosen) c.args.head ≡ Some c.in-Some.reason = auth_fault_same (has_auth_length known.chosen) (has_length_of c.alg.result) fits c.args.head ∙ sym c.in-Some.ensures.value in
+      rw fault (c.refuse.ensures task known.payload c.args.at (headers_told known.headers known.payload) e refl);
 }
 
-pub returns-in-None : goal.returns-in-None
-returns-in-None g c = record {
-  stands = λ setting known e key count fed.
-      let fault : auth_fault_where (λ n. n == auth_length_of known.found.alg) c.args.head ≡ None = ap (λ (alg : Alg). auth_fault_where (λ n. n == auth_length_of alg) c.args.head) key.alg_is ∙ sym c.in-None.ensures in
+pub returns-then-head-eq0 : goal.returns-then-head-eq0
+returns-then-head-eq0 g c = record {
+  stands = λ task known e key count fed.
+      let fits = length_by_alg c.args.self.now.chosen known.chosen c.alg.result c.alg.ensures key.1 in
+      let fault : auth_fault_where (has_auth_length known.chosen) c.args.head ≡ None = auth_fault_same (has_auth_length known.chosen) (has_length_of c.alg.result) fits c.args.head ∙ sym c.in-None.ensures.value in
+      moved c.finish.new.self _ _ refl refl
+      (λ z. rw (fault, c.if-head-eq0.true) (string_none (λ w. headers_told known.headers known.payload) (finish (rules_of g.row.H g.row.D task) known.headers known.chosen known.payload c.args.auth_head.at) c.args.at z))
+      (c.finish.ensures.stands task (with_auth known []) c.args.at e key count refl fed (rw c.clear.ensures (nothing_held known.chosen)));
+}
+
+pub returns-else-head-eq0 : goal.returns-else-head-eq0
+returns-else-head-eq0 g c = record {
+  stands = λ task known e key count fed.
+      let fits = length_by_alg c.args.self.now.chosen known.chosen c.alg.result c.alg.ensures key.1 in
+      let fault : auth_fault_where (has_auth_length known.chosen) c.args.head ≡ None = auth_fault_same (has_auth_length known.chosen) (has_length_of c.alg.result) fits c.args.head ∙ sym c.in-None.ensures.value in
       record {
-        known = known;
+        known = with_auth known [];
         told = headers_told known.headers known.payload;
-        in_setting = e;
+        shows = e;
         payload_known = refl;
         payload_told = refl;
-        holds = rw c.clear.ensures (refl, zero-add c.args.head.arg, sym (add-zero c.args.at), record { kind_is = key.kind_is; alg_is = key.alg_is; key_is = key.key_is }, count, fed);
-        left = λ z. rw (fault, c.clear.ensures) refl;
+        holds = (refl, zero-add c.args.head.arg, sym (add-zero c.args.at), key, count, fed, auth_fits (has_auth_length known.chosen) c.args.head fault, rw c.clear.ensures (nothing_held known.chosen));
+        left = λ z. rw fault refl;
       };
 }

@@ -3,10 +3,10 @@ use Rattle.cose_msg.specs.Phases.{nothing_told}
 use Rattle.cose_msg.proofs.verifier.Verifier.past_untagged.Goals as goal
 
 pub returns-in-Mac0 : goal.returns-in-Mac0
-returns-in-Mac0 g c = record { stands = λ setting e. rw c.in-Mac0.is (c.past_array_head.ensures.stands setting e) }
+returns-in-Mac0 g c = record { stands = λ task e. rw c.in-Mac0.is (c.past_array_head.ensures.stands task e) }
 
 pub returns-in-Sign1 : goal.returns-in-Sign1
-returns-in-Sign1 g c = record { stands = λ setting e. rw c.in-Sign1.is (c.past_array_head-in-Sign1.ensures.stands setting e) }
+returns-in-Sign1 g c = record { stands = λ task e. rw c.in-Sign1.is (c.past_array_head-in-Sign1.ensures.stands task e) }
 
 pub returns-in-Tagged : goal.returns-in-Tagged
-returns-in-Tagged g c = record { stands = λ setting e. rw c.in-Tagged.is (c.refuse.ensures setting [] c.args.at nothing_told e refl) }
+returns-in-Tagged g c = record { stands = λ task e. rw c.in-Tagged.is (c.refuse.ensures task [] c.args.at nothing_told e refl) }

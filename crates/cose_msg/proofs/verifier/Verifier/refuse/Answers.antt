@@ -3,12 +3,12 @@ use Rattle.cose_msg.proofs.Standing.{unknown}
 use Rattle.cose_msg.proofs.verifier.Verifier.refuse.Goals as goal
 
 pub returns : goal.returns
-returns g c = λ setting B n told of_setting told_payload. record {
+returns g c = λ task B n told shows told_payload. record {
   known = unknown B;
   told = told;
-  in_setting = of_setting;
+  shows = shows;
   payload_known = refl;
   payload_told = told_payload;
-  holds = tt;
+  holds = (tt, λ e. absurd cc);
   left = λ z. refl;
 }

@@ -2,6 +2,7 @@ use Rattle.std.proofs.Common.{[], refl}
 use Rattle.cose_head.specs.Head.{bare_head}
 use Rattle.cose_msg.specs.Message.{message}
 use Rattle.cose_msg.specs.Phases.{nothing_told}
+use Rattle.cose_msg.specs.Reading.{with_head}
 use Rattle.cose_msg.proofs.Standing.{unknown}
 use Rattle.cose_msg.proofs.verifier.Verifier.reset.Goals as goal
 
@@ -10,13 +11,17 @@ unfolding message bare_head
 returns-clause-so_far g c = record {
   known = unknown [];
   told = nothing_told;
-  in_setting = refl;
+  shows = (refl, refl, refl);
   payload_known = refl;
   payload_told = refl;
-  holds = rw c.clear.ensures (refl, (tt, refl));
-  left = λ z. rw c.clear.ensures refl;
+  holds = rw c.clear-3.ensures (refl, (tt, refl));
+  left = λ z. rw c.clear-3.ensures refl;
 }
 
 pub returns-clause-none_taken : goal.returns-clause-none_taken
 unfolding message bare_head
 returns-clause-none_taken g c = record { so_far = returns-clause-so_far g c; counted = refl; goes_on = refl }
+
+pub returns-clause-tells : goal.returns-clause-tells
+unfolding message with_head bare_head
+returns-clause-tells g c = refl

@@ -1,5 +1,6 @@
 use Rattle.std.proofs.Common.{◌<◌, [], arith}
 use Rattle.std.proofs.lemmas.List.{append-nil}
+use Rattle.cose_msg.proofs.Decisions.{stands_shown}
 use Rattle.cose_msg.proofs.Waits.{WalkerWaits, stands_open, stands_settled, stands_told, stands_payload, stands_truncated}
 use Rattle.cose_msg.proofs.verifier.Verifier.waits.Goals as goal
 
@@ -11,16 +12,19 @@ walker g c = λ put.
     rw append-nil at (c.want-wanted.ensures.early _ _ [] put room some)
 
 pub returns-clause-open : goal.returns-clause-open
-returns-clause-open g c = λ setting B n reading more h lt. stands_open (walker g c) more h lt
+returns-clause-open g c = λ task B n reading more h lt. stands_open (walker g c) more h lt
 
 pub returns-clause-settled : goal.returns-clause-settled
-returns-clause-settled g c = λ setting B n reading h. stands_settled (walker g c) h
+returns-clause-settled g c = λ task B n reading h. stands_settled (walker g c) h
 
 pub returns-clause-payload : goal.returns-clause-payload
-returns-clause-payload g c = λ setting B n reading h. stands_told (walker g c) h
+returns-clause-payload g c = λ task B n reading h. stands_told (walker g c) h
 
 pub returns-clause-open_payload : goal.returns-clause-open_payload
-returns-clause-open_payload g c = λ setting B n reading more h is le. stands_payload (walker g c) more h is le
+returns-clause-open_payload g c = λ task B n reading more h is le. stands_payload (walker g c) more h is le
 
 pub returns-clause-truncated : goal.returns-clause-truncated
-returns-clause-truncated g c = λ setting B n reading h e. stands_truncated (walker g c) h e
+returns-clause-truncated g c = λ task B n reading h e. stands_truncated (walker g c) h e
+
+pub returns-clause-shows : goal.returns-clause-shows
+returns-clause-shows g c = λ task B n reading h. stands_shown (walker g c) h

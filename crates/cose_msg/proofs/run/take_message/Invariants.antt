@@ -1,15 +1,16 @@
 use Rattle.std.proofs.Common.{◌≡◌, ◌-◌, ◌^◌, ℕ, List, false}
 use Rattle.cose_msg.specs.Kept.{HasTaken}
-use Rattle.cose_msg.specs.Message.{Setting}
+use Rattle.cose_msg.specs.Task.{Task}
 use Rattle.cose_msg.proofs.Runs.{Along}
-use Rattle.cose_msg.proofs.run.verify.Given as goal
+use Rattle.cose_msg.proofs.run.take_message.Given as goal
 
 abbrev pub invariant-pieces : goal.invariant-pieces
 invariant-pieces g l =
-    ((setting : Setting) (s B : List ℕ) → HasTaken setting s B l.initial.verifier →
-    Along setting s B (g.I.Intake.to_come l.initial.intake) (g.I.Intake.to_come l.intake) (g.I.Intake.ended l.intake)
+    ((task : Task) (s B : List ℕ) → HasTaken task s B l.initial.verifier →
+    Along task s B (g.I.Intake.to_come l.initial.intake) (g.I.Intake.to_come l.intake) (g.I.Intake.ended l.intake)
     (g.S.Sink.contents l.initial.sink) (g.S.Sink.contents l.sink) (g.S.Sink.sure l.initial.sink) (g.S.Sink.sure l.sink) l.verifier)
     × (l.verifier.stopped ≡ false)
+    × (l.verifier.inspecting ≡ l.initial.verifier.inspecting)
     × (g.I.Intake.has_failed l.intake ≡ g.I.Intake.has_failed l.initial.intake)
     × (g.S.Sink.has_failed l.sink ≡ g.S.Sink.has_failed l.initial.sink)
 

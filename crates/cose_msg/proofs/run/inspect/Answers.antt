@@ -1,0 +1,37 @@
+use Rattle.std.proofs.Common.{◌≡◌, sym, ◌∙◌}
+use Rattle.cose_msg.specs.Message.{inspecting}
+use Rattle.cose_msg.specs.Run.{inspection}
+use Rattle.cose_msg.specs.Task.{to_inspect}
+use Rattle.cose_msg.proofs.Answered.{alike, inspection_run, kept_inspection_run, kept_inspection_settles, of_any, still, stopped}
+use Rattle.cose_msg.proofs.Runs.{counted_stands}
+use Rattle.cose_msg.proofs.run.inspect.Goals as goal
+
+pub returns-in-Some-clause-run : goal.returns-in-Some-clause-run
+returns-in-Some-clause-run g c = λ setting s B h.
+    let kept = sym c.kept_inspection.ensures ∙ c.in-Some.is in
+    let d = still _ _ _ h (c.waits.ensures.payload (to_inspect setting) B _ _ h.so_far) (c.waits.ensures.shows (to_inspect setting) B _ _ h.so_far) (kept_inspection_settles c.in-Some.answer h kept) in
+    (d.taken, kept_inspection_run c.nothing_stands_after_the_bytes.ensures.inside c.nothing_stands_after_the_bytes.ensures.fair d c.in-Some.answer kept, d.counted, d.tells)
+
+pub returns-in-Some-clause-answer : goal.returns-in-Some-clause-answer
+returns-in-Some-clause-answer g c = λ setting s B bytes h come.
+    let r = returns-in-Some-clause-run g c setting s B h in
+    of_any inspection (inspecting g.row.H g.row.D setting) (c.settled_stays.ensures.message (inspecting g.row.H g.row.D setting)) _ _ r.0 bytes r.1 come
+
+pub returns-in-Ok-clause-run : goal.returns-in-Ok-clause-run
+returns-in-Ok-clause-run g c = λ setting s B h.
+    let d = rw c.in-Ok.is at (c.take_message.ensures.drive (to_inspect setting) s B h) in
+    let stands = counted_stands d.stands.0 in
+    (d.taken, inspection_run c.nothing_stands_after_the_bytes.ensures.inside c.nothing_stands_after_the_bytes.ensures.fair c.conclude_inspection.result d (c.conclude_inspection.ensures.answer setting _ _ stands) (c.conclude_inspection.ensures.counted setting _ _ stands), c.conclude_inspection.ensures.counts ∙ d.counted, c.conclude_inspection.ensures.shown setting _ _ stands ∙ d.tells)
+
+pub returns-in-Ok-clause-answer : goal.returns-in-Ok-clause-answer
+returns-in-Ok-clause-answer g c = λ setting s B bytes h come.
+    let r = returns-in-Ok-clause-run g c setting s B h in
+    of_any inspection (inspecting g.row.H g.row.D setting) (c.settled_stays.ensures.message (inspecting g.row.H g.row.D setting)) _ _ r.0 bytes r.1 come
+
+pub returns-in-Err-clause-run : goal.returns-in-Err-clause-run
+returns-in-Err-clause-run g c = λ setting s B h.
+    let d = rw c.in-Err.is at (c.take_message.ensures.drive (to_inspect setting) s B h) in
+    (d.taken, stopped inspection (inspecting g.row.H g.row.D setting) (alike (inspecting g.row.H g.row.D setting)) c.in-Err.stop d, d.counted, d.tells)
+
+pub returns-in-Err-clause-sure : goal.returns-in-Err-clause-sure
+returns-in-Err-clause-sure g c = λ setting s B h enough. rw c.in-Err.is at (c.take_message.ensures.sure (to_inspect setting) s B h enough)

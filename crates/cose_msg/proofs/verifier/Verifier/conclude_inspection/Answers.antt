@@ -1,0 +1,31 @@
+use Rattle.std.proofs.Common.{◌≡◌, None, Some, ◌∙◌, sym, refl}
+use Rattle.cose_msg.specs.Kept.{inspected_in}
+use Rattle.cose_msg.specs.Shown.{held_input}
+use Rattle.cose_msg.specs.Task.{to_inspect}
+use Rattle.cose_msg.proofs.Decisions.{open_shows_no_input, stands_inspected, stands_without_shape}
+use Rattle.cose_msg.proofs.verifier.Verifier.conclude_inspection.Goals as goal
+
+pub returns-in-Some : goal.returns-in-Some
+returns-in-Some g c =
+    let is : inspected_in c.args.self.now.phase ≡ Some c.in-Some.inspected = sym c.inspected.ensures ∙ c.in-Some.is in
+    record {
+      kept = rw is refl;
+      counts = refl;
+      inspects = refl;
+      shown = λ setting B reading h. refl;
+      answer = λ setting B reading h. (stands_inspected c.in-Some.inspected h is).0;
+      counted = λ setting B reading h. (stands_inspected c.in-Some.inspected h is).2;
+    }
+
+pub returns-in-None : goal.returns-in-None
+returns-in-None g c =
+    let none : inspected_in c.args.self.now.phase ≡ None = sym c.inspected.ensures ∙ c.in-None.is in
+    let same = c.truncate.ensures in
+    record {
+      kept = rw (same.phase, same.stopped) refl;
+      counts = same.taken;
+      inspects = same.inspects;
+      shown = λ setting B reading h. same.shown (open_shows_no_input c.args.self.now.phase (held_input c.args.self.now) (stands_without_shape h none));
+      answer = λ setting B reading h. rw (c.waits.ensures.truncated (to_inspect setting) B _ reading h (stands_without_shape h none), same.same) refl;
+      counted = λ setting B reading h. tt;
+    }

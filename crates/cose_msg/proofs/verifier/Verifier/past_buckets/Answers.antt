@@ -1,0 +1,34 @@
+use Rattle.std.proofs.Common.{◌≡◌, ℕ, ◌+◌, [], length, Ok, Err, refl, sym, ap, subst, ◌∙◌}
+use Rattle.std.specs.Prelude.{option_map}
+use Rattle.cose_msg.specs.Chosen.{chosen_value}
+use Rattle.cose_msg.specs.Choosing.{choice_of}
+use Rattle.cose_msg.specs.Phases.{headers_of, headers_told}
+use Rattle.cose_msg.specs.Task.{Task}
+use Rattle.cose_msg.specs.Verifier.{Known, task_of}
+use Rattle.cose_msg.proofs.ChoiceReadings.{choice_finds, choice_is_found, choice_is_refused, choice_refuses, chooses_if_verified}
+use Rattle.cose_msg.proofs.Standing.{moved}
+use Rattle.cose_msg.proofs.verifier.Verifier.past_buckets.Goals as goal
+
+pub returns-in-Ok : goal.returns-in-Ok
+returns-in-Ok g c = record {
+  stands = λ task pairs others e good found_good.
+      let headers = headers_of c.args.kind c.args.self.now.protected.items pairs others in
+      let place = c.args.at + length c.args.self.now.unprotected.items in
+      let is = choice_is_found pairs c.in-Ok.choice (choice_of (task_of c.args.self.now) (headers_of c.args.kind c.args.self.now.protected.items pairs others) (c.args.at + length c.args.self.now.unprotected.items)) (rw c.in-Ok.is at (c.choose.ensures pairs others good found_good)) in
+      let chooses : choice_of task (headers_of c.args.kind c.args.self.now.protected.items pairs others) (c.args.at + length c.args.self.now.unprotected.items) ≡ Ok (option_map chosen_value c.in-Ok.choice.chosen) = subst (λ (t : Task). choice_of t (headers_of c.args.kind c.args.self.now.protected.items pairs others) (c.args.at + length c.args.self.now.unprotected.items) ≡ Ok (option_map chosen_value c.in-Ok.choice.chosen)) e.0 is.is in
+      let known : Known = record { headers = headers_of c.args.kind c.args.self.now.protected.items pairs others; chosen = option_map chosen_value c.in-Ok.choice.chosen; payload = []; auth = [] } in
+      moved c.begin_payload_head.new.self _ _ refl (ap (λ (n : ℕ). c.args.at + n) c.len.ensures.value)
+      (λ z. choice_finds g.row.H g.row.D task headers place (option_map chosen_value c.in-Ok.choice.chosen) chooses z ∙ rw c.len.ensures.value refl)
+      (c.begin_payload_head.ensures.stands task known e refl (refl, refl, chooses_if_verified task headers place (option_map chosen_value c.in-Ok.choice.chosen) chooses) refl is.bare_is c.begin_hashing-self.ensures);
+}
+
+pub returns-in-Err : goal.returns-in-Err
+returns-in-Err g c = record {
+  stands = λ task pairs others e good found_good.
+      let headers = headers_of c.args.kind c.args.self.now.protected.items pairs others in
+      let place = c.args.at + length c.args.self.now.unprotected.items in
+      let is = choice_is_refused pairs c.in-Err.refusal (choice_of (task_of c.args.self.now) (headers_of c.args.kind c.args.self.now.protected.items pairs others) (c.args.at + length c.args.self.now.unprotected.items)) (rw c.in-Err.is at (c.choose.ensures pairs others good found_good)) in
+      let refuses : choice_of task (headers_of c.args.kind c.args.self.now.protected.items pairs others) (c.args.at + length c.args.self.now.unprotected.items) ≡ Err c.in-Err.refusal = subst (λ (t : Task). choice_of t (headers_of c.args.kind c.args.self.now.protected.items pairs others) (c.args.at + length c.args.self.now.unprotected.items) ≡ Err c.in-Err.refusal) e.0 is in
+      moved c.refuse.new.self _ _ refl refl (choice_refuses g.row.H g.row.D task headers place c.in-Err.refusal refuses)
+      (c.refuse.ensures task [] (c.args.at + length c.args.self.now.unprotected.items) (headers_told (headers_of c.args.kind c.args.self.now.protected.items pairs others) []) e refl);
+}

@@ -1,0 +1,82 @@
+-- What a verifier tells of a message besides what comes of it.
+use Rattle.std.specs.Prelude.{◌≡◌, ℕ, List, Option, Some, None, Result, Ok, Err, option_map}
+use Rattle.cose_map.specs.Bucket.{bucket_of}
+use Rattle.cose_map.specs.Key.Value.{KeyValue}
+use Rattle.cose_map.specs.Map.Pairs.{Pair}
+use Rattle.cose_map.specs.Map.Read.{Read}
+use Rattle.cose_msg.specs.declared.phase.Phase.{Phase}
+use Rattle.cose_msg.specs.declared.phase.Phase.TheVariants as phases
+use Rattle.cose_msg.specs.declared.verifier.Place.{Place}
+use Rattle.cose_msg.specs.declared.verifier.Verifier.{Verifier}
+use Rattle.cose_msg.specs.Answer.{Answer, Chosen, Whole, decided, complete, shaped}
+use Rattle.cose_msg.specs.Chosen.{chosen_value}
+use Rattle.cose_msg.specs.Hashing.{result_of}
+use Rattle.cose_msg.specs.Message.{Setting, digest_signed, message}
+use Rattle.cose_msg.specs.Phases.{placed_at}
+use Rattle.cose_msg.specs.Reading.{Reading}
+use Rattle.cose_msg.specs.Task.{Task, rules_of}
+
+-- What a signature is verified with (RFC 9052 section 4.4): the key, the digest of the structure that was signed, and the signature.
+pub record SignInput : Type 0 where
+  pub key : KeyValue
+  pub digest : List ℕ
+  pub signature : List ℕ
+
+-- The pairs of each header bucket, once it was found good; and of a message with a signature, once all its bytes are there, what the
+-- signature is verified with.
+pub record Shown : Type 0 where
+  pub protected : Option (List Pair)
+  pub unprotected : Option (List Pair)
+  pub sign_input : Option SignInput
+
+-- ---- of a message
+
+abbrev pub signed_with : List ℕ → Whole → Chosen → SignInput
+signed_with aad whole found = record { key = found.key; digest = digest_signed aad found whole; signature = whole.auth }
+
+-- (Where a tag is compared, what is complete and not yet decided is a message with a signature.)
+abbrev pub sign_input_in : List ℕ → Answer → Option SignInput
+sign_input_in aad (complete whole) = option_map (signed_with aad whole) whole.chosen
+sign_input_in aad (decided verdict) = None
+sign_input_in aad (shaped kind payload auth taken) = None
+
+abbrev pub shown_in : Setting → Reading → Shown
+shown_in setting reading = record {
+  protected = reading.told.protected;
+  unprotected = reading.told.unprotected;
+  sign_input = sign_input_in setting.aad reading.answer;
+}
+
+-- ---- of a verifier
+
+abbrev pub value_of : {A : Type 0} → Read A → Option A
+value_of (Ok value) = Some value
+value_of (Err refusal) = None
+
+abbrev pub pairs_at : ℕ → Option Place → List ℕ → Option (List Pair)
+pairs_at nesting None content = None
+pairs_at nesting (Some place) content = value_of (bucket_of nesting (placed_at place.at content))
+
+abbrev pub protected_of : {H D : ℕ} → Verifier H D → Option (List Pair)
+protected_of {H} {D} v = pairs_at D v.protected_at v.protected.items
+
+abbrev pub unprotected_of : {H D : ℕ} → Verifier H D → Option (List Pair)
+unprotected_of {H} {D} v = pairs_at D v.unprotected_at v.unprotected.items
+
+abbrev pub held_input : {H D : ℕ} → Verifier H D → Option SignInput
+held_input v = option_map (λ found. record { key = found.key; digest = result_of v.hashing; signature = v.auth.items }) (option_map chosen_value v.chosen)
+
+abbrev pub input_in : Phase → Option SignInput → Option SignInput
+input_in (phases.Signed p) held = held
+input_in (phases.Decided verdict) held = held
+input_in _ held = None
+
+abbrev pub sign_input_of : {H D : ℕ} → Verifier H D → Option SignInput
+sign_input_of v = input_in v.phase (held_input v)
+
+abbrev pub shown_of : {H D : ℕ} → Verifier H D → Shown
+shown_of v = record { protected = protected_of v; unprotected = unprotected_of v; sign_input = sign_input_of v }
+
+-- The verifier tells what these bytes of a message tell.
+abbrev pub Tells : {H D : ℕ} → Task → List ℕ → Verifier H D → Type 0
+Tells {H} {D} task s v = shown_of v ≡ shown_in task.setting (message (rules_of H D task) s)

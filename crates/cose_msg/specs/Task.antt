@@ -1,0 +1,31 @@
+-- What a verifier was made for, and the rules that it reads a message by.
+use Rattle.std.specs.Prelude.{ℕ, Bool, true, false, Option, None, Result, Ok}
+use Rattle.cose_head.specs.declared.reason.Reason.{Reason}
+use Rattle.cose_msg.specs.Answer.{Answer, Chosen, Headers, Whole}
+use Rattle.cose_msg.specs.Message.{Setting, rules_with, key_choice_of, compared, shape_of}
+use Rattle.cose_msg.specs.Rules.{Rules}
+
+-- What a message is verified under, and whether it is only inspected.
+pub record Task : Type 0 where
+  pub setting : Setting
+  pub inspects : Bool
+
+abbrev pub to_verify : Setting → Task
+to_verify setting = record { setting = setting; inspects = false }
+
+abbrev pub to_inspect : Setting → Task
+to_inspect setting = record { setting = setting; inspects = true }
+
+-- No key is chosen where a message is only inspected, and nothing is compared.
+abbrev pub choice_for : Bool → Setting → Headers → Result (Option Chosen) Reason
+choice_for true setting = λ headers. Ok None
+choice_for false setting = key_choice_of setting.keys
+
+abbrev pub finish_for : Bool → Setting → Whole → Answer
+finish_for true setting = shape_of
+finish_for false setting = λ whole. compared setting.aad whole.chosen whole
+
+-- A verifier compares tags, and leaves signatures until it is handed whoever verifies them.
+abbrev pub rules_of : ℕ → ℕ → Task → Rules
+rules_of room nesting task =
+    rules_with room nesting task.setting (choice_for task.inspects task.setting) (finish_for task.inspects task.setting)
