@@ -28,6 +28,10 @@ minus_one : seen (0x38 ∷ 0 ∷ []) ≡ integer (negsuc 0)
 unfolding seen
 minus_one = refl
 
+minus_ten : seen (0x29 ∷ []) ≡ integer (negsuc 9)
+unfolding seen
+minus_ten = refl
+
 bytes : seen (0x42 ∷ 1 ∷ 2 ∷ []) ≡ byte_content (1 ∷ 2 ∷ [])
 unfolding seen
 bytes = refl
@@ -47,6 +51,10 @@ map = refl
 date : seen (0xc1 ∷ 0 ∷ []) ≡ a_tag 1
 unfolding seen
 date = refl
+
+tag_42 : seen (0xd8 ∷ 0x2a ∷ 0 ∷ []) ≡ a_tag 42
+unfolding seen
+tag_42 = refl
 
 yes_value : seen (0xf5 ∷ []) ≡ truth true
 unfolding seen

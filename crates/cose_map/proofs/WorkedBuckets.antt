@@ -72,6 +72,11 @@ words_twice : bucket 0 (0xa3 ∷ 0x61 ∷ 0x62 ∷ 0 ∷ 0x61 ∷ 0x61 ∷ 0 ∷
 unfolding bucket
 words_twice = refl
 
+-- "1" with a head of one byte, and of two.
+same_words_twice : bucket 0 (0xa2 ∷ 0x61 ∷ 0x31 ∷ 0 ∷ 0x78 ∷ 1 ∷ 0x31 ∷ 0 ∷ []) ≡ refused DuplicateLabel 4
+unfolding bucket
+same_words_twice = refl
+
 -- A label goes before its value, and a pair before the next one.
 label_before_value : bucket 0 (0xa2 ∷ 4 ∷ 0x41 ∷ 0 ∷ 4 ∷ 0 ∷ []) ≡ refused DuplicateLabel 4
 unfolding bucket
@@ -175,6 +180,15 @@ crit_unprotected = refl
 both_are_there : both (0xa2 ∷ 1 ∷ 5 ∷ 5 ∷ 0x41 ∷ 0 ∷ []) 9 (0xa1 ∷ 6 ∷ 0x41 ∷ 0 ∷ []) [] 13 ≡ wrong BothIvs 13
 unfolding both
 both_are_there = refl
+
+-- Labels of both buckets, and those that crit lists, are compared by value too: 1 with a head of two bytes.
+wider_in_the_unprotected : both (0xa1 ∷ 1 ∷ 5 ∷ []) 6 (0xa1 ∷ 0x18 ∷ 1 ∷ 5 ∷ []) [] 10 ≡ wrong BothBuckets 7
+unfolding both
+wider_in_the_unprotected = refl
+
+wider_in_crit : both (0xa2 ∷ 1 ∷ 5 ∷ 2 ∷ 0x81 ∷ 0x18 ∷ 1 ∷ []) 10 (0xa0 ∷ []) [] 11 ≡ None
+unfolding both
+wider_in_crit = refl
 
 -- Both are in one bucket, or the other way round.
 both_in_the_protected : both (0xa2 ∷ 5 ∷ 0x41 ∷ 0 ∷ 6 ∷ 0x41 ∷ 0 ∷ []) 10 (0xa0 ∷ []) [] 11 ≡ wrong BothIvs 11

@@ -130,6 +130,22 @@ own_algorithm_of_other_kind : answer None None None (secret None (Some (number (
 unfolding answer
 own_algorithm_of_other_kind = refl
 
+-- A key's own algorithm is one of the kind, also where it is for the key's own type and curve.
+abbrev for_es256 : KeyValue
+for_es256 = record (point 1) { alg = es256 }
+
+own_signature_for_mac : answer None None None (for_es256 ∷ []) ≡ Err NoAlg
+unfolding answer
+own_signature_for_mac = refl
+
+own_mac_for_signature : signed None (for_five ∷ []) ≡ Err NoAlg
+unfolding signed
+own_mac_for_signature = refl
+
+own_signature : signed None (for_es256 ∷ []) ≡ Ok (for_es256, negsuc 6)
+unfolding signed
+own_signature = refl
+
 -- A key for an algorithm that a text names.
 abbrev for_words : KeyValue
 for_words = secret None (Some (words (0x35 ∷ []))) None (0x61 ∷ [])
@@ -255,6 +271,10 @@ no_operations = refl
 first_and_last : answer five None None (plain ∷ secret None (Some (number (pos 4))) None (0x61 ∷ []) ∷ for_five ∷ []) ≡ Err AmbiguousKey
 unfolding answer
 first_and_last = refl
+
+three_keys : answer five None None (plain ∷ for_five ∷ plain ∷ []) ≡ Err AmbiguousKey
+unfolding answer
+three_keys = refl
 
 own_algorithms : answer None None None (for_five ∷ secret None (Some (number (pos 7))) None (0x61 ∷ []) ∷ []) ≡ Err AmbiguousKey
 unfolding answer

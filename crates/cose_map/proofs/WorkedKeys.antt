@@ -183,6 +183,28 @@ number_for_d : key (0xa5 ∷ 1 ∷ 2 ∷ 0x20 ∷ 1 ∷ 0x21 ∷ 0x58 ∷ 32 ∷
 unfolding key
 number_for_d = refl
 
+-- The members in their order, wherever they stand in the map: x before y, and y before d, each missing one too.
+x_before_y : key (0xa4 ∷ 1 ∷ 2 ∷ 0x20 ∷ 1 ∷ 0x22 ∷ 0 ∷ 0x21 ∷ 0x41 ∷ 7 ∷ []) ≡ refused BadValue 8
+unfolding key
+x_before_y = refl
+
+missing_x_before_y : key (0xa3 ∷ 1 ∷ 2 ∷ 0x20 ∷ 1 ∷ 0x22 ∷ 0 ∷ []) ≡ refused BadValue 0
+unfolding key
+missing_x_before_y = refl
+
+y_before_d : key (0xa5 ∷ 1 ∷ 2 ∷ 0x20 ∷ 1 ∷ 0x23 ∷ 0 ∷ 0x21 ∷ 0x58 ∷ 32 ∷ point ++ 0x22 ∷ 0 ∷ []) ≡ refused BadValue 43
+unfolding key
+y_before_d = refl
+
+missing_y_before_d : key (0xa4 ∷ 1 ∷ 2 ∷ 0x20 ∷ 1 ∷ 0x23 ∷ 0 ∷ 0x21 ∷ 0x58 ∷ 32 ∷ point) ≡ refused BadValue 0
+unfolding key
+missing_y_before_d = refl
+
+-- The members of every type go before those of one.
+kid_before_type : key (0xa2 ∷ 1 ∷ 1 ∷ 2 ∷ 0 ∷ []) ≡ refused BadValue 4
+unfolding key
+kid_before_type = refl
+
 short_x : key (0xa3 ∷ 1 ∷ 2 ∷ 0x20 ∷ 1 ∷ 0x21 ∷ 0x41 ∷ 7 ∷ []) ≡ refused BadValue 6
 unfolding key
 short_x = refl

@@ -1,6 +1,7 @@
 -- The choice of the key of a message, on examples, by computing (RFC 9052 section 7.1).
 use Rattle.std.specs.Prelude.{ℕ, pos, List, [], ◌∷◌, Option, Some, None, refl}
 use Rattle.cose_head.specs.declared.reason.Reason.TheVariants.{Truncated, NoAlg, UnknownAlg, AlgUnprotected, NoKey, AmbiguousKey}
+use Rattle.cose_map.specs.Label.{number}
 use Rattle.cose_msg.specs.declared.context.Wanted.TheVariants as wants
 use Rattle.cose_msg.specs.Answer.{refused}
 use Rattle.cose_msg.proofs.WorkedMessages.{hex, Gives, reading, verdict, verdict_in, under, secret, plain, for_five, point}
@@ -77,6 +78,14 @@ same_kid : Gives (verdict (secret one None None ∷ secret two None None ∷ [])
     (hex "d18443a10105a0", refused AmbiguousKey 7) ∷ [])
 unfolding reading
 same_kid = refl
+
+-- Algorithms and identifiers are compared by value: here their heads have two bytes.
+wider_heads : Gives (verdict (secret one (Some (number (pos 5))) None ∷ [])) (
+    (hex "d18444a1011805a0", refused Truncated 8) ∷
+    (hex "d18441a0a1011805", refused Truncated 8) ∷
+    (hex "d18443a10105a104580131", refused Truncated 11) ∷ [])
+unfolding reading
+wider_heads = refl
 
 -- An empty identifier is one.
 empty_kid : Gives (verdict (secret one None None ∷ secret (Some []) None None ∷ [])) (
