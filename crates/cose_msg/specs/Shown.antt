@@ -1,5 +1,5 @@
 -- What a verifier tells of a message besides what comes of it.
-use Rattle.std.specs.Prelude.{◌≡◌, ℕ, ◌+◌, List, length, Option, Some, None, Result, Ok, Err, option_map, if◌then◌else◌}
+use Rattle.std.specs.Prelude.{◌≡◌, ℕ, ◌+◌, List, length, Option, Some, None, Ok, Err, option_map, if◌then◌else◌}
 use Rattle.std.specs.Borrow.{Bor}
 use Rattle.cose_head.specs.Measured.{left_of}
 use Rattle.cose_head.specs.Open.{open_in}

@@ -26,6 +26,9 @@
 //! A COSE_Sign1 is authentic where the [`EcVerifier`] that is handed in says so, asked with the key, the digest of the
 //! structure that is signed and the signature; [`Never`] refuses all. After a verdict, or a stop for a failure of the intake
 //! or the sink, the same is answered again until [`Verifier::reset`].
+//!
+//! [`inspect`] reads a message with a verifier that [`Verifier::inspecting`] made, and gives its shape: no key is chosen, and nothing
+//! is authenticated. What was read of the header buckets, and what a signature is verified with, a verifier tells after either call.
 #![tactic(auto)]
 
 mod bare_head;
@@ -45,7 +48,7 @@ mod verifier;
 pub use context::{Context, Wanted};
 pub use cose_head::{Kind, Reason, Refusal};
 pub use cose_mac::Alg;
-pub use cose_map::{Key, KeySet, Label};
+pub use cose_map::{Bucket, Key, KeySet, Label};
 pub use elliptic::{EcVerifier, Never};
 pub use intake::{Intake, IntakeFault, ReadIntake, SliceIntake};
 pub use run::{inspect, verify};

@@ -66,7 +66,7 @@ impl<'k, const H: usize, const D: usize> Verifier<'k, H, D> {
     ghost use Rattle.cose_msg.specs.Kept.{HasTaken, bytes_taken, is_inspecting};
     ghost use Rattle.cose_msg.specs.Phase.{grown, in_payload, is_settled, takes_bytes, want_of};
     ghost use Rattle.cose_msg.specs.Reading.{Reading, stop, Told};
-    ghost use Rattle.cose_msg.specs.Shown.{Tells, Walks};
+    ghost use Rattle.cose_msg.specs.Shown.{Tells, Walks, held};
     ghost use Rattle.cose_msg.specs.Task.{Task, to_inspect, to_verify};
     ghost use Rattle.cose_msg.specs.Verifier.{Shows, SoFar, StandsFor, setting_of, task_of};
 
@@ -78,6 +78,7 @@ impl<'k, const H: usize, const D: usize> Verifier<'k, H, D> {
         ensures so_far { SoFar (record { setting = setting_of context.entry; inspects = inspecting }) [] [] result }
         ensures none_taken { HasTaken (record { setting = setting_of context.entry; inspects = inspecting }) [] [] result }
         ensures tells { Tells (record { setting = setting_of context.entry; inspects = inspecting }) [] result }
+        ensures held { held result ≡ 256 }
         ensures walks { Walks [] result }
         ensures inspects { is_inspecting result ≡ inspecting }
     {
@@ -108,6 +109,7 @@ impl<'k, const H: usize, const D: usize> Verifier<'k, H, D> {
         ensures so_far { SoFar (to_verify (setting_of context.entry)) [] [] result }
         ensures none_taken { HasTaken (to_verify (setting_of context.entry)) [] [] result }
         ensures tells { Tells (to_verify (setting_of context.entry)) [] result }
+        ensures held { held result ≡ 256 }
         ensures walks { Walks [] result }
         ensures inspects { is_inspecting result ≡ false }
     {
@@ -123,6 +125,7 @@ impl<'k, const H: usize, const D: usize> Verifier<'k, H, D> {
         ensures so_far { SoFar (to_inspect (setting_of context.entry)) [] [] result }
         ensures none_taken { HasTaken (to_inspect (setting_of context.entry)) [] [] result }
         ensures tells { Tells (to_inspect (setting_of context.entry)) [] result }
+        ensures held { held result ≡ 256 }
         ensures walks { Walks [] result }
         ensures inspects { is_inspecting result ≡ true }
     {
@@ -149,6 +152,7 @@ impl<'k, const H: usize, const D: usize> Verifier<'k, H, D> {
         ensures so_far { SoFar (task_of self.old) [] [] self.new }
         ensures none_taken { HasTaken (task_of self.old) [] [] self.new }
         ensures tells { Tells (task_of self.old) [] self.new }
+        ensures held { held self.new ≡ 256 }
         ensures walks { Walks [] self.new }
         ensures inspects { is_inspecting self.new ≡ is_inspecting self.old }
     {

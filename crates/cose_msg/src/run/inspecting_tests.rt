@@ -9,22 +9,22 @@ use crate::{
 
 /// A COSE_Mac0 of a payload of two bytes, whose tag of 32 bytes is zeros.
 const MAC0: &[u8] = &[
-    0xd1, 0x84, 0x43, 0xa1, 0x01, 0x05, 0xa0, 0x42, 0x68, 0x69, 0x58, 0x20, 0, 0, 0, 0, 0, 0, 0, 0, 0,
-    0, 0, 0, 0, 0, 0, 0, 0, 0, 0, 0, 0, 0, 0, 0, 0, 0, 0, 0, 0, 0, 0, 0,
+    0xd1, 0x84, 0x43, 0xa1, 0x01, 0x05, 0xa0, 0x42, 0x68, 0x69, 0x58, 0x20, 0, 0, 0, 0, 0, 0, 0, 0,
+    0, 0, 0, 0, 0, 0, 0, 0, 0, 0, 0, 0, 0, 0, 0, 0, 0, 0, 0, 0, 0, 0, 0, 0,
 ];
 
 /// A COSE_Sign1 of no payload, whose signature of 64 bytes is zeros.
 const SIGN1: &[u8] = &[
-    0xd2, 0x84, 0x43, 0xa1, 0x01, 0x26, 0xa0, 0x40, 0x58, 0x40, 0, 0, 0, 0, 0, 0, 0, 0, 0, 0, 0, 0, 0,
-    0, 0, 0, 0, 0, 0, 0, 0, 0, 0, 0, 0, 0, 0, 0, 0, 0, 0, 0, 0, 0, 0, 0, 0, 0, 0, 0, 0, 0, 0, 0, 0, 0,
-    0, 0, 0, 0, 0, 0, 0, 0, 0, 0, 0, 0, 0, 0, 0, 0, 0, 0,
+    0xd2, 0x84, 0x43, 0xa1, 0x01, 0x26, 0xa0, 0x40, 0x58, 0x40, 0, 0, 0, 0, 0, 0, 0, 0, 0, 0, 0, 0,
+    0, 0, 0, 0, 0, 0, 0, 0, 0, 0, 0, 0, 0, 0, 0, 0, 0, 0, 0, 0, 0, 0, 0, 0, 0, 0, 0, 0, 0, 0, 0, 0,
+    0, 0, 0, 0, 0, 0, 0, 0, 0, 0, 0, 0, 0, 0, 0, 0, 0, 0, 0, 0,
 ];
 
 /// A key on P-256 (RFC 9053 section 7.1.1), whose coordinates are zeros.
 const CURVE_KEY: &[u8] = &[
-    0xa4, 0x01, 0x02, 0x20, 0x01, 0x21, 0x58, 0x20, 0, 0, 0, 0, 0, 0, 0, 0, 0, 0, 0, 0, 0, 0, 0, 0, 0,
-    0, 0, 0, 0, 0, 0, 0, 0, 0, 0, 0, 0, 0, 0, 0, 0x22, 0x58, 0x20, 0, 0, 0, 0, 0, 0, 0, 0, 0, 0, 0, 0,
-    0, 0, 0, 0, 0, 0, 0, 0, 0, 0, 0, 0, 0, 0, 0, 0, 0, 0, 0, 0,
+    0xa4, 0x01, 0x02, 0x20, 0x01, 0x21, 0x58, 0x20, 0, 0, 0, 0, 0, 0, 0, 0, 0, 0, 0, 0, 0, 0, 0, 0,
+    0, 0, 0, 0, 0, 0, 0, 0, 0, 0, 0, 0, 0, 0, 0, 0, 0x22, 0x58, 0x20, 0, 0, 0, 0, 0, 0, 0, 0, 0, 0,
+    0, 0, 0, 0, 0, 0, 0, 0, 0, 0, 0, 0, 0, 0, 0, 0, 0, 0, 0, 0, 0, 0,
 ];
 
 /// What is wanted under these keys.
@@ -49,7 +49,11 @@ fn inspects_a_shape(rt: HostRuntime) {
     };
     let mut verifier: Verifier<32, 4> = Verifier::inspecting(context);
     let mut intake = SliceIntake::new(MAC0, 7);
-    let shape = inspect::<64, 32, 4, SliceIntake, Nothing>(&mut verifier, &mut intake, &mut Nothing);
+    let shape = inspect::<64, 32, 4, SliceIntake, Nothing>(
+        &mut verifier,
+        &mut intake,
+        &mut Nothing,
+    );
     let wanted = Inspected::Shape {
         kind: Kind::Mac0,
         payload: 2,
@@ -61,7 +65,11 @@ fn inspects_a_shape(rt: HostRuntime) {
     assert_eq!(rt; verifier.held(), 256 + 3 + 1);
     assert_eq!(rt; verifier.open_items(), 0);
     assert_eq!(rt; verifier.sign_input().is_none(), true);
-    let again = inspect::<64, 32, 4, SliceIntake, Nothing>(&mut verifier, &mut intake, &mut Nothing);
+    let again = inspect::<64, 32, 4, SliceIntake, Nothing>(
+        &mut verifier,
+        &mut intake,
+        &mut Nothing,
+    );
     assert_eq!(rt; again, Ok(wanted));
     verifier.reset();
     assert_eq!(rt; verifier.held(), 256);
@@ -77,7 +85,11 @@ fn refuses_a_tag_that_is_too_long(rt: HostRuntime) {
         b"\xd1\x84\x43\xa1\x01\x05\xa0\x42\x68\x69\x5a\x00\x01\x00\x00\x00",
         64,
     );
-    let refused = inspect::<64, 32, 4, SliceIntake, Nothing>(&mut verifier, &mut intake, &mut Nothing);
+    let refused = inspect::<64, 32, 4, SliceIntake, Nothing>(
+        &mut verifier,
+        &mut intake,
+        &mut Nothing,
+    );
     let wanted = Inspected::Refused(Refusal {
         reason: Reason::BadAuthLength,
         place: 10,
