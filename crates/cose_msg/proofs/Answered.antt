@@ -1,7 +1,6 @@
 -- What comes of a run, by the rules that its answer goes by.
-use Rattle.std.proofs.Common.{◌≡◌, ℕ, ◌<◌, ◌≤◌, Bool, true, false, List, [], ◌++◌, length, Option, None, Some, Ok, Err, refl, sym, ap, subst, ◌∙◌, append_assoc, arith}
+use Rattle.std.proofs.Common.{◌≡◌, ℕ, Bool, true, false, List, [], ◌++◌, length, Option, None, Some, Ok, Err, refl, sym, ap, subst, ◌∙◌, append_assoc, arith}
 use Rattle.std.specs.Prelude.{Result, IfOk}
-use Rattle.std.specs.Io.KnownBytes.{Consumes, IsAtEnd}
 use Rattle.std.proofs.KnownBytes.{Consumes-nil}
 use Rattle.std.proofs.lemmas.List.{append-nil}
 use Rattle.cose_msg.specs.declared.verdict.Inspected.{Inspected}
@@ -15,7 +14,7 @@ use Rattle.cose_msg.specs.Message.{Decides, Setting, comparing, inspecting, mess
 use Rattle.cose_msg.specs.Reading.{Reading}
 use Rattle.cose_msg.specs.Rules.{Rules}
 use Rattle.cose_msg.specs.Run.{Drive, Run, SaysCount, inspection}
-use Rattle.cose_msg.specs.Shown.{Tells, shown_in, shown_of}
+use Rattle.cose_msg.specs.Shown.{shown_in, shown_of}
 use Rattle.cose_msg.specs.Task.{Task, rules_of, to_inspect, to_verify}
 use Rattle.cose_msg.specs.Verifier.{Counts}
 use Rattle.cose_msg.proofs.Decisions.{stands_inspected, stands_with_verdict}

@@ -21,6 +21,12 @@ abbrev pub awaits_decision : Phase → Bool
 awaits_decision (phases.Signed p) = true
 awaits_decision _ = false
 
+-- Whether all bytes of a message with a signature are there.
+abbrev pub has_signature : Phase → Bool
+has_signature (phases.Signed p) = true
+has_signature (phases.Decided verdict) = true
+has_signature _ = false
+
 -- How many bytes are to come for certain: those of a string that are left, one of a head or an item.
 abbrev pub want_of : Phase → ℕ
 want_of (phases.Protected p) = p.left

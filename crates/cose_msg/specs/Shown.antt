@@ -1,17 +1,23 @@
 -- What a verifier tells of a message besides what comes of it.
-use Rattle.std.specs.Prelude.{◌≡◌, ℕ, List, Option, Some, None, Result, Ok, Err, option_map}
+use Rattle.std.specs.Prelude.{◌≡◌, ℕ, ◌+◌, List, length, Option, Some, None, Ok, Err, option_map, if◌then◌else◌}
+use Rattle.std.specs.Borrow.{Bor}
+use Rattle.cose_head.specs.Measured.{left_of}
+use Rattle.cose_head.specs.Open.{open_in}
+use Rattle.cose_head.specs.Walker.{HasPut}
 use Rattle.cose_map.specs.Bucket.{bucket_of}
+use Rattle.cose_map.specs.declared.key.Key.{Key}
 use Rattle.cose_map.specs.Key.Value.{KeyValue}
+use Rattle.cose_map.specs.Key.View.{contents, key_value}
 use Rattle.cose_map.specs.Map.Pairs.{Pair}
 use Rattle.cose_map.specs.Map.Read.{Read}
 use Rattle.cose_msg.specs.declared.phase.Phase.{Phase}
-use Rattle.cose_msg.specs.declared.phase.Phase.TheVariants as phases
 use Rattle.cose_msg.specs.declared.verifier.Place.{Place}
 use Rattle.cose_msg.specs.declared.verifier.Verifier.{Verifier}
 use Rattle.cose_msg.specs.Answer.{Answer, Chosen, Whole, decided, complete, shaped}
 use Rattle.cose_msg.specs.Chosen.{chosen_value}
 use Rattle.cose_msg.specs.Hashing.{result_of}
 use Rattle.cose_msg.specs.Message.{Setting, digest_signed, message}
+use Rattle.cose_msg.specs.Phase.{has_signature}
 use Rattle.cose_msg.specs.Phases.{placed_at}
 use Rattle.cose_msg.specs.Reading.{Reading}
 use Rattle.cose_msg.specs.Task.{Task, rules_of}
@@ -67,9 +73,7 @@ abbrev pub held_input : {H D : ℕ} → Verifier H D → Option SignInput
 held_input v = option_map (λ found. record { key = found.key; digest = result_of v.hashing; signature = v.auth.items }) (option_map chosen_value v.chosen)
 
 abbrev pub input_in : Phase → Option SignInput → Option SignInput
-input_in (phases.Signed p) held = held
-input_in (phases.Decided verdict) held = held
-input_in _ held = None
+input_in phase held = if has_signature phase then held else None
 
 abbrev pub sign_input_of : {H D : ℕ} → Verifier H D → Option SignInput
 sign_input_of v = input_in v.phase (held_input v)
@@ -80,3 +84,21 @@ shown_of v = record { protected = protected_of v; unprotected = unprotected_of v
 -- The verifier tells what these bytes of a message tell.
 abbrev pub Tells : {H D : ℕ} → Task → List ℕ → Verifier H D → Type 0
 Tells {H} {D} task s v = shown_of v ≡ shown_in task.setting (message (rules_of H D task) s)
+
+-- What the code hands out, without where it lies in memory.
+abbrev pub input_value : Key × Bor (List ℕ) × Bor (List ℕ) → SignInput
+input_value input = record { key = key_value input.0; digest = contents input.1; signature = contents input.2 }
+
+-- ---- what is held
+
+-- The bytes of the message in the verifier's stores. The running hash counts as 256.
+abbrev pub held : {H D : ℕ} → Verifier H D → ℕ
+held v = length v.protected.items + length v.unprotected.items + length v.head.items + length v.auth.items + 256
+
+-- The walker of the unprotected bucket was put these bytes, and goes on.
+abbrev pub Walks : {H D : ℕ} → List ℕ → Verifier H D → Type 0
+Walks {H} {D} bytes v = HasPut H bytes v.walker
+
+-- How many arrays, maps and tags are open after these bytes of the bucket.
+abbrev pub open_items_after : ℕ → ℕ → List ℕ → ℕ
+open_items_after room nesting bytes = (open_in nesting (left_of bytes room 0)).items

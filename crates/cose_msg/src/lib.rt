@@ -28,6 +28,9 @@
 //! structure that is signed and the signature; [`Never`] refuses all. After a verdict, or a stop for a failure of the intake
 //! or the sink, the same is answered again until [`Verifier::reset`].
 //!
+//! [`inspect`] reads a message with a verifier that [`Verifier::inspecting`] made, and gives its shape: no key is chosen, and nothing
+//! is authenticated. What was read of the header buckets, and what a signature is verified with, a verifier tells after either call.
+//!
 //! [`make_mac0`] makes a COSE_Mac0 of a payload whose length is known, in pieces too:
 //!
 //! ```rust
@@ -61,7 +64,7 @@ mod verifier;
 pub use context::{Context, Wanted};
 pub use cose_head::{Kind, Reason, Refusal};
 pub use cose_mac::Alg;
-pub use cose_map::{Key, KeySet, Label};
+pub use cose_map::{Bucket, Key, KeySet, Label};
 pub use elliptic::{EcVerifier, Never};
 pub use intake::{Intake, IntakeFault, ReadIntake, SliceIntake};
 pub use make::{MakeFault, make_mac0};

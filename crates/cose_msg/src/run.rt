@@ -1,6 +1,6 @@
 //! The verifier over an intake and a sink.
 
-ghost use Rattle.std.specs.Prelude.{◌≡◌, ◌≢◌, ◌↔◌, ◌<◌, ◌≤◌, ◌||◌, ℕ, true, false, List, ◌++◌, length, Some, None, Result, Err, IfOk, is_err};
+ghost use Rattle.std.specs.Prelude.{◌≡◌, ◌≢◌, ◌↔◌, ◌+◌, ◌*◌, ◌≤◌, ◌||◌, ℕ, true, false, List, ◌++◌, length, Some, None, Result, Err, IfOk, is_err};
 ghost use Rattle.cose_msg.specs.declared.verdict.Inspected.{Inspected};
 ghost use Rattle.cose_msg.specs.declared.verdict.Stop.{Stop};
 ghost use Rattle.cose_msg.specs.declared.verdict.Verdict.{Verdict};
@@ -8,7 +8,7 @@ ghost use Rattle.cose_msg.specs.Answer.{decided};
 ghost use Rattle.cose_msg.specs.Kept.{HasTaken, answered_again, bytes_taken, is_inspecting, is_stopped, kept_answer, kept_inspection};
 ghost use Rattle.cose_msg.specs.Message.{Setting, inspecting, message, verdict_of, verifying};
 ghost use Rattle.cose_msg.specs.Run.{Drive, Run, inspection, stop_in, stops_for_intake, stops_for_sink};
-ghost use Rattle.cose_msg.specs.Shown.{Tells};
+ghost use Rattle.cose_msg.specs.Shown.{Tells, held};
 ghost use Rattle.cose_msg.specs.Task.{Task, to_inspect, to_verify};
 
 use crate::elliptic::EcVerifier;
@@ -35,6 +35,7 @@ fn take_message<'k, const C: usize, const H: usize, const D: usize, I: Intake, S
         (S.contents sink.old) (S.contents sink.new) (stop_in result) verifier.new }
     ensures stopped { is_stopped verifier.new ≡ is_err result }
     ensures inspects { is_inspecting verifier.new ≡ is_inspecting verifier.old }
+    ensures held { held verifier.new ≤ 2 * H + 512 }
     ensures once { result ≢ Err Stop.Again }
 
     // It stops only for a failure in this call.
@@ -106,6 +107,8 @@ pub fn verify<
         (result ≡ answer) × (verifier.new ≡ verifier.old) × (intake.new ≡ intake.old) × (sink.new ≡ sink.old) }
     ensures stopped { (result ≡ Err Stop.Again) ↔ (is_stopped verifier.old ≡ true) }
     ensures inspects { is_inspecting verifier.new ≡ false }
+    // What it holds of the message is within a bound, besides the `C` bytes of the call.
+    ensures held { held verifier.new ≤ 2 * H + 512 }
 
     // It stops only for a failure in this call.
     ensures intake_failure { I.has_failed intake.new ≡ (I.has_failed intake.old || stops_for_intake result) }
@@ -156,6 +159,8 @@ pub fn inspect<'k, const C: usize, const H: usize, const D: usize, I: Intake, S:
         (result ≡ answer) × (verifier.new ≡ verifier.old) × (intake.new ≡ intake.old) × (sink.new ≡ sink.old) }
     ensures stopped { (result ≡ Err Stop.Again) ↔ (is_stopped verifier.old ≡ true) }
     ensures inspects { is_inspecting verifier.new ≡ true }
+    // What it holds of the message is within a bound, besides the `C` bytes of the call.
+    ensures held { held verifier.new ≤ 2 * H + 512 }
 
     // It stops only for a failure in this call.
     ensures intake_failure { I.has_failed intake.new ≡ (I.has_failed intake.old || stops_for_intake result) }
@@ -178,5 +183,7 @@ pub fn inspect<'k, const C: usize, const H: usize, const D: usize, I: Intake, S:
     }
 }
 
+#[cfg(test)]
+mod inspecting_tests;
 #[cfg(test)]
 mod tests;

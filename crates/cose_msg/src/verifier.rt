@@ -19,6 +19,7 @@ mod decide;
 mod front;
 mod headers;
 mod payload;
+mod shown;
 
 /// The key that fits the message, and the algorithm that it is used with.
 #[derive(Clone, Copy)]
@@ -65,7 +66,7 @@ impl<'k, const H: usize, const D: usize> Verifier<'k, H, D> {
     ghost use Rattle.cose_msg.specs.Kept.{HasTaken, bytes_taken, is_inspecting};
     ghost use Rattle.cose_msg.specs.Phase.{grown, in_payload, is_settled, takes_bytes, want_of};
     ghost use Rattle.cose_msg.specs.Reading.{Reading, stop, Told};
-    ghost use Rattle.cose_msg.specs.Shown.{Tells};
+    ghost use Rattle.cose_msg.specs.Shown.{Tells, Walks, held};
     ghost use Rattle.cose_msg.specs.Task.{Task, to_inspect, to_verify};
     ghost use Rattle.cose_msg.specs.Verifier.{Shows, SoFar, StandsFor, setting_of, task_of};
 
@@ -77,6 +78,8 @@ impl<'k, const H: usize, const D: usize> Verifier<'k, H, D> {
         ensures so_far { SoFar (record { setting = setting_of context.entry; inspects = inspecting }) [] [] result }
         ensures none_taken { HasTaken (record { setting = setting_of context.entry; inspects = inspecting }) [] [] result }
         ensures tells { Tells (record { setting = setting_of context.entry; inspects = inspecting }) [] result }
+        ensures held { held result ≡ 256 }
+        ensures walks { Walks [] result }
         ensures inspects { is_inspecting result ≡ inspecting }
     {
         Verifier {
@@ -106,6 +109,8 @@ impl<'k, const H: usize, const D: usize> Verifier<'k, H, D> {
         ensures so_far { SoFar (to_verify (setting_of context.entry)) [] [] result }
         ensures none_taken { HasTaken (to_verify (setting_of context.entry)) [] [] result }
         ensures tells { Tells (to_verify (setting_of context.entry)) [] result }
+        ensures held { held result ≡ 256 }
+        ensures walks { Walks [] result }
         ensures inspects { is_inspecting result ≡ false }
     {
         Self::made(context, false)
@@ -120,6 +125,8 @@ impl<'k, const H: usize, const D: usize> Verifier<'k, H, D> {
         ensures so_far { SoFar (to_inspect (setting_of context.entry)) [] [] result }
         ensures none_taken { HasTaken (to_inspect (setting_of context.entry)) [] [] result }
         ensures tells { Tells (to_inspect (setting_of context.entry)) [] result }
+        ensures held { held result ≡ 256 }
+        ensures walks { Walks [] result }
         ensures inspects { is_inspecting result ≡ true }
     {
         Self::made(context, true)
@@ -145,6 +152,8 @@ impl<'k, const H: usize, const D: usize> Verifier<'k, H, D> {
         ensures so_far { SoFar (task_of self.old) [] [] self.new }
         ensures none_taken { HasTaken (task_of self.old) [] [] self.new }
         ensures tells { Tells (task_of self.old) [] self.new }
+        ensures held { held self.new ≡ 256 }
+        ensures walks { Walks [] self.new }
         ensures inspects { is_inspecting self.new ≡ is_inspecting self.old }
     {
         self.protected.clear();
@@ -217,7 +226,7 @@ impl<'k, const H: usize, const D: usize> Verifier<'k, H, D> {
             Phase::TagHead(head) => self.tag_head(head, byte),
             Phase::ArrayHead(head) => self.array_head(head, byte),
             Phase::ProtectedHead(head) => self.protected_head(head, byte),
-            Phase::Unprotected(unprotected) => self.unprotected(unprotected, byte),
+            Phase::Unprotected(unprotected) => self.unprotected_byte(unprotected, byte),
             Phase::PayloadHead(head) => self.payload_head(head, byte),
             Phase::AuthHead(head) => self.auth_head(head, byte),
             Phase::Protected(_)
@@ -242,7 +251,7 @@ impl<'k, const H: usize, const D: usize> Verifier<'k, H, D> {
         match self.phase {
             Phase::Protected(protected) => {
                 let part = front_of(piece, protected.left);
-                self.protected(protected, part);
+                self.protected_piece(protected, part);
                 part.len()
             }
             Phase::Payload(payload) => {

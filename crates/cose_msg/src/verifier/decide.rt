@@ -1,6 +1,6 @@
 //! What a verifier counts and keeps: the number of bytes taken, whether it stopped, and the verdict.
 
-ghost use Rattle.std.specs.Prelude.{◌≡◌, ◌<◌, ◌≤◌, ◌+◌, ◌^◌, ℕ, true, false, List, [], ◌++◌, None, Some, length};
+ghost use Rattle.std.specs.Prelude.{◌≡◌, ◌<◌, ◌≤◌, ◌+◌, ◌*◌, ◌^◌, ℕ, true, false, List, [], ◌++◌, None, Some, length};
 ghost use Rattle.cose_msg.specs.Kept.{answer_kept};
 
 use crate::elliptic::EcVerifier;
@@ -36,7 +36,7 @@ impl<'k, const H: usize, const D: usize> Verifier<'k, H, D> {
     ghost use Rattle.cose_msg.specs.Phase.{grown, in_payload, is_settled, want_of};
     ghost use Rattle.cose_msg.specs.Reading.{Reading};
     ghost use Rattle.cose_msg.specs.Run.{SaysCount, inspection};
-    ghost use Rattle.cose_msg.specs.Shown.{shown_in, shown_of, sign_input_of};
+    ghost use Rattle.cose_msg.specs.Shown.{held, shown_in, shown_of, sign_input_of};
     ghost use Rattle.cose_msg.specs.Task.{Task, to_inspect, to_verify};
     ghost use Rattle.cose_msg.specs.Verifier.{Counts, StandsFor};
 
@@ -117,12 +117,15 @@ impl<'k, const H: usize, const D: usize> Verifier<'k, H, D> {
         // What it shows so far is what these bytes tell.
         ensures shows { (task : Task) (B : List ℕ) (n : ℕ) (reading : List ℕ → Reading) → StandsFor task B n self.now reading
             → shown_of self.now ≡ shown_in task.setting (reading []) }
+        // It holds no more than its stores do, the half of a head, and the hash.
+        ensures held { held self.now ≤ 2 * H + 512 }
         // A payload doesn't settle it either: a tag or signature follows.
         ensures open_payload { (task : Task) (B : List ℕ) (n : ℕ) (reading : List ℕ → Reading) (more : List ℕ) → StandsFor task B n self.now reading
             → in_payload self.now.phase ≡ true → length more ≤ want_of self.now.phase → (reading more).settled ≡ false }
     {
-        // What this says of the item that is being read is all that the proof rests on.
+        // What these say of the item that is being read and of the stores is all that the proof rests on.
         let _wanted = self.walker.want();
+        let _held = self.held();
     }
 
     /// How many bytes to ask for next: at most so many, no more than are to come for certain, and none once the message is
@@ -166,6 +169,7 @@ impl<'k, const H: usize, const D: usize> Verifier<'k, H, D> {
         ensures stopped { self.new.stopped ≡ true }
         ensures taken { self.new.taken ≡ self.old.taken }
         ensures shown { shown_of self.new ≡ shown_of self.old }
+        ensures held { held self.new ≡ held self.old }
         ensures inspects { is_inspecting self.new ≡ is_inspecting self.old }
     {
         self.stopped = true;
@@ -179,6 +183,7 @@ impl<'k, const H: usize, const D: usize> Verifier<'k, H, D> {
         ensures taken { self.new.taken ≡ self.old.taken }
         ensures inspects { is_inspecting self.new ≡ is_inspecting self.old }
         ensures shown { sign_input_of self.old ≡ None → shown_of self.new ≡ shown_of self.old }
+        ensures held { held self.new ≡ held self.old }
     {
         let refusal = Refusal {
             reason: Reason::Truncated,
@@ -228,6 +233,7 @@ impl<'k, const H: usize, const D: usize> Verifier<'k, H, D> {
         ensures counts { self.new.taken ≡ self.old.taken }
         ensures inspects { is_inspecting self.new ≡ is_inspecting self.old }
         ensures shown { shown_of self.new ≡ shown_of self.old }
+        ensures held { held self.new ≡ held self.old }
         ensures answer { (setting : Setting) (B : List ℕ) (reading : List ℕ → Reading) → StandsFor (to_verify setting) B self.old.taken self.old reading
             → then_verified setting.aad (E.decides ec.now) (reading []).answer ≡ decided result }
         ensures counted { (setting : Setting) (B : List ℕ) (reading : List ℕ → Reading) → StandsFor (to_verify setting) B self.old.taken self.old reading
@@ -264,6 +270,7 @@ impl<'k, const H: usize, const D: usize> Verifier<'k, H, D> {
         ensures inspects { is_inspecting self.new ≡ is_inspecting self.old }
         ensures shown { (setting : Setting) (B : List ℕ) (reading : List ℕ → Reading) → StandsFor (to_inspect setting) B self.old.taken self.old reading
             → shown_of self.new ≡ shown_of self.old }
+        ensures held { held self.new ≡ held self.old }
         ensures answer { (setting : Setting) (B : List ℕ) (reading : List ℕ → Reading) → StandsFor (to_inspect setting) B self.old.taken self.old reading
             → (reading []).answer ≡ inspection result }
         ensures counted { (setting : Setting) (B : List ℕ) (reading : List ℕ → Reading) → StandsFor (to_inspect setting) B self.old.taken self.old reading

@@ -91,7 +91,7 @@ impl<'k, const H: usize, const D: usize> Verifier<'k, H, D> {
     }
 
     /// Takes a piece of the protected bucket's content.
-    pub(crate) fn protected(&mut self, protected: Protected, piece: &[u8])
+    pub(crate) fn protected_piece(&mut self, protected: Protected, piece: &[u8])
         requires phase { self.old.phase ≡ Phase.Protected protected }
         requires fits { length piece.now ≤ protected.left }
         ensures stands { (task : Task) (B : List ℕ) (n : ℕ) (reading : List ℕ → Reading) → StandsFor task B n self.old reading
@@ -162,7 +162,7 @@ impl<'k, const H: usize, const D: usize> Verifier<'k, H, D> {
     }
 
     /// Takes the next byte of the unprotected bucket.
-    pub(crate) fn unprotected(&mut self, unprotected: Unprotected, byte: u8)
+    pub(crate) fn unprotected_byte(&mut self, unprotected: Unprotected, byte: u8)
         requires phase { self.old.phase ≡ Phase.Unprotected unprotected }
         ensures stands { (task : Task) (B : List ℕ) (n : ℕ) (reading : List ℕ → Reading) → StandsFor task B n self.old reading
             → StandsFor task B (n + 1) self.new (λ z. reading (byte ∷ z)) }

@@ -1,4 +1,4 @@
-use Rattle.std.proofs.Common.{◌≡◌, sym, ◌∙◌}
+use Rattle.std.proofs.Common.{sym, ◌∙◌}
 use Rattle.cose_msg.specs.Message.{inspecting}
 use Rattle.cose_msg.specs.Run.{inspection}
 use Rattle.cose_msg.specs.Task.{to_inspect}

@@ -5,7 +5,7 @@ use Rattle.cose_msg.proofs.verifier.Verifier.advance.Goals as goal
 
 pub returns-in-Protected-clause-stands : goal.returns-in-Protected-clause-stands
 returns-in-Protected-clause-stands g c = λ task B n reading h.
-    rw (c.in-Protected.is, ← c.front_of-part.ensures.front) (c.protected.ensures.stands task B n reading h)
+    rw (c.in-Protected.is, ← c.front_of-part.ensures.front) (c.protected_piece.ensures.stands task B n reading h)
 
 pub returns-in-Payload-clause-stands : goal.returns-in-Payload-clause-stands
 returns-in-Payload-clause-stands g c = λ task B n reading h.

@@ -1,6 +1,5 @@
-use Rattle.std.proofs.Common.{refl, ap, sym, ◌∙◌}
+use Rattle.std.proofs.Common.{refl, sym, ◌∙◌}
 use Rattle.cose_msg.specs.Phases.{headers_told}
-use Rattle.cose_msg.specs.Reading.{settled}
 use Rattle.cose_msg.proofs.Keys.{holds_auth, is_inspected, key_of_alg, no_key_without_alg}
 use Rattle.cose_msg.proofs.verifier.Verifier.finish.Goals as goal
 

@@ -25,3 +25,6 @@ returns-clause-none_taken g c = record { so_far = returns-clause-so_far g c; cou
 pub returns-clause-tells : goal.returns-clause-tells
 unfolding message with_head bare_head
 returns-clause-tells g c = refl
+
+pub returns-clause-held : goal.returns-clause-held
+returns-clause-held g c = rw (c.clear.ensures, c.clear-2.ensures, c.clear-3.ensures, c.clear-4.ensures) refl

@@ -1,4 +1,4 @@
-use Rattle.std.proofs.Common.{◌≡◌, ◌++◌, length, arith, length-append}
+use Rattle.std.proofs.Common.{arith, length-append}
 use Rattle.cose_msg.specs.Message.{message}
 use Rattle.cose_msg.specs.Phase.{grown}
 use Rattle.cose_msg.specs.Task.{rules_of}

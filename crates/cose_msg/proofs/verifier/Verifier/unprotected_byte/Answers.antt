@@ -4,7 +4,7 @@ use Rattle.cose_msg.specs.Task.{rules_of}
 use Rattle.cose_msg.specs.Phases.{past_unprotected, protected_told}
 use Rattle.cose_msg.proofs.Standing.{moved, shows_as, told_payload}
 use Rattle.cose_msg.proofs.Steps.{item_completed, item_refused, regrouped}
-use Rattle.cose_msg.proofs.verifier.Verifier.unprotected.Goals as goal
+use Rattle.cose_msg.proofs.verifier.Verifier.unprotected_byte.Goals as goal
 
 pub returns-in-Going : goal.returns-in-Going
 returns-in-Going g c = record {

@@ -3,7 +3,7 @@ use Rattle.cose_msg.specs.Task.{rules_of}
 use Rattle.cose_msg.specs.Phases.{nothing_told, past_protected}
 use Rattle.cose_msg.proofs.Standing.{moved, shows_as, told_payload}
 use Rattle.cose_msg.proofs.Steps.{string_whole}
-use Rattle.cose_msg.proofs.verifier.Verifier.protected.Goals as goal
+use Rattle.cose_msg.proofs.verifier.Verifier.protected_piece.Goals as goal
 
 pub returns-then-left-eq0 : goal.returns-then-left-eq0
 returns-then-left-eq0 g c = record {

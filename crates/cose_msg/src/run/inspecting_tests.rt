@@ -1,0 +1,197 @@
+//! What a verifier tells besides its answer, and messages that are only inspected.
+
+ghost use Rattle.std.specs.Prelude.{◌<◌, ◌≤◌, IfSome, length};
+
+use crate::{
+    Context, Inspected, KeySet, Kind, Label, Never, Nothing, Reason, Refusal, SliceIntake, Verdict,
+    Verifier, Wanted, inspect, verify,
+};
+
+/// A COSE_Mac0 of a payload of two bytes, whose tag of 32 bytes is zeros.
+const MAC0: &[u8] = &[
+    0xd1, 0x84, 0x43, 0xa1, 0x01, 0x05, 0xa0, 0x42, 0x68, 0x69, 0x58, 0x20, 0, 0, 0, 0, 0, 0, 0, 0,
+    0, 0, 0, 0, 0, 0, 0, 0, 0, 0, 0, 0, 0, 0, 0, 0, 0, 0, 0, 0, 0, 0, 0, 0,
+];
+
+/// A COSE_Sign1 of no payload, whose signature of 64 bytes is zeros.
+const SIGN1: &[u8] = &[
+    0xd2, 0x84, 0x43, 0xa1, 0x01, 0x26, 0xa0, 0x40, 0x58, 0x40, 0, 0, 0, 0, 0, 0, 0, 0, 0, 0, 0, 0,
+    0, 0, 0, 0, 0, 0, 0, 0, 0, 0, 0, 0, 0, 0, 0, 0, 0, 0, 0, 0, 0, 0, 0, 0, 0, 0, 0, 0, 0, 0, 0, 0,
+    0, 0, 0, 0, 0, 0, 0, 0, 0, 0, 0, 0, 0, 0, 0, 0, 0, 0, 0, 0,
+];
+
+/// A key on P-256 (RFC 9053 section 7.1.1), whose coordinates are zeros.
+const CURVE_KEY: &[u8] = &[
+    0xa4, 0x01, 0x02, 0x20, 0x01, 0x21, 0x58, 0x20, 0, 0, 0, 0, 0, 0, 0, 0, 0, 0, 0, 0, 0, 0, 0, 0,
+    0, 0, 0, 0, 0, 0, 0, 0, 0, 0, 0, 0, 0, 0, 0, 0, 0x22, 0x58, 0x20, 0, 0, 0, 0, 0, 0, 0, 0, 0, 0,
+    0, 0, 0, 0, 0, 0, 0, 0, 0, 0, 0, 0, 0, 0, 0, 0, 0, 0, 0, 0, 0, 0,
+];
+
+/// What is wanted under these keys.
+fn context(keys: &'static [u8]) -> Option<Context<'static>>
+    ensures { IfSome result (λ context. length context.aad.now ≤ 65535) }
+{
+    let keys = KeySet::read(keys).ok()?;
+    Some(Context {
+        keys,
+        aad: b"",
+        wanted: Wanted::Tagged,
+        cwt: false,
+        understood: &[],
+        payload_limit: 4096,
+    })
+}
+
+#[test]
+fn inspects_a_shape(rt: HostRuntime) {
+    let Some(context) = context(b"\xa0") else {
+        return;
+    };
+    let mut verifier: Verifier<32, 4> = Verifier::inspecting(context);
+    let mut intake = SliceIntake::new(MAC0, 7);
+    let shape = inspect::<64, 32, 4, SliceIntake, Nothing>(
+        &mut verifier,
+        &mut intake,
+        &mut Nothing,
+    );
+    let wanted = Inspected::Shape {
+        kind: Kind::Mac0,
+        payload: 2,
+        auth: 32,
+        taken: 44,
+    };
+    assert_eq!(rt; shape, Ok(wanted));
+    assert_eq!(rt; verifier.is_inspecting(), true);
+    assert_eq!(rt; verifier.held(), 256 + 3 + 1);
+    assert_eq!(rt; verifier.open_items(), 0);
+    assert_eq!(rt; verifier.sign_input().is_none(), true);
+    let again = inspect::<64, 32, 4, SliceIntake, Nothing>(
+        &mut verifier,
+        &mut intake,
+        &mut Nothing,
+    );
+    assert_eq!(rt; again, Ok(wanted));
+    verifier.reset();
+    assert_eq!(rt; verifier.held(), 256);
+}
+
+#[test]
+fn refuses_a_tag_that_is_too_long(rt: HostRuntime) {
+    let Some(context) = context(b"\xa0") else {
+        return;
+    };
+    let mut verifier: Verifier<32, 4> = Verifier::inspecting(context);
+    let mut intake = SliceIntake::new(
+        b"\xd1\x84\x43\xa1\x01\x05\xa0\x42\x68\x69\x5a\x00\x01\x00\x00\x00",
+        64,
+    );
+    let refused = inspect::<64, 32, 4, SliceIntake, Nothing>(
+        &mut verifier,
+        &mut intake,
+        &mut Nothing,
+    );
+    let wanted = Inspected::Refused(Refusal {
+        reason: Reason::BadAuthLength,
+        place: 10,
+    });
+    assert_eq!(rt; refused, Ok(wanted));
+    assert_eq!(rt; verifier.taken(), 15);
+}
+
+#[test]
+fn shows_the_buckets_after_a_refusal(rt: HostRuntime) {
+    let Some(context) = context(b"\xa2\x01\x04\x20\x44Jefe") else {
+        return;
+    };
+    let mut verifier: Verifier<32, 4> = Verifier::new(context);
+    let mut intake = SliceIntake::new(MAC0, 64);
+    let verdict = verify::<64, 32, 4, SliceIntake, Nothing, Never>(
+        &mut verifier,
+        &mut intake,
+        &mut Nothing,
+        &Never,
+    );
+    let refused = Verdict::Refused(Refusal {
+        reason: Reason::BadAuth,
+        place: 10,
+    });
+    assert_eq!(rt; verdict, Ok(refused));
+    assert_eq!(rt; verifier.unprotected().is_some(), true);
+    let Some(protected) = verifier.protected() else {
+        assert!(rt; false);
+        return;
+    };
+    assert_eq!(rt; protected.alg(), Some(Label::Int(5)));
+    assert_eq!(rt; verifier.held(), 256 + 3 + 1 + 32);
+}
+
+#[test]
+fn shows_no_bucket_that_was_refused(rt: HostRuntime) {
+    let Some(context) = context(b"\xa2\x01\x04\x20\x44Jefe") else {
+        return;
+    };
+    let mut verifier: Verifier<32, 4> = Verifier::new(context);
+    let mut intake = SliceIntake::new(b"\xd1\x84\x43\xa1\x01\x05\xa1\x40\x00", 64);
+    let verdict = verify::<64, 32, 4, SliceIntake, Nothing, Never>(
+        &mut verifier,
+        &mut intake,
+        &mut Nothing,
+        &Never,
+    );
+    let refused = Verdict::Refused(Refusal {
+        reason: Reason::BadLabel,
+        place: 7,
+    });
+    assert_eq!(rt; verdict, Ok(refused));
+    assert_eq!(rt; verifier.protected().is_some(), true);
+    assert_eq!(rt; verifier.unprotected().is_none(), true);
+}
+
+#[test]
+fn counts_open_items(rt: HostRuntime) {
+    let Some(context) = context(b"\xa2\x01\x04\x20\x44Jefe") else {
+        return;
+    };
+    let mut verifier: Verifier<32, 4> = Verifier::new(context);
+    let mut intake = SliceIntake::new(b"\xd1\x84\x43\xa1\x01\x05\xa1\x0a\x81\x81", 64);
+    let verdict = verify::<64, 32, 4, SliceIntake, Nothing, Never>(
+        &mut verifier,
+        &mut intake,
+        &mut Nothing,
+        &Never,
+    );
+    let truncated = Verdict::Refused(Refusal {
+        reason: Reason::Truncated,
+        place: 10,
+    });
+    assert_eq!(rt; verdict, Ok(truncated));
+    assert_eq!(rt; verifier.open_items(), 3);
+    verifier.reset();
+    assert_eq!(rt; verifier.open_items(), 0);
+}
+
+#[test]
+fn hands_out_what_a_signature_is_verified_with(rt: HostRuntime) {
+    let Some(context) = context(CURVE_KEY) else {
+        return;
+    };
+    let mut verifier: Verifier<32, 4> = Verifier::new(context);
+    let mut intake = SliceIntake::new(SIGN1, 64);
+    let verdict = verify::<64, 32, 4, SliceIntake, Nothing, Never>(
+        &mut verifier,
+        &mut intake,
+        &mut Nothing,
+        &Never,
+    );
+    let refused = Verdict::Refused(Refusal {
+        reason: Reason::BadAuth,
+        place: 8,
+    });
+    assert_eq!(rt; verdict, Ok(refused));
+    let Some((_, digest, signature)) = verifier.sign_input() else {
+        assert!(rt; false);
+        return;
+    };
+    assert_eq!(rt; digest.len(), 32);
+    assert_eq!(rt; signature, &SIGN1[10..]);
+}

@@ -1,0 +1,83 @@
+//! What a verifier tells of a message besides what comes of it, and what it holds.
+
+ghost use Rattle.std.specs.Prelude.{◌≡◌, ◌<◌, ◌≤◌, ◌+◌, ◌*◌, ◌^◌, ℕ, List, length, option_map};
+ghost use Rattle.cose_map.specs.Bucket.View.{bucket_pairs};
+ghost use Rattle.cose_msg.specs.Phase.{has_signature};
+ghost use Rattle.cose_msg.specs.Shown.{Walks, held, input_value, open_items_after, pairs_at, protected_of, sign_input_of, unprotected_of};
+
+use crate::phase::Phase;
+use crate::verifier::{Place, Verifier};
+use cose_map::{Bucket, Key};
+
+/// The running hash counts as so many bytes.
+const HASH: usize = 256;
+
+/// The bucket of these bytes, where one was found good at this place.
+fn bucket_at(bytes: &[u8], place: Option<Place>, depth: usize) -> Option<Bucket<'_>>
+    requires shallow { depth ≤ 32 }
+    requires short { length bytes.now ≤ 65535 }
+    ensures { option_map bucket_pairs result ≡ pairs_at depth place bytes.now }
+{
+    match place {
+        Some(place) => match Bucket::read(bytes, place.at, depth) {
+            Ok(bucket) => Some(bucket),
+            Err(_) => None,
+        },
+        None => None,
+    }
+}
+
+impl<'k, const H: usize, const D: usize> Verifier<'k, H, D> {
+    /// The protected header bucket (RFC 9052 section 3), once it was found good, also where the message is refused later.
+    pub fn protected(&self) -> Option<Bucket<'_>>
+        ensures { option_map bucket_pairs result ≡ protected_of self.now }
+    {
+        bucket_at(self.protected.as_slice(), self.protected_at, D)
+    }
+
+    /// The unprotected header bucket (RFC 9052 section 3), once it was found good, also where the message is refused later.
+    pub fn unprotected(&self) -> Option<Bucket<'_>>
+        ensures { option_map bucket_pairs result ≡ unprotected_of self.now }
+    {
+        bucket_at(self.unprotected.as_slice(), self.unprotected_at, D)
+    }
+
+    /// Whether all bytes of a message with a signature are there.
+    fn has_signature(&self) -> bool
+        ensures { result ≡ has_signature self.now.phase }
+    {
+        matches!(self.phase, Phase::Signed(_) | Phase::Decided(_))
+    }
+
+    /// What the signature of a COSE_Sign1 is verified with (RFC 9052 section 4.4), once all bytes are there, and also when it was
+    /// decided on: the key, the digest of the structure that is signed, and the signature as it was received.
+    pub fn sign_input(&self) -> Option<(Key<'k>, &[u8], &[u8])>
+        ensures { option_map input_value result ≡ sign_input_of self.now }
+    {
+        if !self.has_signature() {
+            return None;
+        }
+        match &self.chosen {
+            Some(chosen) => Some((chosen.key, self.hashing.result(), self.auth.as_slice())),
+            None => None,
+        }
+    }
+
+    /// How many bytes of the message are held: those of both header buckets, of a head and of the tag or signature, and 256 for
+    /// the running hash.
+    pub fn held(&self) -> usize
+        ensures value { result ≡ held self.now }
+        ensures limit { result ≤ 2 * H + 512 }
+    {
+        self.protected.len() + self.unprotected.len() + self.head.len() + self.auth.len() + HASH
+    }
+
+    /// How many arrays, maps and tags of the unprotected bucket are open: their head was taken, and their end wasn't.
+    pub fn open_items(&self) -> usize
+        ensures limit { result ≤ D }
+        // Where the bucket's bytes so far are these, it is what is open after them.
+        ensures open { (bytes : List ℕ) → Walks bytes self.now → result ≡ open_items_after H D bytes }
+    {
+        self.walker.open_items()
+    }
+}
