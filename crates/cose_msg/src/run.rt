@@ -79,7 +79,9 @@ fn take_message<'k, const C: usize, const H: usize, const D: usize, I: Intake, S
 ///
 /// The sink has the payload before the verdict is known: drop what it holds after a refusal or a stop. A verifier that was fed
 /// goes on from there. A verdict is kept and answered again until `reset`; after a stop every call answers [`Stop::Again`].
-/// Of message bytes it holds `C` at most besides what the verifier holds.
+/// Of message bytes it holds `C` at most besides what the verifier holds ([`Verifier::held`]).
+///
+/// The verifier isn't one that [`Verifier::inspecting`] made.
 pub fn verify<
     'k,
     const C: usize,
@@ -135,7 +137,7 @@ pub fn verify<
 /// Inspects one message: as [`verify`], but no key is chosen and nothing is compared, so that nothing is authenticated. The tag or
 /// signature may have 65,535 bytes, and is passed over.
 ///
-/// The answer is kept, and what stops it is told, as by [`verify`].
+/// The answer is kept, and what stops it is told, as by [`verify`]. The verifier is one that [`Verifier::inspecting`] made.
 pub fn inspect<'k, const C: usize, const H: usize, const D: usize, I: Intake, S: Sink>(
     verifier: &mut Verifier<'k, H, D>,
     intake: &mut I,
