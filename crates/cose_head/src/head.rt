@@ -110,7 +110,14 @@ pub fn parse_head(bytes: &[u8]) -> HeadStep
     if low < 24 {
         // The argument stands in the initial byte, as in most heads, and none of these is at fault.
         let arg = u64::from(low);
-        return HeadStep::Got(Head { major, arg, width: 1 }, 1);
+        return HeadStep::Got(
+            Head {
+                major,
+                arg,
+                width: 1,
+            },
+            1,
+        );
     }
     if let Some(reason) = fault_of_low_bits(major, low) {
         return HeadStep::Fault(reason);
