@@ -19,6 +19,7 @@ mod Decisions
 mod Runs
 mod Answered
 mod PayloadLimit
+mod Signatures
 mod WorkedMessages
 mod WorkedFronts
 mod WorkedHeaders

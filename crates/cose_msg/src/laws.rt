@@ -1,9 +1,10 @@
 //! Laws of the definitions that the contracts cite. A law is a function that does nothing, and whose contract is the law.
 
 ghost use Rattle.cose_msg.specs.Laws.{AllAreFair, ComparingGoesLast, FinishGoesLast, MessageEndsTruncated, MessageIsBounded, MessageIsDefinite, MessageIsInspectedWithin, MessageIsVerifiedWithin, MessageStandsInside, MessageStays, OpenEarlier, OpenIsTruncated, VerdictStays, VerifyingGoesLast};
+ghost use Rattle.cose_msg.specs.Shown.{SignaturesAreOfSign1};
 
 use cose_head::laws::{bare_head_is_spelling, read_stays, read_steps};
-use cose_map::laws::{refusals_are_not_truncated, refusals_stand_inside};
+use cose_map::laws::{chosen_key_fits, refusals_are_not_truncated, refusals_stand_inside};
 
 /// What the bytes of a message come to stays when bytes follow, once it is settled, whether the message is verified or
 /// inspected. Before that it is Truncated at the number of bytes.
@@ -55,3 +56,13 @@ pub fn deciding_goes_last()
     ensures comparing { ComparingGoesLast }
     ensures verifying { VerifyingGoesLast }
 {}
+
+/// What is complete where tags are compared, and not decided, is a COSE_Sign1 all of whose bytes are there, and no other message: the
+/// key that is chosen has an algorithm of the message's kind.
+pub fn signatures_are_of_sign1()
+    ensures { SignaturesAreOfSign1 }
+{
+    // What these say of the choice of a key and of the comparison is all that the proof rests on.
+    chosen_key_fits();
+    deciding_goes_last();
+}
