@@ -1,6 +1,6 @@
 -- What follows both buckets, by what they come to together.
 use Rattle.std.proofs.Common.{◌≡◌, ℕ, Bool, true, false, List, [], length, Option, Some, None, Result, Ok, Err, refl, sym, ap}
-use Rattle.std.specs.Prelude.{◌==◌, option_map}
+use Rattle.std.specs.Prelude.{◌==◌, is_none, option_map}
 use Rattle.cose_head.specs.declared.reason.Reason.{Reason}
 use Rattle.cose_head.specs.declared.refusal.Refusal.{Refusal}
 use Rattle.cose_map.specs.Map.Pairs.{Pair}
@@ -14,7 +14,6 @@ use Rattle.cose_msg.specs.Message.{Setting, as_choice, found_key}
 use Rattle.cose_msg.specs.Phases.{both_buckets, headers_told, payload_head}
 use Rattle.cose_msg.specs.Reading.{stop}
 use Rattle.cose_msg.specs.Task.{Task, choice_for, rules_of}
-use Rattle.cose_msg.specs.Verifier.{is_none}
 
 module _ (room nesting : ℕ) (task : Task) (headers : Headers) (place : ℕ) where
   fault : Option Refusal

@@ -1,6 +1,6 @@
 -- What the key that was chosen says of a tag or signature.
 use Rattle.std.proofs.Common.{◌≡◌, ℕ, ◌≤◌, Bool, true, false, List, [], ◌++◌, Option, None, Some, refl, sym, ap, subst, ◌∙◌, arith}
-use Rattle.std.specs.Prelude.{is_some, option_map}
+use Rattle.std.specs.Prelude.{is_none, is_some, option_map}
 use Rattle.std.proofs.lemmas.Bool.{eqb-true}
 use Rattle.cose_head.specs.declared.algorithm.Alg.{Alg}
 use Rattle.cose_head.specs.Algorithm.{auth_length_of}
@@ -8,7 +8,7 @@ use Rattle.cose_msg.specs.declared.verifier.Chosen as code
 use Rattle.cose_msg.specs.Answer.{Chosen}
 use Rattle.cose_msg.specs.Chosen.{chosen_value, has_length_of}
 use Rattle.cose_msg.specs.Message.{has_auth_length}
-use Rattle.cose_msg.specs.Verifier.{HoldsAuth, is_none}
+use Rattle.cose_msg.specs.Verifier.{HoldsAuth}
 use Rattle.cose_msg.proofs.Bounds.{algorithms_are_short}
 
 by_alg : (chosen : Option code.Chosen) (n : ℕ) → has_auth_length (option_map chosen_value chosen) n ≡ has_length_of (option_map (λ (c : code.Chosen). c.alg) chosen) n

@@ -36,6 +36,7 @@ mod Making
 mod Makes
 mod Puts
 mod Streaming
+mod Signatures
 mod WorkedMessages
 mod WorkedFronts
 mod WorkedHeaders

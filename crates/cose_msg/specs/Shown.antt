@@ -1,6 +1,8 @@
 -- What a verifier tells of a message besides what comes of it.
 use Rattle.std.specs.Prelude.{◌≡◌, ℕ, ◌+◌, List, length, Option, Some, None, Ok, Err, option_map, if◌then◌else◌}
 use Rattle.std.specs.Borrow.{Bor}
+use Rattle.cose_head.specs.declared.kind.Kind.{Kind}
+use Rattle.cose_head.specs.declared.kind.Kind.TheVariants as kinds
 use Rattle.cose_head.specs.Measured.{left_of}
 use Rattle.cose_head.specs.Open.{open_in}
 use Rattle.cose_head.specs.Walker.{HasPut}
@@ -16,7 +18,7 @@ use Rattle.cose_msg.specs.declared.verifier.Verifier.{Verifier}
 use Rattle.cose_msg.specs.Answer.{Answer, Chosen, Whole, decided, complete, shaped}
 use Rattle.cose_msg.specs.Chosen.{chosen_value}
 use Rattle.cose_msg.specs.Hashing.{result_of}
-use Rattle.cose_msg.specs.Message.{Setting, digest_signed, message}
+use Rattle.cose_msg.specs.Message.{Setting, digest_signed, message, comparing, uncompared}
 use Rattle.cose_msg.specs.Phase.{has_signature}
 use Rattle.cose_msg.specs.Phases.{placed_at}
 use Rattle.cose_msg.specs.Reading.{Reading}
@@ -40,11 +42,26 @@ pub record Shown : Type 0 where
 abbrev pub signed_with : List ℕ → Whole → Chosen → SignInput
 signed_with aad whole found = record { key = found.key; digest = digest_signed aad found whole; signature = whole.auth }
 
--- (Where a tag is compared, what is complete and not yet decided is a message with a signature.)
+-- Where tags are compared, what is complete and not decided is a message with a signature.
 abbrev pub sign_input_in : List ℕ → Answer → Option SignInput
 sign_input_in aad (complete whole) = option_map (signed_with aad whole) whole.chosen
 sign_input_in aad (decided verdict) = None
 sign_input_in aad (shaped kind payload auth taken) = None
+
+-- Of a message that is read without the comparison: it is one with a signature where its kind says so.
+abbrev pub of_sign1 : Kind → Option SignInput → Option SignInput
+of_sign1 kinds.Sign1 input = input
+of_sign1 kinds.Mac0 input = None
+
+abbrev pub signature_in : List ℕ → Answer → Option SignInput
+signature_in aad (complete whole) = of_sign1 whole.headers.kind (option_map (signed_with aad whole) whole.chosen)
+signature_in aad (decided verdict) = None
+signature_in aad (shaped kind payload auth taken) = None
+
+-- Both are the same.
+abbrev pub SignaturesAreOfSign1 : Type 0
+SignaturesAreOfSign1 = (room nesting : ℕ) (setting : Setting) (bytes : List ℕ) →
+    sign_input_in setting.aad (message (comparing room nesting setting) bytes).answer ≡ signature_in setting.aad (message (uncompared room nesting setting) bytes).answer
 
 abbrev pub shown_in : Setting → Reading → Shown
 shown_in setting reading = record {

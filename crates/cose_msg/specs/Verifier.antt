@@ -1,5 +1,5 @@
 -- What a verifier stands for: what is left of the reading of a message.
-use Rattle.std.specs.Prelude.{◌≡◌, ℕ, ◌+◌, ◌≤◌, Bool, true, false, List, [], ◌++◌, length, Option, Some, None, Ok, ⊤, option_map, map, ◌==◌}
+use Rattle.std.specs.Prelude.{◌≡◌, ℕ, ◌+◌, ◌≤◌, Bool, true, false, List, [], ◌++◌, length, Option, Some, None, Ok, ⊤, is_none, option_map, map, ◌==◌}
 use Rattle.cose_head.specs.declared.kind.Kind.{Kind}
 use Rattle.cose_head.specs.Head.{IsMore, bare_head}
 use Rattle.cose_head.specs.Walker.{HasPut}
@@ -95,10 +95,6 @@ left_in rules known told v (phases.Shaped p) z = settled told (shaped p.kind p.p
 -- A head at this place, of which some bytes are held and not all; n bytes were taken in all.
 abbrev pub HoldsHead : {H D : ℕ} → ℕ → ℕ → Verifier H D → Type 0
 HoldsHead at n v = IsMore (bare_head v.head.items) × (n ≡ at + length v.head.items)
-
-abbrev pub is_none : {A : Type 0} → Option A → Bool
-is_none None = true
-is_none (Some x) = false
 
 -- The kind, and the key, if one is to be chosen.
 abbrev pub HoldsKey : {H D : ℕ} → Task → Known → Verifier H D → Kind → Type 0

@@ -3,6 +3,7 @@
 ghost use Rattle.cose_msg.specs.GrammarLaws.{AuthenticIsMessage, MessageIsArrayOfFour, MessageIsRead, OneArrayOfFour};
 ghost use Rattle.cose_msg.specs.MakingLaws.{MadeIsAuthentic};
 ghost use Rattle.cose_msg.specs.Laws.{AllAreFair, ComparingGoesLast, FinishGoesLast, MessageEndsTruncated, MessageIsBounded, MessageIsDefinite, MessageIsInspectedWithin, MessageIsVerifiedWithin, MessageStandsInside, MessageStays, OpenEarlier, OpenIsTruncated, VerdictStays, VerifyingGoesLast};
+ghost use Rattle.cose_msg.specs.Shown.{SignaturesAreOfSign1};
 ghost use Rattle.cose_msg.specs.Unrefused.{OneMessage, ShapedIsMessage, UnrefusedIsMessage, WholeIsMessage};
 
 use cose_head::laws::{
@@ -10,7 +11,7 @@ use cose_head::laws::{
     shortest_is_spelling, whole_is_one_item,
 };
 use cose_mac::laws::mac_has_its_length;
-use cose_map::laws::{refusals_are_not_truncated, refusals_stand_inside};
+use cose_map::laws::{chosen_key_fits, refusals_are_not_truncated, refusals_stand_inside};
 
 /// What the bytes of a message come to stays when bytes follow, once it is settled, whether the message is verified or
 /// inspected. Before that it is Truncated at the number of bytes.
@@ -112,4 +113,14 @@ pub fn made_is_authentic()
     whole_is_one_item();
     look_is_of_tree();
     mac_has_its_length();
+}
+
+/// What is complete where tags are compared, and not decided, is a COSE_Sign1 all of whose bytes are there, and no other message: the
+/// key that is chosen has an algorithm of the message's kind.
+pub fn signatures_are_of_sign1()
+    ensures { SignaturesAreOfSign1 }
+{
+    // What these say of the choice of a key and of the comparison is all that the proof rests on.
+    chosen_key_fits();
+    deciding_goes_last();
 }
