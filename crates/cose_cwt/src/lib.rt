@@ -1,0 +1,11 @@
+//! CBOR Web Tokens (RFC 8392, RFC 8747).
+#![tactic(auto)]
+
+mod claims;
+mod confirmation;
+mod policy;
+
+pub use claims::Claims;
+pub use claims::audience::Auds;
+pub use confirmation::Cnf;
+pub use policy::{Audience, Policy};
