@@ -51,7 +51,7 @@ pub struct Verifier<'k, const H: usize, const D: usize> {
 
 impl<'k, const H: usize, const D: usize> Verifier<'k, H, D> {
     ghost use Rattle.std.specs.Prelude.{◌≡◌, ℕ, List, [], ◌∷◌, ◌++◌, ◌+◌, ◌-◌, length, take, true, false, if◌then◌else◌};
-    ghost use Rattle.cose_msg.specs.Kept.{HasTaken, bytes_taken};
+    ghost use Rattle.cose_msg.specs.Kept.{HasTaken, bytes_taken, setting_in};
     ghost use Rattle.cose_msg.specs.Message.{Setting};
     ghost use Rattle.cose_msg.specs.Phase.{grown, in_payload, is_settled, takes_bytes, want_of};
     ghost use Rattle.cose_msg.specs.Reading.{Reading, stop, Told};
@@ -65,6 +65,7 @@ impl<'k, const H: usize, const D: usize> Verifier<'k, H, D> {
         requires external { length context.aad.now ≤ 65535 }
         ensures so_far { SoFar (setting_of context.entry) [] [] result }
         ensures none_taken { HasTaken (setting_of context.entry) [] [] result }
+        ensures context { setting_in result ≡ setting_of context.entry }
     {
         Verifier {
             context,
@@ -93,11 +94,19 @@ impl<'k, const H: usize, const D: usize> Verifier<'k, H, D> {
     pub fn reset(&mut self)
         ensures so_far { SoFar (setting_of self.old.context) [] [] self.new }
         ensures none_taken { HasTaken (setting_of self.old.context) [] [] self.new }
+        ensures context { setting_in self.new ≡ setting_in self.old }
     {
         self.head.clear();
         self.phase = Phase::FirstHead;
         self.taken = 0;
         self.stopped = false;
+    }
+
+    /// What the message is verified under.
+    pub fn context(&self) -> Context<'k>
+        ensures { setting_of result ≡ setting_in self.now }
+    {
+        self.context
     }
 
     /// The number of bytes of the message that were taken.
