@@ -1,3 +1,4 @@
 pub mod Claims
 pub mod Confirmation
 pub mod Admission
+pub mod Token

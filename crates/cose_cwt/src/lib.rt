@@ -4,8 +4,10 @@
 mod claims;
 mod confirmation;
 mod policy;
+mod token;
 
 pub use claims::Claims;
 pub use claims::audience::Auds;
 pub use confirmation::Cnf;
 pub use policy::{Audience, Policy};
+pub use token::{CwtStop, verify_cwt};

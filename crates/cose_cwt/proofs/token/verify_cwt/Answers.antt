@@ -1,0 +1,29 @@
+use Rattle.std.proofs.Common.{◌≡◌, ◌≤◌, [], subst, sym, arith}
+use Rattle.cose_msg.specs.Message.{Setting}
+use Rattle.cose_cwt.proofs.Tokens.{store_suffices, token_of_run, with_contents}
+use Rattle.cose_cwt.proofs.token.verify_cwt.Goals as goal
+
+pub returns-clause-run : goal.returns-clause-run
+returns-clause-run g c = λ setting h.
+    let r = c.verify-verdict.ensures.run setting [] [] h in
+    record {
+      taken = r.0;
+      payload = c.bytes.result.now;
+      verdict = c.verify-verdict.result;
+      run = with_contents _ _ _ _ _ _ _ _ _ _ _ _ c.clear.ensures.empty c.bytes.ensures.held r.1;
+      counted = r.2;
+      kept = c.verify-verdict.ensures.kept;
+      comes = c.claims_after.ensures;
+    }
+
+pub returns-clause-token : goal.returns-clause-token
+returns-clause-token g c = λ setting bytes h told.
+    let r = returns-clause-run g c setting h in
+    token_of_run c.settled_stays.ensures.message _ _ _ _ _ _ _ _ _ r.taken _ bytes _ r.run r.comes told
+
+-- The payload is within its limit, and so within the store.
+pub returns-clause-store_suffices : goal.returns-clause-store_suffices
+returns-clause-store_suffices g c = λ setting h.
+    let limit : setting.payload_limit ≤ g.row.L = subst (λ (s : Setting). s.payload_limit ≤ g.row.L) h.so_far.in_setting c.requires.payload_limit in
+    store_suffices _ _ _ _ _ c.claims_after.ensures
+    (c.verify-verdict.ensures.sure setting [] [] h (subst (λ n. setting.payload_limit ≤ n) (sym c.clear.ensures.sure) limit))
