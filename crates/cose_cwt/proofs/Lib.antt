@@ -1,1 +1,4 @@
 pub mod Tokens
+pub mod Inside
+pub mod WorkedClaims
+pub mod WorkedAdmission

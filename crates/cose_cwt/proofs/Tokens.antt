@@ -1,8 +1,10 @@
 -- What a run of the verifier says of a token.
-use Rattle.std.proofs.Common.{◌≡◌, ◌∙◌, ℕ, Bool, true, false, List, [], ◌++◌, Option, Some, None, Ok, Err, refl, sym, ap, subst}
+use Rattle.std.proofs.Common.{◌≡◌, ◌∙◌, ℕ, ◌≤◌, Bool, true, false, List, [], ◌++◌, length, Option, Some, None, Ok, Err, refl, sym, ap, subst}
 use Rattle.std.specs.Prelude.{Result}
 use Rattle.std.specs.Io.KnownBytes.{IsAtEnd}
 use Rattle.std.proofs.lemmas.List.{append-nil}
+use Rattle.cose_head.specs.declared.refusal.Refusal.{Refusal}
+use Rattle.cose_map.specs.Laws.Inside.{RefusedBy}
 use Rattle.cose_map.specs.Map.Read.{Read}
 use Rattle.cose_msg.specs.declared.verdict.Stop.{Stop}
 use Rattle.cose_msg.specs.declared.verdict.Verdict.{Verdict}
@@ -64,6 +66,18 @@ token_of_run stays H D setting decides policy come come_after ended (Ok verdict)
     (subst (λ (old : Option (List ℕ)). Run H D setting decides [] [] old come_after ended (Some []) (Some payload) (Ok verdict) taken) e run) comes)
 token_of_run stays H D setting decides policy come come_after ended (Err stop) taken payload bytes outcome run comes e =
     subst (λ (o : Outcome). UnlessStopped o (IsToken H D setting decides policy bytes outcome)) (sym comes) tt
+
+-- A place of the claims is in the payload.
+claims_placed : (read : Read ClaimsValue) (end : ℕ) (refusal : Refusal) → of_claims read ≡ Err (stops.Claims refusal) → RefusedBy end read → refusal.place ≤ end
+claims_placed (Ok claims) end refusal e s = absurd cc
+claims_placed (Err other) end refusal e s = let same : other ≡ refusal = cc in subst (λ (r : Refusal). r.place ≤ end) same s
+
+pub token_placed : (depth : ℕ) (policy : PolicyValue) (verdict : Result Verdict Stop) (payload : List ℕ) (outcome : Outcome) (refusal : Refusal) → outcome ≡ token_of depth policy verdict payload →
+    outcome ≡ Err (stops.Claims refusal) → RefusedBy (length payload) (admitted_claims depth policy payload) → refusal.place ≤ length payload
+token_placed depth policy (Ok (Authentic kind alg n taken)) payload outcome refusal comes e s =
+    claims_placed (admitted_claims depth policy payload) (length payload) refusal (sym comes ∙ e) s
+token_placed depth policy (Ok (Refused other)) payload outcome refusal comes e s = let clash : Err (stops.Message other) ≡ Err (stops.Claims refusal) = sym comes ∙ e in absurd cc
+token_placed depth policy (Err stop) payload outcome refusal comes e s = let clash : Err (stops.Stopped stop) ≡ Err (stops.Claims refusal) = sym comes ∙ e in absurd cc
 
 -- The store stops no token where it doesn't stop the verifier.
 no_stop : (read : Read ClaimsValue) → stop_in (of_claims read) ≡ None

@@ -18,6 +18,7 @@ pub(crate) mod labels;
 use crate::claims::audience::Auds;
 use crate::claims::form::ClaimsForm;
 use crate::confirmation::{Cnf, Confirmation};
+use crate::laws::claims_refusals_stand_inside;
 use cose_map::{ItemRef, KeySet, Pairs, Reason, Refusal, check_map, refused};
 
 /// The claims of a token, each known one of its form. They borrow the bytes that they were read from.
@@ -57,16 +58,9 @@ fn confirmation_at<'a>(value: Option<ItemRef<'a>>) -> Result<Option<Confirmation
 impl<'a> Claims<'a> {
     ghost use Rattle.cose_cwt.specs.Claims.View.{claims_value};
 
-    /// Reads the claims of a payload, of a nesting of at most `depth`. Nothing vouches for them: [`verify_cwt`](crate::verify_cwt)
-    /// reads those of an authentic message, and admits them.
-    ///
-    /// The refusal is the first fault of the reading, with [`Reason::PastRoom`] where the bytes end early; then
-    /// [`Reason::Trailing`], [`Reason::NestedCwt`] and [`Reason::NotMap`]; then of the claims in their order
-    /// [`Reason::BadLabel`], [`Reason::DuplicateLabel`], [`Reason::BadValue`], [`Reason::FloatDate`] and [`Reason::TaggedDate`];
-    /// and last those of the confirmation: of its labels, [`Reason::BadConfirmation`], [`Reason::EncryptedKey`],
-    /// [`Reason::PlainKey`] and [`Reason::BadValue`].
+    /// The claims of a payload.
     #[tactic(auto, unfolding(crate::specs::Claims::claims_of))]
-    pub fn read(bytes: &'a [u8], depth: usize) -> Result<Claims<'a>, Refusal>
+    fn of_payload(bytes: &'a [u8], depth: usize) -> Result<Claims<'a>, Refusal>
         requires { depth ≤ 32 }
         ensures { seen_by claims_value result ≡ spec.claims_of depth (record { bytes = bytes.now; place = 0 }) }
     {
@@ -77,6 +71,25 @@ impl<'a> Claims<'a> {
             pairs,
             confirmation,
         })
+    }
+
+    /// Reads the claims of a payload, of a nesting of at most `depth`. Nothing vouches for them: [`verify_cwt`](crate::verify_cwt)
+    /// reads those of an authentic message, and admits them.
+    ///
+    /// The refusal is the first fault of the reading, with [`Reason::PastRoom`] where the bytes end early; then
+    /// [`Reason::Trailing`], [`Reason::NestedCwt`] and [`Reason::NotMap`]; then of the claims in their order
+    /// [`Reason::BadLabel`], [`Reason::DuplicateLabel`], [`Reason::BadValue`], [`Reason::FloatDate`] and [`Reason::TaggedDate`];
+    /// and last those of the confirmation: of its labels, [`Reason::BadConfirmation`], [`Reason::EncryptedKey`],
+    /// [`Reason::PlainKey`] and [`Reason::BadValue`].
+    #[tactic(auto, using(crate::proofs::Inside::seen_inside))]
+    pub fn read(bytes: &'a [u8], depth: usize) -> Result<Claims<'a>, Refusal>
+        requires { depth ≤ 32 }
+        ensures exact { seen_by claims_value result ≡ spec.claims_of depth (record { bytes = bytes.now; place = 0 }) }
+        ensures within { IfErr result (λ refusal. refusal.place ≤ length bytes.now) }
+    {
+        // The law that `within` rests on.
+        claims_refusals_stand_inside();
+        Claims::of_payload(bytes, depth)
     }
 
     /// Who issued the token (iss, RFC 8392 section 3.1.1).

@@ -3,6 +3,7 @@
 
 mod claims;
 mod confirmation;
+pub mod laws;
 mod policy;
 mod token;
 

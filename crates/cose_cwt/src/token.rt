@@ -1,6 +1,7 @@
 //! A token, from its bytes to its claims (RFC 8392 section 7.2).
 
 ghost use Rattle.std.specs.Prelude.{◌≡◌, ◌↔◌, ◌≤◌, ◌||◌, ℕ, true, false, List, [], Some, Result, Err};
+ghost use Rattle.cose_head.specs.declared.refusal.Refusal.{Refusal};
 ghost use Rattle.cose_map.specs.Map.View.{seen_by};
 ghost use Rattle.cose_msg.specs.declared.verdict.Stop.{Stop};
 ghost use Rattle.cose_msg.specs.declared.verdict.Verdict.{Verdict};
@@ -13,6 +14,7 @@ ghost use Rattle.cose_cwt.specs.Claims.View.{claims_value};
 ghost use Rattle.cose_cwt.specs.Token.{IsRun, IsToken, UnlessStopped, claims_seen, is_for_intake, is_for_store, stop_in, token_of};
 
 use crate::claims::Claims;
+use crate::laws::claims_refusals_stand_inside;
 use crate::policy::Policy;
 use cose_map::Refusal;
 use cose_msg::laws::settled_stays;
@@ -103,12 +105,16 @@ pub fn verify_cwt<
         (claims_seen result ≡ token_of D (policy_value policy.entry.now) answer []) × (verifier.new ≡ verifier.old) × (intake.new ≡ intake.old) }
     ensures stopped { (claims_seen result ≡ Err (CwtStop.Stopped Stop.Again)) ↔ (is_stopped verifier.old ≡ true) }
 
+    // A place of the claims is in the payload, or at its end.
+    ensures within { (refusal : Refusal) → claims_seen result ≡ Err (CwtStop.Claims refusal) → refusal.place ≤ L }
+
     // It stops only for a failure of the intake in this call, and never for the store.
     ensures intake_failure { I.has_failed intake.new ≡ (I.has_failed intake.old || is_for_intake (stop_in (claims_seen result))) }
     ensures store_suffices { (setting : Setting) → HasTaken setting [] [] verifier.old → is_for_store (stop_in (claims_seen result)) ≡ false }
 {
-    // That a verdict stays when bytes follow is all that the proof rests on besides.
+    // That a verdict stays when bytes follow, and where claims are refused.
     settled_stays();
+    claims_refusals_stand_inside();
     store.clear();
     let verdict = verify::<C, H, D, I, Store<L>, E>(verifier, intake, store, ec);
     claims_after(verdict, store.bytes(), D, policy)

@@ -1,6 +1,6 @@
-use Rattle.std.proofs.Common.{◌≡◌, ◌≤◌, [], subst, sym, arith}
+use Rattle.std.proofs.Common.{◌≡◌, ◌≤◌, [], length, subst, sym, arith}
 use Rattle.cose_msg.specs.Message.{Setting}
-use Rattle.cose_cwt.proofs.Tokens.{store_suffices, token_of_run, with_contents}
+use Rattle.cose_cwt.proofs.Tokens.{store_suffices, token_of_run, token_placed, with_contents}
 use Rattle.cose_cwt.proofs.token.verify_cwt.Goals as goal
 
 pub returns-clause-run : goal.returns-clause-run
@@ -27,3 +27,8 @@ returns-clause-store_suffices g c = λ setting h.
     let limit : setting.payload_limit ≤ g.row.L = subst (λ (s : Setting). s.payload_limit ≤ g.row.L) h.so_far.in_setting c.requires.payload_limit in
     store_suffices _ _ _ _ _ c.claims_after.ensures
     (c.verify-verdict.ensures.sure setting [] [] h (subst (λ n. setting.payload_limit ≤ n) (sym c.clear.ensures.sure) limit))
+
+pub returns-clause-within : goal.returns-clause-within
+returns-clause-within g c = λ refusal e.
+    let placed : refusal.place ≤ length c.bytes.result.now = token_placed _ _ _ _ _ refusal c.claims_after.ensures e (c.claims_refusals_stand_inside.ensures.admission _ _ _) in
+    omega (arith, placed, c.bytes.ensures.limit)
