@@ -4,7 +4,7 @@ use Rattle.std.specs.Prelude.{⊤, Result, IfErr, IfSome, option_map}
 use Rattle.cose_head.specs.declared.reason.Reason.{Reason}
 use Rattle.cose_head.specs.declared.reason.Reason.TheVariants.{NestedCwt, PlainKey, Expired, NotYet, WrongAudience}
 use Rattle.cose_head.specs.declared.refusal.Refusal.{Refusal}
-use Rattle.cose_head.specs.Placed.{Placed, look, integer_in, bytes_in, tag_in}
+use Rattle.cose_head.specs.Placed.{Placed, look, bytes_in, tag_in}
 use Rattle.cose_head.specs.PlacedLaws.{end_of, EndsBy, StandsIn, WholeIsItem, WholeIsRefusedInside}
 use Rattle.cose_head.specs.Whole.{whole}
 use Rattle.cose_map.specs.Key.{key_of}
@@ -15,11 +15,11 @@ use Rattle.cose_map.specs.Map.Form.{Table}
 use Rattle.cose_map.specs.Map.Pairs.{Pair, pair_of, value_of}
 use Rattle.cose_map.specs.Map.Read.{Read, check_map, refuse, ◌>>=◌}
 use Rattle.cose_map.specs.Map.View.{seen_by}
-use Rattle.cose_cwt.specs.Admission.{PolicyValue, admitted, admitted_claims, date_breaks, has_expired, is_early, is_for_others, not_early, not_expired, not_for_others, unless}
-use Rattle.cose_cwt.specs.Claims.{ClaimsValue, claims_at, claims_of, claims_with, confirmation_at, is_token, not_nested, some_confirmation, texts_of}
+use Rattle.cose_cwt.specs.Admission.{PolicyValue, admitted, admitted_claims, not_early, not_expired, unless}
+use Rattle.cose_cwt.specs.Claims.{ClaimsValue, claims_at, claims_of, claims_with, confirmation_at, is_token, not_nested, some_confirmation}
 use Rattle.cose_cwt.specs.Claims.Form.{claims_table}
 use Rattle.cose_cwt.specs.Claims.Labels.{aud, cnf, exp, nbf}
-use Rattle.cose_cwt.specs.Confirmation.{ConfirmationValue, confirmation_of, confirmation_with, confirmed_key, confirmed_kid, cose_key, encrypted_cose_key, identifier, is_symmetric, kid, members_table, one_public_key, public_key}
+use Rattle.cose_cwt.specs.Confirmation.{confirmation_of, confirmed_key, confirmed_kid, cose_key, encrypted_cose_key, identifier, is_symmetric, kid, members_table, one_public_key, public_key}
 
 -- an answer, or a refusal no later than a place
 abbrev AnswersBy : {A : Type 0} → ℕ → (A → Type 0) → Read A → Type 0
@@ -154,7 +154,7 @@ module _ (wholes : WholeIsItem) (inside : WholeIsRefusedInside) (maps : MapIsRef
   admission_inside depth policy payload =
       let p : Placed = record { bytes = payload; place = 0 } in
       let by : AnyBy (end_of p) (admitted_claims depth policy payload) =
-          then_by (end_of p) (λ claims. FoundBy (end_of p) claims.pairs) _ (claims_of depth p) _ (claims_by depth p)
-          (λ claims there. then_by (end_of p) (λ t. ⊤) (λ c. ⊤) (admitted policy claims) _ (admission_by (end_of p) policy claims there) (λ t u. tt)) in
+      then_by (end_of p) (λ claims. FoundBy (end_of p) claims.pairs) _ (claims_of depth p) _ (claims_by depth p)
+      (λ claims there. then_by (end_of p) (λ t. ⊤) (λ c. ⊤) (admitted policy claims) _ (admission_by (end_of p) policy claims there) (λ t u. tt)) in
       let e : end_of p ≡ length payload = omega arith in
       subst (λ (n : ℕ). RefusedBy n (admitted_claims depth policy payload)) e (refused_by (end_of p) _ (admitted_claims depth policy payload) by)

@@ -1,7 +1,6 @@
 -- What a run of the verifier says of a token.
 use Rattle.std.proofs.Common.{◌≡◌, ◌∙◌, ℕ, ◌≤◌, Bool, true, false, List, [], ◌++◌, length, Option, Some, None, Ok, Err, refl, sym, ap, subst}
 use Rattle.std.specs.Prelude.{Result}
-use Rattle.std.specs.Io.KnownBytes.{IsAtEnd}
 use Rattle.std.proofs.lemmas.List.{append-nil}
 use Rattle.cose_head.specs.declared.refusal.Refusal.{Refusal}
 use Rattle.cose_map.specs.Laws.Inside.{RefusedBy}
@@ -13,7 +12,6 @@ use Rattle.cose_msg.specs.Laws.{MessageStays}
 use Rattle.cose_msg.specs.Message.{Decides, Setting, verifying}
 use Rattle.cose_msg.specs.Reading.{Reading}
 use Rattle.cose_msg.specs.Run.{Run, read_as, stops_for_sink}
-use Rattle.cose_cwt.specs.declared.token.CwtStop.{CwtStop}
 use Rattle.cose_cwt.specs.declared.token.CwtStop.TheVariants as stops
 use Rattle.cose_cwt.specs.Admission.{PolicyValue, admitted_claims}
 use Rattle.cose_cwt.specs.Claims.{ClaimsValue}
@@ -42,8 +40,8 @@ judged stays H D setting decides policy None ended verdict taken payload bytes o
 judged stays H D setting decides policy (Some rest) ended verdict taken payload bytes outcome run comes =
     let whole : bytes ≡ taken ++ rest = run.bytes in
     let same : read_as H D setting decides bytes ≡ read_as H D setting decides taken =
-        ap (read_as H D setting decides) whole
-        ∙ same_reading stays H D setting decides taken rest (read_as H D setting decides taken).settled refl (λ open_yet. (run.answer.unsettled open_yet).1) in
+    ap (read_as H D setting decides) whole
+    ∙ same_reading stays H D setting decides taken rest (read_as H D setting decides taken).settled refl (λ open_yet. (run.answer.unsettled open_yet).1) in
     let grown : (read_as H D setting decides taken).told.payload ≡ payload = run.payload.1 ∙ sym run.payload.2 in
     let told : (read_as H D setting decides bytes).told.payload ≡ payload = ap (λ (reading : Reading). reading.told.payload) same ∙ grown in
     record {

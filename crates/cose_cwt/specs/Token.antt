@@ -1,5 +1,5 @@
 -- What a token comes to (RFC 8392 section 7.2): the verdict on the message, and then the claims of its payload.
-use Rattle.std.specs.Prelude.{◌≡◌, ℕ, Bool, true, false, List, [], length, Option, Some, None, Result, Ok, Err, ⊤}
+use Rattle.std.specs.Prelude.{◌≡◌, ℕ, Bool, false, List, [], length, Option, Some, None, Result, Ok, Err, ⊤}
 use Rattle.cose_map.specs.Map.Read.{Read}
 use Rattle.cose_msg.specs.declared.verdict.Stop.{Stop}
 use Rattle.cose_msg.specs.declared.verdict.Verdict.{Verdict}

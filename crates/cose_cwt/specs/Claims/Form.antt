@@ -1,10 +1,10 @@
 -- The forms of the values of claims (RFC 8392 section 3.1, RFC 8747 section 3.1).
-use Rattle.std.specs.Prelude.{ℕ, Bool, true, false, not, List, length, Option, Some, None, is_some, ◌==◌, ◌&&◌, ◌||◌, if◌then◌else◌}
+use Rattle.std.specs.Prelude.{ℕ, Bool, false, not, List, length, Option, Some, None, is_some, ◌==◌, ◌&&◌, ◌||◌, if◌then◌else◌}
 use Rattle.std.specs.List.{list_all}
 use Rattle.cose_head.specs.declared.reason.Reason.{Reason}
 use Rattle.cose_head.specs.declared.reason.Reason.TheVariants.{BadValue, FloatDate, TaggedDate}
 use Rattle.cose_head.specs.Placed.{Placed, look, integer_in, text_in, tag_in, is_a_float, is_an_array, is_a_map, children_of}
-use Rattle.cose_map.specs.Label.{LabelValue, same_label}
+use Rattle.cose_map.specs.Label.{same_label}
 use Rattle.cose_map.specs.Map.Form.{Table, is_bytes}
 use Rattle.cose_cwt.specs.Claims.Labels.{iss, sub, aud, exp, nbf, iat, cti, cnf}
 

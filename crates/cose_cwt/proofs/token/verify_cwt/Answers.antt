@@ -1,4 +1,4 @@
-use Rattle.std.proofs.Common.{◌≡◌, ◌≤◌, [], length, subst, sym, arith}
+use Rattle.std.proofs.Common.{◌≤◌, [], length, subst, sym, arith}
 use Rattle.cose_msg.specs.Message.{Setting}
 use Rattle.cose_cwt.proofs.Tokens.{store_suffices, token_of_run, token_placed, with_contents}
 use Rattle.cose_cwt.proofs.token.verify_cwt.Goals as goal
