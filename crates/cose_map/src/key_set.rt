@@ -34,7 +34,7 @@ fn usable<'a>(item: &ItemRef<'a>) -> Option<Key<'a>>
 }
 
 impl<'a> KeySet<'a> {
-    ghost use Rattle.std.specs.Prelude.{◌≤◌, length, IfErr};
+    ghost use Rattle.std.specs.Prelude.{◌≤◌, [], ◌∷◌, length, IfErr};
     ghost use Rattle.cose_map.specs.Choice.{chosen};
     ghost use Rattle.cose_map.specs.Choice.View.{question, found_value};
     ghost use Rattle.cose_map.specs.KeySet.{keys_of};
@@ -62,6 +62,16 @@ impl<'a> KeySet<'a> {
             return Err(refused(Reason::BadKeySet, &set));
         }
         Ok(KeySet { set })
+    }
+
+    /// The set of the one key that an item is, as the key that a token confirms (RFC 8747 section 3.2). None where the item
+    /// is no usable key.
+    #[tactic(auto, using(crate::proofs::lemmas::KeySet::key_alone))]
+    pub fn of_key(item: ItemRef<'a>) -> Option<KeySet<'a>>
+        ensures { option_map keys result ≡ option_map (λ key. key ∷ []) (usable_key (placed item.entry)) }
+    {
+        usable(&item)?;
+        Some(KeySet { set: item })
     }
 
     /// The number of usable keys.

@@ -1,6 +1,6 @@
 //! Laws of the definitions that the contracts cite. A law is a function that does nothing, and whose contract is the law.
 
-ghost use Rattle.cose_map.specs.Laws.Inside.{MapIsRefusedInside, ReadIsRefusedInside, BucketIsRefusedInside, KeyIsRefusedInside, BucketEndsInside, PairIsRefusedInside};
+ghost use Rattle.cose_map.specs.Laws.Inside.{MapIsRefusedInside, ReadIsRefusedInside, BucketIsRefusedInside, KeyIsRefusedInside, FoundEndsInside, BucketEndsInside, PairIsRefusedInside};
 ghost use Rattle.cose_map.specs.Laws.Chosen.{ChosenIsAmong, ChosenFits, ChosenIsOfKind, ChosenIsOfType, NoOtherFits};
 ghost use Rattle.cose_map.specs.Laws.Least.{NoLeastOfNone, LeastIsAmong, NoneBeforeLeast};
 ghost use Rattle.cose_map.specs.Laws.Reasons.{MapIsRefusedFor, ReadIsRefusedFor, BucketIsRefusedFor, KeyIsRefusedFor, KeySetIsRefusedFor, PairIsRefusedFor, ChoiceIsRefusedFor, BucketIsNotTruncated, KeyIsNotTruncated, KeySetIsNotTruncated, PairIsNotTruncated, ChoiceIsNotTruncated};
@@ -9,12 +9,14 @@ ghost use Rattle.cose_map.specs.Laws.Tree.{ItemIsTree, MapIsOfTree, BucketIsOfTr
 use cose_head::laws::{children_are_of_tree, look_is_of_tree, read_is_spelling, whole_is_one_item};
 
 /// A refusal of a map, of a bucket or of a key stands among its bytes or at their end, and one of two buckets together
-/// no later than the later of their ends, or at the place after both (RFC 9052 sections 3 and 7).
+/// no later than the later of their ends, or at the place after both (RFC 9052 sections 3 and 7). What a map has under a
+/// label is among its bytes.
 pub fn refusals_stand_inside()
     ensures map { MapIsRefusedInside }
     ensures read { ReadIsRefusedInside }
     ensures bucket { BucketIsRefusedInside }
     ensures key { KeyIsRefusedInside }
+    ensures found { FoundEndsInside }
     ensures pairs { BucketEndsInside }
     ensures two_buckets { PairIsRefusedInside }
 {

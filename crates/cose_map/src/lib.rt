@@ -49,7 +49,7 @@ pub use key_set::KeySet;
 pub use label::Label;
 pub use map::form::Form;
 pub use map::pairs::Pairs;
-pub use map::read::{check_map, read_map};
+pub use map::read::{check_map, read_map, refused};
 
 #[cfg(test)]
 mod tests;

@@ -9,8 +9,13 @@ use Rattle.cose_msg.specs.declared.verdict.Stop.TheVariants as stops
 use Rattle.cose_msg.specs.declared.verdict.Verdict.{Verdict}
 use Rattle.cose_msg.specs.declared.verdict.Verdict.TheVariants.{Authentic, Refused}
 use Rattle.cose_msg.specs.declared.verifier.Verifier.{Verifier}
+use Rattle.cose_msg.specs.Message.{Setting}
 use Rattle.cose_msg.specs.Task.{Task}
-use Rattle.cose_msg.specs.Verifier.{SoFar}
+use Rattle.cose_msg.specs.Verifier.{SoFar, setting_of}
+
+-- What the verifier reads a message under.
+abbrev pub setting_in : {H D : ℕ} → Verifier H D → Setting
+setting_in v = setting_of v.context
 
 abbrev pub bytes_taken : {H D : ℕ} → Verifier H D → ℕ
 bytes_taken v = v.taken

@@ -29,6 +29,16 @@ impl<const L: usize> Store<L> {
         }
     }
 
+    /// Makes the store as new: it holds nothing and hasn't failed.
+    pub fn clear(&mut self)
+        ensures empty { ⟦<Store<L> as Sink>⟧.contents self.new ≡ Some [] }
+        ensures not_failed { ⟦<Store<L> as Sink>⟧.has_failed self.new ≡ false }
+        ensures sure { ⟦<Store<L> as Sink>⟧.sure self.new ≡ L }
+    {
+        self.held.clear();
+        self.failed = false;
+    }
+
     /// The bytes that it holds, at most `L`.
     pub fn bytes(&self) -> &[u8]
         ensures held { ⟦<Store<L> as Sink>⟧.contents self.now ≡ Some result.now }

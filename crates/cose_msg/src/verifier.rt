@@ -63,7 +63,7 @@ pub struct Verifier<'k, const H: usize, const D: usize> {
 
 impl<'k, const H: usize, const D: usize> Verifier<'k, H, D> {
     ghost use Rattle.std.specs.Prelude.{◌≡◌, ℕ, List, [], ◌∷◌, ◌++◌, ◌+◌, ◌-◌, length, take, true, false, if◌then◌else◌};
-    ghost use Rattle.cose_msg.specs.Kept.{HasTaken, bytes_taken, is_inspecting};
+    ghost use Rattle.cose_msg.specs.Kept.{HasTaken, bytes_taken, is_inspecting, setting_in};
     ghost use Rattle.cose_msg.specs.Phase.{grown, in_payload, is_settled, takes_bytes, want_of};
     ghost use Rattle.cose_msg.specs.Reading.{Reading, stop, Told};
     ghost use Rattle.cose_msg.specs.Shown.{Tells, Walks, held};
@@ -80,6 +80,7 @@ impl<'k, const H: usize, const D: usize> Verifier<'k, H, D> {
         ensures tells { Tells (record { setting = setting_of context.entry; inspects = inspecting }) [] result }
         ensures held { held result ≡ 256 }
         ensures walks { Walks [] result }
+        ensures context { setting_in result ≡ setting_of context.entry }
         ensures inspects { is_inspecting result ≡ inspecting }
     {
         Verifier {
@@ -111,6 +112,7 @@ impl<'k, const H: usize, const D: usize> Verifier<'k, H, D> {
         ensures tells { Tells (to_verify (setting_of context.entry)) [] result }
         ensures held { held result ≡ 256 }
         ensures walks { Walks [] result }
+        ensures context { setting_in result ≡ setting_of context.entry }
         ensures inspects { is_inspecting result ≡ false }
     {
         Self::made(context, false)
@@ -127,6 +129,7 @@ impl<'k, const H: usize, const D: usize> Verifier<'k, H, D> {
         ensures tells { Tells (to_inspect (setting_of context.entry)) [] result }
         ensures held { held result ≡ 256 }
         ensures walks { Walks [] result }
+        ensures context { setting_in result ≡ setting_of context.entry }
         ensures inspects { is_inspecting result ≡ true }
     {
         Self::made(context, true)
@@ -154,6 +157,7 @@ impl<'k, const H: usize, const D: usize> Verifier<'k, H, D> {
         ensures tells { Tells (task_of self.old) [] self.new }
         ensures held { held self.new ≡ 256 }
         ensures walks { Walks [] self.new }
+        ensures context { setting_in self.new ≡ setting_in self.old }
         ensures inspects { is_inspecting self.new ≡ is_inspecting self.old }
     {
         self.protected.clear();
@@ -168,6 +172,13 @@ impl<'k, const H: usize, const D: usize> Verifier<'k, H, D> {
         self.phase = Phase::FirstHead;
         self.taken = 0;
         self.stopped = false;
+    }
+
+    /// What the message is verified under.
+    pub fn context(&self) -> Context<'k>
+        ensures { setting_of result ≡ setting_in self.now }
+    {
+        self.context
     }
 
     /// The number of bytes of the message that were taken.

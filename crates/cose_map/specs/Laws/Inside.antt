@@ -8,7 +8,7 @@ use Rattle.cose_map.specs.Key.{key_of}
 use Rattle.cose_map.specs.Label.{LabelValue}
 use Rattle.cose_map.specs.Map.Read.{Read, check_map, read_map}
 use Rattle.cose_map.specs.Map.Form.{Table}
-use Rattle.cose_map.specs.Map.Pairs.{Pair}
+use Rattle.cose_map.specs.Map.Pairs.{Pair, pair_of}
 use Rattle.cose_map.specs.Bucket.Both.{pair_fault}
 
 -- A refusal stands no later than a place.
@@ -33,6 +33,11 @@ PairEndsBy end pair = EndsBy end pair.label × EndsBy end pair.value
 
 abbrev pub PairsEndBy : ℕ → List Pair → Type 0
 PairsEndBy end pairs = AllByRecursion (PairEndsBy end) pairs
+
+-- What a map that was read has under a label is among its bytes.
+abbrev pub FoundEndsInside : Type 0
+FoundEndsInside = (table : Table) (p : Placed) (pairs : List Pair) (name : LabelValue) → check_map table p ≡ Ok pairs →
+    IfSome (pair_of name pairs) (PairEndsBy (end_of p))
 
 -- The pairs of a bucket are among its bytes.
 abbrev pub BucketEndsInside : Type 0

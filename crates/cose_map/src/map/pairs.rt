@@ -33,20 +33,28 @@ impl<'a> Iterator for Pairs<'a> {
 impl<'a> Pairs<'a> {
     ghost use Rattle.std.specs.Prelude.{◌≡◌, option_map};
     ghost use Rattle.cose_head.specs.ItemRef.{placed};
-    ghost use Rattle.cose_map.specs.Map.Pairs.{value_of, has_label};
-    ghost use Rattle.cose_map.specs.Map.View.{pairs_left};
+    ghost use Rattle.cose_map.specs.Map.Pairs.{pair_of, value_of, has_label};
+    ghost use Rattle.cose_map.specs.Map.View.{pair_value, pairs_left};
     ghost use Rattle.cose_map.specs.Label.View.{label_value};
+
+    /// The pair of a label: the label, its item, and the value.
+    pub fn pair(&self, label: &Label<'_>) -> Option<(Label<'a>, ItemRef<'a>, ItemRef<'a>)>
+        ensures { option_map pair_value result ≡ pair_of (label_value label.now) (pairs_left self.now) }
+    {
+        'pairs: for (name, item, value) in *self {
+            if label.is_same(&name) {
+                return Some((name, item, value));
+            }
+        }
+        None
+    }
 
     /// The value of a label.
     pub fn get(&self, label: &Label<'_>) -> Option<ItemRef<'a>>
         ensures { option_map placed result ≡ value_of (label_value label.now) (pairs_left self.now) }
     {
-        'pairs: for (name, _item, value) in *self {
-            if label.is_same(&name) {
-                return Some(value);
-            }
-        }
-        None
+        let (_name, _item, value) = self.pair(label)?;
+        Some(value)
     }
 
     /// Whether a label stands among the pairs.

@@ -15,7 +15,7 @@ use crate::map::pairs::Pairs;
 use cose_head::{ItemRef, Items, Reason, Refusal};
 
 /// The refusal of an item, at its place.
-pub(crate) fn refused(reason: Reason, item: &ItemRef<'_>) -> Refusal
+pub fn refused(reason: Reason, item: &ItemRef<'_>) -> Refusal
     ensures { result ≡ record { reason = reason; place = item.now.place } }
 {
     Refusal {

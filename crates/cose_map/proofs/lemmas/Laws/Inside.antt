@@ -207,6 +207,10 @@ module _ (wholes : WholeIsItem) (inside : WholeIsRefusedInside) (children : Chil
   pub map_refused_inside : (table : Table) (p : Placed) → RefusedBy (end_of p) (check_map table p)
   map_refused_inside table p = refused_by (end_of p) (PairsEndBy (end_of p)) (check_map table p) (map_inside table p)
 
+  pub found_ends_inside : (table : Table) (p : Placed) (pairs : List Pair) (name : LabelValue) → check_map table p ≡ Ok pairs →
+      IfSome (pair_of name pairs) (PairEndsBy (end_of p))
+  found_ends_inside table p pairs name e = all_found (PairEndsBy (end_of p)) (is_named name) pairs (rw e at (map_inside table p))
+
   pub read_refused_inside : (table : Table) (depth : ℕ) (p : Placed) → RefusedBy (end_of p) (read_map table depth p)
   read_refused_inside table depth p = refused_by (end_of p) (PairsEndBy (end_of p)) (read_map table depth p) (read_inside table depth p)
 

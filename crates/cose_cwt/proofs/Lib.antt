@@ -1,0 +1,5 @@
+pub mod Tokens
+pub mod Inside
+pub mod Trees
+pub mod WorkedClaims
+pub mod WorkedAdmission

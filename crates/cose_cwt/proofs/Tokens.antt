@@ -1,0 +1,93 @@
+-- What a run of the verifier says of a token.
+use Rattle.std.proofs.Common.{◌≡◌, ◌∙◌, ℕ, ◌≤◌, Bool, true, false, List, [], ◌++◌, length, Option, Some, None, Ok, Err, refl, sym, ap, subst}
+use Rattle.std.specs.Prelude.{Result}
+use Rattle.std.proofs.lemmas.List.{append-nil}
+use Rattle.cose_head.specs.declared.refusal.Refusal.{Refusal}
+use Rattle.cose_map.specs.Laws.Inside.{RefusedBy}
+use Rattle.cose_map.specs.Map.Read.{Read}
+use Rattle.cose_msg.specs.declared.verdict.Stop.{Stop}
+use Rattle.cose_msg.specs.declared.verdict.Verdict.{Verdict}
+use Rattle.cose_msg.specs.declared.verdict.Verdict.TheVariants.{Authentic, Refused}
+use Rattle.cose_msg.specs.Laws.{MessageStays}
+use Rattle.cose_msg.specs.Message.{Decides, Setting, verifying}
+use Rattle.cose_msg.specs.Reading.{Reading}
+use Rattle.cose_msg.specs.Answer.{decided}
+use Rattle.cose_msg.specs.Run.{Run, stops_for_sink}
+use Rattle.cose_cwt.specs.declared.token.CwtStop.TheVariants as stops
+use Rattle.cose_cwt.specs.Admission.{PolicyValue, admitted_claims}
+use Rattle.cose_cwt.specs.Claims.{ClaimsValue}
+use Rattle.cose_cwt.specs.Token.{IsToken, Outcome, UnlessStopped, is_for_store, of_claims, read_as, stop_in, token_of}
+
+-- what a store held before, and what it holds
+pub with_contents : (H D : ℕ) (setting : Setting) (decides : Decides) (come come_after contents contents_after : Option (List ℕ)) (ended : Bool) (verdict : Result Verdict Stop) (taken payload : List ℕ) →
+    contents ≡ Some [] → contents_after ≡ Some payload →
+    Run (verifying H D setting decides) decided [] [] come come_after ended contents contents_after verdict taken →
+    Run (verifying H D setting decides) decided [] [] come come_after ended (Some []) (Some payload) verdict taken
+with_contents H D setting decides come come_after contents contents_after ended verdict taken payload before after run =
+    subst (λ (old : Option (List ℕ)). Run (verifying H D setting decides) decided [] [] come come_after ended old (Some payload) verdict taken) before
+    (subst (λ (new : Option (List ℕ)). Run (verifying H D setting decides) decided [] [] come come_after ended contents new verdict taken) after run)
+
+-- The bytes taken come to the same as all.
+same_reading : MessageStays → (H D : ℕ) (setting : Setting) (decides : Decides) (taken rest : List ℕ) (settled : Bool) → (read_as H D setting decides taken).settled ≡ settled →
+    ((read_as H D setting decides taken).settled ≡ false → rest ≡ []) → read_as H D setting decides (taken ++ rest) ≡ read_as H D setting decides taken
+same_reading stays H D setting decides taken rest true is ends = stays (verifying H D setting decides) taken rest is
+same_reading stays H D setting decides taken rest false is ends =
+    ap (read_as H D setting decides) (ap (λ (more : List ℕ). taken ++ more) (ends is) ∙ append-nil taken)
+
+judged : MessageStays → (H D : ℕ) (setting : Setting) (decides : Decides) (policy : PolicyValue) (come_after : Option (List ℕ)) (ended : Bool) (verdict : Verdict) (taken payload bytes : List ℕ) (outcome : Outcome) →
+    Run (verifying H D setting decides) decided [] [] (Some bytes) come_after ended (Some []) (Some payload) (Ok verdict) taken → outcome ≡ token_of D policy (Ok verdict) payload →
+    IsToken H D setting decides policy bytes outcome
+judged stays H D setting decides policy None ended verdict taken payload bytes outcome run comes = absurd run.bytes
+judged stays H D setting decides policy (Some rest) ended verdict taken payload bytes outcome run comes =
+    let whole : bytes ≡ taken ++ rest = run.bytes in
+    let same : read_as H D setting decides bytes ≡ read_as H D setting decides taken =
+    ap (read_as H D setting decides) whole
+    ∙ same_reading stays H D setting decides taken rest (read_as H D setting decides taken).settled refl (λ open_yet. (run.answer.ends.unsettled open_yet).1) in
+    let grown : (read_as H D setting decides taken).told.payload ≡ payload = run.payload.1 ∙ sym run.payload.2 in
+    let told : (read_as H D setting decides bytes).told.payload ≡ payload = ap (λ (reading : Reading). reading.told.payload) same ∙ grown in
+    record {
+      verdict = verdict;
+      judged = ap (λ (reading : Reading). reading.answer) same ∙ run.answer.answer;
+      comes = comes ∙ ap (token_of D policy (Ok verdict)) (sym told);
+    }
+
+unless_stopped : {Says : Type 0} (outcome : Outcome) → Says → UnlessStopped outcome Says
+unless_stopped (Ok claims) says = says
+unless_stopped (Err (stops.Stopped stop)) says = tt
+unless_stopped (Err (stops.Message refusal)) says = says
+unless_stopped (Err (stops.Claims refusal)) says = says
+
+pub token_of_run : MessageStays → (H D : ℕ) (setting : Setting) (decides : Decides) (policy : PolicyValue) (come come_after : Option (List ℕ)) (ended : Bool) (verdict : Result Verdict Stop) (taken payload bytes : List ℕ) (outcome : Outcome) →
+    Run (verifying H D setting decides) decided [] [] come come_after ended (Some []) (Some payload) verdict taken → outcome ≡ token_of D policy verdict payload → come ≡ Some bytes →
+    UnlessStopped outcome (IsToken H D setting decides policy bytes outcome)
+token_of_run stays H D setting decides policy come come_after ended (Ok verdict) taken payload bytes outcome run comes e =
+    unless_stopped outcome (judged stays H D setting decides policy come_after ended verdict taken payload bytes outcome
+    (subst (λ (old : Option (List ℕ)). Run (verifying H D setting decides) decided [] [] old come_after ended (Some []) (Some payload) (Ok verdict) taken) e run) comes)
+token_of_run stays H D setting decides policy come come_after ended (Err stop) taken payload bytes outcome run comes e =
+    subst (λ (o : Outcome). UnlessStopped o (IsToken H D setting decides policy bytes outcome)) (sym comes) tt
+
+-- A place of the claims is in the payload.
+claims_placed : (read : Read ClaimsValue) (end : ℕ) (refusal : Refusal) → of_claims read ≡ Err (stops.Claims refusal) → RefusedBy end read → refusal.place ≤ end
+claims_placed (Ok claims) end refusal e s = absurd cc
+claims_placed (Err other) end refusal e s = let same : other ≡ refusal = cc in subst (λ (r : Refusal). r.place ≤ end) same s
+
+pub token_placed : (depth : ℕ) (policy : PolicyValue) (verdict : Result Verdict Stop) (payload : List ℕ) (outcome : Outcome) (refusal : Refusal) → outcome ≡ token_of depth policy verdict payload →
+    outcome ≡ Err (stops.Claims refusal) → RefusedBy (length payload) (admitted_claims depth policy payload) → refusal.place ≤ length payload
+token_placed depth policy (Ok (Authentic kind alg n taken)) payload outcome refusal comes e s =
+    claims_placed (admitted_claims depth policy payload) (length payload) refusal (sym comes ∙ e) s
+token_placed depth policy (Ok (Refused other)) payload outcome refusal comes e s = let clash : Err (stops.Message other) ≡ Err (stops.Claims refusal) = sym comes ∙ e in absurd cc
+token_placed depth policy (Err stop) payload outcome refusal comes e s = let clash : Err (stops.Stopped stop) ≡ Err (stops.Claims refusal) = sym comes ∙ e in absurd cc
+
+-- The store stops no token where it doesn't stop the verifier.
+no_stop : (read : Read ClaimsValue) → stop_in (of_claims read) ≡ None
+no_stop (Ok claims) = refl
+no_stop (Err refusal) = refl
+
+store_stop : (depth : ℕ) (policy : PolicyValue) (verdict : Result Verdict Stop) (payload : List ℕ) → stops_for_sink verdict ≡ false → is_for_store (stop_in (token_of depth policy verdict payload)) ≡ false
+store_stop depth policy (Ok (Authentic kind alg length taken)) payload e = ap is_for_store (no_stop (admitted_claims depth policy payload))
+store_stop depth policy (Ok (Refused refusal)) payload e = refl
+store_stop depth policy (Err stop) payload e = e
+
+pub store_suffices : (depth : ℕ) (policy : PolicyValue) (verdict : Result Verdict Stop) (payload : List ℕ) (outcome : Outcome) → outcome ≡ token_of depth policy verdict payload →
+    stops_for_sink verdict ≡ false → is_for_store (stop_in outcome) ≡ false
+store_suffices depth policy verdict payload outcome comes e = ap (λ (o : Outcome). is_for_store (stop_in o)) comes ∙ store_stop depth policy verdict payload e

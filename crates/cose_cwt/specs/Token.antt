@@ -1,0 +1,76 @@
+-- What a token comes to (RFC 8392 section 7.2): the verdict on the message, and then the claims of its payload.
+use Rattle.std.specs.Prelude.{◌≡◌, ℕ, Bool, false, List, [], length, Option, Some, None, Result, Ok, Err, ⊤}
+use Rattle.cose_map.specs.Map.Read.{Read}
+use Rattle.cose_msg.specs.declared.verdict.Stop.{Stop}
+use Rattle.cose_msg.specs.declared.verdict.Verdict.{Verdict}
+use Rattle.cose_msg.specs.declared.verdict.Verdict.TheVariants.{Authentic, Refused}
+use Rattle.cose_msg.specs.declared.verifier.Verifier.{Verifier}
+use Rattle.cose_msg.specs.Answer.{decided}
+use Rattle.cose_msg.specs.Kept.{answered_again, bytes_taken, kept_answer}
+use Rattle.cose_msg.specs.Message.{Decides, Setting, message, verdict_of, verifying}
+use Rattle.cose_msg.specs.Reading.{Reading}
+use Rattle.cose_msg.specs.Run.{Run, is_intake_stop, is_sink_stop}
+use Rattle.cose_cwt.specs.declared.claims.Claims.{Claims}
+use Rattle.cose_cwt.specs.declared.token.CwtStop.{CwtStop}
+use Rattle.cose_cwt.specs.declared.token.CwtStop.TheVariants as stops
+use Rattle.cose_cwt.specs.Admission.{PolicyValue, admitted_claims}
+use Rattle.cose_cwt.specs.Claims.{ClaimsValue}
+use Rattle.cose_cwt.specs.Claims.View.{claims_value}
+
+-- The claims, or why there are none.
+abbrev pub Outcome : Type 0
+Outcome = Result ClaimsValue CwtStop
+
+abbrev pub claims_seen : Result Claims CwtStop → Outcome
+claims_seen (Ok claims) = Ok (claims_value claims)
+claims_seen (Err stop) = Err stop
+
+abbrev pub of_claims : Read ClaimsValue → Outcome
+of_claims (Ok claims) = Ok claims
+of_claims (Err refusal) = Err (stops.Claims refusal)
+
+-- The claims of an authentic message, where they are admitted.
+abbrev pub token_of : ℕ → PolicyValue → Result Verdict Stop → List ℕ → Outcome
+token_of depth policy (Ok (Authentic kind alg length taken)) payload = of_claims (admitted_claims depth policy payload)
+token_of depth policy (Ok (Refused refusal)) payload = Err (stops.Message refusal)
+token_of depth policy (Err stop) payload = Err (stops.Stopped stop)
+
+abbrev pub read_as : ℕ → ℕ → Setting → Decides → List ℕ → Reading
+read_as room nesting setting decides bytes = message (verifying room nesting setting decides) bytes
+
+-- What the token that all these bytes are comes to.
+pub record IsToken (room nesting : ℕ) (setting : Setting) (decides : Decides) (policy : PolicyValue) (bytes : List ℕ) (outcome : Outcome) : Type 0 where
+  pub verdict : Verdict
+  pub judged : verdict_of room nesting setting decides bytes ≡ decided verdict
+  pub comes : outcome ≡ token_of nesting policy (Ok verdict) (read_as room nesting setting decides bytes).told.payload
+
+-- The same, but where the verifier stopped.
+abbrev pub UnlessStopped : Outcome → Type 0 → Type 0
+UnlessStopped (Ok claims) says = says
+UnlessStopped (Err (stops.Stopped stop)) says = ⊤
+UnlessStopped (Err (stops.Message refusal)) says = says
+UnlessStopped (Err (stops.Claims refusal)) says = says
+
+-- What a call did: a verifier that had taken nothing has taken these bytes and keeps its verdict, the store has the payload
+-- among them, and the outcome is what the token comes to.
+pub record IsRun {H D : ℕ} (setting : Setting) (decides : Decides) (policy : PolicyValue) (come come_after : Option (List ℕ)) (ended : Bool) (v : Verifier H D) (outcome : Outcome) : Type 0 where
+  pub taken : List ℕ
+  pub payload : List ℕ
+  pub verdict : Result Verdict Stop
+  pub run : Run (verifying H D setting decides) decided [] [] come come_after ended (Some []) (Some payload) verdict taken
+  pub counted : bytes_taken v ≡ length taken
+  pub kept : kept_answer v ≡ Some (answered_again verdict)
+  pub comes : outcome ≡ token_of D policy verdict payload
+
+-- Why a verifier stopped, if it did.
+abbrev pub stop_in : Outcome → Option Stop
+stop_in (Ok claims) = None
+stop_in (Err (stops.Stopped stop)) = Some stop
+stop_in (Err (stops.Message refusal)) = None
+stop_in (Err (stops.Claims refusal)) = None
+
+abbrev pub is_for_intake : Option Stop → Bool
+is_for_intake stop = is_intake_stop stop
+
+abbrev pub is_for_store : Option Stop → Bool
+is_for_store stop = is_sink_stop stop

@@ -1,0 +1,63 @@
+//! CBOR Web Tokens (RFC 8392), and the keys that they confirm (RFC 8747).
+//!
+//! [`verify_cwt`] verifies a token over any intake, and gives its [`Claims`] where the message is authentic and a [`Policy`]
+//! admits them. The claims borrow the store that got the payload. No memory is taken. Here `keys` is a [`KeySet`], and `token` the
+//! bytes of a token:
+//!
+//! ```rust
+//! use cose_cwt::{
+//!     Audience, Context, CwtStop, Never, Policy, SliceIntake, Store, Verifier, Wanted, verify_cwt,
+//! };
+//!
+//! let mut verifier = Verifier::<1024, 8>::new(Context {
+//!     keys,
+//!     aad: b"",
+//!     wanted: Wanted::Tagged,
+//!     cwt: true,
+//!     understood: &[],
+//!     payload_limit: 4096,
+//! });
+//! let mut store = Store::<4096>::new();
+//! let mut intake = SliceIntake::new(token, 64);
+//! let policy = Policy {
+//!     now: 1_444_064_943,
+//!     leeway: 60,
+//!     audience: Audience::Mine(&["coap://light.example.com"]),
+//! };
+//! match verify_cwt::<512, 1024, 8, 4096, _, _>(
+//!     &mut verifier,
+//!     &mut intake,
+//!     &mut store,
+//!     &Never,
+//!     &policy,
+//! ) {
+//!     Ok(claims) => assert_eq!(rt; claims.sub(), Some("erikw")),
+//!     Err(CwtStop::Stopped(_)) => panic!(rt; "the intake failed"),
+//!     Err(CwtStop::Message(refusal)) => panic!(rt; "the message: {refusal}"),
+//!     Err(CwtStop::Claims(refusal)) => panic!(rt; "the claims: {refusal}"),
+//! }
+//! ```
+//!
+//! The key that a token confirms, as a set of one ([`Claims::cnf_set`]), serves as the keys of a context for the messages that
+//! the token's presenter authenticates.
+#![tactic(auto)]
+
+mod claims;
+mod confirmation;
+pub mod laws;
+mod policy;
+mod token;
+
+pub use claims::Claims;
+pub use claims::audience::Auds;
+pub use confirmation::Cnf;
+pub use cose_map::{Key, KeySet, Label, Material, Ops, Reason, Refusal, Y};
+pub use cose_msg::{
+    Context, EcVerifier, Intake, IntakeFault, Never, ReadIntake, SliceIntake, Stop, Store,
+    Verifier, Wanted,
+};
+pub use policy::{Audience, Policy};
+pub use token::{CwtStop, verify_cwt};
+
+#[cfg(test)]
+mod tests;

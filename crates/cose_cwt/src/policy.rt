@@ -1,0 +1,137 @@
+//! What a token has to meet to be admitted (RFC 8392 sections 3.1.3 to 3.1.5).
+
+ghost use Rattle.std.specs.Prelude.{◌≡◌, List, Option, Some, map, option_map};
+ghost use Rattle.std.specs.List.{list_any};
+ghost use Rattle.cose_map.specs.Map.View.{seen_by};
+ghost use Rattle.cose_cwt.specs.Admission as spec;
+ghost use Rattle.cose_cwt.specs.Admission.View.{audience_value, policy_value};
+ghost use Rattle.cose_cwt.specs.Claims.Audience.{text_value, texts_left};
+ghost use Rattle.cose_cwt.specs.Claims.View.{claims_value};
+
+use crate::claims::audience::Auds;
+use crate::claims::{Claims, labels};
+use cose_map::{Reason, Refusal, refused};
+
+/// For whom a token has to be.
+#[derive(Clone, Copy, Debug)]
+pub enum Audience<'p> {
+    /// For one of those that these texts stand for, where the token names an audience.
+    Mine(&'p [&'p str]),
+    /// For anyone: the caller looks at the audience.
+    LeftToCaller,
+}
+
+/// What a token has to meet to be admitted.
+#[derive(Clone, Copy, Debug)]
+pub struct Policy<'p> {
+    /// The moment, in seconds since 1970. Where it comes from is the caller's: nothing here reads a clock.
+    pub now: i64,
+    /// By how many seconds the clocks of issuer and caller may differ.
+    pub leeway: u32,
+    /// For whom the token has to be.
+    pub audience: Audience<'p>,
+}
+
+/// Whether a text is one of mine.
+fn is_mine(text: &str, mine: &[&str]) -> bool
+    ensures { result ≡ spec.is_one_of (map text_value mine.now) text.now }
+{
+    'mine: for name in mine {
+        if text == *name {
+            return true;
+        }
+    }
+    false
+}
+
+/// Whether one of the texts is one of mine.
+fn names_one(texts: Auds<'_>, mine: &[&str]) -> bool
+    ensures { result ≡ spec.names_one (map text_value mine.now) (texts_left texts.entry) }
+{
+    'texts: for text in texts {
+        if is_mine(text, mine) {
+            return true;
+        }
+    }
+    false
+}
+
+impl Policy<'_> {
+    /// Whether the moment is this one or after it, with the leeway.
+    fn has_expired(&self, exp: i128) -> bool
+        ensures { result ≡ spec.has_expired (policy_value self.entry.now) exp }
+    {
+        i128::from(self.now) - i128::from(self.leeway) >= exp
+    }
+
+    /// Whether the moment is before this one, with the leeway.
+    fn is_early(&self, nbf: i128) -> bool
+        ensures { result ≡ spec.is_early (policy_value self.entry.now) nbf }
+    {
+        i128::from(self.now) + i128::from(self.leeway) < nbf
+    }
+
+    /// Whether texts name an audience of which the caller is none.
+    fn is_for_others(&self, texts: Auds<'_>) -> bool
+        ensures { result ≡ spec.is_for_others (policy_value self.entry.now) (texts_left texts.entry) }
+    {
+        match self.audience {
+            Audience::Mine(mine) => !names_one(texts, mine),
+            Audience::LeftToCaller => false,
+        }
+    }
+}
+
+impl Claims<'_> {
+    /// Refuses a token that has expired.
+    fn not_expired(&self, policy: &Policy<'_>) -> Result<(), Refusal>
+        ensures { result ≡ spec.not_expired (policy_value policy.entry.now) (claims_value self.now) }
+    {
+        let Some(value) = self.pairs.get(&labels::EXP) else {
+            return Ok(());
+        };
+        match value.as_int() {
+            Some(exp) if policy.has_expired(exp) => Err(refused(Reason::Expired, &value)),
+            _ => Ok(()),
+        }
+    }
+
+    /// Refuses a token that isn't valid yet.
+    fn not_early(&self, policy: &Policy<'_>) -> Result<(), Refusal>
+        ensures { result ≡ spec.not_early (policy_value policy.entry.now) (claims_value self.now) }
+    {
+        let Some(value) = self.pairs.get(&labels::NBF) else {
+            return Ok(());
+        };
+        match value.as_int() {
+            Some(nbf) if policy.is_early(nbf) => Err(refused(Reason::NotYet, &value)),
+            _ => Ok(()),
+        }
+    }
+
+    /// Refuses a token that is for others.
+    fn not_for_others(&self, policy: &Policy<'_>) -> Result<(), Refusal>
+        ensures { result ≡ spec.not_for_others (policy_value policy.entry.now) (claims_value self.now) }
+    {
+        match self.pairs.get(&labels::AUD) {
+            Some(value) if policy.is_for_others(Auds::of(&value)) => {
+                Err(refused(Reason::WrongAudience, &value))
+            }
+            _ => Ok(()),
+        }
+    }
+
+    /// Whether the claims meet a policy. A claim that is absent does.
+    ///
+    /// The refusal is [`Reason::Expired`] where exp and the leeway aren't after now; then [`Reason::NotYet`] where nbf is after
+    /// now and the leeway; then [`Reason::WrongAudience`] where the policy names texts, the token names an audience and has
+    /// none of them. Each stands at the claim's value. The sums are over whole numbers.
+    #[tactic(auto, unfolding(crate::specs::Admission::admitted))]
+    pub fn admit(&self, policy: &Policy<'_>) -> Result<(), Refusal>
+        ensures { result ≡ spec.admitted (policy_value policy.entry.now) (claims_value self.now) }
+    {
+        self.not_expired(policy)?;
+        self.not_early(policy)?;
+        self.not_for_others(policy)
+    }
+}

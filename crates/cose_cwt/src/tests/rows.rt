@@ -1,0 +1,203 @@
+//! Claims and their admission, without a message around them.
+
+use crate::tests::{CLAIMS, at, refusal};
+use crate::{Audience, Claims, Policy};
+use cose_map::{Material, Reason, Refusal, Y};
+use std::process::Abort;
+use std::test::Fail;
+
+#[test]
+fn refuses_claims(rt: HostRuntime) {
+    let rows: [(&[u8], Refusal); 22] = [
+        (b"", refusal(Reason::PastRoom, 0)),
+        (b"\x00", refusal(Reason::NotMap, 0)),
+        (b"\xbf", refusal(Reason::Indefinite, 0)),
+        (
+            b"\xbb\xff\xff\xff\xff\xff\xff\xff\xff",
+            refusal(Reason::PastRoom, 0),
+        ),
+        (
+            b"\xa1\x18\x64\x81\x81\x81\x81\x00",
+            refusal(Reason::TooDeep, 6),
+        ),
+        // What stands behind the item goes first.
+        (b"\xd8\x3d\x00\x00", refusal(Reason::Trailing, 3)),
+        (b"\xd8\x3d\x00", refusal(Reason::NestedCwt, 0)),
+        (b"\xd1\x00", refusal(Reason::NestedCwt, 0)),
+        (b"\xa1\x40\x00", refusal(Reason::BadLabel, 1)),
+        (
+            b"\xa2\x04\x00\x18\x04\x00",
+            refusal(Reason::DuplicateLabel, 3),
+        ),
+        (b"\xa1\x01\x61\xff", refusal(Reason::BadValue, 2)),
+        (b"\xa1\x03\x80", refusal(Reason::BadValue, 2)),
+        (b"\xa1\x04\xf9\x3c\x00", refusal(Reason::FloatDate, 2)),
+        (
+            b"\xa1\x04\xc1\x1a\x56\x12\xae\xb0",
+            refusal(Reason::TaggedDate, 2),
+        ),
+        // Confirmations.
+        (b"\xa1\x08\xa1\x02\x80", refusal(Reason::EncryptedKey, 3)),
+        (
+            b"\xa1\x08\xa2\x01\xa0\x02\x80",
+            refusal(Reason::BadConfirmation, 2),
+        ),
+        (
+            b"\xa1\x08\xa1\x01\xa1\x01\x01",
+            refusal(Reason::BadConfirmation, 4),
+        ),
+        (
+            b"\xa1\x08\xa1\x01\xa2\x01\x04\x20\x41\x61",
+            refusal(Reason::PlainKey, 4),
+        ),
+        (b"\xa1\x08\xa1\x03\x00", refusal(Reason::BadValue, 4)),
+        (
+            b"\xa1\x08\xa2\x03\x00\x03\x00",
+            refusal(Reason::DuplicateLabel, 5),
+        ),
+        (b"\xa1\x08\x00", refusal(Reason::BadValue, 2)),
+        // The claims go before the confirmation, wherever it stands.
+        (
+            b"\xa2\x08\xa1\x01\xa2\x01\x04\x20\x41\x61\x01\x00",
+            refusal(Reason::BadValue, 11),
+        ),
+    ];
+    for (bytes, want) in rows {
+        assert_eq!(rt; Claims::read(bytes, 4).err(), Some(want), "of {bytes:?}");
+    }
+}
+
+/// Whether the claims are admitted, or why not.
+fn admission(bytes: &[u8], policy: &Policy<'_>) -> Result<(), Refusal> {
+    Claims::read(bytes, 4)?.admit(policy)
+}
+
+#[test]
+fn admits_within_the_dates(rt: HostRuntime) {
+    let expired = Err(refusal(Reason::Expired, 59));
+    let not_yet = Err(refusal(Reason::NotYet, 65));
+    let rows = [
+        (1_444_064_943, 0, Ok(())),
+        (1_444_064_944, 0, expired),
+        (1_443_944_944, 0, Ok(())),
+        (1_443_944_943, 0, not_yet),
+        (1_444_064_944, 1, Ok(())),
+        (1_444_064_945, 1, expired),
+        (1_443_944_943, 1, Ok(())),
+        (1_443_944_942, 1, not_yet),
+    ];
+    for (now, leeway, want) in rows {
+        assert_eq!(rt;
+            admission(CLAIMS, &at(now, leeway)),
+            want,
+            "at {now} with {leeway}"
+        );
+    }
+}
+
+#[test]
+fn adds_without_limit(rt: HostRuntime) {
+    let latest = b"\xa1\x04\x1b\xff\xff\xff\xff\xff\xff\xff\xff";
+    let earliest = b"\xa1\x05\x3b\xff\xff\xff\xff\xff\xff\xff\xff";
+    let long_ago = b"\xa1\x04\x3b\xff\xff\xff\xff\xff\xff\xff\xff";
+    assert_eq!(rt; admission(latest, &at(i64::MAX, 0)), Ok(()));
+    assert_eq!(rt; admission(earliest, &at(i64::MIN, 0)), Ok(()));
+    assert_eq!(rt;
+        admission(long_ago, &at(0, u32::MAX)),
+        Err(refusal(Reason::Expired, 2))
+    );
+}
+
+/// Whether two audiences, `a` and `b`, are admitted by whoever these texts stand for.
+fn admits_two(rt: &impl Abort, mine: &[&str], want: Result<(), Refusal>) {
+    let policy = Policy {
+        now: 0,
+        leeway: 0,
+        audience: Audience::Mine(mine),
+    };
+    assert_eq!(rt; admission(b"\xa1\x03\x82\x61\x61\x61\x62", &policy), want);
+}
+
+#[test]
+fn admits_its_audience(rt: HostRuntime) {
+    let others = Err(refusal(Reason::WrongAudience, 2));
+    admits_two(&rt, &["b"], Ok(()));
+    admits_two(&rt, &["c"], others);
+    admits_two(&rt, &["c", "a"], Ok(()));
+    admits_two(&rt, &[], others);
+    let mine = Policy {
+        now: 1_444_064_943,
+        leeway: 0,
+        audience: Audience::Mine(&["other"]),
+    };
+    assert_eq!(rt;
+        admission(CLAIMS, &mine),
+        Err(refusal(Reason::WrongAudience, 32))
+    );
+    assert_eq!(rt; admission(b"\xa0", &mine), Ok(()));
+}
+
+#[test]
+fn gives_what_claims_say(rt: HostRuntime) -> Result<(), Fail> {
+    let claims = Claims::read(CLAIMS, 4)?;
+    assert_eq!(rt; claims.iss(), Some("coap://as.example.com"));
+    assert_eq!(rt; claims.sub(), Some("erikw"));
+    let mut auds = claims.auds();
+    assert_eq!(rt; auds.next(), Some("coap://light.example.com"));
+    assert_eq!(rt; auds.next(), None);
+    assert!(rt; claims.aud_has("coap://light.example.com"));
+    assert!(rt; !claims.aud_has("coap://light.example.co"));
+    assert_eq!(rt; claims.exp(), Some(1_444_064_944));
+    assert_eq!(rt; claims.nbf(), Some(1_443_944_944));
+    assert_eq!(rt; claims.iat(), Some(1_443_944_944));
+    assert_eq!(rt; claims.cti(), Some(b"\x0b\x71".as_slice()));
+    assert!(rt; claims.cnf().is_none());
+    assert!(rt; claims.cnf_set().is_none());
+    Ok(())
+}
+
+#[test]
+fn gives_nothing_of_unknown_claims(rt: HostRuntime) -> Result<(), Fail> {
+    let claims = Claims::read(b"\xa1\x18\x64\xf9\x3c\x00", 4)?;
+    assert_eq!(rt; claims.iss(), None);
+    assert_eq!(rt; claims.sub(), None);
+    assert_eq!(rt; claims.auds().next(), None);
+    assert_eq!(rt; claims.exp(), None);
+    assert_eq!(rt; claims.nbf(), None);
+    assert_eq!(rt; claims.iat(), None);
+    assert_eq!(rt; claims.cti(), None);
+    assert!(rt; claims.cnf().is_none());
+    Ok(())
+}
+
+#[test]
+fn gives_the_confirmation(rt: HostRuntime) -> Result<(), Fail> {
+    let by_kid = Claims::read(b"\xa1\x08\xa1\x03\x411", 4)?;
+    match by_kid.cnf() {
+        Some(cnf) => {
+            assert_eq!(rt; cnf.kid, Some(b"1".as_slice()));
+            assert!(rt; cnf.key.is_none());
+        }
+        None => panic!(rt; "a confirmation without a key"),
+    }
+    assert!(rt; by_kid.cnf_set().is_none());
+    let by_sign = b"\xa1\x08\xa1\x01\xa4\x01\x02\x20\x01\x21\x58\x20\
+        abcdefghijklmnopqrstuvwxyzABCDEF\x22\xf5";
+    let by_key = Claims::read(by_sign, 4)?;
+    match by_key.cnf().and_then(|cnf| cnf.key).map(|key| key.material) {
+        Some(
+            Material::Ec {
+                crv,
+                x,
+                y: Y::Sign(odd),
+            },
+        ) => {
+            assert_eq!(rt; crv, 1);
+            assert_eq!(rt; x, b"abcdefghijklmnopqrstuvwxyzABCDEF".as_slice());
+            assert!(rt; odd);
+        }
+        _ => panic!(rt; "no point"),
+    }
+    assert_eq!(rt; by_key.cnf_set().map(|keys| keys.count()), Some(1));
+    Ok(())
+}

@@ -1,0 +1,123 @@
+//! A token, from its bytes to its claims (RFC 8392 section 7.2).
+
+ghost use Rattle.std.specs.Prelude.{◌≡◌, ◌↔◌, ◌≤◌, ◌||◌, ℕ, true, false, List, [], Some, Result, Err};
+ghost use Rattle.cose_head.specs.declared.refusal.Refusal.{Refusal};
+ghost use Rattle.cose_map.specs.Map.View.{seen_by};
+ghost use Rattle.cose_msg.specs.declared.verdict.Stop.{Stop};
+ghost use Rattle.cose_msg.specs.declared.verdict.Verdict.{Verdict};
+ghost use Rattle.cose_msg.specs.Kept.{HasTaken, bytes_taken, is_inspecting, is_stopped, kept_answer, setting_in};
+ghost use Rattle.cose_msg.specs.Message.{Setting};
+ghost use Rattle.cose_msg.specs.Task.{to_verify};
+ghost use Rattle.cose_cwt.specs.declared.token.CwtStop.{CwtStop};
+ghost use Rattle.cose_cwt.specs.Admission.{admitted_claims as admitted_claims_of};
+ghost use Rattle.cose_cwt.specs.Admission.View.{policy_value};
+ghost use Rattle.cose_cwt.specs.Claims.View.{claims_value};
+ghost use Rattle.cose_cwt.specs.Token.{IsRun, IsToken, UnlessStopped, claims_seen, is_for_intake, is_for_store, stop_in, token_of};
+
+use crate::claims::Claims;
+use crate::laws::claims_refusals_stand_inside;
+use crate::policy::Policy;
+use cose_map::Refusal;
+use cose_msg::laws::settled_stays;
+use cose_msg::{EcVerifier, Intake, Stop, Store, Verdict, Verifier, verify};
+
+/// Why a token has no claims for the caller.
+#[derive(Clone, Copy, Debug, PartialEq, Eq)]
+pub enum CwtStop {
+    /// The verifier stopped before it came to a verdict.
+    Stopped(Stop),
+    /// The message is refused. The place counts from its first byte.
+    Message(Refusal),
+    /// The message is authentic, and its claims are refused. The place counts from the payload's first byte.
+    Claims(Refusal),
+}
+
+/// The claims of a payload, where they are admitted.
+fn admitted_claims<'a>(
+    payload: &'a [u8],
+    depth: usize,
+    policy: &Policy<'_>,
+) -> Result<Claims<'a>, Refusal>
+    requires { depth ≤ 32 }
+    ensures { seen_by claims_value result ≡ admitted_claims_of depth (policy_value policy.entry.now) payload.entry.now }
+{
+    let claims = Claims::read(payload, depth)?;
+    claims.admit(policy)?;
+    Ok(claims)
+}
+
+/// What a token comes to, by the verdict on the message and its payload.
+fn claims_after<'a>(
+    verdict: Result<Verdict, Stop>,
+    payload: &'a [u8],
+    depth: usize,
+    policy: &Policy<'_>,
+) -> Result<Claims<'a>, CwtStop>
+    requires { depth ≤ 32 }
+    ensures { claims_seen result ≡ token_of depth (policy_value policy.entry.now) verdict payload.entry.now }
+{
+    match verdict {
+        Ok(Verdict::Authentic { .. }) => {
+            admitted_claims(payload, depth, policy).map_err(CwtStop::Claims)
+        }
+        Ok(Verdict::Refused(refusal)) => Err(CwtStop::Message(refusal)),
+        Err(stop) => Err(CwtStop::Stopped(stop)),
+    }
+}
+
+/// Verifies one token, and gives its claims where the message is authentic and the claims are admitted.
+///
+/// The payload goes into the store, which is made as new first, and which the claims borrow: they are read once the message is
+/// known to be authentic, so no claim of another message is ever handed out. The verifier isn't inspecting and has taken nothing yet, and its context
+/// allows the CWT tag and no payload that the store can't hold. After a verdict or a stop the verifier answers as after
+/// [`verify`], until `reset`.
+pub fn verify_cwt<
+    'a,
+    'k,
+    const C: usize,
+    const H: usize,
+    const D: usize,
+    const L: usize,
+    I: Intake,
+    E: EcVerifier,
+>(
+    verifier: &mut Verifier<'k, H, D>,
+    intake: &mut I,
+    store: &'a mut Store<L>,
+    ec: &E,
+    policy: &Policy<'_>,
+) -> Result<Claims<'a>, CwtStop>
+    requires some { 1 ≤ C }
+    requires limit { C ≤ 65536 }
+    requires nesting { D ≤ 32 }
+    requires some_store { 16 ≤ L }
+    requires store_limit { L ≤ 65535 }
+    requires verifies { is_inspecting verifier.old ≡ false }
+    requires none_taken { bytes_taken verifier.old ≡ 0 }
+    requires cwt { (setting_in verifier.old).cwt ≡ true }
+    requires payload_limit { (setting_in verifier.old).payload_limit ≤ L }
+    // What was taken, the verdict that is kept, the payload that the store got, and what the token comes to by these.
+    ensures run { (setting : Setting) → HasTaken (to_verify setting) [] [] verifier.old →
+        IsRun setting (E.decides ec.now) (policy_value policy.entry.now) (I.to_come intake.old) (I.to_come intake.new) (I.ended intake.new) verifier.new (claims_seen result) }
+    // Where the intake tells its bytes, it is what all of them come to.
+    ensures token { (setting : Setting) (bytes : List ℕ) → HasTaken (to_verify setting) [] [] verifier.old → I.to_come intake.old ≡ Some bytes →
+        UnlessStopped (claims_seen result) (IsToken H D setting (E.decides ec.now) (policy_value policy.entry.now) bytes (claims_seen result)) }
+    // A kept verdict or stop is answered again.
+    ensures again { (answer : Result Verdict Stop) → kept_answer verifier.old ≡ Some answer →
+        (claims_seen result ≡ token_of D (policy_value policy.entry.now) answer []) × (verifier.new ≡ verifier.old) × (intake.new ≡ intake.old) }
+    ensures stopped { (claims_seen result ≡ Err (CwtStop.Stopped Stop.Again)) ↔ (is_stopped verifier.old ≡ true) }
+
+    // A place of the claims is in the payload, or at its end.
+    ensures within { (refusal : Refusal) → claims_seen result ≡ Err (CwtStop.Claims refusal) → refusal.place ≤ L }
+
+    // It stops only for a failure of the intake in this call, and never for the store.
+    ensures intake_failure { I.has_failed intake.new ≡ (I.has_failed intake.old || is_for_intake (stop_in (claims_seen result))) }
+    ensures store_suffices { (setting : Setting) → HasTaken (to_verify setting) [] [] verifier.old → is_for_store (stop_in (claims_seen result)) ≡ false }
+{
+    // That a verdict stays when bytes follow, and where claims are refused.
+    settled_stays();
+    claims_refusals_stand_inside();
+    store.clear();
+    let verdict = verify::<C, H, D, I, Store<L>, E>(verifier, intake, store, ec);
+    claims_after(verdict, store.bytes(), D, policy)
+}
