@@ -17,6 +17,10 @@ mod Waits
 mod Decisions
 mod Runs
 mod PayloadLimit
+mod Making
+mod Makes
+mod Puts
+mod Streaming
 mod WorkedMessages
 mod WorkedFronts
 mod WorkedHeaders
@@ -25,3 +29,4 @@ mod WorkedPayloads
 mod WorkedComparisons
 mod WorkedLimits
 mod WorkedShapes
+mod WorkedMaking

@@ -4,6 +4,8 @@ pub mod Reading
 pub mod Phases
 pub mod Front
 pub mod Message
+pub mod Grammar
+pub mod Making
 pub mod Laws
 pub mod BareHead
 pub mod Hashing
@@ -17,3 +19,5 @@ pub mod Sink
 pub mod Store
 pub mod Kept
 pub mod Run
+pub mod Make
+pub mod Writes

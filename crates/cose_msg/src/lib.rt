@@ -1,4 +1,5 @@
-//! COSE_Mac0 and COSE_Sign1 messages (RFC 9052 sections 6.2 and 4.2), verified over any intake in bounded memory.
+//! COSE_Mac0 and COSE_Sign1 messages (RFC 9052 sections 6.2 and 4.2), verified over any intake in bounded memory, and COSE_Mac0
+//! made so.
 //!
 //! A [`Verifier`] holds the header buckets of one message, of at most `H` bytes each, and never the payload. [`verify`] takes
 //! the message from an [`Intake`] in pieces of at most `C` bytes, puts the payload into a [`Sink`] as it comes, and gives one
@@ -26,6 +27,20 @@
 //! A COSE_Sign1 is authentic where the [`EcVerifier`] that is handed in says so, asked with the key, the digest of the
 //! structure that is signed and the signature; [`Never`] refuses all. After a verdict, or a stop for a failure of the intake
 //! or the sink, the same is answered again until [`Verifier::reset`].
+//!
+//! [`make_mac0`] makes a COSE_Mac0 of a payload whose length is known, in pieces too:
+//!
+//! ```rust
+//! use cose_msg::{Alg, Key, SliceIntake, Store, make_mac0};
+//!
+//! let Ok(key) = Key::read(b"\xa2\x01\x04\x20\x44Jefe", 0) else {
+//!     return;
+//! };
+//! let length = payload.len() as u64;
+//! let mut intake = SliceIntake::new(payload, 64);
+//! let mut message = Store::<4096>::new();
+//! let count = make_mac0::<512, _, _>(Alg::Hmac256, &key, None, b"", &mut intake, length, &mut message);
+//! ```
 #![tactic(auto)]
 
 mod bare_head;
@@ -34,6 +49,7 @@ mod elliptic;
 mod hashing;
 mod intake;
 pub mod laws;
+mod make;
 mod phase;
 mod run;
 mod sink;
@@ -48,6 +64,7 @@ pub use cose_mac::Alg;
 pub use cose_map::{Key, KeySet, Label};
 pub use elliptic::{EcVerifier, Never};
 pub use intake::{Intake, IntakeFault, ReadIntake, SliceIntake};
+pub use make::{MakeFault, make_mac0};
 pub use run::verify;
 pub use sink::{Nothing, Sink, SinkFault};
 pub use store::Store;

@@ -1,0 +1,27 @@
+use Rattle.std.proofs.Common.{◌≤◌, sym, ◌∙◌, arith}
+use Rattle.std.proofs.lemmas.List.{length-take}
+use Rattle.cose_msg.proofs.Runs.{first_of, is_done, marks_nothing, promise_kept, put_done, put_failed}
+use Rattle.cose_msg.proofs.Streaming.{first_is_taken, goes_on, marks_failure, sink_failed}
+use Rattle.cose_msg.proofs.make.put_payload.Goals as goal
+
+pub pieces-preserved : goal.pieces-preserved
+pieces-preserved g c =
+    let a = c.pieces.invariant.0 in
+    let done = sym c.is_err.ensures.value ∙ c.if-is_err.false in
+    let asked : c.in-Ok.count ≤ c.pieces.left = omega (arith, c.take.auto.into, c.in-Ok.ensures.within, c.min-asked.ensures, length-take c.min-asked.result c.pieces.chunk) in (
+      goes_on _ _ a (first_of _ _ c.in-Ok.count c.take.new.into _ c.in-Ok.ensures.within c.in-Ok.ensures.bytes.0) (first_is_taken c.in-Ok.count c.pieces.left c.take.new.into _ c.in-Ok.ensures.within asked)
+          (put_done _ _ _ c.put.result done c.put.ensures.bytes) c.update.ensures.fed_mac (c.put.ensures.failure ∙ marks_nothing _ c.put.result done)
+          (promise_kept c.put.result _ _ _ done c.put.ensures.promise),
+      c.in-Ok.ensures.failure ∙ c.pieces.invariant.1,
+    )
+
+pub returns-then-is_err-clause-streams : goal.returns-then-is_err-clause-streams
+returns-then-is_err-clause-streams g c =
+    let a = c.pieces.invariant.0 in
+    let failed = sym c.is_err.ensures.value ∙ c.if-is_err.true in
+    let asked : c.in-Ok.count ≤ c.pieces.left = omega (arith, c.take.auto.into, c.in-Ok.ensures.within, c.min-asked.ensures, length-take c.min-asked.result c.pieces.chunk) in (
+      _,
+      sink_failed _ _ _ _ _ _ a (first_of _ _ c.in-Ok.count c.take.new.into _ c.in-Ok.ensures.within c.in-Ok.ensures.bytes.0) (first_is_taken c.in-Ok.count c.pieces.left c.take.new.into _ c.in-Ok.ensures.within asked)
+          (put_failed _ _ _ c.put.result failed c.put.ensures.bytes) (c.put.ensures.failure ∙ marks_failure _ c.put.result failed)
+          (λ sure. is_done c.put.result failed (c.put.ensures.promised sure)),
+    )

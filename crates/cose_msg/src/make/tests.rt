@@ -1,0 +1,275 @@
+//! Messages made under the key `Jefe`, against an independent HMAC, and what stops the making.
+
+ghost use Rattle.std.specs.Prelude.{None};
+
+use crate::{
+    Alg, Intake, Key, MakeFault, ReadIntake, Sink, SinkFault, SliceIntake, Store, make_mac0,
+};
+use arrayvec::ArrayVec;
+use std::io;
+use std::io::{Error, ErrorKind, Read};
+use std::process::Abort;
+
+/// The symmetric key `Jefe`.
+const KEY: &[u8] = b"\xa2\x01\x04\x20\x44Jefe";
+
+/// The same for HMAC 256/256 alone.
+const KEY_OF_FIVE: &[u8] = b"\xa3\x01\x04\x03\x05\x20\x44Jefe";
+
+/// A key for operation 10 alone, which verifies.
+const KEY_THAT_VERIFIES: &[u8] = b"\xa3\x01\x04\x04\x81\x0a\x20\x41a";
+
+/// The message of the payload `hi` by HMAC 256/256, of 44 bytes.
+const MESSAGE: &[u8] = &[
+    0xd1, 0x84, 0x43, 0xa1, 0x01, 0x05, 0xa0, 0x42, 0x68, 0x69, 0x58, 0x20, 0x7d, 0x81, 0xe9, 0x64,
+    0xaa, 0xee, 0x5f, 0xbd, 0x8a, 0xdf, 0xb3, 0xf5, 0x33, 0x65, 0x7a, 0x9e, 0xf9, 0xf7, 0x82, 0xf0,
+    0x4b, 0x91, 0x87, 0x7b, 0x60, 0x04, 0x27, 0x2a, 0x03, 0x52, 0xf9, 0x60,
+];
+
+/// The same with the identifier `1`, of 47 bytes.
+const WITH_KID: &[u8] = &[
+    0xd1, 0x84, 0x43, 0xa1, 0x01, 0x05, 0xa1, 0x04, 0x41, 0x31, 0x42, 0x68, 0x69, 0x58, 0x20, 0x7d,
+    0x81, 0xe9, 0x64, 0xaa, 0xee, 0x5f, 0xbd, 0x8a, 0xdf, 0xb3, 0xf5, 0x33, 0x65, 0x7a, 0x9e, 0xf9,
+    0xf7, 0x82, 0xf0, 0x4b, 0x91, 0x87, 0x7b, 0x60, 0x04, 0x27, 0x2a, 0x03, 0x52, 0xf9, 0x60,
+];
+
+/// The same payload by HMAC 256/64.
+const SHORT_TAG: &[u8] = &[
+    0xd1, 0x84, 0x43, 0xa1, 0x01, 0x04, 0xa0, 0x42, 0x68, 0x69, 0x48, 0xab, 0x93, 0xc6, 0xa6, 0xb8,
+    0x6c, 0x6d, 0xa3,
+];
+
+/// The same by HMAC 384/384, with the external data 01 02.
+const WITH_AAD: &[u8] = &[
+    0xd1, 0x84, 0x43, 0xa1, 0x01, 0x06, 0xa0, 0x42, 0x68, 0x69, 0x58, 0x30, 0x64, 0xd6, 0x5f, 0x70,
+    0x7a, 0x04, 0x29, 0xb7, 0x8f, 0x9a, 0x2f, 0x11, 0x34, 0xee, 0x6e, 0x3d, 0x44, 0x08, 0xe5, 0x56,
+    0x5b, 0x72, 0x29, 0x5e, 0x21, 0x06, 0x44, 0xf0, 0xc7, 0xcd, 0x94, 0x59, 0xc2, 0x3a, 0x16, 0x40,
+    0x9b, 0xc0, 0x08, 0xc7, 0xb2, 0xe5, 0x82, 0x86, 0xcb, 0x12, 0x7a, 0x90,
+];
+
+/// The message of no payload by HMAC 512/512, of 74 bytes.
+const EMPTY: &[u8] = &[
+    0xd1, 0x84, 0x43, 0xa1, 0x01, 0x07, 0xa0, 0x40, 0x58, 0x40, 0x52, 0x38, 0x6c, 0x06, 0xb0, 0x1f,
+    0xe6, 0x32, 0x00, 0xbf, 0x41, 0x59, 0x90, 0x14, 0x25, 0xa5, 0xd9, 0xb6, 0xc5, 0x05, 0xf2, 0x44,
+    0xc4, 0x56, 0x68, 0x5a, 0x3e, 0xb4, 0x2f, 0x2e, 0x2f, 0x85, 0x89, 0x77, 0xb8, 0x2a, 0x55, 0xf6,
+    0x24, 0x47, 0x69, 0x37, 0xe5, 0x0b, 0xf5, 0x26, 0x40, 0x1f, 0x51, 0xda, 0xc0, 0x4c, 0xb7, 0x21,
+    0x94, 0x79, 0x85, 0x54, 0x7e, 0x48, 0x4c, 0xee, 0x27, 0xe1,
+];
+
+/// Makes a message in pieces of one byte and of many, and leaves the byte behind the payload.
+fn makes(
+    rt: &impl Abort,
+    alg: Alg,
+    kid: Option<&[u8]>,
+    aad: &[u8],
+    payload: &[u8],
+    message: &[u8],
+) {
+    let Ok(key) = Key::read(KEY, 0) else {
+        return;
+    };
+    let length = payload.len().saturating_sub(1) as u64;
+    let mut intake = SliceIntake::new(payload, 1);
+    let mut sink: Store<80> = Store::new();
+    let count = make_mac0::<1, SliceIntake, Store<80>>(
+        alg,
+        &key,
+        kid,
+        aad,
+        &mut intake,
+        length,
+        &mut sink,
+    );
+    assert_eq!(rt; count, Ok(message.len() as u64));
+    assert_eq!(rt; sink.bytes(), message);
+    assert_eq!(rt; intake.take(&mut [7, 7]), Ok(1));
+    let mut intake = SliceIntake::new(payload, 64);
+    let mut sink: Store<80> = Store::new();
+    let count = make_mac0::<64, SliceIntake, Store<80>>(
+        alg,
+        &key,
+        kid,
+        aad,
+        &mut intake,
+        length,
+        &mut sink,
+    );
+    assert_eq!(rt; count, Ok(message.len() as u64));
+    assert_eq!(rt; sink.bytes(), message);
+    assert_eq!(rt; intake.take(&mut [7, 7]), Ok(1));
+}
+
+#[test]
+fn makes_messages(rt: HostRuntime) {
+    assert!(rt; Key::read(KEY, 0).is_ok());
+    makes(&rt, Alg::Hmac256, None, b"", b"hi!", MESSAGE);
+    makes(&rt, Alg::Hmac256, Some(b"1"), b"", b"hi!", WITH_KID);
+    makes(&rt, Alg::Hmac64, None, b"", b"hi!", SHORT_TAG);
+    makes(&rt, Alg::Hmac384, None, &[1, 2], b"hi!", WITH_AAD);
+    makes(&rt, Alg::Hmac512, None, b"", b"!", EMPTY);
+}
+
+/// Refuses the arguments, and takes and puts nothing.
+fn refuses(
+    rt: &impl Abort,
+    alg: Alg,
+    key: &[u8],
+    kid: Option<&[u8]>,
+    length: u64,
+    fault: MakeFault,
+) {
+    let Ok(key) = Key::read(key, 0) else {
+        return;
+    };
+    let mut intake = SliceIntake::new(b"hi", 64);
+    let mut sink: Store<80> = Store::new();
+    let answer = make_mac0::<64, SliceIntake, Store<80>>(
+        alg,
+        &key,
+        kid,
+        b"",
+        &mut intake,
+        length,
+        &mut sink,
+    );
+    assert_eq!(rt; answer, Err(fault));
+    assert!(rt; sink.bytes().is_empty());
+    assert_eq!(rt; intake.take(&mut [7, 7]), Ok(2));
+}
+
+#[test]
+fn refuses_arguments(rt: HostRuntime) {
+    assert!(rt; Key::read(KEY_OF_FIVE, 0).is_ok());
+    assert!(rt; Key::read(KEY_THAT_VERIFIES, 0).is_ok());
+    refuses(&rt, Alg::Hmac64, KEY_OF_FIVE, None, 2, MakeFault::WrongKey);
+    refuses(
+        &rt,
+        Alg::Hmac256,
+        KEY_THAT_VERIFIES,
+        None,
+        2,
+        MakeFault::WrongKey,
+    );
+    refuses(&rt, Alg::Es256, KEY, None, 2, MakeFault::WrongKey);
+    refuses(
+        &rt,
+        Alg::Hmac256,
+        KEY,
+        Some(&[0x31; 256]),
+        2,
+        MakeFault::TooLong,
+    );
+    refuses(&rt, Alg::Hmac256, KEY, None, 1 << 56, MakeFault::TooLong);
+    refuses(&rt, Alg::Es256, KEY, None, 1 << 56, MakeFault::WrongKey);
+}
+
+#[test]
+fn says_that_the_payload_is_short(rt: HostRuntime) {
+    let Ok(key) = Key::read(KEY, 0) else {
+        return;
+    };
+    let mut intake = SliceIntake::new(b"h", 64);
+    let mut sink: Store<80> = Store::new();
+    let answer = make_mac0::<64, SliceIntake, Store<80>>(
+        Alg::Hmac256,
+        &key,
+        None,
+        b"",
+        &mut intake,
+        2,
+        &mut sink,
+    );
+    assert_eq!(rt; answer, Err(MakeFault::ShortPayload));
+    assert_eq!(rt; sink.bytes(), &MESSAGE[..9]);
+}
+
+/// Gives one byte, and then fails.
+#[derive(Drop)]
+struct FailingReader {
+    reads: usize,
+}
+
+impl Read for FailingReader {
+    fn read(&mut self, into: &mut [u8]) -> io::Result<usize> {
+        self.reads = self.reads.saturating_add(1);
+        match into {
+            [slot, ..] if self.reads == 1 => {
+                *slot = b'h';
+                Ok(1)
+            }
+            _ => Err(Error::from(ErrorKind::Other)),
+        }
+    }
+}
+
+#[test]
+fn says_that_the_intake_failed(rt: HostRuntime) {
+    let Ok(key) = Key::read(KEY, 0) else {
+        return;
+    };
+    let mut intake = ReadIntake::new(FailingReader { reads: 0 });
+    let mut sink: Store<80> = Store::new();
+    let answer = make_mac0::<64, ReadIntake<FailingReader>, Store<80>>(
+        Alg::Hmac256,
+        &key,
+        None,
+        b"",
+        &mut intake,
+        2,
+        &mut sink,
+    );
+    assert_eq!(rt; answer, Err(MakeFault::Intake));
+    assert_eq!(rt; sink.bytes(), &MESSAGE[..9]);
+}
+
+/// Keeps so many bytes, also a front of a piece, and fails at the next.
+#[derive(Drop)]
+struct FrontSink {
+    held: ArrayVec<u8, 64>,
+    limit: usize,
+    failed: bool,
+}
+
+impl Sink for FrontSink {
+    ghost contents = { λ _. None };
+
+    ghost has_failed = { λ sink. sink.failed };
+
+    ghost sure = { λ _. 0 };
+
+    fn put(&mut self, piece: &[u8]) -> Result<(), SinkFault> {
+        let count = self.limit.saturating_sub(self.held.len()).min(piece.len());
+        let _ = self.held.try_extend_from_slice(&piece[..count]);
+        if count < piece.len() {
+            self.failed = true;
+            return Err(SinkFault);
+        }
+        Ok(())
+    }
+}
+
+#[test]
+fn leaves_a_front_where_the_sink_fails(rt: HostRuntime) {
+    let Ok(key) = Key::read(KEY, 0) else {
+        return;
+    };
+    for limit in 0..44 {
+        let mut sink = FrontSink {
+            held: ArrayVec::new(),
+            limit,
+            failed: false,
+        };
+        let mut intake = SliceIntake::new(b"hi", 1);
+        let answer = make_mac0::<64, SliceIntake, FrontSink>(
+            Alg::Hmac256,
+            &key,
+            None,
+            b"",
+            &mut intake,
+            2,
+            &mut sink,
+        );
+        assert_eq!(rt; answer, Err(MakeFault::Sink));
+        assert_eq!(rt; sink.held.as_slice(), &MESSAGE[..limit]);
+    }
+}
