@@ -2,8 +2,8 @@
 
 use crate::tests::{KEY, context, hmac, key_set};
 use cose_msg::{
-    Alg, Context, KeySet, Kind, Label, Never, Reason, Refusal, SliceIntake, Store, Verdict, Verifier,
-    Wanted, verify,
+    Alg, Context, KeySet, Kind, Label, Never, Reason, Refusal, SliceIntake, Store, Verdict,
+    Verifier, Wanted, verify,
 };
 use std::process::Abort;
 use std::test::Fail;
@@ -58,8 +58,12 @@ fn comes_to(rt: &impl Abort, context: Context, bytes: &[u8], verdict: Verdict, t
         let mut verifier = Verifier::<1024, 4>::new(context);
         let mut intake = SliceIntake::new(bytes, cut.max(1));
         let mut store = Store::<16>::new();
-        let answer =
-            verify::<128, 1024, 4, _, _, _>(&mut verifier, &mut intake, &mut store, &Never);
+        let answer = verify::<128, 1024, 4, _, _, _>(
+            &mut verifier,
+            &mut intake,
+            &mut store,
+            &Never,
+        );
         assert_eq!(rt; answer, Ok(verdict), "{bytes:?} in pieces of {cut}");
         assert_eq!(rt; verifier.taken(), taken, "{bytes:?} in pieces of {cut}");
     }
@@ -71,7 +75,12 @@ fn refuses_in_a_context(rt: HostRuntime) -> Result<(), Fail> {
     let understood = [Label::Int(42)];
     let rows: [(Context, &str, Verdict, u64); 6] = [
         (context(keys), CRITICAL, refused(Reason::CritUnknown, 8), 14),
-        (knowing(keys, &understood), CRITICAL, refused(Reason::Truncated, 14), 14),
+        (
+            knowing(keys, &understood),
+            CRITICAL,
+            refused(Reason::Truncated, 14),
+            14,
+        ),
         (
             knowing(keys, &understood),
             "d1844aa301050281182a182a00a0f600",
