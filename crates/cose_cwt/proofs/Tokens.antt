@@ -12,6 +12,7 @@ use Rattle.cose_msg.specs.Laws.{MessageStays}
 use Rattle.cose_msg.specs.Message.{Decides, Setting, verifying}
 use Rattle.cose_msg.specs.Reading.{Reading}
 use Rattle.cose_msg.specs.Answer.{decided}
+use Rattle.cose_msg.specs.Rules.{Rules}
 use Rattle.cose_msg.specs.Run.{Run, stops_for_sink}
 use Rattle.cose_cwt.specs.declared.token.CwtStop.TheVariants as stops
 use Rattle.cose_cwt.specs.Admission.{PolicyValue, admitted_claims}
@@ -19,13 +20,13 @@ use Rattle.cose_cwt.specs.Claims.{ClaimsValue}
 use Rattle.cose_cwt.specs.Token.{IsToken, Outcome, UnlessStopped, is_for_store, of_claims, read_as, stop_in, token_of}
 
 -- what a store held before, and what it holds
-pub with_contents : (H D : ℕ) (setting : Setting) (decides : Decides) (come come_after contents contents_after : Option (List ℕ)) (ended : Bool) (verdict : Result Verdict Stop) (taken payload : List ℕ) →
+pub with_contents : (rules : Rules) (come come_after contents contents_after : Option (List ℕ)) (ended : Bool) (verdict : Result Verdict Stop) (taken payload : List ℕ) →
     contents ≡ Some [] → contents_after ≡ Some payload →
-    Run (verifying H D setting decides) decided [] [] come come_after ended contents contents_after verdict taken →
-    Run (verifying H D setting decides) decided [] [] come come_after ended (Some []) (Some payload) verdict taken
-with_contents H D setting decides come come_after contents contents_after ended verdict taken payload before after run =
-    subst (λ (old : Option (List ℕ)). Run (verifying H D setting decides) decided [] [] come come_after ended old (Some payload) verdict taken) before
-    (subst (λ (new : Option (List ℕ)). Run (verifying H D setting decides) decided [] [] come come_after ended contents new verdict taken) after run)
+    Run rules decided [] [] come come_after ended contents contents_after verdict taken →
+    Run rules decided [] [] come come_after ended (Some []) (Some payload) verdict taken
+with_contents rules come come_after contents contents_after ended verdict taken payload before after run =
+    subst (λ (old : Option (List ℕ)). Run rules decided [] [] come come_after ended old (Some payload) verdict taken) before
+    (subst (λ (new : Option (List ℕ)). Run rules decided [] [] come come_after ended contents new verdict taken) after run)
 
 -- The bytes taken come to the same as all.
 same_reading : MessageStays → (H D : ℕ) (setting : Setting) (decides : Decides) (taken rest : List ℕ) (settled : Bool) → (read_as H D setting decides taken).settled ≡ settled →

@@ -1,3 +1,4 @@
 pub mod Job
 pub mod Printed
 pub mod Vouch
+pub mod WriteSink

@@ -1,12 +1,15 @@
 -- What the program prints for a job and an input, and how it ends.
-use Rattle.std.specs.Prelude.{◌≡◌, ℕ, ◌-◌, ◌^◌, true, List, [], ◌∷◌, ◌++◌, length, Option, Result, Ok, Err, option_map, codes, string_bytes, nat_lt, if◌then◌else◌}
+use Rattle.std.specs.Prelude.{◌≡◌, ◌≢◌, ℕ, ◌-◌, ◌^◌, true, List, [], ◌∷◌, ◌++◌, length, take, Option, Some, None, Result, Ok, Err, option_map, codes, string_bytes, nat_lt, if◌then◌else◌}
 use Rattle.std.specs.Fmt.{decimal, signed_decimal}
+use Rattle.std.specs.Io.KnownBytes.{Appends}
 use Rattle.cose_head.specs.declared.kind.Kind.{Kind}
 use Rattle.cose_head.specs.declared.kind.Kind.TheVariants.{Mac0, Sign1}
 use Rattle.cose_head.specs.declared.reason.Reason.TheVariants.{Trailing}
 use Rattle.cose_head.specs.declared.refusal.Refusal.{Refusal}
 use Rattle.cose_head.specs.Refusal.{refusal_text}
+use Rattle.cose_head.specs.declared.algorithm.Alg.{Alg}
 use Rattle.cose_head.specs.Algorithm.{algorithm_number}
+use Rattle.cose_map.specs.Key.{key_of}
 use Rattle.cose_map.specs.KeySet.{keys_of}
 use Rattle.cose_map.specs.Key.Value.{KeyValue}
 use Rattle.cose_map.specs.Key.View.{contents}
@@ -15,9 +18,14 @@ use Rattle.cose_msg.specs.declared.context.Wanted.{Wanted}
 use Rattle.cose_msg.specs.declared.verdict.Verdict.{Verdict}
 use Rattle.cose_msg.specs.declared.verdict.Verdict.TheVariants.{Authentic, Refused}
 use Rattle.cose_msg.specs.Answer.{Answer, decided, complete, shaped, refused}
-use Rattle.cose_msg.specs.Message.{Decides, Setting, verdict_of}
+use Rattle.cose_msg.specs.declared.make.MakeFault.{MakeFault}
+use Rattle.cose_msg.specs.declared.make.MakeFault.TheVariants as makes
+use Rattle.cose_msg.specs.Make.{make_fault}
+use Rattle.cose_msg.specs.Making.{made, protected_made}
+use Rattle.cose_msg.specs.Message.{Decides, Setting, secret_of, verdict_of}
+use Rattle.cose_msg.specs.Writes.{front_of}
 use Rattle.cosecmd.specs.declared.job.Job.{Job}
-use Rattle.cosecmd.specs.declared.job.Job.TheVariants.{Verify}
+use Rattle.cosecmd.specs.declared.job.Job.TheVariants.{Verify, Make}
 use Rattle.cosecmd.specs.declared.reply.Reply.{Reply}
 use Rattle.cosecmd.specs.declared.reply.Status.{Status}
 use Rattle.cosecmd.specs.declared.reply.Status.TheVariants as statuses
@@ -66,11 +74,13 @@ program_setting keys aad wanted = record {
   payload_limit = 2 ^ 56 - 1;
 }
 
--- Nothing may stand behind an authentic message: here the whole input has n bytes.
+-- Nothing may stand behind a message that nothing refuses: here the whole input has n bytes.
 abbrev pub trailed : ℕ → Answer → Answer
 trailed n (decided (Authentic kind alg payload taken)) =
     if nat_lt taken n then refused Trailing taken else decided (Authentic kind alg payload taken)
-trailed n answer = answer
+trailed n (decided (Refused refusal)) = decided (Refused refusal)
+trailed n (complete whole) = if nat_lt whole.taken n then refused Trailing whole.taken else complete whole
+trailed n (shaped kind payload auth taken) = if nat_lt taken n then refused Trailing taken else shaped kind payload auth taken
 
 -- The same, where these bytes are left of the input behind the message.
 abbrev pub with_rest : List ℕ → Verdict → Verdict
@@ -81,21 +91,60 @@ with_rest rest verdict = verdict
 abbrev pub input_answer : Setting → Decides → List ℕ → Answer
 input_answer setting decides bytes = trailed (length bytes) (verdict_of 1024 8 setting decides bytes)
 
--- Where a message is verified it comes to a verdict: the other answers don't come.
+-- An answer that a command doesn't come to.
+abbrev pub none_said : Output
+none_said = record { text = []; status = statuses.Fault }
+
+-- Where a message is verified it comes to a verdict.
 abbrev pub output_of : Answer → Output
 output_of (decided verdict) = said_of verdict
-output_of (complete whole) = record { text = []; status = statuses.Fault }
-output_of (shaped kind payload auth taken) = record { text = []; status = statuses.Fault }
+output_of (complete whole) = none_said
+output_of (shaped kind payload auth taken) = none_said
 
 abbrev pub verified_under : Read (List KeyValue) → List ℕ → Wanted → Option (List ℕ) → List ℕ → Output
 verified_under (Ok keys) aad wanted vouch bytes = output_of (input_answer (program_setting keys aad wanted) (vouching vouch) bytes)
 verified_under (Err refusal) aad wanted vouch bytes = fault_of_keys refusal
 
+-- A message that isn't made.
+abbrev pub fault_of_key : Refusal → Output
+fault_of_key refusal = record { text = codes "fault key " ++ refusal_text refusal ++ codes "\n"; status = statuses.Fault }
+
+-- Only a fault of the arguments has a line.
+abbrev pub making_line : MakeFault → List ℕ
+making_line makes.WrongKey = codes "fault make WrongKey\n"
+making_line makes.TooLong = codes "fault make TooLong\n"
+making_line makes.ShortPayload = []
+making_line makes.Intake = []
+making_line makes.Sink = []
+
+-- The message of the first bytes of the input. Where these are fewer than the payload's length, they are written with what
+-- stands before them.
+abbrev pub message_made : KeyValue → Alg → ℕ → Option (List ℕ) → List ℕ → List ℕ → Output
+message_made key alg payload_length kid aad bytes =
+    if nat_lt (length bytes) payload_length
+    then record { text = front_of (protected_made alg) kid payload_length ++ bytes; status = statuses.Fault }
+    else record { text = made alg (secret_of key.material) kid aad (take payload_length bytes); status = statuses.Done }
+
+abbrev pub unless_faulty : Option MakeFault → Output → Output
+unless_faulty (Some fault) output = record { text = making_line fault; status = statuses.Fault }
+unless_faulty None output = output
+
+abbrev pub made_under : Read KeyValue → Alg → ℕ → Option (List ℕ) → List ℕ → List ℕ → Output
+made_under (Ok key) alg payload_length kid aad bytes =
+    unless_faulty (make_fault alg key kid aad payload_length) (message_made key alg payload_length kid aad bytes)
+made_under (Err refusal) alg payload_length kid aad bytes = fault_of_key refusal
+
 -- What is printed for a job, where the input is these bytes.
 unfoldable pub printed : Job → List ℕ → Output
 printed (Verify keys aad wanted vouch) bytes = verified_under (keys_of keys.now) aad.now wanted (option_map contents vouch) bytes
+printed (Make alg key payload_length kid aad) bytes =
+    made_under (key_of (record { bytes = key.now; place = 0 })) alg payload_length (option_map contents kid) aad.now bytes
 
 -- A reply that says this.
 pub record Says (output : Output) (reply : Reply) : Type 0 where
   pub text : string_bytes reply.text ≡ output.text
   pub status : reply.status ≡ output.status
+
+-- What a run wrote and how it ended is this, but for a fault.
+abbrev pub Prints : Output → Option (List ℕ) → Option (List ℕ) → Status → Type 0
+Prints output old new status = status ≢ statuses.Fault → (status ≡ output.status) × Appends old new output.text

@@ -1,4 +1,5 @@
-//! Why a run has no verdict (the command line, the key set, memory, the input), each with the line that is printed for it.
+//! Why a run has no verdict and makes no message (the command line, the keys, memory, the input), each with the line that is
+//! printed for it.
 
 ghost use Rattle.std.specs.Prelude.{◌≡◌, ◌≢◌};
 
@@ -7,7 +8,7 @@ use hex::FromHexError;
 use std::alloc::AllocError;
 use thiserror::Error;
 
-/// Why a run has no verdict. The program ends with status 2.
+/// Why a run has no verdict and makes no message. The program ends with status 2.
 #[derive(Debug, Drop, Error)]
 pub enum Fault {
     /// A request for memory was refused.
@@ -19,6 +20,15 @@ pub enum Fault {
     /// The key set is refused. The place is in bytes from the first of the set.
     #[error("fault keys {0}")]
     Keys(Refusal),
+    /// The key that is to make a message is refused. The place is in bytes from the first of the key.
+    #[error("fault key {0}")]
+    Key(Refusal),
+    /// The key doesn't make MACs by the algorithm (RFC 9052 section 7.1).
+    #[error("fault make WrongKey")]
+    WrongKey,
+    /// The identifier of the key has more than 255 bytes, or what else goes into a message is too long.
+    #[error("fault make TooLong")]
+    TooLong,
     /// The input failed.
     #[error("fault input")]
     Input,

@@ -1,6 +1,6 @@
 //! What a run is asked to do.
 
-use cose_msg::Wanted;
+use cose_msg::{Alg, Wanted};
 
 /// What a run is asked to do, as its words say it.
 #[derive(Clone, Copy)]
@@ -15,5 +15,18 @@ pub enum Job<'j> {
         wanted: Wanted,
         /// The bytes that a signature is vouched for by, where there are any.
         vouch: Option<&'j [u8]>,
+    },
+    /// To make a COSE_Mac0 of the payload on the input.
+    Make {
+        /// The algorithm of the MAC.
+        alg: Alg,
+        /// The bytes of the key (RFC 9052 section 7).
+        key: &'j [u8],
+        /// The number of bytes of the payload.
+        length: u64,
+        /// The identifier of the key that the message names, where it names one.
+        kid: Option<&'j [u8]>,
+        /// The externally supplied data (RFC 9052 section 4.3).
+        aad: &'j [u8],
     },
 }

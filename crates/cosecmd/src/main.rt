@@ -1,4 +1,4 @@
-//! The program `cosecmd`: verifies COSE messages (RFC 9052).
+//! The program `cosecmd`: verifies COSE messages (RFC 9052), and makes COSE_Mac0.
 #![tactic(auto)]
 
 mod answer;
@@ -10,6 +10,7 @@ mod reply;
 mod run;
 mod vouch;
 mod words;
+mod write_sink;
 
 use run::run;
 use std::alloc::{AllocError, Global};

@@ -1,10 +1,11 @@
 //! Texts that are written whole.
 
-ghost use Rattle.std.specs.Prelude.{◌≡◌, ◌≢◌};
+ghost use Rattle.std.specs.Prelude.{◌≡◌, ◌≢◌, IfOk};
 ghost use Rattle.std.specs.Io.KnownBytes.{Appends};
+ghost use Rattle.cosecmd.specs.Printed.{Output, Prints, Says};
 
 use crate::fault::Fault;
-use crate::reply::Status;
+use crate::reply::{Reply, Status};
 use std::alloc::Global;
 use std::io::Write;
 
@@ -26,5 +27,15 @@ pub fn print_fault<W: Write>(alloc: Global, fault: Fault, output: &mut W) -> Sta
     match format!(in alloc; "{fault}\n") {
         Ok(text) => print(output, text.as_str(), Status::Fault),
         Err(_) => print(output, "fault memory\n", Status::Fault),
+    }
+}
+
+/// Writes the text of a reply, or the line of a fault.
+pub fn print_reply<W: Write>(alloc: Global, reply: Result<Reply, Fault>, output: &mut W) -> Status
+    ensures { (said : Output) → IfOk reply (Says said) → Prints said (W.contents output.old) (W.contents output.new) result }
+{
+    match reply {
+        Ok(Reply { status, text }) => print(output, text.as_str(), status),
+        Err(fault) => print_fault(alloc, fault, output),
     }
 }

@@ -6,7 +6,7 @@ use crate::answer::answer;
 use crate::job::Job;
 use crate::print::{print, print_fault};
 use crate::reply::Reply;
-use crate::words::{Request, Verify, request_of};
+use crate::words::{Make, Request, Verify, request_of};
 use std::alloc::Global;
 use std::io::{Read, Write};
 
@@ -32,12 +32,30 @@ fn answer_verify<R: Read, W: Write>(
     answer(alloc, &job, input, output)
 }
 
-/// Runs the program: `words` are those of the command line, the first of them its name. The message comes from
-/// `input`; every line goes to `output`, a fault's too.
+/// The job of the command `make`.
+fn answer_make<R: Read, W: Write>(alloc: Global, words: &Make, input: &mut R, output: &mut W) -> u8
+    ensures { result ≤ 2 }
+{
+    let kid = match &words.kid {
+        Some(kid) => Some(kid.as_slice()),
+        None => None,
+    };
+    let job = Job::Make {
+        alg: words.alg,
+        key: words.key.as_slice(),
+        length: words.length,
+        kid,
+        aad: words.aad.as_slice(),
+    };
+    answer(alloc, &job, input, output)
+}
+
+/// Runs the program: `words` are those of the command line, the first of them its name. The message, or the payload of
+/// which one is made, comes from `input`; every line goes to `output`, a fault's too, and so does a message that is made.
 ///
-/// The exit status is 0 for an authentic message (and for help and the version), 1 for a refused one, and 2 where there
-/// is no verdict: the command line is wrong, the key set is refused, a request for memory is refused, or the input or
-/// the output fails.
+/// The exit status is 0 for an authentic message and for one that is made (and for help and the version), 1 for a refused
+/// one, and 2 where there is no verdict and no whole message: the command line is wrong, the keys are refused, a request for
+/// memory is refused, or the input or the output fails.
 pub fn run<'a, R: Read, W: Write>(
     alloc: Global,
     words: &'a [&'a str],
@@ -48,6 +66,7 @@ pub fn run<'a, R: Read, W: Write>(
 {
     match request_of(alloc, words) {
         Ok(Request::Verify(words)) => answer_verify(alloc, &words, input, output),
+        Ok(Request::Make(words)) => answer_make(alloc, &words, input, output),
         Ok(Request::Print(Reply { status, text })) => {
             print(output, text.as_str(), status).code()
         }

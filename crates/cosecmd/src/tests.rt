@@ -3,6 +3,7 @@
 mod contexts;
 mod failures;
 mod long;
+mod making;
 mod messages;
 mod options;
 mod rows;

@@ -1,12 +1,12 @@
 //! The words of the command line.
 
-ghost use Rattle.std.specs.Prelude.{◌≤◌, length};
+ghost use Rattle.std.specs.Prelude.{◌≤◌, IfOk, length as length_of};
 
 use crate::fault::Fault;
 use crate::reply::{Reply, Status};
 use clap::error::ErrorKind;
-use clap::{Arg, ArgMatches, Command};
-use cose_msg::Wanted;
+use clap::{Arg, ArgMatches, Command, value_parser};
+use cose_msg::{Alg, Wanted};
 use std::alloc::{AllocError, Global};
 
 /// The version of the program, which `--version` prints.
@@ -16,8 +16,20 @@ const VERSION: &str = "0.1.0";
 const NOTES: &str = "Words in hexadecimal have an even number of digits, no prefix and no spaces.
 Exit status: 0 authentic, 1 refused, 2 no verdict (command line, keys, memory, input or output).";
 
+/// What help says below the options of `make`.
+const MAKE_NOTES: &str =
+    "Words in hexadecimal have an even number of digits, no prefix and no spaces.
+The message has its tag, 17, and its shortest spelling. It is written while the payload is read.
+Exit status: 0 made, 2 not or not whole (command line, key, memory, input or output): drop what was written.";
+
 /// The words for the kinds of messages that are wanted.
 const KINDS: &[&str] = &["mac0", "sign1", "tagged"];
+
+/// The words for the algorithms that make MACs (RFC 9053 section 3.1).
+const ALGORITHMS: &[&str] = &["4", "5", "6", "7"];
+
+/// A payload has fewer bytes.
+const PAYLOAD: i64 = 1 << 56;
 
 /// The most bytes of the externally supplied data.
 const EXTERNAL: usize = 65_535;
@@ -33,7 +45,23 @@ pub struct Verify {
     pub wanted: Wanted,
     /// The bytes that a signature is vouched for by, where there are any.
     pub vouch: Option<Vec<u8>>,
-    ghost external: { length aad.items ≤ 65535 },
+    ghost external: { length_of aad.items ≤ 65535 },
+}
+
+/// The words of `make`.
+#[derive(Drop)]
+pub struct Make {
+    /// The algorithm of the MAC.
+    pub alg: Alg,
+    /// The bytes of the key.
+    pub key: Vec<u8>,
+    /// The number of bytes of the payload.
+    pub length: u64,
+    /// The identifier of the key that the message names, where it names one.
+    pub kid: Option<Vec<u8>>,
+    /// The externally supplied data.
+    pub aad: Vec<u8>,
+    ghost external: { length_of aad.items ≤ 65535 },
 }
 
 /// What the words ask for.
@@ -41,20 +69,26 @@ pub struct Verify {
 pub enum Request {
     /// To verify a message.
     Verify(Verify),
+    /// To make a message.
+    Make(Make),
     /// Help, the version, or what is wrong with the line.
     Print(Reply),
 }
 
-/// The commands and their options.
-fn line<'a>(alloc: Global) -> Result<Command<'a>, AllocError> {
+/// The option of the externally supplied data, which two commands have.
+fn aad_option<'a>(alloc: Global) -> Arg<'a> {
+    Arg::new(alloc, "aad").long("aad").value_name("HEX").help(
+        "The externally supplied data (RFC 9052 section 4.3), at most 65,535 bytes",
+    )
+}
+
+/// The command `verify` and its options.
+fn verify_line<'a>(alloc: Global) -> Result<Command<'a>, AllocError> {
     let keys = Arg::new(alloc, "keys")
         .long("keys")
         .value_name("HEX")
         .required(true)
         .help("The key set (RFC 9052 section 7)");
-    let aad = Arg::new(alloc, "aad").long("aad").value_name("HEX").help(
-        "The externally supplied data (RFC 9052 section 4.3), at most 65,535 bytes",
-    );
     let kind = Arg::new(alloc, "kind")
         .long("kind")
         .value_name("KIND")
@@ -65,20 +99,59 @@ fn line<'a>(alloc: Global) -> Result<Command<'a>, AllocError> {
         .long("vouch")
         .value_name("HEX")
         .help("What a signature is good for: curve, digest, signature, x and y");
-    let verify = Command::new(alloc, "verify")
+    Command::new(alloc, "verify")
         .about("Verifies the COSE message on standard input and prints the verdict")
         .after_help(NOTES)
         .arg(keys)?
-        .arg(aad)?
+        .arg(aad_option(alloc))?
         .arg(kind)?
-        .arg(vouch)?;
+        .arg(vouch)
+}
+
+/// The command `make` and its options.
+fn make_line<'a>(alloc: Global) -> Result<Command<'a>, AllocError> {
+    let alg = Arg::new(alloc, "alg")
+        .long("alg")
+        .value_name("N")
+        .required(true)
+        .value_parser(ALGORITHMS)
+        .help("The algorithm: HMAC 256/64 (4), 256/256 (5), 384/384 (6) or 512/512 (7)");
+    let key = Arg::new(alloc, "key")
+        .long("key")
+        .value_name("HEX")
+        .required(true)
+        .help("The key, one symmetric COSE_Key (RFC 9052 section 7)");
+    let length = Arg::new(alloc, "length")
+        .long("length")
+        .value_name("N")
+        .required(true)
+        .value_parser(value_parser!(u64).range(0..PAYLOAD))
+        .help(
+            "The number of bytes of the payload, below 2^56; fewer on standard input end with status 2, and what follows them is left unread",
+        );
+    let kid = Arg::new(alloc, "kid").long("kid").value_name("HEX").help(
+        "The identifier of the key that the message names, at most 255 bytes; without it the message names none",
+    );
+    Command::new(alloc, "make")
+        .about("Makes a COSE_Mac0 of the payload on standard input and writes its bytes")
+        .after_help(MAKE_NOTES)
+        .arg(alg)?
+        .arg(key)?
+        .arg(length)?
+        .arg(kid)?
+        .arg(aad_option(alloc))
+}
+
+/// The commands and their options.
+fn line<'a>(alloc: Global) -> Result<Command<'a>, AllocError> {
     Command::new(alloc, "cosecmd")
-        .about("Verifies COSE messages (RFC 9052) that come on standard input")
+        .about("Verifies COSE messages (RFC 9052) that come on standard input, and makes COSE_Mac0")
         .version(VERSION)
         .after_help(NOTES)
         .subcommand_required(true)
         .arg_required_else_help(true)
-        .subcommand(verify)
+        .subcommand(verify_line(alloc)?)?
+        .subcommand(make_line(alloc)?)
 }
 
 /// The text of a line that is refused, or the help or version that it asks for.
@@ -125,13 +198,32 @@ fn wanted_of(word: &str) -> Wanted {
     }
 }
 
-/// The words of `verify`, in the order in which help lists them.
-fn verify_of(alloc: Global, matches: &ArgMatches) -> Result<Verify, Fault> {
-    let keys = bytes_of(alloc, matches, "keys")?;
+/// The externally supplied data, which is limited.
+fn external_of(alloc: Global, matches: &ArgMatches) -> Result<Vec<u8>, Fault>
+    ensures { IfOk result (λ aad. length_of aad.items ≤ 65535) }
+{
     let aad = bytes_of(alloc, matches, "aad")?;
     if aad.len() > EXTERNAL {
         return Err(Fault::Line("aad"));
     }
+    Ok(aad)
+}
+
+/// The algorithm that a word names.
+fn alg_of(word: &str) -> Option<Alg> {
+    match word {
+        "4" => Some(Alg::Hmac64),
+        "5" => Some(Alg::Hmac256),
+        "6" => Some(Alg::Hmac384),
+        "7" => Some(Alg::Hmac512),
+        _ => None,
+    }
+}
+
+/// The words of `verify`, in the order in which help lists them.
+fn verify_of(alloc: Global, matches: &ArgMatches) -> Result<Verify, Fault> {
+    let keys = bytes_of(alloc, matches, "keys")?;
+    let aad = external_of(alloc, matches)?;
     let wanted = wanted_of(matches.get_str("kind").unwrap_or("tagged"));
     let vouch = optional_bytes_of(alloc, matches, "vouch")?;
     Ok(Verify {
@@ -142,14 +234,37 @@ fn verify_of(alloc: Global, matches: &ArgMatches) -> Result<Verify, Fault> {
     })
 }
 
+/// The words of `make`, in the order in which help lists them. The line has an algorithm and a length that are in range.
+fn make_of(alloc: Global, matches: &ArgMatches) -> Result<Make, Fault> {
+    let Some(alg) = alg_of(matches.get_str("alg").unwrap_or("")) else {
+        return Err(Fault::Line("alg"));
+    };
+    let key = bytes_of(alloc, matches, "key")?;
+    let Some(length) = matches.get_one::<u64>("length") else {
+        return Err(Fault::Line("length"));
+    };
+    let kid = optional_bytes_of(alloc, matches, "kid")?;
+    let aad = external_of(alloc, matches)?;
+    Ok(Make {
+        alg,
+        key,
+        length,
+        kid,
+        aad,
+    })
+}
+
 /// Reads the words, the first of which is the program's name.
 pub fn request_of<'a>(alloc: Global, words: &'a [&'a str]) -> Result<Request, Fault> {
     let matches = match line(alloc)?.try_get_matches_from(words) {
         Ok(matches) => matches,
         Err(error) => return Ok(Request::Print(refused_line(alloc, error)?)),
     };
-    match matches.subcommand_matches("verify") {
-        Some(verify) => Ok(Request::Verify(verify_of(alloc, verify)?)),
+    if let Some(verify) = matches.subcommand_matches("verify") {
+        return Ok(Request::Verify(verify_of(alloc, verify)?));
+    }
+    match matches.subcommand_matches("make") {
+        Some(make) => Ok(Request::Make(make_of(alloc, make)?)),
         None => Err(Fault::Line("command")),
     }
 }

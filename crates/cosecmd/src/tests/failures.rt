@@ -2,11 +2,18 @@
 
 use crate::run::run;
 use crate::tests::{FRONT, KEYS, joined, message};
+use std::alloc::Global;
 use std::io;
 use std::io::{Error, ErrorKind, Read, Write};
+use std::process::Abort;
 use std::test::Fail;
 
 const WORDS: &[&str] = &["cosecmd", "verify", "--keys", KEYS];
+
+/// To make the message of 44 bytes.
+const MAKE: &[&str] = &[
+    "cosecmd", "make", "--alg", "5", "--key", KEYS, "--length", "2",
+];
 
 /// Gives one byte in each read, and fails at one of them.
 #[derive(Drop)]
@@ -47,6 +54,36 @@ impl Write for FailingWriter {
             return Err(Error::from(ErrorKind::Other));
         }
         Ok(bytes.len().min(8))
+    }
+
+    fn flush(&mut self) -> io::Result<()> {
+        Ok(())
+    }
+}
+
+/// Takes at most eight bytes in each write, and keeps them. One of the writes fails, or takes none.
+#[derive(Drop)]
+struct KeepingWriter {
+    held: Vec<u8>,
+    writes: usize,
+    fails_at: usize,
+    takes_none: bool,
+}
+
+impl Write for KeepingWriter {
+    fn write(&mut self, bytes: &[u8]) -> io::Result<usize> {
+        self.writes = self.writes.saturating_add(1);
+        if self.writes == self.fails_at {
+            if self.takes_none {
+                return Ok(0);
+            }
+            return Err(Error::from(ErrorKind::Other));
+        }
+        let piece = bytes.get(..8).unwrap_or(bytes);
+        match self.held.extend_from_slice(piece) {
+            Ok(()) => Ok(piece.len()),
+            Err(_) => Err(Error::from(ErrorKind::OutOfMemory)),
+        }
     }
 
     fn flush(&mut self) -> io::Result<()> {
@@ -120,5 +157,77 @@ fn ends_with_two_where_the_output_failed(rt: HostRuntime) -> Result<(), Fail> {
     };
     let status = run(alloc, WORDS, &mut bytes.as_slice(), &mut writer);
     assert_eq!(rt; (status, writer.writes), (0, 5));
+    Ok(())
+}
+
+#[test]
+fn writes_no_line_where_the_payload_failed(rt: HostRuntime) -> Result<(), Fail> {
+    let alloc = rt.alloc();
+    let bytes = message(alloc)?;
+    // At the second byte of the payload the message is one byte longer.
+    for fails_at in 1..=2 {
+        let mut reader = FailingReader {
+            bytes: b"hi",
+            reads: 0,
+            fails_at,
+        };
+        let mut output = Vec::new(alloc);
+        let status = run(alloc, MAKE, &mut reader, &mut output);
+        let front = bytes.get(..fails_at.saturating_add(7)).unwrap_or(&[]);
+        assert_eq!(rt; output.as_slice(), front, "at read {fails_at}");
+        assert_eq!(rt; (status, reader.reads), (2, fails_at), "at read {fails_at}");
+    }
+    // Behind the payload nothing is read.
+    let mut reader = FailingReader {
+        bytes: b"hi",
+        reads: 0,
+        fails_at: 3,
+    };
+    let mut output = Vec::new(alloc);
+    let status = run(alloc, MAKE, &mut reader, &mut output);
+    assert_eq!(rt; output.as_slice(), bytes.as_slice());
+    assert_eq!(rt; (status, reader.reads), (0, 2));
+    Ok(())
+}
+
+/// The message is made until one of the writes fails. Whether all were done is answered.
+fn makes_until(
+    rt: &(impl Abort + Alloc<A = Global>),
+    fails_at: usize,
+    takes_none: bool,
+) -> Result<bool, Fail> {
+    let alloc = rt.alloc();
+    let bytes = message(alloc)?;
+    let mut writer = KeepingWriter {
+        held: Vec::new(alloc),
+        writes: 0,
+        fails_at,
+        takes_none,
+    };
+    let status = run(alloc, MAKE, &mut b"hi".as_slice(), &mut writer);
+    if writer.writes < fails_at {
+        assert_eq!(rt; writer.held.as_slice(), bytes.as_slice());
+        assert_eq!(rt; status, 0);
+        return Ok(true);
+    }
+    assert!(rt; bytes.as_slice().starts_with(writer.held.as_slice()));
+    assert!(rt; writer.held.len() < 44, "at write {fails_at}");
+    assert_eq!(rt;
+        (status, writer.writes),
+        (2, fails_at),
+        "at write {fails_at}"
+    );
+    Ok(false)
+}
+
+#[test]
+fn stops_making_where_the_output_failed(rt: HostRuntime) -> Result<(), Fail> {
+    for takes_none in [false, true] {
+        let mut ended = false;
+        for fails_at in 1..=45 {
+            ended = makes_until(&rt, fails_at, takes_none)?;
+        }
+        assert!(rt; ended);
+    }
     Ok(())
 }

@@ -2,7 +2,7 @@ use Rattle.std.proofs.Common.{option_map, sym}
 use Rattle.cose_map.specs.Key.View.{contents}
 use Rattle.cose_map.specs.KeySet.View.{keys as usable}
 use Rattle.cosecmd.proofs.Replies.{says_verified}
-use Rattle.cosecmd.proofs.answer.verify_reply.Goals as goal
+use Rattle.cosecmd.proofs.answer.verify.verify_reply.Goals as goal
 
 pub returns-clause-says : goal.returns-clause-says
 returns-clause-says g c = λ bytes e.

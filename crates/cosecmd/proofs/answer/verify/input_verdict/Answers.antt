@@ -1,7 +1,7 @@
 use Rattle.std.proofs.Common.{[], ◌∙◌}
 use Rattle.cose_msg.specs.Verifier.{setting_of}
 use Rattle.cosecmd.proofs.Trailing.{verdict_of_whole}
-use Rattle.cosecmd.proofs.answer.input_verdict.Goals as goal
+use Rattle.cosecmd.proofs.answer.verify.input_verdict.Goals as goal
 
 pub returns-in-Ok-clause-verdict : goal.returns-in-Ok-clause-verdict
 returns-in-Ok-clause-verdict g c = λ bytes e.

@@ -1,0 +1,49 @@
+//! The message of the job `make`, which is written as it is made.
+
+ghost use Rattle.std.specs.Prelude.{◌≡◌, ◌≤◌, ℕ, List, Some, IfOk, length as length_of, option_map};
+ghost use Rattle.cose_map.specs.Key.{key_of};
+ghost use Rattle.cose_map.specs.Key.View.{contents};
+ghost use Rattle.cosecmd.specs.Printed.{Prints, made_under};
+
+use crate::fault::Fault;
+use crate::reply::Status;
+use crate::write_sink::WriteSink;
+use cose_msg::{Alg, Key, MakeFault, ReadIntake, make_mac0};
+use std::io::{Read, Write};
+
+/// The most bytes of a payload that are taken at once.
+const CHUNK: usize = 4_096;
+
+/// Makes a message of the first `length` bytes of the input, and writes it. What stands behind them is left unread.
+///
+/// A fault is found before anything is read or written, and its line is still to be printed. Where the input or the output
+/// fails later, or the input is too short, the run ends with a fault, and no line stands behind what was written.
+pub fn make_message<R: Read, W: Write>(
+    alg: Alg,
+    key: &[u8],
+    kid: Option<&[u8]>,
+    aad: &[u8],
+    length: u64,
+    input: &mut R,
+    output: &mut W,
+) -> Result<Status, Fault>
+    ensures makes { (bytes : List ℕ) → R.remaining input.old ≡ Some bytes →
+        IfOk result (Prints (made_under (key_of (record { bytes = key.now; place = 0 })) alg length (option_map contents kid.entry) aad.now bytes) (W.contents output.old) (W.contents output.new)) }
+{
+    let key = match Key::read(key, 0) {
+        Ok(key) => key,
+        Err(refusal) => return Err(Fault::Key(refusal)),
+    };
+    let mut intake = ReadIntake::new(input);
+    let mut sink = WriteSink::new(output);
+    let made = make_mac0::<CHUNK, _, _>(alg, &key, kid, aad, &mut intake, length, &mut sink);
+    // What the output holds in the end is what the sink's writer holds: the proof reads it from this use, which does nothing.
+    let writer = sink.into_writer();
+    let _ = &*writer;
+    match made {
+        Ok(_) => Ok(Status::Done),
+        Err(MakeFault::WrongKey) => Err(Fault::WrongKey),
+        Err(MakeFault::TooLong) => Err(Fault::TooLong),
+        Err(MakeFault::ShortPayload | MakeFault::Intake | MakeFault::Sink) => Ok(Status::Fault),
+    }
+}

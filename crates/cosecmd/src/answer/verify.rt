@@ -1,0 +1,128 @@
+//! The verdict of the job `verify`, and the reply that says it.
+
+ghost use Rattle.std.specs.Prelude.{◌≡◌, ◌≤◌, ◌↔◌, ◌||◌, ℕ, List, Some, Ok, Err, IfErr, IfOk, is_err, length, option_map};
+ghost use Rattle.cose_head.specs.declared.refusal.Refusal.{Refusal};
+ghost use Rattle.cose_map.specs.Key.View.{contents};
+ghost use Rattle.cose_map.specs.KeySet.{keys_of};
+ghost use Rattle.cose_msg.specs.Answer.{decided};
+ghost use Rattle.cose_msg.specs.Verifier.{setting_of};
+ghost use Rattle.cose_msg.specs.declared.verdict.Verdict.{Verdict};
+ghost use Rattle.cosecmd.specs.Printed.{Says, input_answer, said_of, verified_under, with_rest};
+ghost use Rattle.cosecmd.specs.Vouch.{vouching};
+
+use crate::fault::Fault;
+use crate::line::Line;
+use crate::reply::{Reply, Status};
+use crate::vouch::Vouch;
+use cose_msg::{
+    Context, Intake, KeySet, Nothing, ReadIntake, Reason, Refusal, Verdict, Verifier, Wanted,
+    verify,
+};
+use std::alloc::Global;
+use std::io::Read;
+
+/// The most bytes of a header bucket.
+const HEADER: usize = 1_024;
+
+/// The most bytes of a message that are taken at once.
+const CHUNK: usize = 4_096;
+
+/// How deep the items of a header bucket may nest.
+const NESTING: usize = 8;
+
+/// The most bytes of a payload, which is the most that any message may have.
+const PAYLOAD: u64 = (1 << 56) - 1;
+
+/// The line of a verdict, and how a run ends with it.
+fn reply_of(alloc: Global, verdict: Verdict) -> Result<Reply, Fault>
+    ensures says { IfOk result (Says (said_of verdict)) }
+    ensures fault { IfErr result (λ fault. fault ≡ Fault.Memory) }
+{
+    let status = match verdict {
+        Verdict::Authentic { .. } => Status::Done,
+        Verdict::Refused(_) => Status::Refused,
+    };
+    let line = Line { verdict };
+    let text = format!(in alloc; "{line}\n")?;
+    Ok(Reply { status, text })
+}
+
+/// The verdict of the whole input: behind an authentic message, a further byte makes it `Trailing`.
+fn whole_verdict<I: Intake>(verdict: Verdict, intake: &mut I) -> Result<Verdict, Fault>
+    // Behind a refused message nothing is looked for.
+    ensures refused { (refusal : Refusal) → verdict ≡ Verdict.Refused refusal → result ≡ Ok verdict }
+    ensures unread { (refusal : Refusal) → verdict ≡ Verdict.Refused refusal → intake.new ≡ intake.old }
+
+    // Behind an authentic one nothing may stand.
+    ensures whole { (rest : List ℕ) → I.to_come intake.old ≡ Some rest → IfOk result (λ whole. whole ≡ with_rest rest verdict) }
+    ensures fault { IfErr result (λ fault. fault ≡ Fault.Input) }
+    ensures failure { I.has_failed intake.new ≡ (I.has_failed intake.old || is_err result) }
+{
+    let Verdict::Authentic { taken, .. } = verdict else {
+        return Ok(verdict);
+    };
+    match intake.take(&mut [0]) {
+        Ok(0) => Ok(verdict),
+        Ok(_) => Ok(Verdict::Refused(Refusal {
+            reason: Reason::Trailing,
+            place: taken,
+        })),
+        Err(_) => Err(Fault::Input),
+    }
+}
+
+/// The verdict of all that the reader gives.
+fn input_verdict<'j, R: Read>(
+    context: Context<'j>,
+    vouch: &Vouch<'j>,
+    input: &mut R,
+) -> Result<Verdict, Fault>
+    requires external { length context.aad.now ≤ 65535 }
+    ensures verdict { (bytes : List ℕ) → R.remaining input.old ≡ Some bytes →
+        IfOk result (λ verdict. input_answer (setting_of context.entry) (vouching (option_map contents vouch.now.word)) bytes ≡ decided verdict) }
+    ensures fault { IfErr result (λ fault. fault ≡ Fault.Input) }
+{
+    let mut verifier = Verifier::<HEADER, NESTING>::new(context);
+    let mut intake = ReadIntake::new(input);
+    let verdict = verify::<CHUNK, HEADER, NESTING, _, _, _>(
+        &mut verifier,
+        &mut intake,
+        &mut Nothing,
+        vouch,
+    );
+    match verdict {
+        Ok(verdict) => whole_verdict(verdict, &mut intake),
+        // The sink that is nothing never fails, and a new verifier hasn't stopped.
+        Err(_) => Err(Fault::Input),
+    }
+}
+
+/// The reply to the job `verify`: the key set is read before the input.
+pub fn verify_reply<R: Read>(
+    alloc: Global,
+    keys: &[u8],
+    aad: &[u8],
+    wanted: Wanted,
+    vouch: Option<&[u8]>,
+    input: &mut R,
+) -> Result<Reply, Fault>
+    requires external { length aad.now ≤ 65535 }
+    ensures says { (bytes : List ℕ) → R.remaining input.old ≡ Some bytes →
+        IfOk result (Says (verified_under (keys_of keys.now) aad.now wanted (option_map contents vouch.entry) bytes)) }
+    ensures keys { (refusal : Refusal) → keys_of keys.now ≡ Err refusal ↔ result ≡ Err (Fault.Keys refusal) }
+{
+    let keys = match KeySet::read(keys) {
+        Ok(keys) => keys,
+        Err(refusal) => return Err(Fault::Keys(refusal)),
+    };
+    let context = Context {
+        keys,
+        aad,
+        wanted,
+        cwt: true,
+        understood: &[],
+        payload_limit: PAYLOAD,
+    };
+    let verdict = input_verdict(context, &Vouch { word: vouch }, input)?;
+    reply_of(alloc, verdict)
+}

@@ -1,0 +1,233 @@
+//! Messages that the program makes: their bytes, what the words and the input have wrong, and what `verify` says of them.
+
+use crate::run::run;
+use crate::tests::{KEYS, message};
+use std::alloc::{AllocError, Global};
+use std::process::Abort;
+use std::test::Fail;
+
+/// 255 bytes of an identifier, in hexadecimal.
+const LONGEST: usize = 510;
+
+/// What a run with these words behind `make` writes for the input, and how it ends. What it leaves of the input is answered too.
+fn makes<'i>(
+    alloc: Global,
+    options: &[&str],
+    mut input: &'i [u8],
+) -> Result<(Vec<u8>, u8, &'i [u8]), AllocError> {
+    let mut words = Vec::new(alloc);
+    words.push("cosecmd")?;
+    words.push("make")?;
+    words.extend_from_slice(options)?;
+    let mut output = Vec::new(alloc);
+    let status = run(alloc, words.as_slice(), &mut input, &mut output);
+    Ok((output, status, input))
+}
+
+/// A run with these options writes this and ends with 2.
+fn faults(
+    rt: &(impl Abort + Alloc<A = Global>),
+    options: &[&str],
+    text: &str,
+) -> Result<(), AllocError> {
+    let (output, status, left) = makes(rt.alloc(), options, b"hi")?;
+    assert_eq!(rt; output.as_slice(), text.as_bytes(), "{options:?}");
+    // Nothing was read.
+    assert_eq!(rt; (status, left.len()), (2, 2), "{options:?}");
+    Ok(())
+}
+
+#[test]
+fn makes_the_message(rt: HostRuntime) -> Result<(), Fail> {
+    let options = ["--alg", "5", "--key", KEYS, "--length", "2"];
+    let whole = message(rt.alloc())?;
+    let (output, status, left) = makes(rt.alloc(), options.as_slice(), b"hi")?;
+    assert_eq!(rt; output.as_slice(), whole.as_slice());
+    assert_eq!(rt; (status, left.len()), (0, 0));
+    // What stands behind the payload stays.
+    let (output, status, left) = makes(rt.alloc(), options.as_slice(), b"hi there")?;
+    assert_eq!(rt; output.as_slice(), whole.as_slice());
+    assert_eq!(rt; (status, left), (0, b" there".as_slice()));
+    // The input is a byte short.
+    let (output, status, left) = makes(rt.alloc(), options.as_slice(), b"h")?;
+    assert_eq!(rt; output.as_slice(), whole.get(..9).unwrap_or(&[]));
+    assert_eq!(rt; (status, left.len()), (2, 0));
+    Ok(())
+}
+
+#[test]
+fn makes_as_many_bytes_as_are_wanted(rt: HostRuntime) -> Result<(), Fail> {
+    let rows: [(&[&str], &[u8], usize); 4] = [
+        (
+            &["--alg", "5", "--key", KEYS, "--length", "2", "--kid", "31"],
+            b"hi",
+            47,
+        ),
+        (&["--alg", "7", "--key", KEYS, "--length", "0"], b"", 74),
+        (&["--alg", "4", "--key", KEYS, "--length", "2"], b"hi", 19),
+        (
+            &["--alg", "5", "--key", KEYS, "--length", "2", "--kid", ""],
+            b"hi",
+            46,
+        ),
+    ];
+    for (options, input, count) in rows {
+        let (output, status, _left) = makes(rt.alloc(), options, input)?;
+        assert_eq!(rt; (output.len(), status), (count, 0), "{options:?}");
+    }
+    Ok(())
+}
+
+#[test]
+fn says_which_argument_is_at_fault(rt: HostRuntime) -> Result<(), Fail> {
+    let rows: [(&str, &str, &str); 6] = [
+        ("4", "a30104030520444a656665", "fault make WrongKey\n"),
+        ("5", "a3010404810a204161", "fault make WrongKey\n"),
+        ("5", "zz", "fault line key\n"),
+        ("5", "", "fault key PastRoom at 0\n"),
+        ("5", "a201012006", "fault key UnknownKey at 0\n"),
+        ("5", "a2010420444a65666500", "fault key Trailing at 9\n"),
+    ];
+    for (alg, key, text) in rows {
+        let options = ["--alg", alg, "--key", key, "--length", "2"];
+        faults(&rt, options.as_slice(), text)?;
+    }
+    Ok(())
+}
+
+/// What is written for the message `hi` under this key and an identifier of so many digits, and how it ends.
+fn identified(alloc: Global, key: &str, digits: usize) -> Result<(Vec<u8>, u8), Fail> {
+    let mut word = Vec::new(alloc);
+    for _i in 0..digits {
+        word.push(b'6')?;
+    }
+    let kid = str::from_utf8(word.as_slice()).or(Err("no text"))?;
+    let options = ["--alg", "5", "--key", key, "--length", "2", "--kid", kid];
+    let (output, status, _left) = makes(alloc, options.as_slice(), b"hi")?;
+    Ok((output, status))
+}
+
+#[test]
+fn limits_the_identifier(rt: HostRuntime) -> Result<(), Fail> {
+    let (output, status) = identified(rt.alloc(), KEYS, LONGEST)?;
+    assert_eq!(rt; (output.len(), status), (302, 0));
+    let longer = LONGEST.saturating_add(2);
+    let (output, status) = identified(rt.alloc(), KEYS, longer)?;
+    assert_eq!(rt; output.as_slice(), b"fault make TooLong\n".as_slice());
+    assert_eq!(rt; status, 2);
+    // The key goes first.
+    let (output, status) = identified(rt.alloc(), "a30104030420444a656665", longer)?;
+    assert_eq!(rt; output.as_slice(), b"fault make WrongKey\n".as_slice());
+    assert_eq!(rt; status, 2);
+    Ok(())
+}
+
+#[test]
+fn reads_the_words_of_make_in_order(rt: HostRuntime) -> Result<(), Fail> {
+    let rows: [(&str, &str, &str, &str); 4] = [
+        ("zz", "zz", "zz", "fault line key\n"),
+        ("80", "zz", "zz", "fault line kid\n"),
+        ("80", "31", "zz", "fault line aad\n"),
+        ("80", "31", "", "fault key NotMap at 0\n"),
+    ];
+    for (key, kid, aad, text) in rows {
+        let options = [
+            "--aad", aad, "--kid", kid, "--length", "2", "--key", key, "--alg", "5",
+        ];
+        faults(&rt, options.as_slice(), text)?;
+    }
+    Ok(())
+}
+
+#[test]
+fn refuses_lines_without_a_message(rt: HostRuntime) -> Result<(), Fail> {
+    let rows: [&[&str]; 8] = [
+        &["--key", KEYS, "--length", "2"],
+        &["--alg", "5", "--length", "2"],
+        &["--alg", "5", "--key", KEYS],
+        &["--alg", "3", "--key", KEYS, "--length", "2"],
+        &["--alg", "8", "--key", KEYS, "--length", "2"],
+        &["--alg", "5", "--key", KEYS, "--length", "72057594037927936"],
+        &["--alg", "5", "--key", KEYS, "--length", "2a"],
+        &[
+            "--alg", "5", "--key", KEYS, "--length", "2", "--vouch", "00",
+        ],
+    ];
+    for options in rows {
+        let (output, status, left) = makes(rt.alloc(), options, b"hi")?;
+        assert_eq!(rt; (status, left.len()), (2, 2), "{options:?}");
+        assert!(rt; output.as_slice().starts_with(b"error: "), "{options:?}");
+    }
+    // The greatest length is one that the program takes: it begins the message, and the input ends.
+    let options = ["--alg", "5", "--key", KEYS, "--length", "72057594037927935"];
+    let (output, status, _left) = makes(rt.alloc(), options.as_slice(), b"")?;
+    assert_eq!(rt;
+        (output.as_slice(), status),
+        (
+            b"\xd1\x84\x43\xa1\x01\x05\xa0\x5b\x00\xff\xff\xff\xff\xff\xff\xff".as_slice(),
+            2
+        )
+    );
+    Ok(())
+}
+
+/// The message that is made by this algorithm is authentic, and has so many bytes besides the payload.
+fn goes_round(
+    rt: &(impl Abort + Alloc<A = Global>),
+    alg: &str,
+    kid: Option<&str>,
+    payload: &[u8],
+    others: usize,
+) -> Result<(), Fail> {
+    let alloc = rt.alloc();
+    let count = payload.len();
+    let length = format!(in alloc; "{count}")?;
+    let mut options = Vec::new(alloc);
+    options.extend_from_slice(&["--alg", alg, "--key", KEYS, "--length", length.as_str()])?;
+    if let Some(kid) = kid {
+        options.extend_from_slice(&["--kid", kid])?;
+    }
+    let (made, status, _left) = makes(alloc, options.as_slice(), payload)?;
+    assert_eq!(rt; status, 0, "alg {alg}, {count} bytes");
+    let taken = count.saturating_add(others);
+    let words = ["cosecmd", "verify", "--keys", KEYS];
+    let mut verdict = Vec::new(alloc);
+    let status = run(alloc, words.as_slice(), &mut made.as_slice(), &mut verdict);
+    let line = format!(in alloc; "authentic mac0 alg {alg} payload {count} taken {taken}\n")?;
+    assert_eq!(rt;
+        verdict.as_slice(),
+        line.as_bytes(),
+        "alg {alg}, {count} bytes"
+    );
+    assert_eq!(rt; status, 0, "alg {alg}, {count} bytes");
+    Ok(())
+}
+
+#[test]
+fn makes_what_is_authentic(rt: HostRuntime) -> Result<(), Fail> {
+    // The bytes of the tag with its head, and of the payload's head.
+    let algorithms: [(&str, usize); 4] = [("4", 9), ("5", 34), ("6", 50), ("7", 66)];
+    let lengths: [(usize, usize); 7] = [
+        (0, 1),
+        (23, 1),
+        (24, 2),
+        (255, 2),
+        (256, 3),
+        (65_535, 3),
+        (65_536, 5),
+    ];
+    let mut payload = Vec::new(rt.alloc());
+    for i in 0..65_536usize {
+        payload.push((i % 251) as u8)?;
+    }
+    for (alg, auth) in algorithms {
+        for (count, head) in lengths {
+            let payload = payload.get(..count).unwrap_or(&[]);
+            let others = auth.saturating_add(head);
+            // Tag, array, protected header, and an empty unprotected one or {4: h'31'}.
+            goes_round(&rt, alg, None, payload, others.saturating_add(7))?;
+            goes_round(&rt, alg, Some("31"), payload, others.saturating_add(10))?;
+        }
+    }
+    Ok(())
+}
