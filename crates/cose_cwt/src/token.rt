@@ -106,6 +106,7 @@ pub fn verify_cwt<
     ensures again { (answer : Result Verdict Stop) → kept_answer verifier.old ≡ Some answer →
         (claims_seen result ≡ token_of D (policy_value policy.entry.now) answer []) × (verifier.new ≡ verifier.old) × (intake.new ≡ intake.old) }
     ensures stopped { (claims_seen result ≡ Err (CwtStop.Stopped Stop.Again)) ↔ (is_stopped verifier.old ≡ true) }
+    ensures inspects { is_inspecting verifier.new ≡ false }
 
     // A place of the claims is in the payload, or at its end.
     ensures within { (refusal : Refusal) → claims_seen result ≡ Err (CwtStop.Claims refusal) → refusal.place ≤ L }
