@@ -13,7 +13,8 @@ mod stops;
 mod streams;
 mod using;
 
-ghost use Rattle.std.specs.Prelude.{◌≤◌, length};
+ghost use Rattle.std.specs.Prelude.{◌≡◌, ◌≤◌, false, length};
+ghost use Rattle.cose_msg.specs.Kept.{is_inspecting};
 
 use cose_msg::{Context, KeySet, Verifier, Wanted};
 use sha2::{Digest, Sha256};
@@ -104,7 +105,9 @@ fn context(keys: KeySet) -> Context
 }
 
 /// A verifier under these keys.
-fn verifier(keys: KeySet, wanted: Wanted) -> Verifier<1024, 4> {
+fn verifier(keys: KeySet, wanted: Wanted) -> Verifier<1024, 4>
+    ensures { is_inspecting result ≡ false }
+{
     Verifier::new(Context {
         wanted,
         ..context(keys)

@@ -1,5 +1,8 @@
 //! An intake or a sink that fails in the course of a message.
 
+ghost use Rattle.std.specs.Prelude.{◌≡◌, false};
+ghost use Rattle.cose_msg.specs.Kept.{is_inspecting};
+
 use crate::tests::streams::{FailingIntake, FailingSink};
 use crate::tests::{key_set, message, verifier};
 use cose_msg::{
@@ -21,12 +24,17 @@ fn answer<I: Intake, S: Sink>(
     verifier: &mut Verifier<1024, 4>,
     intake: &mut I,
     sink: &mut S,
-) -> Result<Verdict, Stop> {
+) -> Result<Verdict, Stop>
+    requires { is_inspecting verifier.old ≡ false }
+    ensures { is_inspecting verifier.new ≡ false }
+{
     verify::<1, 1024, 4, _, _, _>(verifier, intake, sink, &Never)
 }
 
 /// After `reset` the message is authentic.
-fn authenticates(rt: &impl Abort, verifier: &mut Verifier<1024, 4>, bytes: &[u8]) {
+fn authenticates(rt: &impl Abort, verifier: &mut Verifier<1024, 4>, bytes: &[u8])
+    requires { is_inspecting verifier.old ≡ false }
+{
     verifier.reset();
     let mut intake = SliceIntake::new(bytes, 64);
     let mut store = Store::<16>::new();

@@ -1,7 +1,8 @@
 //! The examples of docs/USING.md: from bytes to a payload that is authentic, and from header buckets to a MAC, by the libraries
 //! alone.
 
-ghost use Rattle.std.specs.Prelude.{◌≤◌, length};
+ghost use Rattle.std.specs.Prelude.{◌≡◌, ◌≤◌, false, length};
+ghost use Rattle.cose_msg.specs.Kept.{is_inspecting};
 
 use crate::tests::streams::FailingIntake;
 use crate::tests::{KEY, KEY_SET, STRUCTURE, cut, hmac, key_set, message};
@@ -42,7 +43,10 @@ fn payload_of<'p, I: Intake>(
     verifier: &mut Verifier<1_024, 8>,
     intake: &mut I,
     store: &'p mut Store<4_096>,
-) -> Result<&'p [u8], Problem> {
+) -> Result<&'p [u8], Problem>
+    requires { is_inspecting verifier.old ≡ false }
+    ensures { is_inspecting verifier.new ≡ false }
+{
     match verify::<512, 1_024, 8, _, _, _>(verifier, intake, store, &Never) {
         Ok(Verdict::Authentic { .. }) => Ok(store.bytes()),
         Ok(Verdict::Refused(refusal)) => Err(Problem::Message(refusal)),
