@@ -11,6 +11,7 @@ use cose_map::{Bucket, KeySet, Kind, Material, Query, Reason, Refusal, check_pai
 use cose_msg::{
     Context, Intake, Never, SliceIntake, Stop, Store, Verdict, Verifier, Wanted, verify,
 };
+use std::process::Abort;
 use std::test::Fail;
 
 /// Why there is no payload.
@@ -95,16 +96,23 @@ fn hands_out_what_is_authentic(rt: HostRuntime) -> Result<(), Fail> {
     Ok(())
 }
 
+/// An intake that fails at its third call stops it so.
+fn stops(rt: &impl Abort, verifier: &mut Verifier<1_024, 8>, bytes: &[u8], stop: Stop)
+    requires { is_inspecting verifier.old ≡ false }
+    ensures { is_inspecting verifier.new ≡ false }
+{
+    let mut failing = FailingIntake::new(bytes, 3);
+    let mut store = Store::new();
+    let payload = payload_of(verifier, &mut failing, &mut store);
+    assert_eq!(rt; payload, Err(Problem::Stopped(stop)));
+}
+
 #[test]
 fn begins_again_after_a_stop(rt: HostRuntime) -> Result<(), Fail> {
     let bytes = message(rt.alloc())?;
     let mut verifier = Verifier::new(context(key_set().ok_or("no keys")?));
-    for stop in [Stop::Intake, Stop::Again] {
-        let mut failing = FailingIntake::new(bytes.as_slice(), 3);
-        let mut store = Store::new();
-        let payload = payload_of(&mut verifier, &mut failing, &mut store);
-        assert_eq!(rt; payload, Err(Problem::Stopped(stop)));
-    }
+    stops(&rt, &mut verifier, bytes.as_slice(), Stop::Intake);
+    stops(&rt, &mut verifier, bytes.as_slice(), Stop::Again);
     verifier.reset();
     let mut intake = SliceIntake::new(bytes.as_slice(), 512);
     let mut store = Store::new();
