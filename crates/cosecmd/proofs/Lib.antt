@@ -1,7 +1,9 @@
 pub mod Makings
 pub mod Replies
+pub mod Shows
 pub mod Trailing
 pub mod Vouches
 pub mod WorkedMade
 pub mod WorkedPrinted
+pub mod WorkedShown
 pub mod Writes

@@ -3,11 +3,14 @@ use Rattle.std.proofs.Common.{◌≡◌, ℕ, ◌<◌, ◌≤◌, List, [], ◌�
 use Rattle.std.specs.Prelude.{IfOk}
 use Rattle.std.specs.Io.KnownBytes.{Consumes}
 use Rattle.std.proofs.lemmas.Bool.{lt-ltb, le-ltb}
+use Rattle.cose_head.specs.declared.algorithm.Alg.{Alg}
+use Rattle.cose_head.specs.declared.kind.Kind.{Kind}
+use Rattle.cose_head.specs.declared.refusal.Refusal.{Refusal}
 use Rattle.cose_msg.specs.declared.verdict.Verdict.{Verdict}
 use Rattle.cose_msg.specs.declared.verdict.Verdict.TheVariants.{Authentic, Refused}
 use Rattle.cose_msg.specs.Answer.{Answer, decided}
 use Rattle.cose_msg.specs.Verifier.{Counts}
-use Rattle.cosecmd.specs.Printed.{trailed, with_rest}
+use Rattle.cosecmd.specs.Printed.{behind, trailed, with_rest}
 
 -- A message that took these bytes of an input leaves the rest.
 pub trails : (bytes taken rest : List ℕ) (verdict : Verdict) → bytes ≡ taken ++ rest → Counts verdict (length taken) → trailed (length bytes) (decided verdict) ≡ decided (with_rest rest verdict)
@@ -26,3 +29,14 @@ pub verdict_of_whole : {F : Type 0} (come come_after : Option (List ℕ)) (bytes
 verdict_of_whole come None bytes taken answer verdict whole e consumes counted a h = let none = rw e at consumes in absurd none
 verdict_of_whole come (Some rest) bytes taken answer verdict (Err fault) e consumes counted a h = tt
 verdict_of_whole come (Some rest) bytes taken answer verdict (Ok w) e consumes counted a h = rw (a, h rest refl) (trails bytes taken rest verdict (rw e at consumes) counted)
+
+-- A further byte refuses an authentic message, and nothing else does.
+pub refused_behind : (rest : List ℕ) (verdict : Verdict) (kind : Kind) (alg : Alg) (payload taken : ℕ) (refusal : Refusal) → verdict ≡ Authentic kind alg payload taken →
+    Some refusal ≡ behind rest taken → Refused refusal ≡ with_rest rest verdict
+refused_behind [] verdict kind alg payload taken refusal is e = absurd cc
+refused_behind (byte ∷ rest) verdict kind alg payload taken refusal is e = rw is cc
+
+pub nothing_behind : (rest : List ℕ) (verdict : Verdict) (kind : Kind) (alg : Alg) (payload taken : ℕ) → verdict ≡ Authentic kind alg payload taken →
+    None ≡ behind rest taken → Authentic kind alg payload taken ≡ with_rest rest verdict
+nothing_behind [] verdict kind alg payload taken is e = rw is refl
+nothing_behind (byte ∷ rest) verdict kind alg payload taken is e = absurd cc

@@ -1,5 +1,6 @@
 -- What the program prints for a job and an input, and how it ends.
-use Rattle.std.specs.Prelude.{◌≡◌, ◌≢◌, ℕ, ◌-◌, ◌^◌, true, List, [], ◌∷◌, ◌++◌, length, take, Option, Some, None, Result, Ok, Err, option_map, codes, string_bytes, nat_lt, if◌then◌else◌}
+use Rattle.std.specs.Prelude.{◌≡◌, ◌≢◌, ℕ, ◌-◌, ◌^◌, true, List, [], ◌∷◌, ◌++◌, length, map, take, Option, Some, None, Result, Ok, Err, option_map, codes, string_bytes, nat_lt, if◌then◌else◌}
+use Rattle.std.specs.List.{concat}
 use Rattle.std.specs.Fmt.{decimal, signed_decimal}
 use Rattle.std.specs.Io.KnownBytes.{Appends}
 use Rattle.cose_head.specs.declared.kind.Kind.{Kind}
@@ -13,6 +14,7 @@ use Rattle.cose_map.specs.Key.{key_of}
 use Rattle.cose_map.specs.KeySet.{keys_of}
 use Rattle.cose_map.specs.Key.Value.{KeyValue}
 use Rattle.cose_map.specs.Key.View.{contents}
+use Rattle.cose_map.specs.Map.Pairs.{Pair}
 use Rattle.cose_map.specs.Map.Read.{Read}
 use Rattle.cose_msg.specs.declared.context.Wanted.{Wanted}
 use Rattle.cose_msg.specs.declared.verdict.Verdict.{Verdict}
@@ -22,14 +24,16 @@ use Rattle.cose_msg.specs.declared.make.MakeFault.{MakeFault}
 use Rattle.cose_msg.specs.declared.make.MakeFault.TheVariants as makes
 use Rattle.cose_msg.specs.Make.{make_fault}
 use Rattle.cose_msg.specs.Making.{made, protected_made}
-use Rattle.cose_msg.specs.Message.{Decides, Setting, secret_of, verdict_of}
+use Rattle.cose_msg.specs.Message.{Decides, Setting, inspecting, message, secret_of, verdict_of}
+use Rattle.cose_msg.specs.Reading.{Reading, Told}
 use Rattle.cose_msg.specs.Writes.{front_of}
 use Rattle.cosecmd.specs.declared.job.Job.{Job}
-use Rattle.cosecmd.specs.declared.job.Job.TheVariants.{Verify, Make}
+use Rattle.cosecmd.specs.declared.job.Job.TheVariants.{Show, Verify, Make}
 use Rattle.cosecmd.specs.declared.reply.Reply.{Reply}
 use Rattle.cosecmd.specs.declared.reply.Status.{Status}
 use Rattle.cosecmd.specs.declared.reply.Status.TheVariants as statuses
 use Rattle.cosecmd.specs.Vouch.{vouching}
+use Rattle.hex.specs.Hex.{encode_lower}
 
 -- The text that is printed, and how the run ends.
 pub record Output : Type 0 where
@@ -82,6 +86,11 @@ trailed n (decided (Refused refusal)) = decided (Refused refusal)
 trailed n (complete whole) = if nat_lt whole.taken n then refused Trailing whole.taken else complete whole
 trailed n (shaped kind payload auth taken) = if nat_lt taken n then refused Trailing taken else shaped kind payload auth taken
 
+-- What the first of these bytes behind a message is refused for, where there is one.
+abbrev pub behind : List ℕ → ℕ → Option Refusal
+behind [] taken = None
+behind (byte ∷ bytes) taken = Some (record { reason = Trailing; place = taken })
+
 -- The same, where these bytes are left of the input behind the message.
 abbrev pub with_rest : List ℕ → Verdict → Verdict
 with_rest (byte ∷ bytes) (Authentic kind alg payload taken) = Refused (record { reason = Trailing; place = taken })
@@ -104,6 +113,38 @@ output_of (shaped kind payload auth taken) = none_said
 abbrev pub verified_under : Read (List KeyValue) → List ℕ → Wanted → Option (List ℕ) → List ℕ → Output
 verified_under (Ok keys) aad wanted vouch bytes = output_of (input_answer (program_setting keys aad wanted) (vouching vouch) bytes)
 verified_under (Err refusal) aad wanted vouch bytes = fault_of_keys refusal
+
+-- The shape of a message: its kind, and the numbers of bytes of its payload, of its tag or signature, and of the whole.
+abbrev pub shape_line : Kind → ℕ → ℕ → ℕ → List ℕ
+shape_line kind payload auth taken =
+    codes "shape " ++ word_of_kind kind ++ codes " payload " ++ decimal payload ++ codes " auth " ++ decimal auth ++ codes " taken " ++ decimal taken ++ codes "\n"
+
+-- A line for each pair of a bucket, in the order of the message: the bytes of its label and of its value as they came.
+abbrev pub pair_line : List ℕ → Pair → List ℕ
+pair_line bucket pair = bucket ++ codes " " ++ encode_lower pair.label.bytes ++ codes " " ++ encode_lower pair.value.bytes ++ codes "\n"
+
+abbrev pub bucket_lines : List ℕ → Option (List Pair) → List ℕ
+bucket_lines bucket None = []
+bucket_lines bucket (Some pairs) = concat (map (pair_line bucket) pairs)
+
+-- The shape, then the pairs of the protected bucket, then those of the unprotected one.
+abbrev pub shape_said : Kind → ℕ → ℕ → ℕ → Option (List Pair) → Option (List Pair) → Output
+shape_said kind payload auth taken protected unprotected = record {
+  text = shape_line kind payload auth taken ++ bucket_lines (codes "protected") protected ++ bucket_lines (codes "unprotected") unprotected;
+  status = statuses.Done;
+}
+
+abbrev pub shown_as : Told → Answer → Output
+shown_as told (shaped kind payload auth taken) = shape_said kind payload auth taken told.protected told.unprotected
+shown_as told (decided verdict) = said_of verdict
+shown_as told (complete whole) = none_said
+
+abbrev pub shown_of : ℕ → Reading → Output
+shown_of n reading = shown_as reading.told (trailed n reading.answer)
+
+-- A message is shown as it is when it is only inspected: under no key.
+abbrev pub shown : Wanted → List ℕ → Output
+shown wanted bytes = shown_of (length bytes) (message (inspecting 1024 8 (program_setting [] [] wanted)) bytes)
 
 -- A message that isn't made.
 abbrev pub fault_of_key : Refusal → Output
@@ -136,6 +177,7 @@ made_under (Err refusal) alg payload_length kid aad bytes = fault_of_key refusal
 
 -- What is printed for a job, where the input is these bytes.
 unfoldable pub printed : Job → List ℕ → Output
+printed (Show wanted) bytes = shown wanted bytes
 printed (Verify keys aad wanted vouch) bytes = verified_under (keys_of keys.now) aad.now wanted (option_map contents vouch) bytes
 printed (Make alg key payload_length kid aad) bytes =
     made_under (key_of (record { bytes = key.now; place = 0 })) alg payload_length (option_map contents kid) aad.now bytes

@@ -6,12 +6,14 @@ ghost use Rattle.cosecmd.specs.Job.{aad_of};
 ghost use Rattle.cosecmd.specs.Printed.{Prints, code_of, printed};
 
 mod make;
+mod show;
 mod verify;
 
 use crate::job::Job;
 use crate::print::{print_fault, print_reply};
 use crate::reply::Status;
 use make::make_message;
+use show::show_reply;
 use std::alloc::Global;
 use std::io::{Read, Write};
 use verify::verify_reply;
@@ -23,6 +25,10 @@ fn status_of<R: Read, W: Write>(alloc: Global, job: &Job, input: &mut R, output:
     ensures prints { (bytes : List ℕ) → R.remaining input.old ≡ Some bytes → Prints (printed job.now bytes) (W.contents output.old) (W.contents output.new) result }
 {
     match job {
+        Job::Show { wanted } => {
+            let reply = show_reply(alloc, *wanted, input);
+            print_reply(alloc, reply, output)
+        }
         Job::Verify {
             keys,
             aad,

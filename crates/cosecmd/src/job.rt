@@ -5,6 +5,11 @@ use cose_msg::{Alg, Wanted};
 /// What a run is asked to do, as its words say it.
 #[derive(Clone, Copy)]
 pub enum Job<'j> {
+    /// To show what the message on the input has in its headers, under no key.
+    Show {
+        /// The kinds of messages that are wanted.
+        wanted: Wanted,
+    },
     /// To verify the message on the input.
     Verify {
         /// The bytes of the key set (RFC 9052 section 7).

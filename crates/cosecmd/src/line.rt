@@ -14,7 +14,7 @@ pub struct Line {
 }
 
 /// The word that is printed for a kind.
-fn word_of(kind: Kind) -> &'static str
+pub fn word_of(kind: Kind) -> &'static str
     ensures { result.now ≡ word_of_kind kind }
 {
     match kind {

@@ -65,6 +65,7 @@ pub fn run<'a, R: Read, W: Write>(
     ensures { result ≤ 2 }
 {
     match request_of(alloc, words) {
+        Ok(Request::Show(wanted)) => answer(alloc, &Job::Show { wanted }, input, output),
         Ok(Request::Verify(words)) => answer_verify(alloc, &words, input, output),
         Ok(Request::Make(words)) => answer_make(alloc, &words, input, output),
         Ok(Request::Print(Reply { status, text })) => {

@@ -8,6 +8,7 @@ mod messages;
 mod options;
 mod rows;
 mod runs;
+mod showing;
 mod signatures;
 mod stops;
 mod streams;

@@ -22,6 +22,12 @@ const MAKE_NOTES: &str =
 The message has its tag, 17, and its shortest spelling. It is written while the payload is read.
 Exit status: 0 made, 2 not or not whole (command line, key, memory, input or output): drop what was written.";
 
+/// What help says below the options of `show`.
+const SHOW_NOTES: &str =
+    "It prints the shape of the message, and a line for each pair of the protected and of the unprotected header, \
+in the order of the message: the bytes of the label and of the value in hexadecimal. Nothing of it is authenticated.
+Exit status: 0 shown, 1 refused, 2 no answer (command line, memory, input or output).";
+
 /// The words for the kinds of messages that are wanted.
 const KINDS: &[&str] = &["mac0", "sign1", "tagged"];
 
@@ -67,6 +73,8 @@ pub struct Make {
 /// What the words ask for.
 #[derive(Drop)]
 pub enum Request {
+    /// To show a message of these kinds.
+    Show(Wanted),
     /// To verify a message.
     Verify(Verify),
     /// To make a message.
@@ -82,6 +90,26 @@ fn aad_option<'a>(alloc: Global) -> Arg<'a> {
     )
 }
 
+/// The option of the kind, which two commands have.
+fn kind_option<'a>(alloc: Global) -> Arg<'a> {
+    Arg::new(alloc, "kind")
+        .long("kind")
+        .value_name("KIND")
+        .value_parser(KINDS)
+        .default_value("tagged")
+        .help("The kind of message: one of both, or as its tag says")
+}
+
+/// The command `show` and its option.
+fn show_line<'a>(alloc: Global) -> Result<Command<'a>, AllocError> {
+    Command::new(alloc, "show")
+        .about(
+            "Shows the shape and the headers of the COSE message on standard input, under no key",
+        )
+        .after_help(SHOW_NOTES)
+        .arg(kind_option(alloc))
+}
+
 /// The command `verify` and its options.
 fn verify_line<'a>(alloc: Global) -> Result<Command<'a>, AllocError> {
     let keys = Arg::new(alloc, "keys")
@@ -89,12 +117,6 @@ fn verify_line<'a>(alloc: Global) -> Result<Command<'a>, AllocError> {
         .value_name("HEX")
         .required(true)
         .help("The key set (RFC 9052 section 7)");
-    let kind = Arg::new(alloc, "kind")
-        .long("kind")
-        .value_name("KIND")
-        .value_parser(KINDS)
-        .default_value("tagged")
-        .help("The kind of message: one of both, or as its tag says");
     let vouch = Arg::new(alloc, "vouch")
         .long("vouch")
         .value_name("HEX")
@@ -104,7 +126,7 @@ fn verify_line<'a>(alloc: Global) -> Result<Command<'a>, AllocError> {
         .after_help(NOTES)
         .arg(keys)?
         .arg(aad_option(alloc))?
-        .arg(kind)?
+        .arg(kind_option(alloc))?
         .arg(vouch)
 }
 
@@ -150,6 +172,7 @@ fn line<'a>(alloc: Global) -> Result<Command<'a>, AllocError> {
         .after_help(NOTES)
         .subcommand_required(true)
         .arg_required_else_help(true)
+        .subcommand(show_line(alloc)?)?
         .subcommand(verify_line(alloc)?)?
         .subcommand(make_line(alloc)?)
 }
@@ -220,11 +243,16 @@ fn alg_of(word: &str) -> Option<Alg> {
     }
 }
 
+/// The kinds of messages that the words want.
+fn kind_of(matches: &ArgMatches) -> Wanted {
+    wanted_of(matches.get_str("kind").unwrap_or("tagged"))
+}
+
 /// The words of `verify`, in the order in which help lists them.
 fn verify_of(alloc: Global, matches: &ArgMatches) -> Result<Verify, Fault> {
     let keys = bytes_of(alloc, matches, "keys")?;
     let aad = external_of(alloc, matches)?;
-    let wanted = wanted_of(matches.get_str("kind").unwrap_or("tagged"));
+    let wanted = kind_of(matches);
     let vouch = optional_bytes_of(alloc, matches, "vouch")?;
     Ok(Verify {
         keys,
@@ -260,6 +288,9 @@ pub fn request_of<'a>(alloc: Global, words: &'a [&'a str]) -> Result<Request, Fa
         Ok(matches) => matches,
         Err(error) => return Ok(Request::Print(refused_line(alloc, error)?)),
     };
+    if let Some(show) = matches.subcommand_matches("show") {
+        return Ok(Request::Show(kind_of(show)));
+    }
     if let Some(verify) = matches.subcommand_matches("verify") {
         return Ok(Request::Verify(verify_of(alloc, verify)?));
     }

@@ -4,10 +4,11 @@ ghost use Rattle.std.specs.Prelude.{◌≡◌, ◌≤◌, ◌↔◌, ◌||◌, �
 ghost use Rattle.cose_head.specs.declared.refusal.Refusal.{Refusal};
 ghost use Rattle.cose_map.specs.Key.View.{contents};
 ghost use Rattle.cose_map.specs.KeySet.{keys_of};
+ghost use Rattle.cose_map.specs.KeySet.View.{keys as usable};
 ghost use Rattle.cose_msg.specs.Answer.{decided};
 ghost use Rattle.cose_msg.specs.Verifier.{setting_of};
 ghost use Rattle.cose_msg.specs.declared.verdict.Verdict.{Verdict};
-ghost use Rattle.cosecmd.specs.Printed.{Says, input_answer, said_of, verified_under, with_rest};
+ghost use Rattle.cosecmd.specs.Printed.{Says, input_answer, behind, program_setting, said_of, verified_under, with_rest};
 ghost use Rattle.cosecmd.specs.Vouch.{vouching};
 
 use crate::fault::Fault;
@@ -22,19 +23,19 @@ use std::alloc::Global;
 use std::io::Read;
 
 /// The most bytes of a header bucket.
-const HEADER: usize = 1_024;
+pub const HEADER: usize = 1_024;
 
 /// The most bytes of a message that are taken at once.
-const CHUNK: usize = 4_096;
+pub const CHUNK: usize = 4_096;
 
 /// How deep the items of a header bucket may nest.
-const NESTING: usize = 8;
+pub const NESTING: usize = 8;
 
 /// The most bytes of a payload, which is the most that any message may have.
 const PAYLOAD: u64 = (1 << 56) - 1;
 
 /// The line of a verdict, and how a run ends with it.
-fn reply_of(alloc: Global, verdict: Verdict) -> Result<Reply, Fault>
+pub fn reply_of(alloc: Global, verdict: Verdict) -> Result<Reply, Fault>
     ensures says { IfOk result (Says (said_of verdict)) }
     ensures fault { IfErr result (λ fault. fault ≡ Fault.Memory) }
 {
@@ -47,8 +48,39 @@ fn reply_of(alloc: Global, verdict: Verdict) -> Result<Reply, Fault>
     Ok(Reply { status, text })
 }
 
+/// What a byte behind a message of so many bytes is refused for, where there is one.
+pub fn trailing_at<I: Intake>(taken: u64, intake: &mut I) -> Result<Option<Refusal>, Fault>
+    ensures whole { (rest : List ℕ) → I.to_come intake.old ≡ Some rest → IfOk result (λ refusal. refusal ≡ behind rest taken) }
+    ensures fault { IfErr result (λ fault. fault ≡ Fault.Input) }
+    ensures failure { I.has_failed intake.new ≡ (I.has_failed intake.old || is_err result) }
+{
+    match intake.take(&mut [0]) {
+        Ok(0) => Ok(None),
+        Ok(_) => Ok(Some(Refusal {
+            reason: Reason::Trailing,
+            place: taken,
+        })),
+        Err(_) => Err(Fault::Input),
+    }
+}
+
+/// What a message is verified or inspected under: the CWT tag is known, and no label is understood besides the standard's.
+pub fn program_context<'j>(keys: KeySet<'j>, aad: &'j [u8], wanted: Wanted) -> Context<'j>
+    ensures setting { setting_of result ≡ program_setting (usable keys.entry) aad.entry.now wanted }
+    ensures external { result.aad ≡ aad.entry }
+{
+    Context {
+        keys,
+        aad,
+        wanted,
+        cwt: true,
+        understood: &[],
+        payload_limit: PAYLOAD,
+    }
+}
+
 /// The verdict of the whole input: behind an authentic message, a further byte makes it `Trailing`.
-fn whole_verdict<I: Intake>(verdict: Verdict, intake: &mut I) -> Result<Verdict, Fault>
+pub fn whole_verdict<I: Intake>(verdict: Verdict, intake: &mut I) -> Result<Verdict, Fault>
     // Behind a refused message nothing is looked for.
     ensures refused { (refusal : Refusal) → verdict ≡ Verdict.Refused refusal → result ≡ Ok verdict }
     ensures unread { (refusal : Refusal) → verdict ≡ Verdict.Refused refusal → intake.new ≡ intake.old }
@@ -61,13 +93,9 @@ fn whole_verdict<I: Intake>(verdict: Verdict, intake: &mut I) -> Result<Verdict,
     let Verdict::Authentic { taken, .. } = verdict else {
         return Ok(verdict);
     };
-    match intake.take(&mut [0]) {
-        Ok(0) => Ok(verdict),
-        Ok(_) => Ok(Verdict::Refused(Refusal {
-            reason: Reason::Trailing,
-            place: taken,
-        })),
-        Err(_) => Err(Fault::Input),
+    match trailing_at(taken, intake)? {
+        Some(refusal) => Ok(Verdict::Refused(refusal)),
+        None => Ok(verdict),
     }
 }
 
@@ -115,14 +143,7 @@ pub fn verify_reply<R: Read>(
         Ok(keys) => keys,
         Err(refusal) => return Err(Fault::Keys(refusal)),
     };
-    let context = Context {
-        keys,
-        aad,
-        wanted,
-        cwt: true,
-        understood: &[],
-        payload_limit: PAYLOAD,
-    };
+    let context = program_context(keys, aad, wanted);
     let verdict = input_verdict(context, &Vouch { word: vouch }, input)?;
     reply_of(alloc, verdict)
 }

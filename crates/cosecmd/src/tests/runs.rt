@@ -90,7 +90,7 @@ fn takes_a_key_set(rt: HostRuntime) -> Result<(), Fail> {
 #[test]
 fn explains_its_line(rt: HostRuntime) -> Result<(), Fail> {
     let alloc = rt.alloc();
-    let rows: [(&[&str], &str, u8); 8] = [
+    let rows: [(&[&str], &str, u8); 9] = [
         (&["cosecmd", "--help"], "Usage: cosecmd <COMMAND>", 0),
         (
             &["cosecmd", "--help"],
@@ -106,7 +106,16 @@ fn explains_its_line(rt: HostRuntime) -> Result<(), Fail> {
         (&["cosecmd", "--version"], "cosecmd 0.1.0\n", 0),
         (&["cosecmd", "verify", "--help"], "The key set", 0),
         (&["cosecmd", "verify"], "--keys <HEX>", 2),
-        (&["cosecmd", "show"], "unrecognized subcommand 'show'", 2),
+        (
+            &["cosecmd", "show", "--help"],
+            "0 shown, 1 refused, 2 no answer",
+            0,
+        ),
+        (
+            &["cosecmd", "digest"],
+            "unrecognized subcommand 'digest'",
+            2,
+        ),
     ];
     for (words, part, status) in rows {
         let mut output = Vec::new(alloc);

@@ -1,0 +1,66 @@
+-- What the program prints of messages that it shows, on examples, by computing.
+use Rattle.std.specs.Prelude.{◌≡◌, ℕ, List, [], ◌∷◌, ◌++◌, replicate, codes, Option, Some, None, refl}
+use Prim.Native.String.{String}
+use Rattle.std.specs.Fmt.{digits}
+use Rattle.std.specs.Str.{is_utf8, chars}
+use Rattle.cose_head.specs.Head.{bare_head}
+use Rattle.cose_head.specs.Item.{depth_of}
+use Rattle.cose_head.specs.Placed.{look, children_of, items_from, head_of_item}
+use Rattle.cose_head.specs.Reading.{read, head}
+use Rattle.cose_map.specs.Bucket.{bucket_of}
+use Rattle.cose_map.specs.Bucket.Both.{pair_faults}
+use Rattle.cose_map.specs.Bucket.Form.{bucket_table}
+use Rattle.cose_map.specs.Map.Read.{check_pairs}
+use Rattle.cose_msg.specs.Message.{message}
+use Rattle.cose_msg.specs.Reading.{with_head, with_string, with_item}
+use Rattle.cose_msg.specs.declared.context.Wanted.{Wanted}
+use Rattle.cose_msg.specs.declared.context.Wanted.TheVariants as wants
+use Rattle.cosecmd.specs.declared.job.Job.{Job}
+use Rattle.cosecmd.specs.declared.job.Job.TheVariants.{Show}
+use Rattle.cosecmd.specs.declared.reply.Status.TheVariants as statuses
+use Rattle.cosecmd.specs.Printed.{Output, printed}
+use Rattle.cosecmd.proofs.WorkedPrinted.{hex, line, Prints}
+use Rattle.hex.specs.Hex.{encode_with}
+
+unfoldable prints : Job → List ℕ → Output
+unfolding printed message with_head with_string with_item bucket_of bucket_table check_pairs pair_faults children_of items_from look head_of_item bare_head read head depth_of is_utf8 chars lib.Utf8.encode digits encode_with
+prints job input = printed job input
+
+-- Lines that end well.
+abbrev lines : List String → Output
+lines texts = record { text = all texts; status = statuses.Done }
+  where
+    all : List String → List ℕ
+    all [] = []
+    all (text ∷ others) = codes text ++ codes "\n" ++ all others
+
+-- Zeros for a tag of 32 bytes, and for a signature of 64.
+abbrev after : String → ℕ → List ℕ
+after front n = hex front ++ replicate n 0
+
+shape_of_mac0 : prints (Show wants.Tagged) (after "d18443a10105a0 426869 5820" 32) ≡ lines ("shape mac0 payload 2 auth 32 taken 44" ∷ "protected 01 05" ∷ [])
+unfolding prints
+shape_of_mac0 = refl
+
+shape_of_sign1 : prints (Show wants.Tagged) (after "d28443a10126a0 40 5840" 64) ≡ lines ("shape sign1 payload 0 auth 64 taken 74" ∷ "protected 01 26" ∷ [])
+unfolding prints
+shape_of_sign1 = refl
+
+nested_value : prints (Show wants.Tagged) (after "d18443a10105a10a81818100 426869 5820" 32) ≡
+    lines ("shape mac0 payload 2 auth 32 taken 49" ∷ "protected 01 05" ∷ "unprotected 0a 81818100" ∷ [])
+unfolding prints
+nested_value = refl
+
+-- In the order of the message, the bytes as they came; no key is asked for, and no length of the tag.
+order_of_message : prints (Show wants.Mac0) (hex "8447a2180a61780105a0 40 40") ≡ lines ("shape mac0 payload 0 auth 0 taken 12" ∷ "protected 180a 6178" ∷ "protected 01 05" ∷ [])
+unfolding prints
+order_of_message = refl
+
+not_shown : Prints (prints (Show wants.Tagged)) (
+    ("", line "refused Truncated at 0" statuses.Refused) ∷
+    ("d18443a10105a0 40 40 ff", line "refused Trailing at 9" statuses.Refused) ∷
+    ("8443a10105a0 40 40", line "refused WrongTag at 0" statuses.Refused) ∷
+    ("d18443a10105a0 f6", line "refused Detached at 7" statuses.Refused) ∷
+    ("d18443a10105a0 426869 5a00010000", line "refused BadAuthLength at 10" statuses.Refused) ∷ [])
+unfolding prints
+not_shown = refl

@@ -1,0 +1,106 @@
+//! The lines of the job `show`: the shape of a message, and what stands in its headers.
+
+ghost use Rattle.std.specs.Prelude.{◌≡◌, ◌++◌, ℕ, List, Some, IfErr, IfOk, option_map, string_bytes};
+ghost use Rattle.cose_map.specs.Bucket.View.{bucket_pairs};
+ghost use Rattle.cose_msg.specs.Shown.{protected_of, unprotected_of};
+ghost use Rattle.cosecmd.specs.Printed.{Says, bucket_lines, shape_said, shown};
+
+use crate::answer::verify::{CHUNK, HEADER, NESTING, program_context, reply_of, trailing_at};
+use crate::fault::Fault;
+use crate::line::word_of;
+use crate::reply::{Reply, Status};
+use cose_map::Bucket;
+use cose_msg::{Inspected, KeySet, Kind, Nothing, ReadIntake, Verdict, Verifier, Wanted, inspect};
+use std::alloc::Global;
+use std::io::Read;
+
+/// The set of no keys: who looks at a message needs none.
+const NO_KEYS: &[u8] = &[0xa0];
+
+/// The shape of a message.
+#[derive(Clone, Copy)]
+struct Shape {
+    kind: Kind,
+    payload: u64,
+    auth: u64,
+    taken: u64,
+}
+
+/// Appends a line for each pair of a bucket, in the order of the message: the bytes of its label and of its value.
+fn push_pairs(
+    alloc: Global,
+    text: &mut String,
+    name: &str,
+    bucket: Option<Bucket>,
+) -> Result<(), Fault>
+    ensures lines { IfOk result (λ _. string_bytes text.new ≡ string_bytes text.old ++ bucket_lines name.now (option_map bucket_pairs bucket.entry)) }
+    ensures fault { IfErr result (λ fault. fault ≡ Fault.Memory) }
+{
+    let Some(bucket) = bucket else {
+        return Ok(());
+    };
+    'pairs: for (_label, label, value) in bucket.pairs() {
+        let label = hex::encode(alloc, label.bytes)?;
+        let value = hex::encode(alloc, value.bytes)?;
+        let line = format!(in alloc; "{name} {label} {value}\n")?;
+        text.push_str(line.as_str())?;
+    }
+    Ok(())
+}
+
+/// The lines of a message of this shape, which this verifier has inspected.
+fn shape_reply(
+    alloc: Global,
+    shape: Shape,
+    verifier: &Verifier<HEADER, NESTING>,
+) -> Result<Reply, Fault>
+    ensures says { IfOk result (Says (shape_said shape.kind shape.payload shape.auth shape.taken (protected_of verifier.now) (unprotected_of verifier.now))) }
+{
+    let Shape {
+        kind,
+        payload,
+        auth,
+        taken,
+    } = shape;
+    let kind = word_of(kind);
+    let mut text = format!(in alloc; "shape {kind} payload {payload} auth {auth} taken {taken}\n")?;
+    push_pairs(alloc, &mut text, "protected", verifier.protected())?;
+    push_pairs(alloc, &mut text, "unprotected", verifier.unprotected())?;
+    let status = Status::Done;
+    Ok(Reply { status, text })
+}
+
+/// The reply to the job `show`: nothing may stand behind a message that has a shape.
+pub fn show_reply<R: Read>(alloc: Global, wanted: Wanted, input: &mut R) -> Result<Reply, Fault>
+    ensures says { (bytes : List ℕ) → R.remaining input.old ≡ Some bytes → IfOk result (Says (shown wanted bytes)) }
+{
+    let keys = match KeySet::read(NO_KEYS) {
+        Ok(keys) => keys,
+        Err(refusal) => return Err(Fault::Keys(refusal)),
+    };
+    let mut verifier = Verifier::inspecting(program_context(keys, b"", wanted));
+    let mut intake = ReadIntake::new(input);
+    match inspect::<CHUNK, HEADER, NESTING, _, _>(&mut verifier, &mut intake, &mut Nothing) {
+        Ok(
+            Inspected::Shape {
+                kind,
+                payload,
+                auth,
+                taken,
+            },
+        ) => match trailing_at(taken, &mut intake)? {
+            Some(refusal) => reply_of(alloc, Verdict::Refused(refusal)),
+            None => {
+                let shape = Shape {
+                    kind,
+                    payload,
+                    auth,
+                    taken,
+                };
+                shape_reply(alloc, shape, &verifier)
+            }
+        },
+        Ok(Inspected::Refused(refusal)) => reply_of(alloc, Verdict::Refused(refusal)),
+        Err(_) => Err(Fault::Input),
+    }
+}

@@ -1,0 +1,139 @@
+//! Messages that the program shows.
+
+use crate::run::run;
+use crate::tests::KEYS;
+use std::alloc::{AllocError, Global};
+use std::test::Fail;
+
+/// What a run with these words behind the program's name prints for the message, and how it ends.
+fn ran(alloc: Global, words: &[&str], message: &[u8]) -> Result<(Vec<u8>, u8), AllocError> {
+    let mut line = Vec::new(alloc);
+    line.push("cosecmd")?;
+    line.extend_from_slice(words)?;
+    let mut input = message;
+    let mut output = Vec::new(alloc);
+    let status = run(alloc, line.as_slice(), &mut input, &mut output);
+    Ok((output, status))
+}
+
+/// The bytes of a message that ends with so many zeros.
+fn with_zeros(alloc: Global, front: &str, zeros: usize) -> Result<Vec<u8>, Fail> {
+    let mut bytes = hex::decode(alloc, front).or(Err("no hexadecimal"))?;
+    for _i in 0..zeros {
+        bytes.push(0)?;
+    }
+    Ok(bytes)
+}
+
+#[test]
+fn shows_the_headers(rt: HostRuntime) -> Result<(), Fail> {
+    let rows: [(&str, &str, usize, &str); 7] = [
+        (
+            "tagged",
+            "d18443a10105a04268695820",
+            32,
+            "shape mac0 payload 2 auth 32 taken 44\nprotected 01 05\n",
+        ),
+        (
+            "tagged",
+            "d28443a10126a0405840",
+            64,
+            "shape sign1 payload 0 auth 64 taken 74\nprotected 01 26\n",
+        ),
+        (
+            "tagged",
+            "d18443a10105a10a818181004268695820",
+            32,
+            "shape mac0 payload 2 auth 32 taken 49\nprotected 01 05\nunprotected 0a 81818100\n",
+        ),
+        // The bytes as they came, in the order of the message.
+        (
+            "mac0",
+            "8447a2180a61780105a2044131180b41004040",
+            0,
+            "shape mac0 payload 0 auth 0 taken 19\nprotected 180a 6178\nprotected 01 05\n\
+            unprotected 04 4131\nunprotected 180b 4100\n",
+        ),
+        // No algorithm is looked for, and none needs to be known.
+        (
+            "sign1",
+            "8440a04040",
+            0,
+            "shape sign1 payload 0 auth 0 taken 5\n",
+        ),
+        (
+            "tagged",
+            "d18440a04043",
+            3,
+            "shape mac0 payload 0 auth 3 taken 9\n",
+        ),
+        (
+            "tagged",
+            "d83dd18440a04040",
+            0,
+            "shape mac0 payload 0 auth 0 taken 8\n",
+        ),
+    ];
+    for (kind, front, zeros, text) in rows {
+        let message = with_zeros(rt.alloc(), front, zeros)?;
+        let words = ["show", "--kind", kind];
+        let (output, status) = ran(rt.alloc(), words.as_slice(), message.as_slice())?;
+        assert_eq!(rt; output.as_slice(), text.as_bytes(), "{front}");
+        assert_eq!(rt; status == 0, !text.starts_with("refused"), "{front}");
+    }
+    Ok(())
+}
+
+#[test]
+fn refuses_to_show(rt: HostRuntime) -> Result<(), Fail> {
+    let rows: [(&str, &str); 6] = [
+        ("", "refused Truncated at 0\n"),
+        ("d18443a10105a04040ff", "refused Trailing at 9\n"),
+        ("8443a10105a04040", "refused WrongTag at 0\n"),
+        ("d18443a10105a0f6", "refused Detached at 7\n"),
+        (
+            "d18443a10105a04268695a00010000",
+            "refused BadAuthLength at 10\n",
+        ),
+        ("d18443a10105a0426869", "refused Truncated at 10\n"),
+    ];
+    for (message, text) in rows {
+        let message = with_zeros(rt.alloc(), message, 0)?;
+        let (output, status) = ran(rt.alloc(), ["show"].as_slice(), message.as_slice())?;
+        assert_eq!(rt; output.as_slice(), text.as_bytes());
+        assert_eq!(rt; status, 1, "{text}");
+    }
+    Ok(())
+}
+
+#[test]
+fn shows_what_is_made(rt: HostRuntime) -> Result<(), Fail> {
+    let rows: [(&str, &str); 4] = [
+        (
+            "4",
+            "shape mac0 payload 2 auth 8 taken 22\nprotected 01 04\nunprotected 04 4131\n",
+        ),
+        (
+            "5",
+            "shape mac0 payload 2 auth 32 taken 47\nprotected 01 05\nunprotected 04 4131\n",
+        ),
+        (
+            "6",
+            "shape mac0 payload 2 auth 48 taken 63\nprotected 01 06\nunprotected 04 4131\n",
+        ),
+        (
+            "7",
+            "shape mac0 payload 2 auth 64 taken 79\nprotected 01 07\nunprotected 04 4131\n",
+        ),
+    ];
+    for (alg, text) in rows {
+        let make = [
+            "make", "--alg", alg, "--key", KEYS, "--length", "2", "--kid", "31",
+        ];
+        let (made, _status) = ran(rt.alloc(), make.as_slice(), b"hi")?;
+        let (output, status) = ran(rt.alloc(), ["show"].as_slice(), made.as_slice())?;
+        assert_eq!(rt; output.as_slice(), text.as_bytes());
+        assert_eq!(rt; status, 0, "alg {alg}");
+    }
+    Ok(())
+}
