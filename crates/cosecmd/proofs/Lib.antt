@@ -1,8 +1,10 @@
+pub mod Digests
 pub mod Makings
 pub mod Replies
 pub mod Shows
 pub mod Trailing
 pub mod Vouches
+pub mod WorkedDigests
 pub mod WorkedMade
 pub mod WorkedPrinted
 pub mod WorkedShown

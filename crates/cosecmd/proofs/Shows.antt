@@ -1,8 +1,7 @@
 -- A reply that says what is shown of an input.
-use Rattle.std.proofs.Common.{◌≡◌, ℕ, ◌<◌, ◌≤◌, List, [], ◌∷◌, ◌++◌, length, Option, Some, None, Result, refl, sym, ap, subst, ◌∙◌, arith, length-append, append-nil, append_assoc}
+use Rattle.std.proofs.Common.{◌≡◌, ℕ, List, ◌∷◌, ◌++◌, length, Option, Some, None, Result, refl, sym, ap, subst, ◌∙◌, append_assoc}
 use Rattle.std.specs.Prelude.{IfOk}
 use Rattle.std.specs.Io.KnownBytes.{Consumes}
-use Rattle.std.proofs.lemmas.Bool.{lt-ltb, le-ltb}
 use Rattle.cose_head.specs.declared.kind.Kind.{Kind}
 use Rattle.cose_head.specs.declared.refusal.Refusal.{Refusal}
 use Rattle.cose_map.specs.Key.Value.{KeyValue}
@@ -11,28 +10,10 @@ use Rattle.cose_msg.specs.declared.context.Wanted.{Wanted}
 use Rattle.cose_msg.specs.declared.verdict.Verdict.TheVariants.{Refused}
 use Rattle.cose_msg.specs.Answer.{Answer, decided, shaped}
 use Rattle.cose_msg.specs.Message.{Setting, inspecting, message}
-use Rattle.cose_msg.specs.Reading.{Reading, Told}
 use Rattle.cose_msg.specs.Rules.{Rules}
 use Rattle.cosecmd.specs.declared.reply.Reply.{Reply}
 use Rattle.cosecmd.specs.Printed.{Output, Says, behind, bucket_lines, pair_line, program_setting, said_of, shape_said, shown, shown_as, shown_of, trailed}
-
--- What is behind a message that has a shape.
-trails_shape : (bytes taken rest : List ℕ) (kind : Kind) (payload auth count : ℕ) (refusal : Refusal) → bytes ≡ taken ++ rest → count ≡ length taken →
-    Some refusal ≡ behind rest count → trailed (length bytes) (shaped kind payload auth count) ≡ decided (Refused refusal)
-trails_shape bytes taken [] kind payload auth count refusal whole counted e = absurd cc
-trails_shape bytes taken (byte ∷ rest) kind payload auth count refusal whole counted e =
-    let long : count < length bytes = rw (whole, counted) (omega (arith, length-append taken (byte ∷ rest))) in
-    rw (lt-ltb count (length bytes) long) cc
-
-nothing_trails : (bytes taken rest : List ℕ) (count : ℕ) → bytes ≡ taken ++ rest → None ≡ behind rest count → bytes ≡ taken
-nothing_trails bytes taken [] count whole e = whole ∙ append-nil taken
-nothing_trails bytes taken (byte ∷ rest) count whole e = absurd cc
-
-ends_shape : (bytes taken : List ℕ) (kind : Kind) (payload auth count : ℕ) → bytes ≡ taken → count ≡ length taken →
-    trailed (length bytes) (shaped kind payload auth count) ≡ shaped kind payload auth count
-ends_shape bytes taken kind payload auth count whole counted =
-    let short : length bytes ≤ count = rw (whole, counted) (omega arith) in
-    rw (le-ltb count (length bytes) short) refl
+use Rattle.cosecmd.proofs.Trailing.{all_taken, kept_at_end, left_of_input, refused_past}
 
 module _ {F : Type 0} (setting : Setting) (keys : List KeyValue) (aad : List ℕ) (wanted : Wanted) (under : setting ≡ program_setting keys aad wanted) (bytes : List ℕ) (reply : Result Reply F) where
   -- Who only inspects looks at no key and at no external data.
@@ -52,20 +33,12 @@ module _ {F : Type 0} (setting : Setting) (keys : List KeyValue) (aad : List ℕ
 
   module _ (come come_after : Option (List ℕ)) (taken : List ℕ) (kind : Kind) (payload auth count : ℕ) (told : come ≡ Some bytes) (consumes : Consumes come come_after taken) (counted : count ≡ length taken)
       (shape : (message (inspecting 1024 8 setting) bytes).answer ≡ shaped kind payload auth count) where
-    -- What is left of the input.
-    left_over : (rest : List ℕ) × (come_after ≡ Some rest) × (bytes ≡ taken ++ rest)
-    left_over = left come_after (rw told at consumes)
-      where
-        left : (after : Option (List ℕ)) → Consumes (Some bytes) after taken → (rest : List ℕ) × (after ≡ Some rest) × (bytes ≡ taken ++ rest)
-        left None c = absurd c
-        left (Some rest) c = (rest, refl, c)
-
     pub says_trailing : (refusal : Refusal) → ((rest : List ℕ) → come_after ≡ Some rest → Some refusal ≡ behind rest count) → IfOk reply (Says (said_of (Refused refusal))) → IfOk reply (Says (shown wanted bytes))
     unfolding rules
     says_trailing refusal h s =
-        let o = left_over in
+        let o = left_of_input come come_after bytes taken told consumes in
         let e : trailed (length bytes) (message rules bytes).answer ≡ decided (Refused refusal) =
-        ap (λ (a : Answer). trailed (length bytes) a) shape ∙ trails_shape bytes taken o.0 kind payload auth count refusal o.2 counted (h o.0 o.1) in
+        ap (λ (a : Answer). trailed (length bytes) a) shape ∙ refused_past bytes taken o.0 (shaped kind payload auth count) count refusal refl o.2 counted (h o.0 o.1) in
         shown_so (said_of (Refused refusal)) (ap (shown_as (message rules bytes).told) e) s
 
     pub says_shape : (protected unprotected : Option (List Pair)) → ((rest : List ℕ) → come_after ≡ Some rest → None ≡ behind rest count) →
@@ -73,10 +46,10 @@ module _ {F : Type 0} (setting : Setting) (keys : List KeyValue) (aad : List ℕ
         IfOk reply (Says (shape_said kind payload auth count protected unprotected)) → IfOk reply (Says (shown wanted bytes))
     unfolding rules
     says_shape protected unprotected h p u s =
-        let o = left_over in
-        let all = nothing_trails bytes taken o.0 count o.2 (h o.0 o.1) in
+        let o = left_of_input come come_after bytes taken told consumes in
+        let all = all_taken bytes taken o.0 count o.2 (h o.0 o.1) in
         let e : trailed (length bytes) (message rules bytes).answer ≡ shaped kind payload auth count =
-        ap (λ (a : Answer). trailed (length bytes) a) shape ∙ ends_shape bytes taken kind payload auth count all counted in
+        ap (λ (a : Answer). trailed (length bytes) a) shape ∙ kept_at_end bytes taken (shaped kind payload auth count) count refl all counted in
         let q : protected ≡ (message rules bytes).told.protected = p ∙ ap (λ (t : List ℕ). (message rules t).told.protected) (sym all) in
         let w : unprotected ≡ (message rules bytes).told.unprotected = u ∙ ap (λ (t : List ℕ). (message rules t).told.unprotected) (sym all) in
         shown_so (shape_said kind payload auth count protected unprotected)

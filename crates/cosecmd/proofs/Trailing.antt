@@ -1,5 +1,5 @@
 -- What stands behind a message in an input.
-use Rattle.std.proofs.Common.{◌≡◌, ℕ, ◌<◌, ◌≤◌, List, [], ◌∷◌, ◌++◌, length, Option, Some, None, Result, Ok, Err, refl, arith, length-append}
+use Rattle.std.proofs.Common.{◌≡◌, ℕ, ◌<◌, ◌≤◌, List, [], ◌∷◌, ◌++◌, length, Option, Some, None, Result, Ok, Err, refl, ap, ◌∙◌, arith, length-append, append-nil}
 use Rattle.std.specs.Prelude.{IfOk}
 use Rattle.std.specs.Io.KnownBytes.{Consumes}
 use Rattle.std.proofs.lemmas.Bool.{lt-ltb, le-ltb}
@@ -10,7 +10,32 @@ use Rattle.cose_msg.specs.declared.verdict.Verdict.{Verdict}
 use Rattle.cose_msg.specs.declared.verdict.Verdict.TheVariants.{Authentic, Refused}
 use Rattle.cose_msg.specs.Answer.{Answer, decided}
 use Rattle.cose_msg.specs.Verifier.{Counts}
-use Rattle.cosecmd.specs.Printed.{behind, trailed, with_rest}
+use Rattle.cosecmd.specs.Printed.{behind, end_of, trailed, unless_longer, with_rest}
+
+-- What a further byte behind the bytes taken makes of an answer, where it ends with them.
+pub refused_past : (bytes taken rest : List ℕ) (answer : Answer) (count : ℕ) (refusal : Refusal) → end_of answer ≡ Some count → bytes ≡ taken ++ rest → count ≡ length taken →
+    Some refusal ≡ behind rest count → trailed (length bytes) answer ≡ decided (Refused refusal)
+refused_past bytes taken [] answer count refusal ends whole counted e = absurd cc
+refused_past bytes taken (byte ∷ rest) answer count refusal ends whole counted e =
+    let long : count < length bytes = rw (whole, counted) (omega (arith, length-append taken (byte ∷ rest))) in
+    ap (λ (end : Option ℕ). unless_longer (length bytes) end answer) ends ∙ rw (lt-ltb count (length bytes) long) cc
+
+-- And where no byte is behind them.
+pub kept_at_end : (bytes taken : List ℕ) (answer : Answer) (count : ℕ) → end_of answer ≡ Some count → bytes ≡ taken → count ≡ length taken →
+    trailed (length bytes) answer ≡ answer
+kept_at_end bytes taken answer count ends whole counted =
+    let short : length bytes ≤ count = rw (whole, counted) (omega arith) in
+    ap (λ (end : Option ℕ). unless_longer (length bytes) end answer) ends ∙ rw (le-ltb count (length bytes) short) refl
+
+pub all_taken : (bytes taken rest : List ℕ) (count : ℕ) → bytes ≡ taken ++ rest → None ≡ behind rest count → bytes ≡ taken
+all_taken bytes taken [] count whole e = whole ∙ append-nil taken
+all_taken bytes taken (byte ∷ rest) count whole e = absurd cc
+
+-- What is left of an input whose bytes are known.
+pub left_of_input : (come come_after : Option (List ℕ)) (bytes taken : List ℕ) → come ≡ Some bytes → Consumes come come_after taken →
+    (rest : List ℕ) × (come_after ≡ Some rest) × (bytes ≡ taken ++ rest)
+left_of_input come None bytes taken told consumes = let none = rw told at consumes in absurd none
+left_of_input come (Some rest) bytes taken told consumes = (rest, refl, rw told at consumes)
 
 -- A message that took these bytes of an input leaves the rest.
 pub trails : (bytes taken rest : List ℕ) (verdict : Verdict) → bytes ≡ taken ++ rest → Counts verdict (length taken) → trailed (length bytes) (decided verdict) ≡ decided (with_rest rest verdict)

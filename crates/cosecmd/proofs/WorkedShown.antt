@@ -1,5 +1,5 @@
 -- What the program prints of messages that it shows, on examples, by computing.
-use Rattle.std.specs.Prelude.{◌≡◌, ℕ, List, [], ◌∷◌, ◌++◌, replicate, codes, Option, Some, None, refl}
+use Rattle.std.specs.Prelude.{◌≡◌, ℕ, List, [], ◌∷◌, ◌++◌, replicate, codes, refl}
 use Prim.Native.String.{String}
 use Rattle.std.specs.Fmt.{digits}
 use Rattle.std.specs.Str.{is_utf8, chars}
@@ -13,7 +13,6 @@ use Rattle.cose_map.specs.Bucket.Form.{bucket_table}
 use Rattle.cose_map.specs.Map.Read.{check_pairs}
 use Rattle.cose_msg.specs.Message.{message}
 use Rattle.cose_msg.specs.Reading.{with_head, with_string, with_item}
-use Rattle.cose_msg.specs.declared.context.Wanted.{Wanted}
 use Rattle.cose_msg.specs.declared.context.Wanted.TheVariants as wants
 use Rattle.cosecmd.specs.declared.job.Job.{Job}
 use Rattle.cosecmd.specs.declared.job.Job.TheVariants.{Show}

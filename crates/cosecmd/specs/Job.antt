@@ -1,9 +1,10 @@
 -- What a job says.
 use Rattle.std.specs.Prelude.{ℕ, List, []}
 use Rattle.cosecmd.specs.declared.job.Job.{Job}
-use Rattle.cosecmd.specs.declared.job.Job.TheVariants.{Show, Verify, Make}
+use Rattle.cosecmd.specs.declared.job.Job.TheVariants.{Show, Verify, Digest, Make}
 
 abbrev pub aad_of : Job → List ℕ
 aad_of (Show wanted) = []
 aad_of (Verify keys aad wanted vouch) = aad.now
+aad_of (Digest keys aad) = aad.now
 aad_of (Make alg key length kid aad) = aad.now

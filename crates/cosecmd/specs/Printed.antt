@@ -1,5 +1,5 @@
 -- What the program prints for a job and an input, and how it ends.
-use Rattle.std.specs.Prelude.{◌≡◌, ◌≢◌, ℕ, ◌-◌, ◌^◌, true, List, [], ◌∷◌, ◌++◌, length, map, take, Option, Some, None, Result, Ok, Err, option_map, codes, string_bytes, nat_lt, if◌then◌else◌}
+use Rattle.std.specs.Prelude.{◌≡◌, ◌≢◌, ℕ, ◌-◌, ◌^◌, true, List, [], ◌∷◌, ◌++◌, length, map, take, Option, Some, None, Ok, Err, option_map, codes, string_bytes, nat_lt, if◌then◌else◌}
 use Rattle.std.specs.List.{concat}
 use Rattle.std.specs.Fmt.{decimal, signed_decimal}
 use Rattle.std.specs.Io.KnownBytes.{Appends}
@@ -17,6 +17,7 @@ use Rattle.cose_map.specs.Key.View.{contents}
 use Rattle.cose_map.specs.Map.Pairs.{Pair}
 use Rattle.cose_map.specs.Map.Read.{Read}
 use Rattle.cose_msg.specs.declared.context.Wanted.{Wanted}
+use Rattle.cose_msg.specs.declared.context.Wanted.TheVariants as wants
 use Rattle.cose_msg.specs.declared.verdict.Verdict.{Verdict}
 use Rattle.cose_msg.specs.declared.verdict.Verdict.TheVariants.{Authentic, Refused}
 use Rattle.cose_msg.specs.Answer.{Answer, decided, complete, shaped, refused}
@@ -24,15 +25,16 @@ use Rattle.cose_msg.specs.declared.make.MakeFault.{MakeFault}
 use Rattle.cose_msg.specs.declared.make.MakeFault.TheVariants as makes
 use Rattle.cose_msg.specs.Make.{make_fault}
 use Rattle.cose_msg.specs.Making.{made, protected_made}
-use Rattle.cose_msg.specs.Message.{Decides, Setting, inspecting, message, secret_of, verdict_of}
+use Rattle.cose_msg.specs.Message.{Decides, Setting, comparing, inspecting, message, secret_of, verdict_of}
 use Rattle.cose_msg.specs.Reading.{Reading, Told}
+use Rattle.cose_msg.specs.Shown.{SignInput, sign_input_in}
 use Rattle.cose_msg.specs.Writes.{front_of}
 use Rattle.cosecmd.specs.declared.job.Job.{Job}
-use Rattle.cosecmd.specs.declared.job.Job.TheVariants.{Show, Verify, Make}
+use Rattle.cosecmd.specs.declared.job.Job.TheVariants.{Show, Verify, Digest, Make}
 use Rattle.cosecmd.specs.declared.reply.Reply.{Reply}
 use Rattle.cosecmd.specs.declared.reply.Status.{Status}
 use Rattle.cosecmd.specs.declared.reply.Status.TheVariants as statuses
-use Rattle.cosecmd.specs.Vouch.{vouching}
+use Rattle.cosecmd.specs.Vouch.{vouch_word, vouching}
 use Rattle.hex.specs.Hex.{encode_lower}
 
 -- The text that is printed, and how the run ends.
@@ -78,13 +80,20 @@ program_setting keys aad wanted = record {
   payload_limit = 2 ^ 56 - 1;
 }
 
--- Nothing may stand behind a message that nothing refuses: here the whole input has n bytes.
+-- How many bytes a message has that nothing refuses.
+abbrev pub end_of : Answer → Option ℕ
+end_of (decided (Authentic kind alg payload taken)) = Some taken
+end_of (decided (Refused refusal)) = None
+end_of (complete whole) = Some whole.taken
+end_of (shaped kind payload auth taken) = Some taken
+
+-- Nothing may stand behind it: here the whole input has n bytes.
+abbrev pub unless_longer : ℕ → Option ℕ → Answer → Answer
+unless_longer n (Some taken) answer = if nat_lt taken n then refused Trailing taken else answer
+unless_longer n None answer = answer
+
 abbrev pub trailed : ℕ → Answer → Answer
-trailed n (decided (Authentic kind alg payload taken)) =
-    if nat_lt taken n then refused Trailing taken else decided (Authentic kind alg payload taken)
-trailed n (decided (Refused refusal)) = decided (Refused refusal)
-trailed n (complete whole) = if nat_lt whole.taken n then refused Trailing whole.taken else complete whole
-trailed n (shaped kind payload auth taken) = if nat_lt taken n then refused Trailing taken else shaped kind payload auth taken
+trailed n answer = unless_longer n (end_of answer) answer
 
 -- What the first of these bytes behind a message is refused for, where there is one.
 abbrev pub behind : List ℕ → ℕ → Option Refusal
@@ -146,6 +155,26 @@ shown_of n reading = shown_as reading.told (trailed n reading.answer)
 abbrev pub shown : Wanted → List ℕ → Output
 shown wanted bytes = shown_of (length bytes) (message (inspecting 1024 8 (program_setting [] [] wanted)) bytes)
 
+-- The word that vouches for a signature, by which `verify` finds it good.
+abbrev pub vouched : List ℕ → Output
+vouched word = record { text = codes "vouch " ++ encode_lower word ++ codes "\n"; status = statuses.Done }
+
+-- Where there is a signature to verify, it is told what it is verified with; else what the message comes to.
+abbrev pub digested : Option SignInput → Answer → Output
+digested (Some input) answer = vouched (vouch_word input)
+digested None answer = output_of answer
+
+abbrev pub digested_as : List ℕ → Answer → Output
+digested_as aad answer = digested (sign_input_in aad answer) answer
+
+-- A COSE_Sign1, tagged or not, all of whose bytes are there, before anybody decides on its signature.
+abbrev pub input_compared : Setting → List ℕ → Answer
+input_compared setting bytes = trailed (length bytes) (message (comparing 1024 8 setting) bytes).answer
+
+abbrev pub digested_under : Read (List KeyValue) → List ℕ → List ℕ → Output
+digested_under (Ok keys) aad bytes = digested_as aad (input_compared (program_setting keys aad wants.Sign1) bytes)
+digested_under (Err refusal) aad bytes = fault_of_keys refusal
+
 -- A message that isn't made.
 abbrev pub fault_of_key : Refusal → Output
 fault_of_key refusal = record { text = codes "fault key " ++ refusal_text refusal ++ codes "\n"; status = statuses.Fault }
@@ -179,6 +208,7 @@ made_under (Err refusal) alg payload_length kid aad bytes = fault_of_key refusal
 unfoldable pub printed : Job → List ℕ → Output
 printed (Show wanted) bytes = shown wanted bytes
 printed (Verify keys aad wanted vouch) bytes = verified_under (keys_of keys.now) aad.now wanted (option_map contents vouch) bytes
+printed (Digest keys aad) bytes = digested_under (keys_of keys.now) aad.now bytes
 printed (Make alg key payload_length kid aad) bytes =
     made_under (key_of (record { bytes = key.now; place = 0 })) alg payload_length (option_map contents kid) aad.now bytes
 

@@ -1,8 +1,9 @@
 -- What is vouched for.
 use Rattle.std.specs.Prelude.{ℕ, Bool, true, false, List, [], ◌∷◌, ◌++◌, Option, Some, None}
 use Rattle.std.specs.Str.{bytes_eq}
-use Rattle.cose_map.specs.Key.Value.{KeyValue, MaterialValue, symmetric, elliptic, YValue, coordinate, sign}
+use Rattle.cose_map.specs.Key.Value.{MaterialValue, symmetric, elliptic, YValue, coordinate, sign}
 use Rattle.cose_msg.specs.Message.{Decides}
+use Rattle.cose_msg.specs.Shown.{SignInput}
 
 -- The coordinate y: its bytes, or one byte for its sign.
 abbrev pub sign_byte : Bool → ℕ
@@ -25,6 +26,14 @@ vouches word (elliptic curve x y) digest signature = bytes_eq word (word_for cur
 abbrev pub vouching : Option (List ℕ) → Decides
 vouching None key digest signature = false
 vouching (Some word) key digest signature = vouches word key.material digest signature
+
+-- The word that vouches for what a signature is verified with, whoever looked at it. No signature is verified with a symmetric key.
+abbrev pub word_under : MaterialValue → List ℕ → List ℕ → List ℕ
+word_under (symmetric secret) digest signature = []
+word_under (elliptic curve x y) digest signature = word_for curve x y digest signature
+
+abbrev pub vouch_word : SignInput → List ℕ
+vouch_word input = word_under input.key.material input.digest input.signature
 
 -- Whether what was left of a word is this.
 abbrev pub is_then : Option (List ℕ) → List ℕ → Bool

@@ -5,6 +5,7 @@ ghost use Rattle.std.specs.Io.KnownBytes.{Appends};
 ghost use Rattle.cosecmd.specs.Job.{aad_of};
 ghost use Rattle.cosecmd.specs.Printed.{Prints, code_of, printed};
 
+mod digest;
 mod make;
 mod show;
 mod verify;
@@ -12,6 +13,7 @@ mod verify;
 use crate::job::Job;
 use crate::print::{print_fault, print_reply};
 use crate::reply::Status;
+use digest::digest_reply;
 use make::make_message;
 use show::show_reply;
 use std::alloc::Global;
@@ -38,6 +40,10 @@ fn status_of<R: Read, W: Write>(alloc: Global, job: &Job, input: &mut R, output:
             let reply = verify_reply(alloc, keys, aad, *wanted, *vouch, input);
             print_reply(alloc, reply, output)
         }
+        Job::Digest { keys, aad } => {
+            let reply = digest_reply(alloc, keys, aad, input);
+            print_reply(alloc, reply, output)
+        }
         Job::Make {
             alg,
             key,
@@ -53,8 +59,8 @@ fn status_of<R: Read, W: Write>(alloc: Global, job: &Job, input: &mut R, output:
 
 /// Does a job: the message or the payload comes from `input`. The line, or the message that is made, goes to `output`.
 ///
-/// Behind an authentic message it reads once more: a further byte is `refused Trailing` at the end of the message. Behind a
-/// payload of which a message is made it reads nothing. It returns the exit status: 0 for an authentic message or one that is
+/// Behind a message that isn't refused it reads once more: a further byte is `refused Trailing` at the end of the message. Behind
+/// a payload of which a message is made it reads nothing. It returns the exit status: 0 for an authentic message or one that is
 /// made, 1 for a refused one, and 2 where the key or the key set is refused, a request for memory is refused, the input or the
 /// output fails, or a message can't be made. Then what went out of it is a front of it, without a line.
 pub fn answer<R: Read, W: Write>(alloc: Global, job: &Job, input: &mut R, output: &mut W) -> u8

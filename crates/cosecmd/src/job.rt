@@ -21,6 +21,13 @@ pub enum Job<'j> {
         /// The bytes that a signature is vouched for by, where there are any.
         vouch: Option<&'j [u8]>,
     },
+    /// To tell what the signature of the message on the input, a COSE_Sign1, is verified with.
+    Digest {
+        /// The bytes of the key set (RFC 9052 section 7).
+        keys: &'j [u8],
+        /// The externally supplied data (RFC 9052 section 4.3).
+        aad: &'j [u8],
+    },
     /// To make a COSE_Mac0 of the payload on the input.
     Make {
         /// The algorithm of the MAC.

@@ -6,7 +6,7 @@ use crate::answer::answer;
 use crate::job::Job;
 use crate::print::{print, print_fault};
 use crate::reply::Reply;
-use crate::words::{Make, Request, Verify, request_of};
+use crate::words::{Digest, Make, Request, Verify, request_of};
 use std::alloc::Global;
 use std::io::{Read, Write};
 
@@ -28,6 +28,22 @@ fn answer_verify<R: Read, W: Write>(
         aad: words.aad.as_slice(),
         wanted: words.wanted,
         vouch,
+    };
+    answer(alloc, &job, input, output)
+}
+
+/// The job of the command `digest`.
+fn answer_digest<R: Read, W: Write>(
+    alloc: Global,
+    words: &Digest,
+    input: &mut R,
+    output: &mut W,
+) -> u8
+    ensures { result ≤ 2 }
+{
+    let job = Job::Digest {
+        keys: words.keys.as_slice(),
+        aad: words.aad.as_slice(),
     };
     answer(alloc, &job, input, output)
 }
@@ -67,6 +83,7 @@ pub fn run<'a, R: Read, W: Write>(
     match request_of(alloc, words) {
         Ok(Request::Show(wanted)) => answer(alloc, &Job::Show { wanted }, input, output),
         Ok(Request::Verify(words)) => answer_verify(alloc, &words, input, output),
+        Ok(Request::Digest(words)) => answer_digest(alloc, &words, input, output),
         Ok(Request::Make(words)) => answer_make(alloc, &words, input, output),
         Ok(Request::Print(Reply { status, text })) => {
             print(output, text.as_str(), status).code()

@@ -1,12 +1,13 @@
 //! The elliptic verifier of the program: somebody else has looked at the signature, and vouches for it.
 
-ghost use Rattle.std.specs.Prelude.{◌≡◌, ℕ, List, ◌++◌, option_map};
+ghost use Rattle.std.specs.Prelude.{◌≡◌, ℕ, List, ◌++◌, IfOk, option_map};
 ghost use Rattle.std.specs.Str.{bytes_eq};
-ghost use Rattle.cose_map.specs.Key.View.{contents, y_value};
-ghost use Rattle.cosecmd.specs.Vouch.{is_then, sign_byte, vouched_y, vouching};
+ghost use Rattle.cose_map.specs.Key.View.{contents, key_value, y_value};
+ghost use Rattle.cosecmd.specs.Vouch.{is_then, sign_byte, vouched_y, vouching, word_under};
 
 use cose_map::{Material, Y};
 use cose_msg::{EcVerifier, Key};
+use std::alloc::{AllocError, Global};
 
 /// Vouches for one signature: the word is its key's curve in one byte, the digest, the signature, and the key's x and y (where y
 /// is a sign alone, the byte 00 or 01). Without a word nothing is vouched for.
@@ -38,6 +39,30 @@ fn is_y(word: &[u8], y: Y) -> bool
         Y::Bytes(bytes) => word == bytes,
         Y::Sign(sign) => word == [byte_of(sign)].as_slice(),
     }
+}
+
+/// The word that vouches for the signature of this digest with this key, whoever looked at it.
+pub fn word_for(
+    alloc: Global,
+    key: &Key<'_>,
+    digest: &[u8],
+    signature: &[u8],
+) -> Result<Vec<u8>, AllocError>
+    ensures { IfOk result (λ word. word.items ≡ word_under (key_value key.now).material digest.now signature.now) }
+{
+    let mut word = Vec::new(alloc);
+    let Material::Ec { crv, x, y } = key.material else {
+        return Ok(word);
+    };
+    word.push(crv)?;
+    word.extend_from_slice(digest)?;
+    word.extend_from_slice(signature)?;
+    word.extend_from_slice(x)?;
+    match y {
+        Y::Bytes(bytes) => word.extend_from_slice(bytes)?,
+        Y::Sign(sign) => word.push(byte_of(sign))?,
+    }
+    Ok(word)
 }
 
 impl EcVerifier for Vouch<'_> {

@@ -22,6 +22,13 @@ const MAKE_NOTES: &str =
 The message has its tag, 17, and its shortest spelling. It is written while the payload is read.
 Exit status: 0 made, 2 not or not whole (command line, key, memory, input or output): drop what was written.";
 
+/// What help says below the options of `digest`.
+const DIGEST_NOTES: &str =
+    "Words in hexadecimal have an even number of digits, no prefix and no spaces.
+It prints the word that `verify --vouch` takes: the curve of the key in one byte, the digest of the structure that is signed, \
+the signature, x and y. Nobody has looked at the signature: whoever does vouches for it with that word.
+Exit status: 0 told, 1 refused, 2 no answer (command line, keys, memory, input or output).";
+
 /// What help says below the options of `show`.
 const SHOW_NOTES: &str =
     "It prints the shape of the message, and a line for each pair of the protected and of the unprotected header, \
@@ -54,6 +61,16 @@ pub struct Verify {
     ghost external: { length_of aad.items ≤ 65535 },
 }
 
+/// The words of `digest`.
+#[derive(Drop)]
+pub struct Digest {
+    /// The bytes of the key set.
+    pub keys: Vec<u8>,
+    /// The externally supplied data.
+    pub aad: Vec<u8>,
+    ghost external: { length_of aad.items ≤ 65535 },
+}
+
 /// The words of `make`.
 #[derive(Drop)]
 pub struct Make {
@@ -77,13 +94,24 @@ pub enum Request {
     Show(Wanted),
     /// To verify a message.
     Verify(Verify),
+    /// To tell what a signature is verified with.
+    Digest(Digest),
     /// To make a message.
     Make(Make),
     /// Help, the version, or what is wrong with the line.
     Print(Reply),
 }
 
-/// The option of the externally supplied data, which two commands have.
+/// The option of the key set, which two commands have.
+fn keys_option<'a>(alloc: Global) -> Arg<'a> {
+    Arg::new(alloc, "keys")
+        .long("keys")
+        .value_name("HEX")
+        .required(true)
+        .help("The key set (RFC 9052 section 7)")
+}
+
+/// The option of the externally supplied data, which three commands have.
 fn aad_option<'a>(alloc: Global) -> Arg<'a> {
     Arg::new(alloc, "aad").long("aad").value_name("HEX").help(
         "The externally supplied data (RFC 9052 section 4.3), at most 65,535 bytes",
@@ -112,11 +140,6 @@ fn show_line<'a>(alloc: Global) -> Result<Command<'a>, AllocError> {
 
 /// The command `verify` and its options.
 fn verify_line<'a>(alloc: Global) -> Result<Command<'a>, AllocError> {
-    let keys = Arg::new(alloc, "keys")
-        .long("keys")
-        .value_name("HEX")
-        .required(true)
-        .help("The key set (RFC 9052 section 7)");
     let vouch = Arg::new(alloc, "vouch")
         .long("vouch")
         .value_name("HEX")
@@ -124,10 +147,19 @@ fn verify_line<'a>(alloc: Global) -> Result<Command<'a>, AllocError> {
     Command::new(alloc, "verify")
         .about("Verifies the COSE message on standard input and prints the verdict")
         .after_help(NOTES)
-        .arg(keys)?
+        .arg(keys_option(alloc))?
         .arg(aad_option(alloc))?
         .arg(kind_option(alloc))?
         .arg(vouch)
+}
+
+/// The command `digest` and its options.
+fn digest_line<'a>(alloc: Global) -> Result<Command<'a>, AllocError> {
+    Command::new(alloc, "digest")
+        .about("Tells what the signature of the COSE_Sign1 on standard input is verified with")
+        .after_help(DIGEST_NOTES)
+        .arg(keys_option(alloc))?
+        .arg(aad_option(alloc))
 }
 
 /// The command `make` and its options.
@@ -174,6 +206,7 @@ fn line<'a>(alloc: Global) -> Result<Command<'a>, AllocError> {
         .arg_required_else_help(true)
         .subcommand(show_line(alloc)?)?
         .subcommand(verify_line(alloc)?)?
+        .subcommand(digest_line(alloc)?)?
         .subcommand(make_line(alloc)?)
 }
 
@@ -262,6 +295,13 @@ fn verify_of(alloc: Global, matches: &ArgMatches) -> Result<Verify, Fault> {
     })
 }
 
+/// The words of `digest`, in the order in which help lists them.
+fn digest_of(alloc: Global, matches: &ArgMatches) -> Result<Digest, Fault> {
+    let keys = bytes_of(alloc, matches, "keys")?;
+    let aad = external_of(alloc, matches)?;
+    Ok(Digest { keys, aad })
+}
+
 /// The words of `make`, in the order in which help lists them. The line has an algorithm and a length that are in range.
 fn make_of(alloc: Global, matches: &ArgMatches) -> Result<Make, Fault> {
     let Some(alg) = alg_of(matches.get_str("alg").unwrap_or("")) else {
@@ -293,6 +333,9 @@ pub fn request_of<'a>(alloc: Global, words: &'a [&'a str]) -> Result<Request, Fa
     }
     if let Some(verify) = matches.subcommand_matches("verify") {
         return Ok(Request::Verify(verify_of(alloc, verify)?));
+    }
+    if let Some(digest) = matches.subcommand_matches("digest") {
+        return Ok(Request::Digest(digest_of(alloc, digest)?));
     }
     match matches.subcommand_matches("make") {
         Some(make) => Ok(Request::Make(make_of(alloc, make)?)),

@@ -1,4 +1,3 @@
-use Rattle.std.proofs.Common.{rules, sym, ◌∙◌}
 use Rattle.cosecmd.specs.Printed.{printed}
 use Rattle.cosecmd.proofs.Replies.{ends_so}
 use Rattle.cosecmd.proofs.answer.answer.Goals as goal

@@ -1,0 +1,159 @@
+-- A reply that tells what the signature of an input is verified with.
+use Rattle.std.proofs.Common.{◌≡◌, ℕ, ◌<◌, ◌≤◌, Bool, true, false, List, [], ◌++◌, length, take, Option, Some, None, Result, Ok, refl, sym, ap, subst, ◌∙◌, arith, append-nil}
+use Rattle.std.specs.Prelude.{IfOk, nat_lt, option_map}
+use Rattle.std.specs.Str.{bytes_eq}
+use Rattle.std.specs.Io.KnownBytes.{Consumes, IsAtEnd}
+use Rattle.std.proofs.lemmas.Bool.{ltb-true, ltb-false}
+use Rattle.cose_head.specs.Algorithm.{is_mac_of}
+use Rattle.cose_head.specs.declared.refusal.Refusal.{Refusal}
+use Rattle.cose_map.specs.Key.Value.{KeyValue}
+use Rattle.cose_map.specs.Map.Read.{Read}
+use Rattle.cose_msg.specs.declared.context.Wanted.TheVariants as wants
+use Rattle.cose_msg.specs.declared.verdict.Verdict.{Verdict}
+use Rattle.cose_msg.specs.declared.verdict.Verdict.TheVariants.{Refused}
+use Rattle.cose_msg.specs.Answer.{Answer, decided, complete, shaped, Chosen, Whole}
+use Rattle.cose_msg.specs.GrammarLaws.{MessageIsRead}
+use Rattle.cose_msg.specs.Laws.{MessageStays, VerifyingGoesLast, answered, then_verified}
+use Rattle.cose_msg.specs.Message.{Decides, Setting, compare_tag, comparing, compared, judged, message, tag_of, verified, verifying}
+use Rattle.cose_msg.specs.Reading.{Reading}
+use Rattle.cose_msg.specs.Rules.{Rules}
+use Rattle.cose_msg.specs.Shown.{SignInput, sign_input_in, signed_with}
+use Rattle.cose_msg.specs.Unrefused.{BeginsWithMessage, IsUnrefused, UnrefusedIsMessage}
+use Rattle.cose_msg.specs.Verifier.{Counts}
+use Rattle.cosecmd.proofs.Trailing.{all_taken, kept_at_end, left_of_input, refused_past, trails}
+use Rattle.cosecmd.specs.declared.reply.Reply.{Reply}
+use Rattle.cosecmd.specs.Printed.{Output, Says, behind, digested, digested_as, digested_under, input_compared, program_setting, said_of, trailed, vouched, with_rest}
+use Rattle.cosecmd.specs.Vouch.{vouch_word}
+
+-- ---- a message without a signature
+
+keyless : (aad : List ℕ) (decides : Decides) (chosen : Option Chosen) (whole : Whole) (verdict : Verdict) → None ≡ option_map (signed_with aad whole) chosen →
+    verified aad decides chosen (complete whole) ≡ decided verdict → complete whole ≡ decided verdict
+keyless aad decides None whole verdict none e = e
+keyless aad decides (Some found) whole verdict none e = absurd cc
+
+-- Whoever decides on signatures isn't asked about it.
+undecided : (aad : List ℕ) (decides : Decides) (answer : Answer) (verdict : Verdict) → None ≡ sign_input_in aad answer →
+    then_verified aad decides answer ≡ decided verdict → answer ≡ decided verdict
+undecided aad decides (decided other) verdict none e = e
+undecided aad decides (complete whole) verdict none e = keyless aad decides whole.chosen whole verdict none e
+undecided aad decides (shaped kind payload auth taken) verdict none e = absurd cc
+
+-- ---- a message with one
+
+signed_whole : (aad : List ℕ) (answer : Answer) (input : SignInput) → Some input ≡ sign_input_in aad answer → (whole : Whole) × (answer ≡ complete whole)
+signed_whole aad (complete whole) input e = (whole, refl)
+signed_whole aad (decided verdict) input e = absurd cc
+signed_whole aad (shaped kind payload auth taken) input e = absurd cc
+
+-- A tag that is compared leaves nothing complete: so what is complete is as it was read.
+judged_is_decided : (holds : Bool) (found : Chosen) (one whole : Whole) → judged holds found one ≡ complete whole → ⊥
+judged_is_decided true found one whole e = cc
+judged_is_decided false found one whole e = cc
+
+uncompared_key : (aad : List ℕ) (chosen : Option Chosen) (one whole : Whole) → compared aad chosen one ≡ complete whole → one ≡ whole
+uncompared_key aad None one whole e = cc
+uncompared_key aad (Some found) one whole e = by_kind (is_mac_of found.alg) refl
+  where
+    by_kind : (b : Bool) → is_mac_of found.alg ≡ b → one ≡ whole
+    by_kind true is = let tagged : compare_tag aad found one ≡ complete whole = rw is at e in absurd (judged_is_decided (bytes_eq one.auth (tag_of aad found one)) found one whole tagged)
+    by_kind false is = let signed = rw is at e in cc
+
+module _ (stays : MessageStays) (rules : Rules) where
+  by_settled : (taken rest : List ℕ) (b : Bool) → (message rules taken).settled ≡ b → ((message rules taken).settled ≡ false → rest ≡ []) → message rules (taken ++ rest) ≡ message rules taken
+  by_settled taken rest true s ends = stays rules taken rest s
+  by_settled taken rest false s ends = ap (λ (r : List ℕ). message rules (taken ++ r)) (ends s) ∙ ap (message rules) (append-nil taken)
+
+  -- What the bytes taken come to all bytes do, where no byte was left unless they settled it.
+  all_come_to : (bytes taken rest : List ℕ) → bytes ≡ taken ++ rest → ((message rules taken).settled ≡ false → rest ≡ []) → message rules bytes ≡ message rules taken
+  all_come_to bytes taken rest whole ends = ap (message rules) whole ∙ by_settled taken rest (message rules taken).settled refl ends
+
+-- Where no byte before the last settled it, a message that is complete ends with the bytes.
+module _ (is_read : MessageIsRead) (is_message : UnrefusedIsMessage) (rules : Rules) (aad : List ℕ) (compares : (whole : Whole) → rules.finish whole ≡ compared aad whole.chosen whole) (taken : List ℕ) (whole : Whole)
+    (is : (message rules taken).answer ≡ complete whole) (earlier : (n : ℕ) → n < length taken → (message rules (take n taken)).settled ≡ false) where
+  begins : BeginsWithMessage rules taken whole
+  begins =
+      let found = is_message rules taken (subst IsUnrefused (sym is) tt) in
+      let same : found.0 ≡ whole = uncompared_key aad found.0.chosen found.0 whole (sym (compares found.0) ∙ sym found.2 ∙ is) in
+      subst (BeginsWithMessage rules taken) same found.1
+
+  settled_by_it : (message rules (take whole.taken taken)).settled ≡ true
+  settled_by_it =
+      ap (λ (bytes : List ℕ). (message rules bytes).settled) (sym (append-nil (take whole.taken taken))) ∙
+      ap (λ (reading : Reading). reading.settled) (is_read rules (take whole.taken taken) [] whole begins.message)
+
+  pub ends_with_it : whole.taken ≡ length taken
+  ends_with_it = from (nat_lt whole.taken (length taken)) refl
+    where
+      from : (b : Bool) → nat_lt whole.taken (length taken) ≡ b → whole.taken ≡ length taken
+      from true e = let contrary : false ≡ true = sym (earlier whole.taken (ltb-true whole.taken (length taken) e)) ∙ settled_by_it in absurd cc
+      from false e = let far : length taken ≤ whole.taken = ltb-false whole.taken (length taken) e in omega (arith, far, begins.within)
+
+module _ {F : Type 0} (set : Read (List KeyValue)) (keys : List KeyValue) (good : set ≡ Ok keys) (aad : List ℕ) (setting : Setting) (under : setting ≡ program_setting keys aad wants.Sign1)
+    (bytes : List ℕ) (reply : Result Reply F) where
+  rules : Rules
+  rules = comparing 1024 8 setting
+
+  told_so : (output : Output) → digested_as setting.aad (trailed (length bytes) (message rules bytes).answer) ≡ output → IfOk reply (Says output) → IfOk reply (Says (digested_under set aad bytes))
+  unfolding rules
+  told_so output e s =
+      let same : digested_as setting.aad (trailed (length bytes) (message rules bytes).answer) ≡ digested_under (Ok keys) aad bytes = ap (λ (x : Setting). digested_as x.aad (input_compared x bytes)) under in
+      let whole : output ≡ digested_under set aad bytes = sym e ∙ same ∙ ap (λ (t : Read (List KeyValue)). digested_under t aad bytes) (sym good) in
+      subst (λ (o : Output). IfOk reply (Says o)) whole s
+
+  -- A run over the input, whoever decides on signatures in it.
+  module _ (stays : MessageStays) (last : VerifyingGoesLast) (decides : Decides) (come come_after : Option (List ℕ)) (taken : List ℕ) (told : come ≡ Some bytes) (consumes : Consumes come come_after taken)
+      (ended : (message (verifying 1024 8 setting decides) taken).settled ≡ false → IsAtEnd come_after) where
+    verified_after : (s : List ℕ) → message (verifying 1024 8 setting decides) s ≡ answered (then_verified setting.aad decides) (message rules s)
+    unfolding rules
+    verified_after s = last 1024 8 setting decides s
+
+    as_settled : (s : List ℕ) → (message (verifying 1024 8 setting decides) s).settled ≡ (message rules s).settled
+    as_settled s = ap (λ (r : Reading). r.settled) (verified_after s)
+
+    read_whole : message rules bytes ≡ message rules taken
+    read_whole =
+        let o = left_of_input come come_after bytes taken told consumes in
+        all_come_to stays rules bytes taken o.0 o.2 (λ unsettled. let end = rw o.1 at ended (as_settled taken ∙ unsettled) in end)
+
+    pub says_undigested : (verdict whole : Verdict) → (message (verifying 1024 8 setting decides) taken).answer ≡ decided verdict → Counts verdict (length taken) →
+        None ≡ sign_input_in setting.aad (message (comparing 1024 8 setting) taken).answer → ((rest : List ℕ) → come_after ≡ Some rest → whole ≡ with_rest rest verdict) →
+        IfOk reply (Says (said_of whole)) → IfOk reply (Says (digested_under set aad bytes))
+    unfolding rules
+    says_undigested verdict whole answer counted none h s =
+        let o = left_of_input come come_after bytes taken told consumes in
+        let compared : (message rules taken).answer ≡ decided verdict =
+        undecided setting.aad decides (message rules taken).answer verdict none (sym (ap (λ (r : Reading). r.answer) (verified_after taken)) ∙ answer) in
+        let all : (message rules bytes).answer ≡ decided verdict = ap (λ (r : Reading). r.answer) read_whole ∙ compared in
+        let ends : trailed (length bytes) (message rules bytes).answer ≡ decided whole =
+        ap (λ (a : Answer). trailed (length bytes) a) all ∙ trails bytes taken o.0 verdict o.2 counted ∙ ap decided (sym (h o.0 o.1)) in
+        told_so (said_of whole) (ap (digested_as setting.aad) ends) s
+
+    module _ (is_read : MessageIsRead) (is_message : UnrefusedIsMessage) (earlier : (n : ℕ) → n < length taken → (message (verifying 1024 8 setting decides) (take n taken)).settled ≡ false)
+        (input : SignInput) (signed : Some input ≡ sign_input_in setting.aad (message (comparing 1024 8 setting) taken).answer) (count : ℕ) (counted : count ≡ length taken) where
+      -- The message is whole, and ends with the bytes taken.
+      is_whole : (whole : Whole) × ((message rules bytes).answer ≡ complete whole) × (whole.taken ≡ count) × (Some input ≡ sign_input_in setting.aad (complete whole))
+      unfolding rules
+      is_whole =
+          let w = signed_whole setting.aad (message rules taken).answer input signed in
+          let ends = ends_with_it is_read is_message rules setting.aad (λ whole. refl) taken w.0 w.1 (λ n short. sym (as_settled (take n taken)) ∙ earlier n short) in
+          (w.0, ap (λ (r : Reading). r.answer) read_whole ∙ w.1, ends ∙ sym counted, signed ∙ ap (sign_input_in setting.aad) w.1)
+
+      pub says_longer : (refusal : Refusal) → ((rest : List ℕ) → come_after ≡ Some rest → Some refusal ≡ behind rest count) → IfOk reply (Says (said_of (Refused refusal))) →
+          IfOk reply (Says (digested_under set aad bytes))
+      says_longer refusal h s =
+          let o = left_of_input come come_after bytes taken told consumes in
+          let w = is_whole in
+          let e : trailed (length bytes) (message rules bytes).answer ≡ decided (Refused refusal) =
+          ap (λ (a : Answer). trailed (length bytes) a) w.1 ∙ refused_past bytes taken o.0 (complete w.0) count refusal (ap Some w.2) o.2 counted (h o.0 o.1) in
+          told_so (said_of (Refused refusal)) (ap (digested_as setting.aad) e) s
+
+      pub says_vouched : (word : List ℕ) → word ≡ vouch_word input → ((rest : List ℕ) → come_after ≡ Some rest → None ≡ behind rest count) → IfOk reply (Says (vouched word)) →
+          IfOk reply (Says (digested_under set aad bytes))
+      says_vouched word is h s =
+          let o = left_of_input come come_after bytes taken told consumes in
+          let w = is_whole in
+          let all = all_taken bytes taken o.0 count o.2 (h o.0 o.1) in
+          let e : trailed (length bytes) (message rules bytes).answer ≡ complete w.0 =
+          ap (λ (a : Answer). trailed (length bytes) a) w.1 ∙ kept_at_end bytes taken (complete w.0) count (ap Some w.2) all counted in
+          told_so (vouched word) (ap (digested_as setting.aad) e ∙ ap (λ (i : Option SignInput). digested i (complete w.0)) (sym w.3) ∙ ap vouched (sym is)) s

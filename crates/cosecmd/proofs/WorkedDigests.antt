@@ -1,0 +1,81 @@
+-- What the program tells that signatures are verified with, on examples, by computing. The digest stands as it is defined.
+use Rattle.std.specs.Prelude.{◌≡◌, ℕ, true, List, [], ◌∷◌, ◌++◌, replicate, refl}
+use Rattle.std.specs.Fmt.{digits}
+use Rattle.std.specs.Str.{is_utf8, chars}
+use Rattle.cose_head.specs.Head.{bare_head, shortest_head}
+use Rattle.cose_head.specs.Item.{depth_of}
+use Rattle.cose_head.specs.Placed.{look, children_of, items_from, head_of_item}
+use Rattle.cose_head.specs.Reading.{read, head}
+use Rattle.cose_head.specs.Shortest.{shortest, shortest_all}
+use Rattle.cose_head.specs.declared.algorithm.Alg.TheVariants.{Es256}
+use Rattle.cose_mac.specs.Hash.{digest_of}
+use Rattle.cose_mac.specs.Structure.{sig_structure}
+use Rattle.cose_map.specs.Bucket.{bucket_of}
+use Rattle.cose_map.specs.Bucket.Both.{pair_faults}
+use Rattle.cose_map.specs.Bucket.Form.{bucket_table}
+use Rattle.cose_map.specs.Choice.{chosen}
+use Rattle.cose_map.specs.Key.{key_of}
+use Rattle.cose_map.specs.Key.Form.{key_table}
+use Rattle.cose_map.specs.Key.Material.{material_of}
+use Rattle.cose_map.specs.Key.Value.{coordinate, sign}
+use Rattle.cose_map.specs.KeySet.{keys_of}
+use Rattle.cose_map.specs.Map.Read.{check_pairs}
+use Rattle.cose_msg.specs.Message.{message, structure}
+use Rattle.cose_msg.specs.Reading.{with_head, with_string, with_item}
+use Rattle.cosecmd.specs.declared.job.Job.TheVariants.{Digest}
+use Rattle.cosecmd.specs.declared.reply.Status.TheVariants as statuses
+use Rattle.cosecmd.specs.Printed.{Output, printed, vouched}
+use Rattle.cosecmd.specs.Vouch.{word_for}
+use Rattle.cosecmd.proofs.WorkedPrinted.{Prints, any, hex, line, plain, point, word}
+
+unfoldable digests : List ℕ → List ℕ → List ℕ → Output
+unfolding printed keys_of key_of key_table material_of message with_head with_string with_item bucket_of bucket_table check_pairs pair_faults chosen children_of items_from look head_of_item bare_head read head depth_of is_utf8 chars lib.Utf8.encode digits
+digests keys aad input = printed (Digest (word keys) (word aad)) input
+
+-- The digest of the structure, the signature, and the point; the message may stand behind its tag or without it.
+abbrev told : (ℕ → ℕ) → Output
+told byte = vouched (word_for 1 (replicate 32 7) (coordinate (replicate 32 8)) (digest_of Es256 (hex "846a5369676e61747572653143a101264040")) (any byte 64))
+
+tagged : (byte : ℕ → ℕ) → digests point [] (hex "d28443a10126a0 40 5840" ++ any byte 64) ≡ told byte
+unfolding digests structure sig_structure shortest shortest_all shortest_head
+tagged byte = refl
+
+untagged : (byte : ℕ → ℕ) → digests point [] (hex "8443a10126a0 40 5840" ++ any byte 64) ≡ told byte
+unfolding digests structure sig_structure shortest shortest_all shortest_head
+untagged byte = refl
+
+-- External data stands in the structure; a coordinate y that is a sign alone is told in one byte.
+abbrev signed_point : List ℕ
+signed_point = hex "a401022001215820" ++ (replicate 32 7 ++ hex "22f5")
+
+with_data : (byte : ℕ → ℕ) → digests signed_point (hex "01") (hex "d28443a10126a0 40 5840" ++ any byte 64) ≡
+    vouched (word_for 1 (replicate 32 7) (sign true) (digest_of Es256 (hex "846a5369676e61747572653143a10126410140")) (any byte 64))
+unfolding digests structure sig_structure shortest shortest_all shortest_head
+with_data byte = refl
+
+-- A byte behind the message, and one too few.
+longer : (byte : ℕ → ℕ) → digests point [] (hex "d28443a10126a0 40 5840" ++ (any byte 64 ++ hex "00")) ≡ line "refused Trailing at 74" statuses.Refused
+unfolding digests structure sig_structure shortest shortest_all shortest_head
+longer byte = refl
+
+shorter : (byte : ℕ → ℕ) → digests point [] (hex "d28443a10126a0 40 5840" ++ any byte 63) ≡ line "refused Truncated at 73" statuses.Refused
+unfolding digests structure sig_structure shortest shortest_all shortest_head
+shorter byte = refl
+
+-- A COSE_Mac0 has no signature, whatever its key.
+refused_messages : Prints (digests point []) (
+    ("", line "refused Truncated at 0" statuses.Refused) ∷
+    ("d1", line "refused WrongTag at 0" statuses.Refused) ∷
+    ("d28443a10105a040", line "refused UnknownAlg at 7" statuses.Refused) ∷
+    ("d28443a10126a0f6", line "refused Detached at 7" statuses.Refused) ∷ [])
+unfolding digests
+refused_messages = refl
+
+no_key : digests plain [] (hex "d28443a10126a040") ≡ line "refused NoKey at 7" statuses.Refused
+unfolding digests
+no_key = refl
+
+-- A key set that is refused, whatever the input.
+refused_set : (input : List ℕ) → digests (hex "80") [] input ≡ line "fault keys BadKeySet at 0" statuses.Fault
+unfolding digests
+refused_set input = refl

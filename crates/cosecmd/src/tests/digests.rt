@@ -1,0 +1,193 @@
+//! What the program tells that a signature is verified with.
+
+use crate::run::run;
+use crate::tests::{KEYS, SIGNED, SIGNED_STRUCTURE, point};
+use sha2::{Digest, Sha256};
+use std::alloc::{AllocError, Global};
+use std::process::Abort;
+use std::test::Fail;
+
+/// The coordinates of that point.
+const X: &str = "1111111111111111111111111111111111111111111111111111111111111111";
+
+const Y: &str = "2222222222222222222222222222222222222222222222222222222222222222";
+
+/// That y as a member of the key.
+const MEMBER_Y: &str = "58202222222222222222222222222222222222222222222222222222222222222222";
+
+/// The same message without its tag, and behind the tag of a CWT too, up to the signature.
+const UNTAGGED: &str = "8443a10126a0405840";
+
+const IN_CWT: &str = "d83dd28443a10126a0405840";
+
+/// The Sig_structure of the same message with the external data `01` (RFC 9052 section 4.4).
+const SIGNED_STRUCTURE_WITH_DATA: &str = "846a5369676e61747572653143a10126410140";
+
+/// A run with these words behind the program's name prints this text for the message, and ends with this status.
+fn prints(
+    rt: &(impl Abort + Alloc<A = Global>),
+    words: &[&str],
+    message: &[u8],
+    text: &str,
+    status: u8,
+) -> Result<(), AllocError> {
+    let mut line = Vec::new(rt.alloc());
+    line.push("cosecmd")?;
+    line.extend_from_slice(words)?;
+    let mut input = message;
+    let mut output = Vec::new(rt.alloc());
+    let ended = run(rt.alloc(), line.as_slice(), &mut input, &mut output);
+    assert_eq!(rt; output.as_slice(), text.as_bytes(), "{text}");
+    assert_eq!(rt; ended, status, "{text}");
+    Ok(())
+}
+
+/// A COSE_Sign1 whose signature is 64 bytes 5a: this front, and then the signature.
+fn signed(alloc: Global, front: &str) -> Result<Vec<u8>, Fail> {
+    let mut bytes = hex::decode(alloc, front).or(Err("no hexadecimal"))?;
+    bytes.extend_from_slice(&[0x5a; 64])?;
+    Ok(bytes)
+}
+
+/// The digest of a structure, and then the signature, in hexadecimal.
+fn digest_and_signature(alloc: Global, structure: &str) -> Result<String, Fail> {
+    let structure = hex::decode(alloc, structure).or(Err("no hexadecimal"))?;
+    let mut bytes = Vec::new(alloc);
+    bytes.extend_from_slice(&Sha256::digest(structure.as_slice()))?;
+    bytes.extend_from_slice(&[0x5a; 64])?;
+    Ok(hex::encode(alloc, bytes.as_slice())?)
+}
+
+/// Of the message with this front, under the key with this member y, it is told that this structure is signed, and this y. With
+/// the word that is told `verify` finds the signature good.
+fn tells(
+    rt: &(impl Abort + Alloc<A = Global>),
+    front: &'static str,
+    member: &'static str,
+    aad: &'static str,
+    structure: &'static str,
+    y: &'static str,
+) -> Result<(), Fail> {
+    let alloc = rt.alloc();
+    let keys = point(alloc, member)?;
+    let message = signed(alloc, front)?;
+    let asked = digest_and_signature(alloc, structure)?;
+    let word = format!(in alloc; "01{asked}{X}{y}")?;
+    let told = format!(in alloc; "vouch {word}\n")?;
+    let words = ["digest", "--keys", keys.as_str(), "--aad", aad];
+    prints(rt, words.as_slice(), message.as_slice(), told.as_str(), 0)?;
+    let taken = message.len();
+    let authentic = format!(in alloc; "authentic sign1 alg -7 payload 0 taken {taken}\n")?;
+    let words = [
+        "verify",
+        "--keys",
+        keys.as_str(),
+        "--aad",
+        aad,
+        "--kind",
+        "sign1",
+        "--vouch",
+        word.as_str(),
+    ];
+    prints(
+        rt,
+        words.as_slice(),
+        message.as_slice(),
+        authentic.as_str(),
+        0,
+    )?;
+    Ok(())
+}
+
+#[test]
+fn tells_what_is_verified(rt: HostRuntime) -> Result<(), Fail> {
+    tells(&rt, SIGNED, MEMBER_Y, "", SIGNED_STRUCTURE, Y)?;
+    tells(&rt, SIGNED, "f5", "", SIGNED_STRUCTURE, "01")?;
+    tells(&rt, SIGNED, "f4", "", SIGNED_STRUCTURE, "00")?;
+    tells(&rt, SIGNED, MEMBER_Y, "01", SIGNED_STRUCTURE_WITH_DATA, Y)?;
+    tells(&rt, UNTAGGED, MEMBER_Y, "", SIGNED_STRUCTURE, Y)?;
+    tells(&rt, IN_CWT, MEMBER_Y, "", SIGNED_STRUCTURE, Y)?;
+    Ok(())
+}
+
+/// The example of a COSE_Sign1 in RFC 9052 appendix C.2.1, in hexadecimal, and the signature in it.
+const EXAMPLE: &str = "d28443a10126a10442313154546869732069732074686520636f6e74656e742e5840";
+
+const EXAMPLE_SIGNATURE: &str = "8eb33e4ca31d1c465ab05aac34cc6b23d58fef5c083106c4d25a91aef0b0117e\
+    2af9a291aa32e14ab834dc56ed2a223444547e01f11d3b0916e5a4c345cacb36";
+
+/// Its Sig_structure (section 4.4).
+const EXAMPLE_STRUCTURE: &str =
+    "846a5369676e61747572653143a101264054546869732069732074686520636f6e74656e742e";
+
+/// The coordinates of the key `11` of appendix C.7.1.
+const EXAMPLE_X: &str = "bac5b11cad8f99f9c72b05cf4b9e26d244dc189f745228255a219a86d6a09eff";
+
+const EXAMPLE_Y: &str = "20138bf82dc1b6d562be0fa54ab7804a3a64b6d72ccfed6b6fb6ed28bbfc117e";
+
+#[test]
+fn tells_of_the_standards_example(rt: HostRuntime) -> Result<(), Fail> {
+    let alloc = rt.alloc();
+    let example = format!(in alloc; "{EXAMPLE}{EXAMPLE_SIGNATURE}")?;
+    let message = hex::decode(alloc, example.as_str()).or(Err("no hexadecimal"))?;
+    let structure = hex::decode(alloc, EXAMPLE_STRUCTURE).or(Err("no hexadecimal"))?;
+    let digest = hex::encode(alloc, Sha256::digest(structure.as_slice()).as_slice())?;
+    let keys = format!(in alloc; "a50102024231312001215820{EXAMPLE_X}225820{EXAMPLE_Y}")?;
+    let word = format!(in alloc; "01{digest}{EXAMPLE_SIGNATURE}{EXAMPLE_X}{EXAMPLE_Y}")?;
+    let text = format!(in alloc; "vouch {word}\n")?;
+    let words = ["digest", "--keys", keys.as_str()];
+    prints(&rt, words.as_slice(), message.as_slice(), text.as_str(), 0)?;
+    let words = ["verify", "--keys", keys.as_str(), "--vouch", word.as_str()];
+    let authentic = "authentic sign1 alg -7 payload 20 taken 98\n";
+    prints(&rt, words.as_slice(), message.as_slice(), authentic, 0)?;
+    Ok(())
+}
+
+#[test]
+fn tells_nothing_of_what_is_refused(rt: HostRuntime) -> Result<(), Fail> {
+    let alloc = rt.alloc();
+    let keys = point(alloc, MEMBER_Y)?;
+    let whole = signed(alloc, SIGNED)?;
+    let mut longer = signed(alloc, SIGNED)?;
+    longer.push(0)?;
+    let mac0 = hex::decode(alloc, "d18443a10105a0").or(Err("no hexadecimal"))?;
+    let rows: [(&str, &[u8], &str); 6] = [
+        (&keys, longer.as_slice(), "refused Trailing at 74\n"),
+        (
+            &keys,
+            whole.as_slice().get(..73).unwrap_or(&[]),
+            "refused Truncated at 73\n",
+        ),
+        (&keys, b"", "refused Truncated at 0\n"),
+        // A COSE_Mac0 has no signature.
+        (&keys, mac0.as_slice(), "refused WrongTag at 0\n"),
+        // No key of the set is one for signatures.
+        (KEYS, whole.as_slice(), "refused NoKey at 7\n"),
+        ("80", whole.as_slice(), "fault keys BadKeySet at 0\n"),
+    ];
+    for (keys, message, text) in rows {
+        let status = if text.starts_with("fault") { 2 } else { 1 };
+        let words = ["digest", "--keys", keys];
+        prints(&rt, words.as_slice(), message, text, status)?;
+    }
+    Ok(())
+}
+
+#[test]
+fn reads_the_words_of_digest(rt: HostRuntime) -> Result<(), Fail> {
+    let rows: [(&[&str], &str); 3] = [
+        (
+            &["digest", "--aad", "zz", "--keys", "zz"],
+            "fault line keys\n",
+        ),
+        (
+            &["digest", "--aad", "zz", "--keys", "80"],
+            "fault line aad\n",
+        ),
+        (&["digest", "--keys", "80"], "fault keys BadKeySet at 0\n"),
+    ];
+    for (words, text) in rows {
+        prints(&rt, words, b"", text, 2)?;
+    }
+    Ok(())
+}
