@@ -124,7 +124,7 @@ head-children depth counts first room place h is no_string parent nests fits byt
     ap (λ d. finish depth counts (walk d (left_of (first ++ bytes) room place))) inner
     ∙ ap (finish depth counts) (walk-children (depth - length counts - 1) _ _ h (is bytes) no_string parent fits)
 
--- a byte of a string
+-- bytes of a string
 lt_suc : (a b : ℕ) → nat_lt (suc a) (suc b) ≡ nat_lt a b
 lt_suc a b = grind (arith, nat_tests)
 
@@ -139,13 +139,29 @@ walk_content-byte n byte room place bytes =
     let content : suc n - suc (length bytes) ≡ n - length bytes = omega arith in
     rw (test, total, left, at, content) refl
 
-pub content_taken : (depth : ℕ) (counts half : List ℕ) (string byte room place : ℕ) (bytes : List ℕ) → 0 < string
-    → go_on depth counts half string (left_of (byte ∷ bytes) room place)
-    ≡ finish depth counts (walk_content (string - 1) (left_of bytes (room - 1) (place + 1)))
-content_taken depth counts half zero byte room place bytes some = absurd (omega arith)
-content_taken depth counts half (suc n) byte room place bytes some =
-    let less : n ≡ suc n - 1 = omega arith in
-    ap (finish depth counts) (walk_content-byte n byte room place bytes ∙ ap (λ m. walk_content m (left_of bytes (room - 1) (place + 1))) less)
+walk_content-piece : (n room place : ℕ) (piece bytes : List ℕ) → length piece ≤ n
+    → walk_content n (left_of (piece ++ bytes) room place)
+    ≡ walk_content (n - length piece) (left_of bytes (room - length piece) (place + length piece))
+walk_content-piece n room place [] bytes fits =
+    let all : n ≡ n - 0 = omega arith in
+    let left : room ≡ room - 0 = omega arith in
+    let at : place ≡ place + 0 = omega arith in
+    rw (← all, ← left, ← at) refl
+walk_content-piece zero room place (byte ∷ piece) bytes fits = absurd (omega arith)
+walk_content-piece (suc n) room place (byte ∷ piece) bytes fits =
+    let all : suc n - suc (length piece) ≡ n - length piece = omega arith in
+    let left : room - suc (length piece) ≡ room - 1 - length piece = omega arith in
+    let at : place + suc (length piece) ≡ place + 1 + length piece = omega arith in
+    rw (all, left, at) (walk_content-byte n byte room place (piece ++ bytes) ∙ walk_content-piece n (room - 1) (place + 1) piece bytes (omega arith))
+
+pub piece_taken : (depth count : ℕ) (counts half : List ℕ) (string room place : ℕ) (piece bytes : List ℕ)
+    → length piece ≡ count → 0 < count → count ≤ string
+    → go_on depth counts half string (left_of (piece ++ bytes) room place)
+    ≡ finish depth counts (walk_content (string - count) (left_of bytes (room - count) (place + count)))
+piece_taken depth count counts half string room place piece bytes is some fits =
+    let whole = walk_content-piece string room place piece bytes (omega arith) in
+    rw (← is) (go_on-content depth counts half string (left_of (piece ++ bytes) room place) (omega arith)
+    ∙ ap (finish depth counts) whole)
 
 -- a byte of a head
 pub go_on-half : (depth : ℕ) (counts half : List ℕ) (string byte room place : ℕ) (bytes : List ℕ) → string ≡ 0

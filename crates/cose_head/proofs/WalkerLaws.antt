@@ -3,13 +3,14 @@ use Rattle.std.proofs.Common.{◌≡◌, ℕ, ◌-◌, ◌<◌, List, [], length
 use Rattle.cose_head.specs.declared.walker.Walker.{Walker}
 use Rattle.cose_head.specs.declared.walker.Step.TheVariants.{Going, Done}
 use Rattle.cose_head.specs.Measured.{left_of}
+use Rattle.cose_head.specs.Open.{open_in}
 use Rattle.cose_head.specs.Placed.{Placed}
 use Rattle.cose_head.specs.Reading.{Left, read}
-use Rattle.cose_head.specs.Walker.{HasPut, Answers}
+use Rattle.cose_head.specs.Walker.{HasPut, Answers, open_now}
 use Rattle.cose_head.specs.Whole.{whole}
 use Rattle.cose_head.proofs.PlacedTrees.{spelled_item}
 use Rattle.cose_head.proofs.ReadLaws.{sound}
-use Rattle.cose_head.proofs.WalkerSteps.{early_none}
+use Rattle.cose_head.proofs.WalkerSteps.{early_none, counts_open}
 use Rattle.cose_head.proofs.Whole.{item_is_whole}
 
 pub put_has_room : {D : ℕ} (room : ℕ) (bytes : List ℕ) (w : Walker D) → HasPut room bytes w → 0 < room → length bytes < room
@@ -23,6 +24,10 @@ pub put_is_truncated : {D : ℕ} (room : ℕ) (bytes : List ℕ) (w : Walker D) 
     Answers room bytes Going (read D (left_of bytes room 0))
 put_is_truncated {D} room bytes w has some =
     subst (λ all. Answers room all Going (read D (left_of all room 0))) (append-nil bytes) (early_none w room bytes has [] some (omega arith))
+
+pub put_is_open : {D : ℕ} (room : ℕ) (bytes : List ℕ) (w : Walker D) → HasPut room bytes w →
+    open_now w ≡ (open_in D (left_of bytes room 0)).items
+put_is_open room bytes w has = counts_open w room bytes has
 
 pub done_is_whole : (depth room : ℕ) (p : Placed) → Answers room p.bytes Done (read depth (left_of p.bytes room 0)) → whole depth p ≡ Ok p
 done_is_whole depth room p answer =

@@ -16,6 +16,21 @@ use Rattle.cose_head.specs.Walking.{Walk, refused, walk, finish, rest_of_item}
 abbrev pub last_step : {D : ℕ} → Walker D → Step
 last_step w = w.step
 
+-- The answer, by how far the item is. A fault stands at this place.
+abbrev pub step_after : Result Progress Reason → ℕ → Step
+step_after (Ok Open) place = Going
+step_after (Ok Whole) place = Done
+step_after (Err reason) place = Fault (record { reason = reason; place = place })
+
+-- How many arrays, maps and tags are open: those that it counts, and none once the item is whole or refused.
+abbrev pub open_while : Step → ℕ → ℕ
+open_while Going n = n
+open_while Done n = 0
+open_while (Fault refusal) n = 0
+
+abbrev pub open_now : {D : ℕ} → Walker D → ℕ
+open_now w = open_while (last_step w) (length w.counts.items)
+
 -- What is left of reading, by the bytes to come.
 abbrev pub go_on : ℕ → List ℕ → List ℕ → ℕ → Left → Walk
 go_on depth counts half string l = finish depth counts (rest_of_item (depth - length counts) half string l)
@@ -52,8 +67,8 @@ Leads before (Err reason) w = (reason ≡ Truncated → ⊥) × ((bytes : List �
 
 -- The walker was put these bytes, and goes on: with whatever bytes follow, reading them all is what is left after them.
 --
--- It is met by the calls `new` and `put` alone: `new` gives it of no bytes, and each `put` that answers Going of one byte
--- more. The fields that it speaks of are the walker's own, so a caller has it of a walker that it made and put the bytes,
+-- It is met by the calls `new`, `put` and `pass` alone: `new` gives it of no bytes, each `put` that answers Going of one byte
+-- more, and each `pass` after which it goes on of the bytes that it took. The fields that it speaks of are the walker's own, so a caller has it of a walker that it made and put the bytes,
 -- and carries it along with the list of these bytes; of a walker that came from elsewhere it knows nothing until whoever
 -- hands it over says it. After Done or a fault it doesn't hold any more, and no call brings it back.
 pub record HasPut (room : ℕ) (put : List ℕ) {D : ℕ} (w : Walker D) : Type 0 where

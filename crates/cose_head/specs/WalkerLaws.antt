@@ -3,9 +3,10 @@ use Rattle.std.specs.Prelude.{◌≡◌, ℕ, ◌<◌, List, length, Ok}
 use Rattle.cose_head.specs.declared.walker.Walker.{Walker}
 use Rattle.cose_head.specs.declared.walker.Step.TheVariants.{Going, Done}
 use Rattle.cose_head.specs.Measured.{left_of}
+use Rattle.cose_head.specs.Open.{open_in}
 use Rattle.cose_head.specs.Placed.{Placed}
 use Rattle.cose_head.specs.Reading.{read}
-use Rattle.cose_head.specs.Walker.{HasPut, Answers}
+use Rattle.cose_head.specs.Walker.{HasPut, Answers, open_now}
 use Rattle.cose_head.specs.Whole.{whole}
 
 -- Where there is room at all, a walker that goes on has room for a further byte, and reading says that the bytes end
@@ -16,6 +17,10 @@ PutHasRoom = (D : ℕ) (room : ℕ) (bytes : List ℕ) (w : Walker D) → HasPut
 abbrev pub PutIsTruncated : Type 0
 PutIsTruncated = (D : ℕ) (room : ℕ) (bytes : List ℕ) (w : Walker D) → HasPut room bytes w → 0 < room →
     Answers room bytes Going (read D (left_of bytes room 0))
+
+-- What it counts as open is what is open after these bytes.
+abbrev pub PutIsOpen : Type 0
+PutIsOpen = (D : ℕ) (room : ℕ) (bytes : List ℕ) (w : Walker D) → HasPut room bytes w → open_now w ≡ (open_in D (left_of bytes room 0)).items
 
 -- Where a walker is done, the bytes that it was put are exactly one item, wherever they stand.
 abbrev pub DoneIsWhole : Type 0

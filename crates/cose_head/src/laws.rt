@@ -4,7 +4,7 @@
 
 ghost use Rattle.cose_head.specs.Laws.{ReadIsSpelled, OneItem, ReadElsewhere, ReadStays, RefusedIsNoItem, ReadSteps, ReadAddsUp, TruncatedHasRoom, ReadReasons, ReadMoves, HeadIsSpelled, HeadStays, HeadWants, HeadEnds, HalfIsShort, HeadFits, HeadReasons, ShortestIsHead};
 ghost use Rattle.cose_head.specs.PlacedLaws.{LookIsOfTree, HeadIsOfItem, WholeIsItem, ItemIsWhole, WholeIsDeeper, WholeIsRefusedInside, WholeReasons, OneItemIsWhole, ArrayHasItsElements, MapHasItsPairs, OthersHaveNone, ChildrenEndInside, TagHasItsContent, OthersEncloseNone};
-ghost use Rattle.cose_head.specs.WalkerLaws.{PutHasRoom, PutIsTruncated, DoneIsWhole};
+ghost use Rattle.cose_head.specs.WalkerLaws.{PutHasRoom, PutIsTruncated, PutIsOpen, DoneIsWhole};
 ghost use Rattle.cose_head.specs.Shortest.{ShortestIsSpelled, ShortestIsLeast};
 
 /// What `read` accepts is exactly what the grammar spells, within the room and the nesting (RFC 8949 section 3).
@@ -88,9 +88,10 @@ pub fn children_are_of_tree()
 {}
 
 /// A walker that goes on, and may use a byte at all, has room for a further one, and the bytes that it was put end too
-/// early. One that is done was put exactly the bytes of an item.
+/// early. What it counts as open is what is open after them. One that is done was put exactly the bytes of an item.
 pub fn walker_is_reading()
     ensures room { PutHasRoom }
     ensures truncated { PutIsTruncated }
+    ensures open { PutIsOpen }
     ensures done { DoneIsWhole }
 {}

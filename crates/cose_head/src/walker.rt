@@ -1,6 +1,6 @@
 //! One data item, a byte at a time (RFC 8949 section 3), with nothing held but a count for each open item.
 
-ghost use Rattle.std.specs.Prelude.{◌≡◌, ◌<◌, ◌≤◌, ◌+◌, ◌-◌, ◌*◌, ◌^◌, ℕ, List, [], ◌∷◌, ◌++◌, length, true, if◌then◌else◌, max, OnOk};
+ghost use Rattle.std.specs.Prelude.{◌≡◌, ◌<◌, ◌≤◌, ◌+◌, ◌-◌, ◌*◌, ◌^◌, ℕ, List, [], ◌∷◌, ◌++◌, length, take, true, if◌then◌else◌, min, max, OnOk};
 ghost use Rattle.cose_head.specs.HalfHead.{is_half, IsHeadAt};
 ghost use Rattle.cose_head.specs.Measured.{left_of};
 ghost use Rattle.cose_head.specs.Open.{open_in};
@@ -69,8 +69,8 @@ fn next_child<const D: usize>(counts: &mut ArrayVec<usize, D>) -> bool
 
 /// One data item, walked a byte at a time: at most `D` arrays, maps and tags are open at once.
 ///
-/// What its calls say stands under the relation `HasPut` (specs/Walker.antt), which [`Walker::new`] and [`Walker::put`]
-/// alone give: that the walker was put these bytes and goes on.
+/// What its calls say stands under the relation `HasPut` (specs/Walker.antt), which [`Walker::new`], [`Walker::put`] and
+/// [`Walker::pass`] alone give: that the walker was put these bytes and goes on.
 #[derive(Drop)]
 pub struct Walker<const D: usize> {
     /// For each open array, map and tag, the outermost first, how many of its children haven't begun.
@@ -92,12 +92,13 @@ pub struct Walker<const D: usize> {
 }
 
 impl<const D: usize> Walker<D> {
-    ghost use Rattle.cose_head.specs.Walker.{last_step, left_at, resume, go_on, HasPut, Answers, StandsAmong, Leads, Passes, Stands};
+    ghost use Rattle.cose_head.specs.Walker.{last_step, step_after, open_now, left_at, resume, go_on, HasPut, Answers, StandsAmong, Leads, Passes, Stands};
 
     /// A walker of an item that may use `room` bytes.
     pub fn new(room: usize) -> Self
         ensures put { HasPut room [] result }
         ensures step { last_step result ≡ Step.Going }
+        ensures open { open_now result ≡ 0 }
     {
         Walker {
             counts: ArrayVec::new(),
@@ -111,6 +112,7 @@ impl<const D: usize> Walker<D> {
 
     /// How many arrays, maps and tags are open: their head was put, and their end wasn't.
     pub fn open_items(&self) -> usize
+        ensures value { result ≡ open_now self.now }
         ensures limit { result ≤ D }
         ensures open { (room : ℕ) (bytes : List ℕ) → HasPut room bytes self.now
             → result ≡ (open_in D (left_of bytes room 0)).items }
@@ -168,18 +170,55 @@ impl<const D: usize> Walker<D> {
     {
         match self.step {
             Step::Going => {
-                let step = match self.advance(byte) {
-                    Ok(Progress::Open) => Step::Going,
-                    Ok(Progress::Whole) => Step::Done,
-                    Err(reason) => Step::Fault(Refusal {
-                        reason,
-                        place: self.place as u64,
-                    }),
-                };
-                self.step = step;
-                step
+                let progress = self.advance(byte);
+                self.step = self.step_after(progress);
+                self.step
             }
             Step::Done | Step::Fault(_) => self.step,
+        }
+    }
+
+    /// Takes the next bytes of the open string, and says how many: as many as it has left, or the whole piece. Where no
+    /// string is open it takes none.
+    ///
+    /// It is the same as to [`put`](Walker::put) them one by one. [`Walker::step`] is the answer to the last of them.
+    pub fn pass(&mut self, piece: &[u8]) -> usize
+        ensures used { (room : ℕ) (bytes : List ℕ) → HasPut room bytes self.old
+            → result ≡ min (open_in D (left_of bytes room 0)).content (length piece.now) }
+        ensures fits { result ≤ length piece.now }
+        ensures answer { (room : ℕ) (bytes : List ℕ) → HasPut room bytes self.old → 0 < result
+            → Answers room (bytes ++ take result piece.now) (last_step self.new) (read D (left_of (bytes ++ take result piece.now) room 0)) }
+        ensures put { (room : ℕ) (bytes : List ℕ) → HasPut room bytes self.old
+            → last_step self.new ≡ Step.Going → HasPut room (bytes ++ take result piece.now) self.new }
+        ensures among { (room : ℕ) (bytes : List ℕ) → HasPut room bytes self.old → 0 < result
+            → StandsAmong room (bytes ++ take result piece.now) (last_step self.new) }
+        ensures none { result ≡ 0 → self.new ≡ self.old }
+        ensures kept { (last_step self.old ≡ Step.Going → ⊥) → result ≡ 0 }
+    {
+        match self.step {
+            Step::Going => {
+                let count = self.string.min(piece.len());
+                if count > 0 {
+                    let progress = self.advance_content(count);
+                    self.step = self.step_after(progress);
+                }
+                count
+            }
+            Step::Done | Step::Fault(_) => 0,
+        }
+    }
+
+    /// The answer to a byte that led to this.
+    fn step_after(&self, progress: Result<Progress, Reason>) -> Step
+        ensures { result ≡ step_after progress self.now.place }
+    {
+        match progress {
+            Ok(Progress::Open) => Step::Going,
+            Ok(Progress::Whole) => Step::Done,
+            Err(reason) => Step::Fault(Refusal {
+                reason,
+                place: self.place as u64,
+            }),
         }
     }
 
@@ -191,7 +230,7 @@ impl<const D: usize> Walker<D> {
         ensures among { self.new.place ≤ self.old.place + length self.old.half.items + 1 }
     {
         if self.string > 0 {
-            return self.advance_content();
+            return self.advance_content(1);
         }
         match take_head_byte(&mut self.half, byte, self.room)? {
             Some(head) => self.begin(head),
@@ -199,14 +238,15 @@ impl<const D: usize> Walker<D> {
         }
     }
 
-    /// Takes a byte of the open string.
-    fn advance_content(&mut self) -> Result<Progress, Reason>
-        requires { 0 < self.old.string }
-        ensures leads { (byte : ℕ) → Leads (λ bytes. resume self.old (byte ∷ bytes)) result self.new }
-        ensures stands { Stands (self.old.room - 1) (self.old.place + 1) self.new }
+    /// Takes so many bytes of the open string.
+    fn advance_content(&mut self, count: usize) -> Result<Progress, Reason>
+        requires some { 0 < count }
+        requires fits { count ≤ self.old.string }
+        ensures leads { (piece : List ℕ) → length piece ≡ count → Leads (λ bytes. resume self.old (piece ++ bytes)) result self.new }
+        ensures stands { Stands (self.old.room - count) (self.old.place + count) self.new }
     {
-        self.string -= 1;
-        self.pass_over(1);
+        self.string -= count;
+        self.pass_over(count);
         if self.string > 0 {
             return Ok(Progress::Open);
         }

@@ -213,11 +213,13 @@ bucket_shown nesting None place content h = rw h refl
 bucket_shown nesting (Some pairs) (Some place) content h = rw h refl
 bucket_shown nesting (Some pairs) None content h = absurd h
 
-abbrev shown : Option (List Pair) → Option (List Pair) → Option SignInput → Shown
-shown protected unprotected sign_input = record { protected = protected; unprotected = unprotected; sign_input = sign_input }
+abbrev shown : Option (List Pair) → Option (List Pair) → Option SignInput → ℕ → Shown
+shown protected unprotected sign_input open_items =
+    record { protected = protected; unprotected = unprotected; sign_input = sign_input; open_items = open_items }
 
-shown_alike : (p q : Option (List Pair)) (r t : Option (List Pair)) (x y : Option SignInput) → p ≡ q → r ≡ t → x ≡ y → shown p r x ≡ shown q t y
-shown_alike p q r t x y e f g = rw (e, f, g) refl
+shown_alike : (p q : Option (List Pair)) (r t : Option (List Pair)) (x y : Option SignInput) (m n : ℕ) → p ≡ q → r ≡ t → x ≡ y → m ≡ n
+    → shown p r x m ≡ shown q t y n
+shown_alike p q r t x y m n e f g h = rw (e, f, g, h) refl
 
 module _ {H D : ℕ} (task : Task) (known : Known) (told : Told) (n : ℕ) (v : Verifier H D) (waits : WalkerWaits v) where
   open_input : (phase : Phase) → HoldsIn task known told n v phase → is_settled phase ≡ false → input_in phase (held_input v) ≡ sign_input_in task.setting.aad (left task known told n v phase).answer
@@ -250,7 +252,8 @@ pub stands_shown : {H D : ℕ} {task : Task} {B : List ℕ} {n : ℕ} {v : Verif
 unfolding left here
 stands_shown {H} {D} {task} {B} {n} {v} {reading} waits h =
     let same : (reading []).told ≡ h.told = ap (λ (r : Reading). r.told) (h.left []) ∙ told_in task h.known h.told n v waits v.phase h.holds in
-    shown_alike _ _ _ _ _ _
+    shown_alike _ _ _ _ _ _ _ _
     (bucket_shown D h.told.protected v.protected_at v.protected.items h.shows.1 ∙ sym (ap (λ (t : Told). t.protected) same))
     (bucket_shown D h.told.unprotected v.unprotected_at v.unprotected.items h.shows.2 ∙ sym (ap (λ (t : Told). t.unprotected) same))
     (input_shown task h.known h.told n v waits v.phase h.holds ∙ sym (ap (λ (r : Reading). sign_input_in task.setting.aad r.answer) (h.left [])))
+    (h.shows.3 ∙ sym (ap (λ (t : Told). t.open_items) same))

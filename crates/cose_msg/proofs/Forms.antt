@@ -16,7 +16,7 @@ use Rattle.cose_head.specs.Measured.{left_of}
 use Rattle.cose_head.specs.Reading.{Left, Outcome, read}
 use Rattle.cose_msg.specs.Answer.{refused}
 use Rattle.cose_msg.specs.Laws.{Stays, EndsTruncated}
-use Rattle.cose_msg.specs.Reading.{Told, Reading, Phase, Next, stop, cut, past_head, with_head, with_string, is_truncated, past_item, with_item, unless, unless_fault, with_value}
+use Rattle.cose_msg.specs.Reading.{Told, Reading, Phase, Next, stop, cut, past_head, with_head, with_string, is_truncated, past_item, with_item, unless, unless_fault, with_value, open_items_after}
 
 -- Both laws of a phase.
 pub record Lawful (phase : Phase) : Type 0 where
@@ -132,33 +132,33 @@ module _ (laws : HeadLaws) where
       let place : found.1.place ≡ 0 + step.used = ap (λ (l : Left). l.place) step.left in
       omega (arith, place, step.there)
 
-  past_item-stays : (told : Told) (next : Next (List ℕ)) → ((at : ℕ) (content : List ℕ) → Lawful (next at content)) → (room depth place : ℕ) (bytes more : List ℕ) (outcome : Outcome Item) → read depth (left_of bytes room 0) ≡ outcome
-      → (past_item told next place bytes outcome).settled ≡ true → past_item told next place (bytes ++ more) (read depth (left_of (bytes ++ more) room 0)) ≡ past_item told next place bytes outcome
-  past_item-stays told next h room depth place bytes more (Ok found) e done =
+  past_item-stays : (told : ℕ → Told) (open_items later : ℕ) (next : Next (List ℕ)) → ((at : ℕ) (content : List ℕ) → Lawful (next at content)) → (room depth place : ℕ) (bytes more : List ℕ) (outcome : Outcome Item) → read depth (left_of bytes room 0) ≡ outcome
+      → (past_item told open_items next place bytes outcome).settled ≡ true → past_item told later next place (bytes ++ more) (read depth (left_of (bytes ++ more) room 0)) ≡ past_item told open_items next place bytes outcome
+  past_item-stays told open_items later next h room depth place bytes more (Ok found) e done =
       let there : found.1.place ≤ length bytes = item_there depth room bytes found e in
       let again = rw e at (laws.read_stays depth (left_of bytes room 0) more (rw e tt)) in
       rw (again, take-append-le found.1.place bytes more there, drop-append-le found.1.place bytes more there) ((h place (take found.1.place bytes)).stays more (place + found.1.place) (drop found.1.place bytes) done)
-  past_item-stays told next h room depth place bytes more (Err refusal) e done =
+  past_item-stays told open_items later next h room depth place bytes more (Err refusal) e done =
       let definite : is_truncated refusal.reason ≡ false = either_settled (is_truncated refusal.reason) _ _ refl done in
       let again = rw e at (laws.read_stays depth (left_of bytes room 0) more (rw e (not_truncated refusal.reason definite))) in
-      rw again (refused_stays (is_truncated refusal.reason) (cut told (place + length bytes)) (cut told (place + length (bytes ++ more))) _ refl done)
+      rw again (refused_stays (is_truncated refusal.reason) (cut (told open_items) (place + length bytes)) (cut (told later) (place + length (bytes ++ more))) _ refl done)
 
-  with_item-stays : (told : Told) (room depth : ℕ) (next : Next (List ℕ)) → ((at : ℕ) (content : List ℕ) → Lawful (next at content)) → Stays (with_item told room depth next)
+  with_item-stays : (told : ℕ → Told) (room depth : ℕ) (next : Next (List ℕ)) → ((at : ℕ) (content : List ℕ) → Lawful (next at content)) → Stays (with_item told room depth next)
   unfolding with_item
-  with_item-stays told room depth next h more place bytes done = past_item-stays told next h room depth place bytes more (read depth (left_of bytes room 0)) refl done
+  with_item-stays told room depth next h more place bytes done = past_item-stays told (open_items_after room depth bytes) (open_items_after room depth (bytes ++ more)) next h room depth place bytes more (read depth (left_of bytes room 0)) refl done
 
-  past_item-open : (told : Told) (next : Next (List ℕ)) → ((at : ℕ) (content : List ℕ) → Lawful (next at content)) → (room depth place : ℕ) (bytes : List ℕ) (outcome : Outcome Item) → read depth (left_of bytes room 0) ≡ outcome
-      → (past_item told next place bytes outcome).settled ≡ false → (past_item told next place bytes outcome).answer ≡ refused Truncated (place + length bytes)
-  past_item-open told next h room depth place bytes (Ok found) e unsettled =
+  past_item-open : (told : ℕ → Told) (open_items : ℕ) (next : Next (List ℕ)) → ((at : ℕ) (content : List ℕ) → Lawful (next at content)) → (room depth place : ℕ) (bytes : List ℕ) (outcome : Outcome Item) → read depth (left_of bytes room 0) ≡ outcome
+      → (past_item told open_items next place bytes outcome).settled ≡ false → (past_item told open_items next place bytes outcome).answer ≡ refused Truncated (place + length bytes)
+  past_item-open told open_items next h room depth place bytes (Ok found) e unsettled =
       let there : found.1.place ≤ length bytes = item_there depth room bytes found e in
       open_at (place + found.1.place + length (drop found.1.place bytes)) (place + length bytes) (next place (take found.1.place bytes) (place + found.1.place) (drop found.1.place bytes)) (omega (arith, there, length-drop found.1.place bytes)) ((h place (take found.1.place bytes)).ends (place + found.1.place) (drop found.1.place bytes) unsettled)
-  past_item-open told next h room depth place bytes (Err refusal) e unsettled = refused_open (is_truncated refusal.reason) (place + length bytes) _ _ refl refl unsettled
+  past_item-open told open_items next h room depth place bytes (Err refusal) e unsettled = refused_open (is_truncated refusal.reason) (place + length bytes) _ _ refl refl unsettled
 
-  with_item-open : (told : Told) (room depth : ℕ) (next : Next (List ℕ)) → ((at : ℕ) (content : List ℕ) → Lawful (next at content)) → EndsTruncated (with_item told room depth next)
+  with_item-open : (told : ℕ → Told) (room depth : ℕ) (next : Next (List ℕ)) → ((at : ℕ) (content : List ℕ) → Lawful (next at content)) → EndsTruncated (with_item told room depth next)
   unfolding with_item
-  with_item-open told room depth next h place bytes unsettled = past_item-open told next h room depth place bytes (read depth (left_of bytes room 0)) refl unsettled
+  with_item-open told room depth next h place bytes unsettled = past_item-open told (open_items_after room depth bytes) next h room depth place bytes (read depth (left_of bytes room 0)) refl unsettled
 
-  pub with_item-lawful : (told : Told) (room depth : ℕ) (next : Next (List ℕ)) → ((at : ℕ) (content : List ℕ) → Lawful (next at content)) → Lawful (with_item told room depth next)
+  pub with_item-lawful : (told : ℕ → Told) (room depth : ℕ) (next : Next (List ℕ)) → ((at : ℕ) (content : List ℕ) → Lawful (next at content)) → Lawful (with_item told room depth next)
   with_item-lawful told room depth next h = record { stays = with_item-stays told room depth next h; ends = with_item-open told room depth next h }
 
 -- ---- a test

@@ -11,7 +11,7 @@ use Rattle.cose_map.specs.Bucket.{bucket_of}
 use Rattle.cose_map.specs.Bucket.Both.{pair_fault}
 use Rattle.cose_map.specs.Map.Pairs.{Pair}
 use Rattle.cose_msg.specs.Answer.{Answer, Chosen, Headers, Whole}
-use Rattle.cose_msg.specs.Phases.{nothing_told, protected_told, headers_told, is_nil, is_too_long, finish, auth_fault_where, auth_head_fault, auth_head, past_payload, payload_fault_within, payload_head_fault, payload_head, past_choice, key_choice, both_buckets, placed_at, headers_of, past_unprotected, unprotected, past_protected, protected_fault_within, protected_head_fault, protected_head}
+use Rattle.cose_msg.specs.Phases.{nothing_told, protected_told, unprotected_told, headers_told, is_nil, is_too_long, finish, auth_fault_where, auth_head_fault, auth_head, past_payload, payload_fault_within, payload_head_fault, payload_head, past_choice, key_choice, both_buckets, placed_at, headers_of, past_unprotected, unprotected, past_protected, protected_fault_within, protected_head_fault, protected_head}
 use Rattle.cose_msg.specs.Rules.{Rules}
 use Rattle.cose_msg.proofs.FoundForms.{Comes, NotRefused, ValueFound, unless_found, value_found, string_found, item_found}
 use Rattle.cose_msg.proofs.Spelled.{SpellingLaws}
@@ -123,7 +123,7 @@ module _ (answer : Answer) (unrefused : NotRefused answer) (laws : SpellingLaws)
 
   unprotected_found : (kind : Kind) (protected : List ℕ) (pairs : List Pair) (place : ℕ) (bytes : List ℕ) → Comes (unprotected rules kind protected pairs) place bytes answer → UnprotectedFound rules kind protected pairs place bytes answer
   unprotected_found kind protected pairs place bytes comes =
-      let s = item_found answer unrefused laws (protected_told pairs) rules.room rules.nesting (past_unprotected rules kind protected pairs) place bytes comes in
+      let s = item_found answer unrefused laws (unprotected_told pairs) rules.room rules.nesting (past_unprotected rules kind protected pairs) place bytes comes in
       let end : ℕ = place + length s.part in
       let v = value_found answer unrefused (protected_told pairs) (bucket_of rules.nesting (placed_at place s.part)) (λ found. both_buckets rules (headers_of kind protected pairs found)) end s.rest s.comes in
       let headers : Headers = headers_of kind protected pairs v.found in

@@ -24,8 +24,8 @@ use Rattle.cose_msg.specs.Answer.{Answer, complete, refused, Chosen, Headers, Wh
 use Rattle.cose_msg.specs.Front.{array_head_fault, past_array_head, array_head, kind_of_tag, past_tag, tag_behind_cwt, past_second_head, second_head, past_untagged, is_cwt_tag, is_tag, is_array, past_first_head, first_head}
 use Rattle.cose_msg.specs.Laws.{answered, then_compared, then_verified, FinishGoesLast, ComparingGoesLast, VerifyingGoesLast}
 use Rattle.cose_msg.specs.Message.{Decides, message, tag_of, judged, compare_tag, compared, verified, uncompared, comparing}
-use Rattle.cose_msg.specs.Phases.{nothing_told, protected_told, headers_told, finish, auth, auth_head_fault, past_auth_head, auth_head, past_payload, payload, payload_head_fault, past_payload_head, payload_head, past_choice, key_choice, both_buckets, placed_at, headers_of, past_unprotected, unprotected, past_protected, protected, protected_head_fault, past_protected_head, protected_head}
-use Rattle.cose_msg.specs.Reading.{Told, Reading, Phase, Next, settled, stop, cut, past_head, with_head, with_string, is_truncated, past_item, with_item, unless, unless_fault, with_value}
+use Rattle.cose_msg.specs.Phases.{nothing_told, protected_told, unprotected_told, headers_told, finish, auth, auth_head_fault, past_auth_head, auth_head, past_payload, payload, payload_head_fault, past_payload_head, payload_head, past_choice, key_choice, both_buckets, placed_at, headers_of, past_unprotected, unprotected, past_protected, protected, protected_head_fault, past_protected_head, protected_head}
+use Rattle.cose_msg.specs.Reading.{Told, Reading, Phase, Next, settled, stop, cut, past_head, with_head, with_string, is_truncated, past_item, with_item, unless, unless_fault, with_value, open_items_after}
 use Rattle.cose_msg.specs.Rules.{Rules}
 
 module _ (change : Answer → Answer) (keeps : (reason : Reason) (place : ℕ) → change (refused reason place) ≡ refused reason place) where
@@ -58,13 +58,13 @@ module _ (change : Answer → Answer) (keeps : (reason : Reason) (place : ℕ) �
   unfolding with_string
   with_string-follows told n next other h place bytes = choose-follows (nat_lt (length bytes) n) (cut (told bytes) (place + length bytes)) (next place (take n bytes) (place + n) (drop n bytes)) _ _ (cut-follows (told bytes) (place + length bytes)) (h place (take n bytes) (place + n) (drop n bytes))
 
-  past_item-follows : (told : Told) (next other : Next (List ℕ)) → ((at : ℕ) (content : List ℕ) → Follows (next at content) (other at content)) → (place : ℕ) (bytes : List ℕ) (outcome : Outcome Item) → past_item told other place bytes outcome ≡ answered change (past_item told next place bytes outcome)
-  past_item-follows told next other h place bytes (Ok found) = h place (take found.1.place bytes) (place + found.1.place) (drop found.1.place bytes)
-  past_item-follows told next other h place bytes (Err refusal) = choose-follows (is_truncated refusal.reason) (cut told (place + length bytes)) (stop told refusal.reason (place + refusal.place)) _ _ (cut-follows told (place + length bytes)) (stop-follows told refusal.reason (place + refusal.place))
+  past_item-follows : (told : ℕ → Told) (open_items : ℕ) (next other : Next (List ℕ)) → ((at : ℕ) (content : List ℕ) → Follows (next at content) (other at content)) → (place : ℕ) (bytes : List ℕ) (outcome : Outcome Item) → past_item told open_items other place bytes outcome ≡ answered change (past_item told open_items next place bytes outcome)
+  past_item-follows told open_items next other h place bytes (Ok found) = h place (take found.1.place bytes) (place + found.1.place) (drop found.1.place bytes)
+  past_item-follows told open_items next other h place bytes (Err refusal) = choose-follows (is_truncated refusal.reason) (cut (told open_items) (place + length bytes)) (stop (told 0) refusal.reason (place + refusal.place)) _ _ (cut-follows (told open_items) (place + length bytes)) (stop-follows (told 0) refusal.reason (place + refusal.place))
 
-  with_item-follows : (told : Told) (room depth : ℕ) (next other : Next (List ℕ)) → ((at : ℕ) (content : List ℕ) → Follows (next at content) (other at content)) → Follows (with_item told room depth next) (with_item told room depth other)
+  with_item-follows : (told : ℕ → Told) (room depth : ℕ) (next other : Next (List ℕ)) → ((at : ℕ) (content : List ℕ) → Follows (next at content) (other at content)) → Follows (with_item told room depth next) (with_item told room depth other)
   unfolding with_item
-  with_item-follows told room depth next other h place bytes = past_item-follows told next other h place bytes (read depth (left_of bytes room 0))
+  with_item-follows told room depth next other h place bytes = past_item-follows told (open_items_after room depth bytes) next other h place bytes (read depth (left_of bytes room 0))
 
   unless_fault-follows : (told : Told) (at : ℕ) (fault : Option Reason) (phase other : Phase) → Follows phase other → Follows (unless_fault told at fault phase) (unless_fault told at fault other)
   unless_fault-follows told at (Some reason) phase other h = λ place bytes. stop-follows told reason at
@@ -109,7 +109,7 @@ module _ (change : Answer → Answer) (keeps : (reason : Reason) (place : ℕ) �
     both_buckets-follows headers place bytes = unless-follows (headers_told headers []) (pair_fault headers.protected_pairs headers.unprotected_pairs rules.understood place) (key_choice rules headers) (key_choice others headers) (past_choice-follows headers (rules.choice headers)) place bytes
 
     unprotected-follows : (kind : Kind) (P : List ℕ) (pairs : List Pair) → Follows (unprotected rules kind P pairs) (unprotected others kind P pairs)
-    unprotected-follows kind P pairs = with_item-follows (protected_told pairs) rules.room rules.nesting (past_unprotected rules kind P pairs) (past_unprotected others kind P pairs)
+    unprotected-follows kind P pairs = with_item-follows (unprotected_told pairs) rules.room rules.nesting (past_unprotected rules kind P pairs) (past_unprotected others kind P pairs)
         (λ at content. with_value-follows (protected_told pairs) (bucket_of rules.nesting (placed_at at content)) (λ found. both_buckets rules (headers_of kind P pairs found)) (λ found. both_buckets others (headers_of kind P pairs found)) (λ found. both_buckets-follows (headers_of kind P pairs found)))
 
     protected-follows : (kind : Kind) (n : ℕ) → Follows (protected rules kind n) (protected others kind n)

@@ -14,7 +14,7 @@ use Rattle.cose_msg.specs.Answer.{Chosen, Headers, refused}
 use Rattle.cose_msg.specs.Front.{array_head_fault, past_array_head, array_head, kind_of_tag, past_tag, tag_behind_cwt, past_second_head, second_head, past_untagged, is_cwt_tag, is_tag, is_array, past_first_head, first_head}
 use Rattle.cose_msg.specs.Laws.{MessageStays, MessageEndsTruncated, OpenEarlier, VerdictStays}
 use Rattle.cose_msg.specs.Message.{message, verifying}
-use Rattle.cose_msg.specs.Phases.{nothing_told, protected_told, headers_told, finish, auth, auth_head_fault, past_auth_head, auth_head, past_payload, payload, payload_head_fault, past_payload_head, payload_head, past_choice, key_choice, both_buckets, placed_at, headers_of, past_unprotected, unprotected, past_protected, protected, protected_head_fault, past_protected_head, protected_head}
+use Rattle.cose_msg.specs.Phases.{nothing_told, protected_told, unprotected_told, headers_told, finish, auth, auth_head_fault, past_auth_head, auth_head, past_payload, payload, payload_head_fault, past_payload_head, payload_head, past_choice, key_choice, both_buckets, placed_at, headers_of, past_unprotected, unprotected, past_protected, protected, protected_head_fault, past_protected_head, protected_head}
 use Rattle.cose_msg.specs.Reading.{Reading, stop}
 use Rattle.cose_msg.specs.Rules.{Rules}
 use Rattle.cose_msg.proofs.Forms.{HeadLaws, Lawful, settled-lawful, with_head-lawful, with_string-lawful, with_item-lawful, unless_fault-lawful, unless_at-lawful, with_value-lawful, either-lawful}
@@ -45,7 +45,7 @@ module _ (laws : HeadLaws) (rules : Rules) where
   both_buckets-lawful headers = unless_at-lawful (headers_told headers []) (pair_fault headers.protected_pairs headers.unprotected_pairs rules.understood) (key_choice rules headers) (past_choice-lawful headers (rules.choice headers))
 
   unprotected-lawful : (kind : Kind) (P : List ℕ) (pairs : List Pair) → Lawful (unprotected rules kind P pairs)
-  unprotected-lawful kind P pairs = with_item-lawful laws (protected_told pairs) rules.room rules.nesting (past_unprotected rules kind P pairs)
+  unprotected-lawful kind P pairs = with_item-lawful laws (unprotected_told pairs) rules.room rules.nesting (past_unprotected rules kind P pairs)
       (λ at content. with_value-lawful (protected_told pairs) (bucket_of rules.nesting (placed_at at content)) (λ others. both_buckets rules (headers_of kind P pairs others)) (λ others. both_buckets-lawful (headers_of kind P pairs others)))
 
   protected-lawful : (kind : Kind) (n : ℕ) → Lawful (protected rules kind n)

@@ -23,8 +23,8 @@ use Rattle.cose_msg.specs.declared.context.Wanted.TheVariants as wants
 use Rattle.cose_msg.specs.Answer.{Chosen, Headers}
 use Rattle.cose_msg.specs.Front.{array_head_fault, past_array_head, array_head, kind_of_tag, past_tag, tag_behind_cwt, past_second_head, second_head, past_untagged, is_cwt_tag, is_tag, is_array, past_first_head}
 use Rattle.cose_msg.specs.Message.{message}
-use Rattle.cose_msg.specs.Phases.{nothing_told, protected_told, headers_told, finish, auth, auth_head_fault, past_auth_head, auth_head, past_payload, payload, payload_head_fault, payload_fault_within, is_bytes_head, is_nil, past_payload_head, payload_head, past_choice, key_choice, both_buckets, placed_at, headers_of, past_unprotected, unprotected, past_protected, protected, protected_head_fault, past_protected_head, protected_head}
-use Rattle.cose_msg.specs.Reading.{Told, Reading, Phase, Next, stop, cut, is_truncated, past_head, with_head, with_string, past_item, with_item, unless, unless_fault, with_value}
+use Rattle.cose_msg.specs.Phases.{nothing_told, protected_told, unprotected_told, headers_told, finish, auth, auth_head_fault, past_auth_head, auth_head, past_payload, payload, payload_head_fault, payload_fault_within, is_bytes_head, is_nil, past_payload_head, payload_head, past_choice, key_choice, both_buckets, placed_at, headers_of, past_unprotected, unprotected, past_protected, protected, protected_head_fault, past_protected_head, protected_head}
+use Rattle.cose_msg.specs.Reading.{Told, Reading, Phase, Next, stop, cut, is_truncated, past_head, with_head, with_string, past_item, with_item, unless, unless_fault, with_value, open_items_after}
 use Rattle.cose_msg.specs.Rules.{Rules}
 
 module _ (limit : ℕ) where
@@ -56,13 +56,13 @@ module _ (limit : ℕ) where
   choose-within true x y p q = p
   choose-within false x y p q = q
 
-  past_item-within : (told : Told) (next : Next (List ℕ)) → Small told → ((at : ℕ) (content : List ℕ) → Within (next at content)) → (place : ℕ) (bytes : List ℕ) (outcome : Outcome Item) → Small (past_item told next place bytes outcome).told
-  past_item-within told next small h place bytes (Ok found) = h place (take found.1.place bytes) (place + found.1.place) (drop found.1.place bytes)
-  past_item-within told next small h place bytes (Err refusal) = choose-within (is_truncated refusal.reason) (cut told (place + length bytes)) (stop told refusal.reason (place + refusal.place)) small small
+  past_item-within : (told : ℕ → Told) (open_items : ℕ) (next : Next (List ℕ)) → ((n : ℕ) → Small (told n)) → ((at : ℕ) (content : List ℕ) → Within (next at content)) → (place : ℕ) (bytes : List ℕ) (outcome : Outcome Item) → Small (past_item told open_items next place bytes outcome).told
+  past_item-within told open_items next small h place bytes (Ok found) = h place (take found.1.place bytes) (place + found.1.place) (drop found.1.place bytes)
+  past_item-within told open_items next small h place bytes (Err refusal) = choose-within (is_truncated refusal.reason) (cut (told open_items) (place + length bytes)) (stop (told 0) refusal.reason (place + refusal.place)) (small open_items) (small 0)
 
-  with_item-within : (told : Told) (room nesting : ℕ) (next : Next (List ℕ)) → Small told → ((at : ℕ) (content : List ℕ) → Within (next at content)) → Within (with_item told room nesting next)
+  with_item-within : (told : ℕ → Told) (room nesting : ℕ) (next : Next (List ℕ)) → ((n : ℕ) → Small (told n)) → ((at : ℕ) (content : List ℕ) → Within (next at content)) → Within (with_item told room nesting next)
   unfolding with_item
-  with_item-within told room nesting next small h place bytes = past_item-within told next small h place bytes (read nesting (left_of bytes room 0))
+  with_item-within told room nesting next small h place bytes = past_item-within told (open_items_after room nesting bytes) next small h place bytes (read nesting (left_of bytes room 0))
 
   unless_fault-within : (told : Told) (at : ℕ) (fault : Option Reason) (phase : Phase) → Small told → (fault ≡ None → Within phase) → Within (unless_fault told at fault phase)
   unless_fault-within told at (Some reason) phase small h place bytes = small
@@ -115,7 +115,7 @@ module _ (rules : Rules) where
   both_buckets-fits headers place bytes = unless-within rules.payload_limit (headers_told headers []) (pair_fault headers.protected_pairs headers.unprotected_pairs rules.understood place) (key_choice rules headers) (omega arith) (past_choice-fits headers (rules.choice headers)) place bytes
 
   unprotected-fits : (kind : Kind) (P : List ℕ) (pairs : List Pair) → Fits (unprotected rules kind P pairs)
-  unprotected-fits kind P pairs = with_item-within rules.payload_limit (protected_told pairs) rules.room rules.nesting (past_unprotected rules kind P pairs) (omega arith)
+  unprotected-fits kind P pairs = with_item-within rules.payload_limit (unprotected_told pairs) rules.room rules.nesting (past_unprotected rules kind P pairs) (λ n. omega arith)
       (λ at content. with_value-within rules.payload_limit (protected_told pairs) (bucket_of rules.nesting (placed_at at content)) (λ others. both_buckets rules (headers_of kind P pairs others)) (omega arith) (λ others. both_buckets-fits (headers_of kind P pairs others)))
 
   protected_head-fits : (kind : Kind) → Fits (protected_head rules kind)

@@ -28,8 +28,8 @@ use Rattle.cose_msg.specs.Answer.{Answer, complete, decided, shaped, Chosen, Hea
 use Rattle.cose_msg.specs.Front.{array_head_fault, past_array_head, array_head, kind_of_tag, past_tag, tag_behind_cwt, past_second_head, second_head, past_untagged, is_cwt_tag, is_tag, is_array, past_first_head}
 use Rattle.cose_msg.specs.Laws.{ComparingGoesLast, then_compared}
 use Rattle.cose_msg.specs.Message.{Setting, message, as_choice, compared, judged, key_choice_of, past_chosen, question_of, tag_of, uncompared, with_algorithm}
-use Rattle.cose_msg.specs.Phases.{nothing_told, protected_told, headers_told, finish, auth, auth_head_fault, past_auth_head, auth_head, past_payload, payload, payload_head_fault, past_payload_head, payload_head, past_choice, key_choice, both_buckets, placed_at, headers_of, past_unprotected, unprotected, past_protected, protected, protected_head_fault, past_protected_head, protected_head}
-use Rattle.cose_msg.specs.Reading.{Told, Reading, Phase, Next, stop, cut, is_truncated, past_head, with_head, with_string, past_item, with_item, unless, unless_fault, with_value}
+use Rattle.cose_msg.specs.Phases.{nothing_told, protected_told, unprotected_told, headers_told, finish, auth, auth_head_fault, past_auth_head, auth_head, past_payload, payload, payload_head_fault, past_payload_head, payload_head, past_choice, key_choice, both_buckets, placed_at, headers_of, past_unprotected, unprotected, past_protected, protected, protected_head_fault, past_protected_head, protected_head}
+use Rattle.cose_msg.specs.Reading.{Told, Reading, Phase, Next, stop, cut, is_truncated, past_head, with_head, with_string, past_item, with_item, unless, unless_fault, with_value, open_items_after}
 use Rattle.cose_msg.specs.Rules.{Rules}
 use Rattle.cose_msg.specs.Shown.{SignInput, SignaturesAreOfSign1, of_sign1, sign_input_in, signature_in, signed_with}
 
@@ -60,13 +60,13 @@ module _ (rules : Rules) (ends : (w whole : Whole) → rules.finish w ≡ comple
   unfolding with_string
   with_string-picks told n next h place bytes = choose-picks (nat_lt (length bytes) n) (cut (told bytes) (place + length bytes)) (next place (take n bytes) (place + n) (drop n bytes)) (λ whole e. absurd cc) (h place (take n bytes) (place + n) (drop n bytes))
 
-  past_item-picks : (told : Told) (next : Next (List ℕ)) → ((at : ℕ) (content : List ℕ) → Picks (next at content)) → (place : ℕ) (bytes : List ℕ) (outcome : Outcome Item) → Picked (past_item told next place bytes outcome).answer
-  past_item-picks told next h place bytes (Ok found) = h place (take found.1.place bytes) (place + found.1.place) (drop found.1.place bytes)
-  past_item-picks told next h place bytes (Err refusal) = choose-picks (is_truncated refusal.reason) (cut told (place + length bytes)) (stop told refusal.reason (place + refusal.place)) (λ whole e. absurd cc) (λ whole e. absurd cc)
+  past_item-picks : (told : ℕ → Told) (open_items : ℕ) (next : Next (List ℕ)) → ((at : ℕ) (content : List ℕ) → Picks (next at content)) → (place : ℕ) (bytes : List ℕ) (outcome : Outcome Item) → Picked (past_item told open_items next place bytes outcome).answer
+  past_item-picks told open_items next h place bytes (Ok found) = h place (take found.1.place bytes) (place + found.1.place) (drop found.1.place bytes)
+  past_item-picks told open_items next h place bytes (Err refusal) = choose-picks (is_truncated refusal.reason) (cut (told open_items) (place + length bytes)) (stop (told 0) refusal.reason (place + refusal.place)) (λ whole e. absurd cc) (λ whole e. absurd cc)
 
-  with_item-picks : (told : Told) (room nesting : ℕ) (next : Next (List ℕ)) → ((at : ℕ) (content : List ℕ) → Picks (next at content)) → Picks (with_item told room nesting next)
+  with_item-picks : (told : ℕ → Told) (room nesting : ℕ) (next : Next (List ℕ)) → ((at : ℕ) (content : List ℕ) → Picks (next at content)) → Picks (with_item told room nesting next)
   unfolding with_item
-  with_item-picks told room nesting next h place bytes = past_item-picks told next h place bytes (read nesting (left_of bytes room 0))
+  with_item-picks told room nesting next h place bytes = past_item-picks told (open_items_after room nesting bytes) next h place bytes (read nesting (left_of bytes room 0))
 
   unless_fault-picks : (told : Told) (at : ℕ) (fault : Option Reason) (phase : Phase) → Picks phase → Picks (unless_fault told at fault phase)
   unless_fault-picks told at (Some reason) phase h place bytes = λ whole e. absurd cc
@@ -102,7 +102,7 @@ module _ (rules : Rules) (ends : (w whole : Whole) → rules.finish w ≡ comple
   both_buckets-picks headers place bytes = unless-picks (headers_told headers []) (pair_fault headers.protected_pairs headers.unprotected_pairs rules.understood place) (key_choice rules headers) (past_choice-picks headers (rules.choice headers) refl) place bytes
 
   unprotected-picks : (kind : Kind) (P : List ℕ) (pairs : List Pair) → Picks (unprotected rules kind P pairs)
-  unprotected-picks kind P pairs = with_item-picks (protected_told pairs) rules.room rules.nesting (past_unprotected rules kind P pairs)
+  unprotected-picks kind P pairs = with_item-picks (unprotected_told pairs) rules.room rules.nesting (past_unprotected rules kind P pairs)
       (λ at content. with_value-picks (protected_told pairs) (bucket_of rules.nesting (placed_at at content)) (λ others. both_buckets rules (headers_of kind P pairs others)) (λ others. both_buckets-picks (headers_of kind P pairs others)))
 
   protected_head-picks : (kind : Kind) → Picks (protected_head rules kind)

@@ -18,7 +18,7 @@ use Rattle.cose_msg.specs.Answer.{Chosen, Headers, Whole}
 use Rattle.cose_msg.specs.Front.{array_head_fault, past_array_head, array_head, wanted_kind, wants_kind, kind_of_tag, past_tag, tag_behind_cwt, past_second_head, second_head, past_untagged, is_cwt_tag, is_tag, is_array, past_first_head, first_head}
 use Rattle.cose_msg.specs.Laws.{AreFair, IsDefinite, MessageIsDefinite, OpenIsTruncated, MessageStandsInside}
 use Rattle.cose_msg.specs.Message.{message}
-use Rattle.cose_msg.specs.Phases.{nothing_told, protected_told, headers_told, is_bytes_head, is_nil, is_too_long, finish, auth, auth_head_fault, past_auth_head, auth_head, past_payload, payload, payload_head_fault, past_payload_head, payload_head, past_choice, key_choice, both_buckets, placed_at, headers_of, past_unprotected, unprotected, past_protected, protected, protected_head_fault, past_protected_head, protected_head}
+use Rattle.cose_msg.specs.Phases.{nothing_told, protected_told, unprotected_told, headers_told, is_bytes_head, is_nil, is_too_long, finish, auth, auth_head_fault, past_auth_head, auth_head, past_payload, payload, payload_head_fault, past_payload_head, payload_head, past_choice, key_choice, both_buckets, placed_at, headers_of, past_unprotected, unprotected, past_protected, protected, protected_head_fault, past_protected_head, protected_head}
 use Rattle.cose_msg.specs.Reading.{stop}
 use Rattle.cose_msg.specs.Rules.{Rules}
 use Rattle.cose_msg.proofs.Forms.{HeadLaws}
@@ -121,7 +121,7 @@ module _ (laws : HeadLaws) (maps : MapLaws) (rules : Rules) (fair : AreFair rule
       (past_choice-sound headers (rules.choice headers) from (fair.choice headers))
 
   unprotected-sound : (kind : Kind) (P : List ℕ) (pairs : List Pair) (from : ℕ) → PairsEndBy from pairs → Sound from (unprotected rules kind P pairs)
-  unprotected-sound kind P pairs from p = with_item-sound laws (protected_told pairs) rules.room rules.nesting (past_unprotected rules kind P pairs) from
+  unprotected-sound kind P pairs from p = with_item-sound laws (unprotected_told pairs) rules.room rules.nesting (past_unprotected rules kind P pairs) from
       (λ at content le. with_value-sound (protected_told pairs) (bucket_of rules.nesting (placed_at at content)) (λ others. both_buckets rules (headers_of kind P pairs others)) (at + length content)
       (maps.bucket_inside rules.nesting (placed_at at content)) (maps.bucket_definite rules.nesting (placed_at at content))
       (λ others is. both_buckets-sound (headers_of kind P pairs others) (at + length content) (pairs_later from (at + length content) pairs (omega arith) p) (maps.bucket_ends rules.nesting (placed_at at content) others is)))

@@ -67,7 +67,7 @@ module _ (laws : SpellingLaws) where
 
   -- ---- an item
 
-  pub item_read : (told : Told) (room nesting : ℕ) (next : Next (List ℕ)) (place : ℕ) (tree : Item) (content more : List ℕ) → Spells content tree → length content ≤ room → depth_of tree ≤ nesting
+  pub item_read : (told : ℕ → Told) (room nesting : ℕ) (next : Next (List ℕ)) (place : ℕ) (tree : Item) (content more : List ℕ) → Spells content tree → length content ≤ room → depth_of tree ≤ nesting
       → with_item told room nesting next place (content ++ more) ≡ next place content (place + length content) more
   unfolding with_item
   item_read told room nesting next place tree content more is fits nests =

@@ -14,7 +14,7 @@ use Rattle.cose_msg.specs.Answer.{Chosen, Headers, Whole}
 use Rattle.cose_msg.specs.Front.{wants_kind, array_head, past_array_head, kind_of_tag, past_tag, past_second_head, second_head, past_untagged, past_first_head, first_head}
 use Rattle.cose_msg.specs.Grammar.{tag_number, is_untagged, IsArrayOfFour, IsFront, untagged, tagged, in_cwt, Spellings, protected_at, unprotected_at, payload_at, auth_at, IsMessage, four_elements, SpellsMessage, bare, in_tag, in_cwt_tag}
 use Rattle.cose_msg.specs.Message.{message}
-use Rattle.cose_msg.specs.Phases.{nothing_told, protected_told, headers_told, finish, auth_head, auth_head_fault, past_payload, payload_head, payload_head_fault, is_too_long, both_buckets, placed_at, past_unprotected, unprotected, past_protected, protected_head, protected_head_fault}
+use Rattle.cose_msg.specs.Phases.{nothing_told, unprotected_told, headers_told, finish, auth_head, auth_head_fault, past_payload, payload_head, payload_head_fault, is_too_long, both_buckets, placed_at, past_unprotected, unprotected, past_protected, protected_head, protected_head_fault}
 use Rattle.cose_msg.specs.Reading.{Phase, settled}
 use Rattle.cose_msg.specs.Rules.{Rules}
 use Rattle.cose_msg.proofs.Spellings.{all_apart, spelled_length}
@@ -49,7 +49,7 @@ module _ (laws : SpellingLaws) (rules : Rules) where
       → bucket_of rules.nesting (placed_at place bucket) ≡ Ok headers.unprotected_pairs
       → unprotected rules headers.kind headers.protected headers.protected_pairs place (bucket ++ more) ≡ both_buckets rules headers (place + length bucket) more
   unprotected_read headers place tree bucket more spelled fits nests good =
-      item_read laws (protected_told headers.protected_pairs) rules.room rules.nesting (past_unprotected rules headers.kind headers.protected headers.protected_pairs) place tree bucket more spelled fits nests ∙ rw good refl
+      item_read laws (unprotected_told headers.protected_pairs) rules.room rules.nesting (past_unprotected rules headers.kind headers.protected headers.protected_pairs) place tree bucket more spelled fits nests ∙ rw good refl
 
   protected_read : (headers : Headers) (place : ℕ) (string more : List ℕ) → Spells string (byte_string headers.protected) → length headers.protected ≤ rules.room
       → bucket_of rules.nesting (placed_at (place + length string - length headers.protected) headers.protected) ≡ Ok headers.protected_pairs

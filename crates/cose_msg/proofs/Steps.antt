@@ -62,13 +62,13 @@ not_truncated Truncated h = absurd (h refl)
 not_truncated _ h = refl
 
 module _ (stays : ReadStays) where
-  pub item_completed : (told : Told) (room depth : ℕ) (next : Next (List ℕ)) (place : ℕ) (held : List ℕ) (byte : ℕ) → Answers room (held ++ byte ∷ []) steps.Done (read depth (left_of (held ++ byte ∷ []) room 0)) → (z : List ℕ) → with_item told room depth next place (held ++ byte ∷ z) ≡ next place (held ++ byte ∷ []) (place + length (held ++ byte ∷ [])) z
+  pub item_completed : (told : ℕ → Told) (room depth : ℕ) (next : Next (List ℕ)) (place : ℕ) (held : List ℕ) (byte : ℕ) → Answers room (held ++ byte ∷ []) steps.Done (read depth (left_of (held ++ byte ∷ []) room 0)) → (z : List ℕ) → with_item told room depth next place (held ++ byte ∷ z) ≡ next place (held ++ byte ∷ []) (place + length (held ++ byte ∷ [])) z
   unfolding with_item
   item_completed told room depth next place held byte h z =
       let again : read depth (left_of ((held ++ byte ∷ []) ++ z) room 0) ≡ Ok (h.0, left_of z (room - length (held ++ byte ∷ [])) (length (held ++ byte ∷ []))) = rw h.1 at (stays depth (left_of (held ++ byte ∷ []) room 0) z (rw h.1 tt)) in
       rw (← regrouped held byte z, again, take_at (held ++ byte ∷ []) z (length (held ++ byte ∷ [])) refl, drop_at (held ++ byte ∷ []) z (length (held ++ byte ∷ [])) refl) refl
 
-  pub item_refused : (told : Told) (room depth : ℕ) (next : Next (List ℕ)) (place : ℕ) (held : List ℕ) (byte : ℕ) (refusal : Refusal) → Answers room (held ++ byte ∷ []) (steps.Fault refusal) (read depth (left_of (held ++ byte ∷ []) room 0)) → (z : List ℕ) → with_item told room depth next place (held ++ byte ∷ z) ≡ stop told refusal.reason (place + refusal.place)
+  pub item_refused : (told : ℕ → Told) (room depth : ℕ) (next : Next (List ℕ)) (place : ℕ) (held : List ℕ) (byte : ℕ) (refusal : Refusal) → Answers room (held ++ byte ∷ []) (steps.Fault refusal) (read depth (left_of (held ++ byte ∷ []) room 0)) → (z : List ℕ) → with_item told room depth next place (held ++ byte ∷ z) ≡ stop (told 0) refusal.reason (place + refusal.place)
   unfolding with_item
   item_refused told room depth next place held byte refusal h z =
       let again : read depth (left_of ((held ++ byte ∷ []) ++ z) room 0) ≡ Err refusal = rw h.0 at (stays depth (left_of (held ++ byte ∷ []) room 0) z (rw h.0 h.1)) in

@@ -18,8 +18,8 @@ use Rattle.cose_msg.specs.declared.verifier.Verifier.{Verifier}
 use Rattle.cose_msg.specs.Answer.{refused}
 use Rattle.cose_msg.specs.Front.{past_array_head, past_first_head, past_second_head}
 use Rattle.cose_msg.specs.Phase.{in_payload, is_settled, want_of}
-use Rattle.cose_msg.specs.Phases.{nothing_told, protected_told, headers_told, finish, past_auth_head, past_payload, past_payload_head, past_protected, past_protected_head, past_unprotected}
-use Rattle.cose_msg.specs.Reading.{Next, Reading, Told, cut, past_head, with_head, with_item, with_string}
+use Rattle.cose_msg.specs.Phases.{nothing_told, unprotected_told, headers_told, finish, past_auth_head, past_payload, past_payload_head, past_protected, past_protected_head, past_unprotected}
+use Rattle.cose_msg.specs.Reading.{Next, Reading, Told, cut, past_head, open_items_after, with_head, with_item, with_string}
 use Rattle.cose_msg.specs.Task.{Task, rules_of}
 use Rattle.cose_msg.specs.Verifier.{HoldsIn, Known, StandsFor, left_in}
 use Rattle.cose_msg.proofs.Steps.{string_whole}
@@ -41,7 +41,7 @@ string_waits told n next place bytes lt =
     let short : nat_lt (length bytes) n ≡ true = lt-ltb _ _ lt in
     rw short refl
 
-pub item_waits : (told : Told) (room depth : ℕ) (next : Next (List ℕ)) (place : ℕ) (held : List ℕ) → read depth (left_of held room 0) ≡ refuse Truncated (length held) → with_item told room depth next place (held ++ []) ≡ cut told (place + length held)
+pub item_waits : (told : ℕ → Told) (room depth : ℕ) (next : Next (List ℕ)) (place : ℕ) (held : List ℕ) → read depth (left_of held room 0) ≡ refuse Truncated (length held) → with_item told room depth next place (held ++ []) ≡ cut (told (open_items_after room depth held)) (place + length held)
 unfolding with_item
 item_waits told room depth next place held e = rw (append-nil, e) refl
 
@@ -88,7 +88,7 @@ module _ {H D : ℕ} (task : Task) (known : Known) (told : Told) (n : ℕ) (v : 
   open_in (phases.Protected p) h more lt =
       unsettled _ _ _ (string_waits (λ bytes. nothing_told) p.length (past_protected (rules_of H D task) p.kind) p.at (v.protected.items ++ more) (fewer v.protected.items more p.length p.left h.1 lt))
   open_in (phases.Unprotected p) h more lt = one_wanted (here (phases.Unprotected p)) more lt
-      (unsettled _ _ _ (item_waits (protected_told known.headers.protected_pairs) H D (past_unprotected (rules_of H D task) p.kind v.protected.items known.headers.protected_pairs) p.at v.unprotected.items (waits h.2)))
+      (unsettled _ _ _ (item_waits (unprotected_told known.headers.protected_pairs) H D (past_unprotected (rules_of H D task) p.kind v.protected.items known.headers.protected_pairs) p.at v.unprotected.items (waits h.2)))
   open_in (phases.PayloadHead p) h more lt = one_wanted (here (phases.PayloadHead p)) more lt
       (unsettled _ _ _ (head_waits (headers_told known.headers []) (past_payload_head (rules_of H D task) known.headers known.chosen) p.at v.head.items h.1.0))
   open_in (phases.Payload p) h more lt =
@@ -112,7 +112,7 @@ module _ {H D : ℕ} (task : Task) (known : Known) (told : Told) (n : ℕ) (v : 
   told_in (phases.Protected p) h = told_as _ told _ _
       (string_waits (λ bytes. nothing_told) p.length (past_protected (rules_of H D task) p.kind) p.at (v.protected.items ++ []) (fewer v.protected.items [] p.length p.left h.1 p.some_left)) h.0
   told_in (phases.Unprotected p) h = told_as _ told _ _
-      (item_waits (protected_told known.headers.protected_pairs) H D (past_unprotected (rules_of H D task) p.kind v.protected.items known.headers.protected_pairs) p.at v.unprotected.items (waits h.2)) h.0
+      (item_waits (unprotected_told known.headers.protected_pairs) H D (past_unprotected (rules_of H D task) p.kind v.protected.items known.headers.protected_pairs) p.at v.unprotected.items (waits h.2)) h.0
   told_in (phases.PayloadHead p) h = told_as _ told _ _
       (head_waits (headers_told known.headers []) (past_payload_head (rules_of H D task) known.headers known.chosen) p.at v.head.items h.1.0) h.0
   told_in (phases.Payload p) h = told_as _ told _ _
@@ -154,7 +154,7 @@ module _ {H D : ℕ} (task : Task) (known : Known) (told : Told) (n : ℕ) (v : 
   truncated_in (phases.Protected p) h e = cut_at _ _ _
       (string_waits (λ bytes. nothing_told) p.length (past_protected (rules_of H D task) p.kind) p.at (v.protected.items ++ []) (fewer v.protected.items [] p.length p.left h.1 p.some_left)) (with_none n p.at v.protected.items h.3)
   truncated_in (phases.Unprotected p) h e = cut_at _ _ _
-      (item_waits (protected_told known.headers.protected_pairs) H D (past_unprotected (rules_of H D task) p.kind v.protected.items known.headers.protected_pairs) p.at v.unprotected.items (waits h.2)) h.3
+      (item_waits (unprotected_told known.headers.protected_pairs) H D (past_unprotected (rules_of H D task) p.kind v.protected.items known.headers.protected_pairs) p.at v.unprotected.items (waits h.2)) h.3
   truncated_in (phases.PayloadHead p) h e = cut_at _ _ _
       (head_waits (headers_told known.headers []) (past_payload_head (rules_of H D task) known.headers known.chosen) p.at v.head.items h.1.0) h.1.1
   truncated_in (phases.Payload p) h e = cut_at _ _ _

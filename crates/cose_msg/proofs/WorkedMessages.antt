@@ -4,6 +4,7 @@ use Prim.Native.String.{String}
 use Rattle.std.specs.Str.{is_utf8, chars}
 use Rattle.cose_head.specs.Head.{bare_head}
 use Rattle.cose_head.specs.Item.{depth_of}
+use Rattle.cose_head.specs.Open.{open_in}
 use Rattle.cose_head.specs.Reading.{read, head}
 use Rattle.cose_head.specs.Placed.{look, children_of, items_from, head_of_item}
 use Rattle.cose_map.specs.Bucket.{bucket_of}
@@ -43,7 +44,7 @@ Gives f rows = map (λ row. f row.0) rows ≡ map (λ row. row.1) rows
 
 -- What all bytes of a message come to.
 unfoldable pub reading : Rules → List ℕ → Reading
-unfolding message with_head with_string with_item bucket_of bucket_table check_pairs pair_faults chosen children_of items_from look head_of_item bare_head read head depth_of is_utf8 chars lib.Utf8.encode
+unfolding message with_head with_string with_item bucket_of bucket_table check_pairs pair_faults chosen children_of items_from look head_of_item bare_head read head open_in depth_of is_utf8 chars lib.Utf8.encode
 reading rules bytes = message rules bytes
 
 -- Nobody verifies signatures, no external data are supplied, and nothing further is understood.

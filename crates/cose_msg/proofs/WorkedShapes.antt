@@ -32,7 +32,7 @@ abbrev known : List ℕ → Told
 known bytes = (reading (comparing 1024 4 (under plain)) bytes).told
 
 abbrev knowing : Option (List Pair) → Option (List Pair) → List ℕ → Told
-knowing protected unprotected payload = record { protected = protected; unprotected = unprotected; payload = payload }
+knowing protected unprotected payload = record { protected = protected; unprotected = unprotected; payload = payload; open_items = 0 }
 
 abbrev hmac_256 : Option (List Pair)
 hmac_256 = Some (algorithm 5 ∷ [])
@@ -56,3 +56,29 @@ what_is_known : (byte : ℕ → ℕ) → Gives known (
     (hex "d18443a10105 a0 426869 5820" ++ any byte 32, knowing hmac_256 (Some []) (hex "6869")) ∷ [])
 unfolding reading
 what_is_known byte = refl
+
+-- What is open of the unprotected bucket is what has begun there and hasn't ended where the bytes end: nothing before the bucket,
+-- nothing once it is whole or refused.
+abbrev open_items : List ℕ → ℕ
+open_items bytes = (known bytes).open_items
+
+what_is_open : Gives open_items (
+    ([], 0) ∷
+    (hex "d18443a101", 0) ∷
+    (hex "d18443a10105", 0) ∷
+    (hex "d18443a10105 a1", 1) ∷
+    (hex "d18443a10105 a10a", 1) ∷
+    (hex "d18443a10105 a10a99", 1) ∷
+    (hex "d18443a10105 a10a81", 2) ∷
+    (hex "d18443a10105 a10a8181", 3) ∷
+    (hex "d18443a10105 a10a818142", 3) ∷
+    (hex "d18443a10105 a10a8181420000", 0) ∷
+    (hex "d18443a10105 a20a8100", 1) ∷
+    (hex "d18443a10105 a10ac1", 2) ∷
+    (hex "d18443a10105 a10a818181", 4) ∷
+    (hex "d18443a10105 a10a81818181", 0) ∷
+    (hex "d18443a10105 a10a81ff", 0) ∷
+    (hex "d18443a10105 a10105", 0) ∷
+    (hex "d18443a10105 a0 42", 0) ∷ [])
+unfolding reading
+what_is_open = refl

@@ -12,16 +12,24 @@ use Rattle.cose_msg.specs.Answer.{Chosen, Headers}
 use Rattle.cose_msg.specs.Reading.{Told, Phase, Next, settled, stop, with_head, with_string, with_item, unless, unless_fault, with_value}
 use Rattle.cose_msg.specs.Rules.{Rules}
 
--- What is known before the protected bucket was found good, behind it, and behind both.
+-- What is known before the protected bucket was found good, in the unprotected bucket where so much of it is open, behind the
+-- protected bucket, and behind both.
 abbrev pub nothing_told : Told
-nothing_told = record { protected = None; unprotected = None; payload = [] }
+nothing_told = record { protected = None; unprotected = None; payload = []; open_items = 0 }
+
+abbrev pub unprotected_told : List Pair → ℕ → Told
+unprotected_told pairs open_items = record { protected = Some pairs; unprotected = None; payload = []; open_items = open_items }
 
 abbrev pub protected_told : List Pair → Told
-protected_told pairs = record { protected = Some pairs; unprotected = None; payload = [] }
+protected_told pairs = unprotected_told pairs 0
 
 abbrev pub headers_told : Headers → List ℕ → Told
-headers_told headers payload =
-    record { protected = Some headers.protected_pairs; unprotected = Some headers.unprotected_pairs; payload = payload }
+headers_told headers payload = record {
+  protected = Some headers.protected_pairs;
+  unprotected = Some headers.unprotected_pairs;
+  payload = payload;
+  open_items = 0;
+}
 
 abbrev pub is_bytes_head : Head → Bool
 is_bytes_head head = head.major == 2
@@ -112,7 +120,7 @@ past_unprotected rules kind protected pairs at content =
 
 abbrev pub unprotected : Rules → Kind → List ℕ → List Pair → Phase
 unprotected rules kind protected pairs =
-    with_item (protected_told pairs) rules.room rules.nesting (past_unprotected rules kind protected pairs)
+    with_item (unprotected_told pairs) rules.room rules.nesting (past_unprotected rules kind protected pairs)
 
 -- The protected bucket: a byte string, and the pairs of its content.
 abbrev pub past_protected : Rules → Kind → Next (List ℕ)

@@ -10,16 +10,19 @@ use Rattle.cose_head.specs.declared.refusal.Refusal.{Refusal}
 use Rattle.cose_head.specs.Head.{bare_head}
 use Rattle.cose_head.specs.Item.{Item}
 use Rattle.cose_head.specs.Measured.{left_of}
+use Rattle.cose_head.specs.Open.{open_in}
 use Rattle.cose_head.specs.Reading.{Outcome, read}
 use Rattle.cose_map.specs.Map.Pairs.{Pair}
 use Rattle.cose_msg.specs.Answer.{Answer, refused}
 
 -- What is known of a message so far: the pairs of each header bucket, once it was found good, and the bytes of the
--- payload as far as they came.
+-- payload as far as they came. Where the bytes end in the unprotected bucket, how many of its arrays, maps and tags are
+-- open there: their head has come, and their end hasn't.
 pub record Told : Type 0 where
   pub protected : Option (List Pair)
   pub unprotected : Option (List Pair)
   pub payload : List ℕ
+  pub open_items : ℕ
 
 -- The answer, whether no further byte can change it, and what is known.
 pub record Reading : Type 0 where
@@ -59,20 +62,25 @@ with_string told n next place bytes =
     if nat_lt (length bytes) n then cut (told bytes) (place + length bytes) else
     next place (take n bytes) (place + n) (drop n bytes)
 
--- An item within a room and a nesting allowance.
+-- How many arrays, maps and tags of an item are open after these bytes of it.
+abbrev pub open_items_after : ℕ → ℕ → List ℕ → ℕ
+open_items_after room nesting bytes = (open_in nesting (left_of bytes room 0)).items
+
+-- An item within a room and a nesting allowance. What is known goes by how much of it is open where the bytes end.
 abbrev pub is_truncated : Reason → Bool
 is_truncated Truncated = true
 is_truncated _ = false
 
-abbrev pub past_item : Told → Next (List ℕ) → ℕ → List ℕ → Outcome Item → Reading
-past_item told next place bytes (Ok found) =
+abbrev pub past_item : (ℕ → Told) → ℕ → Next (List ℕ) → ℕ → List ℕ → Outcome Item → Reading
+past_item told open_items next place bytes (Ok found) =
     next place (take found.1.place bytes) (place + found.1.place) (drop found.1.place bytes)
-past_item told next place bytes (Err refusal) =
-    if is_truncated refusal.reason then cut told (place + length bytes) else
-    stop told refusal.reason (place + refusal.place)
+past_item told open_items next place bytes (Err refusal) =
+    if is_truncated refusal.reason then cut (told open_items) (place + length bytes) else
+    stop (told 0) refusal.reason (place + refusal.place)
 
-unfoldable pub with_item : Told → ℕ → ℕ → Next (List ℕ) → Phase
-with_item told room nesting next place bytes = past_item told next place bytes (read nesting (left_of bytes room 0))
+unfoldable pub with_item : (ℕ → Told) → ℕ → ℕ → Next (List ℕ) → Phase
+with_item told room nesting next place bytes =
+    past_item told (open_items_after room nesting bytes) next place bytes (read nesting (left_of bytes room 0))
 
 -- A test, which needs no byte: a fault, or on.
 abbrev pub unless : Told → Option Refusal → Phase → Phase

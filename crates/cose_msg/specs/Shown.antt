@@ -3,8 +3,6 @@ use Rattle.std.specs.Prelude.{◌≡◌, ℕ, ◌+◌, List, length, Option, Som
 use Rattle.std.specs.Borrow.{Bor}
 use Rattle.cose_head.specs.declared.kind.Kind.{Kind}
 use Rattle.cose_head.specs.declared.kind.Kind.TheVariants as kinds
-use Rattle.cose_head.specs.Measured.{left_of}
-use Rattle.cose_head.specs.Open.{open_in}
 use Rattle.cose_head.specs.Walker.{HasPut}
 use Rattle.cose_map.specs.Bucket.{bucket_of}
 use Rattle.cose_map.specs.declared.key.Key.{Key}
@@ -23,6 +21,7 @@ use Rattle.cose_msg.specs.Phase.{has_signature}
 use Rattle.cose_msg.specs.Phases.{placed_at}
 use Rattle.cose_msg.specs.Reading.{Reading}
 use Rattle.cose_msg.specs.Task.{Task, rules_of}
+use Rattle.cose_msg.specs.Verifier.{opened}
 
 -- What a signature is verified with (RFC 9052 section 4.4): the key, the digest of the structure that was signed, and the signature.
 pub record SignInput : Type 0 where
@@ -31,11 +30,12 @@ pub record SignInput : Type 0 where
   pub signature : List ℕ
 
 -- The pairs of each header bucket, once it was found good; and of a message with a signature, once all its bytes are there, what the
--- signature is verified with.
+-- signature is verified with. How many arrays, maps and tags of the unprotected bucket are open.
 pub record Shown : Type 0 where
   pub protected : Option (List Pair)
   pub unprotected : Option (List Pair)
   pub sign_input : Option SignInput
+  pub open_items : ℕ
 
 -- ---- of a message
 
@@ -68,6 +68,7 @@ shown_in setting reading = record {
   protected = reading.told.protected;
   unprotected = reading.told.unprotected;
   sign_input = sign_input_in setting.aad reading.answer;
+  open_items = reading.told.open_items;
 }
 
 -- ---- of a verifier
@@ -96,7 +97,12 @@ abbrev pub sign_input_of : {H D : ℕ} → Verifier H D → Option SignInput
 sign_input_of v = input_in v.phase (held_input v)
 
 abbrev pub shown_of : {H D : ℕ} → Verifier H D → Shown
-shown_of v = record { protected = protected_of v; unprotected = unprotected_of v; sign_input = sign_input_of v }
+shown_of v = record {
+  protected = protected_of v;
+  unprotected = unprotected_of v;
+  sign_input = sign_input_of v;
+  open_items = opened v;
+}
 
 -- The verifier tells what these bytes of a message tell.
 abbrev pub Tells : {H D : ℕ} → Task → List ℕ → Verifier H D → Type 0
@@ -115,7 +121,3 @@ held v = length v.protected.items + length v.unprotected.items + length v.head.i
 -- The walker of the unprotected bucket was put these bytes, and goes on.
 abbrev pub Walks : {H D : ℕ} → List ℕ → Verifier H D → Type 0
 Walks {H} {D} bytes v = HasPut H bytes v.walker
-
--- How many arrays, maps and tags are open after these bytes of the bucket.
-abbrev pub open_items_after : ℕ → ℕ → List ℕ → ℕ
-open_items_after room nesting bytes = (open_in nesting (left_of bytes room 0)).items

@@ -2,7 +2,7 @@
 use Rattle.std.specs.Prelude.{◌≡◌, ℕ, ◌+◌, ◌≤◌, Bool, true, false, List, [], ◌++◌, length, Option, Some, None, Ok, ⊤, is_none, option_map, map, ◌==◌}
 use Rattle.cose_head.specs.declared.kind.Kind.{Kind}
 use Rattle.cose_head.specs.Head.{IsMore, bare_head}
-use Rattle.cose_head.specs.Walker.{HasPut}
+use Rattle.cose_head.specs.Walker.{HasPut, open_now}
 use Rattle.cose_head.specs.Algorithm.{is_mac_of}
 use Rattle.cose_map.specs.Bucket.{bucket_of}
 use Rattle.cose_map.specs.KeySet.View.{keys}
@@ -23,8 +23,8 @@ use Rattle.cose_msg.specs.Chosen.{chosen_value}
 use Rattle.cose_msg.specs.Front.{first_head, second_head, array_head}
 use Rattle.cose_msg.specs.Hashing.{Hashes, HashesFor, authenticator, result_of}
 use Rattle.cose_msg.specs.Message.{Setting, has_auth_length, message, structure}
-use Rattle.cose_msg.specs.Phases.{nothing_told, protected_told, headers_told, placed_at, protected_head, protected, unprotected, payload_head, payload, auth_head, auth}
-use Rattle.cose_msg.specs.Reading.{Reading, Told, settled}
+use Rattle.cose_msg.specs.Phases.{nothing_told, unprotected_told, headers_told, placed_at, protected_head, protected, unprotected, payload_head, payload, auth_head, auth}
+use Rattle.cose_msg.specs.Reading.{Reading, Told, open_items_after, settled}
 use Rattle.cose_msg.specs.Rules.{Rules}
 use Rattle.cose_msg.specs.Task.{Task, rules_of}
 
@@ -49,10 +49,15 @@ HoldsBucket nesting None place content = place ≡ None
 HoldsBucket nesting (Some pairs) None content = ⊥
 HoldsBucket nesting (Some pairs) (Some place) content = bucket_of nesting (placed_at place.at content) ≡ Ok pairs
 
--- What a verifier was made for, and the buckets that are told.
+-- How many arrays, maps and tags of the unprotected bucket are open.
+abbrev pub opened : {H D : ℕ} → Verifier H D → ℕ
+opened v = open_now v.walker
+
+-- What a verifier was made for, the buckets that are told, and what is open.
 abbrev pub Shows : {H D : ℕ} → Task → Told → Verifier H D → Type 0
 Shows {H} {D} task told v = (task_of v ≡ task)
     × HoldsBucket D told.protected v.protected_at v.protected.items × HoldsBucket D told.unprotected v.unprotected_at v.unprotected.items
+    × (opened v ≡ told.open_items)
 
 -- What is known of a message besides what is told: its headers, the key, and the bytes so far of the payload, and of the tag or
 -- signature. No key is chosen where it is only inspected.
@@ -155,7 +160,7 @@ HoldsIn task known told n v (phases.ProtectedHead p) = (told ≡ nothing_told) �
 HoldsIn {H} task known told n v (phases.Protected p) =
     (told ≡ nothing_told) × (length v.protected.items + p.left ≡ p.length) × (p.length ≤ H) × (n ≡ p.at + length v.protected.items)
 HoldsIn {H} {D} task known told n v (phases.Unprotected p) =
-    (told ≡ protected_told known.headers.protected_pairs)
+    (told ≡ unprotected_told known.headers.protected_pairs (open_items_after H D v.unprotected.items))
     × (bucket_of D (placed_at p.protected_at v.protected.items) ≡ Ok known.headers.protected_pairs)
     × HasPut H v.unprotected.items v.walker × (n ≡ p.at + length v.unprotected.items)
 HoldsIn task known told n v (phases.PayloadHead p) =

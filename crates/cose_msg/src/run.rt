@@ -10,6 +10,7 @@ ghost use Rattle.cose_msg.specs.Message.{Setting, inspecting, message, verdict_o
 ghost use Rattle.cose_msg.specs.Run.{Drive, Run, inspection, stop_in, stops_for_intake, stops_for_sink};
 ghost use Rattle.cose_msg.specs.Shown.{Tells, held};
 ghost use Rattle.cose_msg.specs.Task.{Task, to_inspect, to_verify};
+ghost use Rattle.cose_msg.specs.Verifier.{opened};
 
 use crate::elliptic::EcVerifier;
 use crate::intake::Intake;
@@ -36,6 +37,7 @@ fn take_message<'k, const C: usize, const H: usize, const D: usize, I: Intake, S
     ensures stopped { is_stopped verifier.new ≡ is_err result }
     ensures inspects { is_inspecting verifier.new ≡ is_inspecting verifier.old }
     ensures held { held verifier.new ≤ 2 * H + 512 }
+    ensures opened { opened verifier.new ≤ D }
     ensures once { result ≢ Err Stop.Again }
 
     // It stops only for a failure in this call.
@@ -109,8 +111,9 @@ pub fn verify<
         (result ≡ answer) × (verifier.new ≡ verifier.old) × (intake.new ≡ intake.old) × (sink.new ≡ sink.old) }
     ensures stopped { (result ≡ Err Stop.Again) ↔ (is_stopped verifier.old ≡ true) }
     ensures inspects { is_inspecting verifier.new ≡ false }
-    // What it holds of the message is within a bound, besides the `C` bytes of the call.
+    // What it holds of the message is within a bound, besides the `C` bytes of the call, and so is what is open of it.
     ensures held { held verifier.new ≤ 2 * H + 512 }
+    ensures opened { opened verifier.new ≤ D }
 
     // It stops only for a failure in this call.
     ensures intake_failure { I.has_failed intake.new ≡ (I.has_failed intake.old || stops_for_intake result) }
@@ -161,8 +164,9 @@ pub fn inspect<'k, const C: usize, const H: usize, const D: usize, I: Intake, S:
         (result ≡ answer) × (verifier.new ≡ verifier.old) × (intake.new ≡ intake.old) × (sink.new ≡ sink.old) }
     ensures stopped { (result ≡ Err Stop.Again) ↔ (is_stopped verifier.old ≡ true) }
     ensures inspects { is_inspecting verifier.new ≡ true }
-    // What it holds of the message is within a bound, besides the `C` bytes of the call.
+    // What it holds of the message is within a bound, besides the `C` bytes of the call, and so is what is open of it.
     ensures held { held verifier.new ≤ 2 * H + 512 }
+    ensures opened { opened verifier.new ≤ D }
 
     // It stops only for a failure in this call.
     ensures intake_failure { I.has_failed intake.new ≡ (I.has_failed intake.old || stops_for_intake result) }

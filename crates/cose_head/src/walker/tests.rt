@@ -1,3 +1,5 @@
+ghost use Rattle.std.specs.Prelude.{◌≤◌, length};
+
 use super::*;
 use crate::item::Span;
 use crate::tests::rows::rows;
@@ -17,6 +19,34 @@ fn count_going<const D: usize>(walker: &mut Walker<D>, bytes: &[u8]) -> usize {
 fn walked<const D: usize>(walker: &mut Walker<D>, bytes: &[u8]) -> (usize, Step) {
     let going = count_going(walker, bytes);
     (going, walker.step())
+}
+
+/// Passes what is of an open string, or puts one byte, and says how many were taken.
+fn take_some<const D: usize>(walker: &mut Walker<D>, piece: &[u8]) -> usize
+    ensures { result ≤ length piece.now }
+{
+    let used = walker.pass(piece);
+    if used > 0 {
+        return used;
+    }
+    match piece.first() {
+        Some(byte) => {
+            let _step = walker.put(*byte);
+            1
+        }
+        None => 0,
+    }
+}
+
+/// A new walker takes the bytes, its strings in pieces: its last answer.
+fn passed<const D: usize>(walker: &mut Walker<D>, bytes: &[u8]) -> Step {
+    let mut rest = bytes;
+    for _byte in bytes {
+        let used = take_some(walker, rest);
+        let (_taken, after) = rest.split_at(used);
+        rest = after;
+    }
+    walker.step()
 }
 
 /// What a walker says of bytes of which reading gives this.
@@ -45,6 +75,53 @@ fn answers_as_reading(rt: HostRuntime) {
         };
         assert_eq!(rt; after, going, "{bytes:?} in {room}");
         assert_eq!(rt; step, step_of(answer), "{bytes:?} in {room}");
+    }
+}
+
+#[test]
+fn passes_strings_as_reading(rt: HostRuntime) {
+    for (bytes, room, depth, _going, answer) in rows() {
+        let mut leaf: Walker<0> = Walker::new(room);
+        let mut parent: Walker<1> = Walker::new(room);
+        let mut nested: Walker<2> = Walker::new(room);
+        let step = match depth {
+            0 => passed(&mut leaf, bytes),
+            1 => passed(&mut parent, bytes),
+            _ => passed(&mut nested, bytes),
+        };
+        assert_eq!(rt; step, step_of(answer), "{bytes:?} in {room}");
+    }
+}
+
+/// After these bytes were put, how many of a piece are taken, what then is the answer, and how many bytes are wanted and items open.
+#[test]
+fn passes_bytes_of_the_open_string(rt: HostRuntime) {
+    let past_room = Step::Fault(Refusal {
+        reason: Reason::PastRoom,
+        place: 4,
+    });
+    let table: [(&[u8], usize, &[u8], usize, Step, usize, usize); 9] = [
+        // Nothing is open, or a head alone.
+        (b"", 5, b"\x01\x02", 0, Step::Going, 1, 0),
+        (b"\x81", 5, b"\x01\x02", 0, Step::Going, 1, 1),
+        (b"\x58", 5, b"\x01\x02", 0, Step::Going, 1, 0),
+        // No bytes, some, all of the string, and bytes behind it.
+        (b"\x43", 5, b"", 0, Step::Going, 3, 0),
+        (b"\x43", 5, b"\x01\x02", 2, Step::Going, 1, 0),
+        (b"\x43\x01", 5, b"\x02\x03", 2, Step::Done, 0, 0),
+        (b"\x82\x62", 5, b"ab\x00", 2, Step::Going, 1, 1),
+        // The room ends with the string, and a child is still wanted.
+        (b"\x82\x62", 4, b"ab\x00", 2, past_room, 0, 0),
+        // It is whole already.
+        (b"\x00", 5, b"\x01", 0, Step::Done, 0, 0),
+    ];
+    for (put, room, piece, used, step, want, open_items) in table {
+        let mut walker: Walker<1> = Walker::new(room);
+        let _going = count_going(&mut walker, put);
+        assert_eq!(rt; walker.pass(piece), used, "{piece:?} after {put:?}");
+        assert_eq!(rt; walker.step(), step, "{piece:?} after {put:?}");
+        assert_eq!(rt; walker.want(), want, "{piece:?} after {put:?}");
+        assert_eq!(rt; walker.open_items(), open_items, "{piece:?} after {put:?}");
     }
 }
 

@@ -38,7 +38,7 @@ impl<'k, const H: usize, const D: usize> Verifier<'k, H, D> {
     ghost use Rattle.cose_msg.specs.Run.{SaysCount, inspection};
     ghost use Rattle.cose_msg.specs.Shown.{held, shown_in, shown_of, sign_input_of};
     ghost use Rattle.cose_msg.specs.Task.{Task, to_inspect, to_verify};
-    ghost use Rattle.cose_msg.specs.Verifier.{Counts, StandsFor};
+    ghost use Rattle.cose_msg.specs.Verifier.{Counts, StandsFor, opened};
 
     /// The verdict, once it is known.
     fn verdict(&self) -> Option<Verdict>
@@ -119,6 +119,7 @@ impl<'k, const H: usize, const D: usize> Verifier<'k, H, D> {
             → shown_of self.now ≡ shown_in task.setting (reading []) }
         // It holds no more than its stores do, the half of a head, and the hash.
         ensures held { held self.now ≤ 2 * H + 512 }
+        ensures opened { opened self.now ≤ D }
         // A payload doesn't settle it either: a tag or signature follows.
         ensures open_payload { (task : Task) (B : List ℕ) (n : ℕ) (reading : List ℕ → Reading) (more : List ℕ) → StandsFor task B n self.now reading
             → in_payload self.now.phase ≡ true → length more ≤ want_of self.now.phase → (reading more).settled ≡ false }
@@ -126,6 +127,7 @@ impl<'k, const H: usize, const D: usize> Verifier<'k, H, D> {
         // What these say of the item that is being read and of the stores is all that the proof rests on.
         let _wanted = self.walker.want();
         let _held = self.held();
+        let _opened = self.open_items();
     }
 
     /// How many bytes to ask for next: at most so many, no more than are to come for certain, and none once the message is
@@ -170,6 +172,7 @@ impl<'k, const H: usize, const D: usize> Verifier<'k, H, D> {
         ensures taken { self.new.taken ≡ self.old.taken }
         ensures shown { shown_of self.new ≡ shown_of self.old }
         ensures held { held self.new ≡ held self.old }
+        ensures opened { opened self.new ≡ opened self.old }
         ensures inspects { is_inspecting self.new ≡ is_inspecting self.old }
     {
         self.stopped = true;
@@ -184,6 +187,7 @@ impl<'k, const H: usize, const D: usize> Verifier<'k, H, D> {
         ensures inspects { is_inspecting self.new ≡ is_inspecting self.old }
         ensures shown { sign_input_of self.old ≡ None → shown_of self.new ≡ shown_of self.old }
         ensures held { held self.new ≡ held self.old }
+        ensures opened { opened self.new ≡ opened self.old }
     {
         let refusal = Refusal {
             reason: Reason::Truncated,
@@ -234,6 +238,7 @@ impl<'k, const H: usize, const D: usize> Verifier<'k, H, D> {
         ensures inspects { is_inspecting self.new ≡ is_inspecting self.old }
         ensures shown { shown_of self.new ≡ shown_of self.old }
         ensures held { held self.new ≡ held self.old }
+        ensures opened { opened self.new ≡ opened self.old }
         ensures answer { (setting : Setting) (B : List ℕ) (reading : List ℕ → Reading) → StandsFor (to_verify setting) B self.old.taken self.old reading
             → then_verified setting.aad (E.decides ec.now) (reading []).answer ≡ decided result }
         ensures counted { (setting : Setting) (B : List ℕ) (reading : List ℕ → Reading) → StandsFor (to_verify setting) B self.old.taken self.old reading
@@ -271,6 +276,7 @@ impl<'k, const H: usize, const D: usize> Verifier<'k, H, D> {
         ensures shown { (setting : Setting) (B : List ℕ) (reading : List ℕ → Reading) → StandsFor (to_inspect setting) B self.old.taken self.old reading
             → shown_of self.new ≡ shown_of self.old }
         ensures held { held self.new ≡ held self.old }
+        ensures opened { opened self.new ≡ opened self.old }
         ensures answer { (setting : Setting) (B : List ℕ) (reading : List ℕ → Reading) → StandsFor (to_inspect setting) B self.old.taken self.old reading
             → (reading []).answer ≡ inspection result }
         ensures counted { (setting : Setting) (B : List ℕ) (reading : List ℕ → Reading) → StandsFor (to_inspect setting) B self.old.taken self.old reading

@@ -8,7 +8,7 @@ use crate::bare_head::take_head_byte;
 use crate::phase::{Phase, Protected, ProtectedHead, Unprotected};
 use crate::store_bytes::{append, append_byte};
 use crate::verifier::{Place, Verifier};
-use cose_head::laws::read_stays;
+use cose_head::laws::{read_stays, walker_is_reading};
 use cose_head::{Head, HeadStep, Kind, Reason, Refusal, Step, Walker};
 use cose_map::Bucket;
 
@@ -133,6 +133,8 @@ impl<'k, const H: usize, const D: usize> Verifier<'k, H, D> {
             → bucket_of D (placed_at protected_at self.old.protected.items) ≡ Ok pairs
             → StandsFor task [] at self.new (λ z. unprotected (rules_of H D task) kind self.old.protected.items pairs at z) }
     {
+        // What this says of walkers is all that the proof rests on.
+        walker_is_reading();
         self.protected_at = Some(Place { at: protected_at });
         self.unprotected.clear();
         self.walker = Walker::new(H);
@@ -167,8 +169,9 @@ impl<'k, const H: usize, const D: usize> Verifier<'k, H, D> {
         ensures stands { (task : Task) (B : List ℕ) (n : ℕ) (reading : List ℕ → Reading) → StandsFor task B n self.old reading
             → StandsFor task B (n + 1) self.new (λ z. reading (byte ∷ z)) }
     {
-        // What this says of reading is all that the proof rests on.
+        // What these say of reading and of walkers is all that the proof rests on.
         read_stays();
+        walker_is_reading();
         let at = unprotected.at;
         append_byte(&mut self.unprotected, byte);
         match self.walker.put(byte) {

@@ -88,3 +88,38 @@ fn stops_where_the_sink_fails(rt: HostRuntime) -> Result<(), Fail> {
     assert_eq!(rt; (verdict, sink.puts()), (Ok(AUTHENTIC), 2));
     Ok(())
 }
+
+/// How many items are open where the intake fails at the call of this number, a byte having come at each call before.
+#[test]
+fn tells_what_is_open_where_the_intake_fails(rt: HostRuntime) -> Result<(), Fail> {
+    let keys = key_set().ok_or("no keys")?;
+    let bytes = b"\xd1\x84\x43\xa1\x01\x05\xa2\x0a\x81\x81\x42hi\x0b\xc1\x00\x42";
+    let rows: [(usize, usize); 12] = [
+        // Before the unprotected bucket.
+        (1, 0),
+        (7, 0),
+        // The map, the arrays in it, and a string in these.
+        (8, 1),
+        (9, 1),
+        (10, 2),
+        (11, 3),
+        (12, 3),
+        // The arrays have ended with the string; then a tag.
+        (14, 1),
+        (15, 1),
+        (16, 2),
+        // The bucket has ended; then the payload's head.
+        (17, 0),
+        (18, 0),
+    ];
+    for (fails_at, open_items) in rows {
+        let mut verifier = verifier(keys, Wanted::Tagged);
+        let mut intake = FailingIntake::new(bytes, fails_at);
+        let stop = answer(&mut verifier, &mut intake, &mut Store::<16>::new());
+        assert_eq!(rt; stop, Err(Stop::Intake), "at call {fails_at}");
+        assert_eq!(rt; verifier.open_items(), open_items, "at call {fails_at}");
+        verifier.reset();
+        assert_eq!(rt; verifier.open_items(), 0);
+    }
+    Ok(())
+}

@@ -1,4 +1,4 @@
-use Rattle.std.proofs.Common.{◌≡◌, ◌∷◌, ◌++◌, [], List, ℕ, ap, ◌∙◌, arith}
+use Rattle.std.proofs.Common.{◌≡◌, ◌∷◌, ◌++◌, [], List, ℕ, refl, ap, ◌∙◌, arith}
 use Rattle.cose_head.specs.Walking.{Walk}
 use Rattle.cose_head.specs.Walker.{left_at, go_on, resume}
 use Rattle.std.proofs.lemmas.Result.{err_from_is_err_and}
@@ -43,3 +43,6 @@ returns-in-None-clause-leads g c =
       λ bytes. go_on-half g.row.D now.counts.items now.half.items now.string c.args.byte now.room now.place bytes none,
       (waits-half g.row.D now.counts.items (now.half.items ++ c.args.byte ∷ []) now.string now.room now.place none waits.2, waits.1),
     )
+
+pub returns-then-self-gt0-clause-leads : goal.returns-then-self-gt0-clause-leads
+returns-then-self-gt0-clause-leads g c = c.advance_content.ensures.leads (c.args.byte ∷ []) refl

@@ -1,5 +1,6 @@
-use Rattle.std.proofs.Common.{refl, sym, add-zero}
-use Rattle.cose_msg.specs.Phases.{protected_told}
+use Rattle.std.proofs.Common.{[], refl, sym, add-zero}
+use Rattle.cose_msg.specs.Phases.{unprotected_told}
+use Rattle.cose_msg.specs.Reading.{open_items_after}
 use Rattle.cose_msg.proofs.Standing.{under_pairs}
 use Rattle.cose_msg.proofs.verifier.Verifier.begin_unprotected.Goals as goal
 
@@ -7,11 +8,11 @@ pub returns : goal.returns
 returns g c = record {
   stands = λ task pairs e good. record {
     known = under_pairs pairs;
-    told = protected_told pairs;
-    shows = (e.0, good, e.2);
+    told = unprotected_told pairs (open_items_after g.row.H g.row.D []);
+    shows = (e.0, good, e.2, c.walker_is_reading.ensures.open g.row.D g.row.H [] c.new-self.result c.new-self.ensures.put);
     payload_known = refl;
     payload_told = refl;
-    holds = (refl, good, rw c.clear.ensures c.new-self.ensures.put, rw c.clear.ensures (sym (add-zero c.args.at)));
+    holds = (rw c.clear.ensures refl, good, rw c.clear.ensures c.new-self.ensures.put, rw c.clear.ensures (sym (add-zero c.args.at)));
     left = λ z. rw c.clear.ensures refl;
   };
 }

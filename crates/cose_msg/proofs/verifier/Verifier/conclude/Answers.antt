@@ -44,6 +44,7 @@ returns-in-FirstHead g c =
       inspects = same.inspects;
       shown = same.shown no_input;
       held = same.held;
+      opened = same.opened;
       answer = λ setting B reading h. rw (c.waits.ensures.truncated (to_verify setting) B _ reading h (stands_without_verdict h none undecided), same.same) refl;
       counted = λ setting B reading h. tt;
     }

@@ -14,6 +14,7 @@ returns-in-Some g c =
       inspects = refl;
       shown = λ setting B reading h. refl;
       held = refl;
+      opened = refl;
       answer = λ setting B reading h. (stands_inspected c.in-Some.inspected h is).0;
       counted = λ setting B reading h. (stands_inspected c.in-Some.inspected h is).2;
     }
@@ -28,6 +29,7 @@ returns-in-None g c =
       inspects = same.inspects;
       shown = λ setting B reading h. same.shown (open_shows_no_input c.args.self.now.phase (held_input c.args.self.now) (stands_without_shape h none));
       held = same.held;
+      opened = same.opened;
       answer = λ setting B reading h. rw (c.waits.ensures.truncated (to_inspect setting) B _ reading h (stands_without_shape h none), same.same) refl;
       counted = λ setting B reading h. tt;
     }

@@ -20,5 +20,5 @@ returns-in-None g c = record {
   stands = λ task pairs e good.
       let is = rw c.as_slice.ensures.value at c.in-None.ensures in
       let others = value_there (bucket_of g.row.D (placed_at c.args.at c.args.self.now.unprotected.items)) (sym is) in
-      rw others.1 (c.past_buckets.ensures.stands task pairs others.0 (e.0, e.1, others.1) good others.1);
+      rw others.1 (c.past_buckets.ensures.stands task pairs others.0 (e.0, e.1, others.1, e.3) good others.1);
 }

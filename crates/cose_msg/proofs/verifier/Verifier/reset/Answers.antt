@@ -11,7 +11,7 @@ unfolding message bare_head
 returns-clause-so_far g c = record {
   known = unknown [];
   told = nothing_told;
-  shows = (refl, refl, refl);
+  shows = (refl, refl, refl, c.new-self.ensures.open);
   payload_known = refl;
   payload_told = refl;
   holds = rw c.clear-3.ensures (refl, (tt, refl));
@@ -24,7 +24,7 @@ returns-clause-none_taken g c = record { so_far = returns-clause-so_far g c; cou
 
 pub returns-clause-tells : goal.returns-clause-tells
 unfolding message with_head bare_head
-returns-clause-tells g c = refl
+returns-clause-tells g c = rw c.new-self.ensures.open refl
 
 pub returns-clause-held : goal.returns-clause-held
 returns-clause-held g c = rw (c.clear.ensures, c.clear-2.ensures, c.clear-3.ensures, c.clear-4.ensures) refl

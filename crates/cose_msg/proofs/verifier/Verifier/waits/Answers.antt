@@ -5,7 +5,7 @@ use Rattle.cose_msg.proofs.Waits.{WalkerWaits, stands_open, stands_settled, stan
 use Rattle.cose_msg.proofs.verifier.Verifier.waits.Goals as goal
 
 -- The walker wants a byte at least, so it isn't settled without one.
-walker : (g : Rattle.cose_msg.proofs.verifier.Verifier.waits.Given.Over) (c : goal.After-held-held g) → WalkerWaits c.args.self.now
+walker : (g : Rattle.cose_msg.proofs.verifier.Verifier.waits.Given.Over) (c : goal.After-open_items-opened g) → WalkerWaits c.args.self.now
 walker g c = λ put.
     let some : 0 < c.want-wanted.result = omega (arith, c.want-wanted.ensures.content _ _ put) in
     let room : 0 < g.row.H = omega (arith, c.args.self.now.some_room) in
