@@ -73,13 +73,19 @@ still {H} {D} {task} {s} {B} {v} come contents ended h told shown done =
 
 -- ---- a verdict
 
+-- What is decided last on the bytes so far is the verdict on them.
+pub verdict_so_far : VerifyingGoesLast → (H D : ℕ) (setting : Setting) (decides : Decides) (bytes : List ℕ) (verdict : Verdict) → then_verified setting.aad decides (message (comparing H D setting) (bytes ++ [])).answer ≡ decided verdict →
+    (message (verifying H D setting decides) bytes).answer ≡ decided verdict
+verdict_so_far goes_last H D setting decides bytes verdict is =
+    ap (λ (r : Reading). r.answer) (goes_last H D setting decides bytes) ∙ ap (λ (r : Reading). then_verified setting.aad decides r.answer) (sym (without_more H D (to_verify setting) bytes)) ∙ is
+
 module _ {H D : ℕ} {setting : Setting} {s B : List ℕ} {come come_after contents contents_after : Option (List ℕ)} {ended : Bool} {v : Verifier H D} where
   pub verdict_run : VerifyingGoesLast → MessageStandsInside → AllAreFair → (decides : Decides) (verdict : Verdict) (d : Drive (to_verify setting) s B come come_after ended contents contents_after None v) →
       then_verified setting.aad decides (message (comparing H D setting) ((s ++ d.taken) ++ [])).answer ≡ decided verdict → Counts verdict v.taken →
       Run (verifying H D setting decides) decided s B come come_after ended contents contents_after (Ok verdict) d.taken
   verdict_run goes_last inside fair decides verdict d is count =
       let bytes : List ℕ = s ++ d.taken in
-      let answer : (message (verifying H D setting decides) bytes).answer ≡ decided verdict = ap (λ (r : Reading). r.answer) (goes_last H D setting decides bytes) ∙ ap (λ (r : Reading). then_verified setting.aad decides r.answer) (sym (without_more H D (to_verify setting) bytes)) ∙ is in
+      let answer : (message (verifying H D setting decides) bytes).answer ≡ decided verdict = verdict_so_far goes_last H D setting decides bytes verdict is in
       answered decided (verifying H D setting decides) (verifying_alike goes_last H D setting decides) (inside (verifying H D setting decides) (fair.verifying H D setting decides)) d verdict answer count
 
   pub kept_verdict_run : VerifyingGoesLast → MessageStandsInside → AllAreFair → (decides : Decides) (d : Drive (to_verify setting) s B come come_after ended contents contents_after None v) (result : Result Verdict Stop) → answer_kept v.stopped (verdict_in v.phase) ≡ Some result →

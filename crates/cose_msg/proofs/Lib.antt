@@ -31,7 +31,12 @@ mod Waits
 mod Decisions
 mod Runs
 mod Answered
+mod ToldForms
 mod PayloadLimit
+mod PayloadsKnown
+mod Statuses
+mod Feeds
+mod Cuts
 mod Making
 mod Makes
 mod Puts

@@ -26,55 +26,7 @@ use Rattle.cose_msg.specs.Message.{message}
 use Rattle.cose_msg.specs.Phases.{nothing_told, protected_told, unprotected_told, headers_told, finish, auth, auth_head_fault, past_auth_head, auth_head, past_payload, payload, payload_head_fault, payload_fault_within, is_bytes_head, is_nil, past_payload_head, payload_head, past_choice, key_choice, both_buckets, placed_at, headers_of, past_unprotected, unprotected, past_protected, protected, protected_head_fault, past_protected_head, protected_head}
 use Rattle.cose_msg.specs.Reading.{Told, Reading, Phase, Next, stop, cut, is_truncated, past_head, with_head, with_string, past_item, with_item, unless, unless_fault, with_value, open_items_after}
 use Rattle.cose_msg.specs.Rules.{Rules}
-
-module _ (limit : ℕ) where
-  abbrev Small : Told → Type 0
-  Small told = length told.payload ≤ limit
-
-  abbrev Within : Phase → Type 0
-  Within phase = (place : ℕ) (bytes : List ℕ) → Small (phase place bytes).told
-
-  past_head-within : (told : Told) (next : Next Head) → Small told → ((at : ℕ) (head : Head) → Within (next at head)) → (place : ℕ) (bytes : List ℕ) (step : HeadStep) → Small (past_head told next place bytes step).told
-  past_head-within told next small h place bytes (Got head used) = h place head (place + used) (drop used bytes)
-  past_head-within told next small h place bytes (More wanted) = small
-  past_head-within told next small h place bytes (Fault reason) = small
-
-  with_head-within : (told : Told) (next : Next Head) → Small told → ((at : ℕ) (head : Head) → Within (next at head)) → Within (with_head told next)
-  unfolding with_head
-  with_head-within told next small h place bytes = past_head-within told next small h place bytes (bare_head bytes)
-
-  string_cases : (told : List ℕ → Told) (n : ℕ) (next : Next (List ℕ)) (place : ℕ) (bytes : List ℕ) (short : Bool) → nat_lt (length bytes) n ≡ short → (length bytes < n → Small (told bytes)) → ((at : ℕ) (string : List ℕ) → length string ≤ n → Within (next at string)) →
-      Small (cond short (cut (told bytes) (place + length bytes)) (next place (take n bytes) (place + n) (drop n bytes))).told
-  string_cases told n next place bytes true e small h = small (ltb-true _ _ e)
-  string_cases told n next place bytes false e small h = h place (take n bytes) (omega (arith, length-take n bytes)) (place + n) (drop n bytes)
-
-  with_string-within : (told : List ℕ → Told) (n : ℕ) (next : Next (List ℕ)) → ((bytes : List ℕ) → length bytes < n → Small (told bytes)) → ((at : ℕ) (string : List ℕ) → length string ≤ n → Within (next at string)) → Within (with_string told n next)
-  unfolding with_string
-  with_string-within told n next small h place bytes = string_cases told n next place bytes (nat_lt (length bytes) n) refl (small bytes) h
-
-  choose-within : (b : Bool) (x y : Reading) → Small x.told → Small y.told → Small (cond b x y).told
-  choose-within true x y p q = p
-  choose-within false x y p q = q
-
-  past_item-within : (told : ℕ → Told) (open_items : ℕ) (next : Next (List ℕ)) → ((n : ℕ) → Small (told n)) → ((at : ℕ) (content : List ℕ) → Within (next at content)) → (place : ℕ) (bytes : List ℕ) (outcome : Outcome Item) → Small (past_item told open_items next place bytes outcome).told
-  past_item-within told open_items next small h place bytes (Ok found) = h place (take found.1.place bytes) (place + found.1.place) (drop found.1.place bytes)
-  past_item-within told open_items next small h place bytes (Err refusal) = choose-within (is_truncated refusal.reason) (cut (told open_items) (place + length bytes)) (stop (told 0) refusal.reason (place + refusal.place)) (small open_items) (small 0)
-
-  with_item-within : (told : ℕ → Told) (room nesting : ℕ) (next : Next (List ℕ)) → ((n : ℕ) → Small (told n)) → ((at : ℕ) (content : List ℕ) → Within (next at content)) → Within (with_item told room nesting next)
-  unfolding with_item
-  with_item-within told room nesting next small h place bytes = past_item-within told (open_items_after room nesting bytes) next small h place bytes (read nesting (left_of bytes room 0))
-
-  unless_fault-within : (told : Told) (at : ℕ) (fault : Option Reason) (phase : Phase) → Small told → (fault ≡ None → Within phase) → Within (unless_fault told at fault phase)
-  unless_fault-within told at (Some reason) phase small h place bytes = small
-  unless_fault-within told at None phase small h place bytes = h refl place bytes
-
-  unless-within : (told : Told) (fault : Option Refusal) (phase : Phase) → Small told → Within phase → Within (unless told fault phase)
-  unless-within told (Some refusal) phase small h place bytes = small
-  unless-within told None phase small h place bytes = h place bytes
-
-  with_value-within : {A : Type 0} (told : Told) (value : Result A Refusal) (next : A → Phase) → Small told → ((x : A) → Within (next x)) → Within (with_value told value next)
-  with_value-within told (Err refusal) next small h place bytes = small
-  with_value-within told (Ok x) next small h place bytes = h x place bytes
+use Rattle.cose_msg.proofs.ToldForms.{Tells, choose-tells, unless-tells, unless_fault-tells, with_head-tells, with_item-tells, with_string-tells, with_value-tells}
 
 fault_cases : (bytes large over : Bool) (a : Reason) (b : Option Reason) (nil : Bool) (c : Reason) (n limit : ℕ) → (over ≡ false → n ≤ limit) → cond bytes (cond (large || over) (Some a) None) (cond nil b (Some c)) ≡ None → (b ≡ None → ⊥) → n ≤ limit
 fault_cases false large over a b true c n limit h e none = absurd (none e)
@@ -87,24 +39,27 @@ payload_is_within : (limit : ℕ) (head : Head) → payload_fault_within limit h
 payload_is_within limit head e = fault_cases (is_bytes_head head) (nat_le (2 ^ 56) head.arg) (nat_lt limit head.arg) _ _ (is_nil head) _ head.arg limit (λ short. ltb-false limit head.arg short) e (λ none. absurd cc)
 
 module _ (rules : Rules) where
-  none_small : Small rules.payload_limit nothing_told
+  abbrev Small : Told → Type 0
+  Small told = length told.payload ≤ rules.payload_limit
+
+  none_small : Small nothing_told
   none_small = omega arith
 
   abbrev Fits : Phase → Type 0
-  Fits phase = Within rules.payload_limit phase
+  Fits phase = Tells Small phase
 
   auth_head-fits : (headers : Headers) (chosen : Option Chosen) (B : List ℕ) → length B ≤ rules.payload_limit → Fits (auth_head rules headers chosen B)
-  auth_head-fits headers chosen B le = with_head-within rules.payload_limit (headers_told headers B) (past_auth_head rules headers chosen B) le
-      (λ at head. unless_fault-within rules.payload_limit (headers_told headers B) at (auth_head_fault rules chosen head) (auth rules headers chosen B at head.arg) le
-      (λ e. with_string-within rules.payload_limit (λ bytes. headers_told headers B) head.arg (finish rules headers chosen B at) (λ bytes lt. le) (λ from string short place bytes. le)))
+  auth_head-fits headers chosen B le = with_head-tells Small (headers_told headers B) (past_auth_head rules headers chosen B) le
+      (λ at head. unless_fault-tells Small (headers_told headers B) at (auth_head_fault rules chosen head) (auth rules headers chosen B at head.arg) le
+      (λ e. with_string-tells Small (λ bytes. headers_told headers B) head.arg (finish rules headers chosen B at) (λ bytes lt. le) (λ from string short place bytes. le)))
 
   payload-fits : (headers : Headers) (chosen : Option Chosen) (n : ℕ) → n ≤ rules.payload_limit → Fits (payload rules headers chosen n)
-  payload-fits headers chosen n le = with_string-within rules.payload_limit (headers_told headers) n (past_payload rules headers chosen) (λ bytes lt. omega (arith, lt, le))
+  payload-fits headers chosen n le = with_string-tells Small (headers_told headers) n (past_payload rules headers chosen) (λ bytes lt. omega (arith, lt, le))
       (λ at B short. auth_head-fits headers chosen B (omega (arith, short, le)))
 
   payload_head-fits : (headers : Headers) (chosen : Option Chosen) → Fits (payload_head rules headers chosen)
-  payload_head-fits headers chosen = with_head-within rules.payload_limit (headers_told headers []) (past_payload_head rules headers chosen) (omega arith)
-      (λ at head. unless_fault-within rules.payload_limit (headers_told headers []) at (payload_head_fault rules head) (payload rules headers chosen head.arg) (omega arith)
+  payload_head-fits headers chosen = with_head-tells Small (headers_told headers []) (past_payload_head rules headers chosen) (omega arith)
+      (λ at head. unless_fault-tells Small (headers_told headers []) at (payload_head_fault rules head) (payload rules headers chosen head.arg) (omega arith)
       (λ e. payload-fits headers chosen head.arg (payload_is_within rules.payload_limit head e)))
 
   past_choice-fits : (headers : Headers) (found : Result (Option Chosen) Reason) → Fits (past_choice rules headers found)
@@ -112,30 +67,30 @@ module _ (rules : Rules) where
   past_choice-fits headers (Err reason) = λ place bytes. omega arith
 
   both_buckets-fits : (headers : Headers) → Fits (both_buckets rules headers)
-  both_buckets-fits headers place bytes = unless-within rules.payload_limit (headers_told headers []) (pair_fault headers.protected_pairs headers.unprotected_pairs rules.understood place) (key_choice rules headers) (omega arith) (past_choice-fits headers (rules.choice headers)) place bytes
+  both_buckets-fits headers place bytes = unless-tells Small (headers_told headers []) (pair_fault headers.protected_pairs headers.unprotected_pairs rules.understood place) (key_choice rules headers) (omega arith) (past_choice-fits headers (rules.choice headers)) place bytes
 
   unprotected-fits : (kind : Kind) (P : List ℕ) (pairs : List Pair) → Fits (unprotected rules kind P pairs)
-  unprotected-fits kind P pairs = with_item-within rules.payload_limit (unprotected_told pairs) rules.room rules.nesting (past_unprotected rules kind P pairs) (λ n. omega arith)
-      (λ at content. with_value-within rules.payload_limit (protected_told pairs) (bucket_of rules.nesting (placed_at at content)) (λ others. both_buckets rules (headers_of kind P pairs others)) (omega arith) (λ others. both_buckets-fits (headers_of kind P pairs others)))
+  unprotected-fits kind P pairs = with_item-tells Small (unprotected_told pairs) rules.room rules.nesting (past_unprotected rules kind P pairs) (λ n. omega arith)
+      (λ at content. with_value-tells Small (protected_told pairs) (bucket_of rules.nesting (placed_at at content)) (λ others. both_buckets rules (headers_of kind P pairs others)) (omega arith) (λ others. both_buckets-fits (headers_of kind P pairs others)))
 
   protected_head-fits : (kind : Kind) → Fits (protected_head rules kind)
-  protected_head-fits kind = with_head-within rules.payload_limit nothing_told (past_protected_head rules kind) none_small
-      (λ at head. unless_fault-within rules.payload_limit nothing_told at (protected_head_fault rules head) (protected rules kind head.arg) none_small
-      (λ e. with_string-within rules.payload_limit (λ bytes. nothing_told) head.arg (past_protected rules kind) (λ bytes lt. none_small)
-      (λ from P short. with_value-within rules.payload_limit nothing_told (bucket_of rules.nesting (placed_at from P)) (unprotected rules kind P) none_small (unprotected-fits kind P))))
+  protected_head-fits kind = with_head-tells Small nothing_told (past_protected_head rules kind) none_small
+      (λ at head. unless_fault-tells Small nothing_told at (protected_head_fault rules head) (protected rules kind head.arg) none_small
+      (λ e. with_string-tells Small (λ bytes. nothing_told) head.arg (past_protected rules kind) (λ bytes lt. none_small)
+      (λ from P short. with_value-tells Small nothing_told (bucket_of rules.nesting (placed_at from P)) (unprotected rules kind P) none_small (unprotected-fits kind P))))
 
   past_array_head-fits : (kind : Kind) (at : ℕ) (head : Head) → Fits (past_array_head rules kind at head)
-  past_array_head-fits kind at head = unless_fault-within rules.payload_limit nothing_told at (array_head_fault head) (protected_head rules kind) none_small (λ e. protected_head-fits kind)
+  past_array_head-fits kind at head = unless_fault-tells Small nothing_told at (array_head_fault head) (protected_head rules kind) none_small (λ e. protected_head-fits kind)
 
   array_head-fits : (kind : Kind) → Fits (array_head rules kind)
-  array_head-fits kind = with_head-within rules.payload_limit nothing_told (past_array_head rules kind) none_small (past_array_head-fits kind)
+  array_head-fits kind = with_head-tells Small nothing_told (past_array_head rules kind) none_small (past_array_head-fits kind)
 
   past_tag-fits : (at : ℕ) (kind : Result Kind Reason) → Fits (past_tag rules at kind)
   past_tag-fits at (Ok kind) = array_head-fits kind
   past_tag-fits at (Err reason) = λ place bytes. none_small
 
   second_head-fits : Fits (second_head rules)
-  second_head-fits = with_head-within rules.payload_limit nothing_told (past_second_head rules) none_small (λ at head. past_tag-fits at (tag_behind_cwt rules.wanted head))
+  second_head-fits = with_head-tells Small nothing_told (past_second_head rules) none_small (λ at head. past_tag-fits at (tag_behind_cwt rules.wanted head))
 
   past_untagged-fits : (wanted : Wanted) (at : ℕ) (head : Head) → Fits (past_untagged rules wanted at head)
   past_untagged-fits wants.Mac0 at head = past_array_head-fits kinds.Mac0 at head
@@ -144,10 +99,10 @@ module _ (rules : Rules) where
 
   past_first_head-fits : (at : ℕ) (head : Head) → Fits (past_first_head rules at head)
   past_first_head-fits at head place bytes =
-      choose-within rules.payload_limit (is_cwt_tag rules.cwt head) (second_head rules place bytes) _ (second_head-fits place bytes)
-      (choose-within rules.payload_limit (is_tag head) (past_tag rules at (kind_of_tag rules.wanted head.arg) place bytes) _ (past_tag-fits at (kind_of_tag rules.wanted head.arg) place bytes)
-      (choose-within rules.payload_limit (is_array head) (past_untagged rules rules.wanted at head place bytes) (stop nothing_told WrongType at) (past_untagged-fits rules.wanted at head place bytes) none_small))
+      choose-tells Small (is_cwt_tag rules.cwt head) (second_head rules place bytes) _ (second_head-fits place bytes)
+      (choose-tells Small (is_tag head) (past_tag rules at (kind_of_tag rules.wanted head.arg) place bytes) _ (past_tag-fits at (kind_of_tag rules.wanted head.arg) place bytes)
+      (choose-tells Small (is_array head) (past_untagged rules rules.wanted at head place bytes) (stop nothing_told WrongType at) (past_untagged-fits rules.wanted at head place bytes) none_small))
 
 pub payload_within : (rules : Rules) (bytes : List ℕ) → length (message rules bytes).told.payload ≤ rules.payload_limit
 unfolding message
-payload_within rules bytes = with_head-within rules.payload_limit nothing_told (past_first_head rules) (none_small rules) (past_first_head-fits rules) 0 bytes
+payload_within rules bytes = with_head-tells (Small rules) nothing_told (past_first_head rules) (none_small rules) (past_first_head-fits rules) 0 bytes

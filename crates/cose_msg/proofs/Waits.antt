@@ -65,7 +65,7 @@ cut_at reading told place e same = ap (λ (r : Reading). r.answer) e ∙ ap (ref
 with_none : (n at : ℕ) (held : List ℕ) → n ≡ at + length held → n ≡ at + length (held ++ [])
 with_none n at held e = rw append-nil e
 
-fewer : (held more : List ℕ) (n left : ℕ) → length held + left ≡ n → length more < left → length (held ++ more) < n
+pub fewer : (held more : List ℕ) (n left : ℕ) → length held + left ≡ n → length more < left → length (held ++ more) < n
 fewer held more n left count lt = omega (arith, length-append held more)
 
 -- ---- the phases

@@ -22,6 +22,8 @@ pub mod Intake
 pub mod SliceIntake
 pub mod Sink
 pub mod Store
+pub mod Status
+pub mod Feed
 pub mod Kept
 pub mod Shown
 pub mod Run

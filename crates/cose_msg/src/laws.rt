@@ -1,5 +1,6 @@
 //! Laws of the definitions that the contracts cite. A law is a function that does nothing, and whose contract is the law.
 
+ghost use Rattle.cose_msg.specs.Feed.{CutsDontMatter, PiecesJoin};
 ghost use Rattle.cose_msg.specs.GrammarLaws.{AuthenticIsMessage, MessageIsArrayOfFour, MessageIsRead, OneArrayOfFour};
 ghost use Rattle.cose_msg.specs.MakingLaws.{MadeIsAuthentic};
 ghost use Rattle.cose_msg.specs.Laws.{AllAreFair, ComparingGoesLast, FinishGoesLast, MessageEndsTruncated, MessageIsBounded, MessageIsDefinite, MessageIsInspectedWithin, MessageIsVerifiedWithin, MessageStandsInside, MessageStays, OpenEarlier, OpenIsTruncated, VerdictStays, VerifyingGoesLast};
@@ -124,3 +125,10 @@ pub fn signatures_are_of_sign1()
     chosen_key_fits();
     deciding_goes_last();
 }
+
+/// Where pieces of a message are fed one behind the other, the bytes used are those that are used of all pieces joined: so they, and the
+/// status that they come to, are the same however the bytes were cut.
+pub fn cuts_dont_matter()
+    ensures joined { PiecesJoin }
+    ensures same { CutsDontMatter }
+{}

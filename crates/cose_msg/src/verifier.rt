@@ -16,6 +16,7 @@ use cose_map::Key;
 mod auth;
 mod choice;
 mod decide;
+mod feed;
 mod front;
 mod headers;
 mod payload;

@@ -1,6 +1,6 @@
 //! What a verifier counts and keeps: the number of bytes taken, whether it stopped, and the verdict.
 
-ghost use Rattle.std.specs.Prelude.{◌≡◌, ◌<◌, ◌≤◌, ◌+◌, ◌*◌, ◌^◌, ℕ, true, false, List, [], ◌++◌, None, Some, length};
+ghost use Rattle.std.specs.Prelude.{◌≡◌, ◌<◌, ◌≤◌, ◌+◌, ◌*◌, ◌^◌, ℕ, true, false, List, [], ◌++◌, None, Some, length, take};
 ghost use Rattle.cose_msg.specs.Kept.{answer_kept};
 
 use crate::elliptic::EcVerifier;
@@ -33,15 +33,17 @@ impl<'k, const H: usize, const D: usize> Verifier<'k, H, D> {
     ghost use Rattle.cose_msg.specs.Kept.{HasTaken, inspected_in, is_inspecting, kept_answer, kept_inspection, verdict_in};
     ghost use Rattle.cose_msg.specs.Laws.{then_verified};
     ghost use Rattle.cose_msg.specs.Message.{Setting};
-    ghost use Rattle.cose_msg.specs.Phase.{grown, in_payload, is_settled, want_of};
+    ghost use Rattle.cose_msg.specs.Phase.{awaits_decision, grown, in_payload, is_settled, want_of};
     ghost use Rattle.cose_msg.specs.Reading.{Reading};
     ghost use Rattle.cose_msg.specs.Run.{SaysCount, inspection};
     ghost use Rattle.cose_msg.specs.Shown.{held, shown_in, shown_of, sign_input_of};
+    ghost use Rattle.cose_msg.specs.declared.status.Status.{Status};
+    ghost use Rattle.cose_msg.specs.Status.{status_at, status_of};
     ghost use Rattle.cose_msg.specs.Task.{Task, to_inspect, to_verify};
     ghost use Rattle.cose_msg.specs.Verifier.{Counts, StandsFor, opened};
 
     /// The verdict, once it is known.
-    fn verdict(&self) -> Option<Verdict>
+    pub(crate) fn known_verdict(&self) -> Option<Verdict>
         ensures { result ≡ verdict_in self.now.phase }
     {
         match self.phase {
@@ -94,7 +96,7 @@ impl<'k, const H: usize, const D: usize> Verifier<'k, H, D> {
     pub(crate) fn kept_answer(&self) -> Option<Result<Verdict, Stop>>
         ensures { result ≡ kept_answer self.now }
     {
-        kept(self.stopped, self.verdict())
+        kept(self.stopped, self.known_verdict())
     }
 
     /// The same of a verifier that inspects.
@@ -120,6 +122,14 @@ impl<'k, const H: usize, const D: usize> Verifier<'k, H, D> {
         // It holds no more than its stores do, the half of a head, and the hash.
         ensures held { held self.now ≤ 2 * H + 512 }
         ensures opened { opened self.now ≤ D }
+        // So the status goes by what these bytes come to.
+        ensures status { (task : Task) (B : List ℕ) (n : ℕ) (reading : List ℕ → Reading) → StandsFor task B n self.now reading
+            → status_at self.now.phase ≡ status_of (reading []) }
+        // In the payload further bytes are its own, as many as are left of it; behind it none are.
+        ensures grows { (task : Task) (B : List ℕ) (n : ℕ) (reading : List ℕ → Reading) (more : List ℕ) → StandsFor task B n self.now reading
+            → in_payload self.now.phase ≡ true → (reading more).told.payload ≡ B ++ take (want_of self.now.phase) more }
+        ensures fixed { (task : Task) (B : List ℕ) (n : ℕ) (reading : List ℕ → Reading) (more : List ℕ) → StandsFor task B n self.now reading
+            → in_payload self.now.phase ≡ false → 0 < length B → (reading more).told.payload ≡ B }
         // A payload doesn't settle it either: a tag or signature follows.
         ensures open_payload { (task : Task) (B : List ℕ) (n : ℕ) (reading : List ℕ → Reading) (more : List ℕ) → StandsFor task B n self.now reading
             → in_payload self.now.phase ≡ true → length more ≤ want_of self.now.phase → (reading more).settled ≡ false }
@@ -179,7 +189,7 @@ impl<'k, const H: usize, const D: usize> Verifier<'k, H, D> {
     }
 
     /// The message is Truncated where the intake has ended, and that is kept.
-    fn truncate(&mut self) -> Refusal
+    pub(crate) fn truncate(&mut self) -> Refusal
         ensures same { result ≡ record { reason = Reason.Truncated; place = self.old.taken } }
         ensures phase { self.new.phase ≡ Phase.Settled (Verdict.Refused result) }
         ensures stopped { self.new.stopped ≡ self.old.stopped }
@@ -239,6 +249,7 @@ impl<'k, const H: usize, const D: usize> Verifier<'k, H, D> {
         ensures shown { shown_of self.new ≡ shown_of self.old }
         ensures held { held self.new ≡ held self.old }
         ensures opened { opened self.new ≡ opened self.old }
+        ensures complete { awaits_decision self.old.phase ≡ true → status_at self.new.phase ≡ Status.Complete }
         ensures answer { (setting : Setting) (B : List ℕ) (reading : List ℕ → Reading) → StandsFor (to_verify setting) B self.old.taken self.old reading
             → then_verified setting.aad (E.decides ec.now) (reading []).answer ≡ decided result }
         ensures counted { (setting : Setting) (B : List ℕ) (reading : List ℕ → Reading) → StandsFor (to_verify setting) B self.old.taken self.old reading

@@ -1,4 +1,4 @@
-use Rattle.std.proofs.Common.{rules, ◌≡◌, ℕ, false, None, sym, ap, refl, subst}
+use Rattle.std.proofs.Common.{rules, ◌≡◌, ℕ, true, false, None, sym, ap, refl, subst, ◌∙◌}
 use Rattle.cose_msg.specs.Kept.{verdict_in}
 use Rattle.cose_msg.specs.Laws.{then_verified}
 use Rattle.cose_msg.specs.Phase.{awaits_decision}
@@ -45,6 +45,7 @@ returns-in-FirstHead g c =
       shown = same.shown no_input;
       held = same.held;
       opened = same.opened;
+      complete = λ awaits. let clash : false ≡ true = sym undecided ∙ awaits in absurd cc;
       answer = λ setting B reading h. rw (c.waits.ensures.truncated (to_verify setting) B _ reading h (stands_without_verdict h none undecided), same.same) refl;
       counted = λ setting B reading h. tt;
     }

@@ -1,6 +1,8 @@
 use Rattle.std.proofs.Common.{◌<◌, [], arith}
 use Rattle.std.proofs.lemmas.List.{append-nil}
 use Rattle.cose_msg.proofs.Decisions.{stands_shown}
+use Rattle.cose_msg.proofs.PayloadsKnown.{stands_fixed, stands_grows}
+use Rattle.cose_msg.proofs.Statuses.{stands_status}
 use Rattle.cose_msg.proofs.Waits.{WalkerWaits, stands_open, stands_settled, stands_told, stands_payload, stands_truncated}
 use Rattle.cose_msg.proofs.verifier.Verifier.waits.Goals as goal
 
@@ -28,3 +30,12 @@ returns-clause-truncated g c = λ task B n reading h e. stands_truncated (walker
 
 pub returns-clause-shows : goal.returns-clause-shows
 returns-clause-shows g c = λ task B n reading h. stands_shown (walker g c) h
+
+pub returns-clause-status : goal.returns-clause-status
+returns-clause-status g c = λ task B n reading h. stands_status h (stands_settled (walker g c) h)
+
+pub returns-clause-grows : goal.returns-clause-grows
+returns-clause-grows g c = λ task B n reading more h is. stands_grows more h is
+
+pub returns-clause-fixed : goal.returns-clause-fixed
+returns-clause-fixed g c = λ task B n reading more h is some. stands_fixed more h is some

@@ -1,0 +1,87 @@
+use Rattle.std.specs.Prelude.{◌==◌}
+use Rattle.std.proofs.Common.{◌≡◌, ◌+◌, ◌<◌, ◌≤◌, ℕ, true, false, List, length, refl, sym, ◌∙◌, arith}
+use Rattle.cose_msg.specs.Phase.{in_payload, want_of}
+use Rattle.cose_msg.proofs.Feeds.{at_start, chosen_within, fits_in, goes_on, goes_past, in_order, is_behind, knows_payload, part_extended, stepped, tells_now, uses_all}
+use Rattle.cose_msg.proofs.Statuses.{wants_and_goes_on}
+use Rattle.cose_msg.proofs.verifier.Verifier.feed.Goals.{then-is_in_payload, else-is_in_payload}
+use Rattle.cose_msg.proofs.verifier.Verifier.feed.Goals as goal
+
+pub pieces-init : goal.pieces-init
+pieces-init g c = (
+  λ task s B h. at_start c.args.piece.now h,
+  wants_and_goes_on c.args.self.now.stopped _ _ c.want.ensures.value c.if-want-eq0.false,
+  refl,
+  omega arith,
+  omega arith,
+  omega arith,
+  omega arith,
+  λ e. e,
+)
+
+pub pieces-preserved : goal.pieces-preserved
+pieces-preserved g c =
+    let i = c.pieces.invariant in
+    let used : ℕ = c.pieces.used in
+    let count : ℕ = c.step-count.result in
+    let fits = fits_in c.args.piece.now used count i.4 c.step-count.ensures.rest in
+    let some : 0 < count = omega (arith, c.if-count-eq0.false) in
+    let wanted : 0 < want_of c.pieces.self.phase = omega (arith, some, c.step-count.ensures.wanted) in
+    let within : (more : List ℕ) → length more < count → length more < want_of c.pieces.self.phase = λ more lt. omega (arith, lt, c.step-count.ensures.wanted) in
+    let goes_still = c.take_piece.ensures.marked ∙ i.1 in
+    let inspects = c.take_piece.ensures.inspects ∙ i.2 in
+    elim c.if-is_in_payload.branch [
+      | then-is_in_payload w ↦
+          (let inside : in_payload c.pieces.self.phase ≡ true = sym c.is_in_payload.ensures ∙ w.if-is_in_payload.true in
+          rw (w.payload-is, w.extended-payload.ensures.from, w.extended-payload.ensures.to) (
+            λ task s B h.
+                (let a = i.0 task s B h in
+                let behind = is_behind c.take_piece.new.self count a (λ more. c.waits-in-pieces.ensures.grows task _ _ _ more a.stands.so_far inside) wanted in
+                goes_on c.take_piece.new.self count a _ inside (part_extended c.args.piece.now c.pieces.payload.from c.pieces.payload.to used count i.5 (λ begun. behind begun i.6))
+                (λ more lt. c.waits-in-pieces.ensures.open task _ _ _ more a.stands.so_far (within more lt)) (stepped c.take_piece.new.self count a (c.take_piece.ensures.taken task _ _ a.stands))),
+            goes_still,
+            inspects,
+            omega (arith, c.take_piece.ensures.counted, i.3, fits.1),
+            fits.0,
+            chosen_within _ used c.pieces.payload.from (used + count) (omega arith) (omega (arith, i.5, i.6)),
+            omega arith,
+            λ e. (let before = chosen_within (c.pieces.payload.to == 0) used c.pieces.payload.from used (omega arith) (omega (arith, i.5, i.6)) in absurd (omega (arith, before, e, some))),
+          ))
+      | else-is_in_payload w ↦
+          (let outside : in_payload c.pieces.self.phase ≡ false = sym c.is_in_payload.ensures ∙ w.if-is_in_payload.false in
+          rw w.payload-is (
+            λ task s B h.
+                (let a = i.0 task s B h in
+                goes_past c.take_piece.new.self count a outside (λ more there. c.waits-in-pieces.ensures.fixed task _ _ _ more a.stands.so_far outside there)
+                (λ more lt. c.waits-in-pieces.ensures.open task _ _ _ more a.stands.so_far (within more lt)) (stepped c.take_piece.new.self count a (c.take_piece.ensures.taken task _ _ a.stands))
+                (in_order c.pieces.payload.from c.pieces.payload.to i.5 i.7) i.6 fits.0),
+            goes_still,
+            inspects,
+            omega (arith, c.take_piece.ensures.counted, i.3, fits.1),
+            fits.0,
+            i.5,
+            omega (arith, i.6),
+            i.7,
+          ))
+    ]
+
+pub returns-then-count-eq0-clause-uses : goal.returns-then-count-eq0-clause-uses
+returns-then-count-eq0-clause-uses g c = λ task s B h.
+    let a = c.pieces.invariant.0 task s B h in
+    let limit : g.row.H ≤ 65535 = c.pieces.self.limit in
+    uses_all a (record { compared = c.messages_are_bounded.ensures.verified.1; inspected = c.messages_are_bounded.ensures.inspected }) limit c.step-count.result (c.waits-in-pieces.ensures.settled task _ _ _ a.stands.so_far) c.step-count.ensures.some c.if-count-eq0.true c.pieces.invariant.4
+
+pub returns-then-count-eq0-clause-taken : goal.returns-then-count-eq0-clause-taken
+returns-then-count-eq0-clause-taken g c = λ task s B h. let a = c.pieces.invariant.0 task s B h in a.stands
+
+pub returns-then-count-eq0-clause-status : goal.returns-then-count-eq0-clause-status
+returns-then-count-eq0-clause-status g c = λ task s B h. let a = c.pieces.invariant.0 task s B h in c.status-then-count-eq0.ensures.reads task _ _ a.stands
+
+pub returns-then-count-eq0-clause-payload : goal.returns-then-count-eq0-clause-payload
+returns-then-count-eq0-clause-payload g c = λ task s B h.
+    let a = c.pieces.invariant.0 task s B h in
+    knows_payload a (c.waits-in-pieces.ensures.payload task _ _ _ a.stands.so_far) (c.waits.ensures.payload task B _ _ h.so_far)
+
+pub returns-then-count-eq0-clause-tells : goal.returns-then-count-eq0-clause-tells
+returns-then-count-eq0-clause-tells g c = λ task s B h.
+    let a = c.pieces.invariant.0 task s B h in
+    tells_now task _ c.pieces.self (c.waits-in-pieces.ensures.shows task _ _ _ a.stands.so_far)

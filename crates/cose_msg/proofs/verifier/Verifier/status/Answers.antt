@@ -1,0 +1,29 @@
+use Rattle.std.proofs.Common.{rules, ◌≡◌, refl}
+use Rattle.cose_msg.specs.declared.status.Status.TheVariants.{More, Complete}
+use Rattle.cose_msg.specs.declared.status.Status.TheVariants as statuses
+use Rattle.cose_msg.specs.Status.{status_at}
+use Rattle.cose_msg.proofs.Statuses.{status_reads}
+use Rattle.cose_msg.proofs.verifier.Verifier.status.Goals as goal
+
+pub returns-in-Signed-clause-reads : goal.returns-in-Signed-clause-reads
+returns-in-Signed-clause-reads g c = λ task s B h.
+    let is : status_at c.args.self.now.phase ≡ Complete = search rules in
+    status_reads h (c.waits.ensures.status task B _ _ h.so_far) is
+
+pub returns-in-Settled-Authentic-clause-reads : goal.returns-in-Settled-Authentic-clause-reads
+returns-in-Settled-Authentic-clause-reads g c = λ task s B h.
+    let is : status_at c.args.self.now.phase ≡ Complete = search rules in
+    status_reads h (c.waits.ensures.status task B _ _ h.so_far) is
+
+pub returns-in-Settled-Refused-clause-reads : goal.returns-in-Settled-Refused-clause-reads
+returns-in-Settled-Refused-clause-reads g c = λ task s B h.
+    let is : status_at c.args.self.now.phase ≡ statuses.Refused c.in-Settled-Refused.refusal = search rules in
+    status_reads h (c.waits.ensures.status task B _ _ h.so_far) is
+
+pub returns-in-FirstHead : goal.returns-in-FirstHead
+returns-in-FirstHead g c =
+    let is : status_at c.args.self.now.phase ≡ More = search rules in
+    record {
+      value = rw (c.if-self.false, is) refl;
+      reads = λ task s B h. status_reads h (c.waits.ensures.status task B _ _ h.so_far) is;
+    }

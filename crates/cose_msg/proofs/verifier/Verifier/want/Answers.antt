@@ -1,0 +1,9 @@
+use Rattle.std.proofs.Common.{◌<◌, ◌++◌, length, take, ℕ, ap, ◌∙◌, sym, arith}
+use Rattle.cose_msg.specs.Phase.{want_of}
+use Rattle.cose_msg.proofs.verifier.Verifier.want.Goals as goal
+
+pub returns-clause-early : goal.returns-clause-early
+returns-clause-early g c = λ task s B more h lt. c.waits.ensures.open task B _ _ more h.so_far (let short : length more < want_of c.args.self.now.phase = omega (arith, lt, c.wanted.ensures.value) in short)
+
+pub returns-clause-payload : goal.returns-clause-payload
+returns-clause-payload g c = λ task s B h is more. c.waits.ensures.grows task B _ _ more h.so_far is ∙ ap (λ (n : ℕ). B ++ take n more) (sym c.wanted.ensures.value)

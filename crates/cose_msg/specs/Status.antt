@@ -1,0 +1,54 @@
+-- Where a message stands that is fed to a verifier.
+use Rattle.std.specs.Prelude.{ℕ, Bool, true, false, if◌then◌else◌}
+use Rattle.cose_msg.specs.declared.phase.Phase.{Phase}
+use Rattle.cose_msg.specs.declared.phase.Phase.TheVariants as phases
+use Rattle.cose_msg.specs.declared.status.Status.{Status}
+use Rattle.cose_msg.specs.declared.status.Status.TheVariants.{More, Complete, Stopped}
+use Rattle.cose_msg.specs.declared.status.Status.TheVariants as statuses
+use Rattle.cose_msg.specs.declared.verdict.Verdict.{Verdict}
+use Rattle.cose_msg.specs.declared.verdict.Verdict.TheVariants.{Authentic, Refused}
+use Rattle.cose_msg.specs.declared.verifier.Verifier.{Verifier}
+use Rattle.cose_msg.specs.Answer.{Answer, decided, complete, shaped}
+use Rattle.cose_msg.specs.Phase.{want_of}
+use Rattle.cose_msg.specs.Reading.{Reading}
+
+-- ---- of a message
+
+abbrev pub status_of_verdict : Verdict → Status
+status_of_verdict (Authentic kind alg payload taken) = Complete
+status_of_verdict (Refused refusal) = statuses.Refused refusal
+
+-- What is complete, where tags are compared, is a message with a signature. A shape is that of a whole message.
+abbrev pub status_of_answer : Answer → Status
+status_of_answer (decided verdict) = status_of_verdict verdict
+status_of_answer (complete whole) = Complete
+status_of_answer (shaped kind payload auth taken) = Complete
+
+-- Further bytes are wanted until the message is settled.
+abbrev pub status_of : Reading → Status
+status_of reading = if reading.settled then status_of_answer reading.answer else More
+
+abbrev pub is_more : Status → Bool
+is_more More = true
+is_more _ = false
+
+abbrev pub is_complete : Status → Bool
+is_complete Complete = true
+is_complete _ = false
+
+-- ---- of a verifier
+
+-- Deciding on a signature, either way, leaves the message complete.
+abbrev pub status_at : Phase → Status
+status_at (phases.Signed p) = Complete
+status_at (phases.Decided verdict) = Complete
+status_at (phases.Settled verdict) = status_of_verdict verdict
+status_at (phases.Shaped p) = Complete
+status_at _ = More
+
+abbrev pub status_in : {H D : ℕ} → Verifier H D → Status
+status_in v = if v.stopped then Stopped else status_at v.phase
+
+-- How many bytes are to come for certain. A verifier that has stopped wants none.
+abbrev pub wanted_in : {H D : ℕ} → Verifier H D → ℕ
+wanted_in v = if v.stopped then 0 else want_of v.phase

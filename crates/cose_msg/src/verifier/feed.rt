@@ -1,0 +1,223 @@
+//! A verifier that is fed: pieces of a message as they come, of any length, and what they come to so far.
+
+ghost use Rattle.std.specs.Prelude.{◌≡◌, ◌<◌, ◌≤◌, ◌+◌, ◌*◌, ◌^◌, ℕ, true, false, List, [], ◌++◌, Some, Ok, length, take, ◌==◌, if◌then◌else◌};
+
+use crate::elliptic::EcVerifier;
+use crate::laws::{deciding_goes_last, messages_are_bounded};
+use crate::phase::Phase;
+use crate::status::{Fed, Status};
+use crate::verdict::Verdict;
+use crate::verifier::Verifier;
+
+/// The most bytes that are taken in one step. (Any number would do; it keeps the counts small.)
+const STEP: usize = 65_536;
+
+/// The payload's bytes of a piece: from the first one to behind the last one. Both are 0 where there is none.
+#[derive(Clone, Copy)]
+struct Part {
+    from: usize,
+    to: usize,
+}
+
+impl Part {
+    /// With so many bytes more, which begin here.
+    fn extended(self, begin: usize, count: usize) -> Part
+        requires { begin + count < 2 ^ 64 }
+        ensures from { result.from ≡ (if self.to == 0 then begin else self.from) }
+        ensures to { result.to ≡ begin + count }
+    {
+        Part {
+            from: if self.to == 0 { begin } else { self.from },
+            to: begin + count,
+        }
+    }
+}
+
+impl<'k, const H: usize, const D: usize> Verifier<'k, H, D> {
+    ghost use Rattle.cose_head.specs.declared.reason.Reason.{Reason};
+    ghost use Rattle.cose_msg.specs.Answer.{decided};
+    ghost use Rattle.cose_msg.specs.Feed.{Uses, nothing_used, payload_in};
+    ghost use Rattle.cose_msg.specs.Kept.{HasTaken, bytes_taken, is_inspecting, kept_answer};
+    ghost use Rattle.cose_msg.specs.Message.{Setting, message, verdict_of};
+    ghost use Rattle.cose_msg.specs.Phase.{in_payload, is_settled, want_of};
+    ghost use Rattle.cose_msg.specs.Shown.{Tells, held, shown_of};
+    ghost use Rattle.cose_msg.specs.Status.{is_complete, is_more, status_in, status_of, wanted_in};
+    ghost use Rattle.cose_msg.specs.Task.{Task, rules_of, to_verify};
+
+    /// Where the message stands after the bytes so far.
+    pub fn status(&self) -> Status
+        ensures value { result ≡ status_in self.now }
+        // It goes by what the bytes so far come to.
+        ensures reads { (task : Task) (s B : List ℕ) → HasTaken task s B self.now → result ≡ status_of (message (rules_of H D task) s) }
+    {
+        self.waits();
+        if self.stopped {
+            return Status::Stopped;
+        }
+        match self.phase {
+            Phase::Signed(_) | Phase::Decided(_) | Phase::Shaped(_) => Status::Complete,
+            Phase::Settled(Verdict::Authentic { .. }) => Status::Complete,
+            Phase::Settled(Verdict::Refused(refusal)) => Status::Refused(refusal),
+            Phase::FirstHead
+            | Phase::TagHead(_)
+            | Phase::ArrayHead(_)
+            | Phase::ProtectedHead(_)
+            | Phase::Protected(_)
+            | Phase::Unprotected(_)
+            | Phase::PayloadHead(_)
+            | Phase::Payload(_)
+            | Phase::AuthHead(_)
+            | Phase::Auth(_) => Status::More,
+        }
+    }
+
+    /// Whether all bytes of the message are there, and none of them refused it: [`Verifier::verdict`] may be asked.
+    pub fn is_complete(&self) -> bool
+        ensures { result ≡ is_complete (status_in self.now) }
+    {
+        matches!(self.status(), Status::Complete)
+    }
+
+    /// How many bytes are to come for certain: those that are left of the protected header, of the payload, or of the tag or
+    /// signature, and one of a head or of the unprotected header. None once the message is settled or the verifier has stopped.
+    pub fn want(&self) -> u64
+        ensures value { result ≡ wanted_in self.now }
+        ensures some { status_in self.now ≡ Status.More → 0 < result }
+        ensures none { is_more (status_in self.now) ≡ false → result ≡ 0 }
+        // Fewer bytes than that don't settle the message.
+        ensures early { (task : Task) (s B more : List ℕ) → HasTaken task s B self.now → length more < result
+            → (message (rules_of H D task) (s ++ more)).settled ≡ false }
+        // In the payload they are what is left of it.
+        ensures payload { (task : Task) (s B : List ℕ) → HasTaken task s B self.now → in_payload self.now.phase ≡ true → (more : List ℕ)
+            → (message (rules_of H D task) (s ++ more)).told.payload ≡ B ++ take result more }
+    {
+        self.waits();
+        if self.stopped {
+            return 0;
+        }
+        self.wanted()
+    }
+
+    /// How many bytes of the rest of a piece to take next.
+    fn step(&self, rest: usize) -> usize
+        ensures rest { result ≤ rest }
+        ensures short { result ≤ 65536 }
+        ensures wanted { result ≤ want_of self.now.phase }
+        ensures early { 0 < result → self.now.taken < 2 ^ 57 }
+        ensures some { 0 < rest → is_settled self.now.phase ≡ false → self.now.taken < 2 ^ 57 → 0 < result }
+    {
+        if rest == 0 {
+            return 0;
+        }
+        self.request(rest.min(STEP))
+    }
+
+    /// Takes the next bytes of the message: the fewest that settle it, or the whole piece. It says how many it used, and which of
+    /// them are of the payload; these are hashed, and not kept.
+    ///
+    /// Hand the payload's bytes on as they come, and drop them all where the message is refused, or ends too early
+    /// ([`Verifier::end`]). A message that is settled, or a verifier that has stopped, uses no byte, and the status stays.
+    pub fn feed(&mut self, piece: &[u8]) -> Fed
+        // Of the bytes so far, whatever cuts they came in, and the piece:
+        ensures uses { (task : Task) (s B : List ℕ) → HasTaken task s B self.old → Uses (rules_of H D task) s piece.now result.used }
+        ensures taken { (task : Task) (s B : List ℕ) → HasTaken task s B self.old
+            → HasTaken task (s ++ take result.used piece.now) (B ++ payload_in result piece.now) self.new }
+        ensures status { (task : Task) (s B : List ℕ) → HasTaken task s B self.old
+            → result.status ≡ status_of (message (rules_of H D task) (s ++ take result.used piece.now)) }
+        ensures payload { (task : Task) (s B : List ℕ) → HasTaken task s B self.old
+            → (message (rules_of H D task) (s ++ take result.used piece.now)).told.payload ≡ (message (rules_of H D task) s).told.payload ++ payload_in result piece.now }
+        ensures tells { (task : Task) (s B : List ℕ) → HasTaken task s B self.old → Tells task (s ++ take result.used piece.now) self.new }
+        // The payload's bytes are some of those that were used, or both places are 0.
+        ensures fits { result.used ≤ length piece.now }
+        ensures ordered { result.payload_from ≤ result.payload_to }
+        ensures among { result.payload_to ≤ result.used }
+        ensures none { result.payload_from ≡ result.payload_to → result.payload_to ≡ 0 }
+
+        ensures stands { result.status ≡ status_in self.new }
+        ensures counted { bytes_taken self.new ≡ bytes_taken self.old + result.used }
+        // Where no byte is wanted, nothing changes.
+        ensures again { is_more (status_in self.old) ≡ false → (result ≡ nothing_used (status_in self.old)) × (self.new ≡ self.old) }
+        ensures inspects { is_inspecting self.new ≡ is_inspecting self.old }
+        ensures held { held self.new ≤ 2 * H + 512 }
+    {
+        // What this says of messages is all that the proof rests on.
+        messages_are_bounded();
+        self.waits();
+        let mut used = 0;
+        let mut payload = Part { from: 0, to: 0 };
+        if self.want() == 0 {
+            return Fed {
+                used,
+                payload_from: 0,
+                payload_to: 0,
+                status: self.status(),
+            };
+        }
+        'pieces: loop {
+            self.waits();
+            let rest = &piece[used..];
+            let count = self.step(rest.len());
+            if count == 0 {
+                return Fed {
+                    used,
+                    payload_from: payload.from,
+                    payload_to: payload.to,
+                    status: self.status(),
+                };
+            }
+            if self.is_in_payload() {
+                payload = payload.extended(used, count);
+            }
+            self.take_piece(&rest[..count]);
+            used += count;
+        }
+    }
+
+    /// Says that no further byte comes: a message that isn't settled is Truncated where its bytes end. Any other status stays.
+    pub fn end(&mut self) -> Status
+        ensures stands { result ≡ status_in self.new }
+        ensures truncated { status_in self.old ≡ Status.More
+            → result ≡ Status.Refused (record { reason = Reason.Truncated; place = bytes_taken self.old }) }
+        ensures kept { status_in self.old ≡ Status.More
+            → kept_answer self.new ≡ Some (Ok (Verdict.Refused (record { reason = Reason.Truncated; place = bytes_taken self.old }))) }
+        ensures again { is_more (status_in self.old) ≡ false → (result ≡ status_in self.old) × (self.new ≡ self.old) }
+        ensures counts { bytes_taken self.new ≡ bytes_taken self.old }
+        ensures inspects { is_inspecting self.new ≡ is_inspecting self.old }
+        ensures shown { shown_of self.new ≡ shown_of self.old }
+        ensures held { held self.new ≤ 2 * H + 512 }
+    {
+        self.waits();
+        let status = self.status();
+        if !matches!(status, Status::More) {
+            return status;
+        }
+        Status::Refused(self.truncate())
+    }
+
+    /// The verdict on a message that is complete: it asks `ec` about the signature of a COSE_Sign1 (RFC 9052 section 4.4), once.
+    /// The verdict is kept, and answered again whoever is handed in later. The status stays [`Status::Complete`].
+    ///
+    /// The verifier isn't one that [`Verifier::inspecting`] made.
+    pub fn verdict<E: EcVerifier>(&mut self, ec: &E) -> Verdict
+        requires complete { is_complete (status_in self.old) ≡ true }
+        requires verifies { is_inspecting self.old ≡ false }
+        // It is that of the bytes so far.
+        ensures answer { (setting : Setting) (s B : List ℕ) → HasTaken (to_verify setting) s B self.old
+            → verdict_of H D setting (E.decides ec.now) s ≡ decided result }
+        ensures status { (setting : Setting) (s B : List ℕ) → HasTaken (to_verify setting) s B self.old → status_in self.new ≡ Status.Complete }
+        ensures kept { kept_answer self.new ≡ Some (Ok result) }
+        ensures again { (verdict : Verdict) → kept_answer self.old ≡ Some (Ok verdict) → (result ≡ verdict) × (self.new ≡ self.old) }
+        ensures counts { bytes_taken self.new ≡ bytes_taken self.old }
+        ensures inspects { is_inspecting self.new ≡ false }
+        ensures shown { shown_of self.new ≡ shown_of self.old }
+        ensures held { held self.new ≤ 2 * H + 512 }
+    {
+        // What this says of messages is all that the proof rests on.
+        deciding_goes_last();
+        self.waits();
+        match self.known_verdict() {
+            Some(verdict) => verdict,
+            None => self.conclude(ec),
+        }
+    }
+}
