@@ -1,9 +1,11 @@
+pub mod Admissions
 pub mod Digests
 pub mod Makings
 pub mod Replies
 pub mod Shows
 pub mod Trailing
 pub mod Vouches
+pub mod WorkedAdmitted
 pub mod WorkedDigests
 pub mod WorkedMade
 pub mod WorkedPrinted

@@ -26,7 +26,7 @@ unfolding printed message with_head with_string with_item bucket_of bucket_table
 prints job input = printed job input
 
 -- Lines that end well.
-abbrev lines : List String → Output
+abbrev pub lines : List String → Output
 lines texts = record { text = all texts; status = statuses.Done }
   where
     all : List String → List ℕ

@@ -1,3 +1,4 @@
+pub mod Admitted
 pub mod Job
 pub mod Printed
 pub mod Vouch

@@ -29,8 +29,12 @@ use Rattle.cose_msg.specs.Message.{Decides, Setting, comparing, inspecting, mess
 use Rattle.cose_msg.specs.Reading.{Reading, Told}
 use Rattle.cose_msg.specs.Shown.{SignInput, sign_input_in}
 use Rattle.cose_msg.specs.Writes.{front_of}
+use Rattle.cose_cwt.specs.Admission.{PolicyValue}
+use Rattle.cose_cwt.specs.Claims.Audience.{text_value}
+use Rattle.cose_cwt.specs.Token.{Outcome}
+use Rattle.cosecmd.specs.Admitted.{input_token, outcome_status, outcome_text, program_policy}
 use Rattle.cosecmd.specs.declared.job.Job.{Job}
-use Rattle.cosecmd.specs.declared.job.Job.TheVariants.{Show, Verify, Digest, Make}
+use Rattle.cosecmd.specs.declared.job.Job.TheVariants.{Show, Verify, Cwt, Digest, Make}
 use Rattle.cosecmd.specs.declared.reply.Reply.{Reply}
 use Rattle.cosecmd.specs.declared.reply.Status.{Status}
 use Rattle.cosecmd.specs.declared.reply.Status.TheVariants as statuses
@@ -123,6 +127,17 @@ abbrev pub verified_under : Read (List KeyValue) → List ℕ → Wanted → Opt
 verified_under (Ok keys) aad wanted vouch bytes = output_of (input_answer (program_setting keys aad wanted) (vouching vouch) bytes)
 verified_under (Err refusal) aad wanted vouch bytes = fault_of_keys refusal
 
+-- A token is verified as a message is, with a payload of at most 4,096 bytes.
+abbrev pub token_setting : List KeyValue → List ℕ → Wanted → Setting
+token_setting keys aad wanted = record (program_setting keys aad wanted) { payload_limit = 4096 }
+
+abbrev pub outcome_said : Outcome → Output
+outcome_said outcome = record { text = outcome_text outcome; status = outcome_status outcome }
+
+abbrev pub admitted_under : Read (List KeyValue) → List ℕ → Wanted → Option (List ℕ) → PolicyValue → List ℕ → Output
+admitted_under (Ok keys) aad wanted vouch policy bytes = outcome_said (input_token (token_setting keys aad wanted) (vouching vouch) policy bytes)
+admitted_under (Err refusal) aad wanted vouch policy bytes = fault_of_keys refusal
+
 -- The shape of a message: its kind, and the numbers of bytes of its payload, of its tag or signature, and of the whole.
 abbrev pub shape_line : Kind → ℕ → ℕ → ℕ → List ℕ
 shape_line kind payload auth taken =
@@ -208,6 +223,8 @@ made_under (Err refusal) alg payload_length kid aad bytes = fault_of_key refusal
 unfoldable pub printed : Job → List ℕ → Output
 printed (Show wanted) bytes = shown wanted bytes
 printed (Verify keys aad wanted vouch) bytes = verified_under (keys_of keys.now) aad.now wanted (option_map contents vouch) bytes
+printed (Cwt keys aad wanted vouch now leeway aud) bytes =
+    admitted_under (keys_of keys.now) aad.now wanted (option_map contents vouch) (program_policy now leeway (option_map text_value aud)) bytes
 printed (Digest keys aad) bytes = digested_under (keys_of keys.now) aad.now bytes
 printed (Make alg key payload_length kid aad) bytes =
     made_under (key_of (record { bytes = key.now; place = 0 })) alg payload_length (option_map contents kid) aad.now bytes

@@ -5,6 +5,7 @@ ghost use Rattle.std.specs.Io.KnownBytes.{Appends};
 ghost use Rattle.cosecmd.specs.Job.{aad_of};
 ghost use Rattle.cosecmd.specs.Printed.{Prints, code_of, printed};
 
+mod cwt;
 mod digest;
 mod make;
 mod show;
@@ -13,6 +14,7 @@ mod verify;
 use crate::job::Job;
 use crate::print::{print_fault, print_reply};
 use crate::reply::Status;
+use cwt::{cwt_reply, policy_of};
 use digest::digest_reply;
 use make::make_message;
 use show::show_reply;
@@ -40,6 +42,19 @@ fn status_of<R: Read, W: Write>(alloc: Global, job: &Job, input: &mut R, output:
             let reply = verify_reply(alloc, keys, aad, *wanted, *vouch, input);
             print_reply(alloc, reply, output)
         }
+        Job::Cwt {
+            keys,
+            aad,
+            wanted,
+            vouch,
+            now,
+            leeway,
+            aud,
+        } => {
+            let policy = policy_of(*now, *leeway, aud);
+            let reply = cwt_reply(alloc, keys, aad, *wanted, *vouch, &policy, input);
+            print_reply(alloc, reply, output)
+        }
         Job::Digest { keys, aad } => {
             let reply = digest_reply(alloc, keys, aad, input);
             print_reply(alloc, reply, output)
@@ -59,10 +74,11 @@ fn status_of<R: Read, W: Write>(alloc: Global, job: &Job, input: &mut R, output:
 
 /// Does a job: the message or the payload comes from `input`. The line, or the message that is made, goes to `output`.
 ///
-/// Behind a message that isn't refused it reads once more: a further byte is `refused Trailing` at the end of the message. Behind
-/// a payload of which a message is made it reads nothing. It returns the exit status: 0 for an authentic message or one that is
-/// made, 1 for a refused one, and 2 where the key or the key set is refused, a request for memory is refused, the input or the
-/// output fails, or a message can't be made. Then what went out of it is a front of it, without a line.
+/// Behind a message that isn't refused, and behind a token that is admitted, it reads once more: a further byte is `Trailing` at
+/// the end of the message. Behind a payload of which a message is made it reads nothing. It returns the exit status: 0 for an
+/// authentic message, a token that is admitted or a message that is made, 1 for a refused one, and 2 where the key or the key set
+/// is refused, a request for memory is refused, the input or the output fails, or a message can't be made. Then what went out of
+/// it is a front of it, without a line.
 pub fn answer<R: Read, W: Write>(alloc: Global, job: &Job, input: &mut R, output: &mut W) -> u8
     requires external { length_of (aad_of job.now) ≤ 65535 }
     ensures status { result ≤ 2 }

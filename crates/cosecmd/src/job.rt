@@ -21,6 +21,23 @@ pub enum Job<'j> {
         /// The bytes that a signature is vouched for by, where there are any.
         vouch: Option<&'j [u8]>,
     },
+    /// To admit the token on the input, and to show its claims.
+    Cwt {
+        /// The bytes of the key set (RFC 9052 section 7).
+        keys: &'j [u8],
+        /// The externally supplied data (RFC 9052 section 4.3).
+        aad: &'j [u8],
+        /// The kinds of messages that are wanted.
+        wanted: Wanted,
+        /// The bytes that a signature is vouched for by, where there are any.
+        vouch: Option<&'j [u8]>,
+        /// The moment, in seconds since 1970.
+        now: i64,
+        /// By how many seconds the clocks of the issuer and of this machine may differ.
+        leeway: u32,
+        /// The text that stands for the audience, where the token has to be for it.
+        aud: Option<&'j str>,
+    },
     /// To tell what the signature of the message on the input, a COSE_Sign1, is verified with.
     Digest {
         /// The bytes of the key set (RFC 9052 section 7).

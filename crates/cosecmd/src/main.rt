@@ -1,4 +1,4 @@
-//! The program `cosecmd`: verifies COSE messages (RFC 9052), and makes COSE_Mac0.
+//! The program `cosecmd`: verifies COSE messages (RFC 9052) and CBOR Web Tokens (RFC 8392), and makes COSE_Mac0.
 #![tactic(auto)]
 
 mod answer;

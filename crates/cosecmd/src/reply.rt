@@ -6,9 +6,9 @@ ghost use Rattle.cosecmd.specs.Printed.{code_of};
 /// How a run ends.
 #[derive(Clone, Copy, Debug, PartialEq, Eq)]
 pub enum Status {
-    /// The message is authentic or made, or help or the version was asked for.
+    /// The message is authentic or made, a token is admitted, or help or the version was asked for.
     Done,
-    /// The message is refused.
+    /// The message or the token is refused.
     Refused,
     /// There is no verdict, and no whole message: the command line is wrong, the keys are refused, memory, input or output fails.
     Fault,

@@ -6,7 +6,7 @@ use crate::answer::answer;
 use crate::job::Job;
 use crate::print::{print, print_fault};
 use crate::reply::Reply;
-use crate::words::{Digest, Make, Request, Verify, request_of};
+use crate::words::{Cwt, Digest, Make, Request, Verify, request_of};
 use std::alloc::Global;
 use std::io::{Read, Write};
 
@@ -28,6 +28,27 @@ fn answer_verify<R: Read, W: Write>(
         aad: words.aad.as_slice(),
         wanted: words.wanted,
         vouch,
+    };
+    answer(alloc, &job, input, output)
+}
+
+/// The job of the command `cwt`.
+fn answer_cwt<R: Read, W: Write>(alloc: Global, words: &Cwt, input: &mut R, output: &mut W) -> u8
+    ensures { result ≤ 2 }
+{
+    let verify = &words.verify;
+    let vouch = match &verify.vouch {
+        Some(vouch) => Some(vouch.as_slice()),
+        None => None,
+    };
+    let job = Job::Cwt {
+        keys: verify.keys.as_slice(),
+        aad: verify.aad.as_slice(),
+        wanted: verify.wanted,
+        vouch,
+        now: words.now,
+        leeway: words.leeway,
+        aud: words.aud,
     };
     answer(alloc, &job, input, output)
 }
@@ -69,9 +90,9 @@ fn answer_make<R: Read, W: Write>(alloc: Global, words: &Make, input: &mut R, ou
 /// Runs the program: `words` are those of the command line, the first of them its name. The message, or the payload of
 /// which one is made, comes from `input`; every line goes to `output`, a fault's too, and so does a message that is made.
 ///
-/// The exit status is 0 for an authentic message and for one that is made (and for help and the version), 1 for a refused
-/// one, and 2 where there is no verdict and no whole message: the command line is wrong, the keys are refused, a request for
-/// memory is refused, or the input or the output fails.
+/// The exit status is 0 for an authentic message, a token that is admitted and a message that is made (and for help and the
+/// version), 1 for a refused one, and 2 where there is no verdict and no whole message: the command line is wrong, the keys are
+/// refused, a request for memory is refused, or the input or the output fails.
 pub fn run<'a, R: Read, W: Write>(
     alloc: Global,
     words: &'a [&'a str],
@@ -83,6 +104,7 @@ pub fn run<'a, R: Read, W: Write>(
     match request_of(alloc, words) {
         Ok(Request::Show(wanted)) => answer(alloc, &Job::Show { wanted }, input, output),
         Ok(Request::Verify(words)) => answer_verify(alloc, &words, input, output),
+        Ok(Request::Cwt(words)) => answer_cwt(alloc, &words, input, output),
         Ok(Request::Digest(words)) => answer_digest(alloc, &words, input, output),
         Ok(Request::Make(words)) => answer_make(alloc, &words, input, output),
         Ok(Request::Print(Reply { status, text })) => {

@@ -1,6 +1,7 @@
 //! Messages and runs whose answers come from the standards' equations, not from this program.
 
 mod contexts;
+mod cwt;
 mod digests;
 mod failures;
 mod long;

@@ -35,6 +35,13 @@ const SHOW_NOTES: &str =
 in the order of the message: the bytes of the label and of the value in hexadecimal. Nothing of it is authenticated.
 Exit status: 0 shown, 1 refused, 2 no answer (command line, memory, input or output).";
 
+/// What help says below the options of `cwt`.
+const CWT_NOTES: &str =
+    "Words in hexadecimal have an even number of digits, no prefix and no spaces.
+It prints `admitted`, and then a line for each registered claim and for each text of the audience: texts and bytes in \
+hexadecimal, dates in seconds since 1970; of a confirmation the key (curve, x, y) and its identifier.
+Exit status: 0 admitted, 1 refused, 2 no answer (command line, keys, memory, input or output).";
+
 /// The words for the kinds of messages that are wanted.
 const KINDS: &[&str] = &["mac0", "sign1", "tagged"];
 
@@ -59,6 +66,19 @@ pub struct Verify {
     /// The bytes that a signature is vouched for by, where there are any.
     pub vouch: Option<Vec<u8>>,
     ghost external: { length_of aad.items ≤ 65535 },
+}
+
+/// The words of `cwt`.
+#[derive(Drop)]
+pub struct Cwt<'w> {
+    /// Those that `verify` has too.
+    pub verify: Verify,
+    /// The moment, in seconds since 1970.
+    pub now: i64,
+    /// By how many seconds clocks may differ.
+    pub leeway: u32,
+    /// The text that stands for the audience, where there is one.
+    pub aud: Option<&'w str>,
 }
 
 /// The words of `digest`.
@@ -89,11 +109,13 @@ pub struct Make {
 
 /// What the words ask for.
 #[derive(Drop)]
-pub enum Request {
+pub enum Request<'w> {
     /// To show a message of these kinds.
     Show(Wanted),
     /// To verify a message.
     Verify(Verify),
+    /// To admit a token.
+    Cwt(Cwt<'w>),
     /// To tell what a signature is verified with.
     Digest(Digest),
     /// To make a message.
@@ -102,7 +124,7 @@ pub enum Request {
     Print(Reply),
 }
 
-/// The option of the key set, which two commands have.
+/// The option of the key set.
 fn keys_option<'a>(alloc: Global) -> Arg<'a> {
     Arg::new(alloc, "keys")
         .long("keys")
@@ -111,14 +133,14 @@ fn keys_option<'a>(alloc: Global) -> Arg<'a> {
         .help("The key set (RFC 9052 section 7)")
 }
 
-/// The option of the externally supplied data, which three commands have.
+/// The option of the externally supplied data.
 fn aad_option<'a>(alloc: Global) -> Arg<'a> {
     Arg::new(alloc, "aad").long("aad").value_name("HEX").help(
         "The externally supplied data (RFC 9052 section 4.3), at most 65,535 bytes",
     )
 }
 
-/// The option of the kind, which two commands have.
+/// The option of the kind.
 fn kind_option<'a>(alloc: Global) -> Arg<'a> {
     Arg::new(alloc, "kind")
         .long("kind")
@@ -126,6 +148,14 @@ fn kind_option<'a>(alloc: Global) -> Arg<'a> {
         .value_parser(KINDS)
         .default_value("tagged")
         .help("The kind of message: one of both, or as its tag says")
+}
+
+/// The option of the word that vouches.
+fn vouch_option<'a>(alloc: Global) -> Arg<'a> {
+    Arg::new(alloc, "vouch")
+        .long("vouch")
+        .value_name("HEX")
+        .help("What a signature is good for: curve, digest, signature, x and y")
 }
 
 /// The command `show` and its option.
@@ -140,17 +170,42 @@ fn show_line<'a>(alloc: Global) -> Result<Command<'a>, AllocError> {
 
 /// The command `verify` and its options.
 fn verify_line<'a>(alloc: Global) -> Result<Command<'a>, AllocError> {
-    let vouch = Arg::new(alloc, "vouch")
-        .long("vouch")
-        .value_name("HEX")
-        .help("What a signature is good for: curve, digest, signature, x and y");
     Command::new(alloc, "verify")
         .about("Verifies the COSE message on standard input and prints the verdict")
         .after_help(NOTES)
         .arg(keys_option(alloc))?
         .arg(aad_option(alloc))?
         .arg(kind_option(alloc))?
-        .arg(vouch)
+        .arg(vouch_option(alloc))
+}
+
+/// The command `cwt` and its options.
+fn cwt_line<'a>(alloc: Global) -> Result<Command<'a>, AllocError> {
+    let now = Arg::new(alloc, "now")
+        .long("now")
+        .value_name("N")
+        .required(true)
+        .value_parser(value_parser!(i64).range(0..))
+        .help("The moment, in seconds since 1970; the program reads no clock");
+    let leeway = Arg::new(alloc, "leeway")
+        .long("leeway")
+        .value_name("N")
+        .value_parser(value_parser!(u32))
+        .default_value("0")
+        .help("By how many seconds the clocks of issuer and reader may differ");
+    let aud = Arg::new(alloc, "aud").long("aud").value_name("TEXT").help(
+        "The audience that a token has to name, where it names one; without it any is good",
+    );
+    Command::new(alloc, "cwt")
+        .about("Admits the CBOR Web Token on standard input and prints its claims")
+        .after_help(CWT_NOTES)
+        .arg(keys_option(alloc))?
+        .arg(aad_option(alloc))?
+        .arg(kind_option(alloc))?
+        .arg(vouch_option(alloc))?
+        .arg(now)?
+        .arg(leeway)?
+        .arg(aud)
 }
 
 /// The command `digest` and its options.
@@ -199,13 +254,16 @@ fn make_line<'a>(alloc: Global) -> Result<Command<'a>, AllocError> {
 /// The commands and their options.
 fn line<'a>(alloc: Global) -> Result<Command<'a>, AllocError> {
     Command::new(alloc, "cosecmd")
-        .about("Verifies COSE messages (RFC 9052) that come on standard input, and makes COSE_Mac0")
+        .about(
+            "Verifies COSE messages (RFC 9052) and CBOR Web Tokens (RFC 8392) that come on standard input, and makes COSE_Mac0",
+        )
         .version(VERSION)
         .after_help(NOTES)
         .subcommand_required(true)
         .arg_required_else_help(true)
         .subcommand(show_line(alloc)?)?
         .subcommand(verify_line(alloc)?)?
+        .subcommand(cwt_line(alloc)?)?
         .subcommand(digest_line(alloc)?)?
         .subcommand(make_line(alloc)?)
 }
@@ -295,6 +353,24 @@ fn verify_of(alloc: Global, matches: &ArgMatches) -> Result<Verify, Fault> {
     })
 }
 
+/// The words of `cwt`, in the order in which help lists them. The line has a moment and a leeway that are in range.
+fn cwt_of<'a>(alloc: Global, matches: &ArgMatches<'a>) -> Result<Cwt<'a>, Fault> {
+    let verify = verify_of(alloc, matches)?;
+    let Some(now) = matches.get_one::<i64>("now") else {
+        return Err(Fault::Line("now"));
+    };
+    let Some(leeway) = matches.get_one::<u32>("leeway") else {
+        return Err(Fault::Line("leeway"));
+    };
+    let aud = matches.get_str("aud");
+    Ok(Cwt {
+        verify,
+        now,
+        leeway,
+        aud,
+    })
+}
+
 /// The words of `digest`, in the order in which help lists them.
 fn digest_of(alloc: Global, matches: &ArgMatches) -> Result<Digest, Fault> {
     let keys = bytes_of(alloc, matches, "keys")?;
@@ -323,7 +399,7 @@ fn make_of(alloc: Global, matches: &ArgMatches) -> Result<Make, Fault> {
 }
 
 /// Reads the words, the first of which is the program's name.
-pub fn request_of<'a>(alloc: Global, words: &'a [&'a str]) -> Result<Request, Fault> {
+pub fn request_of<'a>(alloc: Global, words: &'a [&'a str]) -> Result<Request<'a>, Fault> {
     let matches = match line(alloc)?.try_get_matches_from(words) {
         Ok(matches) => matches,
         Err(error) => return Ok(Request::Print(refused_line(alloc, error)?)),
@@ -333,6 +409,9 @@ pub fn request_of<'a>(alloc: Global, words: &'a [&'a str]) -> Result<Request, Fa
     }
     if let Some(verify) = matches.subcommand_matches("verify") {
         return Ok(Request::Verify(verify_of(alloc, verify)?));
+    }
+    if let Some(cwt) = matches.subcommand_matches("cwt") {
+        return Ok(Request::Cwt(cwt_of(alloc, cwt)?));
     }
     if let Some(digest) = matches.subcommand_matches("digest") {
         return Ok(Request::Digest(digest_of(alloc, digest)?));

@@ -1,6 +1,7 @@
 //! Readers and writers that fail in mid-stream.
 
 use crate::run::run;
+use crate::tests::cwt::example;
 use crate::tests::{FRONT, KEYS, joined, message};
 use std::alloc::Global;
 use std::io;
@@ -134,6 +135,30 @@ fn reads_nothing_behind_a_refusal(rt: HostRuntime) -> Result<(), Fail> {
         let status = run(alloc, WORDS, &mut reader, &mut output);
         assert_eq!(rt; output.as_slice(), text.as_bytes());
         assert_eq!(rt; (status, reader.reads), (1, reads), "{text}");
+    }
+    Ok(())
+}
+
+#[test]
+fn reads_once_more_behind_admitted_claims_alone(rt: HostRuntime) -> Result<(), Fail> {
+    let alloc = rt.alloc();
+    let token = example(alloc)?;
+    // 123 reads take the token, and the next one fails.
+    let rows: [(&str, &str, u8, usize); 2] = [
+        ("1444064943", "fault input\n", 2, 124),
+        ("1444064944", "refused claims Expired at 59\n", 1, 123),
+    ];
+    for (now, text, status, reads) in rows {
+        let mut reader = FailingReader {
+            bytes: token.as_slice(),
+            reads: 0,
+            fails_at: 124,
+        };
+        let mut output = Vec::new(alloc);
+        let words = ["cosecmd", "cwt", "--keys", KEYS, "--now", now];
+        let ended = run(alloc, words.as_slice(), &mut reader, &mut output);
+        assert_eq!(rt; output.as_slice(), text.as_bytes());
+        assert_eq!(rt; (ended, reader.reads), (status, reads), "at {now}");
     }
     Ok(())
 }

@@ -90,7 +90,7 @@ fn takes_a_key_set(rt: HostRuntime) -> Result<(), Fail> {
 #[test]
 fn explains_its_line(rt: HostRuntime) -> Result<(), Fail> {
     let alloc = rt.alloc();
-    let rows: [(&[&str], &str, u8); 9] = [
+    let rows: [(&[&str], &str, u8); 10] = [
         (&["cosecmd", "--help"], "Usage: cosecmd <COMMAND>", 0),
         (
             &["cosecmd", "--help"],
@@ -109,6 +109,11 @@ fn explains_its_line(rt: HostRuntime) -> Result<(), Fail> {
         (
             &["cosecmd", "show", "--help"],
             "0 shown, 1 refused, 2 no answer",
+            0,
+        ),
+        (
+            &["cosecmd", "cwt", "--help"],
+            "0 admitted, 1 refused, 2 no answer",
             0,
         ),
         (

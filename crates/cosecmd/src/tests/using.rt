@@ -1,11 +1,13 @@
-//! The examples of docs/USING.md: from bytes to a payload that is authentic, and from header buckets to a MAC, by the libraries
-//! alone.
+//! The examples of docs/USING.md: from bytes to a payload that is authentic, from bytes to the claims of a token, and from header
+//! buckets to a MAC, by the libraries alone.
 
-ghost use Rattle.std.specs.Prelude.{◌≡◌, ◌≤◌, false, length};
+ghost use Rattle.std.specs.Prelude.{◌≡◌, ◌≤◌, false, true, length};
 ghost use Rattle.cose_msg.specs.Kept.{is_inspecting};
 
+use crate::tests::cwt::example;
 use crate::tests::streams::FailingIntake;
 use crate::tests::{KEY, KEY_SET, STRUCTURE, cut, hmac, key_set, message};
+use cose_cwt::{Audience, Claims, CwtStop, Policy, verify_cwt};
 use cose_mac::{Alg, Running, structure_front};
 use cose_map::{Bucket, KeySet, Kind, Material, Query, Reason, Refusal, check_pair};
 use cose_msg::{
@@ -121,7 +123,58 @@ fn begins_again_after_a_stop(rt: HostRuntime) -> Result<(), Fail> {
     Ok(())
 }
 
-/// The MAC of a COSE_Mac0 before its first byte, under the one key of the set that fits what the headers ask for.
+/// What tokens are verified under: the CWT tag may stand in front, and the payload fits into a store of 4,096 bytes.
+fn token_context(keys: KeySet) -> Context
+    ensures external { length result.aad.now ≤ 65535 }
+    ensures cwt { result.cwt ≡ true }
+    ensures payload_limit { result.payload_limit ≡ 4096 }
+{
+    Context {
+        keys,
+        aad: b"",
+        wanted: Wanted::Tagged,
+        cwt: true,
+        understood: &[],
+        payload_limit: 4_096,
+    }
+}
+
+/// The claims of a token that is admitted at this moment, give or take a minute, and is for the light.
+fn claims_of<'p>(
+    keys: KeySet,
+    token: &[u8],
+    now: i64,
+    store: &'p mut Store<4_096>,
+) -> Result<Claims<'p>, CwtStop> {
+    let mut verifier = Verifier::new(token_context(keys));
+    let mut intake = SliceIntake::new(token, 512);
+    let policy = Policy {
+        now,
+        leeway: 60,
+        audience: Audience::Mine(&["coap://light.example.com"]),
+    };
+    verify_cwt::<512, 1_024, 8, 4_096, _, _>(&mut verifier, &mut intake, store, &Never, &policy)
+}
+
+#[test]
+fn hands_out_claims_that_are_admitted(rt: HostRuntime) -> Result<(), Fail> {
+    let token = example(rt.alloc())?;
+    let keys = key_set().ok_or("no keys")?;
+    let mut store = Store::new();
+    match claims_of(keys, token.as_slice(), 1_444_065_003, &mut store) {
+        Ok(claims) => assert_eq!(rt; claims.sub(), Some("erikw")),
+        Err(stop) => panic!(rt; "{stop:?}"),
+    }
+    let mut store = Store::new();
+    let late = claims_of(keys, token.as_slice(), 1_444_065_004, &mut store);
+    let expired = Refusal {
+        reason: Reason::Expired,
+        place: 59,
+    };
+    assert_eq!(rt; late.err(), Some(CwtStop::Claims(expired)));
+    Ok(())
+}
+
 /// The MAC of a COSE_Mac0 before its first byte, under the one key of the set that fits what the headers ask for.
 fn begin(keys: &KeySet, protected: &Bucket, unprotected: &Bucket) -> Result<Running, Reason> {
     let query = Query {

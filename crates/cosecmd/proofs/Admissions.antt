@@ -1,0 +1,145 @@
+-- A reply that says what a whole input comes to as a token.
+use Rattle.std.proofs.Common.{◌≡◌, ◌∙◌, ℕ, ◌<◌, ◌≤◌, Bool, true, false, List, [], ◌∷◌, ◌++◌, length, Option, Some, None, Ok, Err, refl, sym, ap, subst, arith, append-nil, append_assoc, length-append}
+use Rattle.std.specs.Prelude.{IfOk, Result}
+use Rattle.std.proofs.lemmas.Bool.{lt-ltb, le-ltb}
+use Rattle.cose_head.specs.declared.refusal.Refusal.{Refusal}
+use Rattle.cose_map.specs.Key.Value.{KeyValue}
+use Rattle.cose_map.specs.Map.Read.{Read}
+use Rattle.cose_msg.specs.declared.context.Wanted.{Wanted}
+use Rattle.cose_msg.specs.declared.verdict.Stop.{Stop}
+use Rattle.cose_msg.specs.declared.verdict.Verdict.{Verdict}
+use Rattle.cose_msg.specs.declared.verdict.Verdict.TheVariants.{Authentic, Refused}
+use Rattle.cose_msg.specs.declared.verifier.Verifier.{Verifier}
+use Rattle.cose_msg.specs.Answer.{Answer, decided}
+use Rattle.cose_msg.specs.Laws.{VerdictStays}
+use Rattle.cose_msg.specs.Message.{Decides, Setting, verdict_of, verifying}
+use Rattle.cose_msg.specs.Run.{Run}
+use Rattle.cose_msg.specs.Verifier.{Counts}
+use Rattle.cose_cwt.specs.declared.token.CwtStop.{CwtStop}
+use Rattle.cose_cwt.specs.declared.token.CwtStop.TheVariants as stops
+use Rattle.cose_cwt.specs.Admission.{PolicyValue, admitted_claims}
+use Rattle.cose_cwt.specs.Claims.{ClaimsValue}
+use Rattle.cose_cwt.specs.Token.{IsRun, IsToken, Outcome, UnlessStopped, of_claims, read_as, stop_in, token_of}
+use Rattle.cosecmd.specs.declared.reply.Reply.{Reply}
+use Rattle.cosecmd.specs.Admitted.{input_token, token_told, unless_trailed}
+use Rattle.cosecmd.specs.Printed.{Says, admitted_under, behind, outcome_said, token_setting}
+use Rattle.cosecmd.specs.Vouch.{vouching}
+
+-- The lines of a part behind those so far, by what was told of it.
+pub first_lines : {A : Type 0} (lines : A → List ℕ) (told wanted : A) (before all : List ℕ) → told ≡ wanted → all ≡ before ++ lines told → all ≡ before ++ lines wanted
+first_lines {A} lines told wanted before all same part = part ∙ ap (λ (x : A). before ++ lines x) same
+
+pub then_lines : {A : Type 0} (lines : A → List ℕ) (told wanted : A) (before so_far after all : List ℕ) → after ≡ before ++ so_far → told ≡ wanted → all ≡ after ++ lines told →
+    all ≡ before ++ (so_far ++ lines wanted)
+then_lines {A} lines told wanted before so_far after all earlier same part =
+    part ∙ ap (λ (x : A). after ++ lines x) same ∙ ap (λ (t : List ℕ). t ++ lines wanted) earlier ∙ append_assoc before so_far (lines wanted)
+
+-- Behind a token that isn't admitted nothing is looked for.
+refused_token : (verdict : Verdict) (n : ℕ) (policy : PolicyValue) (payload : List ℕ) (answer : Answer) (outcome : Outcome) (stop : CwtStop) → answer ≡ decided verdict →
+    outcome ≡ token_of 8 policy (Ok verdict) payload → outcome ≡ Err stop → outcome ≡ token_told n policy payload answer
+refused_token (Refused refusal) n policy payload answer outcome stop judged comes e = comes ∙ sym (ap (token_told n policy payload) judged)
+refused_token (Authentic kind alg size taken) n policy payload answer outcome stop judged comes e =
+    let refused : of_claims (admitted_claims 8 policy payload) ≡ Err stop = sym comes ∙ e in
+    e ∙ sym (ap (token_told n policy payload) judged ∙ ap (unless_trailed n taken) refused)
+
+pub unless_admitted : (setting : Setting) (decides : Decides) (policy : PolicyValue) (bytes : List ℕ) (outcome : Outcome) (stop : CwtStop) → outcome ≡ Err stop →
+    UnlessStopped outcome (IsToken 1024 8 setting decides policy bytes outcome) → UnlessStopped outcome (outcome ≡ input_token setting decides policy bytes)
+unless_admitted setting decides policy bytes (Ok claims) stop e token = absurd cc
+unless_admitted setting decides policy bytes (Err (stops.Stopped why)) stop e token = tt
+unless_admitted setting decides policy bytes (Err (stops.Message refusal)) stop e token =
+    refused_token token.verdict (length bytes) policy (read_as 1024 8 setting decides bytes).told.payload (read_as 1024 8 setting decides bytes).answer (Err (stops.Message refusal)) stop token.judged token.comes e
+unless_admitted setting decides policy bytes (Err (stops.Claims refusal)) stop e token =
+    refused_token token.verdict (length bytes) policy (read_as 1024 8 setting decides bytes).told.payload (read_as 1024 8 setting decides bytes).answer (Err (stops.Claims refusal)) stop token.judged token.comes e
+
+-- A byte behind a token that is admitted refuses it.
+abbrev pub or_trailing : Option Refusal → ClaimsValue → Outcome
+or_trailing None claims = Ok claims
+or_trailing (Some refusal) claims = Err (stops.Message refusal)
+
+unless_behind : (rest taken bytes : List ℕ) (count : ℕ) (claims : ClaimsValue) → bytes ≡ taken ++ rest → count ≡ length taken →
+    unless_trailed (length bytes) count (Ok claims) ≡ or_trailing (behind rest count) claims
+unless_behind [] taken bytes count claims whole counted =
+    let short : length bytes ≤ count = rw (whole, counted) (omega (arith, length-append taken [])) in
+    rw (le-ltb count (length bytes) short) refl
+unless_behind (byte ∷ rest) taken bytes count claims whole counted =
+    let long : count < length bytes = rw (whole, counted) (omega (arith, length-append taken (byte ∷ rest))) in
+    rw (lt-ltb count (length bytes) long) refl
+
+admitted_token : (verdict : Verdict) (rest taken bytes : List ℕ) (policy : PolicyValue) (payload : List ℕ) (answer : Answer) (outcome : Outcome) (claims : ClaimsValue) → bytes ≡ taken ++ rest → Counts verdict (length taken) →
+    answer ≡ decided verdict → outcome ≡ token_of 8 policy (Ok verdict) payload → outcome ≡ Ok claims →
+    token_told (length bytes) policy payload answer ≡ or_trailing (behind rest (length taken)) claims
+admitted_token (Refused refusal) rest taken bytes policy payload answer outcome claims whole counted judged comes e =
+    let clash : Err (stops.Message refusal) ≡ Ok claims = sym comes ∙ e in absurd cc
+admitted_token (Authentic kind alg size count) rest taken bytes policy payload answer outcome claims whole counted judged comes e =
+    let admitted : of_claims (admitted_claims 8 policy payload) ≡ Ok claims = sym comes ∙ e in
+    ap (token_told (length bytes) policy payload) judged ∙ ap (unless_trailed (length bytes) count) admitted
+    ∙ unless_behind rest taken bytes count claims whole counted ∙ ap (λ (n : ℕ). or_trailing (behind rest n) claims) counted
+
+-- The verdict of the bytes taken is that of all.
+same_verdict : VerdictStays → (setting : Setting) (decides : Decides) (taken rest : List ℕ) (settled : Bool) → (read_as 1024 8 setting decides taken).settled ≡ settled →
+    ((read_as 1024 8 setting decides taken).settled ≡ false → rest ≡ []) → verdict_of 1024 8 setting decides (taken ++ rest) ≡ verdict_of 1024 8 setting decides taken
+same_verdict stays setting decides taken rest true is ends = stays 1024 8 setting decides taken rest is
+same_verdict stays setting decides taken rest false is ends =
+    ap (verdict_of 1024 8 setting decides) (ap (λ (more : List ℕ). taken ++ more) (ends is) ∙ append-nil taken)
+
+-- What is left of the input, and what the whole comes to by it.
+abbrev IsLeft : Setting → Decides → PolicyValue → List ℕ → Option (List ℕ) → ℕ → ClaimsValue → Type 0
+IsLeft setting decides policy bytes come_after count claims =
+    (rest : List ℕ) × (come_after ≡ Some rest) × (input_token setting decides policy bytes ≡ or_trailing (behind rest count) claims)
+
+left_by : VerdictStays → (setting : Setting) (decides : Decides) (policy : PolicyValue) (come_after : Option (List ℕ)) (ended : Bool) (verdict : Result Verdict Stop) (taken payload bytes : List ℕ) (outcome : Outcome) (claims : ClaimsValue) →
+    Run (verifying 1024 8 setting decides) decided [] [] (Some bytes) come_after ended (Some []) (Some payload) verdict taken → outcome ≡ token_of 8 policy verdict payload →
+    IsToken 1024 8 setting decides policy bytes outcome → outcome ≡ Ok claims → IsLeft setting decides policy bytes come_after (length taken) claims
+left_by stays setting decides policy come_after ended (Err stop) taken payload bytes outcome claims run comes token e =
+    let clash : Err (stops.Stopped stop) ≡ Ok claims = sym comes ∙ e in absurd cc
+left_by stays setting decides policy None ended (Ok verdict) taken payload bytes outcome claims run comes token e = absurd run.bytes
+left_by stays setting decides policy (Some rest) ended (Ok verdict) taken payload bytes outcome claims run comes token e =
+    let whole : bytes ≡ taken ++ rest = run.bytes in
+    let same : verdict_of 1024 8 setting decides bytes ≡ verdict_of 1024 8 setting decides taken =
+    ap (verdict_of 1024 8 setting decides) whole
+    ∙ same_verdict stays setting decides taken rest (read_as 1024 8 setting decides taken).settled refl (λ open_yet. (run.answer.ends.unsettled open_yet).1) in
+    let found : decided token.verdict ≡ decided verdict = sym token.judged ∙ same ∙ run.answer.answer in
+    let one : verdict ≡ token.verdict = cc in
+    let counted : Counts token.verdict (length taken) = subst (λ (v : Verdict). Counts v (length taken)) one run.answer.counted in
+    (rest, refl, admitted_token token.verdict rest taken bytes policy (read_as 1024 8 setting decides bytes).told.payload (read_as 1024 8 setting decides bytes).answer outcome claims whole counted token.judged token.comes e)
+
+pub left_of_run : VerdictStays → (setting : Setting) (decides : Decides) (policy : PolicyValue) (come come_after : Option (List ℕ)) (ended : Bool) (v : Verifier 1024 8) (bytes : List ℕ) (outcome : Outcome) (claims : ClaimsValue) (count : ℕ) →
+    IsRun setting decides policy come come_after ended v outcome → UnlessStopped outcome (IsToken 1024 8 setting decides policy bytes outcome) → outcome ≡ Ok claims → come ≡ Some bytes → count ≡ v.taken →
+    IsLeft setting decides policy bytes come_after count claims
+left_of_run stays setting decides policy come come_after ended v bytes outcome claims count run token e told counts =
+    let is : IsToken 1024 8 setting decides policy bytes outcome = admitted_is outcome e token in
+    let all = subst (λ (old : Option (List ℕ)). Run (verifying 1024 8 setting decides) decided [] [] old come_after ended (Some []) (Some run.payload) run.verdict run.taken) told run.run in
+    subst (λ n. IsLeft setting decides policy bytes come_after n claims) (sym (counts ∙ run.counted))
+    (left_by stays setting decides policy come_after ended run.verdict run.taken run.payload bytes outcome claims all run.comes is e)
+  where
+    admitted_is : {S : Type 0} (o : Outcome) → o ≡ Ok claims → UnlessStopped o S → S
+    admitted_is (Ok others) e says = says
+    admitted_is (Err stop) e says = absurd cc
+
+pub is_alone : (setting : Setting) (decides : Decides) (policy : PolicyValue) (bytes : List ℕ) (come_after : Option (List ℕ)) (count : ℕ) (claims : ClaimsValue) → IsLeft setting decides policy bytes come_after count claims →
+    ((rest : List ℕ) → come_after ≡ Some rest → None ≡ behind rest count) → Ok claims ≡ input_token setting decides policy bytes
+is_alone setting decides policy bytes come_after count claims left h =
+    sym (left.2 ∙ ap (λ (r : Option Refusal). or_trailing r claims) (sym (h left.0 left.1)))
+
+pub is_followed : (setting : Setting) (decides : Decides) (policy : PolicyValue) (bytes : List ℕ) (come_after : Option (List ℕ)) (count : ℕ) (claims : ClaimsValue) (refusal : Refusal) → IsLeft setting decides policy bytes come_after count claims →
+    ((rest : List ℕ) → come_after ≡ Some rest → Some refusal ≡ behind rest count) → Err (stops.Message refusal) ≡ input_token setting decides policy bytes
+is_followed setting decides policy bytes come_after count claims refusal left h =
+    sym (left.2 ∙ ap (λ (r : Option Refusal). or_trailing r claims) (sym (h left.0 left.1)))
+
+-- A reply that says what a token comes to, where nothing stopped it.
+says_unless : {F : Type 0} (outcome whole : Outcome) (reply : Result Reply F) → UnlessStopped outcome (outcome ≡ whole) → IfOk reply (Says (outcome_said outcome)) → IfOk reply (λ _. stop_in outcome ≡ None) →
+    IfOk reply (Says (outcome_said whole))
+says_unless outcome whole (Err fault) is says unstopped = tt
+says_unless (Ok claims) whole (Ok reply) is says unstopped = subst (λ (o : Outcome). Says (outcome_said o) reply) is says
+says_unless (Err (stops.Message refusal)) whole (Ok reply) is says unstopped = subst (λ (o : Outcome). Says (outcome_said o) reply) is says
+says_unless (Err (stops.Claims refusal)) whole (Ok reply) is says unstopped = subst (λ (o : Outcome). Says (outcome_said o) reply) is says
+says_unless (Err (stops.Stopped stop)) whole (Ok reply) is says unstopped = absurd cc
+
+pub says_admitted : {F : Type 0} (set : Read (List KeyValue)) (keys : List KeyValue) (setting : Setting) (aad : List ℕ) (wanted : Wanted) (vouch : Option (List ℕ)) (policy : PolicyValue) (bytes : List ℕ) (outcome : Outcome) (reply : Result Reply F) →
+    set ≡ Ok keys → setting ≡ token_setting keys aad wanted → UnlessStopped outcome (outcome ≡ input_token setting (vouching vouch) policy bytes) → IfOk reply (Says (outcome_said outcome)) →
+    IfOk reply (λ _. stop_in outcome ≡ None) → IfOk reply (Says (admitted_under set aad wanted vouch policy bytes))
+says_admitted set keys setting aad wanted vouch policy bytes outcome reply usable under is says unstopped =
+    let said = says_unless outcome (input_token setting (vouching vouch) policy bytes) reply is says unstopped in
+    let same : outcome_said (input_token setting (vouching vouch) policy bytes) ≡ admitted_under set aad wanted vouch policy bytes =
+    ap (λ (x : Setting). outcome_said (input_token x (vouching vouch) policy bytes)) under ∙ ap (λ (t : Read (List KeyValue)). admitted_under t aad wanted vouch policy bytes) (sym usable) in
+    subst (λ o. IfOk reply (Says o)) same said

@@ -1,0 +1,190 @@
+-- What the program prints of tokens, on examples, by computing. The MAC stands as it is defined.
+use Rattle.std.specs.Prelude.{◌≡◌, ℕ, pos, Bool, true, false, if◌then◌else◌, List, [], ◌∷◌, ◌++◌, replicate, codes, Option, Some, None, option_map, refl}
+use Prim.Native.String.{String}
+use Rattle.std.specs.Fmt.{digits}
+use Rattle.std.specs.Str.{bytes_eq, is_utf8, chars}
+use Rattle.cose_head.specs.Head.{bare_head, shortest_head}
+use Rattle.cose_head.specs.Item.{depth_of}
+use Rattle.cose_head.specs.Placed.{look, children_of, items_from, head_of_item}
+use Rattle.cose_head.specs.Reading.{read, head}
+use Rattle.cose_head.specs.Shortest.{shortest, shortest_all}
+use Rattle.cose_head.specs.declared.algorithm.Alg.TheVariants.{Hmac256}
+use Rattle.cose_head.specs.declared.kind.Kind.TheVariants.{Mac0}
+use Rattle.cose_head.specs.declared.reason.Reason.TheVariants.{BadAuth}
+use Rattle.cose_mac.specs.Hmac.{mac}
+use Rattle.cose_mac.specs.Structure.{mac_structure}
+use Rattle.cose_map.specs.Bucket.{bucket_of}
+use Rattle.cose_map.specs.Bucket.Both.{pair_faults}
+use Rattle.cose_map.specs.Bucket.Form.{bucket_table}
+use Rattle.cose_map.specs.Choice.{chosen}
+use Rattle.cose_map.specs.Key.{key_of}
+use Rattle.cose_map.specs.Key.Form.{key_table}
+use Rattle.cose_map.specs.Key.Material.{material_of}
+use Rattle.cose_map.specs.Key.Value.{symmetric}
+use Rattle.cose_map.specs.KeySet.{keys_of}
+use Rattle.cose_map.specs.Map.Read.{check_pairs}
+use Rattle.cose_msg.specs.declared.context.Wanted.TheVariants as wants
+use Rattle.cose_msg.specs.declared.verdict.Verdict.TheVariants.{Authentic}
+use Rattle.cose_msg.specs.Answer.{Chosen, decided, refused}
+use Rattle.cose_msg.specs.Message.{message, structure, verified}
+use Rattle.cose_msg.specs.Reading.{with_head, with_string, with_item}
+use Rattle.cose_cwt.specs.Admission.{admitted, admitted_claims}
+use Rattle.cose_cwt.specs.Claims.{claims_of, texts_from}
+use Rattle.cose_cwt.specs.Claims.Form.{claims_table}
+use Rattle.cose_cwt.specs.Confirmation.{confirmation_of, members_table}
+use Rattle.cose_cwt.specs.Token.{of_claims}
+use Rattle.cosecmd.specs.declared.job.Job.{Job}
+use Rattle.cosecmd.specs.declared.job.Job.TheVariants.{Cwt}
+use Rattle.cosecmd.specs.declared.reply.Status.TheVariants as statuses
+use Rattle.cosecmd.specs.Admitted.{program_policy, token_told}
+use Rattle.cosecmd.specs.Printed.{Output, outcome_said, printed}
+use Rattle.cosecmd.specs.Vouch.{vouching}
+use Rattle.cosecmd.proofs.WorkedPrinted.{hex, any, line, word, Prints, plain, jefe, point}
+use Rattle.cosecmd.proofs.WorkedShown.{lines}
+use Rattle.hex.specs.Hex.{encode_with}
+
+-- What is said of the claims of an authentic message, at a moment, with a leeway, and for whoever a text stands for.
+unfoldable said : ℕ → ℕ → Option String → List ℕ → Output
+unfolding admitted claims_of claims_table members_table confirmation_of texts_from key_of key_table material_of check_pairs children_of items_from look head_of_item bare_head read head depth_of is_utf8 chars lib.Utf8.encode digits encode_with
+said now leeway aud payload = outcome_said (of_claims (admitted_claims 8 (program_policy (pos now) leeway (option_map codes aud)) payload))
+
+-- The claims of RFC 8392 appendix A.1: exp is 1444064944 at 59, nbf 1443944944 at 65, and the audience stands at 32.
+abbrev example : String
+example = "a70175636f61703a2f2f61732e6578616d706c652e636f6d02656572696b77037818636f61703a2f2f6c696768742e6578616d706c652e636f6d041a5612aeb0051a5610d9f0061a5610d9f007420b71"
+
+abbrev example_lines : Output
+example_lines = lines (
+    "admitted"
+    ∷ "iss 636f61703a2f2f61732e6578616d706c652e636f6d"
+    ∷ "sub 6572696b77"
+    ∷ "aud 636f61703a2f2f6c696768742e6578616d706c652e636f6d"
+    ∷ "exp 1444064944"
+    ∷ "nbf 1443944944"
+    ∷ "iat 1443944944"
+    ∷ "cti 0b71"
+    ∷ [])
+
+all_but_confirmation : said 1444064943 0 None (hex example) ≡ example_lines
+unfolding said
+all_but_confirmation = refl
+
+expired : said 1444064944 0 None (hex example) ≡ line "refused claims Expired at 59" statuses.Refused
+unfolding said
+expired = refl
+
+with_leeway : said 1444064944 1 None (hex example) ≡ example_lines
+unfolding said
+with_leeway = refl
+
+too_early : said 1443944942 1 None (hex example) ≡ line "refused claims NotYet at 65" statuses.Refused
+unfolding said
+too_early = refl
+
+for_others : said 1444064943 0 (Some "other") (hex example) ≡ line "refused claims WrongAudience at 32" statuses.Refused
+unfolding said
+for_others = refl
+
+-- No claim that is known; a text of no bytes; two audiences; a date before 1970; bytes; a key's identifier, and neither.
+said_of_few : Prints (said 0 0 (Some "b")) (
+    ("a0", lines ("admitted" ∷ [])) ∷
+    ("a11864f93c00", lines ("admitted" ∷ [])) ∷
+    ("a10160", lines ("admitted" ∷ "iss " ∷ [])) ∷
+    ("a1038261616162", lines ("admitted" ∷ "aud 61" ∷ "aud 62" ∷ [])) ∷
+    ("a10520", lines ("admitted" ∷ "nbf -1" ∷ [])) ∷
+    ("a10740", lines ("admitted" ∷ "cti " ∷ [])) ∷
+    ("a108a1034131", lines ("admitted" ∷ "cnf kid 31" ∷ [])) ∷
+    ("a108a0", lines ("admitted" ∷ [])) ∷
+    ("d83d00", line "refused claims NestedCwt at 0" statuses.Refused) ∷ [])
+unfolding said
+said_of_few = refl
+
+-- In the order of their labels, whatever that of the payload is; the key goes before its identifier.
+order_of_labels : Prints (said 1 0 None) (
+    ("a3 0602 026161 016162", lines ("admitted" ∷ "iss 62" ∷ "sub 61" ∷ "iat 2" ∷ [])) ∷ [])
+unfolding said
+order_of_labels = refl
+
+confirmed_point : said 0 0 None (hex "a108a2 034131 01" ++ point) ≡ lines (
+    "admitted"
+    ∷ "cnf key 1 0707070707070707070707070707070707070707070707070707070707070707 0808080808080808080808080808080808080808080808080808080808080808"
+    ∷ "cnf kid 31"
+    ∷ [])
+unfolding said
+confirmed_point = refl
+
+confirmed_sign : said 0 0 None (hex "a108a101a401022001215820" ++ (replicate 32 7 ++ hex "22f5")) ≡
+    lines ("admitted" ∷ "cnf key 1 0707070707070707070707070707070707070707070707070707070707070707 true" ∷ [])
+unfolding said
+confirmed_sign = refl
+
+-- To admit a token of either kind under a key set, at a moment, whatever its audience.
+abbrev admitting : List ℕ → ℕ → Job
+admitting keys now = Cwt (word keys) (word []) wants.Tagged None (pos now) 0 None
+
+unfoldable prints : List ℕ → ℕ → List ℕ → Output
+unfolding printed admitted claims_of claims_table members_table confirmation_of texts_from keys_of key_of key_table material_of message with_head with_string with_item bucket_of bucket_table check_pairs pair_faults chosen children_of items_from look head_of_item bare_head read head depth_of is_utf8 chars lib.Utf8.encode digits encode_with
+prints keys now input = printed (admitting keys now) input
+
+refused_keys : (now : ℕ) (input : List ℕ) → Prints (λ keys. prints keys now input) (
+    ("", line "fault keys PastRoom at 0" statuses.Fault) ∷
+    ("80", line "fault keys BadKeySet at 0" statuses.Fault) ∷ [])
+unfolding prints
+refused_keys now input = refl
+
+-- Up to the payload a token is read as any message. The payload has at most 4,096 bytes.
+refused_messages : Prints (prints plain 0) (
+    ("", line "refused message Truncated at 0" statuses.Refused) ∷
+    ("d83d84", line "refused message CwtTagAlone at 2" statuses.Refused) ∷
+    ("84", line "refused message WrongTag at 0" statuses.Refused) ∷
+    ("d18443a10105a0591000", line "refused message Truncated at 10" statuses.Refused) ∷
+    ("d18443a10105a0591001ff", line "refused message PayloadTooLong at 7" statuses.Refused) ∷
+    ("d18443a10105a0f6", line "refused message Detached at 7" statuses.Refused) ∷ [])
+unfolding prints
+refused_messages = refl
+
+-- What is said of a token with the claims of the example, behind which no byte stands, and one.
+abbrev found : Chosen
+found = record { key = record { kid = None; alg = None; operations = None; material = symmetric jefe }; alg = Hmac256 }
+
+unfoldable said_behind : ℕ → ℕ → Bool → Output
+unfolding said
+said_behind now n holds = outcome_said (token_told n (program_policy (pos now) 0 None) (hex example)
+    (verified [] (vouching None) (Some found) (if holds then decided (Authentic Mac0 Hmac256 80 123) else refused BadAuth 89)))
+
+abbrev either : Bool → Output → Output
+either holds output = if holds then output else line "refused message BadAuth at 89" statuses.Refused
+
+alone : (holds : Bool) → said_behind 1444064943 123 holds ≡ either holds example_lines
+unfolding said_behind
+alone true = refl
+alone false = refl
+
+followed : (holds : Bool) → said_behind 1444064943 124 holds ≡ either holds (line "refused message Trailing at 123" statuses.Refused)
+unfolding said_behind
+followed true = refl
+followed false = refl
+
+-- Behind claims that are refused nothing is looked for.
+followed_late : (holds : Bool) → said_behind 1444064944 124 holds ≡ either holds (line "refused claims Expired at 59" statuses.Refused)
+unfolding said_behind
+followed_late true = refl
+followed_late false = refl
+
+-- A tag of 32 bytes, whatever they are, is compared with the MAC.
+abbrev token : (ℕ → ℕ) → List ℕ
+token byte = hex "d18443a10105a0 5850" ++ (hex example ++ (hex "5820" ++ any byte 32))
+
+abbrev holds_of : (ℕ → ℕ) → Bool
+holds_of byte = bytes_eq (any byte 32) (mac Hmac256 jefe (hex "84644d41433043a10105 40 5850" ++ hex example))
+
+token_alone : (byte : ℕ → ℕ) → prints plain 1444064943 (token byte) ≡ either (holds_of byte) example_lines
+unfolding prints said_behind structure mac_structure shortest shortest_all shortest_head
+token_alone byte = alone (holds_of byte)
+
+token_followed : (byte : ℕ → ℕ) → prints plain 1444064943 (token byte ++ (0 ∷ [])) ≡ either (holds_of byte) (line "refused message Trailing at 123" statuses.Refused)
+unfolding prints said_behind structure mac_structure shortest shortest_all shortest_head
+token_followed byte = followed (holds_of byte)
+
+token_late : (byte : ℕ → ℕ) → prints plain 1444064944 (token byte ++ (0 ∷ [])) ≡ either (holds_of byte) (line "refused claims Expired at 59" statuses.Refused)
+unfolding prints said_behind structure mac_structure shortest shortest_all shortest_head
+token_late byte = followed_late (holds_of byte)

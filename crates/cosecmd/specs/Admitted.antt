@@ -1,0 +1,106 @@
+-- What the program prints of a token (RFC 8392 section 7.2), and how it ends: the claims that are admitted, or why there are none.
+use Rattle.std.specs.Prelude.{ℕ, ℤ, true, false, List, [], ◌∷◌, ◌++◌, length, map, Option, Some, None, Ok, Err, option_map, codes, nat_lt, if◌then◌else◌}
+use Rattle.std.specs.List.{concat}
+use Rattle.std.specs.Fmt.{decimal, signed_decimal}
+use Rattle.cose_head.specs.declared.reason.Reason.TheVariants.{Trailing}
+use Rattle.cose_head.specs.declared.refusal.Refusal.{Refusal}
+use Rattle.cose_head.specs.Refusal.{refusal_text}
+use Rattle.cose_map.specs.Key.Value.{KeyValue, MaterialValue, symmetric, elliptic, YValue, coordinate, sign}
+use Rattle.cose_msg.specs.declared.verdict.Stop.TheVariants as causes
+use Rattle.cose_msg.specs.declared.verdict.Verdict.TheVariants.{Authentic, Refused}
+use Rattle.cose_msg.specs.Answer.{Answer, decided, complete, shaped}
+use Rattle.cose_msg.specs.Message.{Decides, Setting}
+use Rattle.cose_msg.specs.Reading.{Reading}
+use Rattle.cose_cwt.specs.declared.token.CwtStop.TheVariants as stops
+use Rattle.cose_cwt.specs.Admission.{PolicyValue, admitted_claims}
+use Rattle.cose_cwt.specs.Claims.{ClaimsValue, auds_of, cti_of, exp_of, iat_of, iss_of, nbf_of, sub_of}
+use Rattle.cose_cwt.specs.Confirmation.{ConfirmationValue}
+use Rattle.cose_cwt.specs.Token.{Outcome, of_claims, read_as}
+use Rattle.cosecmd.specs.declared.reply.Status.{Status}
+use Rattle.cosecmd.specs.declared.reply.Status.TheVariants as statuses
+use Rattle.hex.specs.Hex.{encode_lower}
+
+-- What a token has to meet: it is for whoever the one text stands for, or the audience is left to who reads the lines.
+abbrev pub program_policy : ℤ → ℕ → Option (List ℕ) → PolicyValue
+program_policy now leeway aud = record { now = now; leeway = leeway; mine = option_map (λ text. text ∷ []) aud }
+
+-- Nothing may stand behind a token whose claims are admitted: here the whole input has n bytes, and the token so many.
+abbrev pub unless_trailed : ℕ → ℕ → Outcome → Outcome
+unless_trailed n taken (Ok claims) =
+    if nat_lt taken n then Err (stops.Message (record { reason = Trailing; place = taken })) else Ok claims
+unless_trailed n taken (Err stop) = Err stop
+
+-- An answer that verifying doesn't come to.
+abbrev pub none_told : Outcome
+none_told = Err (stops.Stopped causes.Again)
+
+-- What an input of n bytes comes to as a token, by the payload and the answer of its message. Claims nest at most 8 deep.
+abbrev pub token_told : ℕ → PolicyValue → List ℕ → Answer → Outcome
+token_told n policy payload (decided (Authentic kind alg size taken)) = unless_trailed n taken (of_claims (admitted_claims 8 policy payload))
+token_told n policy payload (decided (Refused refusal)) = Err (stops.Message refusal)
+token_told n policy payload (complete whole) = none_told
+token_told n policy payload (shaped kind size auth taken) = none_told
+
+abbrev pub token_read : ℕ → PolicyValue → Reading → Outcome
+token_read n policy reading = token_told n policy reading.told.payload reading.answer
+
+-- The token that a whole input is, in buckets of at most 1,024 bytes that nest at most 8 deep.
+abbrev pub input_token : Setting → Decides → PolicyValue → List ℕ → Outcome
+input_token setting decides policy bytes = token_read (length bytes) policy (read_as 1024 8 setting decides bytes)
+
+-- A line for what is there, and none for what isn't.
+abbrev pub where_present : {A : Type 0} → (A → List ℕ) → Option A → List ℕ
+where_present line None = []
+where_present line (Some value) = line value
+
+-- Texts and bytes in lower case hexadecimal, dates in decimal.
+abbrev pub bytes_line : List ℕ → List ℕ → List ℕ
+bytes_line name bytes = name ++ codes " " ++ encode_lower bytes ++ codes "\n"
+
+abbrev pub date_line : List ℕ → ℤ → List ℕ
+date_line name date = name ++ codes " " ++ signed_decimal date ++ codes "\n"
+
+-- The key that is confirmed: its curve, x and y, or the sign of y. A symmetric one isn't confirmed.
+abbrev pub y_word : YValue → List ℕ
+y_word (coordinate y) = encode_lower y
+y_word (sign true) = codes "true"
+y_word (sign false) = codes "false"
+
+abbrev pub material_line : MaterialValue → List ℕ
+material_line (symmetric secret) = []
+material_line (elliptic curve x y) = codes "cnf key " ++ decimal curve ++ codes " " ++ encode_lower x ++ codes " " ++ y_word y ++ codes "\n"
+
+abbrev pub key_line : KeyValue → List ℕ
+key_line key = material_line key.material
+
+abbrev pub confirmation_lines : ConfirmationValue → List ℕ
+confirmation_lines confirmation = where_present key_line confirmation.key ++ where_present (bytes_line (codes "cnf kid")) confirmation.kid
+
+-- The registered claims (RFC 8392 section 3.1) in the order of their labels, and last the confirmation (RFC 8747 section 3.1).
+-- A line for each text of the audience.
+abbrev pub claims_lines : ClaimsValue → List ℕ
+claims_lines claims =
+    where_present (bytes_line (codes "iss")) (iss_of claims)
+    ++ where_present (bytes_line (codes "sub")) (sub_of claims)
+    ++ concat (map (bytes_line (codes "aud")) (auds_of claims))
+    ++ where_present (date_line (codes "exp")) (exp_of claims)
+    ++ where_present (date_line (codes "nbf")) (nbf_of claims)
+    ++ where_present (date_line (codes "iat")) (iat_of claims)
+    ++ where_present (bytes_line (codes "cti")) (cti_of claims)
+    ++ where_present confirmation_lines claims.confirmation
+
+-- A refusal says whether it is of the message or of its claims, since their places count from different bytes.
+abbrev pub refused_line : List ℕ → Refusal → List ℕ
+refused_line part refusal = codes "refused " ++ part ++ codes " " ++ refusal_text refusal ++ codes "\n"
+
+abbrev pub outcome_text : Outcome → List ℕ
+outcome_text (Ok claims) = codes "admitted\n" ++ claims_lines claims
+outcome_text (Err (stops.Message refusal)) = refused_line (codes "message") refusal
+outcome_text (Err (stops.Claims refusal)) = refused_line (codes "claims") refusal
+outcome_text (Err (stops.Stopped stop)) = []
+
+abbrev pub outcome_status : Outcome → Status
+outcome_status (Ok claims) = statuses.Done
+outcome_status (Err (stops.Message refusal)) = statuses.Refused
+outcome_status (Err (stops.Claims refusal)) = statuses.Refused
+outcome_status (Err (stops.Stopped stop)) = statuses.Fault

@@ -1,0 +1,250 @@
+//! The lines of the job `cwt`: the claims of a token, where they are admitted.
+
+ghost use Rattle.std.specs.Prelude.{◌≡◌, ◌≢◌, ◌≤◌, ◌↔◌, ◌++◌, ℕ, true, false, List, [], Some, None, Ok, Err, IfErr, IfOk, codes, length, map, option_map, string_bytes};
+ghost use Rattle.std.specs.List.{concat};
+ghost use Rattle.cose_head.specs.declared.refusal.Refusal.{Refusal};
+ghost use Rattle.cose_map.specs.Key.View.{contents, key_value};
+ghost use Rattle.cose_map.specs.KeySet.{keys_of};
+ghost use Rattle.cose_map.specs.KeySet.View.{keys as usable};
+ghost use Rattle.cose_msg.specs.Kept.{HasTaken, bytes_taken, is_inspecting, setting_in};
+ghost use Rattle.cose_msg.specs.Message.{Setting};
+ghost use Rattle.cose_msg.specs.Task.{to_verify};
+ghost use Rattle.cose_msg.specs.Verifier.{setting_of};
+ghost use Rattle.cose_cwt.specs.Admission.View.{policy_value};
+ghost use Rattle.cose_cwt.specs.Claims.Audience.{text_value, texts_left};
+ghost use Rattle.cose_cwt.specs.Claims.View.{claims_value};
+ghost use Rattle.cose_cwt.specs.Confirmation.View.{cnf_value};
+ghost use Rattle.cose_cwt.specs.Token.{UnlessStopped, claims_seen, stop_in};
+ghost use Rattle.cosecmd.specs.Admitted.{bytes_line, claims_lines, confirmation_lines, date_line, input_token, key_line, program_policy, refused_line, where_present};
+ghost use Rattle.cosecmd.specs.Printed.{Says, admitted_under, outcome_said, token_setting};
+ghost use Rattle.cosecmd.specs.Vouch.{vouching};
+
+use crate::answer::verify::{CHUNK, HEADER, NESTING, program_context, trailing_at};
+use crate::fault::Fault;
+use crate::reply::{Reply, Status};
+use crate::vouch::Vouch;
+use cose_cwt::{Audience, Auds, Claims, Cnf, CwtStop, Policy, verify_cwt};
+use cose_map::{Material, Y};
+use cose_msg::laws::settled_stays;
+use cose_msg::{Context, Intake, Key, KeySet, ReadIntake, Refusal, Stop, Store, Verifier, Wanted};
+use std::alloc::Global;
+use std::io::Read;
+use std::slice;
+
+/// The most bytes of the claims of a token.
+const CLAIMS: usize = 4_096;
+
+/// What a token has to meet: it is for whoever the text stands for, where there is one.
+pub fn policy_of<'j>(now: i64, leeway: u32, aud: &'j Option<&'j str>) -> Policy<'j>
+    ensures { policy_value result ≡ program_policy now leeway (option_map text_value aud.entry.now) }
+{
+    let audience = match aud {
+        Some(text) => Audience::Mine(slice::from_ref(text)),
+        None => Audience::LeftToCaller,
+    };
+    Policy {
+        now,
+        leeway,
+        audience,
+    }
+}
+
+/// Appends a line of a text or of bytes, where they are there, in hexadecimal.
+fn push_bytes(
+    alloc: Global,
+    lines: &mut String,
+    name: &str,
+    bytes: Option<&[u8]>,
+) -> Result<(), Fault>
+    ensures lines { IfOk result (λ _. string_bytes lines.new ≡ string_bytes lines.old ++ where_present (bytes_line name.now) (option_map contents bytes.entry)) }
+    ensures fault { IfErr result (λ fault. fault ≡ Fault.Memory) }
+{
+    let Some(bytes) = bytes else {
+        return Ok(());
+    };
+    let bytes = hex::encode(alloc, bytes)?;
+    let line = format!(in alloc; "{name} {bytes}\n")?;
+    lines.push_str(line.as_str())?;
+    Ok(())
+}
+
+/// The bytes of a text, where it is there.
+fn bytes_of(text: Option<&str>) -> Option<&[u8]>
+    ensures { option_map contents result ≡ option_map text_value text.entry }
+{
+    match text {
+        Some(text) => Some(text.as_bytes()),
+        None => None,
+    }
+}
+
+/// Appends a line for each text of an audience.
+fn push_audience(alloc: Global, lines: &mut String, texts: Auds) -> Result<(), Fault>
+    ensures lines { IfOk result (λ _. string_bytes lines.new ≡ string_bytes lines.old ++ concat (map (bytes_line (codes "aud")) (texts_left texts.entry))) }
+    ensures fault { IfErr result (λ fault. fault ≡ Fault.Memory) }
+{
+    'texts: for text in texts {
+        push_bytes(alloc, lines, "aud", Some(text.as_bytes()))?;
+    }
+    Ok(())
+}
+
+/// Appends the line of a date, where it is there.
+fn push_date(alloc: Global, lines: &mut String, name: &str, date: Option<i128>) -> Result<(), Fault>
+    ensures lines { IfOk result (λ _. string_bytes lines.new ≡ string_bytes lines.old ++ where_present (date_line name.now) date) }
+    ensures fault { IfErr result (λ fault. fault ≡ Fault.Memory) }
+{
+    let Some(date) = date else {
+        return Ok(());
+    };
+    let line = format!(in alloc; "{name} {date}\n")?;
+    lines.push_str(line.as_str())?;
+    Ok(())
+}
+
+/// Appends the line of a public key, where it is there: its curve, x, and y or the sign of y.
+fn push_key(alloc: Global, lines: &mut String, key: Option<Key>) -> Result<(), Fault>
+    ensures lines { IfOk result (λ _. string_bytes lines.new ≡ string_bytes lines.old ++ where_present key_line (option_map key_value key.entry)) }
+    ensures fault { IfErr result (λ fault. fault ≡ Fault.Memory) }
+{
+    let Some(key) = key else {
+        return Ok(());
+    };
+    let Material::Ec { crv, x, y } = key.material else {
+        return Ok(());
+    };
+    let x = hex::encode(alloc, x)?;
+    let line = match y {
+        Y::Bytes(y) => {
+            let y = hex::encode(alloc, y)?;
+            format!(in alloc; "cnf key {crv} {x} {y}\n")?
+        }
+        Y::Sign(y) => format!(in alloc; "cnf key {crv} {x} {y}\n")?,
+    };
+    lines.push_str(line.as_str())?;
+    Ok(())
+}
+
+/// Appends the lines of a confirmation, where it is there: those of the key and of its identifier.
+fn push_confirmation(alloc: Global, lines: &mut String, cnf: Option<Cnf>) -> Result<(), Fault>
+    ensures lines { IfOk result (λ _. string_bytes lines.new ≡ string_bytes lines.old ++ where_present confirmation_lines (option_map cnf_value cnf.entry)) }
+    ensures fault { IfErr result (λ fault. fault ≡ Fault.Memory) }
+{
+    let Some(Cnf { key, kid }) = cnf else {
+        return Ok(());
+    };
+    push_key(alloc, lines, key)?;
+    push_bytes(alloc, lines, "cnf kid", kid)
+}
+
+/// Appends the lines of the registered claims, in the order of their labels, and those of the confirmation.
+fn push_claims(alloc: Global, lines: &mut String, claims: &Claims) -> Result<(), Fault>
+    ensures lines { IfOk result (λ _. string_bytes lines.new ≡ string_bytes lines.old ++ claims_lines (claims_value claims.now)) }
+    ensures fault { IfErr result (λ fault. fault ≡ Fault.Memory) }
+{
+    push_bytes(alloc, lines, "iss", bytes_of(claims.iss()))?;
+    push_bytes(alloc, lines, "sub", bytes_of(claims.sub()))?;
+    push_audience(alloc, lines, claims.auds())?;
+    push_date(alloc, lines, "exp", claims.exp())?;
+    push_date(alloc, lines, "nbf", claims.nbf())?;
+    push_date(alloc, lines, "iat", claims.iat())?;
+    push_bytes(alloc, lines, "cti", claims.cti())?;
+    push_confirmation(alloc, lines, claims.cnf())?;
+    Ok(())
+}
+
+/// The line of a refused message, or of refused claims.
+fn refused_reply(alloc: Global, part: &str, refusal: Refusal) -> Result<Reply, Fault>
+    ensures text { IfOk result (λ reply. string_bytes reply.text ≡ refused_line part.now refusal) }
+    ensures status { IfOk result (λ reply. reply.status ≡ Status.Refused) }
+    ensures fault { IfErr result (λ fault. fault ≡ Fault.Memory) }
+{
+    let status = Status::Refused;
+    let text = format!(in alloc; "refused {part} {refusal}\n")?;
+    Ok(Reply { status, text })
+}
+
+/// The lines of a token, or why it has none.
+fn token_reply(alloc: Global, token: Result<Claims, CwtStop>) -> Result<Reply, Fault>
+    ensures says { IfOk result (Says (outcome_said (claims_seen token.entry))) }
+    ensures unstopped { IfOk result (λ _. stop_in (claims_seen token.entry) ≡ None) }
+    ensures fault { (refusal : Refusal) → result ≢ Err (Fault.Keys refusal) }
+{
+    match token {
+        Ok(claims) => {
+            let status = Status::Done;
+            let mut text = format!(in alloc; "admitted\n")?;
+            push_claims(alloc, &mut text, &claims)?;
+            Ok(Reply { status, text })
+        }
+        Err(CwtStop::Message(refusal)) => refused_reply(alloc, "message", refusal),
+        Err(CwtStop::Claims(refusal)) => refused_reply(alloc, "claims", refusal),
+        // The store holds every payload that is allowed, and a new verifier hasn't stopped.
+        Err(CwtStop::Stopped(_)) => Err(Fault::Input),
+    }
+}
+
+/// What a token is verified under: what a message is, with a payload that the store holds.
+fn token_context<'j>(keys: KeySet<'j>, aad: &'j [u8], wanted: Wanted) -> Context<'j>
+    ensures setting { setting_of result ≡ token_setting (usable keys.entry) aad.entry.now wanted }
+    ensures external { result.aad ≡ aad.entry }
+{
+    Context {
+        payload_limit: CLAIMS as u64,
+        ..program_context(keys, aad, wanted)
+    }
+}
+
+/// The token that the whole input is: behind one whose claims are admitted, a further byte makes it `Trailing`.
+fn whole_token<'a, I: Intake>(
+    verifier: &mut Verifier<HEADER, NESTING>,
+    intake: &mut I,
+    store: &'a mut Store<CLAIMS>,
+    vouch: &Vouch,
+    policy: &Policy,
+) -> Result<Claims<'a>, CwtStop>
+    requires verifies { is_inspecting verifier.old ≡ false }
+    requires none_taken { bytes_taken verifier.old ≡ 0 }
+    requires cwt { (setting_in verifier.old).cwt ≡ true }
+    requires payload_limit { (setting_in verifier.old).payload_limit ≤ 4096 }
+    ensures whole { (setting : Setting) (bytes : List ℕ) → HasTaken (to_verify setting) [] [] verifier.old → I.to_come intake.old ≡ Some bytes →
+        UnlessStopped (claims_seen result) (claims_seen result ≡ input_token setting (vouching (option_map contents vouch.now.word)) (policy_value policy.entry.now) bytes) }
+{
+    // That a verdict stays when bytes follow is what the place of a further byte rests on.
+    settled_stays();
+    let claims = verify_cwt::<CHUNK, HEADER, NESTING, CLAIMS, _, _>(
+        verifier, intake, store, vouch, policy,
+    )?;
+    match trailing_at(verifier.taken(), intake) {
+        Ok(None) => Ok(claims),
+        Ok(Some(refusal)) => Err(CwtStop::Message(refusal)),
+        Err(_) => Err(CwtStop::Stopped(Stop::Intake)),
+    }
+}
+
+/// The reply to the job `cwt`: the key set is read before the input.
+pub fn cwt_reply<R: Read>(
+    alloc: Global,
+    keys: &[u8],
+    aad: &[u8],
+    wanted: Wanted,
+    vouch: Option<&[u8]>,
+    policy: &Policy,
+    input: &mut R,
+) -> Result<Reply, Fault>
+    requires external { length aad.now ≤ 65535 }
+    ensures says { (bytes : List ℕ) → R.remaining input.old ≡ Some bytes →
+        IfOk result (Says (admitted_under (keys_of keys.now) aad.now wanted (option_map contents vouch.entry) (policy_value policy.entry.now) bytes)) }
+    ensures keys { (refusal : Refusal) → keys_of keys.now ≡ Err refusal ↔ result ≡ Err (Fault.Keys refusal) }
+{
+    let keys = match KeySet::read(keys) {
+        Ok(keys) => keys,
+        Err(refusal) => return Err(Fault::Keys(refusal)),
+    };
+    let mut verifier = Verifier::<HEADER, NESTING>::new(token_context(keys, aad, wanted));
+    let mut intake = ReadIntake::new(input);
+    let mut store = Store::<CLAIMS>::new();
+    let vouch = Vouch { word: vouch };
+    let token = whole_token(&mut verifier, &mut intake, &mut store, &vouch, policy);
+    token_reply(alloc, token)
+}
