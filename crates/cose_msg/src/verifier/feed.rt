@@ -221,3 +221,6 @@ impl<'k, const H: usize, const D: usize> Verifier<'k, H, D> {
         }
     }
 }
+
+#[cfg(test)]
+mod tests;

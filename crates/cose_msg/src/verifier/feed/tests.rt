@@ -1,0 +1,399 @@
+//! Pieces of messages that are fed, and what they come to.
+
+ghost use Rattle.std.specs.Prelude.{◌≡◌, ◌≤◌, IfSome, false, true, length};
+ghost use Rattle.cose_msg.specs.Kept.{is_inspecting};
+
+use crate::intake::tests::FailingReader;
+use crate::{
+    Alg, Context, EcVerifier, Fed, Key, KeySet, Kind, Never, Nothing, ReadIntake, Reason, Refusal,
+    Sink, SliceIntake, Status, Stop, Store, Verdict, Verifier, Wanted, verify,
+};
+use std::process::Abort;
+
+/// A COSE_Mac0 of the payload `hi` under HMAC 256/256 and the key `Jefe`, and a byte behind it.
+const MAC0: &[u8; 45] = &[
+    0xd1, 0x84, 0x43, 0xa1, 0x01, 0x05, 0xa0, 0x42, 0x68, 0x69, 0x58, 0x20, 0x7d, 0x81, 0xe9, 0x64,
+    0xaa, 0xee, 0x5f, 0xbd, 0x8a, 0xdf, 0xb3, 0xf5, 0x33, 0x65, 0x7a, 0x9e, 0xf9, 0xf7, 0x82, 0xf0,
+    0x4b, 0x91, 0x87, 0x7b, 0x60, 0x04, 0x27, 0x2a, 0x03, 0x52, 0xf9, 0x60, 0xff,
+];
+
+/// A COSE_Sign1 of no payload, whose signature of 64 bytes is zeros.
+const SIGN1: &[u8; 74] = &[
+    0xd2, 0x84, 0x43, 0xa1, 0x01, 0x26, 0xa0, 0x40, 0x58, 0x40, 0, 0, 0, 0, 0, 0, 0, 0, 0, 0, 0, 0,
+    0, 0, 0, 0, 0, 0, 0, 0, 0, 0, 0, 0, 0, 0, 0, 0, 0, 0, 0, 0, 0, 0, 0, 0, 0, 0, 0, 0, 0, 0, 0, 0,
+    0, 0, 0, 0, 0, 0, 0, 0, 0, 0, 0, 0, 0, 0, 0, 0, 0, 0, 0, 0,
+];
+
+/// A key on P-256 (RFC 9053 section 7.1.1), whose coordinates are zeros.
+const CURVE_KEY: &[u8] = &[
+    0xa4, 0x01, 0x02, 0x20, 0x01, 0x21, 0x58, 0x20, 0, 0, 0, 0, 0, 0, 0, 0, 0, 0, 0, 0, 0, 0, 0, 0,
+    0, 0, 0, 0, 0, 0, 0, 0, 0, 0, 0, 0, 0, 0, 0, 0, 0x22, 0x58, 0x20, 0, 0, 0, 0, 0, 0, 0, 0, 0, 0,
+    0, 0, 0, 0, 0, 0, 0, 0, 0, 0, 0, 0, 0, 0, 0, 0, 0, 0, 0, 0, 0, 0,
+];
+
+/// The verdict on the COSE_Mac0.
+const AUTHENTIC: Verdict = Verdict::Authentic {
+    kind: Kind::Mac0,
+    alg: Alg::Hmac256,
+    payload: 2,
+    taken: 44,
+};
+
+/// Where a message ends before it is settled.
+const fn truncated(place: u64) -> Refusal {
+    Refusal {
+        reason: Reason::Truncated,
+        place,
+    }
+}
+
+/// What is wanted under these keys, of a payload of at most so many bytes.
+fn context_of(keys: &'static [u8], payload_limit: u64) -> Option<Context<'static>>
+    ensures { IfSome result (λ context. length context.aad.now ≤ 65535) }
+{
+    let keys = KeySet::read(keys).ok()?;
+    Some(Context {
+        keys,
+        aad: b"",
+        wanted: Wanted::Tagged,
+        cwt: false,
+        understood: &[],
+        payload_limit,
+    })
+}
+
+/// What is wanted under these keys.
+fn context(keys: &'static [u8]) -> Option<Context<'static>>
+    ensures { IfSome result (λ context. length context.aad.now ≤ 65535) }
+{
+    context_of(keys, 64)
+}
+
+/// A verifier of messages under the key `Jefe`.
+fn under_jefe<const H: usize, const D: usize>() -> Option<Verifier<'static, H, D>>
+    requires some_room { 16 ≤ H }
+    requires limit { H ≤ 65535 }
+    requires nesting { D ≤ 32 }
+    ensures { IfSome result (λ verifier. is_inspecting verifier ≡ false) }
+{
+    Some(Verifier::new(context(b"\xa2\x01\x04\x20\x44Jefe")?))
+}
+
+/// A piece that was used whole, and holds no byte of the payload.
+const fn more(used: usize) -> Fed {
+    Fed {
+        used,
+        payload_from: 0,
+        payload_to: 0,
+        status: Status::More,
+    }
+}
+
+/// A piece of which so many bytes were used, none of them of the payload, and the message is complete.
+const fn complete(used: usize) -> Fed {
+    Fed {
+        used,
+        payload_from: 0,
+        payload_to: 0,
+        status: Status::Complete,
+    }
+}
+
+/// What is left of a message of 44 bytes, in one piece or two.
+const WHOLE: usize = 44;
+
+#[test]
+fn takes_pieces_as_they_come(rt: HostRuntime) {
+    let Some(mut verifier) = under_jefe::<16, 1>() else {
+        return;
+    };
+    let message = &MAC0[..];
+    let rows: [(&[u8], Fed); 4] = [
+        (&message[..4], more(4)),
+        (
+            &message[4..11],
+            Fed {
+                used: 7,
+                payload_from: 4,
+                payload_to: 6,
+                status: Status::More,
+            },
+        ),
+        (&message[11..], complete(33)),
+        (&message[44..], complete(0)),
+    ];
+    for (piece, wanted) in rows {
+        let fed = verifier.feed(piece);
+        assert_eq!(rt; fed, wanted);
+    }
+    assert_eq!(rt; verifier.taken(), 44);
+    assert_eq!(rt; verifier.is_complete(), true);
+    assert_eq!(rt; verifier.end(), Status::Complete);
+}
+
+#[test]
+fn wants_what_is_left_of_a_string(rt: HostRuntime) {
+    // After so many bytes: heads and the unprotected bucket want one, strings what is left of them.
+    let rows: [(usize, u64); 11] = [
+        (0, 1),
+        (2, 1),
+        (3, 3),
+        (4, 2),
+        (6, 1),
+        (7, 1),
+        (8, 2),
+        (9, 1),
+        (11, 1),
+        (12, 32),
+        (44, 0),
+    ];
+    for (taken, wanted) in rows {
+        let Some(mut verifier) = under_jefe::<16, 1>() else {
+            return;
+        };
+        let fed = verifier.feed(&MAC0[..taken.min(WHOLE)]);
+        assert_eq!(rt; fed.used, taken);
+        assert_eq!(rt; verifier.want(), wanted, "after {taken} bytes");
+    }
+}
+
+/// Feeds a piece, and puts what it holds of the payload into a store.
+fn feed_into<const H: usize, const D: usize>(
+    verifier: &mut Verifier<H, D>,
+    piece: &[u8],
+    store: &mut Store<2>,
+) -> Fed {
+    let fed = verifier.feed(piece);
+    let payload = &piece[fed.payload_from..fed.payload_to];
+    if !payload.is_empty() {
+        let _ = store.put(payload);
+    }
+    fed
+}
+
+#[test]
+fn comes_to_the_same_in_every_cut(rt: HostRuntime) {
+    for cut in 0..45 {
+        let Some(mut verifier) = under_jefe::<16, 1>() else {
+            return;
+        };
+        let mut store = Store::<2>::new();
+        let (front, rest) = MAC0.split_at(cut);
+        let first = feed_into(&mut verifier, front, &mut store);
+        let last = feed_into(&mut verifier, rest, &mut store);
+        assert_eq!(rt; first.used, cut.min(WHOLE), "cut at {cut}");
+        assert_eq!(rt; last.used, WHOLE.saturating_sub(cut), "cut at {cut}");
+        assert_eq!(rt; last.status, Status::Complete, "cut at {cut}");
+        assert_eq!(rt; store.bytes(), b"hi".as_slice(), "cut at {cut}");
+        assert_eq!(rt; verifier.taken(), 44, "cut at {cut}");
+    }
+}
+
+#[test]
+fn takes_bytes_one_by_one(rt: HostRuntime) {
+    let Some(mut verifier) = under_jefe::<16, 1>() else {
+        return;
+    };
+    let mut store = Store::<2>::new();
+    for place in 0..44 {
+        let (_, rest) = MAC0.split_at(place);
+        let fed = feed_into(&mut verifier, &rest[..1], &mut store);
+        let status = if place == 43 {
+            Status::Complete
+        } else {
+            Status::More
+        };
+        assert_eq!(rt; (fed.used, fed.status), (1, status), "byte {place}");
+        assert_eq!(rt; verifier.held() <= 32 + 512, true, "byte {place}");
+    }
+    assert_eq!(rt; store.bytes(), b"hi".as_slice());
+}
+
+#[test]
+fn goes_on_by_verify(rt: HostRuntime) {
+    let Some(mut verifier) = under_jefe::<16, 1>() else {
+        return;
+    };
+    let (front, rest) = MAC0.split_at(9);
+    assert_eq!(rt; verifier.feed(front).status, Status::More);
+    let mut intake = SliceIntake::new(rest, 64);
+    let mut store = Store::<2>::new();
+    let verdict = verify::<64, 16, 1, SliceIntake, Store<2>, Never>(
+        &mut verifier,
+        &mut intake,
+        &mut store,
+        &Never,
+    );
+    assert_eq!(rt; verdict, Ok(AUTHENTIC));
+    assert_eq!(rt; store.bytes(), b"i".as_slice());
+    assert_eq!(rt; verifier.status(), Status::Complete);
+}
+
+#[test]
+fn refuses_with_the_byte_that_settles(rt: HostRuntime) {
+    let mut changed = *MAC0;
+    changed[43] ^= 1;
+    let rows: [(&[u8], Reason, u64, usize); 4] = [
+        (&changed, Reason::BadAuth, 10, 44),
+        (
+            b"\xd1\x84\x43\xa1\x01\x05\xa0\x5f\x01",
+            Reason::Indefinite,
+            7,
+            8,
+        ),
+        (
+            b"\xd1\x84\x43\xa1\x01\x05\xa1\x40\x00\x00",
+            Reason::BadLabel,
+            7,
+            9,
+        ),
+        (b"\xd8\x62\x84", Reason::SeveralParties, 0, 2),
+    ];
+    for (message, reason, place, used) in rows {
+        let Some(mut verifier) = under_jefe::<16, 1>() else {
+            return;
+        };
+        let refused = Status::Refused(Refusal { reason, place });
+        let fed = verifier.feed(message);
+        assert_eq!(rt; (fed.used, fed.status), (used, refused));
+        assert_eq!(rt; verifier.want(), 0);
+        // It stays so.
+        assert_eq!(rt; verifier.end(), refused);
+        let fed = verifier.feed(message);
+        assert_eq!(rt; (fed.used, fed.status), (0, refused));
+    }
+}
+
+#[test]
+fn ends_where_no_byte_follows(rt: HostRuntime) {
+    for taken in [0, 9, 43] {
+        let Some(mut verifier) = under_jefe::<16, 1>() else {
+            return;
+        };
+        let fed = verifier.feed(&MAC0[..taken]);
+        assert_eq!(rt; (fed.used, fed.status), (taken, Status::More));
+        let refused = Status::Refused(truncated(verifier.taken()));
+        assert_eq!(rt; verifier.end(), refused);
+        let fed = verifier.feed(MAC0);
+        assert_eq!(rt; (fed.used, fed.status), (0, refused));
+        assert_eq!(rt; verifier.taken(), taken as u64);
+    }
+}
+
+#[test]
+fn stays_stopped(rt: HostRuntime) {
+    let Some(mut verifier) = under_jefe::<16, 1>() else {
+        return;
+    };
+    let mut failing = ReadIntake::new(FailingReader::new(MAC0, 3));
+    let stop = verify::<64, 16, 1, ReadIntake<FailingReader>, Nothing, Never>(
+        &mut verifier,
+        &mut failing,
+        &mut Nothing,
+        &Never,
+    );
+    assert_eq!(rt; stop, Err(Stop::Intake));
+    let fed = verifier.feed(MAC0);
+    assert_eq!(rt; (fed.used, fed.status), (0, Status::Stopped));
+    assert_eq!(rt; verifier.want(), 0);
+    assert_eq!(rt; verifier.end(), Status::Stopped);
+    verifier.reset();
+    assert_eq!(rt;
+        verifier.feed(MAC0),
+        Fed {
+            payload_from: 8,
+            payload_to: 10,
+            ..complete(44)
+        }
+    );
+}
+
+/// Says the same of every signature.
+#[derive(Drop)]
+struct Says {
+    holds: bool,
+}
+
+impl EcVerifier for Says {
+    ghost decides = { λ says key digest signature. says.holds };
+
+    fn holds(&self, _key: &Key, _digest: &[u8], _signature: &[u8]) -> bool {
+        self.holds
+    }
+}
+
+/// The verdict on the COSE_Sign1, where its signature holds and where it doesn't.
+const fn decision(holds: bool) -> Verdict {
+    if holds {
+        return Verdict::Authentic {
+            kind: Kind::Sign1,
+            alg: Alg::Es256,
+            payload: 0,
+            taken: 74,
+        };
+    }
+    Verdict::Refused(Refusal {
+        reason: Reason::BadAuth,
+        place: 8,
+    })
+}
+
+#[test]
+fn decides_on_a_signature_once(rt: HostRuntime) {
+    for holds in [true, false] {
+        let Some(context) = context(CURVE_KEY) else {
+            return;
+        };
+        let mut verifier: Verifier<16, 1> = Verifier::new(context);
+        let fed = verifier.feed(SIGN1);
+        assert_eq!(rt; fed, complete(74));
+        if !verifier.is_complete() {
+            return;
+        }
+        let verdict = verifier.verdict(&Says { holds });
+        assert_eq!(rt; verdict, decision(holds));
+        assert_eq!(rt; verifier.end(), Status::Complete);
+        if !verifier.is_complete() {
+            return;
+        }
+        // Whoever is asked now, the verdict is kept.
+        let verdict = verifier.verdict(&Says { holds: !holds });
+        assert_eq!(rt; verdict, decision(holds));
+        let fed = verifier.feed(SIGN1);
+        assert_eq!(rt; fed, complete(0));
+    }
+}
+
+#[test]
+fn completes_what_is_inspected(rt: HostRuntime) {
+    let Some(context) = context(b"\xa0") else {
+        return;
+    };
+    let mut verifier: Verifier<16, 1> = Verifier::inspecting(context);
+    let fed = verifier.feed(SIGN1);
+    assert_eq!(rt; fed, complete(74));
+    assert_eq!(rt; verifier.is_inspecting(), true);
+}
+
+#[test]
+fn takes_a_piece_of_any_length(rt: HostRuntime) {
+    let Some(context) = context_of(b"\xa2\x01\x04\x20\x44Jefe", 100_000) else {
+        return;
+    };
+    let mut verifier: Verifier<16, 1> = Verifier::new(context);
+    let front = b"\xd1\x84\x43\xa1\x01\x05\xa0\x5a\x00\x01\x86\xa0";
+    assert_eq!(rt; verifier.feed(front), more(12));
+    assert_eq!(rt; verifier.want(), 100_000);
+    let payload = [0u8; 100_000];
+    let fed = verifier.feed(&payload);
+    let whole = Fed {
+        used: 100_000,
+        payload_from: 0,
+        payload_to: 100_000,
+        status: Status::More,
+    };
+    assert_eq!(rt; fed, whole);
+    assert_eq!(rt; verifier.held(), 256 + 3 + 1);
+    assert_eq!(rt; verifier.feed(b"\x58\x20"), more(2));
+    assert_eq!(rt; verifier.want(), 32);
+}
