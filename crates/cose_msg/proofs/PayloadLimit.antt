@@ -1,20 +1,12 @@
 -- No more of a payload is known than a payload may have.
-use Rattle.std.proofs.Common.{◌≡◌, ℕ, ◌+◌, ◌<◌, ◌≤◌, ◌^◌, Bool, true, false, cond, List, [], length, take, drop, Option, Some, None, Result, Ok, Err, refl, arith}
+use Rattle.std.proofs.Common.{◌≡◌, ℕ, ◌≤◌, ◌^◌, Bool, true, false, cond, List, [], length, Option, Some, None, Result, Ok, Err, refl, arith}
 use Rattle.std.specs.Prelude.{nat_lt, nat_le, ◌||◌}
-use Rattle.std.proofs.lemmas.Bool.{ltb-true, ltb-false}
-use Rattle.std.proofs.lemmas.List.{length-take}
+use Rattle.std.proofs.lemmas.Bool.{ltb-false}
 use Rattle.cose_head.specs.declared.head.Head.{Head}
-use Rattle.cose_head.specs.declared.head.HeadStep.{HeadStep}
-use Rattle.cose_head.specs.declared.head.HeadStep.TheVariants.{Got, More, Fault}
 use Rattle.cose_head.specs.declared.kind.Kind.{Kind}
 use Rattle.cose_head.specs.declared.kind.Kind.TheVariants as kinds
 use Rattle.cose_head.specs.declared.reason.Reason.{Reason}
 use Rattle.cose_head.specs.declared.reason.Reason.TheVariants.{WrongType}
-use Rattle.cose_head.specs.declared.refusal.Refusal.{Refusal}
-use Rattle.cose_head.specs.Head.{bare_head}
-use Rattle.cose_head.specs.Item.{Item}
-use Rattle.cose_head.specs.Measured.{left_of}
-use Rattle.cose_head.specs.Reading.{Outcome, read}
 use Rattle.cose_map.specs.Bucket.{bucket_of}
 use Rattle.cose_map.specs.Map.Pairs.{Pair}
 use Rattle.cose_map.specs.Bucket.Both.{pair_fault}
@@ -24,7 +16,7 @@ use Rattle.cose_msg.specs.Answer.{Chosen, Headers}
 use Rattle.cose_msg.specs.Front.{array_head_fault, past_array_head, array_head, kind_of_tag, past_tag, tag_behind_cwt, past_second_head, second_head, past_untagged, is_cwt_tag, is_tag, is_array, past_first_head}
 use Rattle.cose_msg.specs.Message.{message}
 use Rattle.cose_msg.specs.Phases.{nothing_told, protected_told, unprotected_told, headers_told, finish, auth, auth_head_fault, past_auth_head, auth_head, past_payload, payload, payload_head_fault, payload_fault_within, is_bytes_head, is_nil, past_payload_head, payload_head, past_choice, key_choice, both_buckets, placed_at, headers_of, past_unprotected, unprotected, past_protected, protected, protected_head_fault, past_protected_head, protected_head}
-use Rattle.cose_msg.specs.Reading.{Told, Reading, Phase, Next, stop, cut, is_truncated, past_head, with_head, with_string, past_item, with_item, unless, unless_fault, with_value, open_items_after}
+use Rattle.cose_msg.specs.Reading.{Told, Phase, stop}
 use Rattle.cose_msg.specs.Rules.{Rules}
 use Rattle.cose_msg.proofs.ToldForms.{Tells, choose-tells, unless-tells, unless_fault-tells, with_head-tells, with_item-tells, with_string-tells, with_value-tells}
 

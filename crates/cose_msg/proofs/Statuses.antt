@@ -3,15 +3,13 @@ use Rattle.std.proofs.Common.{◌≡◌, ℕ, Bool, true, false, cond, List, [],
 use Rattle.cose_msg.specs.declared.phase.Phase.{Phase}
 use Rattle.cose_msg.specs.declared.phase.Phase.TheVariants as phases
 use Rattle.cose_msg.specs.declared.status.Status.{Status}
-use Rattle.cose_msg.specs.declared.status.Status.TheVariants.{More, Stopped}
-use Rattle.cose_msg.specs.declared.verdict.Verdict.{Verdict}
-use Rattle.cose_msg.specs.declared.verdict.Verdict.TheVariants.{Authentic, Refused}
+use Rattle.cose_msg.specs.declared.status.Status.TheVariants.{More}
 use Rattle.cose_msg.specs.declared.verifier.Verifier.{Verifier}
 use Rattle.cose_msg.specs.Kept.{HasTaken}
 use Rattle.cose_msg.specs.Message.{message}
-use Rattle.cose_msg.specs.Phase.{is_settled, want_of}
+use Rattle.cose_msg.specs.Phase.{is_settled}
 use Rattle.cose_msg.specs.Reading.{Reading, Told}
-use Rattle.cose_msg.specs.Status.{is_more, status_at, status_of, status_of_verdict}
+use Rattle.cose_msg.specs.Status.{status_at, status_of}
 use Rattle.cose_msg.specs.Task.{Task, rules_of}
 use Rattle.cose_msg.specs.Verifier.{HoldsIn, Known, StandsFor, left_in}
 use Rattle.cose_msg.proofs.Runs.{without_more}
@@ -43,54 +41,7 @@ stands_status {H} {D} {task} {B} {n} {v} {reading} h same = status_here task h.k
 pub status_reads : {H D : ℕ} {task : Task} {s B : List ℕ} {v : Verifier H D} {said : Status} → HasTaken task s B v → status_at v.phase ≡ status_of (message (rules_of H D task) (s ++ [])) → status_at v.phase ≡ said → said ≡ status_of (message (rules_of H D task) s)
 status_reads {H} {D} {task} {s} {B} {v} {said} h same is = sym is ∙ same ∙ ap status_of (without_more H D task s)
 
--- ---- what a phase wants
-
-no_more_left : (verdict : Verdict) → is_more (status_of_verdict verdict) ≡ true → ⊥
-no_more_left (Authentic kind alg payload taken) e = absurd cc
-no_more_left (Refused refusal) e = absurd cc
-
-pub more_is_open : (phase : Phase) → is_more (status_at phase) ≡ true → is_settled phase ≡ false
-more_is_open phases.FirstHead e = refl
-more_is_open (phases.TagHead p) e = refl
-more_is_open (phases.ArrayHead p) e = refl
-more_is_open (phases.ProtectedHead p) e = refl
-more_is_open (phases.Protected p) e = refl
-more_is_open (phases.Unprotected p) e = refl
-more_is_open (phases.PayloadHead p) e = refl
-more_is_open (phases.Payload p) e = refl
-more_is_open (phases.AuthHead p) e = refl
-more_is_open (phases.Auth p) e = refl
-more_is_open (phases.Signed p) e = absurd cc
-more_is_open (phases.Decided verdict) e = absurd cc
-more_is_open (phases.Settled verdict) e = absurd (no_more_left verdict e)
-more_is_open (phases.Shaped p) e = absurd cc
-
-pub no_more_wants_none : (phase : Phase) → is_more (status_at phase) ≡ false → want_of phase ≡ 0
-no_more_wants_none phases.FirstHead e = absurd cc
-no_more_wants_none (phases.TagHead p) e = absurd cc
-no_more_wants_none (phases.ArrayHead p) e = absurd cc
-no_more_wants_none (phases.ProtectedHead p) e = absurd cc
-no_more_wants_none (phases.Protected p) e = absurd cc
-no_more_wants_none (phases.Unprotected p) e = absurd cc
-no_more_wants_none (phases.PayloadHead p) e = absurd cc
-no_more_wants_none (phases.Payload p) e = absurd cc
-no_more_wants_none (phases.AuthHead p) e = absurd cc
-no_more_wants_none (phases.Auth p) e = absurd cc
-no_more_wants_none (phases.Signed p) e = refl
-no_more_wants_none (phases.Decided verdict) e = refl
-no_more_wants_none (phases.Settled verdict) e = refl
-no_more_wants_none (phases.Shaped p) e = refl
-
--- ---- a verifier that has stopped
-
-pub none_where_stopped : (stopped : Bool) (phase : Phase) → is_more (cond stopped Stopped (status_at phase)) ≡ false → cond stopped 0 (want_of phase) ≡ 0
-none_where_stopped true phase e = refl
-none_where_stopped false phase e = no_more_wants_none phase e
-
-pub more_goes_on : (stopped : Bool) (phase : Phase) → cond stopped Stopped (status_at phase) ≡ More → (stopped ≡ false) × (is_settled phase ≡ false)
-more_goes_on true phase e = absurd cc
-more_goes_on false phase e = (refl, more_is_open phase (ap is_more e))
-
+-- What wants bytes hasn't stopped.
 pub wants_and_goes_on : (stopped : Bool) (wanted said : ℕ) → said ≡ cond stopped 0 wanted → (said ≡ 0 → ⊥) → stopped ≡ false
 wants_and_goes_on true wanted said e some = absurd (some e)
 wants_and_goes_on false wanted said e some = refl

@@ -31,6 +31,18 @@
 //! [`inspect`] reads a message with a verifier that [`Verifier::inspecting`] made, and gives its shape: no key is chosen, and nothing
 //! is authenticated. What was read of the header buckets, and what a signature is verified with, a verifier tells after either call.
 //!
+//! Where the bytes come by themselves, [`Verifier::feed`] takes them in pieces of any length, says which of them are of the payload,
+//! and gives the [`Status`] of the message. [`Verifier::end`] says that no byte follows, and [`Verifier::verdict`] decides once the
+//! message is complete. `verify` goes on where a verifier was fed before.
+//!
+//! ```rust
+//! let fed = verifier.feed(piece);
+//! let payload = &piece[fed.payload_from..fed.payload_to];
+//! if verifier.is_complete() {
+//!     let verdict = verifier.verdict(&Never);
+//! }
+//! ```
+//!
 //! [`make_mac0`] makes a COSE_Mac0 of a payload whose length is known, in pieces too:
 //!
 //! ```rust

@@ -192,4 +192,6 @@ pub fn inspect<'k, const C: usize, const H: usize, const D: usize, I: Intake, S:
 #[cfg(test)]
 mod inspecting_tests;
 #[cfg(test)]
+mod limits_tests;
+#[cfg(test)]
 mod tests;

@@ -4,6 +4,7 @@ mod contexts;
 mod cwt;
 mod digests;
 mod failures;
+mod feeding;
 mod long;
 mod making;
 mod messages;

@@ -43,6 +43,7 @@ impl<'k, const H: usize, const D: usize> Verifier<'k, H, D> {
     ghost use Rattle.cose_msg.specs.Shown.{Tells, held, shown_of};
     ghost use Rattle.cose_msg.specs.Status.{is_complete, is_more, status_in, status_of, wanted_in};
     ghost use Rattle.cose_msg.specs.Task.{Task, rules_of, to_verify};
+    ghost use Rattle.cose_msg.specs.Verifier.{opened};
 
     /// Where the message stands after the bytes so far.
     pub fn status(&self) -> Status
@@ -139,6 +140,7 @@ impl<'k, const H: usize, const D: usize> Verifier<'k, H, D> {
         ensures again { is_more (status_in self.old) ≡ false → (result ≡ nothing_used (status_in self.old)) × (self.new ≡ self.old) }
         ensures inspects { is_inspecting self.new ≡ is_inspecting self.old }
         ensures held { held self.new ≤ 2 * H + 512 }
+        ensures opened { opened self.new ≤ D }
     {
         // What this says of messages is all that the proof rests on.
         messages_are_bounded();
@@ -185,6 +187,7 @@ impl<'k, const H: usize, const D: usize> Verifier<'k, H, D> {
         ensures inspects { is_inspecting self.new ≡ is_inspecting self.old }
         ensures shown { shown_of self.new ≡ shown_of self.old }
         ensures held { held self.new ≤ 2 * H + 512 }
+        ensures opened { opened self.new ≤ D }
     {
         self.waits();
         let status = self.status();
@@ -211,6 +214,7 @@ impl<'k, const H: usize, const D: usize> Verifier<'k, H, D> {
         ensures inspects { is_inspecting self.new ≡ false }
         ensures shown { shown_of self.new ≡ shown_of self.old }
         ensures held { held self.new ≤ 2 * H + 512 }
+        ensures opened { opened self.new ≤ D }
     {
         // What this says of messages is all that the proof rests on.
         deciding_goes_last();

@@ -1,8 +1,9 @@
 //! What the context of a message changes: the labels that are understood, the CWT tag, the limit of the payload.
 
+use crate::tests::feeding::feed_all;
 use crate::tests::{KEY, context, hmac, key_set};
 use cose_msg::{
-    Alg, Context, KeySet, Kind, Label, Never, Reason, Refusal, SliceIntake, Store, Verdict,
+    Alg, Context, KeySet, Kind, Label, Never, Reason, Refusal, SliceIntake, Status, Store, Verdict,
     Verifier, Wanted, verify,
 };
 use std::process::Abort;
@@ -51,6 +52,14 @@ fn limited<'k>(keys: KeySet<'k>, payload_limit: u64) -> Context<'k> {
     context
 }
 
+/// The status of a COSE_Mac0 with this verdict.
+const fn status_of(verdict: Verdict) -> Status {
+    match verdict {
+        Verdict::Authentic { .. } => Status::Complete,
+        Verdict::Refused(refusal) => Status::Refused(refusal),
+    }
+}
+
 /// In this context the bytes come to this verdict in every cut, after so many of them.
 fn comes_to(rt: &impl Abort, context: Context, bytes: &[u8], verdict: Verdict, taken: u64) {
     assert!(rt; context.aad.len() <= 65_535);
@@ -65,6 +74,15 @@ fn comes_to(rt: &impl Abort, context: Context, bytes: &[u8], verdict: Verdict, t
             &Never,
         );
         assert_eq!(rt; answer, Ok(verdict), "{bytes:?} in pieces of {cut}");
+        assert_eq!(rt; verifier.taken(), taken, "{bytes:?} in pieces of {cut}");
+        let mut verifier = Verifier::<1024, 4>::new(context);
+        let mut store = Store::<16>::new();
+        feed_all(rt, &mut verifier, bytes, cut, &mut store);
+        assert_eq!(rt;
+            verifier.end(),
+            status_of(verdict),
+            "{bytes:?} in pieces of {cut}"
+        );
         assert_eq!(rt; verifier.taken(), taken, "{bytes:?} in pieces of {cut}");
     }
 }

@@ -7,13 +7,13 @@ use sha2::Digest;
 use std::test::Fail;
 
 /// The message up to the payload's 10,000,000 bytes.
-const FRONT: &[u8] = b"\xd1\x84\x43\xa1\x01\x05\xa0\x5a\x00\x98\x96\x80";
+pub const FRONT: &[u8] = b"\xd1\x84\x43\xa1\x01\x05\xa0\x5a\x00\x98\x96\x80";
 
 /// The MAC_structure up to them (RFC 9052 section 6.3).
 const STRUCTURE: &[u8] = b"\x84\x64MAC0\x43\xa1\x01\x05\x40\x5a\x00\x98\x96\x80";
 
 /// The head of an authentication tag of 32 bytes, and the tag of a payload that is this block 1,000 times.
-fn auth_of(block: &[u8]) -> [u8; 34] {
+pub fn auth_of(block: &[u8]) -> [u8; 34] {
     let mut inner = padded(KEY, 0x36);
     inner.update(STRUCTURE);
     for _i in 0..1_000 {

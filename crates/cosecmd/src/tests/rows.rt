@@ -1,9 +1,10 @@
 //! Messages phase by phase: each refusal with its place and the bytes that were taken, and what is authentic in every cut.
 
+use crate::tests::feeding::feed_all;
 use crate::tests::{KEY, hmac, verifier};
 use cose_msg::{
-    Alg, KeySet, Kind, Never, ReadIntake, Reason, Refusal, SliceIntake, Store, Verdict, Wanted,
-    verify,
+    Alg, KeySet, Kind, Never, ReadIntake, Reason, Refusal, SliceIntake, Status, Store, Verdict,
+    Wanted, verify,
 };
 use std::alloc::Global;
 use std::process::Abort;
@@ -58,6 +59,13 @@ fn refuses(
         message.len(),
         reader.len().saturating_add(taken),
         "{bytes}"
+    );
+    refuses_fed(
+        rt,
+        keys,
+        message.as_slice(),
+        Refusal { reason, place },
+        taken,
     );
     Ok(())
 }
@@ -133,6 +141,25 @@ fn refuses_where_no_one_key_fits(rt: HostRuntime) -> Result<(), Fail> {
     Ok(())
 }
 
+/// The same, where the bytes are fed in pieces and then end.
+fn refuses_fed(rt: &impl Abort, keys: KeySet, message: &[u8], refusal: Refusal, taken: usize) {
+    for cut in [1usize, 2, 7, 64] {
+        let mut verifier = verifier(keys, Wanted::Tagged);
+        let mut store = Store::<16>::new();
+        feed_all(rt, &mut verifier, message, cut, &mut store);
+        assert_eq!(rt;
+            verifier.end(),
+            Status::Refused(refusal),
+            "{message:?} in pieces of {cut}"
+        );
+        assert_eq!(rt;
+            verifier.taken(),
+            taken as u64,
+            "{message:?} in pieces of {cut}"
+        );
+    }
+}
+
 /// A message that is authentic: up to the tag, the structure, the key and the number of bytes of the tag.
 #[derive(Clone, Copy)]
 struct Row<'a> {
@@ -186,7 +213,23 @@ fn authenticates_in_pieces(
         b"hi".as_slice(),
         "{front} in pieces of {cut}"
     );
+    completes_in_pieces(rt, keys, row, message, cut);
     Ok(())
+}
+
+/// The same, where the pieces are fed.
+fn completes_in_pieces(rt: &impl Abort, keys: &KeySet, row: &Row, message: &[u8], cut: usize) {
+    let front = row.front;
+    let mut verifier = verifier(*keys, row.wanted);
+    let mut store = Store::<16>::new();
+    let status = feed_all(rt, &mut verifier, message, cut, &mut store);
+    assert_eq!(rt; status, Status::Complete, "{front} in pieces of {cut}");
+    assert_eq!(rt; verifier.taken(), row.taken, "{front} in pieces of {cut}");
+    assert_eq!(rt;
+        store.bytes(),
+        b"hi".as_slice(),
+        "{front} in pieces of {cut}"
+    );
 }
 
 /// The message is authentic in every cut.

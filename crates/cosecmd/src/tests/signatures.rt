@@ -1,9 +1,14 @@
 //! What the verifier of signatures is asked, and what comes of its answer.
 
+use crate::tests::feeding::feed_all;
 use crate::tests::streams::Asked;
 use crate::tests::{SIGNED, SIGNED_STRUCTURE, counted, point, verifier};
-use cose_msg::{Alg, KeySet, Kind, Reason, Refusal, SliceIntake, Store, Verdict, Wanted, verify};
+use cose_msg::{
+    Alg, KeySet, Kind, Reason, Refusal, SliceIntake, Status, Store, Verdict, Verifier, Wanted,
+    verify,
+};
 use sha2::{Digest, Sha256};
+use std::process::Abort;
 use std::test::Fail;
 
 /// The verdict where the signature holds, and where it doesn't.
@@ -20,6 +25,29 @@ const fn verdict(holds: bool) -> Verdict {
         reason: Reason::BadAuth,
         place: 8,
     })
+}
+
+/// A complete message gets this verdict, and stays complete.
+fn decides(rt: &impl Abort, verifier: &mut Verifier<1024, 4>, asked: &Asked, holds: bool) {
+    assert_eq!(rt; verifier.status(), Status::Complete);
+    if verifier.is_complete() && !verifier.is_inspecting() {
+        assert_eq!(rt; verifier.verdict(asked), verdict(holds));
+    }
+    assert_eq!(rt; verifier.status(), Status::Complete);
+}
+
+/// The same, where the message is fed in pieces. Once it is decided, nobody is asked again.
+fn decides_fed(rt: &impl Abort, keys: KeySet, bytes: &[u8], cut: usize, asked: &Asked) {
+    let mut verifier = verifier(keys, Wanted::Tagged);
+    let mut store = Store::<16>::new();
+    feed_all(rt, &mut verifier, bytes, cut, &mut store);
+    decides(rt, &mut verifier, asked, asked.says);
+    let other = Asked {
+        digest: asked.digest,
+        signature: asked.signature,
+        says: !asked.says,
+    };
+    decides(rt, &mut verifier, &other, asked.says);
 }
 
 #[test]
@@ -54,6 +82,7 @@ fn asks_about_the_signature(rt: HostRuntime) -> Result<(), Fail> {
             );
             assert_eq!(rt; answer, Ok(verdict(says)), "in pieces of {cut}");
             assert_eq!(rt; verifier.taken(), 74, "in pieces of {cut}");
+            decides_fed(&rt, keys, bytes.as_slice(), cut, &asked);
         }
     }
     Ok(())

@@ -5,14 +5,19 @@ ghost use Rattle.std.specs.Prelude.{◌≡◌, ◌≤◌, false, true, length};
 ghost use Rattle.cose_msg.specs.Kept.{is_inspecting};
 
 use crate::tests::cwt::example;
-use crate::tests::streams::FailingIntake;
-use crate::tests::{KEY, KEY_SET, STRUCTURE, cut, hmac, key_set, message};
+use crate::tests::streams::{Asked, FailingIntake};
+use crate::tests::{
+    KEY, KEY_SET, SIGNED, SIGNED_STRUCTURE, STRUCTURE, counted, cut, hmac, key_set, message, point,
+};
 use cose_cwt::{Audience, Claims, CwtStop, Policy, verify_cwt};
 use cose_mac::{Alg, Running, structure_front};
 use cose_map::{Bucket, KeySet, Kind, Material, Query, Reason, Refusal, check_pair};
 use cose_msg::{
-    Context, Intake, Never, SliceIntake, Stop, Store, Verdict, Verifier, Wanted, verify,
+    Context, EcVerifier, Intake, Never, Sink, SliceIntake, Status, Stop, Store, Verdict, Verifier,
+    Wanted, verify,
 };
+use sha2::{Digest, Sha256};
+use std::mem::size_of;
 use std::process::Abort;
 use std::test::Fail;
 
@@ -173,6 +178,137 @@ fn hands_out_claims_that_are_admitted(rt: HostRuntime) -> Result<(), Fail> {
     };
     assert_eq!(rt; late.err(), Some(CwtStop::Claims(expired)));
     Ok(())
+}
+
+/// A device's end of a line, with a buffer of seven bytes that is emptied at each interrupt.
+trait Port {
+    /// Gives the bytes that came since the last interrupt, and says how many these are: 0 where the line is closed.
+    fn interrupt(&mut self, buffer: &mut [u8; 7]) -> usize;
+}
+
+/// The verdict on one message from the line. The payload goes to the handler as it comes.
+fn listen<P: Port, S: Sink, E: EcVerifier>(
+    verifier: &mut Verifier<256, 4>,
+    port: &mut P,
+    handler: &mut S,
+    ec: &E,
+) -> Result<Verdict, Stop>
+    requires { is_inspecting verifier.old ≡ false }
+{
+    let mut buffer = [0u8; 7];
+    'interrupts: for _i in 0..u64::MAX {
+        let count = port.interrupt(&mut buffer).min(7);
+        let bytes = &buffer[..count];
+        let fed = verifier.feed(bytes);
+        let payload = &bytes[fed.payload_from..fed.payload_to];
+        if !payload.is_empty() && handler.put(payload).is_err() {
+            return Err(Stop::Sink);
+        }
+        if count == 0 || fed.status != Status::More {
+            break;
+        }
+    }
+    match verifier.end() {
+        Status::Complete => Ok(verifier.verdict(ec)),
+        Status::Refused(refusal) => Ok(Verdict::Refused(refusal)),
+        Status::More | Status::Stopped => Err(Stop::Again),
+    }
+}
+
+/// A line on which 1, 2 and so on to 7 bytes come between two interrupts, and then 1 again.
+#[derive(Drop)]
+struct Line<'a> {
+    bytes: &'a [u8],
+    last: usize,
+}
+
+impl Port for Line<'_> {
+    fn interrupt(&mut self, buffer: &mut [u8; 7]) -> usize {
+        self.last = self.last % 7 + 1;
+        let count = self.last.min(self.bytes.len());
+        let (piece, rest) = self.bytes.split_at(count);
+        buffer[..count].copy_from_slice(piece);
+        self.bytes = rest;
+        count
+    }
+}
+
+/// What a device with this key makes of a message on the line, and the payload that its handler gets.
+fn hears<E: EcVerifier>(
+    rt: &impl Abort,
+    keys: KeySet,
+    bytes: &[u8],
+    ec: &E,
+    verdict: Verdict,
+    payload: &[u8],
+) {
+    let mut verifier = Verifier::new(context(keys));
+    let mut line = Line { bytes, last: 0 };
+    let mut handler = Store::<16>::new();
+    let heard = listen(&mut verifier, &mut line, &mut handler, ec);
+    assert_eq!(rt; heard, Ok(verdict));
+    assert_eq!(rt; handler.bytes(), payload);
+}
+
+#[test]
+fn listens_to_a_line(rt: HostRuntime) -> Result<(), Fail> {
+    let keys = key_set().ok_or("no keys")?;
+    let bytes = message(rt.alloc())?;
+    let authentic = Verdict::Authentic {
+        kind: Kind::Mac0,
+        alg: Alg::Hmac256,
+        payload: 2,
+        taken: 44,
+    };
+    hears(&rt, keys, bytes.as_slice(), &Never, authentic, b"hi");
+    let truncated = Verdict::Refused(Refusal {
+        reason: Reason::Truncated,
+        place: 9,
+    });
+    let front = bytes.as_slice().get(..9).unwrap_or(&[]);
+    hears(&rt, keys, front, &Never, truncated, b"h");
+    Ok(())
+}
+
+#[test]
+fn decides_on_a_signature_from_a_line(rt: HostRuntime) -> Result<(), Fail> {
+    let alloc = rt.alloc();
+    let y = "58202222222222222222222222222222222222222222222222222222222222222222";
+    let set = hex::decode(alloc, point(alloc, y)?.as_str()).or(Err("no hexadecimal"))?;
+    let keys = KeySet::read(set.as_slice()).or(Err("no key set"))?;
+    let structure = hex::decode(alloc, SIGNED_STRUCTURE).or(Err("no hexadecimal"))?;
+    let digest = Sha256::digest(structure.as_slice());
+    let signature: [u8; 64] = counted();
+    let mut bytes = hex::decode(alloc, SIGNED).or(Err("no hexadecimal"))?;
+    bytes.extend_from_slice(&signature)?;
+    let knows = Asked {
+        digest: &digest,
+        signature: &signature,
+        says: true,
+    };
+    let authentic = Verdict::Authentic {
+        kind: Kind::Sign1,
+        alg: Alg::Es256,
+        payload: 0,
+        taken: 74,
+    };
+    hears(&rt, keys, bytes.as_slice(), &knows, authentic, b"");
+    let refused = Verdict::Refused(Refusal {
+        reason: Reason::BadAuth,
+        place: 8,
+    });
+    hears(&rt, keys, bytes.as_slice(), &Never, refused, b"");
+    Ok(())
+}
+
+#[test]
+fn takes_a_fixed_amount_of_memory(rt: HostRuntime) {
+    let sizes = [
+        size_of::<Verifier<64, 4>>(),
+        size_of::<Verifier<256, 4>>(),
+        size_of::<Verifier<1_024, 4>>(),
+    ];
+    assert_eq!(rt; sizes, [1_248, 1_632, 3_168]);
 }
 
 /// The MAC of a COSE_Mac0 before its first byte, under the one key of the set that fits what the headers ask for.

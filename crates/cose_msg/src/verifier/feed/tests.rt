@@ -397,3 +397,26 @@ fn takes_a_piece_of_any_length(rt: HostRuntime) {
     assert_eq!(rt; verifier.feed(b"\x58\x20"), more(2));
     assert_eq!(rt; verifier.want(), 32);
 }
+
+/// The message is complete at these limits.
+fn completes_at<const H: usize, const D: usize>(rt: &impl Abort)
+    requires some_room { 16 ≤ H }
+    requires limit { H ≤ 65535 }
+    requires nesting { D ≤ 32 }
+{
+    let Some(mut verifier) = under_jefe::<H, D>() else {
+        return;
+    };
+    let (front, rest) = MAC0.split_at(9);
+    assert_eq!(rt; verifier.feed(front).status, Status::More);
+    assert_eq!(rt; verifier.feed(rest).status, Status::Complete);
+    assert_eq!(rt; verifier.held(), 256 + 3 + 1 + 32);
+}
+
+#[test]
+fn completes_at_the_limits(rt: HostRuntime) {
+    completes_at::<16, 1>(&rt);
+    completes_at::<16, 32>(&rt);
+    completes_at::<65_535, 1>(&rt);
+    completes_at::<65_535, 32>(&rt);
+}

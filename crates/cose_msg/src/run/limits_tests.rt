@@ -1,0 +1,122 @@
+//! Runs at the limits of the chunk, the stores and the nesting: no call takes or puts more than a chunk.
+
+ghost use Rattle.std.specs.Prelude.{◌≤◌, None, false};
+
+use crate::{
+    Alg, Context, Intake, IntakeFault, KeySet, Kind, Never, Sink, SinkFault, Store, Verdict,
+    Verifier, Wanted, verify,
+};
+use std::process::Abort;
+
+/// A COSE_Mac0 of the payload `hi` under HMAC 256/256 and the key `Jefe`.
+const MAC0: &[u8] = &[
+    0xd1, 0x84, 0x43, 0xa1, 0x01, 0x05, 0xa0, 0x42, 0x68, 0x69, 0x58, 0x20, 0x7d, 0x81, 0xe9, 0x64,
+    0xaa, 0xee, 0x5f, 0xbd, 0x8a, 0xdf, 0xb3, 0xf5, 0x33, 0x65, 0x7a, 0x9e, 0xf9, 0xf7, 0x82, 0xf0,
+    0x4b, 0x91, 0x87, 0x7b, 0x60, 0x04, 0x27, 0x2a, 0x03, 0x52, 0xf9, 0x60,
+];
+
+/// The bytes of a slice. It keeps how many were asked for at most.
+#[derive(Drop)]
+struct WatchedIntake<'a> {
+    bytes: &'a [u8],
+    most: usize,
+    ended: bool,
+}
+
+impl Intake for WatchedIntake<'_> {
+    ghost to_come = { λ _. None };
+
+    ghost has_failed = { λ _. false };
+
+    ghost ended = { λ intake. intake.ended };
+
+    fn take(&mut self, into: &mut [u8]) -> Result<usize, IntakeFault> {
+        self.most = self.most.max(into.len());
+        let count = self.bytes.len().min(into.len());
+        let (piece, rest) = self.bytes.split_at(count);
+        into[..count].copy_from_slice(piece);
+        self.bytes = rest;
+        self.ended = count == 0;
+        Ok(count)
+    }
+}
+
+/// A store of two bytes. It keeps how many were put at most.
+#[derive(Drop)]
+struct WatchedSink {
+    store: Store<2>,
+    most: usize,
+    failed: bool,
+}
+
+impl Sink for WatchedSink {
+    ghost contents = { λ _. None };
+
+    ghost has_failed = { λ sink. sink.failed };
+
+    ghost sure = { λ _. 0 };
+
+    fn put(&mut self, piece: &[u8]) -> Result<(), SinkFault> {
+        self.most = self.most.max(piece.len());
+        if self.store.put(piece).is_err() {
+            self.failed = true;
+            return Err(SinkFault);
+        }
+        Ok(())
+    }
+}
+
+/// The message is authentic at these limits, and what is taken and put at a time is within a chunk.
+fn verifies_at<const C: usize, const H: usize, const D: usize>(rt: &impl Abort)
+    requires some { 1 ≤ C }
+    requires chunk { C ≤ 65536 }
+    requires some_room { 16 ≤ H }
+    requires limit { H ≤ 65535 }
+    requires nesting { D ≤ 32 }
+{
+    let Ok(keys) = KeySet::read(b"\xa2\x01\x04\x20\x44Jefe") else {
+        return;
+    };
+    let mut verifier: Verifier<H, D> = Verifier::new(Context {
+        keys,
+        aad: b"",
+        wanted: Wanted::Tagged,
+        cwt: false,
+        understood: &[],
+        payload_limit: 2,
+    });
+    let mut intake = WatchedIntake {
+        bytes: MAC0,
+        most: 0,
+        ended: false,
+    };
+    let mut sink = WatchedSink {
+        store: Store::new(),
+        most: 0,
+        failed: false,
+    };
+    let verdict = verify::<C, H, D, WatchedIntake, WatchedSink, Never>(
+        &mut verifier,
+        &mut intake,
+        &mut sink,
+        &Never,
+    );
+    let authentic = Verdict::Authentic {
+        kind: Kind::Mac0,
+        alg: Alg::Hmac256,
+        payload: 2,
+        taken: 44,
+    };
+    assert_eq!(rt; verdict, Ok(authentic));
+    assert_eq!(rt; sink.store.bytes(), b"hi".as_slice());
+    // It asks for what is left of a string, as far as a chunk holds it.
+    assert_eq!(rt; (intake.most, sink.most), (C.min(32), C.min(2)));
+}
+
+#[test]
+fn verifies_at_the_limits(rt: HostRuntime) {
+    verifies_at::<1, 16, 1>(&rt);
+    verifies_at::<7, 16, 32>(&rt);
+    verifies_at::<64, 65_535, 1>(&rt);
+    verifies_at::<65_536, 65_535, 32>(&rt);
+}
