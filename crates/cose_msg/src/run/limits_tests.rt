@@ -1,6 +1,7 @@
 //! Runs at the limits of the chunk, the stores and the nesting: no call takes or puts more than a chunk.
 
-ghost use Rattle.std.specs.Prelude.{◌≤◌, None, false};
+ghost use Rattle.std.specs.Prelude.{◌≡◌, ◌≤◌, IfSome, None, false};
+ghost use Rattle.cose_msg.specs.Kept.{is_inspecting};
 
 use crate::{
     Alg, Context, Intake, IntakeFault, KeySet, Kind, Never, Sink, SinkFault, Store, Verdict,
@@ -14,6 +15,9 @@ const MAC0: &[u8] = &[
     0xaa, 0xee, 0x5f, 0xbd, 0x8a, 0xdf, 0xb3, 0xf5, 0x33, 0x65, 0x7a, 0x9e, 0xf9, 0xf7, 0x82, 0xf0,
     0x4b, 0x91, 0x87, 0x7b, 0x60, 0x04, 0x27, 0x2a, 0x03, 0x52, 0xf9, 0x60,
 ];
+
+/// The key set of that key alone.
+const KEYS: &[u8] = b"\xa2\x01\x04\x20\x44Jefe";
 
 /// The bytes of a slice. It keeps how many were asked for at most.
 #[derive(Drop)]
@@ -66,6 +70,24 @@ impl Sink for WatchedSink {
     }
 }
 
+/// A verifier of messages under the key `Jefe`.
+fn under_jefe<const H: usize, const D: usize>() -> Option<Verifier<'static, H, D>>
+    requires some_room { 16 ≤ H }
+    requires limit { H ≤ 65535 }
+    requires nesting { D ≤ 32 }
+    ensures { IfSome result (λ verifier. is_inspecting verifier ≡ false) }
+{
+    let keys = KeySet::read(KEYS).ok()?;
+    Some(Verifier::new(Context {
+        keys,
+        aad: b"",
+        wanted: Wanted::Tagged,
+        cwt: false,
+        understood: &[],
+        payload_limit: 2,
+    }))
+}
+
 /// The message is authentic at these limits, and what is taken and put at a time is within a chunk.
 fn verifies_at<const C: usize, const H: usize, const D: usize>(rt: &impl Abort)
     requires some { 1 ≤ C }
@@ -74,17 +96,9 @@ fn verifies_at<const C: usize, const H: usize, const D: usize>(rt: &impl Abort)
     requires limit { H ≤ 65535 }
     requires nesting { D ≤ 32 }
 {
-    let Ok(keys) = KeySet::read(b"\xa2\x01\x04\x20\x44Jefe") else {
+    let Some(mut verifier) = under_jefe::<H, D>() else {
         return;
     };
-    let mut verifier: Verifier<H, D> = Verifier::new(Context {
-        keys,
-        aad: b"",
-        wanted: Wanted::Tagged,
-        cwt: false,
-        understood: &[],
-        payload_limit: 2,
-    });
     let mut intake = WatchedIntake {
         bytes: MAC0,
         most: 0,

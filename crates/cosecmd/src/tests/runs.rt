@@ -90,7 +90,7 @@ fn takes_a_key_set(rt: HostRuntime) -> Result<(), Fail> {
 #[test]
 fn explains_its_line(rt: HostRuntime) -> Result<(), Fail> {
     let alloc = rt.alloc();
-    let rows: [(&[&str], &str, u8); 10] = [
+    let rows: [(&[&str], &str, u8); 11] = [
         (&["cosecmd", "--help"], "Usage: cosecmd <COMMAND>", 0),
         (
             &["cosecmd", "--help"],
@@ -117,10 +117,11 @@ fn explains_its_line(rt: HostRuntime) -> Result<(), Fail> {
             0,
         ),
         (
-            &["cosecmd", "digest"],
-            "unrecognized subcommand 'digest'",
-            2,
+            &["cosecmd", "digest", "--help"],
+            "0 told, 1 refused, 2 no answer",
+            0,
         ),
+        (&["cosecmd", "sign"], "unrecognized subcommand 'sign'", 2),
     ];
     for (words, part, status) in rows {
         let mut output = Vec::new(alloc);
