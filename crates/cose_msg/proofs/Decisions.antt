@@ -31,7 +31,7 @@ use Rattle.cose_msg.specs.Run.{SaysCount, inspection}
 use Rattle.cose_msg.specs.Shown.{SignInput, Shown, held_input, input_in, pairs_at, shown_in, shown_of, sign_input_in}
 use Rattle.cose_msg.specs.Task.{Task, rules_of, to_inspect, to_verify}
 use Rattle.cose_msg.specs.Verifier.{Counts, HoldsBucket, HoldsIn, IsSigned, Known, StandsFor, is_authentic, left_in, whole_of}
-use Rattle.cose_msg.proofs.Waits.{WalkerWaits, here, told_in, truncated_in}
+use Rattle.cose_msg.proofs.Waits.{WalkerWaits, here, ends_in, truncated_in}
 
 -- ---- a signature
 
@@ -251,7 +251,7 @@ module _ {H D : ℕ} (task : Task) (known : Known) (told : Told) (n : ℕ) (v : 
 pub stands_shown : {H D : ℕ} {task : Task} {B : List ℕ} {n : ℕ} {v : Verifier H D} {reading : List ℕ → Reading} → WalkerWaits v → StandsFor task B n v reading → shown_of v ≡ shown_in task.setting (reading [])
 unfolding left here
 stands_shown {H} {D} {task} {B} {n} {v} {reading} waits h =
-    let same : (reading []).told ≡ h.told = ap (λ (r : Reading). r.told) (h.left []) ∙ told_in task h.known h.told n v waits v.phase h.holds in
+    let same : (reading []).told ≡ h.told = ap (λ (r : Reading). r.told) (h.left [] ∙ ends_in task h.known h.told n v waits v.phase h.holds) in
     shown_alike _ _ _ _ _ _ _ _
     (bucket_shown D h.told.protected v.protected_at v.protected.items h.shows.1 ∙ sym (ap (λ (t : Told). t.protected) same))
     (bucket_shown D h.told.unprotected v.unprotected_at v.unprotected.items h.shows.2 ∙ sym (ap (λ (t : Told). t.unprotected) same))

@@ -141,7 +141,7 @@ module _ (laws : HeadLaws) where
   past_item-stays told open_items later next h room depth place bytes more (Err refusal) e done =
       let definite : is_truncated refusal.reason ≡ false = either_settled (is_truncated refusal.reason) _ _ refl done in
       let again = rw e at (laws.read_stays depth (left_of bytes room 0) more (rw e (not_truncated refusal.reason definite))) in
-      rw again (refused_stays (is_truncated refusal.reason) (cut (told open_items) (place + length bytes)) (cut (told later) (place + length (bytes ++ more))) _ refl done)
+      rw again (refused_stays (is_truncated refusal.reason) (cut (told open_items) 1 (place + length bytes)) (cut (told later) 1 (place + length (bytes ++ more))) _ refl done)
 
   with_item-stays : (told : ℕ → Told) (room depth : ℕ) (next : Next (List ℕ)) → ((at : ℕ) (content : List ℕ) → Lawful (next at content)) → Stays (with_item told room depth next)
   unfolding with_item

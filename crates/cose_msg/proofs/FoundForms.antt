@@ -1,6 +1,6 @@
 -- What was read is spelled: what each form of a phase finds in the bytes, where the message isn't refused.
 use Rattle.std.proofs.Common.{◌≡◌, ℕ, ◌+◌, ◌-◌, ◌≤◌, Bool, true, false, cond, List, ◌++◌, length, take, drop, Option, Some, None, Result, Ok, Err, refl, sym, ap, subst, ◌∙◌, append_assoc, arith, length-append, zero-add}
-use Rattle.std.specs.Prelude.{nat_lt}
+use Rattle.std.specs.Prelude.{◌-◌, nat_lt}
 use Rattle.std.proofs.lemmas.Bool.{ltb-false}
 use Rattle.std.proofs.lemmas.List.{take_at, drop_at, take-append-drop, length-take-le}
 use Rattle.cose_head.specs.declared.head.Head.{Head}
@@ -101,7 +101,7 @@ module _ (answer : Answer) (unrefused : NotRefused answer) where
   bytes_found : (told : List ℕ → Told) (n : ℕ) (next : Next (List ℕ)) (place : ℕ) (bytes : List ℕ) → Comes (with_string told n next) place bytes answer → BytesFound n next place bytes answer
   unfolding with_string
   bytes_found told n next place bytes comes =
-      let both = past_refusal (nat_lt (length bytes) n) (cut (told bytes) (place + length bytes)) (next place (take n bytes) (place + n) (drop n bytes)) (unrefused Truncated (place + length bytes)) comes in
+      let both = past_refusal (nat_lt (length bytes) n) (cut (told bytes) (n - length bytes) (place + length bytes)) (next place (take n bytes) (place + n) (drop n bytes)) (unrefused Truncated (place + length bytes)) comes in
       record {
         content = take n bytes;
         rest = drop n bytes;
@@ -167,7 +167,7 @@ module _ (answer : Answer) (unrefused : NotRefused answer) where
           nests = s.1;
           comes = comes_at (next place s.0.part) (place + found.1.place) (place + length s.0.part) (drop found.1.place bytes) found.1.bytes answer (ap (λ (n : ℕ). place + n) (sym long)) left after;
         }
-    past_item_found told open_items room nesting next place bytes (Err refusal) e comes = absurd (both_refused (is_truncated refusal.reason) (cut (told open_items) (place + length bytes)) (stop (told 0) refusal.reason (place + refusal.place))
+    past_item_found told open_items room nesting next place bytes (Err refusal) e comes = absurd (both_refused (is_truncated refusal.reason) (cut (told open_items) 1 (place + length bytes)) (stop (told 0) refusal.reason (place + refusal.place))
         (unrefused Truncated (place + length bytes)) (unrefused refusal.reason (place + refusal.place)) comes)
 
     pub item_found : (told : ℕ → Told) (room nesting : ℕ) (next : Next (List ℕ)) (place : ℕ) (bytes : List ℕ) → Comes (with_item told room nesting next) place bytes answer → ItemFound room nesting next place bytes answer

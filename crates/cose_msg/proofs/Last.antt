@@ -1,6 +1,6 @@
 -- Rules that differ in what a whole message comes to alone: the answers differ in that alone, phase by phase.
 use Rattle.std.proofs.Common.{◌≡◌, ℕ, ◌+◌, Bool, true, false, cond, List, [], length, take, drop, Option, Some, None, Result, Ok, Err, refl, sym, ap}
-use Rattle.std.specs.Prelude.{nat_lt}
+use Rattle.std.specs.Prelude.{◌-◌, nat_lt}
 use Rattle.std.specs.Str.{bytes_eq}
 use Rattle.cose_head.specs.declared.head.Head.{Head}
 use Rattle.cose_head.specs.declared.head.HeadStep.{HeadStep}
@@ -33,8 +33,8 @@ module _ (change : Answer → Answer) (keeps : (reason : Reason) (place : ℕ) �
   abbrev Follows : Phase → Phase → Type 0
   Follows phase other = (place : ℕ) (bytes : List ℕ) → other place bytes ≡ answered change (phase place bytes)
 
-  cut-follows : (told : Told) (place : ℕ) → cut told place ≡ answered change (cut told place)
-  cut-follows told place = ap (λ (answer : Answer). let reading : Reading = record { answer = answer; settled = false; told = told } in reading) (sym (keeps Truncated place))
+  cut-follows : (told : Told) (wanted place : ℕ) → cut told wanted place ≡ answered change (cut told wanted place)
+  cut-follows told wanted place = ap (λ (answer : Answer). let reading : Reading = record { answer = answer; settled = false; wanted = wanted; told = told } in reading) (sym (keeps Truncated place))
 
   stop-follows : (told : Told) (reason : Reason) (place : ℕ) → stop told reason place ≡ answered change (stop told reason place)
   stop-follows told reason place = ap (settled told) (sym (keeps reason place))
@@ -43,7 +43,7 @@ module _ (change : Answer → Answer) (keeps : (reason : Reason) (place : ℕ) �
 
   past_head-follows : (told : Told) (next other : Next Head) → ((at : ℕ) (head : Head) → Follows (next at head) (other at head)) → (place : ℕ) (bytes : List ℕ) (step : HeadStep) → past_head told other place bytes step ≡ answered change (past_head told next place bytes step)
   past_head-follows told next other h place bytes (Got head used) = h place head (place + used) (drop used bytes)
-  past_head-follows told next other h place bytes (More wanted) = cut-follows told (place + length bytes)
+  past_head-follows told next other h place bytes (More wanted) = cut-follows told 1 (place + length bytes)
   past_head-follows told next other h place bytes (Fault reason) = stop-follows told reason place
 
   with_head-follows : (told : Told) (next other : Next Head) → ((at : ℕ) (head : Head) → Follows (next at head) (other at head)) → Follows (with_head told next) (with_head told other)
@@ -56,11 +56,11 @@ module _ (change : Answer → Answer) (keeps : (reason : Reason) (place : ℕ) �
 
   with_string-follows : (told : List ℕ → Told) (n : ℕ) (next other : Next (List ℕ)) → ((at : ℕ) (string : List ℕ) → Follows (next at string) (other at string)) → Follows (with_string told n next) (with_string told n other)
   unfolding with_string
-  with_string-follows told n next other h place bytes = choose-follows (nat_lt (length bytes) n) (cut (told bytes) (place + length bytes)) (next place (take n bytes) (place + n) (drop n bytes)) _ _ (cut-follows (told bytes) (place + length bytes)) (h place (take n bytes) (place + n) (drop n bytes))
+  with_string-follows told n next other h place bytes = choose-follows (nat_lt (length bytes) n) (cut (told bytes) (n - length bytes) (place + length bytes)) (next place (take n bytes) (place + n) (drop n bytes)) _ _ (cut-follows (told bytes) (n - length bytes) (place + length bytes)) (h place (take n bytes) (place + n) (drop n bytes))
 
   past_item-follows : (told : ℕ → Told) (open_items : ℕ) (next other : Next (List ℕ)) → ((at : ℕ) (content : List ℕ) → Follows (next at content) (other at content)) → (place : ℕ) (bytes : List ℕ) (outcome : Outcome Item) → past_item told open_items other place bytes outcome ≡ answered change (past_item told open_items next place bytes outcome)
   past_item-follows told open_items next other h place bytes (Ok found) = h place (take found.1.place bytes) (place + found.1.place) (drop found.1.place bytes)
-  past_item-follows told open_items next other h place bytes (Err refusal) = choose-follows (is_truncated refusal.reason) (cut (told open_items) (place + length bytes)) (stop (told 0) refusal.reason (place + refusal.place)) _ _ (cut-follows (told open_items) (place + length bytes)) (stop-follows (told 0) refusal.reason (place + refusal.place))
+  past_item-follows told open_items next other h place bytes (Err refusal) = choose-follows (is_truncated refusal.reason) (cut (told open_items) 1 (place + length bytes)) (stop (told 0) refusal.reason (place + refusal.place)) _ _ (cut-follows (told open_items) 1 (place + length bytes)) (stop-follows (told 0) refusal.reason (place + refusal.place))
 
   with_item-follows : (told : ℕ → Told) (room depth : ℕ) (next other : Next (List ℕ)) → ((at : ℕ) (content : List ℕ) → Follows (next at content) (other at content)) → Follows (with_item told room depth next) (with_item told room depth other)
   unfolding with_item

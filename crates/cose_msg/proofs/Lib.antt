@@ -53,3 +53,4 @@ mod WorkedShapes
 mod WorkedMaking
 mod WorkedAdmission
 mod WorkedSettled
+mod WorkedFeeding

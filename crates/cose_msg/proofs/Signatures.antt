@@ -1,6 +1,6 @@
 -- The key of a whole message is the one that was chosen, so what has a signature is a COSE_Sign1.
 use Rattle.std.proofs.Common.{◌≡◌, ℕ, ℤ, ◌+◌, Bool, true, false, cond, List, [], length, take, drop, Option, Some, None, Result, Ok, Err, refl, ap, subst, ◌∙◌}
-use Rattle.std.specs.Prelude.{nat_lt, option_map, IsSomeAnd}
+use Rattle.std.specs.Prelude.{◌-◌, nat_lt, option_map, IsSomeAnd}
 use Rattle.std.specs.Str.{bytes_eq}
 use Rattle.cose_head.specs.declared.algorithm.Alg.{Alg}
 use Rattle.cose_head.specs.declared.head.Head.{Head}
@@ -58,11 +58,11 @@ module _ (rules : Rules) (ends : (w whole : Whole) → rules.finish w ≡ comple
 
   with_string-picks : (told : List ℕ → Told) (n : ℕ) (next : Next (List ℕ)) → ((at : ℕ) (string : List ℕ) → Picks (next at string)) → Picks (with_string told n next)
   unfolding with_string
-  with_string-picks told n next h place bytes = choose-picks (nat_lt (length bytes) n) (cut (told bytes) (place + length bytes)) (next place (take n bytes) (place + n) (drop n bytes)) (λ whole e. absurd cc) (h place (take n bytes) (place + n) (drop n bytes))
+  with_string-picks told n next h place bytes = choose-picks (nat_lt (length bytes) n) (cut (told bytes) (n - length bytes) (place + length bytes)) (next place (take n bytes) (place + n) (drop n bytes)) (λ whole e. absurd cc) (h place (take n bytes) (place + n) (drop n bytes))
 
   past_item-picks : (told : ℕ → Told) (open_items : ℕ) (next : Next (List ℕ)) → ((at : ℕ) (content : List ℕ) → Picks (next at content)) → (place : ℕ) (bytes : List ℕ) (outcome : Outcome Item) → Picked (past_item told open_items next place bytes outcome).answer
   past_item-picks told open_items next h place bytes (Ok found) = h place (take found.1.place bytes) (place + found.1.place) (drop found.1.place bytes)
-  past_item-picks told open_items next h place bytes (Err refusal) = choose-picks (is_truncated refusal.reason) (cut (told open_items) (place + length bytes)) (stop (told 0) refusal.reason (place + refusal.place)) (λ whole e. absurd cc) (λ whole e. absurd cc)
+  past_item-picks told open_items next h place bytes (Err refusal) = choose-picks (is_truncated refusal.reason) (cut (told open_items) 1 (place + length bytes)) (stop (told 0) refusal.reason (place + refusal.place)) (λ whole e. absurd cc) (λ whole e. absurd cc)
 
   with_item-picks : (told : ℕ → Told) (room nesting : ℕ) (next : Next (List ℕ)) → ((at : ℕ) (content : List ℕ) → Picks (next at content)) → Picks (with_item told room nesting next)
   unfolding with_item

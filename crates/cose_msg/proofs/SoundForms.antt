@@ -1,6 +1,6 @@
 -- The forms of a phase, once more: no refusal of a settled reading is Truncated, and nothing of a reading stands after the bytes.
 use Rattle.std.proofs.Common.{◌≡◌, ℕ, ◌+◌, ◌≤◌, inl, inr, Bool, true, false, cond, List, length, take, drop, Option, Some, None, Result, Ok, Err, refl, subst, arith, length-drop}
-use Rattle.std.specs.Prelude.{◌≢◌, IfErr, IfSome}
+use Rattle.std.specs.Prelude.{◌-◌, ◌≢◌, IfErr, IfSome}
 use Rattle.std.proofs.lemmas.Bool.{cases_lt, le-ltb, lt-ltb}
 use Rattle.std.proofs.lemmas.List.{length-take-le}
 use Rattle.cose_head.specs.declared.head.Head.{Head}
@@ -38,8 +38,8 @@ stands_later end later (shaped kind payload auth taken) le h = omega arith
 sound_at : (n m : ℕ) (reading : Reading) → n ≡ m → IsSound n reading → IsSound m reading
 sound_at n m reading same h = subst (λ (end : ℕ). IsSound end reading) same h
 
-cut-sound : (told : Told) (end : ℕ) → IsSound end (cut told end)
-cut-sound told end = record { inside = omega arith; definite = λ e. absurd (let never : false ≡ true = e in cc) }
+cut-sound : (told : Told) (wanted end : ℕ) → IsSound end (cut told wanted end)
+cut-sound told wanted end = record { inside = omega arith; definite = λ e. absurd (let never : false ≡ true = e in cc) }
 
 pub stop-sound : (told : Told) (reason : Reason) (place end : ℕ) → place ≤ end → reason ≢ Truncated → IsSound end (stop told reason place)
 stop-sound told reason place end le h = record { inside = le; definite = λ e. h }
@@ -51,7 +51,7 @@ module _ (laws : HeadLaws) where
   past_head-sound told next h place bytes (Got head used) e =
       let there : used ≤ length bytes = head_there laws bytes head used e in
       sound_at (place + used + length (drop used bytes)) (place + length bytes) _ (omega (arith, there, length-drop used bytes)) (h place head (place + used) (drop used bytes) (omega arith))
-  past_head-sound told next h place bytes (More wanted) e = cut-sound told (place + length bytes)
+  past_head-sound told next h place bytes (More wanted) e = cut-sound told 1 (place + length bytes)
   past_head-sound told next h place bytes (Fault reason) e = stop-sound told reason place (place + length bytes) (omega arith) (laws.faults bytes reason e)
 
   pub with_head-sound : (told : Told) (next : Next Head) (from : ℕ) → ((at : ℕ) (head : Head) → Sound at (next at head)) → Sound from (with_head told next)
@@ -64,7 +64,7 @@ pub with_string-sound : (told : List ℕ → Told) (n : ℕ) (next : Next (List 
 unfolding with_string
 with_string-sound told n next from h place bytes le =
     elim (cases_lt (length bytes) n) [
-      | inl short ↦ rw (lt-ltb (length bytes) n short) (cut-sound (told bytes) (place + length bytes))
+      | inl short ↦ rw (lt-ltb (length bytes) n short) (cut-sound (told bytes) (n - length bytes) (place + length bytes))
       | inr there ↦
           let all : length (take n bytes) ≡ n = length-take-le n bytes there in
           rw (le-ltb (length bytes) n there) (sound_at (place + n + length (drop n bytes)) (place + length bytes) _ (omega (arith, there, length-drop n bytes)) (h place (take n bytes) le (place + n) (drop n bytes) (omega (arith, all))))
@@ -84,7 +84,7 @@ module _ (laws : HeadLaws) where
       let all : length (take found.1.place bytes) ≡ found.1.place = length-take-le found.1.place bytes there in
       sound_at (place + found.1.place + length (drop found.1.place bytes)) (place + length bytes) _ (omega (arith, there, length-drop found.1.place bytes)) (h place (take found.1.place bytes) le (place + found.1.place) (drop found.1.place bytes) (omega (arith, all)))
   past_item-sound told open_items next from h room depth place bytes (Err refusal) e step le =
-      either-sound (is_truncated refusal.reason) (place + length bytes) _ _ (cut-sound (told open_items) (place + length bytes))
+      either-sound (is_truncated refusal.reason) (place + length bytes) _ _ (cut-sound (told open_items) 1 (place + length bytes))
       (λ definite. stop-sound (told 0) refusal.reason (place + refusal.place) (place + length bytes) (omega (arith, step.upto)) (not_truncated refusal.reason definite))
 
   pub with_item-sound : (told : ℕ → Told) (room depth : ℕ) (next : Next (List ℕ)) (from : ℕ) → ((at : ℕ) (content : List ℕ) → from ≤ at → Sound (at + length content) (next at content)) → Sound from (with_item told room depth next)

@@ -1,6 +1,6 @@
 -- What is told of a message has a property, where what each phase tells has it: a lemma for each form of a phase.
 use Rattle.std.proofs.Common.{◌≡◌, ℕ, ◌+◌, ◌<◌, ◌≤◌, Bool, true, false, cond, List, length, take, drop, Option, Some, None, Result, Ok, Err, refl, arith}
-use Rattle.std.specs.Prelude.{nat_lt}
+use Rattle.std.specs.Prelude.{◌-◌, nat_lt}
 use Rattle.std.proofs.lemmas.Bool.{ltb-true}
 use Rattle.std.proofs.lemmas.List.{length-take}
 use Rattle.cose_head.specs.declared.head.Head.{Head}
@@ -29,7 +29,7 @@ module _ (Holds : Told → Type 0) where
   with_head-tells told next known h place bytes = past_head-tells told next known h place bytes (bare_head bytes)
 
   string_cases : (told : List ℕ → Told) (n : ℕ) (next : Next (List ℕ)) (place : ℕ) (bytes : List ℕ) (short : Bool) → nat_lt (length bytes) n ≡ short → (length bytes < n → Holds (told bytes)) → ((at : ℕ) (string : List ℕ) → length string ≤ n → Tells (next at string)) →
-      Holds (cond short (cut (told bytes) (place + length bytes)) (next place (take n bytes) (place + n) (drop n bytes))).told
+      Holds (cond short (cut (told bytes) (n - length bytes) (place + length bytes)) (next place (take n bytes) (place + n) (drop n bytes))).told
   string_cases told n next place bytes true e known h = known (ltb-true _ _ e)
   string_cases told n next place bytes false e known h = h place (take n bytes) (omega (arith, length-take n bytes)) (place + n) (drop n bytes)
 
@@ -43,7 +43,7 @@ module _ (Holds : Told → Type 0) where
 
   past_item-tells : (told : ℕ → Told) (open_items : ℕ) (next : Next (List ℕ)) → ((n : ℕ) → Holds (told n)) → ((at : ℕ) (content : List ℕ) → Tells (next at content)) → (place : ℕ) (bytes : List ℕ) (outcome : Outcome Item) → Holds (past_item told open_items next place bytes outcome).told
   past_item-tells told open_items next known h place bytes (Ok found) = h place (take found.1.place bytes) (place + found.1.place) (drop found.1.place bytes)
-  past_item-tells told open_items next known h place bytes (Err refusal) = choose-tells (is_truncated refusal.reason) (cut (told open_items) (place + length bytes)) (stop (told 0) refusal.reason (place + refusal.place)) (known open_items) (known 0)
+  past_item-tells told open_items next known h place bytes (Err refusal) = choose-tells (is_truncated refusal.reason) (cut (told open_items) 1 (place + length bytes)) (stop (told 0) refusal.reason (place + refusal.place)) (known open_items) (known 0)
 
   pub with_item-tells : (told : ℕ → Told) (room nesting : ℕ) (next : Next (List ℕ)) → ((n : ℕ) → Holds (told n)) → ((at : ℕ) (content : List ℕ) → Tells (next at content)) → Tells (with_item told room nesting next)
   unfolding with_item

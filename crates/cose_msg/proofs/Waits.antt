@@ -1,6 +1,6 @@
 -- Fewer bytes than are wanted leave a message unsettled.
-use Rattle.std.proofs.Common.{◌≡◌, ℕ, ◌+◌, ◌<◌, ◌≤◌, true, false, List, [], ◌∷◌, ◌++◌, length, refl, sym, ap, subst, ◌∙◌, arith, lit<, length-append, inl, inr}
-use Rattle.std.specs.Prelude.{nat_lt}
+use Rattle.std.proofs.Common.{◌≡◌, ℕ, ◌+◌, ◌<◌, ◌≤◌, Bool, true, false, List, [], ◌∷◌, ◌++◌, length, refl, sym, ap, subst, ◌∙◌, arith, lit<, length-append, inl, inr}
+use Rattle.std.specs.Prelude.{nat_lt, ◌-◌}
 use Rattle.std.proofs.lemmas.Bool.{lt-ltb, cases_lt}
 use Rattle.std.proofs.lemmas.List.{append-nil}
 use Rattle.cose_head.specs.declared.head.Head.{Head}
@@ -15,33 +15,33 @@ use Rattle.cose_msg.specs.declared.phase.Payload.{Payload}
 use Rattle.cose_msg.specs.declared.phase.Phase.{Phase}
 use Rattle.cose_msg.specs.declared.phase.Phase.TheVariants as phases
 use Rattle.cose_msg.specs.declared.verifier.Verifier.{Verifier}
-use Rattle.cose_msg.specs.Answer.{refused}
+use Rattle.cose_msg.specs.Answer.{Answer, refused}
 use Rattle.cose_msg.specs.Front.{past_array_head, past_first_head, past_second_head}
 use Rattle.cose_msg.specs.Phase.{in_payload, is_settled, want_of}
 use Rattle.cose_msg.specs.Phases.{nothing_told, unprotected_told, headers_told, finish, past_auth_head, past_payload, past_payload_head, past_protected, past_protected_head, past_unprotected}
-use Rattle.cose_msg.specs.Reading.{Next, Reading, Told, cut, past_head, open_items_after, with_head, with_item, with_string}
+use Rattle.cose_msg.specs.Reading.{Next, Reading, Told, cut, settled, past_head, open_items_after, with_head, with_item, with_string}
 use Rattle.cose_msg.specs.Task.{Task, rules_of}
-use Rattle.cose_msg.specs.Verifier.{HoldsIn, Known, StandsFor, left_in}
+use Rattle.cose_msg.specs.Verifier.{HoldsHead, HoldsIn, Known, StandsFor, left_in}
 use Rattle.cose_msg.proofs.Steps.{string_whole}
 
 -- ---- the forms
 
-past_more : (told : Told) (next : Next Head) (place : ℕ) (bytes : List ℕ) (step : HeadStep) → IsMore step → past_head told next place bytes step ≡ cut told (place + length bytes)
+past_more : (told : Told) (next : Next Head) (place : ℕ) (bytes : List ℕ) (step : HeadStep) → IsMore step → past_head told next place bytes step ≡ cut told 1 (place + length bytes)
 past_more told next place bytes (More wanted) h = refl
 past_more told next place bytes (Got head used) h = absurd h
 past_more told next place bytes (Fault reason) h = absurd h
 
-pub head_waits : (told : Told) (next : Next Head) (place : ℕ) (held : List ℕ) → IsMore (bare_head held) → with_head told next place (held ++ []) ≡ cut told (place + length held)
+pub head_waits : (told : Told) (next : Next Head) (place : ℕ) (held : List ℕ) → IsMore (bare_head held) → with_head told next place (held ++ []) ≡ cut told 1 (place + length held)
 unfolding with_head
 head_waits told next place held half = rw append-nil (past_more told next place held (bare_head held) half)
 
-pub string_waits : (told : List ℕ → Told) (n : ℕ) (next : Next (List ℕ)) (place : ℕ) (bytes : List ℕ) → length bytes < n → with_string told n next place bytes ≡ cut (told bytes) (place + length bytes)
+pub string_waits : (told : List ℕ → Told) (n : ℕ) (next : Next (List ℕ)) (place : ℕ) (bytes : List ℕ) → length bytes < n → with_string told n next place bytes ≡ cut (told bytes) (n - length bytes) (place + length bytes)
 unfolding with_string
 string_waits told n next place bytes lt =
     let short : nat_lt (length bytes) n ≡ true = lt-ltb _ _ lt in
     rw short refl
 
-pub item_waits : (told : ℕ → Told) (room depth : ℕ) (next : Next (List ℕ)) (place : ℕ) (held : List ℕ) → read depth (left_of held room 0) ≡ refuse Truncated (length held) → with_item told room depth next place (held ++ []) ≡ cut (told (open_items_after room depth held)) (place + length held)
+pub item_waits : (told : ℕ → Told) (room depth : ℕ) (next : Next (List ℕ)) (place : ℕ) (held : List ℕ) → read depth (left_of held room 0) ≡ refuse Truncated (length held) → with_item told room depth next place (held ++ []) ≡ cut (told (open_items_after room depth held)) 1 (place + length held)
 unfolding with_item
 item_waits told room depth next place held e = rw (append-nil, e) refl
 
@@ -53,18 +53,6 @@ nothing_more (x ∷ xs) lt = absurd (omega (arith, lt))
 one_wanted : (reading : List ℕ → Reading) (more : List ℕ) → length more < 1 → (reading []).settled ≡ false → (reading more).settled ≡ false
 one_wanted reading more lt e = subst (λ (m : List ℕ). (reading m).settled ≡ false) (sym (nothing_more more lt)) e
 
-unsettled : (reading : Reading) (told : Told) (place : ℕ) → reading ≡ cut told place → reading.settled ≡ false
-unsettled reading told place e = ap (λ (r : Reading). r.settled) e
-
-told_as : (reading : Reading) (told other : Told) (place : ℕ) → reading ≡ cut other place → told ≡ other → reading.told ≡ told
-told_as reading told other place e same = ap (λ (r : Reading). r.told) e ∙ sym same
-
-cut_at : (reading : Reading) (told : Told) (place : ℕ) {n : ℕ} → reading ≡ cut told place → n ≡ place → reading.answer ≡ refused Truncated n
-cut_at reading told place e same = ap (λ (r : Reading). r.answer) e ∙ ap (refused Truncated) (sym same)
-
-with_none : (n at : ℕ) (held : List ℕ) → n ≡ at + length held → n ≡ at + length (held ++ [])
-with_none n at held e = rw append-nil e
-
 pub fewer : (held more : List ℕ) (n left : ℕ) → length held + left ≡ n → length more < left → length (held ++ more) < n
 fewer held more n left count lt = omega (arith, length-append held more)
 
@@ -75,98 +63,106 @@ module _ {H D : ℕ} (task : Task) (known : Known) (told : Told) (n : ℕ) (v : 
   unfoldable pub here : Phase → List ℕ → Reading
   here phase z = left_in (rules_of H D task) known told v phase z
 
+  -- What it comes to, settled or not.
+  abbrev pub EndsAs : Phase → Bool → Type 0
+  EndsAs phase done = here phase [] ≡ record { answer = (here phase []).answer; settled = done; wanted = want_of phase; told = told }
+
+  -- The bytes end in it.
+  abbrev IsCut : Phase → Type 0
+  IsCut phase = here phase [] ≡ cut told (want_of phase) n
+
+  cut_as : (reading : Reading) (other : Told) (wanted left place : ℕ) → reading ≡ cut other wanted place → told ≡ other → wanted ≡ left → n ≡ place → reading ≡ cut told left n
+  cut_as reading other wanted left place e same_told same_wanted same_place = e ∙ rw (same_told, same_wanted, same_place) refl
+
+  head_cut : (phase : Phase) (other : Told) (next : Next Head) (at : ℕ) → here phase [] ≡ with_head other next at (v.head.items ++ []) → want_of phase ≡ 1 → told ≡ other → HoldsHead at n v → IsCut phase
+  head_cut phase other next at e one same h = e ∙ cut_as _ other 1 (want_of phase) _ (head_waits other next at v.head.items h.0) same (sym one) h.1
+
+  string_cut : (phase : Phase) (other : List ℕ → Told) (length_of left : ℕ) (next : Next (List ℕ)) (at : ℕ) (held : List ℕ) → here phase [] ≡ with_string other length_of next at (held ++ []) → want_of phase ≡ left → 0 < left → told ≡ other held → length held + left ≡ length_of → n ≡ at + length held → IsCut phase
+  string_cut phase other length_of left next at held e same_left some same count place =
+      let lengths : length (held ++ []) ≡ length held = ap length (append-nil held) in
+      e ∙ cut_as _ (other (held ++ [])) (length_of - length (held ++ [])) (want_of phase) (at + length (held ++ []))
+      (string_waits other length_of next at (held ++ []) (fewer held [] length_of left count some)) (same ∙ ap other (sym (append-nil held))) (omega (arith, lengths, count, same_left)) (omega (arith, lengths, place))
+
+  -- Where a message isn't settled, the bytes end in the phase that is held.
+  pub cut_in : (phase : Phase) → HoldsIn task known told n v phase → is_settled phase ≡ false → IsCut phase
+  unfolding here
+  cut_in phases.FirstHead h e = head_cut phases.FirstHead nothing_told (past_first_head (rules_of H D task)) 0 refl refl h.0 h.1
+  cut_in (phases.TagHead p) h e = head_cut (phases.TagHead p) nothing_told (past_second_head (rules_of H D task)) p.at refl refl h.0 h.1
+  cut_in (phases.ArrayHead p) h e = head_cut (phases.ArrayHead p) nothing_told (past_array_head (rules_of H D task) p.kind) p.at refl refl h.0 h.1
+  cut_in (phases.ProtectedHead p) h e = head_cut (phases.ProtectedHead p) nothing_told (past_protected_head (rules_of H D task) p.kind) p.at refl refl h.0 h.1
+  cut_in (phases.Protected p) h e =
+      string_cut (phases.Protected p) (λ bytes. nothing_told) p.length p.left (past_protected (rules_of H D task) p.kind) p.at v.protected.items refl refl p.some_left h.0 h.1 h.3
+  cut_in (phases.Unprotected p) h e =
+      cut_as _ _ 1 1 _ (item_waits (unprotected_told known.headers.protected_pairs) H D (past_unprotected (rules_of H D task) p.kind v.protected.items known.headers.protected_pairs) p.at v.unprotected.items (waits h.2)) h.0 refl h.3
+  cut_in (phases.PayloadHead p) h e =
+      head_cut (phases.PayloadHead p) (headers_told known.headers []) (past_payload_head (rules_of H D task) known.headers known.chosen) p.at refl refl h.0 h.1
+  cut_in (phases.Payload p) h e =
+      string_cut (phases.Payload p) (headers_told known.headers) p.length p.left (past_payload (rules_of H D task) known.headers known.chosen) p.at known.payload refl refl p.some_left h.0 h.1 h.2
+  cut_in (phases.AuthHead p) h e =
+      head_cut (phases.AuthHead p) (headers_told known.headers known.payload) (past_auth_head (rules_of H D task) known.headers known.chosen known.payload) p.at refl refl h.0 h.1
+  cut_in (phases.Auth p) h e =
+      string_cut (phases.Auth p) (λ bytes. headers_told known.headers known.payload) p.length p.left (finish (rules_of H D task) known.headers known.chosen known.payload p.head_at) p.at known.auth refl refl p.some_left h.0 h.1 h.2
+  cut_in (phases.Signed p) h e = absurd cc
+  cut_in (phases.Decided verdict) h e = absurd cc
+  cut_in (phases.Settled verdict) h e = absurd cc
+  cut_in (phases.Shaped p) h e = absurd cc
+
+  settled_in : (phase : Phase) → HoldsIn task known told n v phase → is_settled phase ≡ true → EndsAs phase true
+  unfolding here
+  settled_in (phases.Signed p) h e = ap (λ (t : Told). settled t (here (phases.Signed p) []).answer) (sym h.0)
+  settled_in (phases.Decided verdict) h e = refl
+  settled_in (phases.Settled verdict) h e = refl
+  settled_in (phases.Shaped p) h e = refl
+  settled_in phases.FirstHead h e = absurd cc
+  settled_in (phases.TagHead p) h e = absurd cc
+  settled_in (phases.ArrayHead p) h e = absurd cc
+  settled_in (phases.ProtectedHead p) h e = absurd cc
+  settled_in (phases.Protected p) h e = absurd cc
+  settled_in (phases.Unprotected p) h e = absurd cc
+  settled_in (phases.PayloadHead p) h e = absurd cc
+  settled_in (phases.Payload p) h e = absurd cc
+  settled_in (phases.AuthHead p) h e = absurd cc
+  settled_in (phases.Auth p) h e = absurd cc
+
+  ends_if : (phase : Phase) → HoldsIn task known told n v phase → (done : Bool) → is_settled phase ≡ done → EndsAs phase done
+  ends_if phase h true e = settled_in phase h e
+  ends_if phase h false e =
+      let is_cut : IsCut phase = cut_in phase h e in
+      is_cut ∙ ap (λ (answer : Answer). let reading : Reading = record { answer = answer; settled = false; wanted = want_of phase; told = told } in reading) (sym (ap (λ (r : Reading). r.answer) is_cut))
+
+  -- Without a further byte it is settled or not as the phase is, wants what the phase wants, and tells what is told so far.
+  pub ends_in : (phase : Phase) → HoldsIn task known told n v phase → EndsAs phase (is_settled phase)
+  ends_in phase h = ends_if phase h (is_settled phase) refl
+
+  -- Where it isn't settled, it is Truncated at the number of bytes.
+  pub truncated_in : (phase : Phase) → HoldsIn task known told n v phase → is_settled phase ≡ false → (here phase []).answer ≡ refused Truncated n
+  truncated_in phase h e = ap (λ (r : Reading). r.answer) (cut_in phase h e)
+
+  open_at : (phase : Phase) → HoldsIn task known told n v phase → is_settled phase ≡ false → want_of phase ≡ 1 → (more : List ℕ) → length more < want_of phase → (here phase more).settled ≡ false
+  open_at phase h e one more lt = one_wanted (here phase) more (omega (arith, lt, one)) (ap (λ (r : Reading). r.settled) (cut_in phase h e))
+
+  string_open : (told : List ℕ → Told) (n : ℕ) (next : Next (List ℕ)) (place : ℕ) (bytes : List ℕ) → length bytes < n → (with_string told n next place bytes).settled ≡ false
+  string_open told n next place bytes lt = ap (λ (r : Reading). r.settled) (string_waits told n next place bytes lt)
+
   open_in : (phase : Phase) → HoldsIn task known told n v phase → (more : List ℕ) → length more < want_of phase → (here phase more).settled ≡ false
   unfolding here
-  open_in phases.FirstHead h more lt = one_wanted (here phases.FirstHead) more lt
-      (unsettled _ _ _ (head_waits nothing_told (past_first_head (rules_of H D task)) 0 v.head.items h.1.0))
-  open_in (phases.TagHead p) h more lt = one_wanted (here (phases.TagHead p)) more lt
-      (unsettled _ _ _ (head_waits nothing_told (past_second_head (rules_of H D task)) p.at v.head.items h.1.0))
-  open_in (phases.ArrayHead p) h more lt = one_wanted (here (phases.ArrayHead p)) more lt
-      (unsettled _ _ _ (head_waits nothing_told (past_array_head (rules_of H D task) p.kind) p.at v.head.items h.1.0))
-  open_in (phases.ProtectedHead p) h more lt = one_wanted (here (phases.ProtectedHead p)) more lt
-      (unsettled _ _ _ (head_waits nothing_told (past_protected_head (rules_of H D task) p.kind) p.at v.head.items h.1.0))
-  open_in (phases.Protected p) h more lt =
-      unsettled _ _ _ (string_waits (λ bytes. nothing_told) p.length (past_protected (rules_of H D task) p.kind) p.at (v.protected.items ++ more) (fewer v.protected.items more p.length p.left h.1 lt))
-  open_in (phases.Unprotected p) h more lt = one_wanted (here (phases.Unprotected p)) more lt
-      (unsettled _ _ _ (item_waits (unprotected_told known.headers.protected_pairs) H D (past_unprotected (rules_of H D task) p.kind v.protected.items known.headers.protected_pairs) p.at v.unprotected.items (waits h.2)))
-  open_in (phases.PayloadHead p) h more lt = one_wanted (here (phases.PayloadHead p)) more lt
-      (unsettled _ _ _ (head_waits (headers_told known.headers []) (past_payload_head (rules_of H D task) known.headers known.chosen) p.at v.head.items h.1.0))
-  open_in (phases.Payload p) h more lt =
-      unsettled _ _ _ (string_waits (headers_told known.headers) p.length (past_payload (rules_of H D task) known.headers known.chosen) p.at (known.payload ++ more) (fewer known.payload more p.length p.left h.1 lt))
-  open_in (phases.AuthHead p) h more lt = one_wanted (here (phases.AuthHead p)) more lt
-      (unsettled _ _ _ (head_waits (headers_told known.headers known.payload) (past_auth_head (rules_of H D task) known.headers known.chosen known.payload) p.at v.head.items h.1.0))
-  open_in (phases.Auth p) h more lt =
-      unsettled _ _ _ (string_waits (λ bytes. headers_told known.headers known.payload) p.length (finish (rules_of H D task) known.headers known.chosen known.payload p.head_at) p.at (known.auth ++ more) (fewer known.auth more p.length p.left h.1 lt))
-  open_in (phases.Signed p) h more lt = absurd (omega (arith, lt))
-  open_in (phases.Decided verdict) h more lt = absurd (omega (arith, lt))
-  open_in (phases.Settled verdict) h more lt = absurd (omega (arith, lt))
-  open_in (phases.Shaped p) h more lt = absurd (omega (arith, lt))
-
-  -- What is told so far is what the phase tells without a further byte.
-  pub told_in : (phase : Phase) → HoldsIn task known told n v phase → (here phase []).told ≡ told
-  unfolding here
-  told_in phases.FirstHead h = told_as _ told _ _ (head_waits nothing_told (past_first_head (rules_of H D task)) 0 v.head.items h.1.0) h.0
-  told_in (phases.TagHead p) h = told_as _ told _ _ (head_waits nothing_told (past_second_head (rules_of H D task)) p.at v.head.items h.1.0) h.0
-  told_in (phases.ArrayHead p) h = told_as _ told _ _ (head_waits nothing_told (past_array_head (rules_of H D task) p.kind) p.at v.head.items h.1.0) h.0
-  told_in (phases.ProtectedHead p) h = told_as _ told _ _ (head_waits nothing_told (past_protected_head (rules_of H D task) p.kind) p.at v.head.items h.1.0) h.0
-  told_in (phases.Protected p) h = told_as _ told _ _
-      (string_waits (λ bytes. nothing_told) p.length (past_protected (rules_of H D task) p.kind) p.at (v.protected.items ++ []) (fewer v.protected.items [] p.length p.left h.1 p.some_left)) h.0
-  told_in (phases.Unprotected p) h = told_as _ told _ _
-      (item_waits (unprotected_told known.headers.protected_pairs) H D (past_unprotected (rules_of H D task) p.kind v.protected.items known.headers.protected_pairs) p.at v.unprotected.items (waits h.2)) h.0
-  told_in (phases.PayloadHead p) h = told_as _ told _ _
-      (head_waits (headers_told known.headers []) (past_payload_head (rules_of H D task) known.headers known.chosen) p.at v.head.items h.1.0) h.0
-  told_in (phases.Payload p) h = told_as _ told _ _
-      (string_waits (headers_told known.headers) p.length (past_payload (rules_of H D task) known.headers known.chosen) p.at (known.payload ++ []) (fewer known.payload [] p.length p.left h.1 p.some_left))
-      (h.0 ∙ ap (headers_told known.headers) (sym (append-nil known.payload)))
-  told_in (phases.AuthHead p) h = told_as _ told _ _
-      (head_waits (headers_told known.headers known.payload) (past_auth_head (rules_of H D task) known.headers known.chosen known.payload) p.at v.head.items h.1.0) h.0
-  told_in (phases.Auth p) h = told_as _ told _ _
-      (string_waits (λ bytes. headers_told known.headers known.payload) p.length (finish (rules_of H D task) known.headers known.chosen known.payload p.head_at) p.at (known.auth ++ []) (fewer known.auth [] p.length p.left h.1 p.some_left)) h.0
-  told_in (phases.Signed p) h = sym h.0
-  told_in (phases.Decided verdict) h = refl
-  told_in (phases.Settled verdict) h = refl
-  told_in (phases.Shaped p) h = refl
-
-  settled_in : (phase : Phase) → HoldsIn task known told n v phase → (here phase []).settled ≡ is_settled phase
-  unfolding here
-  settled_in phases.FirstHead h = open_in phases.FirstHead h [] (lit< tt)
-  settled_in (phases.TagHead p) h = open_in (phases.TagHead p) h [] (lit< tt)
-  settled_in (phases.ArrayHead p) h = open_in (phases.ArrayHead p) h [] (lit< tt)
-  settled_in (phases.ProtectedHead p) h = open_in (phases.ProtectedHead p) h [] (lit< tt)
-  settled_in (phases.Protected p) h = open_in (phases.Protected p) h [] p.some_left
-  settled_in (phases.Unprotected p) h = open_in (phases.Unprotected p) h [] (lit< tt)
-  settled_in (phases.PayloadHead p) h = open_in (phases.PayloadHead p) h [] (lit< tt)
-  settled_in (phases.Payload p) h = open_in (phases.Payload p) h [] p.some_left
-  settled_in (phases.AuthHead p) h = open_in (phases.AuthHead p) h [] (lit< tt)
-  settled_in (phases.Auth p) h = open_in (phases.Auth p) h [] p.some_left
-  settled_in (phases.Signed p) h = refl
-  settled_in (phases.Decided verdict) h = refl
-  settled_in (phases.Settled verdict) h = refl
-  settled_in (phases.Shaped p) h = refl
-
-  -- Without a further byte an unsettled message is Truncated at the number of bytes.
-  pub truncated_in : (phase : Phase) → HoldsIn task known told n v phase → is_settled phase ≡ false → (here phase []).answer ≡ refused Truncated n
-  unfolding here
-  truncated_in phases.FirstHead h e = cut_at _ _ _ (head_waits nothing_told (past_first_head (rules_of H D task)) 0 v.head.items h.1.0) h.1.1
-  truncated_in (phases.TagHead p) h e = cut_at _ _ _ (head_waits nothing_told (past_second_head (rules_of H D task)) p.at v.head.items h.1.0) h.1.1
-  truncated_in (phases.ArrayHead p) h e = cut_at _ _ _ (head_waits nothing_told (past_array_head (rules_of H D task) p.kind) p.at v.head.items h.1.0) h.1.1
-  truncated_in (phases.ProtectedHead p) h e = cut_at _ _ _ (head_waits nothing_told (past_protected_head (rules_of H D task) p.kind) p.at v.head.items h.1.0) h.1.1
-  truncated_in (phases.Protected p) h e = cut_at _ _ _
-      (string_waits (λ bytes. nothing_told) p.length (past_protected (rules_of H D task) p.kind) p.at (v.protected.items ++ []) (fewer v.protected.items [] p.length p.left h.1 p.some_left)) (with_none n p.at v.protected.items h.3)
-  truncated_in (phases.Unprotected p) h e = cut_at _ _ _
-      (item_waits (unprotected_told known.headers.protected_pairs) H D (past_unprotected (rules_of H D task) p.kind v.protected.items known.headers.protected_pairs) p.at v.unprotected.items (waits h.2)) h.3
-  truncated_in (phases.PayloadHead p) h e = cut_at _ _ _
-      (head_waits (headers_told known.headers []) (past_payload_head (rules_of H D task) known.headers known.chosen) p.at v.head.items h.1.0) h.1.1
-  truncated_in (phases.Payload p) h e = cut_at _ _ _
-      (string_waits (headers_told known.headers) p.length (past_payload (rules_of H D task) known.headers known.chosen) p.at (known.payload ++ []) (fewer known.payload [] p.length p.left h.1 p.some_left)) (with_none n p.at known.payload h.2)
-  truncated_in (phases.AuthHead p) h e = cut_at _ _ _
-      (head_waits (headers_told known.headers known.payload) (past_auth_head (rules_of H D task) known.headers known.chosen known.payload) p.at v.head.items h.1.0) h.1.1
-  truncated_in (phases.Auth p) h e = cut_at _ _ _
-      (string_waits (λ bytes. headers_told known.headers known.payload) p.length (finish (rules_of H D task) known.headers known.chosen known.payload p.head_at) p.at (known.auth ++ []) (fewer known.auth [] p.length p.left h.1 p.some_left)) (with_none n p.at known.auth h.2)
-  truncated_in (phases.Signed p) h e = absurd cc
-  truncated_in (phases.Decided verdict) h e = absurd cc
-  truncated_in (phases.Settled verdict) h e = absurd cc
-  truncated_in (phases.Shaped p) h e = absurd cc
+  open_in phases.FirstHead h = open_at phases.FirstHead h refl refl
+  open_in (phases.TagHead p) h = open_at (phases.TagHead p) h refl refl
+  open_in (phases.ArrayHead p) h = open_at (phases.ArrayHead p) h refl refl
+  open_in (phases.ProtectedHead p) h = open_at (phases.ProtectedHead p) h refl refl
+  open_in (phases.Protected p) h = λ more lt.
+      string_open (λ bytes. nothing_told) p.length (past_protected (rules_of H D task) p.kind) p.at (v.protected.items ++ more) (fewer v.protected.items more p.length p.left h.1 lt)
+  open_in (phases.Unprotected p) h = open_at (phases.Unprotected p) h refl refl
+  open_in (phases.PayloadHead p) h = open_at (phases.PayloadHead p) h refl refl
+  open_in (phases.Payload p) h = λ more lt.
+      string_open (headers_told known.headers) p.length (past_payload (rules_of H D task) known.headers known.chosen) p.at (known.payload ++ more) (fewer known.payload more p.length p.left h.1 lt)
+  open_in (phases.AuthHead p) h = open_at (phases.AuthHead p) h refl refl
+  open_in (phases.Auth p) h = λ more lt.
+      string_open (λ bytes. headers_told known.headers known.payload) p.length (finish (rules_of H D task) known.headers known.chosen known.payload p.head_at) p.at (known.auth ++ more) (fewer known.auth more p.length p.left h.1 lt)
+  open_in (phases.Signed p) h = λ more lt. absurd (omega (arith, lt))
+  open_in (phases.Decided verdict) h = λ more lt. absurd (omega (arith, lt))
+  open_in (phases.Settled verdict) h = λ more lt. absurd (omega (arith, lt))
+  open_in (phases.Shaped p) h = λ more lt. absurd (omega (arith, lt))
 
   -- Behind a payload comes a head, of which no byte is there.
   payload_ends_open : (p : Payload) → (more : List ℕ) → length (known.payload ++ more) ≡ p.length → (here (phases.Payload p) more).settled ≡ false
@@ -208,11 +204,15 @@ stands_open {H} {D} {task} {B} {n} {v} {reading} waits more h lt = ap (λ (r : R
 
 pub stands_settled : {H D : ℕ} {task : Task} {B : List ℕ} {n : ℕ} {v : Verifier H D} {reading : List ℕ → Reading} → WalkerWaits v → StandsFor task B n v reading → (reading []).settled ≡ is_settled v.phase
 unfolding here
-stands_settled {H} {D} {task} {B} {n} {v} {reading} waits h = ap (λ (r : Reading). r.settled) (h.left []) ∙ settled_in task h.known h.told n v waits v.phase h.holds
+stands_settled {H} {D} {task} {B} {n} {v} {reading} waits h = ap (λ (r : Reading). r.settled) (h.left [] ∙ ends_in task h.known h.told n v waits v.phase h.holds)
+
+pub stands_wanted : {H D : ℕ} {task : Task} {B : List ℕ} {n : ℕ} {v : Verifier H D} {reading : List ℕ → Reading} → WalkerWaits v → StandsFor task B n v reading → (reading []).wanted ≡ want_of v.phase
+unfolding here
+stands_wanted {H} {D} {task} {B} {n} {v} {reading} waits h = ap (λ (r : Reading). r.wanted) (h.left [] ∙ ends_in task h.known h.told n v waits v.phase h.holds)
 
 pub stands_told : {H D : ℕ} {task : Task} {B : List ℕ} {n : ℕ} {v : Verifier H D} {reading : List ℕ → Reading} → WalkerWaits v → StandsFor task B n v reading → (reading []).told.payload ≡ B
 unfolding here
-stands_told {H} {D} {task} {B} {n} {v} {reading} waits h = ap (λ (r : Reading). r.told.payload) (h.left []) ∙ ap (λ (t : Told). t.payload) (told_in task h.known h.told n v waits v.phase h.holds) ∙ h.payload_told
+stands_told {H} {D} {task} {B} {n} {v} {reading} waits h = ap (λ (r : Reading). r.told.payload) (h.left [] ∙ ends_in task h.known h.told n v waits v.phase h.holds) ∙ h.payload_told
 
 pub stands_payload : {H D : ℕ} {task : Task} {B : List ℕ} {n : ℕ} {v : Verifier H D} {reading : List ℕ → Reading} → WalkerWaits v → (more : List ℕ) → StandsFor task B n v reading → in_payload v.phase ≡ true → length more ≤ want_of v.phase → (reading more).settled ≡ false
 unfolding here

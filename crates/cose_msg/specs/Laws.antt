@@ -101,7 +101,7 @@ MessageIsInspectedWithin = (room nesting : ℕ) (setting : Setting) (bytes : Lis
 
 -- A reading with another answer made of its own.
 abbrev pub answered : (Answer → Answer) → Reading → Reading
-answered change reading = record { answer = change reading.answer; settled = reading.settled; told = reading.told }
+answered change reading = record { answer = change reading.answer; settled = reading.settled; wanted = reading.wanted; told = reading.told }
 
 -- Where two rules differ in what a whole message comes to alone, so do the answers. Refusals before that are the same.
 abbrev pub FinishGoesLast : Type 0

@@ -1,6 +1,6 @@
 -- What the bytes of a message come to, phase by phase. A phase is a function of its place and of the bytes that begin
 -- there, and gives what all of them come to: it knows the phases after it.
-use Rattle.std.specs.Prelude.{ℕ, ◌+◌, Bool, true, false, List, length, take, drop, Option, Some, None, Result, Ok, Err, nat_lt, if◌then◌else◌}
+use Rattle.std.specs.Prelude.{ℕ, ◌+◌, ◌-◌, Bool, true, false, List, length, take, drop, Option, Some, None, Result, Ok, Err, nat_lt, if◌then◌else◌}
 use Rattle.cose_head.specs.declared.head.Head.{Head}
 use Rattle.cose_head.specs.declared.head.HeadStep.{HeadStep}
 use Rattle.cose_head.specs.declared.head.HeadStep.TheVariants.{Got, More, Fault}
@@ -24,10 +24,12 @@ pub record Told : Type 0 where
   pub payload : List ℕ
   pub open_items : ℕ
 
--- The answer, whether no further byte can change it, and what is known.
+-- The answer; whether no further byte can change it; how many further bytes are wanted for certain, fewer of which don't settle
+-- it; and what is known.
 pub record Reading : Type 0 where
   pub answer : Answer
   pub settled : Bool
+  pub wanted : ℕ
   pub told : Told
 
 abbrev pub Phase : Type 0
@@ -38,35 +40,36 @@ abbrev pub Next : Type 0 → Type 0
 Next A = ℕ → A → Phase
 
 abbrev pub settled : Told → Answer → Reading
-settled told answer = record { answer = answer; settled = true; told = told }
+settled told answer = record { answer = answer; settled = true; wanted = 0; told = told }
 
 abbrev pub stop : Told → Reason → ℕ → Reading
 stop told reason place = settled told (refused reason place)
 
 -- The bytes end before the phase does: Truncated at their number.
-abbrev pub cut : Told → ℕ → Reading
-cut told place = record { answer = refused Truncated place; settled = false; told = told }
+abbrev pub cut : Told → ℕ → ℕ → Reading
+cut told wanted place = record { answer = refused Truncated place; settled = false; wanted = wanted; told = told }
 
--- A head outside an item (RFC 8949 section 3).
+-- A head outside an item (RFC 8949 section 3). It wants one byte after the other.
 abbrev pub past_head : Told → Next Head → ℕ → List ℕ → HeadStep → Reading
 past_head told next place bytes (Got head used) = next place head (place + used) (drop used bytes)
-past_head told next place bytes (More wanted) = cut told (place + length bytes)
+past_head told next place bytes (More wanted) = cut told 1 (place + length bytes)
 past_head told next place bytes (Fault reason) = stop told reason place
 
 unfoldable pub with_head : Told → Next Head → Phase
 with_head told next place bytes = past_head told next place bytes (bare_head bytes)
 
--- A string of n bytes. What is known goes by those of them that are there.
+-- A string of n bytes. What is known goes by those of them that are there, and those that are left are wanted.
 unfoldable pub with_string : (List ℕ → Told) → ℕ → Next (List ℕ) → Phase
 with_string told n next place bytes =
-    if nat_lt (length bytes) n then cut (told bytes) (place + length bytes) else
+    if nat_lt (length bytes) n then cut (told bytes) (n - length bytes) (place + length bytes) else
     next place (take n bytes) (place + n) (drop n bytes)
 
 -- How many arrays, maps and tags of an item are open after these bytes of it.
 abbrev pub open_items_after : ℕ → ℕ → List ℕ → ℕ
 open_items_after room nesting bytes = (open_in nesting (left_of bytes room 0)).items
 
--- An item within a room and a nesting allowance. What is known goes by how much of it is open where the bytes end.
+-- An item within a room and a nesting allowance. What is known goes by how much of it is open where the bytes end, and it wants
+-- one byte after the other.
 abbrev pub is_truncated : Reason → Bool
 is_truncated Truncated = true
 is_truncated _ = false
@@ -75,7 +78,7 @@ abbrev pub past_item : (ℕ → Told) → ℕ → Next (List ℕ) → ℕ → Li
 past_item told open_items next place bytes (Ok found) =
     next place (take found.1.place bytes) (place + found.1.place) (drop found.1.place bytes)
 past_item told open_items next place bytes (Err refusal) =
-    if is_truncated refusal.reason then cut (told open_items) (place + length bytes) else
+    if is_truncated refusal.reason then cut (told open_items) 1 (place + length bytes) else
     stop (told 0) refusal.reason (place + refusal.place)
 
 unfoldable pub with_item : (ℕ → Told) → ℕ → ℕ → Next (List ℕ) → Phase

@@ -112,6 +112,8 @@ impl<'k, const H: usize, const D: usize> Verifier<'k, H, D> {
             → length more < want_of self.now.phase → (reading more).settled ≡ false }
         ensures settled { (task : Task) (B : List ℕ) (n : ℕ) (reading : List ℕ → Reading) → StandsFor task B n self.now reading
             → (reading []).settled ≡ is_settled self.now.phase }
+        ensures wanted { (task : Task) (B : List ℕ) (n : ℕ) (reading : List ℕ → Reading) → StandsFor task B n self.now reading
+            → (reading []).wanted ≡ want_of self.now.phase }
         ensures payload { (task : Task) (B : List ℕ) (n : ℕ) (reading : List ℕ → Reading) → StandsFor task B n self.now reading
             → (reading []).told.payload ≡ B }
         ensures truncated { (task : Task) (B : List ℕ) (n : ℕ) (reading : List ℕ → Reading) → StandsFor task B n self.now reading

@@ -83,6 +83,8 @@ impl<'k, const H: usize, const D: usize> Verifier<'k, H, D> {
     /// signature, and one of a head or of the unprotected header. None once the message is settled or the verifier has stopped.
     pub fn want(&self) -> u64
         ensures value { result ≡ wanted_in self.now }
+        // By definition, of the bytes so far.
+        ensures reads { (task : Task) (s B : List ℕ) → HasTaken task s B self.now → result ≡ (message (rules_of H D task) s).wanted }
         ensures some { status_in self.now ≡ Status.More → 0 < result }
         ensures none { is_more (status_in self.now) ≡ false → result ≡ 0 }
         // Fewer bytes than that don't settle the message.

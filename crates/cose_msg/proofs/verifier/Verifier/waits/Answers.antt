@@ -3,7 +3,7 @@ use Rattle.std.proofs.lemmas.List.{append-nil}
 use Rattle.cose_msg.proofs.Decisions.{stands_shown}
 use Rattle.cose_msg.proofs.PayloadsKnown.{stands_fixed, stands_grows}
 use Rattle.cose_msg.proofs.Statuses.{stands_status}
-use Rattle.cose_msg.proofs.Waits.{WalkerWaits, stands_open, stands_settled, stands_told, stands_payload, stands_truncated}
+use Rattle.cose_msg.proofs.Waits.{WalkerWaits, stands_open, stands_settled, stands_told, stands_payload, stands_truncated, stands_wanted}
 use Rattle.cose_msg.proofs.verifier.Verifier.waits.Goals as goal
 
 -- The walker wants a byte at least, so it isn't settled without one.
@@ -18,6 +18,9 @@ returns-clause-open g c = λ task B n reading more h lt. stands_open (walker g c
 
 pub returns-clause-settled : goal.returns-clause-settled
 returns-clause-settled g c = λ task B n reading h. stands_settled (walker g c) h
+
+pub returns-clause-wanted : goal.returns-clause-wanted
+returns-clause-wanted g c = λ task B n reading h. stands_wanted (walker g c) h
 
 pub returns-clause-payload : goal.returns-clause-payload
 returns-clause-payload g c = λ task B n reading h. stands_told (walker g c) h
