@@ -1,5 +1,5 @@
 -- Where a message stands that is fed, how many bytes are wanted, and how many of a piece are used, on examples, by computing.
-use Rattle.std.proofs.Common.{◌≡◌, ℕ, zero, suc, ◌<◌, Bool, true, false, inl, inr, List, [], ◌∷◌, ◌++◌, length, take, sym, ◌∙◌, arith, refl}
+use Rattle.std.proofs.Common.{◌≡◌, ℕ, zero, suc, ◌<◌, Bool, true, false, inl, inr, List, [], ◌∷◌, ◌++◌, length, take, None, sym, ◌∙◌, arith, refl}
 use Rattle.std.specs.Prelude.{if◌then◌else◌, not, ◌&&◌, ◌||◌, ◌==◌, nat_le}
 use Rattle.std.proofs.lemmas.Bool.{cases_lt, and_parts, or_cases, not-true, leb-true, eqb-true}
 use Rattle.std.specs.Str.{bytes_eq}
@@ -148,6 +148,9 @@ open_below rules so_far piece (suc used) e n lt = elim (cases_lt n used) [
       rw same (not-true _ (and_parts _ _ e).0))
 ]
 
+not_both : (b : Bool) → b ≡ true → b ≡ false → ⊥
+not_both b is not = let never : true ≡ false = sym is ∙ not in cc
+
 -- It says of this piece behind these bytes how many are used.
 abbrev is_used : Rules → List ℕ → List ℕ → ℕ → Bool
 is_used rules so_far piece used =
@@ -155,11 +158,16 @@ is_used rules so_far piece used =
 
 uses_so_many : (rules : Rules) (so_far piece : List ℕ) (used : ℕ) → is_used rules so_far piece used ≡ true → Uses rules so_far piece used
 unfolding reading
-uses_so_many rules so_far piece used e = record {
-  within = leb-true _ _ (and_parts _ _ e).0;
-  none_earlier = open_below rules so_far piece used (and-left _ _ (and_parts _ _ e).1);
-  all = λ unsettled. all_of_it (is_settled rules (so_far ++ take used piece)) (used == length piece) unsettled (and-right _ _ (and_parts _ _ e).1);
-}
+uses_so_many rules so_far piece used e =
+    let rest = (and_parts _ _ e).1 in
+    record {
+      within = leb-true _ _ (and_parts _ _ e).0;
+      none_earlier = open_below rules so_far piece used (and_parts _ _ rest).0;
+      all = λ unsettled. elim (or_cases _ _ (and_parts _ _ rest).1) [
+        | inl done ↦ absurd (not_both _ done unsettled)
+        | inr same ↦ eqb-true _ _ same
+      ];
+    }
 
 -- The whole piece, where the message is still open behind it.
 by_the_front : Uses mac_rules [] (hex "d18443a1") 4
