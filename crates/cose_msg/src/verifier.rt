@@ -213,17 +213,11 @@ impl<'k, const H: usize, const D: usize> Verifier<'k, H, D> {
         ensures some { is_settled self.now.phase ≡ false → 0 < result }
     {
         match self.phase {
-            Phase::FirstHead
-            | Phase::TagHead(_)
-            | Phase::ArrayHead(_)
-            | Phase::ProtectedHead(_)
-            | Phase::Unprotected(_)
-            | Phase::PayloadHead(_)
-            | Phase::AuthHead(_) => 1,
             Phase::Protected(protected) => protected.left,
             Phase::Payload(payload) => payload.left,
             Phase::Auth(auth) => auth.left,
-            Phase::Signed(_) | Phase::Decided(_) | Phase::Settled(_) | Phase::Shaped(_) => 0,
+            _ if self.is_settled() => 0,
+            _ => 1,
         }
     }
 
@@ -241,13 +235,7 @@ impl<'k, const H: usize, const D: usize> Verifier<'k, H, D> {
             Phase::Unprotected(unprotected) => self.unprotected_byte(unprotected, byte),
             Phase::PayloadHead(head) => self.payload_head(head, byte),
             Phase::AuthHead(head) => self.auth_head(head, byte),
-            Phase::Protected(_)
-            | Phase::Payload(_)
-            | Phase::Auth(_)
-            | Phase::Signed(_)
-            | Phase::Decided(_)
-            | Phase::Settled(_)
-            | Phase::Shaped(_) => {}
+            _ => {}
         }
     }
 
@@ -276,17 +264,11 @@ impl<'k, const H: usize, const D: usize> Verifier<'k, H, D> {
                 self.auth(auth, part);
                 part.len()
             }
-            Phase::FirstHead
-            | Phase::TagHead(_)
-            | Phase::ArrayHead(_)
-            | Phase::ProtectedHead(_)
-            | Phase::Unprotected(_)
-            | Phase::PayloadHead(_)
-            | Phase::AuthHead(_) => {
+            _ if self.is_settled() => 0,
+            _ => {
                 self.take_byte(piece[0]);
                 1
             }
-            Phase::Signed(_) | Phase::Decided(_) | Phase::Settled(_) | Phase::Shaped(_) => 0,
         }
     }
 }

@@ -47,20 +47,8 @@ impl<'k, const H: usize, const D: usize> Verifier<'k, H, D> {
         ensures { result ≡ verdict_in self.now.phase }
     {
         match self.phase {
-            Phase::Decided(verdict) => Some(verdict),
-            Phase::Settled(verdict) => Some(verdict),
-            Phase::FirstHead
-            | Phase::TagHead(_)
-            | Phase::ArrayHead(_)
-            | Phase::ProtectedHead(_)
-            | Phase::Protected(_)
-            | Phase::Unprotected(_)
-            | Phase::PayloadHead(_)
-            | Phase::Payload(_)
-            | Phase::AuthHead(_)
-            | Phase::Auth(_)
-            | Phase::Signed(_)
-            | Phase::Shaped(_) => None,
+            Phase::Decided(verdict) | Phase::Settled(verdict) => Some(verdict),
+            _ => None,
         }
     }
 
@@ -76,19 +64,7 @@ impl<'k, const H: usize, const D: usize> Verifier<'k, H, D> {
                 auth: shape.auth,
                 taken: shape.taken,
             }),
-            Phase::Settled(Verdict::Authentic { .. })
-            | Phase::FirstHead
-            | Phase::TagHead(_)
-            | Phase::ArrayHead(_)
-            | Phase::ProtectedHead(_)
-            | Phase::Protected(_)
-            | Phase::Unprotected(_)
-            | Phase::PayloadHead(_)
-            | Phase::Payload(_)
-            | Phase::AuthHead(_)
-            | Phase::Auth(_)
-            | Phase::Signed(_)
-            | Phase::Decided(_) => None,
+            _ => None,
         }
     }
 
@@ -258,25 +234,16 @@ impl<'k, const H: usize, const D: usize> Verifier<'k, H, D> {
             → Counts result self.old.taken }
     {
         self.waits();
+        if let Some(verdict) = self.known_verdict() {
+            return verdict;
+        }
         match self.phase {
-            Phase::Decided(verdict) => verdict,
-            Phase::Settled(verdict) => verdict,
             Phase::Signed(signed) => {
                 let verdict = self.signed_verdict(signed, ec);
                 self.phase = Phase::Decided(verdict);
                 verdict
             }
-            Phase::FirstHead
-            | Phase::TagHead(_)
-            | Phase::ArrayHead(_)
-            | Phase::ProtectedHead(_)
-            | Phase::Protected(_)
-            | Phase::Unprotected(_)
-            | Phase::PayloadHead(_)
-            | Phase::Payload(_)
-            | Phase::AuthHead(_)
-            | Phase::Auth(_)
-            | Phase::Shaped(_) => Verdict::Refused(self.truncate()),
+            _ => Verdict::Refused(self.truncate()),
         }
     }
 

@@ -59,16 +59,7 @@ impl<'k, const H: usize, const D: usize> Verifier<'k, H, D> {
             Phase::Signed(_) | Phase::Decided(_) | Phase::Shaped(_) => Status::Complete,
             Phase::Settled(Verdict::Authentic { .. }) => Status::Complete,
             Phase::Settled(Verdict::Refused(refusal)) => Status::Refused(refusal),
-            Phase::FirstHead
-            | Phase::TagHead(_)
-            | Phase::ArrayHead(_)
-            | Phase::ProtectedHead(_)
-            | Phase::Protected(_)
-            | Phase::Unprotected(_)
-            | Phase::PayloadHead(_)
-            | Phase::Payload(_)
-            | Phase::AuthHead(_)
-            | Phase::Auth(_) => Status::More,
+            _ => Status::More,
         }
     }
 

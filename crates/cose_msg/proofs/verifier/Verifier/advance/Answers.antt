@@ -15,7 +15,7 @@ pub returns-in-Auth-clause-stands : goal.returns-in-Auth-clause-stands
 returns-in-Auth-clause-stands g c = λ task B n reading h.
     rw (c.in-Auth.is, ← c.front_of-part-in-Auth.ensures.front) (c.auth.ensures.stands task B n reading h)
 
-pub returns-in-FirstHead-clause-stands : goal.returns-in-FirstHead-clause-stands
-returns-in-FirstHead-clause-stands g c = λ task B n reading h.
+pub returns-in_default-2-clause-stands : goal.returns-in_default-2-clause-stands
+returns-in_default-2-clause-stands g c = λ task B n reading h.
     let byte : takes_bytes c.args.self.now.phase ≡ true = search rules in
     rw (grown_by_byte c.args.self.now.phase B (take 1 c.args.piece.now) byte, first_byte c.args.piece.now c.requires.some) (c.take_byte.ensures task B n reading h)

@@ -8,19 +8,12 @@ use Rattle.cose_msg.specs.Verifier.{Counts}
 use Rattle.cose_msg.proofs.Decisions.{signed_count, stands_with_verdict, stands_without_verdict}
 use Rattle.cose_msg.proofs.verifier.Verifier.conclude.Goals as goal
 
-pub returns-in-Decided-clause-answer : goal.returns-in-Decided-clause-answer
-returns-in-Decided-clause-answer g c = λ setting B reading h.
-    ap (then_verified setting.aad (g.E.EcVerifier.decides c.args.ec.now)) (stands_with_verdict c.in-Decided.verdict h (ap verdict_in c.in-Decided.is)).0
+pub returns-in-Some-clause-answer : goal.returns-in-Some-clause-answer
+returns-in-Some-clause-answer g c = λ setting B reading h.
+    ap (then_verified setting.aad (g.E.EcVerifier.decides c.args.ec.now)) (stands_with_verdict c.in-Some.verdict h (sym c.known_verdict.ensures ∙ c.in-Some.is)).0
 
-pub returns-in-Decided-clause-counted : goal.returns-in-Decided-clause-counted
-returns-in-Decided-clause-counted g c = λ setting B reading h. (stands_with_verdict c.in-Decided.verdict h (ap verdict_in c.in-Decided.is)).2
-
-pub returns-in-Settled-clause-answer : goal.returns-in-Settled-clause-answer
-returns-in-Settled-clause-answer g c = λ setting B reading h.
-    ap (then_verified setting.aad (g.E.EcVerifier.decides c.args.ec.now)) (stands_with_verdict c.in-Settled.verdict h (ap verdict_in c.in-Settled.is)).0
-
-pub returns-in-Settled-clause-counted : goal.returns-in-Settled-clause-counted
-returns-in-Settled-clause-counted g c = λ setting B reading h. (stands_with_verdict c.in-Settled.verdict h (ap verdict_in c.in-Settled.is)).2
+pub returns-in-Some-clause-counted : goal.returns-in-Some-clause-counted
+returns-in-Some-clause-counted g c = λ setting B reading h. (stands_with_verdict c.in-Some.verdict h (sym c.known_verdict.ensures ∙ c.in-Some.is)).2
 
 pub returns-in-Signed-clause-answer : goal.returns-in-Signed-clause-answer
 returns-in-Signed-clause-answer g c = λ setting B reading h. c.signed_verdict-verdict.ensures.answer (to_verify setting) B _ reading h
@@ -32,8 +25,8 @@ returns-in-Signed-clause-counted g c = λ setting B reading h.
 pub returns-in-Signed-clause-shown : goal.returns-in-Signed-clause-shown
 returns-in-Signed-clause-shown g c = rw c.in-Signed.is refl
 
-pub returns-in-FirstHead : goal.returns-in-FirstHead
-returns-in-FirstHead g c =
+pub returns-in_default-phase : goal.returns-in_default-phase
+returns-in_default-phase g c =
     let none : verdict_in c.args.self.now.phase ≡ None = search rules in
     let undecided : awaits_decision c.args.self.now.phase ≡ false = search rules in
     let no_input : sign_input_of c.args.self.now ≡ None = search rules in

@@ -20,8 +20,8 @@ returns-in-Settled-Refused-clause-reads g c = λ task s B h.
     let is : status_at c.args.self.now.phase ≡ statuses.Refused c.in-Settled-Refused.refusal = search rules in
     status_reads h (c.waits.ensures.status task B _ _ h.so_far) is
 
-pub returns-in-FirstHead : goal.returns-in-FirstHead
-returns-in-FirstHead g c =
+pub returns-in_default : goal.returns-in_default
+returns-in_default g c =
     let is : status_at c.args.self.now.phase ≡ More = search rules in
     record {
       value = rw (c.if-self.false, is) refl;
