@@ -3,7 +3,6 @@ use Rattle.std.specs.Prelude.{◌≡◌, ℕ, ◌+◌, List, length, Option, Som
 use Rattle.std.specs.Borrow.{Bor}
 use Rattle.cose_head.specs.declared.kind.Kind.{Kind}
 use Rattle.cose_head.specs.declared.kind.Kind.TheVariants as kinds
-use Rattle.cose_head.specs.Walker.{HasPut}
 use Rattle.cose_map.specs.Bucket.{bucket_of}
 use Rattle.cose_map.specs.declared.key.Key.{Key}
 use Rattle.cose_map.specs.Key.Value.{KeyValue}
@@ -117,7 +116,3 @@ input_value input = record { key = key_value input.0; digest = contents input.1;
 -- The bytes of the message in the verifier's stores. The running hash counts as 256.
 abbrev pub held : {H D : ℕ} → Verifier H D → ℕ
 held v = length v.protected.items + length v.unprotected.items + length v.head.items + length v.auth.items + 256
-
--- The walker of the unprotected bucket was put these bytes, and goes on.
-abbrev pub Walks : {H D : ℕ} → List ℕ → Verifier H D → Type 0
-Walks {H} {D} bytes v = HasPut H bytes v.walker

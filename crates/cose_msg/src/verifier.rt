@@ -67,7 +67,7 @@ impl<'k, const H: usize, const D: usize> Verifier<'k, H, D> {
     ghost use Rattle.cose_msg.specs.Kept.{HasTaken, bytes_taken, is_inspecting, setting_in};
     ghost use Rattle.cose_msg.specs.Phase.{grown, in_payload, is_settled, takes_bytes, want_of};
     ghost use Rattle.cose_msg.specs.Reading.{Reading, stop, Told};
-    ghost use Rattle.cose_msg.specs.Shown.{Tells, Walks, held};
+    ghost use Rattle.cose_msg.specs.Shown.{Tells, held};
     ghost use Rattle.cose_msg.specs.Task.{Task, to_inspect, to_verify};
     ghost use Rattle.cose_msg.specs.Verifier.{Shows, SoFar, StandsFor, setting_of, task_of};
 
@@ -80,7 +80,6 @@ impl<'k, const H: usize, const D: usize> Verifier<'k, H, D> {
         ensures none_taken { HasTaken (record { setting = setting_of context.entry; inspects = inspecting }) [] [] result }
         ensures tells { Tells (record { setting = setting_of context.entry; inspects = inspecting }) [] result }
         ensures held { held result ≡ 256 }
-        ensures walks { Walks [] result }
         ensures context { setting_in result ≡ setting_of context.entry }
         ensures inspects { is_inspecting result ≡ inspecting }
     {
@@ -112,7 +111,6 @@ impl<'k, const H: usize, const D: usize> Verifier<'k, H, D> {
         ensures none_taken { HasTaken (to_verify (setting_of context.entry)) [] [] result }
         ensures tells { Tells (to_verify (setting_of context.entry)) [] result }
         ensures held { held result ≡ 256 }
-        ensures walks { Walks [] result }
         ensures context { setting_in result ≡ setting_of context.entry }
         ensures inspects { is_inspecting result ≡ false }
     {
@@ -129,7 +127,6 @@ impl<'k, const H: usize, const D: usize> Verifier<'k, H, D> {
         ensures none_taken { HasTaken (to_inspect (setting_of context.entry)) [] [] result }
         ensures tells { Tells (to_inspect (setting_of context.entry)) [] result }
         ensures held { held result ≡ 256 }
-        ensures walks { Walks [] result }
         ensures context { setting_in result ≡ setting_of context.entry }
         ensures inspects { is_inspecting result ≡ true }
     {
@@ -157,7 +154,6 @@ impl<'k, const H: usize, const D: usize> Verifier<'k, H, D> {
         ensures none_taken { HasTaken (task_of self.old) [] [] self.new }
         ensures tells { Tells (task_of self.old) [] self.new }
         ensures held { held self.new ≡ 256 }
-        ensures walks { Walks [] self.new }
         ensures context { setting_in self.new ≡ setting_in self.old }
         ensures inspects { is_inspecting self.new ≡ is_inspecting self.old }
     {

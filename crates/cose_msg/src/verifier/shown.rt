@@ -1,10 +1,9 @@
 //! What a verifier tells of a message besides what comes of it, and what it holds.
 
-ghost use Rattle.std.specs.Prelude.{◌≡◌, ◌<◌, ◌≤◌, ◌+◌, ◌*◌, ◌^◌, ℕ, List, length, option_map};
+ghost use Rattle.std.specs.Prelude.{◌≡◌, ◌<◌, ◌≤◌, ◌+◌, ◌*◌, ◌^◌, length, option_map};
 ghost use Rattle.cose_map.specs.Bucket.View.{bucket_pairs};
 ghost use Rattle.cose_msg.specs.Phase.{has_signature};
-ghost use Rattle.cose_msg.specs.Reading.{open_items_after};
-ghost use Rattle.cose_msg.specs.Shown.{Walks, held, input_value, pairs_at, protected_of, sign_input_of, unprotected_of};
+ghost use Rattle.cose_msg.specs.Shown.{held, input_value, pairs_at, protected_of, sign_input_of, unprotected_of};
 ghost use Rattle.cose_msg.specs.Verifier.{opened};
 
 use crate::phase::Phase;
@@ -78,8 +77,6 @@ impl<'k, const H: usize, const D: usize> Verifier<'k, H, D> {
     pub fn open_items(&self) -> usize
         ensures value { result ≡ opened self.now }
         ensures limit { result ≤ D }
-        // Where the bucket's bytes so far are these, it is what is open after them.
-        ensures open { (bytes : List ℕ) → Walks bytes self.now → result ≡ open_items_after H D bytes }
     {
         self.walker.open_items()
     }
