@@ -132,4 +132,4 @@ impl<R: Read> Intake for ReadIntake<R> {
 }
 
 #[cfg(test)]
-pub(crate) mod tests;
+mod tests;

@@ -67,6 +67,8 @@ pub mod laws;
 mod make;
 mod phase;
 mod run;
+#[cfg(test)]
+mod samples;
 mod sink;
 mod status;
 mod store;

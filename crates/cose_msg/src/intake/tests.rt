@@ -1,41 +1,7 @@
 //! The intake of a reader, alone: one read in each call, failures, the end.
 
+use crate::samples::FailingReader;
 use crate::{Intake, IntakeFault, ReadIntake};
-use std::io;
-use std::io::{Error, ErrorKind, Read};
-
-/// Gives at most three bytes in a read. One of its reads fails, and gives none.
-#[derive(Drop)]
-pub(crate) struct FailingReader<'a> {
-    bytes: &'a [u8],
-    reads: usize,
-    fails_at: usize,
-}
-
-impl<'a> FailingReader<'a> {
-    /// A reader of these bytes; the read of this number fails, the first being 1.
-    pub(crate) fn new(bytes: &'a [u8], fails_at: usize) -> Self {
-        FailingReader {
-            bytes,
-            reads: 0,
-            fails_at,
-        }
-    }
-}
-
-impl Read for FailingReader<'_> {
-    fn read(&mut self, into: &mut [u8]) -> io::Result<usize> {
-        self.reads = self.reads.saturating_add(1);
-        if self.reads == self.fails_at {
-            return Err(Error::from(ErrorKind::Other));
-        }
-        let count = self.bytes.len().min(into.len()).min(3);
-        let (piece, rest) = self.bytes.split_at(count);
-        into[..count].copy_from_slice(piece);
-        self.bytes = rest;
-        Ok(count)
-    }
-}
 
 #[test]
 fn reads_once_in_a_call(rt: HostRuntime) {

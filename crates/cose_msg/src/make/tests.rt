@@ -2,31 +2,20 @@
 
 ghost use Rattle.std.specs.Prelude.{None};
 
+use crate::samples::{FailingReader, JEFE, MAC0};
 use crate::{
     Alg, Intake, Key, MakeFault, ReadIntake, Sink, SinkFault, SliceIntake, Store, make_mac0,
 };
 use arrayvec::ArrayVec;
-use std::io;
-use std::io::{Error, ErrorKind, Read};
 use std::process::Abort;
 
-/// The symmetric key `Jefe`.
-const KEY: &[u8] = b"\xa2\x01\x04\x20\x44Jefe";
-
-/// The same for HMAC 256/256 alone.
+/// The key `Jefe` for HMAC 256/256 alone.
 const KEY_OF_FIVE: &[u8] = b"\xa3\x01\x04\x03\x05\x20\x44Jefe";
 
 /// A key for operation 10 alone, which verifies.
 const KEY_THAT_VERIFIES: &[u8] = b"\xa3\x01\x04\x04\x81\x0a\x20\x41a";
 
-/// The message of the payload `hi` by HMAC 256/256, of 44 bytes.
-const MESSAGE: &[u8] = &[
-    0xd1, 0x84, 0x43, 0xa1, 0x01, 0x05, 0xa0, 0x42, 0x68, 0x69, 0x58, 0x20, 0x7d, 0x81, 0xe9, 0x64,
-    0xaa, 0xee, 0x5f, 0xbd, 0x8a, 0xdf, 0xb3, 0xf5, 0x33, 0x65, 0x7a, 0x9e, 0xf9, 0xf7, 0x82, 0xf0,
-    0x4b, 0x91, 0x87, 0x7b, 0x60, 0x04, 0x27, 0x2a, 0x03, 0x52, 0xf9, 0x60,
-];
-
-/// The same with the identifier `1`, of 47 bytes.
+/// The message of the payload `hi` by HMAC 256/256, with the identifier `1`, of 47 bytes.
 const WITH_KID: &[u8] = &[
     0xd1, 0x84, 0x43, 0xa1, 0x01, 0x05, 0xa1, 0x04, 0x41, 0x31, 0x42, 0x68, 0x69, 0x58, 0x20, 0x7d,
     0x81, 0xe9, 0x64, 0xaa, 0xee, 0x5f, 0xbd, 0x8a, 0xdf, 0xb3, 0xf5, 0x33, 0x65, 0x7a, 0x9e, 0xf9,
@@ -65,7 +54,7 @@ fn makes(
     payload: &[u8],
     message: &[u8],
 ) {
-    let Ok(key) = Key::read(KEY, 0) else {
+    let Ok(key) = Key::read(JEFE, 0) else {
         return;
     };
     let length = payload.len().saturating_sub(1) as u64;
@@ -101,8 +90,8 @@ fn makes(
 
 #[test]
 fn makes_messages(rt: HostRuntime) {
-    assert!(rt; Key::read(KEY, 0).is_ok());
-    makes(&rt, Alg::Hmac256, None, b"", b"hi!", MESSAGE);
+    assert!(rt; Key::read(JEFE, 0).is_ok());
+    makes(&rt, Alg::Hmac256, None, b"", b"hi!", MAC0);
     makes(&rt, Alg::Hmac256, Some(b"1"), b"", b"hi!", WITH_KID);
     makes(&rt, Alg::Hmac64, None, b"", b"hi!", SHORT_TAG);
     makes(&rt, Alg::Hmac384, None, &[1, 2], b"hi!", WITH_AAD);
@@ -150,22 +139,22 @@ fn refuses_arguments(rt: HostRuntime) {
         2,
         MakeFault::WrongKey,
     );
-    refuses(&rt, Alg::Es256, KEY, None, 2, MakeFault::WrongKey);
+    refuses(&rt, Alg::Es256, JEFE, None, 2, MakeFault::WrongKey);
     refuses(
         &rt,
         Alg::Hmac256,
-        KEY,
+        JEFE,
         Some(&[0x31; 256]),
         2,
         MakeFault::TooLong,
     );
-    refuses(&rt, Alg::Hmac256, KEY, None, 1 << 56, MakeFault::TooLong);
-    refuses(&rt, Alg::Es256, KEY, None, 1 << 56, MakeFault::WrongKey);
+    refuses(&rt, Alg::Hmac256, JEFE, None, 1 << 56, MakeFault::TooLong);
+    refuses(&rt, Alg::Es256, JEFE, None, 1 << 56, MakeFault::WrongKey);
 }
 
 #[test]
 fn says_that_the_payload_is_short(rt: HostRuntime) {
-    let Ok(key) = Key::read(KEY, 0) else {
+    let Ok(key) = Key::read(JEFE, 0) else {
         return;
     };
     let mut intake = SliceIntake::new(b"h", 64);
@@ -180,34 +169,15 @@ fn says_that_the_payload_is_short(rt: HostRuntime) {
         &mut sink,
     );
     assert_eq!(rt; answer, Err(MakeFault::ShortPayload));
-    assert_eq!(rt; sink.bytes(), &MESSAGE[..9]);
-}
-
-/// Gives one byte, and then fails.
-#[derive(Drop)]
-struct FailingReader {
-    reads: usize,
-}
-
-impl Read for FailingReader {
-    fn read(&mut self, into: &mut [u8]) -> io::Result<usize> {
-        self.reads = self.reads.saturating_add(1);
-        match into {
-            [slot, ..] if self.reads == 1 => {
-                *slot = b'h';
-                Ok(1)
-            }
-            _ => Err(Error::from(ErrorKind::Other)),
-        }
-    }
+    assert_eq!(rt; sink.bytes(), &MAC0[..9]);
 }
 
 #[test]
 fn says_that_the_intake_failed(rt: HostRuntime) {
-    let Ok(key) = Key::read(KEY, 0) else {
+    let Ok(key) = Key::read(JEFE, 0) else {
         return;
     };
-    let mut intake = ReadIntake::new(FailingReader { reads: 0 });
+    let mut intake = ReadIntake::new(FailingReader::new(b"h", 2));
     let mut sink: Store<80> = Store::new();
     let answer = make_mac0::<64, ReadIntake<FailingReader>, Store<80>>(
         Alg::Hmac256,
@@ -219,7 +189,7 @@ fn says_that_the_intake_failed(rt: HostRuntime) {
         &mut sink,
     );
     assert_eq!(rt; answer, Err(MakeFault::Intake));
-    assert_eq!(rt; sink.bytes(), &MESSAGE[..9]);
+    assert_eq!(rt; sink.bytes(), &MAC0[..9]);
 }
 
 /// Keeps so many bytes, also a front of a piece, and fails at the next.
@@ -250,7 +220,7 @@ impl Sink for FrontSink {
 
 #[test]
 fn leaves_a_front_where_the_sink_fails(rt: HostRuntime) {
-    let Ok(key) = Key::read(KEY, 0) else {
+    let Ok(key) = Key::read(JEFE, 0) else {
         return;
     };
     for limit in 0..44 {
@@ -270,6 +240,6 @@ fn leaves_a_front_where_the_sink_fails(rt: HostRuntime) {
             &mut sink,
         );
         assert_eq!(rt; answer, Err(MakeFault::Sink));
-        assert_eq!(rt; sink.held.as_slice(), &MESSAGE[..limit]);
+        assert_eq!(rt; sink.held.as_slice(), &MAC0[..limit]);
     }
 }

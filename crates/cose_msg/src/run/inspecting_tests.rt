@@ -1,50 +1,14 @@
 //! What a verifier tells besides its answer, and messages that are only inspected.
 
-ghost use Rattle.std.specs.Prelude.{◌<◌, ◌≤◌, IfSome, length};
-
+use crate::samples::{CURVE_KEY, MAC0, SIGN1, context_of, under_jefe};
 use crate::{
-    Context, Inspected, KeySet, Kind, Label, Never, Nothing, Reason, Refusal, SliceIntake, Verdict,
-    Verifier, Wanted, inspect, verify,
+    Inspected, Kind, Label, Never, Nothing, Reason, Refusal, SliceIntake, Verdict, Verifier,
+    inspect, verify,
 };
-
-/// A COSE_Mac0 of a payload of two bytes, whose tag of 32 bytes is zeros.
-const MAC0: &[u8] = &[
-    0xd1, 0x84, 0x43, 0xa1, 0x01, 0x05, 0xa0, 0x42, 0x68, 0x69, 0x58, 0x20, 0, 0, 0, 0, 0, 0, 0, 0,
-    0, 0, 0, 0, 0, 0, 0, 0, 0, 0, 0, 0, 0, 0, 0, 0, 0, 0, 0, 0, 0, 0, 0, 0,
-];
-
-/// A COSE_Sign1 of no payload, whose signature of 64 bytes is zeros.
-const SIGN1: &[u8] = &[
-    0xd2, 0x84, 0x43, 0xa1, 0x01, 0x26, 0xa0, 0x40, 0x58, 0x40, 0, 0, 0, 0, 0, 0, 0, 0, 0, 0, 0, 0,
-    0, 0, 0, 0, 0, 0, 0, 0, 0, 0, 0, 0, 0, 0, 0, 0, 0, 0, 0, 0, 0, 0, 0, 0, 0, 0, 0, 0, 0, 0, 0, 0,
-    0, 0, 0, 0, 0, 0, 0, 0, 0, 0, 0, 0, 0, 0, 0, 0, 0, 0, 0, 0,
-];
-
-/// A key on P-256 (RFC 9053 section 7.1.1), whose coordinates are zeros.
-const CURVE_KEY: &[u8] = &[
-    0xa4, 0x01, 0x02, 0x20, 0x01, 0x21, 0x58, 0x20, 0, 0, 0, 0, 0, 0, 0, 0, 0, 0, 0, 0, 0, 0, 0, 0,
-    0, 0, 0, 0, 0, 0, 0, 0, 0, 0, 0, 0, 0, 0, 0, 0, 0x22, 0x58, 0x20, 0, 0, 0, 0, 0, 0, 0, 0, 0, 0,
-    0, 0, 0, 0, 0, 0, 0, 0, 0, 0, 0, 0, 0, 0, 0, 0, 0, 0, 0, 0, 0, 0,
-];
-
-/// What is wanted under these keys.
-fn context(keys: &'static [u8]) -> Option<Context<'static>>
-    ensures { IfSome result (λ context. length context.aad.now ≤ 65535) }
-{
-    let keys = KeySet::read(keys).ok()?;
-    Some(Context {
-        keys,
-        aad: b"",
-        wanted: Wanted::Tagged,
-        cwt: false,
-        understood: &[],
-        payload_limit: 4096,
-    })
-}
 
 #[test]
 fn inspects_a_shape(rt: HostRuntime) {
-    let Some(context) = context(b"\xa0") else {
+    let Some(context) = context_of(b"\xa0", 4_096) else {
         return;
     };
     let mut verifier: Verifier<32, 4> = Verifier::inspecting(context);
@@ -77,7 +41,7 @@ fn inspects_a_shape(rt: HostRuntime) {
 
 #[test]
 fn refuses_a_tag_that_is_too_long(rt: HostRuntime) {
-    let Some(context) = context(b"\xa0") else {
+    let Some(context) = context_of(b"\xa0", 4_096) else {
         return;
     };
     let mut verifier: Verifier<32, 4> = Verifier::inspecting(context);
@@ -100,11 +64,12 @@ fn refuses_a_tag_that_is_too_long(rt: HostRuntime) {
 
 #[test]
 fn shows_the_buckets_after_a_refusal(rt: HostRuntime) {
-    let Some(context) = context(b"\xa2\x01\x04\x20\x44Jefe") else {
+    let Some(mut verifier) = under_jefe::<32, 4>() else {
         return;
     };
-    let mut verifier: Verifier<32, 4> = Verifier::new(context);
-    let mut intake = SliceIntake::new(MAC0, 64);
+    let mut changed = *MAC0;
+    changed[43] ^= 1;
+    let mut intake = SliceIntake::new(&changed, 64);
     let verdict = verify::<64, 32, 4, SliceIntake, Nothing, Never>(
         &mut verifier,
         &mut intake,
@@ -127,10 +92,9 @@ fn shows_the_buckets_after_a_refusal(rt: HostRuntime) {
 
 #[test]
 fn shows_no_bucket_that_was_refused(rt: HostRuntime) {
-    let Some(context) = context(b"\xa2\x01\x04\x20\x44Jefe") else {
+    let Some(mut verifier) = under_jefe::<32, 4>() else {
         return;
     };
-    let mut verifier: Verifier<32, 4> = Verifier::new(context);
     let mut intake = SliceIntake::new(b"\xd1\x84\x43\xa1\x01\x05\xa1\x40\x00", 64);
     let verdict = verify::<64, 32, 4, SliceIntake, Nothing, Never>(
         &mut verifier,
@@ -149,10 +113,9 @@ fn shows_no_bucket_that_was_refused(rt: HostRuntime) {
 
 #[test]
 fn counts_open_items(rt: HostRuntime) {
-    let Some(context) = context(b"\xa2\x01\x04\x20\x44Jefe") else {
+    let Some(mut verifier) = under_jefe::<32, 4>() else {
         return;
     };
-    let mut verifier: Verifier<32, 4> = Verifier::new(context);
     let mut intake = SliceIntake::new(b"\xd1\x84\x43\xa1\x01\x05\xa1\x0a\x81\x81", 64);
     let verdict = verify::<64, 32, 4, SliceIntake, Nothing, Never>(
         &mut verifier,
@@ -172,7 +135,7 @@ fn counts_open_items(rt: HostRuntime) {
 
 #[test]
 fn hands_out_what_a_signature_is_verified_with(rt: HostRuntime) {
-    let Some(context) = context(CURVE_KEY) else {
+    let Some(context) = context_of(CURVE_KEY, 4_096) else {
         return;
     };
     let mut verifier: Verifier<32, 4> = Verifier::new(context);

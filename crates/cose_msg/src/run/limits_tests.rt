@@ -1,23 +1,10 @@
 //! Runs at the limits of the chunk, the stores and the nesting: no call takes or puts more than a chunk.
 
-ghost use Rattle.std.specs.Prelude.{◌≡◌, ◌≤◌, IfSome, None, false};
-ghost use Rattle.cose_msg.specs.Kept.{is_inspecting};
+ghost use Rattle.std.specs.Prelude.{◌≤◌, None, false};
 
-use crate::{
-    Alg, Context, Intake, IntakeFault, KeySet, Kind, Never, Sink, SinkFault, Store, Verdict,
-    Verifier, Wanted, verify,
-};
+use crate::samples::{AUTHENTIC, MAC0, under_jefe};
+use crate::{Intake, IntakeFault, Never, Sink, SinkFault, Store, verify};
 use std::process::Abort;
-
-/// A COSE_Mac0 of the payload `hi` under HMAC 256/256 and the key `Jefe`.
-const MAC0: &[u8] = &[
-    0xd1, 0x84, 0x43, 0xa1, 0x01, 0x05, 0xa0, 0x42, 0x68, 0x69, 0x58, 0x20, 0x7d, 0x81, 0xe9, 0x64,
-    0xaa, 0xee, 0x5f, 0xbd, 0x8a, 0xdf, 0xb3, 0xf5, 0x33, 0x65, 0x7a, 0x9e, 0xf9, 0xf7, 0x82, 0xf0,
-    0x4b, 0x91, 0x87, 0x7b, 0x60, 0x04, 0x27, 0x2a, 0x03, 0x52, 0xf9, 0x60,
-];
-
-/// The key set of that key alone.
-const KEYS: &[u8] = b"\xa2\x01\x04\x20\x44Jefe";
 
 /// The bytes of a slice. It keeps how many were asked for at most.
 #[derive(Drop)]
@@ -70,24 +57,6 @@ impl Sink for WatchedSink {
     }
 }
 
-/// A verifier of messages under the key `Jefe`.
-fn under_jefe<const H: usize, const D: usize>() -> Option<Verifier<'static, H, D>>
-    requires some_room { 16 ≤ H }
-    requires limit { H ≤ 65535 }
-    requires nesting { D ≤ 32 }
-    ensures { IfSome result (λ verifier. is_inspecting verifier ≡ false) }
-{
-    let keys = KeySet::read(KEYS).ok()?;
-    Some(Verifier::new(Context {
-        keys,
-        aad: b"",
-        wanted: Wanted::Tagged,
-        cwt: false,
-        understood: &[],
-        payload_limit: 2,
-    }))
-}
-
 /// The message is authentic at these limits, and what is taken and put at a time is within a chunk.
 fn verifies_at<const C: usize, const H: usize, const D: usize>(rt: &impl Abort)
     requires some { 1 ≤ C }
@@ -115,13 +84,7 @@ fn verifies_at<const C: usize, const H: usize, const D: usize>(rt: &impl Abort)
         &mut sink,
         &Never,
     );
-    let authentic = Verdict::Authentic {
-        kind: Kind::Mac0,
-        alg: Alg::Hmac256,
-        payload: 2,
-        taken: 44,
-    };
-    assert_eq!(rt; verdict, Ok(authentic));
+    assert_eq!(rt; verdict, Ok(AUTHENTIC));
     assert_eq!(rt; sink.store.bytes(), b"hi".as_slice());
     // It asks for what is left of a string, as far as a chunk holds it.
     assert_eq!(rt; (intake.most, sink.most), (C.min(32), C.min(2)));

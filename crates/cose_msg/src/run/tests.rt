@@ -2,7 +2,7 @@
 
 ghost use Rattle.std.specs.Prelude.{◌<◌, ◌≤◌, IfSome, length};
 
-use crate::intake::tests::FailingReader;
+use crate::samples::FailingReader;
 use crate::{
     Alg, Context, Intake, KeySet, Kind, Never, Nothing, ReadIntake, Reason, Refusal, SliceIntake,
     Stop, Store, Verdict, Verifier, Wanted, verify,

@@ -1,43 +1,15 @@
 //! Pieces of messages that are fed, and what they come to.
 
-ghost use Rattle.std.specs.Prelude.{◌≡◌, ◌≤◌, IfSome, false, true, length};
-ghost use Rattle.cose_msg.specs.Kept.{is_inspecting};
+ghost use Rattle.std.specs.Prelude.{◌≤◌};
 
-use crate::intake::tests::FailingReader;
+use crate::samples::{
+    AUTHENTIC, CURVE_KEY, FailingReader, JEFE, MAC0, SIGN1, context_of, mac0_and_more, under_jefe,
+};
 use crate::{
-    Alg, Context, EcVerifier, Fed, Key, KeySet, Kind, Never, Nothing, ReadIntake, Reason, Refusal,
-    Sink, SliceIntake, Status, Stop, Store, Verdict, Verifier, Wanted, verify,
+    Alg, EcVerifier, Fed, Key, Kind, Never, Nothing, ReadIntake, Reason, Refusal, Sink,
+    SliceIntake, Status, Stop, Store, Verdict, Verifier, verify,
 };
 use std::process::Abort;
-
-/// A COSE_Mac0 of the payload `hi` under HMAC 256/256 and the key `Jefe`, and a byte behind it.
-const MAC0: &[u8; 45] = &[
-    0xd1, 0x84, 0x43, 0xa1, 0x01, 0x05, 0xa0, 0x42, 0x68, 0x69, 0x58, 0x20, 0x7d, 0x81, 0xe9, 0x64,
-    0xaa, 0xee, 0x5f, 0xbd, 0x8a, 0xdf, 0xb3, 0xf5, 0x33, 0x65, 0x7a, 0x9e, 0xf9, 0xf7, 0x82, 0xf0,
-    0x4b, 0x91, 0x87, 0x7b, 0x60, 0x04, 0x27, 0x2a, 0x03, 0x52, 0xf9, 0x60, 0xff,
-];
-
-/// A COSE_Sign1 of no payload, whose signature of 64 bytes is zeros.
-const SIGN1: &[u8; 74] = &[
-    0xd2, 0x84, 0x43, 0xa1, 0x01, 0x26, 0xa0, 0x40, 0x58, 0x40, 0, 0, 0, 0, 0, 0, 0, 0, 0, 0, 0, 0,
-    0, 0, 0, 0, 0, 0, 0, 0, 0, 0, 0, 0, 0, 0, 0, 0, 0, 0, 0, 0, 0, 0, 0, 0, 0, 0, 0, 0, 0, 0, 0, 0,
-    0, 0, 0, 0, 0, 0, 0, 0, 0, 0, 0, 0, 0, 0, 0, 0, 0, 0, 0, 0,
-];
-
-/// A key on P-256 (RFC 9053 section 7.1.1), whose coordinates are zeros.
-const CURVE_KEY: &[u8] = &[
-    0xa4, 0x01, 0x02, 0x20, 0x01, 0x21, 0x58, 0x20, 0, 0, 0, 0, 0, 0, 0, 0, 0, 0, 0, 0, 0, 0, 0, 0,
-    0, 0, 0, 0, 0, 0, 0, 0, 0, 0, 0, 0, 0, 0, 0, 0, 0x22, 0x58, 0x20, 0, 0, 0, 0, 0, 0, 0, 0, 0, 0,
-    0, 0, 0, 0, 0, 0, 0, 0, 0, 0, 0, 0, 0, 0, 0, 0, 0, 0, 0, 0, 0, 0,
-];
-
-/// The verdict on the COSE_Mac0.
-const AUTHENTIC: Verdict = Verdict::Authentic {
-    kind: Kind::Mac0,
-    alg: Alg::Hmac256,
-    payload: 2,
-    taken: 44,
-};
 
 /// Where a message ends before it is settled.
 const fn truncated(place: u64) -> Refusal {
@@ -45,38 +17,6 @@ const fn truncated(place: u64) -> Refusal {
         reason: Reason::Truncated,
         place,
     }
-}
-
-/// What is wanted under these keys, of a payload of at most so many bytes.
-fn context_of(keys: &'static [u8], payload_limit: u64) -> Option<Context<'static>>
-    ensures { IfSome result (λ context. length context.aad.now ≤ 65535) }
-{
-    let keys = KeySet::read(keys).ok()?;
-    Some(Context {
-        keys,
-        aad: b"",
-        wanted: Wanted::Tagged,
-        cwt: false,
-        understood: &[],
-        payload_limit,
-    })
-}
-
-/// What is wanted under these keys.
-fn context(keys: &'static [u8]) -> Option<Context<'static>>
-    ensures { IfSome result (λ context. length context.aad.now ≤ 65535) }
-{
-    context_of(keys, 64)
-}
-
-/// A verifier of messages under the key `Jefe`.
-fn under_jefe<const H: usize, const D: usize>() -> Option<Verifier<'static, H, D>>
-    requires some_room { 16 ≤ H }
-    requires limit { H ≤ 65535 }
-    requires nesting { D ≤ 32 }
-    ensures { IfSome result (λ verifier. is_inspecting verifier ≡ false) }
-{
-    Some(Verifier::new(context(b"\xa2\x01\x04\x20\x44Jefe")?))
 }
 
 /// A piece that was used whole, and holds no byte of the payload.
@@ -107,7 +47,7 @@ fn takes_pieces_as_they_come(rt: HostRuntime) {
     let Some(mut verifier) = under_jefe::<16, 1>() else {
         return;
     };
-    let message = &MAC0[..];
+    let message = mac0_and_more();
     let rows: [(&[u8], Fed); 4] = [
         (&message[..4], more(4)),
         (
@@ -173,12 +113,13 @@ fn feed_into<const H: usize, const D: usize>(
 
 #[test]
 fn comes_to_the_same_in_every_cut(rt: HostRuntime) {
+    let message = mac0_and_more();
     for cut in 0..45 {
         let Some(mut verifier) = under_jefe::<16, 1>() else {
             return;
         };
         let mut store = Store::<2>::new();
-        let (front, rest) = MAC0.split_at(cut);
+        let (front, rest) = message.split_at(cut);
         let first = feed_into(&mut verifier, front, &mut store);
         let last = feed_into(&mut verifier, rest, &mut store);
         assert_eq!(rt; first.used, cut.min(WHOLE), "cut at {cut}");
@@ -214,7 +155,8 @@ fn goes_on_by_verify(rt: HostRuntime) {
     let Some(mut verifier) = under_jefe::<16, 1>() else {
         return;
     };
-    let (front, rest) = MAC0.split_at(9);
+    let message = mac0_and_more();
+    let (front, rest) = message.split_at(9);
     assert_eq!(rt; verifier.feed(front).status, Status::More);
     let mut intake = SliceIntake::new(rest, 64);
     let mut store = Store::<2>::new();
@@ -231,7 +173,7 @@ fn goes_on_by_verify(rt: HostRuntime) {
 
 #[test]
 fn refuses_with_the_byte_that_settles(rt: HostRuntime) {
-    let mut changed = *MAC0;
+    let mut changed = mac0_and_more();
     changed[43] ^= 1;
     let rows: [(&[u8], Reason, u64, usize); 4] = [
         (&changed, Reason::BadAuth, 10, 44),
@@ -299,7 +241,7 @@ fn stays_stopped(rt: HostRuntime) {
     assert_eq!(rt; verifier.end(), Status::Stopped);
     verifier.reset();
     assert_eq!(rt;
-        verifier.feed(MAC0),
+        verifier.feed(&mac0_and_more()),
         Fed {
             payload_from: 8,
             payload_to: 10,
@@ -341,7 +283,7 @@ const fn decision(holds: bool) -> Verdict {
 #[test]
 fn decides_on_a_signature_once(rt: HostRuntime) {
     for holds in [true, false] {
-        let Some(context) = context(CURVE_KEY) else {
+        let Some(context) = context_of(CURVE_KEY, 64) else {
             return;
         };
         let mut verifier: Verifier<16, 1> = Verifier::new(context);
@@ -366,7 +308,7 @@ fn decides_on_a_signature_once(rt: HostRuntime) {
 
 #[test]
 fn completes_what_is_inspected(rt: HostRuntime) {
-    let Some(context) = context(b"\xa0") else {
+    let Some(context) = context_of(b"\xa0", 64) else {
         return;
     };
     let mut verifier: Verifier<16, 1> = Verifier::inspecting(context);
@@ -377,7 +319,7 @@ fn completes_what_is_inspected(rt: HostRuntime) {
 
 #[test]
 fn takes_a_piece_of_any_length(rt: HostRuntime) {
-    let Some(context) = context_of(b"\xa2\x01\x04\x20\x44Jefe", 100_000) else {
+    let Some(context) = context_of(JEFE, 100_000) else {
         return;
     };
     let mut verifier: Verifier<16, 1> = Verifier::new(context);
@@ -407,7 +349,8 @@ fn completes_at<const H: usize, const D: usize>(rt: &impl Abort)
     let Some(mut verifier) = under_jefe::<H, D>() else {
         return;
     };
-    let (front, rest) = MAC0.split_at(9);
+    let message = mac0_and_more();
+    let (front, rest) = message.split_at(9);
     assert_eq!(rt; verifier.feed(front).status, Status::More);
     assert_eq!(rt; verifier.feed(rest).status, Status::Complete);
     assert_eq!(rt; verifier.held(), 256 + 3 + 1 + 32);
