@@ -134,6 +134,7 @@ impl<const D: usize> Walker<D> {
             → Answers room (bytes ++ more) Step.Going (read D (left_of (bytes ++ more) room 0)) }
         ensures fits { (room : ℕ) (bytes : List ℕ) → HasPut room bytes self.now
             → 0 < room → length bytes + result ≤ room }
+        ensures some { last_step self.now ≡ Step.Going → 0 < result }
         ensures settled { (last_step self.now ≡ Step.Going → ⊥) → result ≡ 0 }
     {
         match self.step {

@@ -31,7 +31,7 @@ use Rattle.cose_msg.specs.Run.{SaysCount, inspection}
 use Rattle.cose_msg.specs.Shown.{SignInput, Shown, held_input, input_in, pairs_at, shown_in, shown_of, sign_input_in}
 use Rattle.cose_msg.specs.Task.{Task, rules_of, to_inspect, to_verify}
 use Rattle.cose_msg.specs.Verifier.{Counts, HoldsBucket, HoldsIn, IsSigned, Known, StandsFor, is_authentic, left_in, whole_of}
-use Rattle.cose_msg.proofs.Waits.{WalkerWaits, here, ends_in, truncated_in}
+use Rattle.cose_msg.proofs.Waits.{ItemWaits, here, ends_in, truncated_in}
 
 -- ---- a signature
 
@@ -221,7 +221,7 @@ shown_alike : (p q : Option (List Pair)) (r t : Option (List Pair)) (x y : Optio
     → shown p r x m ≡ shown q t y n
 shown_alike p q r t x y m n e f g h = rw (e, f, g, h) refl
 
-module _ {H D : ℕ} (task : Task) (known : Known) (told : Told) (n : ℕ) (v : Verifier H D) (waits : WalkerWaits v) where
+module _ {H D : ℕ} (task : Task) (known : Known) (told : Told) (n : ℕ) (v : Verifier H D) (waits : ItemWaits v) where
   open_input : (phase : Phase) → HoldsIn task known told n v phase → is_settled phase ≡ false → input_in phase (held_input v) ≡ sign_input_in task.setting.aad (left task known told n v phase).answer
   unfolding left here
   open_input phase h e = open_shows_no_input phase (held_input v) e ∙ sym (ap (sign_input_in task.setting.aad) (truncated_in task known told n v waits phase h e))
@@ -248,7 +248,7 @@ module _ {H D : ℕ} (task : Task) (known : Known) (told : Told) (n : ℕ) (v : 
   input_shown (phases.AuthHead p) h = open_input (phases.AuthHead p) h refl
   input_shown (phases.Auth p) h = open_input (phases.Auth p) h refl
 
-pub stands_shown : {H D : ℕ} {task : Task} {B : List ℕ} {n : ℕ} {v : Verifier H D} {reading : List ℕ → Reading} → WalkerWaits v → StandsFor task B n v reading → shown_of v ≡ shown_in task.setting (reading [])
+pub stands_shown : {H D : ℕ} {task : Task} {B : List ℕ} {n : ℕ} {v : Verifier H D} {reading : List ℕ → Reading} → ItemWaits v → StandsFor task B n v reading → shown_of v ≡ shown_in task.setting (reading [])
 unfolding left here
 stands_shown {H} {D} {task} {B} {n} {v} {reading} waits h =
     let same : (reading []).told ≡ h.told = ap (λ (r : Reading). r.told) (h.left [] ∙ ends_in task h.known h.told n v waits v.phase h.holds) in

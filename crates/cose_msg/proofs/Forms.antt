@@ -1,6 +1,6 @@
 -- The laws of each form of a phase: a settled reading stays, and one that isn't settled is Truncated where the bytes end.
 use Rattle.std.proofs.Common.{◌≡◌, ℕ, ◌+◌, ◌≤◌, inl, inr, Bool, true, false, cond, List, ◌++◌, length, take, drop, Option, Some, None, Result, Ok, Err, refl, sym, ap, subst, ◌∙◌, arith, length-append, length-drop}
-use Rattle.std.specs.Prelude.{◌≢◌, nat_lt}
+use Rattle.std.specs.Prelude.{max, ◌≢◌, nat_lt}
 use Rattle.std.proofs.lemmas.Bool.{cases_lt, le-ltb, lt-ltb}
 use Rattle.std.proofs.lemmas.List.{take-append-le, drop-append-le}
 use Rattle.cose_head.specs.declared.head.Head.{Head}
@@ -11,12 +11,13 @@ use Rattle.cose_head.specs.declared.reason.Reason.TheVariants.{Truncated}
 use Rattle.cose_head.specs.declared.refusal.Refusal.{Refusal}
 use Rattle.cose_head.specs.Head.{bare_head}
 use Rattle.cose_head.specs.Item.{Item}
+use Rattle.cose_head.specs.Open.{Open}
 use Rattle.cose_head.specs.Laws.{HeadIsSpelled, HeadStays, ReadStays, ReadSteps, Steps, more}
 use Rattle.cose_head.specs.Measured.{left_of}
 use Rattle.cose_head.specs.Reading.{Left, Outcome, read}
 use Rattle.cose_msg.specs.Answer.{refused}
 use Rattle.cose_msg.specs.Laws.{Stays, EndsTruncated}
-use Rattle.cose_msg.specs.Reading.{Told, Reading, Phase, Next, stop, cut, past_head, with_head, with_string, is_truncated, past_item, with_item, unless, unless_fault, with_value, open_items_after}
+use Rattle.cose_msg.specs.Reading.{Told, Reading, Phase, Next, stop, cut, past_head, with_head, with_string, is_truncated, past_item, with_item, unless, unless_fault, with_value, open_after}
 
 -- Both laws of a phase.
 pub record Lawful (phase : Phase) : Type 0 where
@@ -132,31 +133,31 @@ module _ (laws : HeadLaws) where
       let place : found.1.place ≡ 0 + step.used = ap (λ (l : Left). l.place) step.left in
       omega (arith, place, step.there)
 
-  past_item-stays : (told : ℕ → Told) (open_items later : ℕ) (next : Next (List ℕ)) → ((at : ℕ) (content : List ℕ) → Lawful (next at content)) → (room depth place : ℕ) (bytes more : List ℕ) (outcome : Outcome Item) → read depth (left_of bytes room 0) ≡ outcome
-      → (past_item told open_items next place bytes outcome).settled ≡ true → past_item told later next place (bytes ++ more) (read depth (left_of (bytes ++ more) room 0)) ≡ past_item told open_items next place bytes outcome
-  past_item-stays told open_items later next h room depth place bytes more (Ok found) e done =
+  past_item-stays : (told : ℕ → Told) (still later : Open) (next : Next (List ℕ)) → ((at : ℕ) (content : List ℕ) → Lawful (next at content)) → (room depth place : ℕ) (bytes more : List ℕ) (outcome : Outcome Item) → read depth (left_of bytes room 0) ≡ outcome
+      → (past_item told still next place bytes outcome).settled ≡ true → past_item told later next place (bytes ++ more) (read depth (left_of (bytes ++ more) room 0)) ≡ past_item told still next place bytes outcome
+  past_item-stays told still later next h room depth place bytes more (Ok found) e done =
       let there : found.1.place ≤ length bytes = item_there depth room bytes found e in
       let again = rw e at (laws.read_stays depth (left_of bytes room 0) more (rw e tt)) in
       rw (again, take-append-le found.1.place bytes more there, drop-append-le found.1.place bytes more there) ((h place (take found.1.place bytes)).stays more (place + found.1.place) (drop found.1.place bytes) done)
-  past_item-stays told open_items later next h room depth place bytes more (Err refusal) e done =
+  past_item-stays told still later next h room depth place bytes more (Err refusal) e done =
       let definite : is_truncated refusal.reason ≡ false = either_settled (is_truncated refusal.reason) _ _ refl done in
       let again = rw e at (laws.read_stays depth (left_of bytes room 0) more (rw e (not_truncated refusal.reason definite))) in
-      rw again (refused_stays (is_truncated refusal.reason) (cut (told open_items) 1 (place + length bytes)) (cut (told later) 1 (place + length (bytes ++ more))) _ refl done)
+      rw again (refused_stays (is_truncated refusal.reason) (cut (told still.items) (max 1 still.content) (place + length bytes)) (cut (told later.items) (max 1 later.content) (place + length (bytes ++ more))) _ refl done)
 
   with_item-stays : (told : ℕ → Told) (room depth : ℕ) (next : Next (List ℕ)) → ((at : ℕ) (content : List ℕ) → Lawful (next at content)) → Stays (with_item told room depth next)
   unfolding with_item
-  with_item-stays told room depth next h more place bytes done = past_item-stays told (open_items_after room depth bytes) (open_items_after room depth (bytes ++ more)) next h room depth place bytes more (read depth (left_of bytes room 0)) refl done
+  with_item-stays told room depth next h more place bytes done = past_item-stays told (open_after room depth bytes) (open_after room depth (bytes ++ more)) next h room depth place bytes more (read depth (left_of bytes room 0)) refl done
 
-  past_item-open : (told : ℕ → Told) (open_items : ℕ) (next : Next (List ℕ)) → ((at : ℕ) (content : List ℕ) → Lawful (next at content)) → (room depth place : ℕ) (bytes : List ℕ) (outcome : Outcome Item) → read depth (left_of bytes room 0) ≡ outcome
-      → (past_item told open_items next place bytes outcome).settled ≡ false → (past_item told open_items next place bytes outcome).answer ≡ refused Truncated (place + length bytes)
-  past_item-open told open_items next h room depth place bytes (Ok found) e unsettled =
+  past_item-open : (told : ℕ → Told) (still : Open) (next : Next (List ℕ)) → ((at : ℕ) (content : List ℕ) → Lawful (next at content)) → (room depth place : ℕ) (bytes : List ℕ) (outcome : Outcome Item) → read depth (left_of bytes room 0) ≡ outcome
+      → (past_item told still next place bytes outcome).settled ≡ false → (past_item told still next place bytes outcome).answer ≡ refused Truncated (place + length bytes)
+  past_item-open told still next h room depth place bytes (Ok found) e unsettled =
       let there : found.1.place ≤ length bytes = item_there depth room bytes found e in
       open_at (place + found.1.place + length (drop found.1.place bytes)) (place + length bytes) (next place (take found.1.place bytes) (place + found.1.place) (drop found.1.place bytes)) (omega (arith, there, length-drop found.1.place bytes)) ((h place (take found.1.place bytes)).ends (place + found.1.place) (drop found.1.place bytes) unsettled)
-  past_item-open told open_items next h room depth place bytes (Err refusal) e unsettled = refused_open (is_truncated refusal.reason) (place + length bytes) _ _ refl refl unsettled
+  past_item-open told still next h room depth place bytes (Err refusal) e unsettled = refused_open (is_truncated refusal.reason) (place + length bytes) _ _ refl refl unsettled
 
   with_item-open : (told : ℕ → Told) (room depth : ℕ) (next : Next (List ℕ)) → ((at : ℕ) (content : List ℕ) → Lawful (next at content)) → EndsTruncated (with_item told room depth next)
   unfolding with_item
-  with_item-open told room depth next h place bytes unsettled = past_item-open told (open_items_after room depth bytes) next h room depth place bytes (read depth (left_of bytes room 0)) refl unsettled
+  with_item-open told room depth next h place bytes unsettled = past_item-open told (open_after room depth bytes) next h room depth place bytes (read depth (left_of bytes room 0)) refl unsettled
 
   pub with_item-lawful : (told : ℕ → Told) (room depth : ℕ) (next : Next (List ℕ)) → ((at : ℕ) (content : List ℕ) → Lawful (next at content)) → Lawful (with_item told room depth next)
   with_item-lawful told room depth next h = record { stays = with_item-stays told room depth next h; ends = with_item-open told room depth next h }

@@ -1,6 +1,6 @@
 -- What was read is spelled: what each form of a phase finds in the bytes, where the message isn't refused.
 use Rattle.std.proofs.Common.{◌≡◌, ℕ, ◌+◌, ◌-◌, ◌≤◌, Bool, true, false, cond, List, ◌++◌, length, take, drop, Option, Some, None, Result, Ok, Err, refl, sym, ap, subst, ◌∙◌, append_assoc, arith, length-append, zero-add}
-use Rattle.std.specs.Prelude.{◌-◌, nat_lt}
+use Rattle.std.specs.Prelude.{max, ◌-◌, nat_lt}
 use Rattle.std.proofs.lemmas.Bool.{ltb-false}
 use Rattle.std.proofs.lemmas.List.{take_at, drop_at, take-append-drop, length-take-le}
 use Rattle.cose_head.specs.declared.head.Head.{Head}
@@ -13,9 +13,10 @@ use Rattle.cose_head.specs.Head.{bare_head}
 use Rattle.cose_head.specs.Item.{Item, byte_string, depth_of, IsHead, Spells}
 use Rattle.cose_head.specs.Laws.{SpellsHead, IsSpelled}
 use Rattle.cose_head.specs.Measured.{left_of}
+use Rattle.cose_head.specs.Open.{Open}
 use Rattle.cose_head.specs.Reading.{Outcome, read}
 use Rattle.cose_msg.specs.Answer.{Answer, refused}
-use Rattle.cose_msg.specs.Reading.{Told, Reading, Phase, Next, stop, cut, past_head, with_head, with_string, is_truncated, past_item, with_item, unless, unless_fault, with_value, open_items_after}
+use Rattle.cose_msg.specs.Reading.{Told, Reading, Phase, Next, stop, cut, past_head, with_head, with_string, is_truncated, past_item, with_item, unless, unless_fault, with_value, open_after}
 use Rattle.cose_msg.proofs.Spelled.{SpellingLaws}
 
 -- What a phase at a place comes to.
@@ -149,8 +150,8 @@ module _ (answer : Answer) (unrefused : NotRefused answer) where
 
     -- ---- an item
 
-    past_item_found : (told : ℕ → Told) (open_items : ℕ) (room nesting : ℕ) (next : Next (List ℕ)) (place : ℕ) (bytes : List ℕ) (outcome : Outcome Item) → read nesting (left_of bytes room 0) ≡ outcome → (past_item told open_items next place bytes outcome).answer ≡ answer → ItemFound room nesting next place bytes answer
-    past_item_found told open_items room nesting next place bytes (Ok found) e comes =
+    past_item_found : (told : ℕ → Told) (still : Open) (room nesting : ℕ) (next : Next (List ℕ)) (place : ℕ) (bytes : List ℕ) (outcome : Outcome Item) → read nesting (left_of bytes room 0) ≡ outcome → (past_item told still next place bytes outcome).answer ≡ answer → ItemFound room nesting next place bytes answer
+    past_item_found told still room nesting next place bytes (Ok found) e comes =
         let s : IsSpelled nesting (left_of bytes room 0) found.0 found.1 = (laws.item nesting (left_of bytes room 0) found.0 found.1).0 e in
         let long : length s.0.part ≡ found.1.place = sym (zero-add (length s.0.part)) ∙ sym s.0.place in
         let front : take found.1.place bytes ≡ s.0.part = ap (λ (list : List ℕ). take found.1.place list) s.0.whole ∙ take_at s.0.part found.1.bytes found.1.place long in
@@ -167,12 +168,12 @@ module _ (answer : Answer) (unrefused : NotRefused answer) where
           nests = s.1;
           comes = comes_at (next place s.0.part) (place + found.1.place) (place + length s.0.part) (drop found.1.place bytes) found.1.bytes answer (ap (λ (n : ℕ). place + n) (sym long)) left after;
         }
-    past_item_found told open_items room nesting next place bytes (Err refusal) e comes = absurd (both_refused (is_truncated refusal.reason) (cut (told open_items) 1 (place + length bytes)) (stop (told 0) refusal.reason (place + refusal.place))
+    past_item_found told still room nesting next place bytes (Err refusal) e comes = absurd (both_refused (is_truncated refusal.reason) (cut (told still.items) (max 1 still.content) (place + length bytes)) (stop (told 0) refusal.reason (place + refusal.place))
         (unrefused Truncated (place + length bytes)) (unrefused refusal.reason (place + refusal.place)) comes)
 
     pub item_found : (told : ℕ → Told) (room nesting : ℕ) (next : Next (List ℕ)) (place : ℕ) (bytes : List ℕ) → Comes (with_item told room nesting next) place bytes answer → ItemFound room nesting next place bytes answer
     unfolding with_item
-    item_found told room nesting next place bytes comes = past_item_found told (open_items_after room nesting bytes) room nesting next place bytes (read nesting (left_of bytes room 0)) refl comes
+    item_found told room nesting next place bytes comes = past_item_found told (open_after room nesting bytes) room nesting next place bytes (read nesting (left_of bytes room 0)) refl comes
 
     -- ---- a byte string
 

@@ -1,6 +1,6 @@
 -- Rules that differ in what a whole message comes to alone: the answers differ in that alone, phase by phase.
 use Rattle.std.proofs.Common.{◌≡◌, ℕ, ◌+◌, Bool, true, false, cond, List, [], length, take, drop, Option, Some, None, Result, Ok, Err, refl, sym, ap}
-use Rattle.std.specs.Prelude.{◌-◌, nat_lt}
+use Rattle.std.specs.Prelude.{max, ◌-◌, nat_lt}
 use Rattle.std.specs.Str.{bytes_eq}
 use Rattle.cose_head.specs.declared.head.Head.{Head}
 use Rattle.cose_head.specs.declared.head.HeadStep.{HeadStep}
@@ -12,6 +12,7 @@ use Rattle.cose_head.specs.declared.reason.Reason.TheVariants.{Truncated, WrongT
 use Rattle.cose_head.specs.declared.refusal.Refusal.{Refusal}
 use Rattle.cose_head.specs.Head.{bare_head}
 use Rattle.cose_head.specs.Item.{Item}
+use Rattle.cose_head.specs.Open.{Open}
 use Rattle.cose_head.specs.Measured.{left_of}
 use Rattle.cose_head.specs.Reading.{Outcome, read}
 use Rattle.cose_head.specs.Algorithm.{is_mac_of}
@@ -25,7 +26,7 @@ use Rattle.cose_msg.specs.Front.{array_head_fault, past_array_head, array_head, 
 use Rattle.cose_msg.specs.Laws.{answered, then_compared, then_verified, FinishGoesLast, ComparingGoesLast, VerifyingGoesLast}
 use Rattle.cose_msg.specs.Message.{Decides, message, tag_of, judged, compare_tag, compared, verified, uncompared, comparing}
 use Rattle.cose_msg.specs.Phases.{nothing_told, protected_told, unprotected_told, headers_told, finish, auth, auth_head_fault, past_auth_head, auth_head, past_payload, payload, payload_head_fault, past_payload_head, payload_head, past_choice, key_choice, both_buckets, placed_at, headers_of, past_unprotected, unprotected, past_protected, protected, protected_head_fault, past_protected_head, protected_head}
-use Rattle.cose_msg.specs.Reading.{Told, Reading, Phase, Next, settled, stop, cut, past_head, with_head, with_string, is_truncated, past_item, with_item, unless, unless_fault, with_value, open_items_after}
+use Rattle.cose_msg.specs.Reading.{Told, Reading, Phase, Next, settled, stop, cut, past_head, with_head, with_string, is_truncated, past_item, with_item, unless, unless_fault, with_value, open_after}
 use Rattle.cose_msg.specs.Rules.{Rules}
 
 module _ (change : Answer → Answer) (keeps : (reason : Reason) (place : ℕ) → change (refused reason place) ≡ refused reason place) where
@@ -58,13 +59,13 @@ module _ (change : Answer → Answer) (keeps : (reason : Reason) (place : ℕ) �
   unfolding with_string
   with_string-follows told n next other h place bytes = choose-follows (nat_lt (length bytes) n) (cut (told bytes) (n - length bytes) (place + length bytes)) (next place (take n bytes) (place + n) (drop n bytes)) _ _ (cut-follows (told bytes) (n - length bytes) (place + length bytes)) (h place (take n bytes) (place + n) (drop n bytes))
 
-  past_item-follows : (told : ℕ → Told) (open_items : ℕ) (next other : Next (List ℕ)) → ((at : ℕ) (content : List ℕ) → Follows (next at content) (other at content)) → (place : ℕ) (bytes : List ℕ) (outcome : Outcome Item) → past_item told open_items other place bytes outcome ≡ answered change (past_item told open_items next place bytes outcome)
-  past_item-follows told open_items next other h place bytes (Ok found) = h place (take found.1.place bytes) (place + found.1.place) (drop found.1.place bytes)
-  past_item-follows told open_items next other h place bytes (Err refusal) = choose-follows (is_truncated refusal.reason) (cut (told open_items) 1 (place + length bytes)) (stop (told 0) refusal.reason (place + refusal.place)) _ _ (cut-follows (told open_items) 1 (place + length bytes)) (stop-follows (told 0) refusal.reason (place + refusal.place))
+  past_item-follows : (told : ℕ → Told) (still : Open) (next other : Next (List ℕ)) → ((at : ℕ) (content : List ℕ) → Follows (next at content) (other at content)) → (place : ℕ) (bytes : List ℕ) (outcome : Outcome Item) → past_item told still other place bytes outcome ≡ answered change (past_item told still next place bytes outcome)
+  past_item-follows told still next other h place bytes (Ok found) = h place (take found.1.place bytes) (place + found.1.place) (drop found.1.place bytes)
+  past_item-follows told still next other h place bytes (Err refusal) = choose-follows (is_truncated refusal.reason) (cut (told still.items) (max 1 still.content) (place + length bytes)) (stop (told 0) refusal.reason (place + refusal.place)) _ _ (cut-follows (told still.items) (max 1 still.content) (place + length bytes)) (stop-follows (told 0) refusal.reason (place + refusal.place))
 
   with_item-follows : (told : ℕ → Told) (room depth : ℕ) (next other : Next (List ℕ)) → ((at : ℕ) (content : List ℕ) → Follows (next at content) (other at content)) → Follows (with_item told room depth next) (with_item told room depth other)
   unfolding with_item
-  with_item-follows told room depth next other h place bytes = past_item-follows told (open_items_after room depth bytes) next other h place bytes (read depth (left_of bytes room 0))
+  with_item-follows told room depth next other h place bytes = past_item-follows told (open_after room depth bytes) next other h place bytes (read depth (left_of bytes room 0))
 
   unless_fault-follows : (told : Told) (at : ℕ) (fault : Option Reason) (phase other : Phase) → Follows phase other → Follows (unless_fault told at fault phase) (unless_fault told at fault other)
   unless_fault-follows told at (Some reason) phase other h = λ place bytes. stop-follows told reason at

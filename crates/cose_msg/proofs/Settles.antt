@@ -12,6 +12,7 @@ use Rattle.cose_head.specs.declared.reason.Reason.TheVariants.{Truncated}
 use Rattle.cose_head.specs.declared.refusal.Refusal.{Refusal}
 use Rattle.cose_head.specs.Head.{bare_head}
 use Rattle.cose_head.specs.Item.{Item}
+use Rattle.cose_head.specs.Open.{Open}
 use Rattle.cose_head.specs.Laws.{HalfIsShort, HeadFits, ReadSteps, Steps}
 use Rattle.cose_head.specs.Measured.{left_of}
 use Rattle.cose_head.specs.Reading.{Left, Outcome, read}
@@ -25,7 +26,7 @@ use Rattle.cose_msg.specs.Front.{array_head_fault, past_array_head, array_head, 
 use Rattle.cose_msg.specs.Laws.{payload_at_most, AuthIsAtMost, MessageIsBounded}
 use Rattle.cose_msg.specs.Message.{message}
 use Rattle.cose_msg.specs.Phases.{nothing_told, protected_told, unprotected_told, headers_told, is_bytes_head, is_nil, is_too_long, finish, auth, auth_head_fault, past_auth_head, auth_head, past_payload, payload, payload_head_fault, past_payload_head, payload_head, past_choice, key_choice, both_buckets, placed_at, headers_of, past_unprotected, unprotected, past_protected, protected, protected_head_fault, past_protected_head, protected_head}
-use Rattle.cose_msg.specs.Reading.{Told, Reading, Phase, Next, past_head, with_head, with_string, is_truncated, past_item, with_item, unless, unless_fault, with_value, open_items_after}
+use Rattle.cose_msg.specs.Reading.{Told, Reading, Phase, Next, past_head, with_head, with_string, is_truncated, past_item, with_item, unless, unless_fault, with_value, open_after}
 use Rattle.cose_msg.specs.Rules.{Rules}
 
 -- The laws of heads and items that these rest on.
@@ -67,17 +68,17 @@ either-settled true x y p q = p refl
 either-settled false x y p q = q
 
 module _ (laws : BoundLaws) where
-  past_item-settles : (told : ℕ → Told) (open_items : ℕ) (room n : ℕ) (next : Next (List ℕ)) → ((at : ℕ) (content : List ℕ) → Settles n (next at content)) → (place : ℕ) (bytes : List ℕ) → room + n ≤ length bytes → (outcome : Outcome Item)
-      → Steps 1 (left_of bytes room 0) outcome → (past_item told open_items next place bytes outcome).settled ≡ true
-  past_item-settles told open_items room n next h place bytes le (Ok found) step =
+  past_item-settles : (told : ℕ → Told) (still : Open) (room n : ℕ) (next : Next (List ℕ)) → ((at : ℕ) (content : List ℕ) → Settles n (next at content)) → (place : ℕ) (bytes : List ℕ) → room + n ≤ length bytes → (outcome : Outcome Item)
+      → Steps 1 (left_of bytes room 0) outcome → (past_item told still next place bytes outcome).settled ≡ true
+  past_item-settles told still room n next h place bytes le (Ok found) step =
       let used : found.1.place ≡ 0 + step.used = ap (λ (l : Left). l.place) step.left in
       h place (take found.1.place bytes) (place + found.1.place) (drop found.1.place bytes) (omega (arith, le, used, step.fits, length-drop found.1.place bytes))
-  past_item-settles told open_items room n next h place bytes le (Err refusal) step =
+  past_item-settles told still room n next h place bytes le (Err refusal) step =
       either-settled (is_truncated refusal.reason) _ _ (λ truncated. absurd (omega (arith, le, (step.ended (truncated_is refusal.reason truncated)).1))) refl
 
   with_item-settles : (told : ℕ → Told) (room depth n : ℕ) (next : Next (List ℕ)) → ((at : ℕ) (content : List ℕ) → Settles n (next at content)) → Settles (room + n) (with_item told room depth next)
   unfolding with_item
-  with_item-settles told room depth n next h place bytes le = past_item-settles told (open_items_after room depth bytes) room n next h place bytes le (read depth (left_of bytes room 0)) (laws.steps depth (left_of bytes room 0))
+  with_item-settles told room depth n next h place bytes le = past_item-settles told (open_after room depth bytes) room n next h place bytes le (read depth (left_of bytes room 0)) (laws.steps depth (left_of bytes room 0))
 
 unless_fault-settles : (told : Told) (at n : ℕ) (fault : Option Reason) (phase : Phase) → (fault ≡ None → Settles n phase) → Settles n (unless_fault told at fault phase)
 unless_fault-settles told at n (Some reason) phase h = λ place bytes le. refl

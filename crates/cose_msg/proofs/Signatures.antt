@@ -1,6 +1,6 @@
 -- The key of a whole message is the one that was chosen, so what has a signature is a COSE_Sign1.
 use Rattle.std.proofs.Common.{◌≡◌, ℕ, ℤ, ◌+◌, Bool, true, false, cond, List, [], length, take, drop, Option, Some, None, Result, Ok, Err, refl, ap, subst, ◌∙◌}
-use Rattle.std.specs.Prelude.{◌-◌, nat_lt, option_map, IsSomeAnd}
+use Rattle.std.specs.Prelude.{max, ◌-◌, nat_lt, option_map, IsSomeAnd}
 use Rattle.std.specs.Str.{bytes_eq}
 use Rattle.cose_head.specs.declared.algorithm.Alg.{Alg}
 use Rattle.cose_head.specs.declared.head.Head.{Head}
@@ -14,6 +14,7 @@ use Rattle.cose_head.specs.declared.refusal.Refusal.{Refusal}
 use Rattle.cose_head.specs.Algorithm.{algorithm_numbered, is_mac_of, kind_of}
 use Rattle.cose_head.specs.Head.{bare_head}
 use Rattle.cose_head.specs.Item.{Item}
+use Rattle.cose_head.specs.Open.{Open}
 use Rattle.cose_head.specs.Measured.{left_of}
 use Rattle.cose_head.specs.Reading.{Outcome, read}
 use Rattle.cose_map.specs.Bucket.{bucket_of}
@@ -29,7 +30,7 @@ use Rattle.cose_msg.specs.Front.{array_head_fault, past_array_head, array_head, 
 use Rattle.cose_msg.specs.Laws.{ComparingGoesLast, then_compared}
 use Rattle.cose_msg.specs.Message.{Setting, message, as_choice, compared, judged, key_choice_of, past_chosen, question_of, tag_of, uncompared, with_algorithm}
 use Rattle.cose_msg.specs.Phases.{nothing_told, protected_told, unprotected_told, headers_told, finish, auth, auth_head_fault, past_auth_head, auth_head, past_payload, payload, payload_head_fault, past_payload_head, payload_head, past_choice, key_choice, both_buckets, placed_at, headers_of, past_unprotected, unprotected, past_protected, protected, protected_head_fault, past_protected_head, protected_head}
-use Rattle.cose_msg.specs.Reading.{Told, Reading, Phase, Next, stop, cut, is_truncated, past_head, with_head, with_string, past_item, with_item, unless, unless_fault, with_value, open_items_after}
+use Rattle.cose_msg.specs.Reading.{Told, Reading, Phase, Next, stop, cut, is_truncated, past_head, with_head, with_string, past_item, with_item, unless, unless_fault, with_value, open_after}
 use Rattle.cose_msg.specs.Rules.{Rules}
 use Rattle.cose_msg.specs.Shown.{SignInput, SignaturesAreOfSign1, of_sign1, sign_input_in, signature_in, signed_with}
 
@@ -60,13 +61,13 @@ module _ (rules : Rules) (ends : (w whole : Whole) → rules.finish w ≡ comple
   unfolding with_string
   with_string-picks told n next h place bytes = choose-picks (nat_lt (length bytes) n) (cut (told bytes) (n - length bytes) (place + length bytes)) (next place (take n bytes) (place + n) (drop n bytes)) (λ whole e. absurd cc) (h place (take n bytes) (place + n) (drop n bytes))
 
-  past_item-picks : (told : ℕ → Told) (open_items : ℕ) (next : Next (List ℕ)) → ((at : ℕ) (content : List ℕ) → Picks (next at content)) → (place : ℕ) (bytes : List ℕ) (outcome : Outcome Item) → Picked (past_item told open_items next place bytes outcome).answer
-  past_item-picks told open_items next h place bytes (Ok found) = h place (take found.1.place bytes) (place + found.1.place) (drop found.1.place bytes)
-  past_item-picks told open_items next h place bytes (Err refusal) = choose-picks (is_truncated refusal.reason) (cut (told open_items) 1 (place + length bytes)) (stop (told 0) refusal.reason (place + refusal.place)) (λ whole e. absurd cc) (λ whole e. absurd cc)
+  past_item-picks : (told : ℕ → Told) (still : Open) (next : Next (List ℕ)) → ((at : ℕ) (content : List ℕ) → Picks (next at content)) → (place : ℕ) (bytes : List ℕ) (outcome : Outcome Item) → Picked (past_item told still next place bytes outcome).answer
+  past_item-picks told still next h place bytes (Ok found) = h place (take found.1.place bytes) (place + found.1.place) (drop found.1.place bytes)
+  past_item-picks told still next h place bytes (Err refusal) = choose-picks (is_truncated refusal.reason) (cut (told still.items) (max 1 still.content) (place + length bytes)) (stop (told 0) refusal.reason (place + refusal.place)) (λ whole e. absurd cc) (λ whole e. absurd cc)
 
   with_item-picks : (told : ℕ → Told) (room nesting : ℕ) (next : Next (List ℕ)) → ((at : ℕ) (content : List ℕ) → Picks (next at content)) → Picks (with_item told room nesting next)
   unfolding with_item
-  with_item-picks told room nesting next h place bytes = past_item-picks told (open_items_after room nesting bytes) next h place bytes (read nesting (left_of bytes room 0))
+  with_item-picks told room nesting next h place bytes = past_item-picks told (open_after room nesting bytes) next h place bytes (read nesting (left_of bytes room 0))
 
   unless_fault-picks : (told : Told) (at : ℕ) (fault : Option Reason) (phase : Phase) → Picks phase → Picks (unless_fault told at fault phase)
   unless_fault-picks told at (Some reason) phase h place bytes = λ whole e. absurd cc

@@ -1,6 +1,6 @@
 -- The forms of a phase, once more: no refusal of a settled reading is Truncated, and nothing of a reading stands after the bytes.
 use Rattle.std.proofs.Common.{◌≡◌, ℕ, ◌+◌, ◌≤◌, inl, inr, Bool, true, false, cond, List, length, take, drop, Option, Some, None, Result, Ok, Err, refl, subst, arith, length-drop}
-use Rattle.std.specs.Prelude.{◌-◌, ◌≢◌, IfErr, IfSome}
+use Rattle.std.specs.Prelude.{max, ◌-◌, ◌≢◌, IfErr, IfSome}
 use Rattle.std.proofs.lemmas.Bool.{cases_lt, le-ltb, lt-ltb}
 use Rattle.std.proofs.lemmas.List.{length-take-le}
 use Rattle.cose_head.specs.declared.head.Head.{Head}
@@ -11,13 +11,14 @@ use Rattle.cose_head.specs.declared.reason.Reason.TheVariants.{Truncated}
 use Rattle.cose_head.specs.declared.refusal.Refusal.{Refusal}
 use Rattle.cose_head.specs.Head.{bare_head}
 use Rattle.cose_head.specs.Item.{Item}
+use Rattle.cose_head.specs.Open.{Open}
 use Rattle.cose_head.specs.Laws.{Steps}
 use Rattle.cose_head.specs.Measured.{left_of}
 use Rattle.cose_head.specs.Reading.{Outcome, read}
 use Rattle.cose_msg.specs.declared.verdict.Verdict.TheVariants.{Authentic, Refused}
 use Rattle.cose_msg.specs.Answer.{Answer, decided, complete, shaped}
 use Rattle.cose_msg.specs.Laws.{IsDefinite, StandsBy}
-use Rattle.cose_msg.specs.Reading.{Told, Reading, Phase, Next, stop, cut, past_head, with_head, with_string, is_truncated, past_item, with_item, unless, unless_fault, with_value, open_items_after}
+use Rattle.cose_msg.specs.Reading.{Told, Reading, Phase, Next, stop, cut, past_head, with_head, with_string, is_truncated, past_item, with_item, unless, unless_fault, with_value, open_after}
 use Rattle.cose_msg.proofs.Forms.{HeadLaws, head_there, item_there, not_truncated}
 
 -- Of a reading where so many bytes are there.
@@ -77,19 +78,19 @@ either-sound true end x y p q = p
 either-sound false end x y p q = q refl
 
 module _ (laws : HeadLaws) where
-  past_item-sound : (told : ℕ → Told) (open_items : ℕ) (next : Next (List ℕ)) (from : ℕ) → ((at : ℕ) (content : List ℕ) → from ≤ at → Sound (at + length content) (next at content)) → (room depth place : ℕ) (bytes : List ℕ) (outcome : Outcome Item) → read depth (left_of bytes room 0) ≡ outcome
-      → Steps 1 (left_of bytes room 0) outcome → from ≤ place → IsSound (place + length bytes) (past_item told open_items next place bytes outcome)
-  past_item-sound told open_items next from h room depth place bytes (Ok found) e step le =
+  past_item-sound : (told : ℕ → Told) (still : Open) (next : Next (List ℕ)) (from : ℕ) → ((at : ℕ) (content : List ℕ) → from ≤ at → Sound (at + length content) (next at content)) → (room depth place : ℕ) (bytes : List ℕ) (outcome : Outcome Item) → read depth (left_of bytes room 0) ≡ outcome
+      → Steps 1 (left_of bytes room 0) outcome → from ≤ place → IsSound (place + length bytes) (past_item told still next place bytes outcome)
+  past_item-sound told still next from h room depth place bytes (Ok found) e step le =
       let there : found.1.place ≤ length bytes = item_there laws depth room bytes found e in
       let all : length (take found.1.place bytes) ≡ found.1.place = length-take-le found.1.place bytes there in
       sound_at (place + found.1.place + length (drop found.1.place bytes)) (place + length bytes) _ (omega (arith, there, length-drop found.1.place bytes)) (h place (take found.1.place bytes) le (place + found.1.place) (drop found.1.place bytes) (omega (arith, all)))
-  past_item-sound told open_items next from h room depth place bytes (Err refusal) e step le =
-      either-sound (is_truncated refusal.reason) (place + length bytes) _ _ (cut-sound (told open_items) 1 (place + length bytes))
+  past_item-sound told still next from h room depth place bytes (Err refusal) e step le =
+      either-sound (is_truncated refusal.reason) (place + length bytes) _ _ (cut-sound (told still.items) (max 1 still.content) (place + length bytes))
       (λ definite. stop-sound (told 0) refusal.reason (place + refusal.place) (place + length bytes) (omega (arith, step.upto)) (not_truncated refusal.reason definite))
 
   pub with_item-sound : (told : ℕ → Told) (room depth : ℕ) (next : Next (List ℕ)) (from : ℕ) → ((at : ℕ) (content : List ℕ) → from ≤ at → Sound (at + length content) (next at content)) → Sound from (with_item told room depth next)
   unfolding with_item
-  with_item-sound told room depth next from h place bytes le = past_item-sound told (open_items_after room depth bytes) next from h room depth place bytes (read depth (left_of bytes room 0)) refl (laws.steps depth (left_of bytes room 0)) le
+  with_item-sound told room depth next from h place bytes le = past_item-sound told (open_after room depth bytes) next from h room depth place bytes (read depth (left_of bytes room 0)) refl (laws.steps depth (left_of bytes room 0)) le
 
 -- ---- a test
 

@@ -1,6 +1,6 @@
 -- What a phase comes to when more of its bytes are there: those that are held, and those of a piece.
 use Rattle.std.proofs.Common.{◌≡◌, ℕ, ◌+◌, ◌-◌, ◌<◌, true, false, List, [], ◌∷◌, ◌++◌, length, take, drop, Some, None, Ok, Err, refl, sym, ap, slice_index, ◌∙◌, append_assoc, add-zero, arith, length-append}
-use Rattle.std.specs.Prelude.{nat_lt}
+use Rattle.std.specs.Prelude.{nat_lt, min, max, ◌≤◌}
 use Rattle.std.proofs.lemmas.Bool.{le-ltb}
 use Rattle.std.proofs.lemmas.List.{take_at, drop_at}
 use Rattle.cose_head.specs.declared.head.Head.{Head}
@@ -62,18 +62,18 @@ not_truncated Truncated h = absurd (h refl)
 not_truncated _ h = refl
 
 module _ (stays : ReadStays) where
-  pub item_completed : (told : ℕ → Told) (room depth : ℕ) (next : Next (List ℕ)) (place : ℕ) (held : List ℕ) (byte : ℕ) → Answers room (held ++ byte ∷ []) steps.Done (read depth (left_of (held ++ byte ∷ []) room 0)) → (z : List ℕ) → with_item told room depth next place (held ++ byte ∷ z) ≡ next place (held ++ byte ∷ []) (place + length (held ++ byte ∷ [])) z
+  pub item_completed : (told : ℕ → Told) (room depth : ℕ) (next : Next (List ℕ)) (place : ℕ) (held piece : List ℕ) → Answers room (held ++ piece) steps.Done (read depth (left_of (held ++ piece) room 0)) → (z : List ℕ) → with_item told room depth next place (held ++ (piece ++ z)) ≡ next place (held ++ piece) (place + length (held ++ piece)) z
   unfolding with_item
-  item_completed told room depth next place held byte h z =
-      let again : read depth (left_of ((held ++ byte ∷ []) ++ z) room 0) ≡ Ok (h.0, left_of z (room - length (held ++ byte ∷ [])) (length (held ++ byte ∷ []))) = rw h.1 at (stays depth (left_of (held ++ byte ∷ []) room 0) z (rw h.1 tt)) in
-      rw (← regrouped held byte z, again, take_at (held ++ byte ∷ []) z (length (held ++ byte ∷ [])) refl, drop_at (held ++ byte ∷ []) z (length (held ++ byte ∷ [])) refl) refl
+  item_completed told room depth next place held piece h z =
+      let again : read depth (left_of ((held ++ piece) ++ z) room 0) ≡ Ok (h.0, left_of z (room - length (held ++ piece)) (length (held ++ piece))) = rw h.1 at (stays depth (left_of (held ++ piece) room 0) z (rw h.1 tt)) in
+      rw (← append_assoc held piece z, again, take_at (held ++ piece) z (length (held ++ piece)) refl, drop_at (held ++ piece) z (length (held ++ piece)) refl) refl
 
-  pub item_refused : (told : ℕ → Told) (room depth : ℕ) (next : Next (List ℕ)) (place : ℕ) (held : List ℕ) (byte : ℕ) (refusal : Refusal) → Answers room (held ++ byte ∷ []) (steps.Fault refusal) (read depth (left_of (held ++ byte ∷ []) room 0)) → (z : List ℕ) → with_item told room depth next place (held ++ byte ∷ z) ≡ stop (told 0) refusal.reason (place + refusal.place)
+  pub item_refused : (told : ℕ → Told) (room depth : ℕ) (next : Next (List ℕ)) (place : ℕ) (held piece : List ℕ) (refusal : Refusal) → Answers room (held ++ piece) (steps.Fault refusal) (read depth (left_of (held ++ piece) room 0)) → (z : List ℕ) → with_item told room depth next place (held ++ (piece ++ z)) ≡ stop (told 0) refusal.reason (place + refusal.place)
   unfolding with_item
-  item_refused told room depth next place held byte refusal h z =
-      let again : read depth (left_of ((held ++ byte ∷ []) ++ z) room 0) ≡ Err refusal = rw h.0 at (stays depth (left_of (held ++ byte ∷ []) room 0) z (rw h.0 h.1)) in
+  item_refused told room depth next place held piece refusal h z =
+      let again : read depth (left_of ((held ++ piece) ++ z) room 0) ≡ Err refusal = rw h.0 at (stays depth (left_of (held ++ piece) room 0) z (rw h.0 h.1)) in
       let definite : is_truncated refusal.reason ≡ false = not_truncated refusal.reason h.1 in
-      rw (← regrouped held byte z, again, definite) refl
+      rw (← append_assoc held piece z, again, definite) refl
 
 -- ---- a value that a test gives
 
@@ -91,7 +91,19 @@ pub first_byte : (piece : List ℕ) → 0 < length piece → take 1 piece ≡ sl
 first_byte [] lt = absurd (omega (arith, lt))
 first_byte (byte ∷ bytes) lt = refl
 
--- A byte of a head or an item is none of the payload.
+pub single : (piece : List ℕ) → 0 < length piece → length piece ≤ 1 → slice_index piece 0 ∷ [] ≡ piece
+single [] some one = absurd (omega (arith, some))
+single (byte ∷ []) some one = refl
+single (byte ∷ other ∷ bytes) some one = absurd (omega (arith, one))
+
+-- A piece of no more bytes than an item wants: one, where no string of it is open, and else all of it is of that string.
+pub one_wanted : (content n : ℕ) → min content n ≡ 0 → 0 < n → n ≤ max 1 content → n ≤ 1
+one_wanted content n none some fits = omega (arith, none, some, fits)
+
+pub piece_of_string : (content n : ℕ) → (min content n ≡ 0 → ⊥) → n ≤ max 1 content → min content n ≡ n
+piece_of_string content n some fits = omega (arith, some, fits)
+
+-- A byte of a head is none of the payload.
 pub grown_by_byte : (phase : code.Phase) (B part : List ℕ) → takes_bytes phase ≡ true → grown phase B part ≡ B
 grown_by_byte phases.FirstHead B part e = refl
 grown_by_byte (phases.TagHead p) B part e = refl

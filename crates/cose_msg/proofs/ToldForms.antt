@@ -1,6 +1,6 @@
 -- What is told of a message has a property, where what each phase tells has it: a lemma for each form of a phase.
 use Rattle.std.proofs.Common.{◌≡◌, ℕ, ◌+◌, ◌<◌, ◌≤◌, Bool, true, false, cond, List, length, take, drop, Option, Some, None, Result, Ok, Err, refl, arith}
-use Rattle.std.specs.Prelude.{◌-◌, nat_lt}
+use Rattle.std.specs.Prelude.{max, ◌-◌, nat_lt}
 use Rattle.std.proofs.lemmas.Bool.{ltb-true}
 use Rattle.std.proofs.lemmas.List.{length-take}
 use Rattle.cose_head.specs.declared.head.Head.{Head}
@@ -10,9 +10,10 @@ use Rattle.cose_head.specs.declared.reason.Reason.{Reason}
 use Rattle.cose_head.specs.declared.refusal.Refusal.{Refusal}
 use Rattle.cose_head.specs.Head.{bare_head}
 use Rattle.cose_head.specs.Item.{Item}
+use Rattle.cose_head.specs.Open.{Open}
 use Rattle.cose_head.specs.Measured.{left_of}
 use Rattle.cose_head.specs.Reading.{Outcome, read}
-use Rattle.cose_msg.specs.Reading.{Told, Reading, Phase, Next, stop, cut, is_truncated, past_head, with_head, with_string, past_item, with_item, unless, unless_fault, with_value, open_items_after}
+use Rattle.cose_msg.specs.Reading.{Told, Reading, Phase, Next, stop, cut, is_truncated, past_head, with_head, with_string, past_item, with_item, unless, unless_fault, with_value, open_after}
 
 module _ (Holds : Told → Type 0) where
   -- It holds of what a phase tells, of whatever bytes.
@@ -41,13 +42,13 @@ module _ (Holds : Told → Type 0) where
   choose-tells true x y p q = p
   choose-tells false x y p q = q
 
-  past_item-tells : (told : ℕ → Told) (open_items : ℕ) (next : Next (List ℕ)) → ((n : ℕ) → Holds (told n)) → ((at : ℕ) (content : List ℕ) → Tells (next at content)) → (place : ℕ) (bytes : List ℕ) (outcome : Outcome Item) → Holds (past_item told open_items next place bytes outcome).told
-  past_item-tells told open_items next known h place bytes (Ok found) = h place (take found.1.place bytes) (place + found.1.place) (drop found.1.place bytes)
-  past_item-tells told open_items next known h place bytes (Err refusal) = choose-tells (is_truncated refusal.reason) (cut (told open_items) 1 (place + length bytes)) (stop (told 0) refusal.reason (place + refusal.place)) (known open_items) (known 0)
+  past_item-tells : (told : ℕ → Told) (still : Open) (next : Next (List ℕ)) → ((n : ℕ) → Holds (told n)) → ((at : ℕ) (content : List ℕ) → Tells (next at content)) → (place : ℕ) (bytes : List ℕ) (outcome : Outcome Item) → Holds (past_item told still next place bytes outcome).told
+  past_item-tells told still next known h place bytes (Ok found) = h place (take found.1.place bytes) (place + found.1.place) (drop found.1.place bytes)
+  past_item-tells told still next known h place bytes (Err refusal) = choose-tells (is_truncated refusal.reason) (cut (told still.items) (max 1 still.content) (place + length bytes)) (stop (told 0) refusal.reason (place + refusal.place)) (known still.items) (known 0)
 
   pub with_item-tells : (told : ℕ → Told) (room nesting : ℕ) (next : Next (List ℕ)) → ((n : ℕ) → Holds (told n)) → ((at : ℕ) (content : List ℕ) → Tells (next at content)) → Tells (with_item told room nesting next)
   unfolding with_item
-  with_item-tells told room nesting next known h place bytes = past_item-tells told (open_items_after room nesting bytes) next known h place bytes (read nesting (left_of bytes room 0))
+  with_item-tells told room nesting next known h place bytes = past_item-tells told (open_after room nesting bytes) next known h place bytes (read nesting (left_of bytes room 0))
 
   pub unless_fault-tells : (told : Told) (at : ℕ) (fault : Option Reason) (phase : Phase) → Holds told → (fault ≡ None → Tells phase) → Tells (unless_fault told at fault phase)
   unless_fault-tells told at (Some reason) phase known h place bytes = known

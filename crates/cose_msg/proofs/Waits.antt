@@ -19,7 +19,7 @@ use Rattle.cose_msg.specs.Answer.{Answer, refused}
 use Rattle.cose_msg.specs.Front.{past_array_head, past_first_head, past_second_head}
 use Rattle.cose_msg.specs.Phase.{in_payload, is_settled, want_of}
 use Rattle.cose_msg.specs.Phases.{nothing_told, unprotected_told, headers_told, finish, past_auth_head, past_payload, past_payload_head, past_protected, past_protected_head, past_unprotected}
-use Rattle.cose_msg.specs.Reading.{Next, Reading, Told, cut, settled, past_head, open_items_after, with_head, with_item, with_string}
+use Rattle.cose_msg.specs.Reading.{Next, Reading, Told, cut, settled, past_head, open_items_after, wanted_after, with_head, with_item, with_string}
 use Rattle.cose_msg.specs.Task.{Task, rules_of}
 use Rattle.cose_msg.specs.Verifier.{HoldsHead, HoldsIn, Known, StandsFor, left_in}
 use Rattle.cose_msg.proofs.Steps.{string_whole}
@@ -41,9 +41,9 @@ string_waits told n next place bytes lt =
     let short : nat_lt (length bytes) n ≡ true = lt-ltb _ _ lt in
     rw short refl
 
-pub item_waits : (told : ℕ → Told) (room depth : ℕ) (next : Next (List ℕ)) (place : ℕ) (held : List ℕ) → read depth (left_of held room 0) ≡ refuse Truncated (length held) → with_item told room depth next place (held ++ []) ≡ cut (told (open_items_after room depth held)) 1 (place + length held)
+pub item_waits : (told : ℕ → Told) (room depth : ℕ) (next : Next (List ℕ)) (place : ℕ) (held : List ℕ) → read depth (left_of held room 0) ≡ refuse Truncated (length held) → with_item told room depth next place held ≡ cut (told (open_items_after room depth held)) (wanted_after room depth held) (place + length held)
 unfolding with_item
-item_waits told room depth next place held e = rw (append-nil, e) refl
+item_waits told room depth next place held e = rw e refl
 
 nothing_more : (more : List ℕ) → length more < 1 → more ≡ []
 nothing_more [] lt = refl
@@ -58,7 +58,12 @@ fewer held more n left count lt = omega (arith, length-append held more)
 
 -- ---- the phases
 
-module _ {H D : ℕ} (task : Task) (known : Known) (told : Told) (n : ℕ) (v : Verifier H D) (waits : HasPut H v.unprotected.items v.walker → read D (left_of v.unprotected.items H 0) ≡ refuse Truncated (length v.unprotected.items)) where
+-- What the walker of the unprotected bucket says: of fewer further bytes than it wants, that they end in its item.
+abbrev pub ItemWaits : {H D : ℕ} → Verifier H D → Type 0
+ItemWaits {H} {D} v = HasPut H v.unprotected.items v.walker → (more : List ℕ) → length more < wanted_after H D v.unprotected.items →
+    read D (left_of (v.unprotected.items ++ more) H 0) ≡ refuse Truncated (length (v.unprotected.items ++ more))
+
+module _ {H D : ℕ} (task : Task) (known : Known) (told : Told) (n : ℕ) (v : Verifier H D) (waits : ItemWaits v) where
   -- A phase at the bytes that are held of it.
   unfoldable pub here : Phase → List ℕ → Reading
   here phase z = left_in (rules_of H D task) known told v phase z
@@ -93,7 +98,9 @@ module _ {H D : ℕ} (task : Task) (known : Known) (told : Told) (n : ℕ) (v : 
   cut_in (phases.Protected p) h e =
       string_cut (phases.Protected p) (λ bytes. nothing_told) p.length p.left (past_protected (rules_of H D task) p.kind) p.at v.protected.items refl refl p.some_left h.0 h.1 h.3
   cut_in (phases.Unprotected p) h e =
-      cut_as _ _ 1 1 _ (item_waits (unprotected_told known.headers.protected_pairs) H D (past_unprotected (rules_of H D task) p.kind v.protected.items known.headers.protected_pairs) p.at v.unprotected.items (waits h.2)) h.0 refl h.3
+      let none : v.unprotected.items ++ [] ≡ v.unprotected.items = append-nil v.unprotected.items in
+      let put : read D (left_of v.unprotected.items H 0) ≡ refuse Truncated (length v.unprotected.items) = rw none at (waits h.2 [] (omega (arith, p.some_wanted, h.4))) in
+      rw none (cut_as _ _ _ p.wanted _ (item_waits (unprotected_told known.headers.protected_pairs) H D (past_unprotected (rules_of H D task) p.kind v.protected.items known.headers.protected_pairs) p.at v.unprotected.items put) h.0 (sym h.4) h.3)
   cut_in (phases.PayloadHead p) h e =
       head_cut (phases.PayloadHead p) (headers_told known.headers []) (past_payload_head (rules_of H D task) known.headers known.chosen) p.at refl refl h.0 h.1
   cut_in (phases.Payload p) h e =
@@ -152,7 +159,9 @@ module _ {H D : ℕ} (task : Task) (known : Known) (told : Told) (n : ℕ) (v : 
   open_in (phases.ProtectedHead p) h = open_at (phases.ProtectedHead p) h refl refl
   open_in (phases.Protected p) h = λ more lt.
       string_open (λ bytes. nothing_told) p.length (past_protected (rules_of H D task) p.kind) p.at (v.protected.items ++ more) (fewer v.protected.items more p.length p.left h.1 lt)
-  open_in (phases.Unprotected p) h = open_at (phases.Unprotected p) h refl refl
+  open_in (phases.Unprotected p) h = λ more lt.
+      let put : read D (left_of (v.unprotected.items ++ more) H 0) ≡ refuse Truncated (length (v.unprotected.items ++ more)) = waits h.2 more (omega (arith, lt, h.4)) in
+      ap (λ (r : Reading). r.settled) (item_waits (unprotected_told known.headers.protected_pairs) H D (past_unprotected (rules_of H D task) p.kind v.protected.items known.headers.protected_pairs) p.at (v.unprotected.items ++ more) put)
   open_in (phases.PayloadHead p) h = open_at (phases.PayloadHead p) h refl refl
   open_in (phases.Payload p) h = λ more lt.
       string_open (headers_told known.headers) p.length (past_payload (rules_of H D task) known.headers known.chosen) p.at (known.payload ++ more) (fewer known.payload more p.length p.left h.1 lt)
@@ -194,30 +203,26 @@ module _ {H D : ℕ} (task : Task) (known : Known) (told : Told) (n : ℕ) (v : 
 
 -- ---- a verifier
 
--- What the walker of the unprotected bucket says, at the bytes that it was put.
-abbrev pub WalkerWaits : {H D : ℕ} → Verifier H D → Type 0
-WalkerWaits {H} {D} v = HasPut H v.unprotected.items v.walker → read D (left_of v.unprotected.items H 0) ≡ refuse Truncated (length v.unprotected.items)
-
-pub stands_open : {H D : ℕ} {task : Task} {B : List ℕ} {n : ℕ} {v : Verifier H D} {reading : List ℕ → Reading} → WalkerWaits v → (more : List ℕ) → StandsFor task B n v reading → length more < want_of v.phase → (reading more).settled ≡ false
+pub stands_open : {H D : ℕ} {task : Task} {B : List ℕ} {n : ℕ} {v : Verifier H D} {reading : List ℕ → Reading} → ItemWaits v → (more : List ℕ) → StandsFor task B n v reading → length more < want_of v.phase → (reading more).settled ≡ false
 unfolding here
 stands_open {H} {D} {task} {B} {n} {v} {reading} waits more h lt = ap (λ (r : Reading). r.settled) (h.left more) ∙ open_in task h.known h.told n v waits v.phase h.holds more lt
 
-pub stands_settled : {H D : ℕ} {task : Task} {B : List ℕ} {n : ℕ} {v : Verifier H D} {reading : List ℕ → Reading} → WalkerWaits v → StandsFor task B n v reading → (reading []).settled ≡ is_settled v.phase
+pub stands_settled : {H D : ℕ} {task : Task} {B : List ℕ} {n : ℕ} {v : Verifier H D} {reading : List ℕ → Reading} → ItemWaits v → StandsFor task B n v reading → (reading []).settled ≡ is_settled v.phase
 unfolding here
 stands_settled {H} {D} {task} {B} {n} {v} {reading} waits h = ap (λ (r : Reading). r.settled) (h.left [] ∙ ends_in task h.known h.told n v waits v.phase h.holds)
 
-pub stands_wanted : {H D : ℕ} {task : Task} {B : List ℕ} {n : ℕ} {v : Verifier H D} {reading : List ℕ → Reading} → WalkerWaits v → StandsFor task B n v reading → (reading []).wanted ≡ want_of v.phase
+pub stands_wanted : {H D : ℕ} {task : Task} {B : List ℕ} {n : ℕ} {v : Verifier H D} {reading : List ℕ → Reading} → ItemWaits v → StandsFor task B n v reading → (reading []).wanted ≡ want_of v.phase
 unfolding here
 stands_wanted {H} {D} {task} {B} {n} {v} {reading} waits h = ap (λ (r : Reading). r.wanted) (h.left [] ∙ ends_in task h.known h.told n v waits v.phase h.holds)
 
-pub stands_told : {H D : ℕ} {task : Task} {B : List ℕ} {n : ℕ} {v : Verifier H D} {reading : List ℕ → Reading} → WalkerWaits v → StandsFor task B n v reading → (reading []).told.payload ≡ B
+pub stands_told : {H D : ℕ} {task : Task} {B : List ℕ} {n : ℕ} {v : Verifier H D} {reading : List ℕ → Reading} → ItemWaits v → StandsFor task B n v reading → (reading []).told.payload ≡ B
 unfolding here
 stands_told {H} {D} {task} {B} {n} {v} {reading} waits h = ap (λ (r : Reading). r.told.payload) (h.left [] ∙ ends_in task h.known h.told n v waits v.phase h.holds) ∙ h.payload_told
 
-pub stands_payload : {H D : ℕ} {task : Task} {B : List ℕ} {n : ℕ} {v : Verifier H D} {reading : List ℕ → Reading} → WalkerWaits v → (more : List ℕ) → StandsFor task B n v reading → in_payload v.phase ≡ true → length more ≤ want_of v.phase → (reading more).settled ≡ false
+pub stands_payload : {H D : ℕ} {task : Task} {B : List ℕ} {n : ℕ} {v : Verifier H D} {reading : List ℕ → Reading} → ItemWaits v → (more : List ℕ) → StandsFor task B n v reading → in_payload v.phase ≡ true → length more ≤ want_of v.phase → (reading more).settled ≡ false
 unfolding here
 stands_payload {H} {D} {task} {B} {n} {v} {reading} waits more h is le = ap (λ (r : Reading). r.settled) (h.left more) ∙ payload_open task h.known h.told n v waits v.phase h.holds is more le
 
-pub stands_truncated : {H D : ℕ} {task : Task} {B : List ℕ} {n : ℕ} {v : Verifier H D} {reading : List ℕ → Reading} → WalkerWaits v → StandsFor task B n v reading → is_settled v.phase ≡ false → (reading []).answer ≡ refused Truncated n
+pub stands_truncated : {H D : ℕ} {task : Task} {B : List ℕ} {n : ℕ} {v : Verifier H D} {reading : List ℕ → Reading} → ItemWaits v → StandsFor task B n v reading → is_settled v.phase ≡ false → (reading []).answer ≡ refused Truncated n
 unfolding here
 stands_truncated {H} {D} {task} {B} {n} {v} {reading} waits h e = ap (λ (r : Reading). r.answer) (h.left []) ∙ truncated_in task h.known h.told n v waits v.phase h.holds e

@@ -85,8 +85,8 @@ of_a_shape byte = refl
 abbrev wanted : Rules → List ℕ → ℕ
 wanted rules bytes = (reading rules bytes).wanted
 
--- Those that are left of the protected header, of the payload and of the tag; one of a head or of the unprotected header; none once
--- the message is settled.
+-- Those that are left of the protected header, of a string of the unprotected header, of the payload and of the tag; one of a head;
+-- none once the message is settled.
 by_a_mac0 : (byte : ℕ → ℕ) → Gives (wanted mac_rules) (
     (hex "", 1) ∷
     (hex "d8", 1) ∷
@@ -98,7 +98,13 @@ by_a_mac0 : (byte : ℕ → ℕ) → Gives (wanted mac_rules) (
     (hex "d18443a1", 2) ∷
     (hex "d18443a101", 1) ∷
     (hex "d18443a10105", 1) ∷
-    (hex "d18443a10105 a10445", 1) ∷
+    (hex "d18443a10105 a104", 1) ∷
+    (hex "d18443a10105 a10445", 5) ∷
+    (hex "d18443a10105 a1044561", 4) ∷
+    (hex "d18443a10105 a1044561626364", 1) ∷
+    (hex "d18443a10105 a10a8258", 1) ∷
+    (hex "d18443a10105 a10a825903f0", 1008) ∷
+    (hex "d18443a10105 a10a82590400", 0) ∷
     (hex "d18443a10105a0", 1) ∷
     (hex "d18443a10105a0 5b", 1) ∷
     (hex "d18443a10105a0 5a00989680", 10000000) ∷

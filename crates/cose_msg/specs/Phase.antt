@@ -27,9 +27,10 @@ has_signature (phases.Signed p) = true
 has_signature (phases.Decided verdict) = true
 has_signature _ = false
 
--- How many bytes are to come for certain: those of a string that are left, one of a head or an item.
+-- How many bytes are to come for certain: those of a string that are left, and one of a head.
 abbrev pub want_of : Phase → ℕ
 want_of (phases.Protected p) = p.left
+want_of (phases.Unprotected p) = p.wanted
 want_of (phases.Payload p) = p.left
 want_of (phases.Auth p) = p.left
 want_of (phases.Signed p) = 0
@@ -38,9 +39,10 @@ want_of (phases.Settled verdict) = 0
 want_of (phases.Shaped p) = 0
 want_of _ = 1
 
--- Whether bytes are taken one by one: in a head, or in an item.
+-- Whether bytes are taken one by one: in a head.
 abbrev pub takes_bytes : Phase → Bool
 takes_bytes (phases.Protected p) = false
+takes_bytes (phases.Unprotected p) = false
 takes_bytes (phases.Payload p) = false
 takes_bytes (phases.Auth p) = false
 takes_bytes (phases.Signed p) = false

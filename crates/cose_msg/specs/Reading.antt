@@ -1,6 +1,6 @@
 -- What the bytes of a message come to, phase by phase. A phase is a function of its place and of the bytes that begin
 -- there, and gives what all of them come to: it knows the phases after it.
-use Rattle.std.specs.Prelude.{ℕ, ◌+◌, ◌-◌, Bool, true, false, List, length, take, drop, Option, Some, None, Result, Ok, Err, nat_lt, if◌then◌else◌}
+use Rattle.std.specs.Prelude.{ℕ, ◌+◌, ◌-◌, max, Bool, true, false, List, length, take, drop, Option, Some, None, Result, Ok, Err, nat_lt, if◌then◌else◌}
 use Rattle.cose_head.specs.declared.head.Head.{Head}
 use Rattle.cose_head.specs.declared.head.HeadStep.{HeadStep}
 use Rattle.cose_head.specs.declared.head.HeadStep.TheVariants.{Got, More, Fault}
@@ -10,7 +10,7 @@ use Rattle.cose_head.specs.declared.refusal.Refusal.{Refusal}
 use Rattle.cose_head.specs.Head.{bare_head}
 use Rattle.cose_head.specs.Item.{Item}
 use Rattle.cose_head.specs.Measured.{left_of}
-use Rattle.cose_head.specs.Open.{open_in}
+use Rattle.cose_head.specs.Open.{Open, open_in}
 use Rattle.cose_head.specs.Reading.{Outcome, read}
 use Rattle.cose_map.specs.Map.Pairs.{Pair}
 use Rattle.cose_msg.specs.Answer.{Answer, refused}
@@ -64,26 +64,32 @@ with_string told n next place bytes =
     if nat_lt (length bytes) n then cut (told bytes) (n - length bytes) (place + length bytes) else
     next place (take n bytes) (place + n) (drop n bytes)
 
--- How many arrays, maps and tags of an item are open after these bytes of it.
-abbrev pub open_items_after : ℕ → ℕ → List ℕ → ℕ
-open_items_after room nesting bytes = (open_in nesting (left_of bytes room 0)).items
+-- What of an item is open after these bytes of it: how many of its arrays, maps and tags; and how many bytes are wanted, which is
+-- what is left of a string of it where they end in one, and one else.
+abbrev pub open_after : ℕ → ℕ → List ℕ → Open
+open_after room nesting bytes = open_in nesting (left_of bytes room 0)
 
--- An item within a room and a nesting allowance. What is known goes by how much of it is open where the bytes end, and it wants
--- one byte after the other.
+abbrev pub open_items_after : ℕ → ℕ → List ℕ → ℕ
+open_items_after room nesting bytes = (open_after room nesting bytes).items
+
+abbrev pub wanted_after : ℕ → ℕ → List ℕ → ℕ
+wanted_after room nesting bytes = max 1 (open_after room nesting bytes).content
+
+-- An item within a room and a nesting allowance. What is known, and what is wanted, goes by what of it is open where the bytes end.
 abbrev pub is_truncated : Reason → Bool
 is_truncated Truncated = true
 is_truncated _ = false
 
-abbrev pub past_item : (ℕ → Told) → ℕ → Next (List ℕ) → ℕ → List ℕ → Outcome Item → Reading
-past_item told open_items next place bytes (Ok found) =
+abbrev pub past_item : (ℕ → Told) → Open → Next (List ℕ) → ℕ → List ℕ → Outcome Item → Reading
+past_item told still next place bytes (Ok found) =
     next place (take found.1.place bytes) (place + found.1.place) (drop found.1.place bytes)
-past_item told open_items next place bytes (Err refusal) =
-    if is_truncated refusal.reason then cut (told open_items) 1 (place + length bytes) else
+past_item told still next place bytes (Err refusal) =
+    if is_truncated refusal.reason then cut (told still.items) (max 1 still.content) (place + length bytes) else
     stop (told 0) refusal.reason (place + refusal.place)
 
 unfoldable pub with_item : (ℕ → Told) → ℕ → ℕ → Next (List ℕ) → Phase
 with_item told room nesting next place bytes =
-    past_item told (open_items_after room nesting bytes) next place bytes (read nesting (left_of bytes room 0))
+    past_item told (open_after room nesting bytes) next place bytes (read nesting (left_of bytes room 0))
 
 -- A test, which needs no byte: a fault, or on.
 abbrev pub unless : Told → Option Refusal → Phase → Phase

@@ -24,7 +24,7 @@ use Rattle.cose_msg.specs.Front.{first_head, second_head, array_head}
 use Rattle.cose_msg.specs.Hashing.{Hashes, HashesFor, authenticator, result_of}
 use Rattle.cose_msg.specs.Message.{Setting, has_auth_length, message, structure}
 use Rattle.cose_msg.specs.Phases.{nothing_told, unprotected_told, headers_told, placed_at, protected_head, protected, unprotected, payload_head, payload, auth_head, auth}
-use Rattle.cose_msg.specs.Reading.{Reading, Told, open_items_after, settled}
+use Rattle.cose_msg.specs.Reading.{Reading, Told, open_items_after, wanted_after, settled}
 use Rattle.cose_msg.specs.Rules.{Rules}
 use Rattle.cose_msg.specs.Task.{Task, rules_of}
 
@@ -163,6 +163,7 @@ HoldsIn {H} {D} task known told n v (phases.Unprotected p) =
     (told ≡ unprotected_told known.headers.protected_pairs (open_items_after H D v.unprotected.items))
     × (bucket_of D (placed_at p.protected_at v.protected.items) ≡ Ok known.headers.protected_pairs)
     × HasPut H v.unprotected.items v.walker × (n ≡ p.at + length v.unprotected.items)
+    × (p.wanted ≡ wanted_after H D v.unprotected.items)
 HoldsIn task known told n v (phases.PayloadHead p) =
     (told ≡ headers_told known.headers []) × HoldsHead p.at n v × HoldsKey task known v p.kind
     × (known.headers.protected ≡ v.protected.items) × (p.is_bare ≡ (length known.headers.protected_pairs == 0))

@@ -60,6 +60,9 @@ pub(crate) struct Unprotected {
     pub(crate) protected_at: u64,
     /// The place of its first byte.
     pub(crate) at: u64,
+    /// How many bytes are to come for certain: those of its open string that are left, or one.
+    pub(crate) wanted: u64,
+    ghost some_wanted: { 0 < wanted },
     ghost protected_early: { protected_at ≤ 36 },
     ghost early: { at < 2 ^ 17 },
 }

@@ -1,6 +1,6 @@
 //! Stores that are filled in place, and fronts of pieces.
 
-ghost use Rattle.std.specs.Prelude.{◌≡◌, ◌<◌, ◌≤◌, ◌+◌, [], ◌∷◌, ◌++◌, length, take};
+ghost use Rattle.std.specs.Prelude.{◌≡◌, ◌<◌, ◌≤◌, ◌+◌, ◌++◌, length, take};
 
 use arrayvec::ArrayVec;
 
@@ -9,13 +9,6 @@ pub(crate) fn append<const N: usize>(store: &mut ArrayVec<u8, N>, piece: &[u8])
     ensures { length store.old.items + length piece.now ≤ N → store.new.items ≡ store.old.items ++ piece.now }
 {
     let _ = store.try_extend_from_slice(piece);
-}
-
-/// Appends a byte, where it fits.
-pub(crate) fn append_byte<const N: usize>(store: &mut ArrayVec<u8, N>, byte: u8)
-    ensures { length store.old.items < N → store.new.items ≡ store.old.items ++ byte ∷ [] }
-{
-    let _ = store.try_push(byte);
 }
 
 /// The front of a piece that isn't empty: at most so many bytes.

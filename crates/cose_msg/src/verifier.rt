@@ -202,14 +202,15 @@ impl<'k, const H: usize, const D: usize> Verifier<'k, H, D> {
         matches!(self.phase, Phase::Payload(_))
     }
 
-    /// How many bytes are to come for certain: those of a string that are left, one of a head or an item, and none once the
-    /// message is settled.
+    /// How many bytes are to come for certain: those of a string that are left, one of a head, and none once the message is
+    /// settled.
     pub(crate) fn wanted(&self) -> u64
         ensures value { result ≡ want_of self.now.phase }
         ensures some { is_settled self.now.phase ≡ false → 0 < result }
     {
         match self.phase {
             Phase::Protected(protected) => protected.left,
+            Phase::Unprotected(unprotected) => unprotected.wanted,
             Phase::Payload(payload) => payload.left,
             Phase::Auth(auth) => auth.left,
             _ if self.is_settled() => 0,
@@ -217,7 +218,7 @@ impl<'k, const H: usize, const D: usize> Verifier<'k, H, D> {
         }
     }
 
-    /// Takes the next byte of a head or of the unprotected bucket. Where none is wanted, nothing changes.
+    /// Takes the next byte of a head. Where none is wanted, nothing changes.
     fn take_byte(&mut self, byte: u8)
         requires { takes_bytes self.old.phase ≡ true }
         ensures { (task : Task) (B : List ℕ) (n : ℕ) (reading : List ℕ → Reading) → StandsFor task B n self.old reading
@@ -228,7 +229,6 @@ impl<'k, const H: usize, const D: usize> Verifier<'k, H, D> {
             Phase::TagHead(head) => self.tag_head(head, byte),
             Phase::ArrayHead(head) => self.array_head(head, byte),
             Phase::ProtectedHead(head) => self.protected_head(head, byte),
-            Phase::Unprotected(unprotected) => self.unprotected_byte(unprotected, byte),
             Phase::PayloadHead(head) => self.payload_head(head, byte),
             Phase::AuthHead(head) => self.auth_head(head, byte),
             _ => {}
@@ -248,6 +248,11 @@ impl<'k, const H: usize, const D: usize> Verifier<'k, H, D> {
             Phase::Protected(protected) => {
                 let part = front_of(piece, protected.left);
                 self.protected_piece(protected, part);
+                part.len()
+            }
+            Phase::Unprotected(unprotected) => {
+                let part = front_of(piece, unprotected.wanted);
+                self.unprotected_piece(unprotected, part);
                 part.len()
             }
             Phase::Payload(payload) => {

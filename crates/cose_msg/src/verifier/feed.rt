@@ -70,8 +70,8 @@ impl<'k, const H: usize, const D: usize> Verifier<'k, H, D> {
         matches!(self.status(), Status::Complete)
     }
 
-    /// How many bytes are to come for certain: those that are left of the protected header, of the payload, or of the tag or
-    /// signature, and one of a head or of the unprotected header. None once the message is settled or the verifier has stopped.
+    /// How many bytes are to come for certain: those that are left of a string, be it the protected header, one of the unprotected
+    /// header, the payload, or the tag or signature, and one of a head. None once the message is settled or the verifier has stopped.
     pub fn want(&self) -> u64
         ensures value { result ≡ wanted_in self.now }
         // By definition, of the bytes so far.

@@ -1,12 +1,16 @@
 //! The header buckets of a message, and the choice of its key (RFC 9052 sections 3 and 7.1).
 
-ghost use Rattle.std.specs.Prelude.{◌≡◌, ◌<◌, ◌≤◌, ◌+◌, ◌^◌, ℕ, Ok, length};
+ghost use Rattle.std.specs.Prelude.{◌≡◌, ◌<◌, ◌≤◌, ◌+◌, ◌^◌, ℕ, List, Ok, ◌++◌, length};
+ghost use Rattle.cose_head.specs.Measured.{left_of};
+ghost use Rattle.cose_head.specs.Reading.{read};
+ghost use Rattle.cose_head.specs.Walker.{Answers, HasPut, StandsAmong, last_step};
 ghost use Rattle.cose_map.specs.Bucket.{bucket_of};
 ghost use Rattle.cose_map.specs.Map.View.{refusal_in};
+ghost use Rattle.cose_msg.specs.Reading.{wanted_after};
 
 use crate::bare_head::take_head_byte;
 use crate::phase::{Phase, Protected, ProtectedHead, Unprotected};
-use crate::store_bytes::{append, append_byte};
+use crate::store_bytes::append;
 use crate::verifier::{Place, Verifier};
 use cose_head::laws::{read_stays, walker_is_reading};
 use cose_head::{Head, HeadStep, Kind, Reason, Refusal, Step, Walker};
@@ -21,8 +25,25 @@ fn refusal_of(bytes: &[u8], at: u64, depth: usize) -> Option<Refusal>
     Bucket::read(bytes, at, depth).err()
 }
 
+/// Puts a piece of no more bytes than the walker wants, and says where its item stands.
+fn walk_on<const D: usize>(walker: &mut Walker<D>, piece: &[u8]) -> Step
+    requires some { 0 < length piece.now }
+    ensures answer { (room : ℕ) (bytes : List ℕ) → HasPut room bytes walker.old → length piece.now ≤ wanted_after room D bytes
+        → Answers room (bytes ++ piece.now) result (read D (left_of (bytes ++ piece.now) room 0)) }
+    ensures put { (room : ℕ) (bytes : List ℕ) → HasPut room bytes walker.old → length piece.now ≤ wanted_after room D bytes
+        → result ≡ Step.Going → HasPut room (bytes ++ piece.now) walker.new }
+    ensures among { (room : ℕ) (bytes : List ℕ) → HasPut room bytes walker.old → length piece.now ≤ wanted_after room D bytes
+        → StandsAmong room (bytes ++ piece.now) result }
+    ensures step { last_step walker.new ≡ result }
+{
+    if walker.pass(piece) == 0 {
+        return walker.put(piece[0]);
+    }
+    walker.step()
+}
+
 impl<'k, const H: usize, const D: usize> Verifier<'k, H, D> {
-    ghost use Rattle.std.specs.Prelude.{List, [], ◌∷◌, ◌++◌};
+    ghost use Rattle.std.specs.Prelude.{[], ◌∷◌};
     ghost use Rattle.cose_map.specs.Map.Pairs.{Pair};
     ghost use Rattle.cose_msg.specs.Phases.{nothing_told, past_protected, past_protected_head, past_unprotected, placed_at, protected_head, protected_fault_within, protected_told, unprotected};
     ghost use Rattle.cose_msg.specs.Reading.{Reading};
@@ -142,6 +163,7 @@ impl<'k, const H: usize, const D: usize> Verifier<'k, H, D> {
             kind,
             protected_at,
             at,
+            wanted: self.walker.want() as u64,
         });
     }
 
@@ -163,19 +185,29 @@ impl<'k, const H: usize, const D: usize> Verifier<'k, H, D> {
         }
     }
 
-    /// Takes the next byte of the unprotected bucket.
-    pub(crate) fn unprotected_byte(&mut self, unprotected: Unprotected, byte: u8)
+    /// Takes a piece of the unprotected bucket, of no more bytes than it wants.
+    pub(crate) fn unprotected_piece(&mut self, unprotected: Unprotected, piece: &[u8])
         requires phase { self.old.phase ≡ Phase.Unprotected unprotected }
+        requires some { 0 < length piece.now }
+        requires fits { length piece.now ≤ unprotected.wanted }
         ensures stands { (task : Task) (B : List ℕ) (n : ℕ) (reading : List ℕ → Reading) → StandsFor task B n self.old reading
-            → StandsFor task B (n + 1) self.new (λ z. reading (byte ∷ z)) }
+            → StandsFor task B (n + length piece.now) self.new (λ z. reading (piece.now ++ z)) }
     {
         // What these say of reading and of walkers is all that the proof rests on.
         read_stays();
         walker_is_reading();
+        let _wanted = self.walker.want();
         let at = unprotected.at;
-        append_byte(&mut self.unprotected, byte);
-        match self.walker.put(byte) {
-            Step::Going => {}
+        append(&mut self.unprotected, piece);
+        match walk_on(&mut self.walker, piece) {
+            Step::Going => {
+                self.phase = Phase::Unprotected(Unprotected {
+                    kind: unprotected.kind,
+                    protected_at: unprotected.protected_at,
+                    at,
+                    wanted: self.walker.want() as u64,
+                });
+            }
             Step::Done => self.past_unprotected(unprotected.kind, unprotected.protected_at, at),
             Step::Fault(refusal) => self.refuse(refusal.reason, at.saturating_add(refusal.place)),
         }

@@ -7,6 +7,10 @@ pub returns-in-Protected-clause-stands : goal.returns-in-Protected-clause-stands
 returns-in-Protected-clause-stands g c = λ task B n reading h.
     rw (c.in-Protected.is, ← c.front_of-part.ensures.front) (c.protected_piece.ensures.stands task B n reading h)
 
+pub returns-in-Unprotected-clause-stands : goal.returns-in-Unprotected-clause-stands
+returns-in-Unprotected-clause-stands g c = λ task B n reading h.
+    rw (c.in-Unprotected.is, ← c.front_of-part-in-Unprotected.ensures.front) (c.unprotected_piece.ensures.stands task B n reading h)
+
 pub returns-in-Payload-clause-stands : goal.returns-in-Payload-clause-stands
 returns-in-Payload-clause-stands g c = λ task B n reading h.
     rw (c.in-Payload.is, ← c.front_of-part-in-Payload.ensures.front) (c.payload.ensures.stands task B n reading h)

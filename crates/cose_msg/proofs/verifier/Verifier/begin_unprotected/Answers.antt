@@ -12,7 +12,10 @@ returns g c = record {
     shows = (e.0, good, e.2, c.walker_is_reading.ensures.open g.row.D g.row.H [] c.new-self.result c.new-self.ensures.put);
     payload_known = refl;
     payload_told = refl;
-    holds = (rw c.clear.ensures refl, good, rw c.clear.ensures c.new-self.ensures.put, rw c.clear.ensures (sym (add-zero c.args.at)));
+    holds = (rw c.clear.ensures refl, good, rw c.clear.ensures c.new-self.ensures.put, rw c.clear.ensures (sym (add-zero c.args.at)), rw c.clear.ensures (c.want.ensures.content g.row.H [] c.new-self.ensures.put));
     left = λ z. rw c.clear.ensures refl;
   };
 }
+
+pub invariant_of-self-2-clause-some_wanted : goal.invariant_of-self-2-clause-some_wanted
+invariant_of-self-2-clause-some_wanted g c = c.want.ensures.some c.new-self.ensures.put.going

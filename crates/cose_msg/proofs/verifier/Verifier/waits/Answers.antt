@@ -1,17 +1,15 @@
-use Rattle.std.proofs.Common.{◌<◌, [], arith}
-use Rattle.std.proofs.lemmas.List.{append-nil}
+use Rattle.std.proofs.Common.{◌<◌, arith}
 use Rattle.cose_msg.proofs.Decisions.{stands_shown}
 use Rattle.cose_msg.proofs.PayloadsKnown.{stands_fixed, stands_grows}
 use Rattle.cose_msg.proofs.Statuses.{stands_status}
-use Rattle.cose_msg.proofs.Waits.{WalkerWaits, stands_open, stands_settled, stands_told, stands_payload, stands_truncated, stands_wanted}
+use Rattle.cose_msg.proofs.Waits.{ItemWaits, stands_open, stands_settled, stands_told, stands_payload, stands_truncated, stands_wanted}
 use Rattle.cose_msg.proofs.verifier.Verifier.waits.Goals as goal
 
--- The walker wants a byte at least, so it isn't settled without one.
-walker : (g : Rattle.cose_msg.proofs.verifier.Verifier.waits.Given.Over) (c : goal.After-open_items-opened g) → WalkerWaits c.args.self.now
-walker g c = λ put.
-    let some : 0 < c.want-wanted.result = omega (arith, c.want-wanted.ensures.content _ _ put) in
+-- Fewer bytes than the walker wants don't end its item.
+walker : (g : Rattle.cose_msg.proofs.verifier.Verifier.waits.Given.Over) (c : goal.After-open_items-opened g) → ItemWaits c.args.self.now
+walker g c = λ put more lt.
     let room : 0 < g.row.H = omega (arith, c.args.self.now.some_room) in
-    rw append-nil at (c.want-wanted.ensures.early _ _ [] put room some)
+    c.want-wanted.ensures.early _ _ more put room (omega (arith, lt, c.want-wanted.ensures.content _ _ put))
 
 pub returns-clause-open : goal.returns-clause-open
 returns-clause-open g c = λ task B n reading more h lt. stands_open (walker g c) more h lt
