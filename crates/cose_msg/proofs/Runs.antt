@@ -97,6 +97,9 @@ counted_stands {H} {D} {task} {s} {B} {v} h = subst (λ (n : ℕ). StandsFor tas
 pub without_more : (H D : ℕ) (task : Task) (bytes : List ℕ) → message (rules_of H D task) (bytes ++ []) ≡ message (rules_of H D task) bytes
 without_more H D task bytes = ap (message (rules_of H D task)) (append-nil bytes)
 
+pub told_before : (H D : ℕ) (task : Task) (bytes B : List ℕ) → (message (rules_of H D task) (bytes ++ [])).told.payload ≡ B → (message (rules_of H D task) bytes).told.payload ≡ B
+told_before H D task bytes B told = ap (λ (r : Reading). r.told.payload) (sym (without_more H D task bytes)) ∙ told
+
 -- ---- what a phase says of a step
 
 pub wanted_is_open : (phase : Phase) → 0 < want_of phase → is_settled phase ≡ false

@@ -1,18 +1,19 @@
 -- The status of a verifier is that of the bytes it stands for.
-use Rattle.std.proofs.Common.{◌≡◌, ℕ, Bool, true, false, cond, List, [], ◌++◌, refl, sym, ap, ◌∙◌}
+use Rattle.std.proofs.Common.{◌≡◌, ℕ, Bool, true, false, cond, List, [], ◌++◌, Option, Some, Result, Ok, refl, sym, ap, ◌∙◌}
 use Rattle.cose_msg.specs.declared.phase.Phase.{Phase}
 use Rattle.cose_msg.specs.declared.phase.Phase.TheVariants as phases
 use Rattle.cose_msg.specs.declared.status.Status.{Status}
-use Rattle.cose_msg.specs.declared.status.Status.TheVariants.{More}
+use Rattle.cose_msg.specs.declared.status.Status.TheVariants.{More, Stopped}
+use Rattle.cose_msg.specs.declared.verdict.Stop.{Stop}
 use Rattle.cose_msg.specs.declared.verifier.Verifier.{Verifier}
-use Rattle.cose_msg.specs.Kept.{HasTaken}
+use Rattle.cose_msg.specs.Kept.{HasTaken, answer_kept}
 use Rattle.cose_msg.specs.Message.{message}
 use Rattle.cose_msg.specs.Phase.{is_settled}
 use Rattle.cose_msg.specs.Reading.{Reading, Told}
-use Rattle.cose_msg.specs.Status.{status_at, status_of}
+use Rattle.cose_msg.specs.Status.{status_at, status_in, status_left, status_of, status_of_answer}
 use Rattle.cose_msg.specs.Task.{Task, rules_of}
 use Rattle.cose_msg.specs.Verifier.{HoldsIn, Known, StandsFor, left_in}
-use Rattle.cose_msg.proofs.Runs.{without_more}
+use Rattle.cose_msg.proofs.Runs.{IsKept, kept_by, without_more}
 
 open_status : (reading : Reading) → reading.settled ≡ false → More ≡ status_of reading
 open_status reading e = rw e refl
@@ -45,3 +46,27 @@ status_reads {H} {D} {task} {s} {B} {v} {said} h same is = sym is ∙ same ∙ a
 pub wants_and_goes_on : (stopped : Bool) (wanted said : ℕ) → said ≡ cond stopped 0 wanted → (said ≡ 0 → ⊥) → stopped ≡ false
 wants_and_goes_on true wanted said e some = absurd (some e)
 wants_and_goes_on false wanted said e some = refl
+
+-- Of a settled message it is that of its answer.
+pub settled_status : (reading : Reading) (said : Status) → said ≡ status_of reading → reading.settled ≡ true → said ≡ status_of_answer reading.answer
+settled_status reading said e done = e ∙ rw done refl
+
+pub status_going : {H D : ℕ} (v : Verifier H D) (said : Status) → v.stopped ≡ false → status_at v.phase ≡ said → status_in v ≡ said
+status_going v said goes_on e = rw goes_on e
+
+-- ---- what a run leaves
+
+pub left_by_kept : {A : Type 0} {H D : ℕ} {task : Task} {s B : List ℕ} {v : Verifier H D} (answer : Option A) (result : Result A Stop) → HasTaken task s B v → status_at v.phase ≡ status_of (message (rules_of H D task) (s ++ [])) → (message (rules_of H D task) (s ++ [])).settled ≡ true →
+    answer_kept v.stopped answer ≡ Some result → status_in v ≡ status_left result (message (rules_of H D task) s)
+left_by_kept {A} {H} {D} {task} {s} {B} {v} answer result h same done kept =
+    let going : answer_kept false answer ≡ Some result = rw h.goes_on at kept in
+    let k : IsKept answer result = kept_by answer result going in
+    let reads = without_more H D task s in
+    let said : status_in v ≡ status_of_answer (message (rules_of H D task) s).answer = status_going v _ h.goes_on (settled_status (message (rules_of H D task) (s ++ [])) _ same done) ∙ ap (λ (r : Reading). status_of_answer r.answer) reads in
+    rw k.result_is said
+
+pub left_by_answer : {H D : ℕ} (task : Task) (bytes : List ℕ) (v : Verifier H D) → status_in v ≡ status_of_answer (message (rules_of H D task) (bytes ++ [])).answer → status_in v ≡ status_of_answer (message (rules_of H D task) bytes).answer
+left_by_answer {H} {D} task bytes v e = e ∙ ap (λ (r : Reading). status_of_answer r.answer) (without_more H D task bytes)
+
+pub left_by_stop : {H D : ℕ} (v : Verifier H D) → v.stopped ≡ true → status_in v ≡ Stopped
+left_by_stop v e = rw e refl

@@ -1,10 +1,11 @@
 -- Where a message stands that is fed to a verifier.
-use Rattle.std.specs.Prelude.{ℕ, Bool, true, false, if◌then◌else◌}
+use Rattle.std.specs.Prelude.{ℕ, Bool, true, false, Result, Ok, Err, if◌then◌else◌}
 use Rattle.cose_msg.specs.declared.phase.Phase.{Phase}
 use Rattle.cose_msg.specs.declared.phase.Phase.TheVariants as phases
 use Rattle.cose_msg.specs.declared.status.Status.{Status}
 use Rattle.cose_msg.specs.declared.status.Status.TheVariants.{More, Complete, Stopped}
 use Rattle.cose_msg.specs.declared.status.Status.TheVariants as statuses
+use Rattle.cose_msg.specs.declared.verdict.Stop.{Stop}
 use Rattle.cose_msg.specs.declared.verdict.Verdict.{Verdict}
 use Rattle.cose_msg.specs.declared.verdict.Verdict.TheVariants.{Authentic, Refused}
 use Rattle.cose_msg.specs.declared.verifier.Verifier.{Verifier}
@@ -35,6 +36,12 @@ is_more _ = false
 abbrev pub is_complete : Status → Bool
 is_complete Complete = true
 is_complete _ = false
+
+-- After a run over an intake: what the bytes taken come to, which is Truncated where they haven't settled the message. A verifier
+-- that stopped is Stopped.
+abbrev pub status_left : {A : Type 0} → Result A Stop → Reading → Status
+status_left (Ok answer) reading = status_of_answer reading.answer
+status_left (Err stop) reading = Stopped
 
 -- ---- of a verifier
 

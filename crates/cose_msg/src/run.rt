@@ -9,7 +9,8 @@ ghost use Rattle.cose_msg.specs.Kept.{HasTaken, answered_again, bytes_taken, is_
 ghost use Rattle.cose_msg.specs.Message.{Setting, inspecting, message, verdict_of, verifying};
 ghost use Rattle.cose_msg.specs.Run.{Drive, Run, inspection, stop_in, stops_for_intake, stops_for_sink};
 ghost use Rattle.cose_msg.specs.Shown.{Tells, held};
-ghost use Rattle.cose_msg.specs.Task.{Task, to_inspect, to_verify};
+ghost use Rattle.cose_msg.specs.Status.{status_in, status_left};
+ghost use Rattle.cose_msg.specs.Task.{Task, rules_of, to_inspect, to_verify};
 ghost use Rattle.cose_msg.specs.Verifier.{opened};
 
 use crate::elliptic::EcVerifier;
@@ -96,11 +97,14 @@ pub fn verify<
     requires some { 1 ≤ C }
     requires limit { C ≤ 65536 }
     requires verifies { is_inspecting verifier.old ≡ false }
-    // What was taken, what came of it, what the sink got, and what the verifier tells.
+    // What was taken, what came of it, what the sink got, what the verifier tells, and where the message stands.
     ensures run { (setting : Setting) (s B : List ℕ) → HasTaken (to_verify setting) s B verifier.old →
         (taken : List ℕ) × Run (verifying H D setting (E.decides ec.now)) decided s B (I.to_come intake.old) (I.to_come intake.new) (I.ended intake.new)
         (S.contents sink.old) (S.contents sink.new) result taken
-        × (bytes_taken verifier.new ≡ length (s ++ taken)) × Tells (to_verify setting) (s ++ taken) verifier.new }
+        × (bytes_taken verifier.new ≡ length (s ++ taken)) × Tells (to_verify setting) (s ++ taken) verifier.new
+        × (status_in verifier.new ≡ status_left result (message (rules_of H D (to_verify setting)) (s ++ taken))) }
+    // (The payload so far, before the call, is that of the bytes so far.)
+    ensures before { (setting : Setting) (s B : List ℕ) → HasTaken (to_verify setting) s B verifier.old → (message (rules_of H D (to_verify setting)) s).told.payload ≡ B }
     // Where the intake tells its bytes, the verdict is that of all of them.
     ensures answer { (setting : Setting) (s B bytes : List ℕ) → HasTaken (to_verify setting) s B verifier.old → I.to_come intake.old ≡ Some bytes →
         IfOk result (λ verdict. verdict_of H D setting (E.decides ec.now) (s ++ bytes) ≡ decided verdict) }
@@ -149,11 +153,14 @@ pub fn inspect<'k, const C: usize, const H: usize, const D: usize, I: Intake, S:
     requires some { 1 ≤ C }
     requires limit { C ≤ 65536 }
     requires inspects { is_inspecting verifier.old ≡ true }
-    // What was taken, what came of it, what the sink got, and what the verifier tells.
+    // What was taken, what came of it, what the sink got, what the verifier tells, and where the message stands.
     ensures run { (setting : Setting) (s B : List ℕ) → HasTaken (to_inspect setting) s B verifier.old →
         (taken : List ℕ) × Run (inspecting H D setting) inspection s B (I.to_come intake.old) (I.to_come intake.new) (I.ended intake.new)
         (S.contents sink.old) (S.contents sink.new) result taken
-        × (bytes_taken verifier.new ≡ length (s ++ taken)) × Tells (to_inspect setting) (s ++ taken) verifier.new }
+        × (bytes_taken verifier.new ≡ length (s ++ taken)) × Tells (to_inspect setting) (s ++ taken) verifier.new
+        × (status_in verifier.new ≡ status_left result (message (rules_of H D (to_inspect setting)) (s ++ taken))) }
+    // (The payload so far, before the call, is that of the bytes so far.)
+    ensures before { (setting : Setting) (s B : List ℕ) → HasTaken (to_inspect setting) s B verifier.old → (message (rules_of H D (to_inspect setting)) s).told.payload ≡ B }
     // Where the intake tells its bytes, the answer is that of all of them.
     ensures answer { (setting : Setting) (s B bytes : List ℕ) → HasTaken (to_inspect setting) s B verifier.old → I.to_come intake.old ≡ Some bytes →
         IfOk result (λ inspected. (message (inspecting H D setting) (s ++ bytes)).answer ≡ inspection inspected) }

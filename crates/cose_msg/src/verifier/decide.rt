@@ -38,7 +38,7 @@ impl<'k, const H: usize, const D: usize> Verifier<'k, H, D> {
     ghost use Rattle.cose_msg.specs.Run.{SaysCount, inspection};
     ghost use Rattle.cose_msg.specs.Shown.{held, shown_in, shown_of, sign_input_of};
     ghost use Rattle.cose_msg.specs.declared.status.Status.{Status};
-    ghost use Rattle.cose_msg.specs.Status.{status_at, status_of};
+    ghost use Rattle.cose_msg.specs.Status.{status_at, status_in, status_of, status_of_answer};
     ghost use Rattle.cose_msg.specs.Task.{Task, to_inspect, to_verify};
     ghost use Rattle.cose_msg.specs.Verifier.{Counts, StandsFor, opened};
 
@@ -232,6 +232,8 @@ impl<'k, const H: usize, const D: usize> Verifier<'k, H, D> {
             → then_verified setting.aad (E.decides ec.now) (reading []).answer ≡ decided result }
         ensures counted { (setting : Setting) (B : List ℕ) (reading : List ℕ → Reading) → StandsFor (to_verify setting) B self.old.taken self.old reading
             → Counts result self.old.taken }
+        ensures status { (setting : Setting) (B : List ℕ) (reading : List ℕ → Reading) → StandsFor (to_verify setting) B self.old.taken self.old reading
+            → self.old.stopped ≡ false → status_in self.new ≡ status_of_answer (reading []).answer }
     {
         self.waits();
         if let Some(verdict) = self.known_verdict() {
@@ -261,6 +263,8 @@ impl<'k, const H: usize, const D: usize> Verifier<'k, H, D> {
             → (reading []).answer ≡ inspection result }
         ensures counted { (setting : Setting) (B : List ℕ) (reading : List ℕ → Reading) → StandsFor (to_inspect setting) B self.old.taken self.old reading
             → SaysCount (inspection result) self.old.taken }
+        ensures status { (setting : Setting) (B : List ℕ) (reading : List ℕ → Reading) → StandsFor (to_inspect setting) B self.old.taken self.old reading
+            → self.old.stopped ≡ false → status_in self.new ≡ status_of_answer (reading []).answer }
     {
         self.waits();
         match self.inspected() {

@@ -1,11 +1,14 @@
-use Rattle.std.proofs.Common.{rules, ◌≡◌, ℕ, true, false, None, sym, ap, refl, subst, ◌∙◌}
+use Rattle.std.proofs.Common.{rules, ◌≡◌, ℕ, true, false, [], None, sym, ap, refl, subst, ◌∙◌}
 use Rattle.cose_msg.specs.Kept.{verdict_in}
 use Rattle.cose_msg.specs.Laws.{then_verified}
-use Rattle.cose_msg.specs.Phase.{awaits_decision}
+use Rattle.cose_msg.specs.declared.status.Status.TheVariants.{Complete}
+use Rattle.cose_msg.specs.Phase.{awaits_decision, is_settled}
 use Rattle.cose_msg.specs.Shown.{sign_input_of}
+use Rattle.cose_msg.specs.Status.{status_at, status_of}
 use Rattle.cose_msg.specs.Task.{to_verify}
 use Rattle.cose_msg.specs.Verifier.{Counts}
 use Rattle.cose_msg.proofs.Decisions.{signed_count, stands_with_verdict, stands_without_verdict}
+use Rattle.cose_msg.proofs.Statuses.{settled_status, status_going}
 use Rattle.cose_msg.proofs.verifier.Verifier.conclude.Goals as goal
 
 pub returns-in-Some-clause-answer : goal.returns-in-Some-clause-answer
@@ -14,6 +17,17 @@ returns-in-Some-clause-answer g c = λ setting B reading h.
 
 pub returns-in-Some-clause-counted : goal.returns-in-Some-clause-counted
 returns-in-Some-clause-counted g c = λ setting B reading h. (stands_with_verdict c.in-Some.verdict h (sym c.known_verdict.ensures ∙ c.in-Some.is)).2
+
+pub returns-in-Some-clause-status : goal.returns-in-Some-clause-status
+returns-in-Some-clause-status g c = λ setting B reading h goes_on.
+    let settles = (stands_with_verdict c.in-Some.verdict h (sym c.known_verdict.ensures ∙ c.in-Some.is)).1 in
+    status_going c.args.self.now _ goes_on (settled_status (reading []) _ (c.waits.ensures.status (to_verify setting) B _ reading h) settles)
+
+pub returns-in-Signed-clause-status : goal.returns-in-Signed-clause-status
+returns-in-Signed-clause-status g c = λ setting B reading h goes_on.
+    let settles : (reading []).settled ≡ true = c.waits.ensures.settled (to_verify setting) B _ reading h ∙ ap is_settled c.in-Signed.is in
+    let complete : Complete ≡ status_of (reading []) = sym (ap status_at c.in-Signed.is) ∙ c.waits.ensures.status (to_verify setting) B _ reading h in
+    rw goes_on (settled_status (reading []) Complete complete settles)
 
 pub returns-in-Signed-clause-answer : goal.returns-in-Signed-clause-answer
 returns-in-Signed-clause-answer g c = λ setting B reading h. c.signed_verdict-verdict.ensures.answer (to_verify setting) B _ reading h
@@ -41,4 +55,5 @@ returns-in_default-phase g c =
       complete = λ awaits. let clash : false ≡ true = sym undecided ∙ awaits in absurd cc;
       answer = λ setting B reading h. rw (c.waits.ensures.truncated (to_verify setting) B _ reading h (stands_without_verdict h none undecided), same.same) refl;
       counted = λ setting B reading h. tt;
+      status = λ setting B reading h goes_on. rw (same.phase, same.stopped, goes_on, c.waits.ensures.truncated (to_verify setting) B _ reading h (stands_without_verdict h none undecided), same.same) refl;
     }

@@ -1,8 +1,9 @@
-use Rattle.std.proofs.Common.{◌≡◌, None, Some, ◌∙◌, sym, refl}
+use Rattle.std.proofs.Common.{◌≡◌, [], None, Some, ◌∙◌, sym, refl}
 use Rattle.cose_msg.specs.Kept.{inspected_in}
 use Rattle.cose_msg.specs.Shown.{held_input}
 use Rattle.cose_msg.specs.Task.{to_inspect}
 use Rattle.cose_msg.proofs.Decisions.{open_shows_no_input, stands_inspected, stands_without_shape}
+use Rattle.cose_msg.proofs.Statuses.{settled_status, status_going}
 use Rattle.cose_msg.proofs.verifier.Verifier.conclude_inspection.Goals as goal
 
 pub returns-in-Some : goal.returns-in-Some
@@ -17,6 +18,7 @@ returns-in-Some g c =
       opened = refl;
       answer = λ setting B reading h. (stands_inspected c.in-Some.inspected h is).0;
       counted = λ setting B reading h. (stands_inspected c.in-Some.inspected h is).2;
+      status = λ setting B reading h goes_on. status_going c.args.self.now _ goes_on (settled_status (reading []) _ (c.waits.ensures.status (to_inspect setting) B _ reading h) (stands_inspected c.in-Some.inspected h is).1);
     }
 
 pub returns-in-None : goal.returns-in-None
@@ -32,4 +34,5 @@ returns-in-None g c =
       opened = same.opened;
       answer = λ setting B reading h. rw (c.waits.ensures.truncated (to_inspect setting) B _ reading h (stands_without_shape h none), same.same) refl;
       counted = λ setting B reading h. tt;
+      status = λ setting B reading h goes_on. rw (same.phase, same.stopped, goes_on, c.waits.ensures.truncated (to_inspect setting) B _ reading h (stands_without_shape h none), same.same) refl;
     }
