@@ -3,7 +3,7 @@
 
 ghost use Rattle.std.specs.Prelude.{◌≡◌, ◌≢◌};
 
-use cose_head::Refusal;
+use cose_msg::Refusal;
 use hex::FromHexError;
 use std::alloc::AllocError;
 use thiserror::Error;
