@@ -180,7 +180,7 @@ fn hands_out_claims_that_are_admitted(rt: HostRuntime) -> Result<(), Fail> {
     Ok(())
 }
 
-/// A device's end of a line, with a buffer of seven bytes that is emptied at each interrupt.
+/// The device's side of a serial line, with a buffer of seven bytes that is emptied at each interrupt.
 trait Port {
     /// Gives the bytes that came since the last interrupt, and says how many these are: 0 where the line is closed.
     fn interrupt(&mut self, buffer: &mut [u8; 7]) -> usize;
