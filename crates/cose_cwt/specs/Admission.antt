@@ -1,4 +1,5 @@
--- Whether claims are admitted: three rules over whole numbers (RFC 8392 sections 3.1.3 to 3.1.5, RFC 7519 sections 4.1.3 to 4.1.5).
+-- Whether claims are admitted: exp and nbf over whole numbers, then the audience (RFC 8392 sections 3.1.3 to 3.1.5, RFC 7519
+-- sections 4.1.3 to 4.1.5).
 pub mod View
 use Rattle.std.specs.Prelude.{ℕ, ℤ, pos, ◌+ℤ◌, int_le, int_lt, Bool, false, not, List, Option, Some, None, Ok, if◌then◌else◌, bytes_eq}
 use Rattle.std.specs.List.{list_any}

@@ -175,7 +175,7 @@ pub(crate) fn item_at(bytes: &[u8], room: usize, place: u64, depth: usize) -> Re
 /// (RFC 8949 section 3). Bytes may follow it.
 ///
 /// The refusal is the first fault from the left: [`Reason::PastRoom`], [`Reason::Truncated`], [`Reason::Reserved`],
-/// [`Reason::Indefinite`], [`Reason::BadSimple`] or [`Reason::TooDeep`], with its place in `bytes`. No memory is taken.
+/// [`Reason::Indefinite`], [`Reason::BadSimple`] or [`Reason::TooDeep`], with its place in `bytes`. No memory is allocated.
 pub fn read_item(bytes: &[u8], room: usize, depth: usize) -> Result<Span, Refusal>
     requires { depth ≤ 32 }
     // An `Ok` spans exactly the bytes that spell an item.

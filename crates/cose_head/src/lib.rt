@@ -1,8 +1,12 @@
 //! Heads and items of CBOR (RFC 8949), and the reasons for which COSE messages are refused.
 //!
-//! [`ItemRef::read`] reads bytes that are exactly one item, whose first byte stands at a place of the caller's. [`Items`]
-//! gives the children of an array or a map, [`ItemRef::as_tag`] what a CBOR tag encloses. [`Walker`] reads an item whose
-//! bytes come one by one. [`parse_head`] and [`write_head`] are for heads that stand outside an item. No memory is taken.
+//! [`ItemRef::read`] reads bytes that are exactly one item, whose first byte stands at a place of the caller's. Its getters,
+//! as [`ItemRef::as_int`] and [`ItemRef::is_map`], say what the item is. [`Items`] gives the children of an array or a map,
+//! [`ItemRef::as_tag`] what a CBOR tag encloses. [`read_item`] finds the length and nesting of the item that bytes begin with
+//! (a [`Span`]). [`Walker`] reads an item whose bytes come one by one, and answers by a [`Step`]. [`parse_head`], by a
+//! [`HeadStep`], and [`write_head`] are for a [`Head`] that stands outside an item. No memory is allocated.
+//!
+//! [`Alg`] is the table of algorithms: the [`Kind`] of message of each, its [`Hash`], and the [`KeyType`] of its keys.
 //!
 //! ```
 //! // A map of one pair, {1: 5}, whose first byte stands at place 3 of a message.

@@ -12,7 +12,7 @@ use cose_head::Alg;
 
 /// A MAC or a digest of a message that comes in pieces.
 ///
-/// It is no `Debug`, so that no log shows what is derived from the key.
+/// It has no `Debug`, so that no log shows what is derived from the key.
 #[derive(Drop)]
 pub struct Running {
     alg: Alg,

@@ -48,7 +48,8 @@ pub fn refusals_have_their_reasons()
     whole_is_one_item();
 }
 
-/// None of these refusals is `Truncated`: bytes that end too early for what stands in them are `PastRoom`.
+/// No refusal of a bucket, a key, a key set, two buckets or the choice is `Truncated`: bytes that end too early for what stands
+/// in them are `PastRoom`.
 pub fn refusals_are_not_truncated()
     ensures bucket { BucketIsNotTruncated }
     ensures key { KeyIsNotTruncated }
@@ -60,8 +61,9 @@ pub fn refusals_are_not_truncated()
     whole_is_one_item();
 }
 
-/// Bytes are accepted as one item exactly where they spell a tree of the grammar (RFC 8949 section 3), and the pairs of a
-/// map, a bucket or a key that was read are the labels and values of its tree, in their order and none left out.
+/// Bytes are accepted as one item exactly where they spell a tree of the grammar (RFC 8949 section 3) within the nesting
+/// that is allowed, and the pairs of a map, a bucket or a key that was read are the labels and values of its tree, in their
+/// order and none left out. A bucket of no bytes has none.
 pub fn maps_are_of_trees()
     ensures item { ItemIsTree }
     ensures map { MapIsOfTree }

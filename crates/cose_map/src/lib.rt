@@ -26,6 +26,9 @@
 //! }
 //! ```
 //!
+//! The labels that RFC 9052 section 3.1 defines stand in [`header`]. [`read_map`] and [`check_map`] read any map with a table of
+//! value forms, a [`Form`], into its [`Pairs`]. [`KeySet::of_key`] is the set of one key that stands in another item.
+//!
 //! A fault is what is wrong with some bytes, at a place. A refusal is how a call answers: it names one fault, the first
 //! or the least, by its reason and place.
 #![tactic(auto)]

@@ -103,7 +103,8 @@ pub fn authentication_decides()
 }
 
 /// What is made is authentic, whatever bytes follow it: for whoever wants a COSE_Mac0 (RFC 9052 section 6.2) or any tagged message,
-/// has the same external data, and one key that fits, with the same secret, and has room for the unprotected header and the payload.
+/// allows a nesting of at least 1, and has the same external data, one key that fits, with the same secret, and room for the
+/// unprotected header and the payload.
 pub fn made_is_authentic()
     ensures authentic { MadeIsAuthentic }
 {

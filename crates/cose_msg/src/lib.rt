@@ -25,15 +25,19 @@
 //! ```
 //!
 //! A COSE_Sign1 is authentic where the [`EcVerifier`] that is handed in says so, asked with the key, the digest of the
-//! structure that is signed and the signature; [`Never`] refuses all. After a verdict, or a stop for a failure of the intake
-//! or the sink, the same is answered again until [`Verifier::reset`].
+//! structure that is signed and the signature; [`Never`] refuses all. Until [`Verifier::reset`] a verdict is answered again, and
+//! after a [`Stop`] for a failure of the intake or the sink [`Stop::Again`].
 //!
-//! [`inspect`] reads a message with a verifier that [`Verifier::inspecting`] made, and gives its shape: no key is chosen, and nothing
-//! is authenticated. What was read of the header buckets, and what a signature is verified with, a verifier tells after either call.
+//! A [`SliceIntake`] gives the bytes of a slice, a [`ReadIntake`] those of a reader. A [`Store`] holds the payload until
+//! [`Store::clear`], [`Nothing`] keeps none of it. An intake that fails says so by [`IntakeFault`], and a sink by [`SinkFault`].
 //!
-//! Where the bytes come by themselves, [`Verifier::feed`] takes them in pieces of any length, says which of them are of the payload,
-//! and gives the [`Status`] of the message. [`Verifier::end`] says that no byte follows, and [`Verifier::verdict`] decides once the
-//! message is complete. `verify` goes on where a verifier was fed before.
+//! [`inspect`] reads a message with a verifier that [`Verifier::inspecting`] made, and gives its shape ([`Inspected`]): no key is
+//! chosen, and nothing is authenticated. What was read of the header buckets a verifier tells after either call, and after [`verify`]
+//! what a signature is verified with.
+//!
+//! Where the bytes come by themselves, [`Verifier::feed`] takes them in pieces of any length, says which of them are of the payload
+//! ([`Fed`]), and gives the [`Status`] of the message. [`Verifier::end`] says that no byte follows, and [`Verifier::verdict`] decides
+//! once the message is complete. `verify` goes on where a verifier was fed before.
 //!
 //! ```rust
 //! let fed = verifier.feed(piece);
@@ -43,7 +47,7 @@
 //! }
 //! ```
 //!
-//! [`make_mac0`] makes a COSE_Mac0 of a payload whose length is known, in pieces too:
+//! [`make_mac0`] makes a COSE_Mac0 of a payload whose length is known, in pieces too, or says by a [`MakeFault`] why not:
 //!
 //! ```rust
 //! use cose_msg::{Alg, Key, SliceIntake, Store, make_mac0};

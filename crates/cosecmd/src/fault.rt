@@ -14,7 +14,7 @@ pub enum Fault {
     /// A request for memory was refused.
     #[error("fault memory")]
     Memory,
-    /// The word that follows this option is no hexadecimal.
+    /// The word that follows this option isn't hexadecimal, or is too long.
     #[error("fault line {0}")]
     Line(&'static str),
     /// The key set is refused. The place is in bytes from the first of the set.

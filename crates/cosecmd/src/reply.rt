@@ -6,11 +6,11 @@ ghost use Rattle.cosecmd.specs.Printed.{code_of};
 /// How a run ends.
 #[derive(Clone, Copy, Debug, PartialEq, Eq)]
 pub enum Status {
-    /// The message is authentic or made, a token is admitted, or help or the version was asked for.
+    /// The message is authentic, shown or made, or its digest is told, a token is admitted, or help or the version was asked for.
     Done,
     /// The message or the token is refused.
     Refused,
-    /// There is no verdict, and no whole message: the command line is wrong, the keys are refused, memory, input or output fails.
+    /// There is no answer, and no whole message: the command line is wrong, the keys are refused, memory, input or output fails.
     Fault,
 }
 

@@ -90,9 +90,9 @@ fn answer_make<R: Read, W: Write>(alloc: Global, words: &Make, input: &mut R, ou
 /// Runs the program: `words` are those of the command line, the first of them its name. The message, or the payload of
 /// which one is made, comes from `input`; every line goes to `output`, a fault's too, and so does a message that is made.
 ///
-/// The exit status is 0 for an authentic message, a token that is admitted and a message that is made (and for help and the
-/// version), 1 for a refused one, and 2 where there is no verdict and no whole message: the command line is wrong, the keys are
-/// refused, a request for memory is refused, or the input or the output fails.
+/// The exit status is 0 for a message that is authentic, shown or made, or whose digest is told, and for a token that is admitted
+/// (and for help and the version), 1 for a message or a token that is refused, and 2 where there is no answer and no whole message:
+/// the command line is wrong, the keys are refused, a request for memory is refused, or the input or the output fails.
 pub fn run<'a, R: Read, W: Write>(
     alloc: Global,
     words: &'a [&'a str],
