@@ -6,18 +6,20 @@ use Rattle.cose_head.specs.declared.refusal.Refusal.{Refusal}
 use Rattle.cose_map.specs.Laws.Inside.{RefusedBy}
 use Rattle.cose_map.specs.Map.Read.{Read}
 use Rattle.cose_msg.specs.declared.verdict.Stop.{Stop}
+use Rattle.cose_msg.specs.declared.verdict.Stop.TheVariants.{Again}
 use Rattle.cose_msg.specs.declared.verdict.Verdict.{Verdict}
 use Rattle.cose_msg.specs.declared.verdict.Verdict.TheVariants.{Authentic, Refused}
+use Rattle.cose_msg.specs.Kept.{answer_kept}
 use Rattle.cose_msg.specs.Laws.{MessageStays}
 use Rattle.cose_msg.specs.Message.{Decides, Setting, verifying}
 use Rattle.cose_msg.specs.Reading.{Reading}
 use Rattle.cose_msg.specs.Answer.{decided}
 use Rattle.cose_msg.specs.Rules.{Rules}
-use Rattle.cose_msg.specs.Run.{Run, stops_for_sink}
+use Rattle.cose_msg.specs.Run.{Run, is_intake_stop, is_sink_stop, stops_for_sink}
 use Rattle.cose_cwt.specs.declared.token.CwtStop.TheVariants as stops
 use Rattle.cose_cwt.specs.Admission.{PolicyValue, admitted_claims}
 use Rattle.cose_cwt.specs.Claims.{ClaimsValue}
-use Rattle.cose_cwt.specs.Token.{IsToken, Outcome, UnlessStopped, is_for_store, of_claims, read_as, stop_in, token_of}
+use Rattle.cose_cwt.specs.Token.{IsToken, Outcome, UnlessStopped, is_for_intake, is_for_store, of_claims, read_as, stop_in, token_of}
 
 -- what a store held before, and what it holds
 pub with_contents : (rules : Rules) (come come_after contents contents_after : Option (List ℕ)) (ended : Bool) (verdict : Result Verdict Stop) (taken payload : List ℕ) →
@@ -92,3 +94,24 @@ store_stop depth policy (Err stop) payload e = e
 pub store_suffices : (depth : ℕ) (policy : PolicyValue) (verdict : Result Verdict Stop) (payload : List ℕ) (outcome : Outcome) → outcome ≡ token_of depth policy verdict payload →
     stops_for_sink verdict ≡ false → is_for_store (stop_in outcome) ≡ false
 store_suffices depth policy verdict payload outcome comes e = ap (λ (o : Outcome). is_for_store (stop_in o)) comes ∙ store_stop depth policy verdict payload e
+
+-- A kept answer is a verdict, or that the verifier had stopped: no failure of this call.
+no_failure : (depth : ℕ) (policy : PolicyValue) (payload : List ℕ) (stopped : Bool) (verdict : Option Verdict) (answer : Result Verdict Stop) → answer_kept stopped verdict ≡ Some answer →
+    (is_for_intake (stop_in (token_of depth policy answer payload)) ≡ false) × (is_for_store (stop_in (token_of depth policy answer payload)) ≡ false)
+no_failure depth policy payload true verdict (Ok other) kept = absurd cc
+no_failure depth policy payload true verdict (Err stop) kept =
+    let same : Again ≡ stop = cc in
+    subst (λ (s : Stop). (is_intake_stop (Some s) ≡ false) × (is_sink_stop (Some s) ≡ false)) same (refl, refl)
+no_failure depth policy payload false None answer kept = absurd cc
+no_failure depth policy payload false (Some verdict) (Err stop) kept = absurd cc
+no_failure depth policy payload false (Some verdict) (Ok (Refused refusal)) kept = (refl, refl)
+no_failure depth policy payload false (Some verdict) (Ok (Authentic kind alg length taken)) kept =
+    let none = no_stop (admitted_claims depth policy payload) in
+    (ap is_for_intake none, ap is_for_store none)
+
+pub kept_is_no_failure : (depth : ℕ) (policy : PolicyValue) (payload : List ℕ) (stopped : Bool) (known : Option Verdict) (verdict answer : Result Verdict Stop) (outcome : Outcome) →
+    outcome ≡ token_of depth policy verdict payload → answer_kept stopped known ≡ Some answer → verdict ≡ answer →
+    (is_for_intake (stop_in outcome) ≡ false) × (is_for_store (stop_in outcome) ≡ false)
+kept_is_no_failure depth policy payload stopped known verdict answer outcome comes kept same =
+    let all : outcome ≡ token_of depth policy answer payload = comes ∙ ap (λ (a : Result Verdict Stop). token_of depth policy a payload) same in
+    subst (λ (o : Outcome). (is_for_intake (stop_in o) ≡ false) × (is_for_store (stop_in o) ≡ false)) (sym all) (no_failure depth policy payload stopped known answer kept)

@@ -1,5 +1,6 @@
 -- What a token comes to (RFC 8392 section 7.2): the verdict on the message, and then the claims of its payload.
-use Rattle.std.specs.Prelude.{◌≡◌, ℕ, Bool, false, List, [], length, Option, Some, None, Result, Ok, Err, ⊤}
+use Rattle.std.specs.Prelude.{◌≡◌, ◌≤◌, ℕ, Bool, List, [], length, Option, Some, None, Result, Ok, Err, ⊤}
+use Rattle.cose_head.specs.declared.refusal.Refusal.{Refusal}
 use Rattle.cose_map.specs.Map.Read.{Read}
 use Rattle.cose_msg.specs.declared.verdict.Stop.{Stop}
 use Rattle.cose_msg.specs.declared.verdict.Verdict.{Verdict}
@@ -10,6 +11,8 @@ use Rattle.cose_msg.specs.Kept.{answered_again, bytes_taken, kept_answer}
 use Rattle.cose_msg.specs.Message.{Decides, Setting, message, verdict_of, verifying}
 use Rattle.cose_msg.specs.Reading.{Reading}
 use Rattle.cose_msg.specs.Run.{Run, is_intake_stop, is_sink_stop}
+use Rattle.cose_msg.specs.Shown.{Tells}
+use Rattle.cose_msg.specs.Task.{to_verify}
 use Rattle.cose_cwt.specs.declared.claims.Claims.{Claims}
 use Rattle.cose_cwt.specs.declared.token.CwtStop.{CwtStop}
 use Rattle.cose_cwt.specs.declared.token.CwtStop.TheVariants as stops
@@ -51,16 +54,18 @@ UnlessStopped (Err (stops.Stopped stop)) says = ⊤
 UnlessStopped (Err (stops.Message refusal)) says = says
 UnlessStopped (Err (stops.Claims refusal)) says = says
 
--- What a call did: a verifier that had taken nothing has taken these bytes and keeps its verdict, the store has the payload
--- among them, and the outcome is what the token comes to.
+-- What a call did: a verifier that had taken nothing has taken these bytes, tells what they tell and keeps its verdict, the store
+-- has the payload among them, and the outcome is what the token comes to. A place of the claims is in the payload, or at its end.
 pub record IsRun {H D : ℕ} (setting : Setting) (decides : Decides) (policy : PolicyValue) (come come_after : Option (List ℕ)) (ended : Bool) (v : Verifier H D) (outcome : Outcome) : Type 0 where
   pub taken : List ℕ
   pub payload : List ℕ
   pub verdict : Result Verdict Stop
   pub run : Run (verifying H D setting decides) decided [] [] come come_after ended (Some []) (Some payload) verdict taken
   pub counted : bytes_taken v ≡ length taken
+  pub tells : Tells (to_verify setting) taken v
   pub kept : kept_answer v ≡ Some (answered_again verdict)
   pub comes : outcome ≡ token_of D policy verdict payload
+  pub within : (refusal : Refusal) → outcome ≡ Err (stops.Claims refusal) → refusal.place ≤ length payload
 
 -- Why a verifier stopped, if it did.
 abbrev pub stop_in : Outcome → Option Stop

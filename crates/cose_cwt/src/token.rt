@@ -96,7 +96,8 @@ pub fn verify_cwt<
     requires none_taken { bytes_taken verifier.old ≡ 0 }
     requires cwt { (setting_in verifier.old).cwt ≡ true }
     requires payload_limit { (setting_in verifier.old).payload_limit ≤ L }
-    // What was taken, the verdict that is kept, the payload that the store got, and what the token comes to by these.
+    // What was taken, what the verifier tells of it, the verdict that is kept, the payload that the store got, and what the token
+    // comes to by these.
     ensures run { (setting : Setting) → HasTaken (to_verify setting) [] [] verifier.old →
         IsRun setting (E.decides ec.now) (policy_value policy.entry.now) (I.to_come intake.old) (I.to_come intake.new) (I.ended intake.new) verifier.new (claims_seen result) }
     // Where the intake tells its bytes, it is what all of them come to.
@@ -108,12 +109,15 @@ pub fn verify_cwt<
     ensures stopped { (claims_seen result ≡ Err (CwtStop.Stopped Stop.Again)) ↔ (is_stopped verifier.old ≡ true) }
     ensures inspects { is_inspecting verifier.new ≡ false }
 
-    // A place of the claims is in the payload, or at its end.
+    // A place of the claims is within the store's length, whatever the verifier. In a run it is in the payload, or at its end.
     ensures within { (refusal : Refusal) → claims_seen result ≡ Err (CwtStop.Claims refusal) → refusal.place ≤ L }
 
     // It stops only for a failure of the intake in this call, and never for the store.
     ensures intake_failure { I.has_failed intake.new ≡ (I.has_failed intake.old || is_for_intake (stop_in (claims_seen result))) }
-    ensures store_suffices { (setting : Setting) → HasTaken (to_verify setting) [] [] verifier.old → is_for_store (stop_in (claims_seen result)) ≡ false }
+    ensures store_suffices { (setting : Setting) (s B : List ℕ) → HasTaken (to_verify setting) s B verifier.old → is_for_store (stop_in (claims_seen result)) ≡ false }
+    // Nor is a kept answer a failure of either.
+    ensures again_unfailed { (answer : Result Verdict Stop) → kept_answer verifier.old ≡ Some answer →
+        (is_for_intake (stop_in (claims_seen result)) ≡ false) × (is_for_store (stop_in (claims_seen result)) ≡ false) }
 {
     // That a verdict stays when bytes follow, and where claims are refused.
     settled_stays();
