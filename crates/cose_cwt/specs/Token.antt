@@ -12,7 +12,8 @@ use Rattle.cose_msg.specs.Message.{Decides, Setting, message, verdict_of, verify
 use Rattle.cose_msg.specs.Reading.{Reading}
 use Rattle.cose_msg.specs.Run.{Run, is_intake_stop, is_sink_stop}
 use Rattle.cose_msg.specs.Shown.{Tells}
-use Rattle.cose_msg.specs.Task.{to_verify}
+use Rattle.cose_msg.specs.Status.{status_in, status_left}
+use Rattle.cose_msg.specs.Task.{rules_of, to_verify}
 use Rattle.cose_cwt.specs.declared.claims.Claims.{Claims}
 use Rattle.cose_cwt.specs.declared.token.CwtStop.{CwtStop}
 use Rattle.cose_cwt.specs.declared.token.CwtStop.TheVariants as stops
@@ -54,8 +55,8 @@ UnlessStopped (Err (stops.Stopped stop)) says = ⊤
 UnlessStopped (Err (stops.Message refusal)) says = says
 UnlessStopped (Err (stops.Claims refusal)) says = says
 
--- What a call did: a verifier that had taken nothing has taken these bytes, tells what they tell and keeps its verdict, the store
--- has the payload among them, and the outcome is what the token comes to. A place of the claims is in the payload, or at its end.
+-- What a call did: a verifier that had taken nothing has taken these bytes, tells what they tell, stands where they leave the message
+-- and keeps its verdict, the store has the payload among them, and the outcome is what the token comes to. A place of the claims is in the payload, or at its end.
 pub record IsRun {H D : ℕ} (setting : Setting) (decides : Decides) (policy : PolicyValue) (come come_after : Option (List ℕ)) (ended : Bool) (v : Verifier H D) (outcome : Outcome) : Type 0 where
   pub taken : List ℕ
   pub payload : List ℕ
@@ -63,6 +64,7 @@ pub record IsRun {H D : ℕ} (setting : Setting) (decides : Decides) (policy : P
   pub run : Run (verifying H D setting decides) decided [] [] come come_after ended (Some []) (Some payload) verdict taken
   pub counted : bytes_taken v ≡ length taken
   pub tells : Tells (to_verify setting) taken v
+  pub stands : status_in v ≡ status_left verdict (message (rules_of H D (to_verify setting)) taken)
   pub kept : kept_answer v ≡ Some (answered_again verdict)
   pub comes : outcome ≡ token_of D policy verdict payload
   pub within : (refusal : Refusal) → outcome ≡ Err (stops.Claims refusal) → refusal.place ≤ length payload

@@ -13,6 +13,7 @@ returns-clause-run g c = λ setting h.
       run = with_contents _ _ _ _ _ _ _ _ _ c.clear.ensures.empty c.bytes.ensures.held r.1;
       counted = r.2;
       tells = r.3;
+      stands = r.4;
       kept = c.verify-verdict.ensures.kept;
       comes = c.claims_after.ensures;
       within = λ refusal e. token_placed _ _ _ _ _ refusal c.claims_after.ensures e (c.claims_refusals_stand_inside.ensures.admission _ _ _);
