@@ -112,10 +112,10 @@ pub fn verify_cwt<
     // A place of the claims is within the store's length, whatever the verifier. In a run it is in the payload, or at its end.
     ensures within { (refusal : Refusal) → claims_seen result ≡ Err (CwtStop.Claims refusal) → refusal.place ≤ L }
 
-    // It stops only for a failure of the intake in this call, and never for the store.
+    // It stops only for a failure of the intake in this call, and a verifier that stands for the bytes so far never for the store.
     ensures intake_failure { I.has_failed intake.new ≡ (I.has_failed intake.old || is_for_intake (stop_in (claims_seen result))) }
     ensures store_suffices { (setting : Setting) (s B : List ℕ) → HasTaken (to_verify setting) s B verifier.old → is_for_store (stop_in (claims_seen result)) ≡ false }
-    // Nor is a kept answer a failure of either.
+    // A kept answer is a failure of neither.
     ensures again_unfailed { (answer : Result Verdict Stop) → kept_answer verifier.old ≡ Some answer →
         (is_for_intake (stop_in (claims_seen result)) ≡ false) × (is_for_store (stop_in (claims_seen result)) ≡ false) }
 {
