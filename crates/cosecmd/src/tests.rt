@@ -20,9 +20,10 @@ mod using;
 ghost use Rattle.std.specs.Prelude.{◌≡◌, ◌≤◌, false, length};
 ghost use Rattle.cose_msg.specs.Kept.{is_inspecting};
 
-use cose_msg::{Context, KeySet, Verifier, Wanted};
+use cose_msg::{Alg, Context, KeySet, Kind, Reason, Refusal, Verdict, Verifier, Wanted};
 use sha2::{Digest, Sha256};
 use std::alloc::{AllocError, Global};
+use std::test::Fail;
 
 /// The key, `Jefe` (RFC 4231 section 4.3).
 const KEY: &[u8] = b"Jefe";
@@ -49,6 +50,14 @@ const SIGNED: &str = "d28443a10126a0405840";
 
 /// The Sig_structure of it (RFC 9052 section 4.4).
 const SIGNED_STRUCTURE: &str = "846a5369676e61747572653143a101264040";
+
+/// The coordinates of a point of P-256.
+const X: &str = "1111111111111111111111111111111111111111111111111111111111111111";
+
+const Y: &str = "2222222222222222222222222222222222222222222222222222222222222222";
+
+/// That y as a member of the key.
+const MEMBER_Y: &str = "58202222222222222222222222222222222222222222222222222222222222222222";
 
 /// The hash of a key's block, each byte of it changed by a pad (RFC 2104 section 2), for a key of at most 64 bytes.
 fn padded(key: &[u8], pad: u8) -> Sha256 {
@@ -133,8 +142,53 @@ fn message(alloc: Global) -> Result<Vec<u8>, AllocError> {
     joined(alloc, &[FRONT, PAYLOAD, &tag])
 }
 
-/// A point of P-256, by its coordinates in hexadecimal: x of 32 bytes 11, and y as a member of the key.
+/// The key of the point with that x, and y as a member of the key.
 fn point(alloc: Global, y: &str) -> Result<String, AllocError> {
-    let x = "1111111111111111111111111111111111111111111111111111111111111111";
-    format!(in alloc; "a401022001215820{x}22{y}")
+    format!(in alloc; "a401022001215820{X}22{y}")
+}
+
+/// The key set of the point with both coordinates.
+fn point_set(alloc: Global) -> Result<Vec<u8>, Fail> {
+    Ok(hex::decode(alloc, point(alloc, MEMBER_Y)?.as_str()).or(Err("no hexadecimal"))?)
+}
+
+/// A COSE_Sign1 of this front and this signature.
+fn signed(alloc: Global, front: &str, signature: &[u8]) -> Result<Vec<u8>, Fail> {
+    let mut bytes = hex::decode(alloc, front).or(Err("no hexadecimal"))?;
+    bytes.extend_from_slice(signature)?;
+    Ok(bytes)
+}
+
+/// The digest that the signature of the COSE_Sign1 without payload is of.
+fn signed_digest(alloc: Global) -> Result<[u8; 32], Fail> {
+    let structure = hex::decode(alloc, SIGNED_STRUCTURE).or(Err("no hexadecimal"))?;
+    Ok(Sha256::digest(structure.as_slice()))
+}
+
+/// The verdict on a COSE_Mac0 of the payload `hi` by HMAC 256/256, which took so many bytes.
+const fn authentic(taken: u64) -> Verdict {
+    Verdict::Authentic {
+        kind: Kind::Mac0,
+        alg: Alg::Hmac256,
+        payload: 2,
+        taken,
+    }
+}
+
+/// The verdict on a message that is refused.
+const fn refused(reason: Reason, place: u64) -> Verdict {
+    Verdict::Refused(Refusal { reason, place })
+}
+
+/// The verdict on the COSE_Sign1 without payload, where its signature holds and where it doesn't.
+const fn decision(holds: bool) -> Verdict {
+    if holds {
+        return Verdict::Authentic {
+            kind: Kind::Sign1,
+            alg: Alg::Es256,
+            payload: 0,
+            taken: 74,
+        };
+    }
+    refused(Reason::BadAuth, 8)
 }

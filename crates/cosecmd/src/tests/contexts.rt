@@ -1,30 +1,16 @@
 //! What the context of a message changes: the labels that are understood, the CWT tag, the limit of the payload.
 
 use crate::tests::feeding::feed_all;
-use crate::tests::{KEY, context, hmac, key_set};
+use crate::tests::{KEY, authentic, context, hmac, key_set, refused};
 use cose_msg::{
-    Alg, Context, KeySet, Kind, Label, Never, Reason, Refusal, SliceIntake, Status, Store, Verdict,
-    Verifier, Wanted, verify,
+    Context, KeySet, Label, Never, Reason, SliceIntake, Status, Store, Verdict, Verifier, Wanted,
+    verify,
 };
 use std::process::Abort;
 use std::test::Fail;
 
 /// A front whose protected header is {1: 5, 2: [42], 42: 0}.
 const CRITICAL: &str = "d1844aa301050281182a182a00a0";
-
-const fn refused(reason: Reason, place: u64) -> Verdict {
-    Verdict::Refused(Refusal { reason, place })
-}
-
-/// The payload `hi` is authentic.
-const fn authentic(taken: u64) -> Verdict {
-    Verdict::Authentic {
-        kind: Kind::Mac0,
-        alg: Alg::Hmac256,
-        payload: 2,
-        taken,
-    }
-}
 
 /// What messages are verified under by who understands these labels.
 fn knowing<'k>(keys: KeySet<'k>, understood: &'k [Label<'k>]) -> Context<'k> {

@@ -1,7 +1,7 @@
 //! Tokens that the program admits or refuses: the claims of RFC 8392, its example, and confirmations of RFC 8747.
 
 use crate::run::run;
-use crate::tests::{KEYS, point};
+use crate::tests::{KEYS, MEMBER_Y, X, Y, point};
 use sha2::{Digest, Sha256};
 use std::alloc::{AllocError, Global};
 use std::process::Abort;
@@ -216,21 +216,19 @@ fn prints_what_claims_say(rt: HostRuntime) -> Result<(), Fail> {
 #[test]
 fn prints_a_confirmed_key(rt: HostRuntime) -> Result<(), Fail> {
     let alloc = rt.alloc();
-    let x = "1111111111111111111111111111111111111111111111111111111111111111";
-    let y = "2222222222222222222222222222222222222222222222222222222222222222";
-    let whole = point(alloc, format!(in alloc; "5820{y}")?.as_str())?;
+    let whole = point(alloc, MEMBER_Y)?;
     let odd = point(alloc, "f5")?;
     let even = point(alloc, "f4")?;
     let rows: [(&str, &str, &str, &str); 4] = [
-        ("a108a101", &whole, y, ""),
+        ("a108a101", &whole, Y, ""),
         ("a108a101", &odd, "true", ""),
         ("a108a101", &even, "false", ""),
-        ("a108a203413101", &whole, y, "cnf kid 31\n"),
+        ("a108a203413101", &whole, Y, "cnf kid 31\n"),
     ];
     for (front, key, y, kid) in rows {
         let claims = bytes_of(alloc, format!(in alloc; "{front}{key}")?.as_str())?;
         let token = made(alloc, claims.as_slice())?;
-        let text = format!(in alloc; "admitted\ncnf key 1 {x} {y}\n{kid}")?;
+        let text = format!(in alloc; "admitted\ncnf key 1 {X} {y}\n{kid}")?;
         let options = ["--keys", KEYS, "--now", "0"];
         prints(&rt, options.as_slice(), token.as_slice(), text.as_str(), 0)?;
     }
@@ -327,8 +325,7 @@ fn vouches_for_a_signed_token(rt: HostRuntime) -> Result<(), Fail> {
         format!(in alloc; "d28443a10126a041a05840{signature}")?.as_str(),
     )?;
     let keys = point(alloc, "f5")?;
-    let x = "1111111111111111111111111111111111111111111111111111111111111111";
-    let word = format!(in alloc; "01{digest}{signature}{x}01")?;
+    let word = format!(in alloc; "01{digest}{signature}{X}01")?;
     let options = ["--keys", keys.as_str(), "--now", "0", "--vouch", &word];
     prints(&rt, options.as_slice(), token.as_slice(), "admitted\n", 0)?;
     let options = ["--keys", keys.as_str(), "--now", "0"];

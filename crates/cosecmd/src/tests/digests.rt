@@ -1,19 +1,11 @@
 //! What the program tells that a signature is verified with.
 
 use crate::run::run;
-use crate::tests::{KEYS, SIGNED, SIGNED_STRUCTURE, point};
+use crate::tests::{KEYS, MEMBER_Y, SIGNED, SIGNED_STRUCTURE, X, Y, point, signed};
 use sha2::{Digest, Sha256};
 use std::alloc::{AllocError, Global};
 use std::process::Abort;
 use std::test::Fail;
-
-/// The coordinates of that point.
-const X: &str = "1111111111111111111111111111111111111111111111111111111111111111";
-
-const Y: &str = "2222222222222222222222222222222222222222222222222222222222222222";
-
-/// That y as a member of the key.
-const MEMBER_Y: &str = "58202222222222222222222222222222222222222222222222222222222222222222";
 
 /// The same message without its tag, and behind the tag of a CWT too, up to the signature.
 const UNTAGGED: &str = "8443a10126a0405840";
@@ -42,19 +34,15 @@ fn prints(
     Ok(())
 }
 
-/// A COSE_Sign1 whose signature is 64 bytes 5a: this front, and then the signature.
-fn signed(alloc: Global, front: &str) -> Result<Vec<u8>, Fail> {
-    let mut bytes = hex::decode(alloc, front).or(Err("no hexadecimal"))?;
-    bytes.extend_from_slice(&[0x5a; 64])?;
-    Ok(bytes)
-}
+/// The signature.
+const SIGNATURE: &[u8] = &[0x5a; 64];
 
 /// The digest of a structure, and then the signature, in hexadecimal.
 fn digest_and_signature(alloc: Global, structure: &str) -> Result<String, Fail> {
     let structure = hex::decode(alloc, structure).or(Err("no hexadecimal"))?;
     let mut bytes = Vec::new(alloc);
     bytes.extend_from_slice(&Sha256::digest(structure.as_slice()))?;
-    bytes.extend_from_slice(&[0x5a; 64])?;
+    bytes.extend_from_slice(SIGNATURE)?;
     Ok(hex::encode(alloc, bytes.as_slice())?)
 }
 
@@ -70,7 +58,7 @@ fn tells(
 ) -> Result<(), Fail> {
     let alloc = rt.alloc();
     let keys = point(alloc, member)?;
-    let message = signed(alloc, front)?;
+    let message = signed(alloc, front, SIGNATURE)?;
     let asked = digest_and_signature(alloc, structure)?;
     let word = format!(in alloc; "01{asked}{X}{y}")?;
     let told = format!(in alloc; "vouch {word}\n")?;
@@ -147,8 +135,8 @@ fn tells_of_the_standards_example(rt: HostRuntime) -> Result<(), Fail> {
 fn tells_nothing_of_what_is_refused(rt: HostRuntime) -> Result<(), Fail> {
     let alloc = rt.alloc();
     let keys = point(alloc, MEMBER_Y)?;
-    let whole = signed(alloc, SIGNED)?;
-    let mut longer = signed(alloc, SIGNED)?;
+    let whole = signed(alloc, SIGNED, SIGNATURE)?;
+    let mut longer = signed(alloc, SIGNED, SIGNATURE)?;
     longer.push(0)?;
     let mac0 = hex::decode(alloc, "d18443a10105a0").or(Err("no hexadecimal"))?;
     let rows: [(&str, &[u8], &str); 6] = [

@@ -1,26 +1,15 @@
 //! Verdicts, and how many bytes they took.
 
-use crate::tests::{FRONT, KEY, STRUCTURE, cut, hmac, joined, key_set, message, verifier};
+use crate::tests::{
+    FRONT, KEY, STRUCTURE, authentic, cut, hmac, joined, key_set, message, refused, verifier,
+};
 use cose_msg::{
-    Alg, Intake, KeySet, Kind, Never, ReadIntake, Reason, Refusal, Sink, SliceIntake, Stop, Store,
-    Verdict, Wanted, verify,
+    Intake, KeySet, Never, ReadIntake, Reason, Sink, SliceIntake, Stop, Store, Verdict, Wanted,
+    verify,
 };
 use std::alloc::{AllocError, Global};
 use std::process::Abort;
 use std::test::Fail;
-
-const fn authentic(taken: u64) -> Verdict {
-    Verdict::Authentic {
-        kind: Kind::Mac0,
-        alg: Alg::Hmac256,
-        payload: 2,
-        taken,
-    }
-}
-
-const fn refused(reason: Reason, place: u64) -> Verdict {
-    Verdict::Refused(Refusal { reason, place })
-}
 
 /// What `verify` answers under these keys.
 fn verdict_of<I: Intake, S: Sink>(

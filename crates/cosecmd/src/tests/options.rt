@@ -2,9 +2,9 @@
 
 use crate::run::run;
 use crate::tests::{
-    FRONT, KEY, KEYS, PAYLOAD, SIGNED, SIGNED_STRUCTURE, hmac, joined, message, point,
+    FRONT, KEY, KEYS, MEMBER_Y, PAYLOAD, SIGNED, X, Y, hmac, joined, message, point, signed,
+    signed_digest,
 };
-use sha2::{Digest, Sha256};
 use std::alloc::{AllocError, Global};
 use std::process::Abort;
 use std::test::Fail;
@@ -108,23 +108,19 @@ fn wants_a_kind(rt: HostRuntime) -> Result<(), Fail> {
 #[test]
 fn vouches_for_a_signature(rt: HostRuntime) -> Result<(), Fail> {
     let alloc = rt.alloc();
-    let structure = hex::decode(alloc, SIGNED_STRUCTURE).or(Err("no hexadecimal"))?;
-    let digest = hex::encode(alloc, Sha256::digest(structure.as_slice()).as_slice())?;
-    let mut bytes = hex::decode(alloc, SIGNED).or(Err("no hexadecimal"))?;
-    bytes.extend_from_slice(&[0x5a; 64])?;
+    let digest = hex::encode(alloc, signed_digest(alloc)?.as_slice())?;
+    let bytes = signed(alloc, SIGNED, &[0x5a; 64])?;
     let signature = hex::encode(alloc, [0x5a; 64].as_slice())?;
-    let x = "1111111111111111111111111111111111111111111111111111111111111111";
-    let y = "2222222222222222222222222222222222222222222222222222222222222222";
-    let whole = point(alloc, format!(in alloc; "5820{y}")?.as_str())?;
+    let whole = point(alloc, MEMBER_Y)?;
     let odd = point(alloc, "f5")?;
     let even = point(alloc, "f4")?;
-    let word = format!(in alloc; "01{digest}{signature}{x}")?;
-    let word_y = format!(in alloc; "{word}{y}")?;
+    let word = format!(in alloc; "01{digest}{signature}{X}")?;
+    let word_y = format!(in alloc; "{word}{Y}")?;
     let word_odd = format!(in alloc; "{word}01")?;
     let word_even = format!(in alloc; "{word}00")?;
     let longer = format!(in alloc; "{word_y}00")?;
-    let curve = format!(in alloc; "02{digest}{signature}{x}{y}")?;
-    let swapped = format!(in alloc; "01{signature}{digest}{x}{y}")?;
+    let curve = format!(in alloc; "02{digest}{signature}{X}{Y}")?;
+    let swapped = format!(in alloc; "01{signature}{digest}{X}{Y}")?;
     let authentic = ("authentic sign1 alg -7 payload 0 taken 74\n", 0);
     let refused = ("refused BadAuth at 8\n", 1);
     let rows: [(&str, &str, (&str, u8)); 10] = [

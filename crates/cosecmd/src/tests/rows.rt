@@ -1,7 +1,7 @@
 //! Messages phase by phase: each refusal with its place and the bytes that were taken, and what is authentic in every cut.
 
 use crate::tests::feeding::feed_all;
-use crate::tests::{KEY, hmac, verifier};
+use crate::tests::{KEY, KEYS, hmac, refused, verifier};
 use cose_msg::{
     Alg, KeySet, Kind, Never, ReadIntake, Reason, Refusal, SliceIntake, Status, Store, Verdict,
     Wanted, verify,
@@ -10,10 +10,7 @@ use std::alloc::Global;
 use std::process::Abort;
 use std::test::Fail;
 
-/// The key `Jefe` alone.
-const PLAIN: &str = "a2010420444a656665";
-
-/// The same for HMAC 256/256 alone.
+/// The key `Jefe` for HMAC 256/256 alone.
 const FOR_5: &str = "a30104030520444a656665";
 
 /// The MAC_structure of the payload `hi` with the protected header {1: 5}, and with none (RFC 9052 section 6.3).
@@ -50,11 +47,7 @@ fn refuses(
         &Never,
     );
     let (reason, place, taken) = answer;
-    assert_eq!(rt;
-        verdict,
-        Ok(Verdict::Refused(Refusal { reason, place })),
-        "{bytes}"
-    );
+    assert_eq!(rt; verdict, Ok(refused(reason, place)), "{bytes}");
     assert_eq!(rt;
         message.len(),
         reader.len().saturating_add(taken),
@@ -90,7 +83,7 @@ fn refuses_what_stands_first(rt: HostRuntime) -> Result<(), Fail> {
         ("d18443a10105a04268", (Reason::Truncated, 9, 9)),
     ];
     for (bytes, answer) in rows {
-        refuses(&rt, PLAIN, bytes, answer)?;
+        refuses(&rt, KEYS, bytes, answer)?;
     }
     Ok(())
 }
@@ -122,7 +115,7 @@ fn refuses_headers(rt: HostRuntime) -> Result<(), Fail> {
         ("d18443a10105a20a000a", (Reason::Truncated, 10, 10)),
     ];
     for (bytes, answer) in rows {
-        refuses(&rt, PLAIN, bytes, answer)?;
+        refuses(&rt, KEYS, bytes, answer)?;
     }
     Ok(())
 }
@@ -130,9 +123,9 @@ fn refuses_headers(rt: HostRuntime) -> Result<(), Fail> {
 #[test]
 fn refuses_where_no_one_key_fits(rt: HostRuntime) -> Result<(), Fail> {
     let rows: [(&str, &str, (Reason, u64, usize)); 4] = [
-        (PLAIN, UNPROTECTED, (Reason::AlgUnprotected, 7, 7)),
-        (PLAIN, "d18442b800a1010542", (Reason::AlgUnprotected, 8, 8)),
-        (PLAIN, "d18440a042", (Reason::NoAlg, 4, 4)),
+        (KEYS, UNPROTECTED, (Reason::AlgUnprotected, 7, 7)),
+        (KEYS, "d18442b800a1010542", (Reason::AlgUnprotected, 8, 8)),
+        (KEYS, "d18440a042", (Reason::NoAlg, 4, 4)),
         (BOTH_FIT, WITH_KID, (Reason::AmbiguousKey, 10, 10)),
     ];
     for (keys, bytes, answer) in rows {
@@ -253,10 +246,10 @@ fn takes_heads_of_any_width(rt: HostRuntime) -> Result<(), Fail> {
     let wide = "db00000000000000119b00000000000000045b0000000000000003a10105a0\
         5b000000000000000268695b0000000000000020";
     let rows: [Row; 4] = [
-        tagged(PLAIN, "d18443a10105a04268695820", WITH_5, 44),
-        tagged(PLAIN, "d18443a10105a059000268695820", WITH_5, 46),
-        tagged(PLAIN, "d8118443a10105a04268695820", WITH_5, 45),
-        tagged(PLAIN, wide, WITH_5, 83),
+        tagged(KEYS, "d18443a10105a04268695820", WITH_5, 44),
+        tagged(KEYS, "d18443a10105a059000268695820", WITH_5, 46),
+        tagged(KEYS, "d8118443a10105a04268695820", WITH_5, 45),
+        tagged(KEYS, wide, WITH_5, 83),
     ];
     for row in rows {
         authenticates(&rt, row)?;
@@ -265,7 +258,7 @@ fn takes_heads_of_any_width(rt: HostRuntime) -> Result<(), Fail> {
         &rt,
         Row {
             wanted: Wanted::Mac0,
-            ..tagged(PLAIN, "8443a10105a04268695820", WITH_5, 43)
+            ..tagged(KEYS, "8443a10105a04268695820", WITH_5, 43)
         },
     )
 }
@@ -276,7 +269,7 @@ fn authenticates_by_the_headers(rt: HostRuntime) -> Result<(), Fail> {
         tagged(FOR_5, UNPROTECTED, WITH_NONE, 44),
         tagged(FOR_5, "d18442b800a101054268695820", WITH_NONE, 45),
         tagged(FOR_5, "d18440a04268695820", WITH_NONE, 41),
-        tagged(PLAIN, "d18443a10105a10a818181004268695820", WITH_5, 49),
+        tagged(KEYS, "d18443a10105a10a818181004268695820", WITH_5, 49),
     ];
     for row in rows {
         authenticates(&rt, row)?;
@@ -287,7 +280,7 @@ fn authenticates_by_the_headers(rt: HostRuntime) -> Result<(), Fail> {
             tag: 8,
             alg: Alg::Hmac64,
             ..tagged(
-                PLAIN,
+                KEYS,
                 "d18443a10104a042686948",
                 "84644d41433043a1010440426869",
                 19,
@@ -316,15 +309,12 @@ fn authenticates_under_the_one_key_that_fits(rt: HostRuntime) -> Result<(), Fail
 #[test]
 fn refuses_a_tag_of_another_key(rt: HostRuntime) -> Result<(), Fail> {
     // A key without an identifier fits every identifier.
-    let set = hex::decode(rt.alloc(), PLAIN).or(Err("no hexadecimal"))?;
+    let set = hex::decode(rt.alloc(), KEYS).or(Err("no hexadecimal"))?;
     let keys = KeySet::read(set.as_slice()).or(Err("no key set"))?;
     let structure = hex::decode(rt.alloc(), WITH_5).or(Err("no hexadecimal"))?;
     let mut message = hex::decode(rt.alloc(), WITH_KID).or(Err("no hexadecimal"))?;
     message.extend_from_slice(&hmac(b"a", structure.as_slice()))?;
-    let refused = Verdict::Refused(Refusal {
-        reason: Reason::BadAuth,
-        place: 13,
-    });
+    let bad_auth = refused(Reason::BadAuth, 13);
     for cut in [1usize, 2, 7, 64] {
         let mut verifier = verifier(keys, Wanted::Tagged);
         let mut intake = SliceIntake::new(message.as_slice(), cut.max(1));
@@ -335,7 +325,7 @@ fn refuses_a_tag_of_another_key(rt: HostRuntime) -> Result<(), Fail> {
             &mut store,
             &Never,
         );
-        assert_eq!(rt; verdict, Ok(refused), "in pieces of {cut}");
+        assert_eq!(rt; verdict, Ok(bad_auth), "in pieces of {cut}");
         assert_eq!(rt; verifier.taken(), 47, "in pieces of {cut}");
     }
     Ok(())

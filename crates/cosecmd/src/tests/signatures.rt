@@ -2,36 +2,16 @@
 
 use crate::tests::feeding::feed_all;
 use crate::tests::streams::Asked;
-use crate::tests::{SIGNED, SIGNED_STRUCTURE, counted, point, verifier};
-use cose_msg::{
-    Alg, KeySet, Kind, Reason, Refusal, SliceIntake, Status, Store, Verdict, Verifier, Wanted,
-    verify,
-};
-use sha2::{Digest, Sha256};
+use crate::tests::{SIGNED, counted, decision, point_set, signed, signed_digest, verifier};
+use cose_msg::{KeySet, SliceIntake, Status, Store, Verifier, Wanted, verify};
 use std::process::Abort;
 use std::test::Fail;
-
-/// The verdict where the signature holds, and where it doesn't.
-const fn verdict(holds: bool) -> Verdict {
-    if holds {
-        return Verdict::Authentic {
-            kind: Kind::Sign1,
-            alg: Alg::Es256,
-            payload: 0,
-            taken: 74,
-        };
-    }
-    Verdict::Refused(Refusal {
-        reason: Reason::BadAuth,
-        place: 8,
-    })
-}
 
 /// A complete message gets this verdict, and stays complete.
 fn decides(rt: &impl Abort, verifier: &mut Verifier<1024, 4>, asked: &Asked, holds: bool) {
     assert_eq!(rt; verifier.status(), Status::Complete);
     if verifier.is_complete() && !verifier.is_inspecting() {
-        assert_eq!(rt; verifier.verdict(asked), verdict(holds));
+        assert_eq!(rt; verifier.verdict(asked), decision(holds));
     }
     assert_eq!(rt; verifier.status(), Status::Complete);
 }
@@ -53,14 +33,11 @@ fn decides_fed(rt: &impl Abort, keys: KeySet, bytes: &[u8], cut: usize, asked: &
 #[test]
 fn asks_about_the_signature(rt: HostRuntime) -> Result<(), Fail> {
     let alloc = rt.alloc();
-    let y = "58202222222222222222222222222222222222222222222222222222222222222222";
-    let set = hex::decode(alloc, point(alloc, y)?.as_str()).or(Err("no hexadecimal"))?;
+    let set = point_set(alloc)?;
     let keys = KeySet::read(set.as_slice()).or(Err("no key set"))?;
-    let structure = hex::decode(alloc, SIGNED_STRUCTURE).or(Err("no hexadecimal"))?;
-    let digest = Sha256::digest(structure.as_slice());
+    let digest = signed_digest(alloc)?;
     let signature: [u8; 64] = counted();
-    let mut bytes = hex::decode(alloc, SIGNED).or(Err("no hexadecimal"))?;
-    bytes.extend_from_slice(&signature)?;
+    let mut bytes = signed(alloc, SIGNED, &signature)?;
     // A byte behind the message isn't taken.
     bytes.push(0xff)?;
     for says in [true, false] {
@@ -80,7 +57,7 @@ fn asks_about_the_signature(rt: HostRuntime) -> Result<(), Fail> {
                 &mut store,
                 &asked,
             );
-            assert_eq!(rt; answer, Ok(verdict(says)), "in pieces of {cut}");
+            assert_eq!(rt; answer, Ok(decision(says)), "in pieces of {cut}");
             assert_eq!(rt; verifier.taken(), 74, "in pieces of {cut}");
             decides_fed(&rt, keys, bytes.as_slice(), cut, &asked);
         }

@@ -4,20 +4,10 @@ ghost use Rattle.std.specs.Prelude.{◌≡◌, false};
 ghost use Rattle.cose_msg.specs.Kept.{is_inspecting};
 
 use crate::tests::streams::{FailingIntake, FailingSink};
-use crate::tests::{key_set, message, verifier};
-use cose_msg::{
-    Alg, Intake, Kind, Never, Sink, SliceIntake, Stop, Store, Verdict, Verifier, Wanted, verify,
-};
+use crate::tests::{authentic, key_set, message, verifier};
+use cose_msg::{Intake, Never, Sink, SliceIntake, Stop, Store, Verdict, Verifier, Wanted, verify};
 use std::process::Abort;
 use std::test::Fail;
-
-/// The verdict on the message.
-const AUTHENTIC: Verdict = Verdict::Authentic {
-    kind: Kind::Mac0,
-    alg: Alg::Hmac256,
-    payload: 2,
-    taken: 44,
-};
 
 /// What `verify` answers where it takes a byte at a time.
 fn answer<I: Intake, S: Sink>(
@@ -39,7 +29,7 @@ fn authenticates(rt: &impl Abort, verifier: &mut Verifier<1024, 4>, bytes: &[u8]
     let mut intake = SliceIntake::new(bytes, 64);
     let mut store = Store::<16>::new();
     let verdict = answer(verifier, &mut intake, &mut store);
-    assert_eq!(rt; verdict, Ok(AUTHENTIC));
+    assert_eq!(rt; verdict, Ok(authentic(44)));
     assert_eq!(rt; store.bytes(), b"hi".as_slice());
 }
 
@@ -61,7 +51,7 @@ fn stops_where_the_intake_fails(rt: HostRuntime) -> Result<(), Fail> {
     let mut verifier = verifier(keys, Wanted::Tagged);
     let mut intake = FailingIntake::new(bytes.as_slice(), 45);
     let verdict = answer(&mut verifier, &mut intake, &mut Store::<16>::new());
-    assert_eq!(rt; (verdict, intake.takes()), (Ok(AUTHENTIC), 44));
+    assert_eq!(rt; (verdict, intake.takes()), (Ok(authentic(44)), 44));
     Ok(())
 }
 
@@ -85,7 +75,7 @@ fn stops_where_the_sink_fails(rt: HostRuntime) -> Result<(), Fail> {
     let mut intake = SliceIntake::new(bytes.as_slice(), 64);
     let mut sink = FailingSink::<16>::new(3);
     let verdict = answer(&mut verifier, &mut intake, &mut sink);
-    assert_eq!(rt; (verdict, sink.puts()), (Ok(AUTHENTIC), 2));
+    assert_eq!(rt; (verdict, sink.puts()), (Ok(authentic(44)), 2));
     Ok(())
 }
 

@@ -7,7 +7,8 @@ ghost use Rattle.cose_msg.specs.Kept.{is_inspecting};
 use crate::tests::cwt::example;
 use crate::tests::streams::{Asked, FailingIntake};
 use crate::tests::{
-    KEY, KEY_SET, SIGNED, SIGNED_STRUCTURE, STRUCTURE, counted, cut, hmac, key_set, message, point,
+    KEY, KEY_SET, SIGNED, STRUCTURE, authentic, counted, cut, decision, hmac, key_set, message,
+    point_set, refused, signed, signed_digest,
 };
 use cose_cwt::{Audience, Claims, CwtStop, Policy, verify_cwt};
 use cose_mac::{Alg, Running, structure_front};
@@ -16,7 +17,6 @@ use cose_msg::{
     Context, EcVerifier, Intake, Never, Sink, SliceIntake, Status, Stop, Store, Verdict, Verifier,
     Wanted, verify,
 };
-use sha2::{Digest, Sha256};
 use std::mem::size_of;
 use std::process::Abort;
 use std::test::Fail;
@@ -254,17 +254,8 @@ fn hears<E: EcVerifier>(
 fn listens_to_a_line(rt: HostRuntime) -> Result<(), Fail> {
     let keys = key_set().ok_or("no keys")?;
     let bytes = message(rt.alloc())?;
-    let authentic = Verdict::Authentic {
-        kind: Kind::Mac0,
-        alg: Alg::Hmac256,
-        payload: 2,
-        taken: 44,
-    };
-    hears(&rt, keys, bytes.as_slice(), &Never, authentic, b"hi");
-    let truncated = Verdict::Refused(Refusal {
-        reason: Reason::Truncated,
-        place: 9,
-    });
+    hears(&rt, keys, bytes.as_slice(), &Never, authentic(44), b"hi");
+    let truncated = refused(Reason::Truncated, 9);
     let front = bytes.as_slice().get(..9).unwrap_or(&[]);
     hears(&rt, keys, front, &Never, truncated, b"h");
     Ok(())
@@ -273,31 +264,18 @@ fn listens_to_a_line(rt: HostRuntime) -> Result<(), Fail> {
 #[test]
 fn decides_on_a_signature_from_a_line(rt: HostRuntime) -> Result<(), Fail> {
     let alloc = rt.alloc();
-    let y = "58202222222222222222222222222222222222222222222222222222222222222222";
-    let set = hex::decode(alloc, point(alloc, y)?.as_str()).or(Err("no hexadecimal"))?;
+    let set = point_set(alloc)?;
     let keys = KeySet::read(set.as_slice()).or(Err("no key set"))?;
-    let structure = hex::decode(alloc, SIGNED_STRUCTURE).or(Err("no hexadecimal"))?;
-    let digest = Sha256::digest(structure.as_slice());
+    let digest = signed_digest(alloc)?;
     let signature: [u8; 64] = counted();
-    let mut bytes = hex::decode(alloc, SIGNED).or(Err("no hexadecimal"))?;
-    bytes.extend_from_slice(&signature)?;
+    let bytes = signed(alloc, SIGNED, &signature)?;
     let knows = Asked {
         digest: &digest,
         signature: &signature,
         says: true,
     };
-    let authentic = Verdict::Authentic {
-        kind: Kind::Sign1,
-        alg: Alg::Es256,
-        payload: 0,
-        taken: 74,
-    };
-    hears(&rt, keys, bytes.as_slice(), &knows, authentic, b"");
-    let refused = Verdict::Refused(Refusal {
-        reason: Reason::BadAuth,
-        place: 8,
-    });
-    hears(&rt, keys, bytes.as_slice(), &Never, refused, b"");
+    hears(&rt, keys, bytes.as_slice(), &knows, decision(true), b"");
+    hears(&rt, keys, bytes.as_slice(), &Never, decision(false), b"");
     Ok(())
 }
 
