@@ -46,6 +46,16 @@ pub(crate) fn mac0_and_more() -> [u8; 45] {
     bytes
 }
 
+/// The same with the key identifier `abcde` in the unprotected header, which the tag isn't of.
+pub(crate) fn mac0_with_kid() -> [u8; 51] {
+    let mut bytes = [0; 51];
+    let (front, rest) = MAC0.split_at(6);
+    bytes[..6].copy_from_slice(front);
+    bytes[6..14].copy_from_slice(b"\xa1\x04\x45abcde");
+    bytes[14..].copy_from_slice(&rest[1..]);
+    bytes
+}
+
 /// What is wanted under these keys, of a payload of at most so many bytes.
 pub(crate) fn context_of(keys: &'static [u8], payload_limit: u64) -> Option<Context<'static>>
     ensures { IfSome result (λ context. length context.aad.now ≤ 65535) }

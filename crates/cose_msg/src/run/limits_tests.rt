@@ -2,16 +2,31 @@
 
 ghost use Rattle.std.specs.Prelude.{◌≤◌, None, false};
 
-use crate::samples::{AUTHENTIC, MAC0, under_jefe};
-use crate::{Intake, IntakeFault, Never, Sink, SinkFault, Store, verify};
+use crate::samples::{AUTHENTIC, MAC0, mac0_with_kid, under_jefe};
+use crate::{
+    Alg, Intake, IntakeFault, Kind, Never, Nothing, Sink, SinkFault, Store, Verdict, verify,
+};
 use std::process::Abort;
 
-/// The bytes of a slice. It keeps how many were asked for at most.
+/// The bytes of a slice. It keeps how many were asked for at most, and the number of its calls.
 #[derive(Drop)]
 struct WatchedIntake<'a> {
     bytes: &'a [u8],
     most: usize,
+    takes: usize,
     ended: bool,
+}
+
+impl<'a> WatchedIntake<'a> {
+    /// An intake of these bytes.
+    fn new(bytes: &'a [u8]) -> Self {
+        WatchedIntake {
+            bytes,
+            most: 0,
+            takes: 0,
+            ended: false,
+        }
+    }
 }
 
 impl Intake for WatchedIntake<'_> {
@@ -23,6 +38,7 @@ impl Intake for WatchedIntake<'_> {
 
     fn take(&mut self, into: &mut [u8]) -> Result<usize, IntakeFault> {
         self.most = self.most.max(into.len());
+        self.takes = self.takes.saturating_add(1);
         let count = self.bytes.len().min(into.len());
         let (piece, rest) = self.bytes.split_at(count);
         into[..count].copy_from_slice(piece);
@@ -68,11 +84,7 @@ fn verifies_at<const C: usize, const H: usize, const D: usize>(rt: &impl Abort)
     let Some(mut verifier) = under_jefe::<H, D>() else {
         return;
     };
-    let mut intake = WatchedIntake {
-        bytes: MAC0,
-        most: 0,
-        ended: false,
-    };
+    let mut intake = WatchedIntake::new(MAC0);
     let mut sink = WatchedSink {
         store: Store::new(),
         most: 0,
@@ -96,4 +108,28 @@ fn verifies_at_the_limits(rt: HostRuntime) {
     verifies_at::<7, 16, 32>(&rt);
     verifies_at::<64, 65_535, 1>(&rt);
     verifies_at::<65_536, 65_535, 32>(&rt);
+}
+
+#[test]
+fn takes_a_string_of_the_unprotected_header_at_once(rt: HostRuntime) {
+    let Some(mut verifier) = under_jefe::<16, 1>() else {
+        return;
+    };
+    let message = mac0_with_kid();
+    let mut intake = WatchedIntake::new(&message);
+    let verdict = verify::<64, 16, 1, WatchedIntake, Nothing, Never>(
+        &mut verifier,
+        &mut intake,
+        &mut Nothing,
+        &Never,
+    );
+    let authentic = Verdict::Authentic {
+        kind: Kind::Mac0,
+        alg: Alg::Hmac256,
+        payload: 2,
+        taken: 51,
+    };
+    assert_eq!(rt; verdict, Ok(authentic));
+    // The heads have nine bytes, and four strings have the others.
+    assert_eq!(rt; intake.takes, 9 + 4);
 }

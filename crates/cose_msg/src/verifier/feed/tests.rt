@@ -1,9 +1,11 @@
 //! Pieces of messages that are fed, and what they come to.
 
-ghost use Rattle.std.specs.Prelude.{◌≤◌};
+ghost use Rattle.std.specs.Prelude.{◌≡◌, ◌≤◌, false};
+ghost use Rattle.cose_msg.specs.Kept.{is_inspecting};
 
 use crate::samples::{
-    AUTHENTIC, CURVE_KEY, FailingReader, JEFE, MAC0, SIGN1, context_of, mac0_and_more, under_jefe,
+    AUTHENTIC, CURVE_KEY, FailingReader, JEFE, MAC0, SIGN1, context_of, mac0_and_more,
+    mac0_with_kid, under_jefe,
 };
 use crate::{
     Alg, EcVerifier, Fed, Key, Kind, Never, Nothing, ReadIntake, Reason, Refusal, Sink,
@@ -95,6 +97,25 @@ fn wants_what_is_left_of_a_string(rt: HostRuntime) {
         assert_eq!(rt; fed.used, taken);
         assert_eq!(rt; verifier.want(), wanted, "after {taken} bytes");
     }
+}
+
+#[test]
+fn wants_what_is_left_of_an_unprotected_string(rt: HostRuntime) {
+    let Some(mut verifier) = under_jefe::<16, 1>() else {
+        return;
+    };
+    let message = mac0_with_kid();
+    assert_eq!(rt; verifier.feed(&message[..9]), more(9));
+    assert_eq!(rt; verifier.want(), 5);
+    assert_eq!(rt; verifier.feed(&message[9..10]), more(1));
+    assert_eq!(rt; verifier.want(), 4);
+    let rest = Fed {
+        payload_from: 5,
+        payload_to: 7,
+        ..complete(41)
+    };
+    assert_eq!(rt; verifier.feed(&message[10..]), rest);
+    assert_eq!(rt; verifier.taken(), 51);
 }
 
 /// Feeds a piece, and puts what it holds of the payload into a store.
@@ -303,6 +324,53 @@ fn decides_on_a_signature_once(rt: HostRuntime) {
         assert_eq!(rt; verdict, decision(holds));
         let fed = verifier.feed(SIGN1);
         assert_eq!(rt; fed, complete(0));
+    }
+}
+
+/// The verdict of `verify` on these bytes, where every signature holds or none does.
+fn verified(verifier: &mut Verifier<16, 1>, bytes: &[u8], holds: bool) -> Result<Verdict, Stop>
+    requires { is_inspecting verifier.old ≡ false }
+{
+    verify::<64, 16, 1, SliceIntake, Nothing, Says>(
+        verifier,
+        &mut SliceIntake::new(bytes, 64),
+        &mut Nothing,
+        &Says { holds },
+    )
+}
+
+#[test]
+fn is_complete_behind_a_signature_that_is_refused(rt: HostRuntime) {
+    let Some(context) = context_of(CURVE_KEY, 64) else {
+        return;
+    };
+    let mut verifier: Verifier<16, 1> = Verifier::new(context);
+    let verdict = verified(&mut verifier, SIGN1, false);
+    assert_eq!(rt; verdict, Ok(decision(false)));
+    assert_eq!(rt; verifier.status(), Status::Complete);
+}
+
+#[test]
+fn is_refused_behind_verify(rt: HostRuntime) {
+    let rows: [(&[u8], Reason, u64); 3] = [
+        // No key is chosen yet.
+        (b"\xd8\x62\x84", Reason::SeveralParties, 0),
+        (
+            b"\xd1\x84\x43\xa1\x01\x05\xa1\x40\x00\x00",
+            Reason::BadLabel,
+            7,
+        ),
+        (&MAC0[..43], Reason::Truncated, 43),
+    ];
+    for (bytes, reason, place) in rows {
+        let Some(mut verifier) = under_jefe::<16, 1>() else {
+            return;
+        };
+        let refusal = Refusal { reason, place };
+        let verdict = verified(&mut verifier, bytes, true);
+        assert_eq!(rt; verdict, Ok(Verdict::Refused(refusal)));
+        assert_eq!(rt; verifier.status(), Status::Refused(refusal));
+        assert_eq!(rt; verifier.is_complete(), false);
     }
 }
 
