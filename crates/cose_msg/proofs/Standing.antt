@@ -7,7 +7,7 @@ use Rattle.cose_msg.specs.declared.verifier.Verifier.{Verifier}
 use Rattle.cose_msg.specs.Reading.{Reading, Told}
 use Rattle.cose_head.specs.Head.{IsMore, bare_head}
 use Rattle.cose_msg.specs.Task.{Task}
-use Rattle.cose_msg.specs.Verifier.{HoldsIn, Known, Shows, StandsFor}
+use Rattle.cose_msg.specs.Verifier.{HoldsIn, Known, Shows, StandsFor, setting_of}
 
 -- Where nothing is known yet, anything will do.
 abbrev pub unknown : List ℕ → Known
@@ -75,3 +75,7 @@ took_piece v s piece grows used reading e h =
     let all : take used piece ≡ piece = ap (λ (n : ℕ). take n piece) e ∙ take-length piece in
     let count : length s + used ≡ length (s ++ piece) = omega (arith, e, length-append s piece) in
     moved v _ _ (ap grows all) count (λ z. ap reading (append_assoc s piece z ∙ ap (λ (t : List ℕ). s ++ (t ++ z)) (sym all))) h
+
+-- Its context is that of the task.
+pub stands_in : {H D : ℕ} {task : Task} {B : List ℕ} {n : ℕ} {v : Verifier H D} {reading : List ℕ → Reading} → StandsFor task B n v reading → setting_of v.context ≡ task.setting
+stands_in h = ap (λ (t : Task). t.setting) h.shows.0

@@ -5,7 +5,7 @@ ghost use Rattle.cose_msg.specs.declared.verdict.Inspected.{Inspected};
 ghost use Rattle.cose_msg.specs.declared.verdict.Stop.{Stop};
 ghost use Rattle.cose_msg.specs.declared.verdict.Verdict.{Verdict};
 ghost use Rattle.cose_msg.specs.Answer.{decided};
-ghost use Rattle.cose_msg.specs.Kept.{HasTaken, answered_again, bytes_taken, is_inspecting, is_stopped, kept_answer, kept_inspection};
+ghost use Rattle.cose_msg.specs.Kept.{HasTaken, answered_again, bytes_taken, is_inspecting, is_stopped, kept_answer, kept_inspection, setting_in};
 ghost use Rattle.cose_msg.specs.Message.{Setting, inspecting, message, verdict_of, verifying};
 ghost use Rattle.cose_msg.specs.Run.{Drive, Run, inspection, stop_in, stops_for_intake, stops_for_sink};
 ghost use Rattle.cose_msg.specs.Shown.{Tells, held};
@@ -37,6 +37,7 @@ fn take_message<'k, const C: usize, const H: usize, const D: usize, I: Intake, S
         (S.contents sink.old) (S.contents sink.new) (stop_in result) verifier.new }
     ensures stopped { is_stopped verifier.new ≡ is_err result }
     ensures inspects { is_inspecting verifier.new ≡ is_inspecting verifier.old }
+    ensures context { (task : Task) (s B : List ℕ) → HasTaken task s B verifier.old → setting_in verifier.new ≡ task.setting }
     ensures held { held verifier.new ≤ 2 * H + 512 }
     ensures opened { opened verifier.new ≤ D }
     ensures once { result ≢ Err Stop.Again }
@@ -115,6 +116,7 @@ pub fn verify<
         (result ≡ answer) × (verifier.new ≡ verifier.old) × (intake.new ≡ intake.old) × (sink.new ≡ sink.old) }
     ensures stopped { (result ≡ Err Stop.Again) ↔ (is_stopped verifier.old ≡ true) }
     ensures inspects { is_inspecting verifier.new ≡ false }
+    ensures context { (setting : Setting) (s B : List ℕ) → HasTaken (to_verify setting) s B verifier.old → setting_in verifier.new ≡ setting }
     // What it holds of the message is within a bound, besides the `C` bytes of the call, and so is what is open of it.
     ensures held { held verifier.new ≤ 2 * H + 512 }
     ensures opened { opened verifier.new ≤ D }
@@ -171,6 +173,7 @@ pub fn inspect<'k, const C: usize, const H: usize, const D: usize, I: Intake, S:
         (result ≡ answer) × (verifier.new ≡ verifier.old) × (intake.new ≡ intake.old) × (sink.new ≡ sink.old) }
     ensures stopped { (result ≡ Err Stop.Again) ↔ (is_stopped verifier.old ≡ true) }
     ensures inspects { is_inspecting verifier.new ≡ true }
+    ensures context { (setting : Setting) (s B : List ℕ) → HasTaken (to_inspect setting) s B verifier.old → setting_in verifier.new ≡ setting }
     // What it holds of the message is within a bound, besides the `C` bytes of the call, and so is what is open of it.
     ensures held { held verifier.new ≤ 2 * H + 512 }
     ensures opened { opened verifier.new ≤ D }

@@ -30,7 +30,7 @@ impl<'k, const H: usize, const D: usize> Verifier<'k, H, D> {
     ghost use Rattle.cose_msg.specs.declared.verifier.Chosen.{Chosen};
     ghost use Rattle.cose_msg.specs.Answer.{decided, refused};
     ghost use Rattle.cose_msg.specs.Hashing.{result_of};
-    ghost use Rattle.cose_msg.specs.Kept.{HasTaken, inspected_in, is_inspecting, kept_answer, kept_inspection, verdict_in};
+    ghost use Rattle.cose_msg.specs.Kept.{HasTaken, inspected_in, is_inspecting, kept_answer, kept_inspection, setting_in, verdict_in};
     ghost use Rattle.cose_msg.specs.Laws.{then_verified};
     ghost use Rattle.cose_msg.specs.Message.{Setting};
     ghost use Rattle.cose_msg.specs.Phase.{awaits_decision, grown, in_payload, is_settled, want_of};
@@ -162,6 +162,7 @@ impl<'k, const H: usize, const D: usize> Verifier<'k, H, D> {
         ensures held { held self.new ≡ held self.old }
         ensures opened { opened self.new ≡ opened self.old }
         ensures inspects { is_inspecting self.new ≡ is_inspecting self.old }
+        ensures context { setting_in self.new ≡ setting_in self.old }
     {
         self.stopped = true;
     }
@@ -173,6 +174,7 @@ impl<'k, const H: usize, const D: usize> Verifier<'k, H, D> {
         ensures stopped { self.new.stopped ≡ self.old.stopped }
         ensures taken { self.new.taken ≡ self.old.taken }
         ensures inspects { is_inspecting self.new ≡ is_inspecting self.old }
+        ensures context { setting_in self.new ≡ setting_in self.old }
         ensures shown { sign_input_of self.old ≡ None → shown_of self.new ≡ shown_of self.old }
         ensures held { held self.new ≡ held self.old }
         ensures opened { opened self.new ≡ opened self.old }
@@ -224,6 +226,7 @@ impl<'k, const H: usize, const D: usize> Verifier<'k, H, D> {
         ensures kept { kept_answer self.new ≡ answer_kept self.old.stopped (Some result) }
         ensures counts { self.new.taken ≡ self.old.taken }
         ensures inspects { is_inspecting self.new ≡ is_inspecting self.old }
+        ensures context { setting_in self.new ≡ setting_in self.old }
         ensures shown { shown_of self.new ≡ shown_of self.old }
         ensures held { held self.new ≡ held self.old }
         ensures opened { opened self.new ≡ opened self.old }
@@ -255,6 +258,7 @@ impl<'k, const H: usize, const D: usize> Verifier<'k, H, D> {
         ensures kept { kept_inspection self.new ≡ answer_kept self.old.stopped (Some result) }
         ensures counts { self.new.taken ≡ self.old.taken }
         ensures inspects { is_inspecting self.new ≡ is_inspecting self.old }
+        ensures context { setting_in self.new ≡ setting_in self.old }
         ensures shown { (setting : Setting) (B : List ℕ) (reading : List ℕ → Reading) → StandsFor (to_inspect setting) B self.old.taken self.old reading
             → shown_of self.new ≡ shown_of self.old }
         ensures held { held self.new ≡ held self.old }

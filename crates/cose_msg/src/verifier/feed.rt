@@ -37,7 +37,7 @@ impl<'k, const H: usize, const D: usize> Verifier<'k, H, D> {
     ghost use Rattle.cose_head.specs.declared.reason.Reason.{Reason};
     ghost use Rattle.cose_msg.specs.Answer.{decided};
     ghost use Rattle.cose_msg.specs.Feed.{Uses, nothing_used, payload_in};
-    ghost use Rattle.cose_msg.specs.Kept.{HasTaken, bytes_taken, is_inspecting, kept_answer};
+    ghost use Rattle.cose_msg.specs.Kept.{HasTaken, bytes_taken, is_inspecting, kept_answer, setting_in};
     ghost use Rattle.cose_msg.specs.Message.{Setting, message, verdict_of};
     ghost use Rattle.cose_msg.specs.Phase.{in_payload, is_settled, want_of};
     ghost use Rattle.cose_msg.specs.Shown.{Tells, held, shown_of};
@@ -132,6 +132,7 @@ impl<'k, const H: usize, const D: usize> Verifier<'k, H, D> {
         // Where no byte is wanted, nothing changes.
         ensures again { is_more (status_in self.old) ≡ false → (result ≡ nothing_used (status_in self.old)) × (self.new ≡ self.old) }
         ensures inspects { is_inspecting self.new ≡ is_inspecting self.old }
+        ensures context { (task : Task) (s B : List ℕ) → HasTaken task s B self.old → setting_in self.new ≡ task.setting }
         ensures held { held self.new ≤ 2 * H + 512 }
         ensures opened { opened self.new ≤ D }
     {
@@ -178,6 +179,7 @@ impl<'k, const H: usize, const D: usize> Verifier<'k, H, D> {
         ensures again { is_more (status_in self.old) ≡ false → (result ≡ status_in self.old) × (self.new ≡ self.old) }
         ensures counts { bytes_taken self.new ≡ bytes_taken self.old }
         ensures inspects { is_inspecting self.new ≡ is_inspecting self.old }
+        ensures context { setting_in self.new ≡ setting_in self.old }
         ensures shown { shown_of self.new ≡ shown_of self.old }
         ensures held { held self.new ≤ 2 * H + 512 }
         ensures opened { opened self.new ≤ D }
@@ -205,6 +207,7 @@ impl<'k, const H: usize, const D: usize> Verifier<'k, H, D> {
         ensures again { (verdict : Verdict) → kept_answer self.old ≡ Some (Ok verdict) → (result ≡ verdict) × (self.new ≡ self.old) }
         ensures counts { bytes_taken self.new ≡ bytes_taken self.old }
         ensures inspects { is_inspecting self.new ≡ false }
+        ensures context { setting_in self.new ≡ setting_in self.old }
         ensures shown { shown_of self.new ≡ shown_of self.old }
         ensures held { held self.new ≤ 2 * H + 512 }
         ensures opened { opened self.new ≤ D }

@@ -5,6 +5,7 @@ use Rattle.cose_msg.specs.Phase.{in_payload, want_of}
 use Rattle.cose_msg.specs.Task.{rules_of}
 use Rattle.cose_msg.proofs.PayloadLimit.{payload_within}
 use Rattle.cose_msg.proofs.Runs.{at_start, concluded, first_of, goes_on, is_done, marks_nothing, not_at_end, promise_kept, put_done, put_failed, sure_enough, settled_if_none_asked, stopped_by_intake, stopped_by_sink, take_short}
+use Rattle.cose_msg.proofs.Standing.{stands_in}
 use Rattle.cose_msg.proofs.run.take_message.Goals.{else-in_payload-via-then-in_payload+else-is_err, else-in_payload-via-else-in_payload}
 use Rattle.cose_msg.proofs.run.take_message.Goals as goal
 
@@ -96,3 +97,15 @@ returns-then-is_err-clause-sure g c = λ task s B h enough.
     let limit = payload_within (rules_of g.row.H g.row.D task) _ in
     let promised = c.put.ensures.promised (sure_enough _ _ a in_it known limit enough) in
     absurd (is_done c.put.result (sym c.is_err.ensures.value ∙ c.if-is_err.true) promised)
+
+pub returns-then-asked-eq0-clause-context : goal.returns-then-asked-eq0-clause-context
+returns-then-asked-eq0-clause-context g c = λ task s B h. stands_in (c.pieces.invariant.0 task s B h).stands.so_far
+
+pub returns-in-Err-clause-context : goal.returns-in-Err-clause-context
+returns-in-Err-clause-context g c = λ task s B h. c.stop.ensures.context ∙ stands_in (c.pieces.invariant.0 task s B h).stands.so_far
+
+pub returns-then-count-eq0-clause-context : goal.returns-then-count-eq0-clause-context
+returns-then-count-eq0-clause-context g c = λ task s B h. stands_in (c.pieces.invariant.0 task s B h).stands.so_far
+
+pub returns-then-is_err-clause-context : goal.returns-then-is_err-clause-context
+returns-then-is_err-clause-context g c = λ task s B h. c.stop-then-is_err.ensures.context ∙ stands_in (c.take_piece.ensures.taken task _ _ (c.pieces.invariant.0 task s B h).stands).so_far

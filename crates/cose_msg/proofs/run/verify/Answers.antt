@@ -5,6 +5,7 @@ use Rattle.cose_msg.specs.Message.{verifying}
 use Rattle.cose_msg.specs.Task.{to_verify}
 use Rattle.cose_msg.proofs.Answered.{kept_verdict_run, kept_verdict_settles, of_any, still, stopped, verdict_run, verifying_alike}
 use Rattle.cose_msg.proofs.Runs.{counted_stands, told_before}
+use Rattle.cose_msg.proofs.Standing.{stands_in}
 use Rattle.cose_msg.proofs.Statuses.{left_by_answer, left_by_kept, left_by_stop}
 use Rattle.cose_msg.proofs.run.verify.Goals as goal
 
@@ -56,3 +57,12 @@ returns-in-Ok-clause-before g c = λ setting s B h. told_before g.row.H g.row.D 
 
 pub returns-in-Err-clause-before : goal.returns-in-Err-clause-before
 returns-in-Err-clause-before g c = λ setting s B h. told_before g.row.H g.row.D (to_verify setting) s B (c.waits.ensures.payload (to_verify setting) B _ _ h.so_far)
+
+pub returns-in-Some-clause-context : goal.returns-in-Some-clause-context
+returns-in-Some-clause-context g c = λ setting s B h. stands_in h.so_far
+
+pub returns-in-Ok-clause-context : goal.returns-in-Ok-clause-context
+returns-in-Ok-clause-context g c = λ setting s B h. c.conclude.ensures.context ∙ c.take_message.ensures.context (to_verify setting) s B h
+
+pub returns-in-Err-clause-context : goal.returns-in-Err-clause-context
+returns-in-Err-clause-context g c = λ setting s B h. c.take_message.ensures.context (to_verify setting) s B h

@@ -49,6 +49,7 @@ returns-in_default-phase g c =
       kept = rw (same.phase, same.stopped) refl;
       counts = same.taken;
       inspects = same.inspects;
+      context = same.context;
       shown = same.shown no_input;
       held = same.held;
       opened = same.opened;

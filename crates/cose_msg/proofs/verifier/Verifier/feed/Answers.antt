@@ -2,6 +2,7 @@ use Rattle.std.specs.Prelude.{◌==◌}
 use Rattle.std.proofs.Common.{◌≡◌, ◌+◌, ◌<◌, ◌≤◌, ℕ, true, false, List, length, refl, sym, ◌∙◌, arith}
 use Rattle.cose_msg.specs.Phase.{in_payload, want_of}
 use Rattle.cose_msg.proofs.Feeds.{at_start, chosen_within, fits_in, goes_on, goes_past, in_order, is_behind, knows_payload, part_extended, stepped, tells_now, uses_all}
+use Rattle.cose_msg.proofs.Standing.{stands_in}
 use Rattle.cose_msg.proofs.Statuses.{wants_and_goes_on}
 use Rattle.cose_msg.proofs.verifier.Verifier.feed.Goals.{then-is_in_payload, else-is_in_payload}
 use Rattle.cose_msg.proofs.verifier.Verifier.feed.Goals as goal
@@ -85,3 +86,6 @@ pub returns-then-count-eq0-clause-tells : goal.returns-then-count-eq0-clause-tel
 returns-then-count-eq0-clause-tells g c = λ task s B h.
     let a = c.pieces.invariant.0 task s B h in
     tells_now task _ c.pieces.self (c.waits-in-pieces.ensures.shows task _ _ _ a.stands.so_far)
+
+pub returns-then-count-eq0-clause-context : goal.returns-then-count-eq0-clause-context
+returns-then-count-eq0-clause-context g c = λ task s B h. let a = c.pieces.invariant.0 task s B h in stands_in a.stands.so_far
