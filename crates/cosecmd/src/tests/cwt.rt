@@ -85,12 +85,18 @@ pub fn example(alloc: Global) -> Result<Vec<u8>, Fail> {
     made(alloc, bytes_of(alloc, CLAIMS)?.as_slice())
 }
 
+/// The token behind the CWT tag (RFC 8392 section 6).
+fn with_cwt_tag(alloc: Global, token: &[u8]) -> Result<Vec<u8>, Fail> {
+    let mut tagged = bytes_of(alloc, "d83d")?;
+    tagged.extend_from_slice(token)?;
+    Ok(tagged)
+}
+
 #[test]
 fn admits_within_the_dates(rt: HostRuntime) -> Result<(), Fail> {
     let token = example(rt.alloc())?;
     assert_eq!(rt; token.len(), 123);
-    let mut tagged = bytes_of(rt.alloc(), "d83d")?;
-    tagged.extend_from_slice(token.as_slice())?;
+    let tagged = with_cwt_tag(rt.alloc(), token.as_slice())?;
     let admitted = (LINES, 0);
     let expired = ("refused claims Expired at 59\n", 1);
     let not_yet = ("refused claims NotYet at 65\n", 1);
@@ -310,6 +316,20 @@ fn refuses_messages(rt: HostRuntime) -> Result<(), Fail> {
         let text = format!(in alloc; "refused {refusal}\n")?;
         prints(&rt, options.as_slice(), token, text.as_str(), 1)?;
     }
+    Ok(())
+}
+
+#[test]
+fn refuses_tokens_behind_the_cwt_tag(rt: HostRuntime) -> Result<(), Fail> {
+    let token = example(rt.alloc())?;
+    let mut tagged = with_cwt_tag(rt.alloc(), token.as_slice())?;
+    let options = ["--keys", KEYS, "--now", LAST, "--aud", "other"];
+    let refused = "refused claims WrongAudience at 32\n";
+    prints(&rt, options.as_slice(), tagged.as_slice(), refused, 1)?;
+    tagged.push(0xff)?;
+    let options = ["--keys", KEYS, "--now", LAST];
+    let refused = "refused message Trailing at 125\n";
+    prints(&rt, options.as_slice(), tagged.as_slice(), refused, 1)?;
     Ok(())
 }
 

@@ -1,8 +1,8 @@
 //! Messages that are fed in pieces, and what they come to.
 
 use crate::tests::long::{FRONT, auth_of};
-use crate::tests::{counted, key_set, verifier};
-use cose_msg::{Fed, Sink, Status, Store, Verifier, Wanted};
+use crate::tests::{KEY, STRUCTURE, counted, hmac, joined, key_set, message, verifier};
+use cose_msg::{Fed, KeySet, Sink, Status, Store, Verifier, Wanted};
 use std::process::Abort;
 use std::test::Fail;
 
@@ -36,19 +36,122 @@ fn feed_whole(rt: &impl Abort, verifier: &mut Verifier<1024, 4>, piece: &[u8]) -
     fed
 }
 
+/// Feeds these bytes in pieces of at most so many, each of which is used whole, and gives how many of them are of the payload.
+fn feed_pieces(
+    rt: &impl Abort,
+    verifier: &mut Verifier<1024, 4>,
+    bytes: &[u8],
+    cut: usize,
+) -> usize {
+    let mut rest = bytes;
+    let mut payload = 0usize;
+    for _i in 0..bytes.len() {
+        let (piece, after) = rest.split_at(cut.min(rest.len()));
+        if piece.is_empty() {
+            return payload;
+        }
+        let fed = feed_whole(rt, verifier, piece);
+        let count = fed.payload_to.saturating_sub(fed.payload_from);
+        payload = payload.saturating_add(count);
+        rest = after;
+    }
+    payload
+}
+
+/// The message of 10,000,000 bytes is complete in pieces of at most so many bytes.
+fn completes_in_pieces(
+    rt: &impl Abort,
+    keys: KeySet,
+    block: &[u8; 10_000],
+    auth: &[u8; 34],
+    cut: usize,
+) {
+    let mut verifier = verifier(keys, Wanted::Tagged);
+    let front = feed_pieces(rt, &mut verifier, FRONT, cut);
+    assert_eq!(rt; front, 0, "in pieces of {cut}");
+    for _i in 0..1_000 {
+        let payload = feed_pieces(rt, &mut verifier, block, cut);
+        assert_eq!(rt; payload, 10_000, "in pieces of {cut}");
+    }
+    let rest = feed_pieces(rt, &mut verifier, auth, cut);
+    assert_eq!(rt; rest, 0, "in pieces of {cut}");
+    assert_eq!(rt; verifier.status(), Status::Complete, "in pieces of {cut}");
+    assert_eq!(rt; verifier.taken(), 10_000_046, "in pieces of {cut}");
+}
+
 #[test]
 fn completes_a_long_payload(rt: HostRuntime) -> Result<(), Fail> {
     let keys = key_set().ok_or("no keys")?;
     let block: [u8; 10_000] = counted();
     let auth = auth_of(&block);
-    let mut verifier = verifier(keys, Wanted::Tagged);
-    feed_whole(&rt, &mut verifier, FRONT);
-    for _i in 0..1_000 {
-        let fed = feed_whole(&rt, &mut verifier, &block);
-        assert_eq!(rt; (fed.payload_from, fed.payload_to), (0, 10_000));
+    for cut in [7, 64, 10_000] {
+        completes_in_pieces(&rt, keys, &block, &auth, cut);
     }
-    let fed = feed_whole(&rt, &mut verifier, &auth);
-    assert_eq!(rt; fed.status, Status::Complete);
-    assert_eq!(rt; verifier.taken(), 10_000_046);
+    Ok(())
+}
+
+#[test]
+fn completes_a_long_payload_in_short_pieces(rt: HostRuntime) -> Result<(), Fail> {
+    let keys = key_set().ok_or("no keys")?;
+    let block: [u8; 10_000] = counted();
+    let auth = auth_of(&block);
+    for cut in [1, 2] {
+        completes_in_pieces(&rt, keys, &block, &auth, cut);
+    }
+    Ok(())
+}
+
+/// The next piece is taken so.
+fn takes(rt: &impl Abort, verifier: &mut Verifier<1024, 4>, piece: &[u8], wanted: Fed) {
+    let fed = verifier.feed(piece);
+    assert_eq!(rt; fed, wanted, "{piece:?}");
+}
+
+/// So many bytes of a piece are used, none of them of the payload.
+const fn used(used: usize, status: Status) -> Fed {
+    Fed {
+        used,
+        payload_from: 0,
+        payload_to: 0,
+        status,
+    }
+}
+
+#[test]
+fn takes_pieces_as_they_come(rt: HostRuntime) -> Result<(), Fail> {
+    let keys = key_set().ok_or("no keys")?;
+    let mut verifier = verifier(keys, Wanted::Tagged);
+    let tag = hmac(KEY, STRUCTURE);
+    let last = joined(rt.alloc(), &[b"\x20", &tag, b"\xff"])?;
+    let complete = Status::Complete;
+    let second = Fed {
+        payload_from: 4,
+        payload_to: 6,
+        ..used(7, Status::More)
+    };
+    takes(
+        &rt,
+        &mut verifier,
+        b"\xd1\x84\x43\xa1",
+        used(4, Status::More),
+    );
+    takes(&rt, &mut verifier, b"\x01\x05\xa0\x42hi\x58", second);
+    takes(&rt, &mut verifier, last.as_slice(), used(33, complete));
+    assert_eq!(rt; verifier.taken(), 44);
+    takes(&rt, &mut verifier, b"\xff", used(0, complete));
+    Ok(())
+}
+
+#[test]
+fn wants_what_is_left_of_a_string(rt: HostRuntime) -> Result<(), Fail> {
+    let keys = key_set().ok_or("no keys")?;
+    let bytes = message(rt.alloc())?;
+    let rows: [(usize, u64); 2] = [(8, 2), (12, 32)];
+    for (taken, wanted) in rows {
+        let mut verifier = verifier(keys, Wanted::Tagged);
+        let fed = verifier.feed(bytes.get(..taken).unwrap_or(&[]));
+        assert_eq!(rt; fed.used, taken);
+        assert_eq!(rt; verifier.want(), wanted, "after {taken} bytes");
+    }
     Ok(())
 }

@@ -47,5 +47,6 @@ fn authenticates_a_long_payload(rt: HostRuntime) -> Result<(), Fail> {
     };
     assert_eq!(rt; verdict, Ok(authentic));
     assert_eq!(rt; verifier.taken(), 10_000_046);
+    assert!(rt; verifier.held() <= 2_560);
     Ok(())
 }

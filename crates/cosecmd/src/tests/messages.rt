@@ -1,11 +1,12 @@
 //! Verdicts, and how many bytes they took.
 
+use crate::tests::rows::refuses_fed;
 use crate::tests::{
     FRONT, KEY, STRUCTURE, authentic, cut, hmac, joined, key_set, message, refused, verifier,
 };
 use cose_msg::{
-    Intake, KeySet, Never, ReadIntake, Reason, Sink, SliceIntake, Stop, Store, Verdict, Wanted,
-    verify,
+    Intake, KeySet, Never, ReadIntake, Reason, Refusal, Sink, SliceIntake, Stop, Store, Verdict,
+    Wanted, verify,
 };
 use std::alloc::{AllocError, Global};
 use std::process::Abort;
@@ -56,6 +57,22 @@ fn answers(
     Ok(())
 }
 
+/// The message is refused for this reason at this place, after so many of its bytes, also where they are fed in pieces and then
+/// end.
+fn refuses(
+    rt: &(impl Abort + Alloc<A = Global>),
+    payload: &[u8],
+    tag: &[u8],
+    answer: (Reason, u64, usize),
+) -> Result<(), AllocError> {
+    let (reason, place, taken) = answer;
+    answers(rt, payload, tag, refused(reason, place), taken)?;
+    let bytes = joined(rt.alloc(), &[FRONT, payload, tag])?;
+    let keys = key_set().expect(rt, "a key set");
+    refuses_fed(rt, keys, bytes.as_slice(), Refusal { reason, place }, taken);
+    Ok(())
+}
+
 /// The authentication tag with its last byte changed.
 fn changed(mut tag: [u8; 32]) -> [u8; 32] {
     tag[31] ^= 1;
@@ -69,15 +86,10 @@ fn compares_tags(rt: HostRuntime) -> Result<(), Fail> {
     let payload = b"\x42hi\x58\x20";
     answers(&rt, payload, &tag, authentic(44), 44)?;
     answers(&rt, b"\x59\x00\x02hi\x58\x20", &tag, authentic(46), 46)?;
-    answers(&rt, payload, &other, refused(Reason::BadAuth, 10), 44)?;
-    answers(
-        &rt,
-        b"\x42hi\x48",
-        &tag,
-        refused(Reason::BadAuthLength, 10),
-        11,
-    )?;
-    answers(&rt, payload, cut(&tag), refused(Reason::Truncated, 43), 43)?;
+    refuses(&rt, payload, &other, (Reason::BadAuth, 10, 44))?;
+    let short = tag.get(..8).unwrap_or(&[]);
+    refuses(&rt, b"\x42hi\x48", short, (Reason::BadAuthLength, 10, 11))?;
+    refuses(&rt, payload, cut(&tag), (Reason::Truncated, 43, 43))?;
     let mut longer = Vec::from_slice(rt.alloc(), &tag)?;
     longer.push(0xff)?;
     answers(&rt, payload, longer.as_slice(), authentic(44), 44)?;
@@ -86,21 +98,21 @@ fn compares_tags(rt: HostRuntime) -> Result<(), Fail> {
 
 #[test]
 fn refuses_other_heads(rt: HostRuntime) -> Result<(), Fail> {
-    let rows: [(&str, Reason, u64, usize); 9] = [
-        ("4268", Reason::Truncated, 9, 9),
-        ("5fff", Reason::Indefinite, 7, 8),
-        ("5b010000000000000000", Reason::PayloadTooLong, 7, 16),
-        ("f600", Reason::Detached, 7, 8),
-        ("6161", Reason::WrongType, 7, 8),
-        ("f81600", Reason::BadSimple, 7, 9),
+    let rows: [(&str, (Reason, u64, usize)); 9] = [
+        ("4268", (Reason::Truncated, 9, 9)),
+        ("5fff", (Reason::Indefinite, 7, 8)),
+        ("5b010000000000000000", (Reason::PayloadTooLong, 7, 16)),
+        ("f600", (Reason::Detached, 7, 8)),
+        ("6161", (Reason::WrongType, 7, 8)),
+        ("f81600", (Reason::BadSimple, 7, 9)),
         // nil is the one byte f6: a float whose bits are 22 isn't it
-        ("f9001600", Reason::WrongType, 7, 10),
-        ("5900", Reason::Truncated, 9, 9),
-        ("42686960", Reason::WrongType, 10, 11),
+        ("f9001600", (Reason::WrongType, 7, 10)),
+        ("5900", (Reason::Truncated, 9, 9)),
+        ("42686960", (Reason::WrongType, 10, 11)),
     ];
-    for (payload, reason, place, taken) in rows {
+    for (payload, answer) in rows {
         let bytes = hex::decode(rt.alloc(), payload).or(Err("no hexadecimal"))?;
-        answers(&rt, bytes.as_slice(), b"", refused(reason, place), taken)?;
+        refuses(&rt, bytes.as_slice(), b"", answer)?;
     }
     Ok(())
 }

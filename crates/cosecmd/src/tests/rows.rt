@@ -135,7 +135,7 @@ fn refuses_where_no_one_key_fits(rt: HostRuntime) -> Result<(), Fail> {
 }
 
 /// The same, where the bytes are fed in pieces and then end.
-fn refuses_fed(rt: &impl Abort, keys: KeySet, message: &[u8], refusal: Refusal, taken: usize) {
+pub fn refuses_fed(rt: &impl Abort, keys: KeySet, message: &[u8], refusal: Refusal, taken: usize) {
     for cut in [1usize, 2, 7, 64] {
         let mut verifier = verifier(keys, Wanted::Tagged);
         let mut store = Store::<16>::new();
@@ -314,7 +314,10 @@ fn refuses_a_tag_of_another_key(rt: HostRuntime) -> Result<(), Fail> {
     let structure = hex::decode(rt.alloc(), WITH_5).or(Err("no hexadecimal"))?;
     let mut message = hex::decode(rt.alloc(), WITH_KID).or(Err("no hexadecimal"))?;
     message.extend_from_slice(&hmac(b"a", structure.as_slice()))?;
-    let bad_auth = refused(Reason::BadAuth, 13);
+    let refusal = Refusal {
+        reason: Reason::BadAuth,
+        place: 13,
+    };
     for cut in [1usize, 2, 7, 64] {
         let mut verifier = verifier(keys, Wanted::Tagged);
         let mut intake = SliceIntake::new(message.as_slice(), cut.max(1));
@@ -325,8 +328,13 @@ fn refuses_a_tag_of_another_key(rt: HostRuntime) -> Result<(), Fail> {
             &mut store,
             &Never,
         );
-        assert_eq!(rt; verdict, Ok(bad_auth), "in pieces of {cut}");
+        assert_eq!(rt;
+            verdict,
+            Ok(Verdict::Refused(refusal)),
+            "in pieces of {cut}"
+        );
         assert_eq!(rt; verifier.taken(), 47, "in pieces of {cut}");
     }
+    refuses_fed(&rt, keys, message.as_slice(), refusal, 47);
     Ok(())
 }
