@@ -54,9 +54,7 @@ fn makes(
     payload: &[u8],
     message: &[u8],
 ) {
-    let Ok(key) = Key::read(JEFE, 0) else {
-        return;
-    };
+    let key = Key::read(JEFE, 0).expect(rt, "a key");
     let length = payload.len().saturating_sub(1) as u64;
     let mut intake = SliceIntake::new(payload, 1);
     let mut sink: Store<80> = Store::new();
@@ -107,9 +105,7 @@ fn refuses(
     length: u64,
     fault: MakeFault,
 ) {
-    let Ok(key) = Key::read(key, 0) else {
-        return;
-    };
+    let key = Key::read(key, 0).expect(rt, "a key");
     let mut intake = SliceIntake::new(b"hi", 64);
     let mut sink: Store<80> = Store::new();
     let answer = make_mac0::<64, SliceIntake, Store<80>>(
@@ -154,9 +150,7 @@ fn refuses_arguments(rt: HostRuntime) {
 
 #[test]
 fn says_that_the_payload_is_short(rt: HostRuntime) {
-    let Ok(key) = Key::read(JEFE, 0) else {
-        return;
-    };
+    let key = Key::read(JEFE, 0).expect(&rt, "a key");
     let mut intake = SliceIntake::new(b"h", 64);
     let mut sink: Store<80> = Store::new();
     let answer = make_mac0::<64, SliceIntake, Store<80>>(
@@ -174,9 +168,7 @@ fn says_that_the_payload_is_short(rt: HostRuntime) {
 
 #[test]
 fn says_that_the_intake_failed(rt: HostRuntime) {
-    let Ok(key) = Key::read(JEFE, 0) else {
-        return;
-    };
+    let key = Key::read(JEFE, 0).expect(&rt, "a key");
     let mut intake = ReadIntake::new(FailingReader::new(b"h", 2));
     let mut sink: Store<80> = Store::new();
     let answer = make_mac0::<64, ReadIntake<FailingReader>, Store<80>>(
@@ -220,9 +212,7 @@ impl Sink for FrontSink {
 
 #[test]
 fn leaves_a_front_where_the_sink_fails(rt: HostRuntime) {
-    let Ok(key) = Key::read(JEFE, 0) else {
-        return;
-    };
+    let key = Key::read(JEFE, 0).expect(&rt, "a key");
     for limit in 0..44 {
         let mut sink = FrontSink {
             held: ArrayVec::new(),

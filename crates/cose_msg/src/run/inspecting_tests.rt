@@ -8,9 +8,7 @@ use crate::{
 
 #[test]
 fn inspects_a_shape(rt: HostRuntime) {
-    let Some(context) = context_of(b"\xa0", 4_096) else {
-        return;
-    };
+    let context = context_of(b"\xa0", 4_096).expect(&rt, "a context");
     let mut verifier: Verifier<32, 4> = Verifier::inspecting(context);
     let mut intake = SliceIntake::new(MAC0, 7);
     let shape = inspect::<64, 32, 4, SliceIntake, Nothing>(
@@ -41,9 +39,7 @@ fn inspects_a_shape(rt: HostRuntime) {
 
 #[test]
 fn refuses_a_tag_that_is_too_long(rt: HostRuntime) {
-    let Some(context) = context_of(b"\xa0", 4_096) else {
-        return;
-    };
+    let context = context_of(b"\xa0", 4_096).expect(&rt, "a context");
     let mut verifier: Verifier<32, 4> = Verifier::inspecting(context);
     let mut intake = SliceIntake::new(
         b"\xd1\x84\x43\xa1\x01\x05\xa0\x42\x68\x69\x5a\x00\x01\x00\x00\x00",
@@ -64,9 +60,7 @@ fn refuses_a_tag_that_is_too_long(rt: HostRuntime) {
 
 #[test]
 fn shows_the_buckets_after_a_refusal(rt: HostRuntime) {
-    let Some(mut verifier) = under_jefe::<32, 4>() else {
-        return;
-    };
+    let mut verifier = under_jefe::<32, 4>().expect(&rt, "a verifier");
     let mut changed = *MAC0;
     changed[43] ^= 1;
     let mut intake = SliceIntake::new(&changed, 64);
@@ -92,9 +86,7 @@ fn shows_the_buckets_after_a_refusal(rt: HostRuntime) {
 
 #[test]
 fn shows_no_bucket_that_was_refused(rt: HostRuntime) {
-    let Some(mut verifier) = under_jefe::<32, 4>() else {
-        return;
-    };
+    let mut verifier = under_jefe::<32, 4>().expect(&rt, "a verifier");
     let mut intake = SliceIntake::new(b"\xd1\x84\x43\xa1\x01\x05\xa1\x40\x00", 64);
     let verdict = verify::<64, 32, 4, SliceIntake, Nothing, Never>(
         &mut verifier,
@@ -113,9 +105,7 @@ fn shows_no_bucket_that_was_refused(rt: HostRuntime) {
 
 #[test]
 fn counts_open_items(rt: HostRuntime) {
-    let Some(mut verifier) = under_jefe::<32, 4>() else {
-        return;
-    };
+    let mut verifier = under_jefe::<32, 4>().expect(&rt, "a verifier");
     let mut intake = SliceIntake::new(b"\xd1\x84\x43\xa1\x01\x05\xa1\x0a\x81\x81", 64);
     let verdict = verify::<64, 32, 4, SliceIntake, Nothing, Never>(
         &mut verifier,
@@ -135,9 +125,7 @@ fn counts_open_items(rt: HostRuntime) {
 
 #[test]
 fn hands_out_what_a_signature_is_verified_with(rt: HostRuntime) {
-    let Some(context) = context_of(CURVE_KEY, 4_096) else {
-        return;
-    };
+    let context = context_of(CURVE_KEY, 4_096).expect(&rt, "a context");
     let mut verifier: Verifier<32, 4> = Verifier::new(context);
     let mut intake = SliceIntake::new(SIGN1, 64);
     let verdict = verify::<64, 32, 4, SliceIntake, Nothing, Never>(

@@ -81,9 +81,7 @@ fn verifies_at<const C: usize, const H: usize, const D: usize>(rt: &impl Abort)
     requires limit { H ≤ 65535 }
     requires nesting { D ≤ 32 }
 {
-    let Some(mut verifier) = under_jefe::<H, D>() else {
-        return;
-    };
+    let mut verifier = under_jefe::<H, D>().expect(rt, "a verifier");
     let mut intake = WatchedIntake::new(MAC0);
     let mut sink = WatchedSink {
         store: Store::new(),
@@ -112,9 +110,7 @@ fn verifies_at_the_limits(rt: HostRuntime) {
 
 #[test]
 fn takes_a_string_of_the_unprotected_header_at_once(rt: HostRuntime) {
-    let Some(mut verifier) = under_jefe::<16, 1>() else {
-        return;
-    };
+    let mut verifier = under_jefe::<16, 1>().expect(&rt, "a verifier");
     let message = mac0_with_kid();
     let mut intake = WatchedIntake::new(&message);
     let verdict = verify::<64, 16, 1, WatchedIntake, Nothing, Never>(

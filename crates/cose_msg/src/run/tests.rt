@@ -57,9 +57,7 @@ fn verifies_in_pieces(rt: &impl Abort, cut: usize)
     requires { 0 < cut }
 {
     let mut bytes = [0u8; 115];
-    let Some(context) = context() else {
-        return;
-    };
+    let context = context().expect(rt, "a context");
     bytes[..114].copy_from_slice(TOKEN);
     let mut verifier: Verifier<32, 4> = Verifier::new(context);
     let mut intake = SliceIntake::new(&bytes, cut);
@@ -87,9 +85,7 @@ fn verifies_a_token_in_pieces(rt: HostRuntime) {
 
 #[test]
 fn says_each_stop_once(rt: HostRuntime) {
-    let Some(context) = context() else {
-        return;
-    };
+    let context = context().expect(&rt, "a context");
     let mut verifier: Verifier<32, 4> = Verifier::new(context);
     let mut failing = ReadIntake::new(FailingReader::new(TOKEN, 40));
     let stop = verify::<64, 32, 4, ReadIntake<FailingReader>, Nothing, Never>(
@@ -120,9 +116,7 @@ fn says_each_stop_once(rt: HostRuntime) {
 
 #[test]
 fn keeps_a_verdict(rt: HostRuntime) {
-    let Some(context) = context() else {
-        return;
-    };
+    let context = context().expect(&rt, "a context");
     let mut verifier: Verifier<32, 4> = Verifier::new(context);
     let mut half = SliceIntake::new(&TOKEN[..113], 64);
     let truncated = Ok(Verdict::Refused(Refusal {

@@ -46,9 +46,7 @@ const WHOLE: usize = 44;
 
 #[test]
 fn takes_pieces_as_they_come(rt: HostRuntime) {
-    let Some(mut verifier) = under_jefe::<16, 1>() else {
-        return;
-    };
+    let mut verifier = under_jefe::<16, 1>().expect(&rt, "a verifier");
     let message = mac0_and_more();
     let rows: [(&[u8], Fed); 4] = [
         (&message[..4], more(4)),
@@ -90,9 +88,7 @@ fn wants_what_is_left_of_a_string(rt: HostRuntime) {
         (44, 0),
     ];
     for (taken, wanted) in rows {
-        let Some(mut verifier) = under_jefe::<16, 1>() else {
-            return;
-        };
+        let mut verifier = under_jefe::<16, 1>().expect(&rt, "a verifier");
         let fed = verifier.feed(&MAC0[..taken.min(WHOLE)]);
         assert_eq!(rt; fed.used, taken);
         assert_eq!(rt; verifier.want(), wanted, "after {taken} bytes");
@@ -101,9 +97,7 @@ fn wants_what_is_left_of_a_string(rt: HostRuntime) {
 
 #[test]
 fn wants_what_is_left_of_an_unprotected_string(rt: HostRuntime) {
-    let Some(mut verifier) = under_jefe::<16, 1>() else {
-        return;
-    };
+    let mut verifier = under_jefe::<16, 1>().expect(&rt, "a verifier");
     let message = mac0_with_kid();
     assert_eq!(rt; verifier.feed(&message[..9]), more(9));
     assert_eq!(rt; verifier.want(), 5);
@@ -136,9 +130,7 @@ fn feed_into<const H: usize, const D: usize>(
 fn comes_to_the_same_in_every_cut(rt: HostRuntime) {
     let message = mac0_and_more();
     for cut in 0..45 {
-        let Some(mut verifier) = under_jefe::<16, 1>() else {
-            return;
-        };
+        let mut verifier = under_jefe::<16, 1>().expect(&rt, "a verifier");
         let mut store = Store::<2>::new();
         let (front, rest) = message.split_at(cut);
         let first = feed_into(&mut verifier, front, &mut store);
@@ -153,9 +145,7 @@ fn comes_to_the_same_in_every_cut(rt: HostRuntime) {
 
 #[test]
 fn takes_bytes_one_by_one(rt: HostRuntime) {
-    let Some(mut verifier) = under_jefe::<16, 1>() else {
-        return;
-    };
+    let mut verifier = under_jefe::<16, 1>().expect(&rt, "a verifier");
     let mut store = Store::<2>::new();
     for place in 0..44 {
         let (_, rest) = MAC0.split_at(place);
@@ -173,9 +163,7 @@ fn takes_bytes_one_by_one(rt: HostRuntime) {
 
 #[test]
 fn goes_on_by_verify(rt: HostRuntime) {
-    let Some(mut verifier) = under_jefe::<16, 1>() else {
-        return;
-    };
+    let mut verifier = under_jefe::<16, 1>().expect(&rt, "a verifier");
     let message = mac0_and_more();
     let (front, rest) = message.split_at(9);
     assert_eq!(rt; verifier.feed(front).status, Status::More);
@@ -213,9 +201,7 @@ fn refuses_with_the_byte_that_settles(rt: HostRuntime) {
         (b"\xd8\x62\x84", Reason::SeveralParties, 0, 2),
     ];
     for (message, reason, place, used) in rows {
-        let Some(mut verifier) = under_jefe::<16, 1>() else {
-            return;
-        };
+        let mut verifier = under_jefe::<16, 1>().expect(&rt, "a verifier");
         let refused = Status::Refused(Refusal { reason, place });
         let fed = verifier.feed(message);
         assert_eq!(rt; (fed.used, fed.status), (used, refused));
@@ -230,9 +216,7 @@ fn refuses_with_the_byte_that_settles(rt: HostRuntime) {
 #[test]
 fn ends_where_no_byte_follows(rt: HostRuntime) {
     for taken in [0, 9, 43] {
-        let Some(mut verifier) = under_jefe::<16, 1>() else {
-            return;
-        };
+        let mut verifier = under_jefe::<16, 1>().expect(&rt, "a verifier");
         let fed = verifier.feed(&MAC0[..taken]);
         assert_eq!(rt; (fed.used, fed.status), (taken, Status::More));
         let refused = Status::Refused(truncated(verifier.taken()));
@@ -245,9 +229,7 @@ fn ends_where_no_byte_follows(rt: HostRuntime) {
 
 #[test]
 fn stays_stopped(rt: HostRuntime) {
-    let Some(mut verifier) = under_jefe::<16, 1>() else {
-        return;
-    };
+    let mut verifier = under_jefe::<16, 1>().expect(&rt, "a verifier");
     let mut failing = ReadIntake::new(FailingReader::new(MAC0, 3));
     let stop = verify::<64, 16, 1, ReadIntake<FailingReader>, Nothing, Never>(
         &mut verifier,
@@ -304,9 +286,7 @@ const fn decision(holds: bool) -> Verdict {
 #[test]
 fn decides_on_a_signature_once(rt: HostRuntime) {
     for holds in [true, false] {
-        let Some(context) = context_of(CURVE_KEY, 64) else {
-            return;
-        };
+        let context = context_of(CURVE_KEY, 64).expect(&rt, "a context");
         let mut verifier: Verifier<16, 1> = Verifier::new(context);
         let fed = verifier.feed(SIGN1);
         assert_eq!(rt; fed, complete(74));
@@ -341,9 +321,7 @@ fn verified(verifier: &mut Verifier<16, 1>, bytes: &[u8], holds: bool) -> Result
 
 #[test]
 fn is_complete_behind_a_signature_that_is_refused(rt: HostRuntime) {
-    let Some(context) = context_of(CURVE_KEY, 64) else {
-        return;
-    };
+    let context = context_of(CURVE_KEY, 64).expect(&rt, "a context");
     let mut verifier: Verifier<16, 1> = Verifier::new(context);
     let verdict = verified(&mut verifier, SIGN1, false);
     assert_eq!(rt; verdict, Ok(decision(false)));
@@ -363,9 +341,7 @@ fn is_refused_behind_verify(rt: HostRuntime) {
         (&MAC0[..43], Reason::Truncated, 43),
     ];
     for (bytes, reason, place) in rows {
-        let Some(mut verifier) = under_jefe::<16, 1>() else {
-            return;
-        };
+        let mut verifier = under_jefe::<16, 1>().expect(&rt, "a verifier");
         let refusal = Refusal { reason, place };
         let verdict = verified(&mut verifier, bytes, true);
         assert_eq!(rt; verdict, Ok(Verdict::Refused(refusal)));
@@ -376,9 +352,7 @@ fn is_refused_behind_verify(rt: HostRuntime) {
 
 #[test]
 fn completes_what_is_inspected(rt: HostRuntime) {
-    let Some(context) = context_of(b"\xa0", 64) else {
-        return;
-    };
+    let context = context_of(b"\xa0", 64).expect(&rt, "a context");
     let mut verifier: Verifier<16, 1> = Verifier::inspecting(context);
     let fed = verifier.feed(SIGN1);
     assert_eq!(rt; fed, complete(74));
@@ -387,9 +361,7 @@ fn completes_what_is_inspected(rt: HostRuntime) {
 
 #[test]
 fn takes_a_piece_of_any_length(rt: HostRuntime) {
-    let Some(context) = context_of(JEFE, 100_000) else {
-        return;
-    };
+    let context = context_of(JEFE, 100_000).expect(&rt, "a context");
     let mut verifier: Verifier<16, 1> = Verifier::new(context);
     let front = b"\xd1\x84\x43\xa1\x01\x05\xa0\x5a\x00\x01\x86\xa0";
     assert_eq!(rt; verifier.feed(front), more(12));
@@ -414,9 +386,7 @@ fn completes_at<const H: usize, const D: usize>(rt: &impl Abort)
     requires limit { H ≤ 65535 }
     requires nesting { D ≤ 32 }
 {
-    let Some(mut verifier) = under_jefe::<H, D>() else {
-        return;
-    };
+    let mut verifier = under_jefe::<H, D>().expect(rt, "a verifier");
     let message = mac0_and_more();
     let (front, rest) = message.split_at(9);
     assert_eq!(rt; verifier.feed(front).status, Status::More);
