@@ -1,3 +1,5 @@
+use Rattle.std.proofs.Common.{arith}
+use Rattle.std.proofs.lemmas.Grind.{common_steps}
 use Rattle.std.proofs.Common.{◌≡◌, [], option_map, refl}
 use Rattle.std.proofs.lemmas.Result.{err_from_is_err_and}
 use Rattle.cose_map.specs.Key.View.{contents, material_value}
@@ -72,3 +74,165 @@ pub returns-clause-answer : goal.returns-clause-answer
 returns-clause-answer g c = λ bytes none come intake sink.
     let r = returns-clause-makes g c refl in
     answered _ r.0 bytes r.1 come
+
+pub mac_has_its_length-requires : goal.mac_has_its_length-requires
+mac_has_its_length-requires g c = grind (arith, common_steps)
+
+pub secret_for-requires : goal.secret_for-requires
+secret_for-requires g c = grind (arith, common_steps)
+
+pub returns-in_default-clause-fault : goal.returns-in_default-clause-fault
+returns-in_default-clause-fault g c = grind (arith, common_steps)
+
+pub returns-in_default-clause-untouched : goal.returns-in_default-clause-untouched
+returns-in_default-clause-untouched g c = grind (arith, common_steps)
+
+pub returns-in_default-clause-makes : goal.returns-in_default-clause-makes
+returns-in_default-clause-makes g c = grind (arith, common_steps)
+
+pub returns-in_default-clause-answer : goal.returns-in_default-clause-answer
+returns-in_default-clause-answer g c = grind (arith, common_steps)
+
+pub returns-in_default-clause-intake_failure : goal.returns-in_default-clause-intake_failure
+returns-in_default-clause-intake_failure g c = grind (arith, common_steps)
+
+pub returns-in_default-clause-sink_failure : goal.returns-in_default-clause-sink_failure
+returns-in_default-clause-sink_failure g c = grind (arith, common_steps)
+
+pub returns-in_default-clause-sure : goal.returns-in_default-clause-sure
+returns-in_default-clause-sure g c = grind (arith, common_steps)
+
+pub is_too_long-requires : goal.is_too_long-requires
+is_too_long-requires g c = grind (arith, common_steps)
+
+pub returns-then-is_too_long-clause-fault : goal.returns-then-is_too_long-clause-fault
+returns-then-is_too_long-clause-fault g c = grind (arith, common_steps)
+
+pub returns-then-is_too_long-clause-untouched : goal.returns-then-is_too_long-clause-untouched
+returns-then-is_too_long-clause-untouched g c = grind (arith, common_steps)
+
+pub returns-then-is_too_long-clause-makes : goal.returns-then-is_too_long-clause-makes
+returns-then-is_too_long-clause-makes g c = grind (arith, common_steps)
+
+pub returns-then-is_too_long-clause-answer : goal.returns-then-is_too_long-clause-answer
+returns-then-is_too_long-clause-answer g c = grind (arith, common_steps)
+
+pub returns-then-is_too_long-clause-sure : goal.returns-then-is_too_long-clause-sure
+returns-then-is_too_long-clause-sure g c = grind (arith, common_steps)
+
+pub protected_header-protected-requires : goal.protected_header-protected-requires
+protected_header-protected-requires g c = grind (arith, common_steps)
+
+pub hmac-running-requires : goal.hmac-running-requires
+hmac-running-requires g c = grind (arith, common_steps)
+
+pub slice_bounds-structure_front-end : goal.slice_bounds-structure_front-end
+slice_bounds-structure_front-end g c = grind (arith, common_steps)
+
+pub structure_front-requires : goal.structure_front-requires
+structure_front-requires g c = grind (arith, common_steps)
+
+pub slice_bounds-put_front-end : goal.slice_bounds-put_front-end
+slice_bounds-put_front-end g c = grind (arith, common_steps)
+
+pub put_front-requires-clause-protected : goal.put_front-requires-clause-protected
+put_front-requires-clause-protected g c = grind (arith, common_steps)
+
+pub put_front-requires-clause-kid : goal.put_front-requires-clause-kid
+put_front-requires-clause-kid g c = grind (arith, common_steps)
+
+pub branch-front-requires : goal.branch-front-requires
+branch-front-requires g c κs = grind (arith, common_steps)
+
+pub from_residual-requires : goal.from_residual-requires
+from_residual-requires g c κs = grind (arith, common_steps)
+
+pub returns-in_err-front-clause-fault : goal.returns-in_err-front-clause-fault
+returns-in_err-front-clause-fault g c = grind (arith, common_steps)
+
+pub returns-in_err-front-clause-untouched : goal.returns-in_err-front-clause-untouched
+returns-in_err-front-clause-untouched g c = grind (arith, common_steps)
+
+pub returns-in_err-front-clause-answer : goal.returns-in_err-front-clause-answer
+returns-in_err-front-clause-answer g c = grind (arith, common_steps)
+
+pub returns-in_err-front-clause-intake_failure : goal.returns-in_err-front-clause-intake_failure
+returns-in_err-front-clause-intake_failure g c = grind (arith, common_steps)
+
+pub returns-in_err-front-clause-sink_failure : goal.returns-in_err-front-clause-sink_failure
+returns-in_err-front-clause-sink_failure g c = grind (arith, common_steps)
+
+pub put_payload-requires-clause-some : goal.put_payload-requires-clause-some
+put_payload-requires-clause-some g c = grind (arith, common_steps)
+
+pub put_payload-requires-clause-limit : goal.put_payload-requires-clause-limit
+put_payload-requires-clause-limit g c = grind (arith, common_steps)
+
+pub branch-payload-requires : goal.branch-payload-requires
+branch-payload-requires g c κs = grind (arith, common_steps)
+
+pub from_residual-requires-in_err-payload : goal.from_residual-requires-in_err-payload
+from_residual-requires-in_err-payload g c κs = grind (arith, common_steps)
+
+pub returns-in_err-payload-clause-fault : goal.returns-in_err-payload-clause-fault
+returns-in_err-payload-clause-fault g c = grind (arith, common_steps)
+
+pub returns-in_err-payload-clause-untouched : goal.returns-in_err-payload-clause-untouched
+returns-in_err-payload-clause-untouched g c = grind (arith, common_steps)
+
+pub returns-in_err-payload-clause-answer : goal.returns-in_err-payload-clause-answer
+returns-in_err-payload-clause-answer g c = grind (arith, common_steps)
+
+pub returns-in_err-payload-clause-sink_failure : goal.returns-in_err-payload-clause-sink_failure
+returns-in_err-payload-clause-sink_failure g c = grind (arith, common_steps)
+
+pub finish_mac-requires : goal.finish_mac-requires
+finish_mac-requires g c = grind (arith, common_steps)
+
+pub deref-requires : goal.deref-requires
+deref-requires g c = grind (arith, common_steps)
+
+pub put_byte_string-requires : goal.put_byte_string-requires
+put_byte_string-requires g c = grind (arith, common_steps)
+
+pub branch-auth-requires : goal.branch-auth-requires
+branch-auth-requires g c κs = grind (arith, common_steps)
+
+pub from_residual-requires-in_err-auth : goal.from_residual-requires-in_err-auth
+from_residual-requires-in_err-auth g c κs = grind (arith, common_steps)
+
+pub returns-in_err-auth-clause-fault : goal.returns-in_err-auth-clause-fault
+returns-in_err-auth-clause-fault g c = grind (arith, common_steps)
+
+pub returns-in_err-auth-clause-untouched : goal.returns-in_err-auth-clause-untouched
+returns-in_err-auth-clause-untouched g c = grind (arith, common_steps)
+
+pub returns-in_err-auth-clause-answer : goal.returns-in_err-auth-clause-answer
+returns-in_err-auth-clause-answer g c = grind (arith, common_steps)
+
+pub returns-in_err-auth-clause-intake_failure : goal.returns-in_err-auth-clause-intake_failure
+returns-in_err-auth-clause-intake_failure g c = grind (arith, common_steps)
+
+pub returns-in_err-auth-clause-sink_failure : goal.returns-in_err-auth-clause-sink_failure
+returns-in_err-auth-clause-sink_failure g c = grind (arith, common_steps)
+
+pub overflow_add-result : goal.overflow_add-result
+overflow_add-result g c = grind (arith, common_steps)
+
+pub overflow_add-result-2 : goal.overflow_add-result-2
+overflow_add-result-2 g c = grind (arith, common_steps)
+
+pub returns-clause-fault : goal.returns-clause-fault
+returns-clause-fault g c = grind (arith, common_steps)
+
+pub returns-clause-untouched : goal.returns-clause-untouched
+returns-clause-untouched g c = grind (arith, common_steps)
+
+pub returns-clause-intake_failure : goal.returns-clause-intake_failure
+returns-clause-intake_failure g c = grind (arith, common_steps)
+
+pub returns-clause-sink_failure : goal.returns-clause-sink_failure
+returns-clause-sink_failure g c = grind (arith, common_steps)
+
+pub returns-clause-sure : goal.returns-clause-sure
+returns-clause-sure g c = grind (arith, common_steps)

@@ -1,4 +1,5 @@
 use Rattle.std.proofs.Common.{◌≡◌, ℕ, ◌<◌, ◌≤◌, true, false, List, [], length, take, refl, sym, ◌∙◌, arith}
+use Rattle.std.proofs.lemmas.Grind.{common_steps}
 use Rattle.std.proofs.lemmas.List.{length-take}
 use Rattle.std.proofs.KnownBytes.{Consumes-nil, Appends-nil}
 use Rattle.cose_msg.specs.Phase.{in_payload, want_of}
@@ -109,3 +110,111 @@ returns-then-count-eq0-clause-context g c = λ task s B h. stands_in (c.pieces.i
 
 pub returns-then-is_err-clause-context : goal.returns-then-is_err-clause-context
 returns-then-is_err-clause-context g c = λ task s B h. c.stop-then-is_err.ensures.context ∙ stands_in (c.take_piece.ensures.taken task _ _ (c.pieces.invariant.0 task s B h).stands).so_far
+
+pub messages_are_bounded-requires : goal.messages_are_bounded-requires
+messages_are_bounded-requires g c = cc
+
+pub waits-requires : goal.waits-requires
+waits-requires g c = grind (arith, common_steps)
+
+pub request-asked-requires : goal.request-asked-requires
+request-asked-requires g c = grind (arith, common_steps)
+
+pub returns-then-asked-eq0-clause-stopped : goal.returns-then-asked-eq0-clause-stopped
+returns-then-asked-eq0-clause-stopped g c = cc
+
+pub returns-then-asked-eq0-clause-inspects : goal.returns-then-asked-eq0-clause-inspects
+returns-then-asked-eq0-clause-inspects g c = cc
+
+pub returns-then-asked-eq0-clause-held : goal.returns-then-asked-eq0-clause-held
+returns-then-asked-eq0-clause-held g c = grind (arith, common_steps)
+
+pub returns-then-asked-eq0-clause-opened : goal.returns-then-asked-eq0-clause-opened
+returns-then-asked-eq0-clause-opened g c = grind (arith, common_steps)
+
+pub returns-then-asked-eq0-clause-once : goal.returns-then-asked-eq0-clause-once
+returns-then-asked-eq0-clause-once g c = grind (arith, common_steps)
+
+pub returns-then-asked-eq0-clause-sink_failure : goal.returns-then-asked-eq0-clause-sink_failure
+returns-then-asked-eq0-clause-sink_failure g c = grind (arith, common_steps)
+
+pub returns-then-asked-eq0-clause-sure : goal.returns-then-asked-eq0-clause-sure
+returns-then-asked-eq0-clause-sure g c = grind (arith, common_steps)
+
+pub whole_as_front-take : goal.whole_as_front-take
+whole_as_front-take g c = grind (arith, common_steps)
+
+pub take-requires : goal.take-requires
+take-requires g c = grind (arith, common_steps)
+
+pub stop-requires : goal.stop-requires
+stop-requires g c = grind (arith, common_steps)
+
+pub returns-in-Err-clause-stopped : goal.returns-in-Err-clause-stopped
+returns-in-Err-clause-stopped g c = cc
+
+pub returns-in-Err-clause-inspects : goal.returns-in-Err-clause-inspects
+returns-in-Err-clause-inspects g c = cc
+
+pub returns-in-Err-clause-held : goal.returns-in-Err-clause-held
+returns-in-Err-clause-held g c = grind (arith, common_steps)
+
+pub returns-in-Err-clause-opened : goal.returns-in-Err-clause-opened
+returns-in-Err-clause-opened g c = grind (arith, common_steps)
+
+pub returns-in-Err-clause-once : goal.returns-in-Err-clause-once
+returns-in-Err-clause-once g c = grind (arith, common_steps)
+
+pub returns-in-Err-clause-sure : goal.returns-in-Err-clause-sure
+returns-in-Err-clause-sure g c = grind (arith, common_steps)
+
+pub returns-then-count-eq0-clause-stopped : goal.returns-then-count-eq0-clause-stopped
+returns-then-count-eq0-clause-stopped g c = cc
+
+pub returns-then-count-eq0-clause-inspects : goal.returns-then-count-eq0-clause-inspects
+returns-then-count-eq0-clause-inspects g c = cc
+
+pub returns-then-count-eq0-clause-held : goal.returns-then-count-eq0-clause-held
+returns-then-count-eq0-clause-held g c = grind (arith, common_steps)
+
+pub returns-then-count-eq0-clause-opened : goal.returns-then-count-eq0-clause-opened
+returns-then-count-eq0-clause-opened g c = grind (arith, common_steps)
+
+pub returns-then-count-eq0-clause-once : goal.returns-then-count-eq0-clause-once
+returns-then-count-eq0-clause-once g c = grind (arith, common_steps)
+
+pub returns-then-count-eq0-clause-sink_failure : goal.returns-then-count-eq0-clause-sink_failure
+returns-then-count-eq0-clause-sink_failure g c = grind (arith, common_steps)
+
+pub returns-then-count-eq0-clause-sure : goal.returns-then-count-eq0-clause-sure
+returns-then-count-eq0-clause-sure g c = grind (arith, common_steps)
+
+pub shared_whole_as_front-piece : goal.shared_whole_as_front-piece
+shared_whole_as_front-piece g c = grind (arith, common_steps)
+
+pub is_in_payload-in_payload-requires : goal.is_in_payload-in_payload-requires
+is_in_payload-in_payload-requires g c = grind (arith, common_steps)
+
+pub waits-requires-in-pieces : goal.waits-requires-in-pieces
+waits-requires-in-pieces g c = grind (arith, common_steps)
+
+pub put-requires : goal.put-requires
+put-requires g c = grind (arith, common_steps)
+
+pub stop-requires-then-is_err : goal.stop-requires-then-is_err
+stop-requires-then-is_err g c = grind (arith, common_steps)
+
+pub returns-then-is_err-clause-stopped : goal.returns-then-is_err-clause-stopped
+returns-then-is_err-clause-stopped g c = cc
+
+pub returns-then-is_err-clause-inspects : goal.returns-then-is_err-clause-inspects
+returns-then-is_err-clause-inspects g c = cc
+
+pub returns-then-is_err-clause-held : goal.returns-then-is_err-clause-held
+returns-then-is_err-clause-held g c = grind (arith, common_steps)
+
+pub returns-then-is_err-clause-opened : goal.returns-then-is_err-clause-opened
+returns-then-is_err-clause-opened g c = grind (arith, common_steps)
+
+pub returns-then-is_err-clause-once : goal.returns-then-is_err-clause-once
+returns-then-is_err-clause-once g c = grind (arith, common_steps)

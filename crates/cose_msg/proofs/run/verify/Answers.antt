@@ -1,4 +1,5 @@
-use Rattle.std.proofs.Common.{sym, ap, ◌∙◌, ◌++◌}
+use Rattle.std.proofs.Common.{sym, ap, ◌∙◌, ◌++◌, arith}
+use Rattle.std.proofs.lemmas.Grind.{common_steps}
 use Rattle.std.specs.Prelude.{is_err}
 use Rattle.cose_msg.specs.Answer.{decided}
 use Rattle.cose_msg.specs.Message.{verifying}
@@ -66,3 +67,105 @@ returns-in-Ok-clause-context g c = λ setting s B h. c.conclude.ensures.context 
 
 pub returns-in-Err-clause-context : goal.returns-in-Err-clause-context
 returns-in-Err-clause-context g c = λ setting s B h. c.take_message.ensures.context (to_verify setting) s B h
+
+pub settled_stays-requires : goal.settled_stays-requires
+settled_stays-requires g c = grind (arith, common_steps)
+
+pub nothing_stands_after_the_bytes-requires : goal.nothing_stands_after_the_bytes-requires
+nothing_stands_after_the_bytes-requires g c = grind (arith, common_steps)
+
+pub deciding_goes_last-requires : goal.deciding_goes_last-requires
+deciding_goes_last-requires g c = grind (arith, common_steps)
+
+pub waits-requires : goal.waits-requires
+waits-requires g c = grind (arith, common_steps)
+
+pub kept_answer-requires : goal.kept_answer-requires
+kept_answer-requires g c = grind (arith, common_steps)
+
+pub returns-in-Some-clause-kept : goal.returns-in-Some-clause-kept
+returns-in-Some-clause-kept g c = grind (arith, common_steps)
+
+pub returns-in-Some-clause-again : goal.returns-in-Some-clause-again
+returns-in-Some-clause-again g c = grind (arith, common_steps)
+
+pub returns-in-Some-clause-stopped : goal.returns-in-Some-clause-stopped
+returns-in-Some-clause-stopped g c = grind (arith, common_steps)
+
+pub returns-in-Some-clause-inspects : goal.returns-in-Some-clause-inspects
+returns-in-Some-clause-inspects g c = grind (arith, common_steps)
+
+pub returns-in-Some-clause-held : goal.returns-in-Some-clause-held
+returns-in-Some-clause-held g c = grind (arith, common_steps)
+
+pub returns-in-Some-clause-opened : goal.returns-in-Some-clause-opened
+returns-in-Some-clause-opened g c = grind (arith, common_steps)
+
+pub returns-in-Some-clause-intake_failure : goal.returns-in-Some-clause-intake_failure
+returns-in-Some-clause-intake_failure g c = grind (arith, common_steps)
+
+pub returns-in-Some-clause-sink_failure : goal.returns-in-Some-clause-sink_failure
+returns-in-Some-clause-sink_failure g c = grind (arith, common_steps)
+
+pub returns-in-Some-clause-sure : goal.returns-in-Some-clause-sure
+returns-in-Some-clause-sure g c = grind (arith, common_steps)
+
+pub take_message-requires : goal.take_message-requires
+take_message-requires g c = grind (arith, common_steps)
+
+pub conclude-requires : goal.conclude-requires
+conclude-requires g c = grind (arith, common_steps)
+
+pub returns-in-Ok-clause-kept : goal.returns-in-Ok-clause-kept
+returns-in-Ok-clause-kept g c = grind (arith, common_steps)
+
+pub returns-in-Ok-clause-again : goal.returns-in-Ok-clause-again
+returns-in-Ok-clause-again g c = grind (arith, common_steps)
+
+pub returns-in-Ok-clause-stopped : goal.returns-in-Ok-clause-stopped
+returns-in-Ok-clause-stopped g c = grind (arith, common_steps)
+
+pub returns-in-Ok-clause-inspects : goal.returns-in-Ok-clause-inspects
+returns-in-Ok-clause-inspects g c = grind (arith, common_steps)
+
+pub returns-in-Ok-clause-held : goal.returns-in-Ok-clause-held
+returns-in-Ok-clause-held g c = grind (arith, common_steps)
+
+pub returns-in-Ok-clause-opened : goal.returns-in-Ok-clause-opened
+returns-in-Ok-clause-opened g c = grind (arith, common_steps)
+
+pub returns-in-Ok-clause-intake_failure : goal.returns-in-Ok-clause-intake_failure
+returns-in-Ok-clause-intake_failure g c = grind (arith, common_steps)
+
+pub returns-in-Ok-clause-sink_failure : goal.returns-in-Ok-clause-sink_failure
+returns-in-Ok-clause-sink_failure g c = grind (arith, common_steps)
+
+pub returns-in-Ok-clause-sure : goal.returns-in-Ok-clause-sure
+returns-in-Ok-clause-sure g c = grind (arith, common_steps)
+
+pub returns-in-Err-clause-answer : goal.returns-in-Err-clause-answer
+returns-in-Err-clause-answer g c = grind (arith, common_steps)
+
+pub returns-in-Err-clause-kept : goal.returns-in-Err-clause-kept
+returns-in-Err-clause-kept g c = grind (arith, common_steps)
+
+pub returns-in-Err-clause-again : goal.returns-in-Err-clause-again
+returns-in-Err-clause-again g c = grind (arith, common_steps)
+
+pub returns-in-Err-clause-stopped : goal.returns-in-Err-clause-stopped
+returns-in-Err-clause-stopped g c = grind (arith, common_steps)
+
+pub returns-in-Err-clause-inspects : goal.returns-in-Err-clause-inspects
+returns-in-Err-clause-inspects g c = grind (arith, common_steps)
+
+pub returns-in-Err-clause-held : goal.returns-in-Err-clause-held
+returns-in-Err-clause-held g c = grind (arith, common_steps)
+
+pub returns-in-Err-clause-opened : goal.returns-in-Err-clause-opened
+returns-in-Err-clause-opened g c = grind (arith, common_steps)
+
+pub returns-in-Err-clause-intake_failure : goal.returns-in-Err-clause-intake_failure
+returns-in-Err-clause-intake_failure g c = grind (arith, common_steps)
+
+pub returns-in-Err-clause-sink_failure : goal.returns-in-Err-clause-sink_failure
+returns-in-Err-clause-sink_failure g c = grind (arith, common_steps)

@@ -1,4 +1,5 @@
 use Rattle.std.proofs.Common.{◌≡◌, ◌+◌, [], ◌∷◌, ◌++◌, refl, ◌∙◌, arith, length-append}
+use Rattle.std.proofs.lemmas.Grind.{common_steps}
 use Rattle.cose_head.specs.Head.{IsMore, bare_head}
 use Rattle.cose_msg.specs.Task.{rules_of}
 use Rattle.cose_msg.specs.Front.{past_array_head}
@@ -45,3 +46,18 @@ returns-in-Got g c = record {
       (λ z. (rw c.requires.phase at (h.left (c.args.byte ∷ z))) ∙ (head_completed nothing_told (past_array_head (rules_of g.row.H g.row.D task) c.args.array_head.kind) c.args.array_head.at c.args.self.now.head.items c.args.byte c.in-Got.head c.in-Got.used (c.in-Got.ensures.stays tt) last z))
       (c.past_array_head.ensures.stands task (shows_as task c.args.self.now h.told nothing_told inside.0 h.shows));
 }
+
+pub take_head_byte-requires : goal.take_head_byte-requires
+take_head_byte-requires g c = grind (arith, common_steps)
+
+pub invariant_of-self : goal.invariant_of-self
+invariant_of-self g c = grind (arith, common_steps)
+
+pub refuse-requires : goal.refuse-requires
+refuse-requires g c = grind (arith, common_steps)
+
+pub overflow_add-at : goal.overflow_add-at
+overflow_add-at g c = grind (arith, common_steps)
+
+pub past_array_head-requires : goal.past_array_head-requires
+past_array_head-requires g c = grind (arith, common_steps)

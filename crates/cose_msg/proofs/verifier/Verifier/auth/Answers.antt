@@ -1,4 +1,5 @@
 use Rattle.std.proofs.Common.{◌≡◌, ◌+◌, ◌-◌, ◌++◌, length, ap, ◌∙◌, arith, length-append, append_assoc}
+use Rattle.std.proofs.lemmas.Grind.{common_steps}
 use Rattle.cose_msg.specs.Phases.{finish, headers_told}
 use Rattle.cose_msg.specs.Task.{rules_of}
 use Rattle.cose_msg.proofs.Keys.{auth_room, has_key, more_held}
@@ -39,3 +40,24 @@ returns-else-left-eq0 g c = record {
         left = λ z. rw append_assoc (rw c.requires.phase at (h.left (c.args.piece.now ++ z)));
       };
 }
+
+pub hold-requires : goal.hold-requires
+hold-requires g c = cc
+
+pub overflow_sub-left : goal.overflow_sub-left
+overflow_sub-left g c = grind (arith, common_steps)
+
+pub invariant_of-self : goal.invariant_of-self
+invariant_of-self g c = grind (arith, common_steps)
+
+pub overflow_add-auth : goal.overflow_add-auth
+overflow_add-auth g c = grind (arith, common_steps)
+
+pub finish-requires : goal.finish-requires
+finish-requires g c = grind (arith, common_steps)
+
+pub invariant_of-self-else-left-eq0 : goal.invariant_of-self-else-left-eq0
+invariant_of-self-else-left-eq0 g c = grind (arith, common_steps)
+
+pub invariant_of-self-else-left-eq0-2 : goal.invariant_of-self-else-left-eq0-2
+invariant_of-self-else-left-eq0-2 g c = grind (arith, common_steps)

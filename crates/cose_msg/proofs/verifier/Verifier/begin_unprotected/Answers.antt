@@ -1,4 +1,5 @@
-use Rattle.std.proofs.Common.{[], refl, sym, add-zero}
+use Rattle.std.proofs.Common.{[], refl, sym, add-zero, arith}
+use Rattle.std.proofs.lemmas.Grind.{common_steps}
 use Rattle.cose_msg.specs.Phases.{unprotected_told}
 use Rattle.cose_msg.specs.Reading.{open_items_after}
 use Rattle.cose_msg.proofs.Standing.{under_pairs}
@@ -19,3 +20,21 @@ returns g c = record {
 
 pub invariant_of-self-2-clause-some_wanted : goal.invariant_of-self-2-clause-some_wanted
 invariant_of-self-2-clause-some_wanted g c = c.want.ensures.some c.new-self.ensures.put.going
+
+pub walker_is_reading-requires : goal.walker_is_reading-requires
+walker_is_reading-requires g c = cc
+
+pub invariant_of-self : goal.invariant_of-self
+invariant_of-self g c = grind (arith, common_steps)
+
+pub clear-requires : goal.clear-requires
+clear-requires g c = grind (arith, common_steps)
+
+pub new-self-requires : goal.new-self-requires
+new-self-requires g c = grind (arith, common_steps)
+
+pub want-requires : goal.want-requires
+want-requires g c = grind (arith, common_steps)
+
+pub invariant_of-self-3 : goal.invariant_of-self-3
+invariant_of-self-3 g c = grind (arith, common_steps)

@@ -1,4 +1,5 @@
-use Rattle.std.proofs.Common.{◌≡◌, ◌+◌, length, Some, None, Ok, Err, refl, sym, ◌∙◌}
+use Rattle.std.proofs.Common.{◌≡◌, ◌+◌, length, Some, None, Ok, Err, refl, sym, ◌∙◌, arith}
+use Rattle.std.proofs.lemmas.Grind.{common_steps}
 use Rattle.std.proofs.lemmas.Result.{err_from_is_err_and}
 use Rattle.cose_map.specs.Bucket.{bucket_of}
 use Rattle.cose_map.specs.Bucket.View.{bucket_pairs}
@@ -44,3 +45,36 @@ returns-in-Err g c = λ pairs others good found_good.
     let fault : pair_fault (bucket_pairs c.in_ok-protected.protected) (bucket_pairs c.in_ok-unprotected.unprotected) (setting_of c.args.self.now.context).understood (c.args.at + length c.args.self.now.unprotected.items) ≡ None = sym (rw c.len.ensures.value at c.in_ok-check_pair.ensures) in
     let none : choice_for c.args.self.now.inspecting (setting_of c.args.self.now.context) (headers_of c.args.kind c.args.self.now.protected.items (bucket_pairs c.in_ok-protected.protected) (bucket_pairs c.in_ok-unprotected.unprotected)) ≡ Err c.in-Err.reason = sym (c.in-Err.ensures c.args.self.now.protected.items) in
     rw (same, same_others, key_refused (task_of c.args.self.now) (headers_of c.args.kind c.args.self.now.protected.items (bucket_pairs c.in_ok-protected.protected) (bucket_pairs c.in_ok-unprotected.unprotected)) (c.args.at + length c.args.self.now.unprotected.items) c.in-Err.reason fault none, c.len.ensures.value) refl
+
+pub as_slice-requires : goal.as_slice-requires
+as_slice-requires g c = grind (arith, common_steps)
+
+pub read-requires-clause-shallow : goal.read-requires-clause-shallow
+read-requires-clause-shallow g c = grind (arith, common_steps)
+
+pub read-requires-clause-in_range : goal.read-requires-clause-in_range
+read-requires-clause-in_range g c = grind (arith, common_steps)
+
+pub as_slice-requires-2 : goal.as_slice-requires-2
+as_slice-requires-2 g c = grind (arith, common_steps)
+
+pub read-requires-2-clause-shallow : goal.read-requires-2-clause-shallow
+read-requires-2-clause-shallow g c = grind (arith, common_steps)
+
+pub read-requires-2-clause-in_range : goal.read-requires-2-clause-in_range
+read-requires-2-clause-in_range g c = grind (arith, common_steps)
+
+pub len-requires : goal.len-requires
+len-requires g c = grind (arith, common_steps)
+
+pub overflow_add-place : goal.overflow_add-place
+overflow_add-place g c = grind (arith, common_steps)
+
+pub check_pair-requires : goal.check_pair-requires
+check_pair-requires g c = cc
+
+pub key_for-requires : goal.key_for-requires
+key_for-requires g c = grind (arith, common_steps)
+
+pub is_empty-requires : goal.is_empty-requires
+is_empty-requires g c = cc

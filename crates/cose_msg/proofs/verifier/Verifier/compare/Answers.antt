@@ -1,4 +1,5 @@
-use Rattle.std.proofs.Common.{◌≡◌, Option, true, false, refl, sym, ap, ◌∙◌}
+use Rattle.std.proofs.Common.{◌≡◌, Option, true, false, refl, sym, ap, ◌∙◌, arith}
+use Rattle.std.proofs.lemmas.Grind.{common_steps}
 use Rattle.std.specs.Str.{bytes_eq}
 use Rattle.cose_head.specs.Algorithm.{is_mac_of}
 use Rattle.cose_msg.specs.Answer.{Chosen}
@@ -57,3 +58,27 @@ returns-else-is_mac g c = record {
         left = λ z. rw verifies (ap (λ (x : Option Chosen). settled (headers_told known.headers known.payload) (compared task.setting.aad x (whole_of known c.args.whole.head_at c.args.whole.taken))) chosen ∙ rw digest refl);
       };
 }
+
+pub finish-requires : goal.finish-requires
+finish-requires g c = grind (arith, common_steps)
+
+pub is_mac-requires : goal.is_mac-requires
+is_mac-requires g c = grind (arith, common_steps)
+
+pub as_slice-requires : goal.as_slice-requires
+as_slice-requires g c = grind (arith, common_steps)
+
+pub result-requires : goal.result-requires
+result-requires g c = grind (arith, common_steps)
+
+pub invariant_of-self : goal.invariant_of-self
+invariant_of-self g c = grind (arith, common_steps)
+
+pub invariant_of-self-else-eq : goal.invariant_of-self-else-eq
+invariant_of-self-else-eq g c = grind (arith, common_steps)
+
+pub refuse-requires : goal.refuse-requires
+refuse-requires g c = grind (arith, common_steps)
+
+pub invariant_of-self-else-is_mac : goal.invariant_of-self-else-is_mac
+invariant_of-self-else-is_mac g c = grind (arith, common_steps)

@@ -1,4 +1,5 @@
-use Rattle.std.proofs.Common.{rules, ◌≡◌, ℕ, true, false, [], None, sym, ap, refl, subst, ◌∙◌}
+use Rattle.std.proofs.Common.{rules, ◌≡◌, ℕ, true, false, [], None, sym, ap, refl, subst, ◌∙◌, arith}
+use Rattle.std.proofs.lemmas.Grind.{common_steps}
 use Rattle.cose_msg.specs.Kept.{verdict_in}
 use Rattle.cose_msg.specs.Laws.{then_verified}
 use Rattle.cose_msg.specs.declared.status.Status.TheVariants.{Complete}
@@ -58,3 +59,63 @@ returns-in_default-phase g c =
       counted = λ setting B reading h. tt;
       status = λ setting B reading h goes_on. rw (same.phase, same.stopped, goes_on, c.waits.ensures.truncated (to_verify setting) B _ reading h (stands_without_verdict h none undecided), same.same) refl;
     }
+
+pub waits-requires : goal.waits-requires
+waits-requires g c = grind (arith, common_steps)
+
+pub known_verdict-requires : goal.known_verdict-requires
+known_verdict-requires g c = grind (arith, common_steps)
+
+pub returns-in-Some-clause-kept : goal.returns-in-Some-clause-kept
+returns-in-Some-clause-kept g c = cc
+
+pub returns-in-Some-clause-counts : goal.returns-in-Some-clause-counts
+returns-in-Some-clause-counts g c = cc
+
+pub returns-in-Some-clause-inspects : goal.returns-in-Some-clause-inspects
+returns-in-Some-clause-inspects g c = cc
+
+pub returns-in-Some-clause-context : goal.returns-in-Some-clause-context
+returns-in-Some-clause-context g c = cc
+
+pub returns-in-Some-clause-shown : goal.returns-in-Some-clause-shown
+returns-in-Some-clause-shown g c = cc
+
+pub returns-in-Some-clause-held : goal.returns-in-Some-clause-held
+returns-in-Some-clause-held g c = cc
+
+pub returns-in-Some-clause-opened : goal.returns-in-Some-clause-opened
+returns-in-Some-clause-opened g c = cc
+
+pub returns-in-Some-clause-complete : goal.returns-in-Some-clause-complete
+returns-in-Some-clause-complete g c = grind (arith, common_steps)
+
+pub signed_verdict-verdict-requires : goal.signed_verdict-verdict-requires
+signed_verdict-verdict-requires g c = grind (arith, common_steps)
+
+pub invariant_of-self : goal.invariant_of-self
+invariant_of-self g c = grind (arith, common_steps)
+
+pub truncate-requires : goal.truncate-requires
+truncate-requires g c = grind (arith, common_steps)
+
+pub returns-in-Signed-clause-kept : goal.returns-in-Signed-clause-kept
+returns-in-Signed-clause-kept g c = cc
+
+pub returns-in-Signed-clause-counts : goal.returns-in-Signed-clause-counts
+returns-in-Signed-clause-counts g c = cc
+
+pub returns-in-Signed-clause-inspects : goal.returns-in-Signed-clause-inspects
+returns-in-Signed-clause-inspects g c = cc
+
+pub returns-in-Signed-clause-context : goal.returns-in-Signed-clause-context
+returns-in-Signed-clause-context g c = cc
+
+pub returns-in-Signed-clause-held : goal.returns-in-Signed-clause-held
+returns-in-Signed-clause-held g c = cc
+
+pub returns-in-Signed-clause-opened : goal.returns-in-Signed-clause-opened
+returns-in-Signed-clause-opened g c = cc
+
+pub returns-in-Signed-clause-complete : goal.returns-in-Signed-clause-complete
+returns-in-Signed-clause-complete g c = grind (arith, common_steps)

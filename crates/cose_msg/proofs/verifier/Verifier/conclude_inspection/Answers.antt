@@ -1,4 +1,5 @@
-use Rattle.std.proofs.Common.{◌≡◌, [], None, Some, ◌∙◌, sym, refl}
+use Rattle.std.proofs.Common.{◌≡◌, [], None, Some, ◌∙◌, sym, refl, arith}
+use Rattle.std.proofs.lemmas.Grind.{common_steps}
 use Rattle.cose_msg.specs.Kept.{inspected_in}
 use Rattle.cose_msg.specs.Shown.{held_input}
 use Rattle.cose_msg.specs.Task.{to_inspect}
@@ -38,3 +39,12 @@ returns-in-None g c =
       counted = λ setting B reading h. tt;
       status = λ setting B reading h goes_on. rw (same.phase, same.stopped, goes_on, c.waits.ensures.truncated (to_inspect setting) B _ reading h (stands_without_shape h none), same.same) refl;
     }
+
+pub waits-requires : goal.waits-requires
+waits-requires g c = grind (arith, common_steps)
+
+pub inspected-requires : goal.inspected-requires
+inspected-requires g c = grind (arith, common_steps)
+
+pub truncate-requires : goal.truncate-requires
+truncate-requires g c = grind (arith, common_steps)

@@ -1,4 +1,5 @@
-use Rattle.std.proofs.Common.{refl, sym, ◌∙◌}
+use Rattle.std.proofs.Common.{refl, sym, ◌∙◌, arith}
+use Rattle.std.proofs.lemmas.Grind.{common_steps}
 use Rattle.cose_msg.specs.Phases.{headers_told}
 use Rattle.cose_msg.proofs.Keys.{holds_auth, is_inspected, key_of_alg, no_key_without_alg}
 use Rattle.cose_msg.proofs.verifier.Verifier.finish.Goals as goal
@@ -25,3 +26,12 @@ returns-in-None g c = record {
         left = λ z. rw (inspects, key.0, count, length) refl;
       };
 }
+
+pub alg-requires : goal.alg-requires
+alg-requires g c = grind (arith, common_steps)
+
+pub compare-requires : goal.compare-requires
+compare-requires g c = grind (arith, common_steps)
+
+pub invariant_of-self : goal.invariant_of-self
+invariant_of-self g c = grind (arith, common_steps)

@@ -1,4 +1,5 @@
 use Rattle.std.proofs.Common.{◌≡◌, ◌+◌, [], ◌∷◌, ◌++◌, refl, sym, ◌∙◌, arith, length-append, zero-add}
+use Rattle.std.proofs.lemmas.Grind.{common_steps}
 use Rattle.cose_head.specs.Head.{IsMore, bare_head}
 use Rattle.cose_msg.specs.Task.{rules_of}
 use Rattle.cose_msg.specs.Front.{past_first_head}
@@ -45,3 +46,15 @@ returns-in-Got g c = record {
       (λ z. (rw c.requires.phase at (h.left (c.args.byte ∷ z))) ∙ rw zero-add at (head_completed nothing_told (past_first_head (rules_of g.row.H g.row.D task)) 0 c.args.self.now.head.items c.args.byte c.in-Got.head c.in-Got.used (c.in-Got.ensures.stays tt) last z))
       (c.past_first_head.ensures.stands task (shows_as task c.args.self.now h.told nothing_told inside.0 h.shows));
 }
+
+pub take_head_byte-requires : goal.take_head_byte-requires
+take_head_byte-requires g c = grind (arith, common_steps)
+
+pub invariant_of-self : goal.invariant_of-self
+invariant_of-self g c = grind (arith, common_steps)
+
+pub refuse-requires : goal.refuse-requires
+refuse-requires g c = grind (arith, common_steps)
+
+pub past_first_head-requires : goal.past_first_head-requires
+past_first_head-requires g c = grind (arith, common_steps)

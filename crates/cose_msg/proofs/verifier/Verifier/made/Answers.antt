@@ -1,4 +1,5 @@
-use Rattle.std.proofs.Common.{[], refl}
+use Rattle.std.proofs.Common.{[], refl, arith}
+use Rattle.std.proofs.lemmas.Grind.{common_steps}
 use Rattle.cose_head.specs.Head.{bare_head}
 use Rattle.cose_msg.specs.Message.{message}
 use Rattle.cose_msg.specs.Phases.{nothing_told}
@@ -28,3 +29,27 @@ returns-clause-tells g c = rw c.new-5.ensures.open refl
 
 pub returns-clause-held : goal.returns-clause-held
 returns-clause-held g c = rw (c.new.ensures, c.new-2.ensures, c.new-3.ensures, c.new-4.ensures) refl
+
+pub new-requires : goal.new-requires
+new-requires g c = grind (arith, common_steps)
+
+pub new-requires-2 : goal.new-requires-2
+new-requires-2 g c = grind (arith, common_steps)
+
+pub new-requires-3 : goal.new-requires-3
+new-requires-3 g c = grind (arith, common_steps)
+
+pub new-requires-4 : goal.new-requires-4
+new-requires-4 g c = grind (arith, common_steps)
+
+pub new-requires-5 : goal.new-requires-5
+new-requires-5 g c = grind (arith, common_steps)
+
+pub invariant_of-result : goal.invariant_of-result
+invariant_of-result g c = grind (arith, common_steps)
+
+pub returns-clause-context : goal.returns-clause-context
+returns-clause-context g c = grind (arith, common_steps)
+
+pub returns-clause-inspects : goal.returns-clause-inspects
+returns-clause-inspects g c = grind (arith, common_steps)

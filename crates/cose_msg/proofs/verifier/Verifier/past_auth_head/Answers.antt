@@ -1,4 +1,5 @@
-use Rattle.std.proofs.Common.{◌≡◌, [], Some, None, refl, sym, ◌∙◌, zero-add, add-zero}
+use Rattle.std.proofs.Common.{◌≡◌, [], Some, None, refl, sym, ◌∙◌, zero-add, add-zero, arith}
+use Rattle.std.proofs.lemmas.Grind.{common_steps}
 use Rattle.cose_msg.specs.Chosen.{has_length_of}
 use Rattle.cose_msg.specs.Message.{has_auth_length}
 use Rattle.cose_msg.specs.Phases.{auth_fault_where, finish, headers_told}
@@ -43,3 +44,27 @@ returns-else-head-eq0 g c = record {
         left = λ z. rw fault refl;
       };
 }
+
+pub alg-requires : goal.alg-requires
+alg-requires g c = grind (arith, common_steps)
+
+pub fault_of_auth-requires : goal.fault_of_auth-requires
+fault_of_auth-requires g c = cc
+
+pub refuse-requires : goal.refuse-requires
+refuse-requires g c = grind (arith, common_steps)
+
+pub clear-requires : goal.clear-requires
+clear-requires g c = grind (arith, common_steps)
+
+pub invariant_of-self : goal.invariant_of-self
+invariant_of-self g c = grind (arith, common_steps)
+
+pub finish-requires : goal.finish-requires
+finish-requires g c = grind (arith, common_steps)
+
+pub invariant_of-self-else-head-eq0 : goal.invariant_of-self-else-head-eq0
+invariant_of-self-else-head-eq0 g c = grind (arith, common_steps)
+
+pub invariant_of-self-else-head-eq0-2 : goal.invariant_of-self-else-head-eq0-2
+invariant_of-self-else-head-eq0-2 g c = grind (arith, common_steps)

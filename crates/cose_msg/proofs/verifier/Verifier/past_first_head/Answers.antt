@@ -1,4 +1,5 @@
-use Rattle.std.proofs.Common.{◌≡◌, [], true, false, refl, sym, ap, ◌∙◌}
+use Rattle.std.proofs.Common.{◌≡◌, [], true, false, refl, sym, ap, ◌∙◌, arith}
+use Rattle.std.proofs.lemmas.Grind.{common_steps}
 use Rattle.cose_msg.specs.declared.context.Wanted.{Wanted}
 use Rattle.cose_msg.specs.Front.{is_array, is_cwt_tag, is_tag, kind_of_tag, past_untagged}
 use Rattle.cose_msg.specs.Task.{Task, rules_of}
@@ -42,3 +43,27 @@ returns-else-is_array g c = record {
       let listed : is_array c.args.head ≡ false = sym c.is_array.ensures ∙ c.if-is_array.false in
       rw (cwt, tagged, listed) (c.refuse.ensures task [] c.args.at nothing_told e refl);
 }
+
+pub is_cwt_tag-requires : goal.is_cwt_tag-requires
+is_cwt_tag-requires g c = cc
+
+pub begin_tag_head-requires : goal.begin_tag_head-requires
+begin_tag_head-requires g c = grind (arith, common_steps)
+
+pub is_tag-requires : goal.is_tag-requires
+is_tag-requires g c = cc
+
+pub kind_of_tag-requires : goal.kind_of_tag-requires
+kind_of_tag-requires g c = cc
+
+pub past_tag-requires : goal.past_tag-requires
+past_tag-requires g c = grind (arith, common_steps)
+
+pub is_array-requires : goal.is_array-requires
+is_array-requires g c = cc
+
+pub past_untagged-requires : goal.past_untagged-requires
+past_untagged-requires g c = grind (arith, common_steps)
+
+pub refuse-requires : goal.refuse-requires
+refuse-requires g c = grind (arith, common_steps)

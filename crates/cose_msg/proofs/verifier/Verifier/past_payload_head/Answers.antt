@@ -1,4 +1,5 @@
-use Rattle.std.proofs.Common.{◌≡◌, ℕ, List, [], length, Some, None, cond, refl, sym, ap, subst, ◌∙◌, zero-add, add-zero}
+use Rattle.std.proofs.Common.{◌≡◌, ℕ, List, [], length, Some, None, cond, refl, sym, ap, subst, ◌∙◌, zero-add, add-zero, arith}
+use Rattle.std.proofs.lemmas.Grind.{common_steps}
 use Rattle.cose_msg.specs.Message.{protected_content}
 use Rattle.cose_msg.specs.Phases.{headers_told, past_payload, payload_fault_within}
 use Rattle.cose_msg.specs.Task.{Task, rules_of}
@@ -46,3 +47,30 @@ returns-else-head-eq0 g c = record {
         left = λ z. rw (fault, none) refl;
       };
 }
+
+pub fault_of_payload-requires : goal.fault_of_payload-requires
+fault_of_payload-requires g c = cc
+
+pub refuse-requires : goal.refuse-requires
+refuse-requires g c = grind (arith, common_steps)
+
+pub as_slice-requires : goal.as_slice-requires
+as_slice-requires g c = grind (arith, common_steps)
+
+pub empty_if-protected-requires : goal.empty_if-protected-requires
+empty_if-protected-requires g c = cc
+
+pub front-requires : goal.front-requires
+front-requires g c = cc
+
+pub invariant_of-self : goal.invariant_of-self
+invariant_of-self g c = grind (arith, common_steps)
+
+pub begin_auth_head-requires : goal.begin_auth_head-requires
+begin_auth_head-requires g c = grind (arith, common_steps)
+
+pub invariant_of-self-else-head-eq0 : goal.invariant_of-self-else-head-eq0
+invariant_of-self-else-head-eq0 g c = grind (arith, common_steps)
+
+pub invariant_of-self-else-head-eq0-2 : goal.invariant_of-self-else-head-eq0-2
+invariant_of-self-else-head-eq0-2 g c = grind (arith, common_steps)

@@ -1,4 +1,5 @@
-use Rattle.std.proofs.Common.{◌+◌, [], length, refl, sym}
+use Rattle.std.proofs.Common.{◌+◌, [], length, refl, sym, arith}
+use Rattle.std.proofs.lemmas.Grind.{common_steps}
 use Rattle.cose_map.specs.Bucket.{bucket_of}
 use Rattle.cose_msg.specs.Task.{rules_of}
 use Rattle.cose_msg.specs.Phases.{nothing_told, placed_at, unprotected}
@@ -22,3 +23,24 @@ returns-in-None g c = record {
       let pairs = value_there (bucket_of g.row.D (placed_at c.args.at c.args.self.now.protected.items)) (sym is) in
       rw pairs.1 (rw c.len-length.ensures.value at (c.begin_unprotected.ensures.stands task pairs.0 e pairs.1));
 }
+
+pub len-length-requires : goal.len-length-requires
+len-length-requires g c = grind (arith, common_steps)
+
+pub as_slice-requires : goal.as_slice-requires
+as_slice-requires g c = grind (arith, common_steps)
+
+pub refusal_of-requires-clause-shallow : goal.refusal_of-requires-clause-shallow
+refusal_of-requires-clause-shallow g c = grind (arith, common_steps)
+
+pub refusal_of-requires-clause-in_range : goal.refusal_of-requires-clause-in_range
+refusal_of-requires-clause-in_range g c = grind (arith, common_steps)
+
+pub refuse-requires : goal.refuse-requires
+refuse-requires g c = grind (arith, common_steps)
+
+pub overflow_add-at : goal.overflow_add-at
+overflow_add-at g c = grind (arith, common_steps)
+
+pub begin_unprotected-requires : goal.begin_unprotected-requires
+begin_unprotected-requires g c = grind (arith, common_steps)

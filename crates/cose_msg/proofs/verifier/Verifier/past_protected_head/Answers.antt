@@ -1,4 +1,5 @@
-use Rattle.std.proofs.Common.{[], refl, sym, zero-add, add-zero}
+use Rattle.std.proofs.Common.{[], refl, sym, zero-add, add-zero, arith}
+use Rattle.std.proofs.lemmas.Grind.{common_steps}
 use Rattle.cose_msg.specs.Task.{rules_of}
 use Rattle.cose_msg.specs.Phases.{nothing_told, past_protected}
 use Rattle.cose_msg.proofs.Faults.{protected_fits}
@@ -28,3 +29,21 @@ returns-else-head-eq0 g c = record {
     left = λ z. rw (← c.in-None.ensures, c.clear.ensures) refl;
   };
 }
+
+pub refuse-requires : goal.refuse-requires
+refuse-requires g c = grind (arith, common_steps)
+
+pub clear-requires : goal.clear-requires
+clear-requires g c = grind (arith, common_steps)
+
+pub invariant_of-self : goal.invariant_of-self
+invariant_of-self g c = grind (arith, common_steps)
+
+pub past_protected-requires : goal.past_protected-requires
+past_protected-requires g c = grind (arith, common_steps)
+
+pub invariant_of-self-else-head-eq0 : goal.invariant_of-self-else-head-eq0
+invariant_of-self-else-head-eq0 g c = grind (arith, common_steps)
+
+pub invariant_of-self-else-head-eq0-2 : goal.invariant_of-self-else-head-eq0-2
+invariant_of-self-else-head-eq0-2 g c = grind (arith, common_steps)

@@ -1,4 +1,5 @@
 use Rattle.std.proofs.Common.{◌≡◌, ℕ, ◌+◌, ◌-◌, List, ◌++◌, length, refl, ap, ◌∙◌, arith, length-append, append_assoc}
+use Rattle.std.proofs.lemmas.Grind.{common_steps}
 use Rattle.cose_msg.specs.Phases.{headers_told, past_payload}
 use Rattle.cose_msg.specs.Task.{rules_of}
 use Rattle.cose_msg.proofs.Opened.{opened_more, opened_whole, with_payload}
@@ -38,3 +39,24 @@ returns-else-left-eq0 g c = record {
         left = λ z. rw append_assoc (rw c.requires.phase at (h.left (c.args.piece.now ++ z)));
       };
 }
+
+pub update-requires : goal.update-requires
+update-requires g c = cc
+
+pub overflow_sub-left : goal.overflow_sub-left
+overflow_sub-left g c = grind (arith, common_steps)
+
+pub invariant_of-self : goal.invariant_of-self
+invariant_of-self g c = grind (arith, common_steps)
+
+pub overflow_add-payload : goal.overflow_add-payload
+overflow_add-payload g c = grind (arith, common_steps)
+
+pub begin_auth_head-requires : goal.begin_auth_head-requires
+begin_auth_head-requires g c = grind (arith, common_steps)
+
+pub invariant_of-self-else-left-eq0 : goal.invariant_of-self-else-left-eq0
+invariant_of-self-else-left-eq0 g c = grind (arith, common_steps)
+
+pub invariant_of-self-else-left-eq0-2 : goal.invariant_of-self-else-left-eq0-2
+invariant_of-self-else-left-eq0-2 g c = grind (arith, common_steps)

@@ -1,4 +1,5 @@
 use Rattle.std.proofs.Common.{◌≡◌, ◌+◌, ◌-◌, ◌++◌, length, refl, ◌∙◌, arith, length-append, append_assoc}
+use Rattle.std.proofs.lemmas.Grind.{common_steps}
 use Rattle.cose_msg.specs.Task.{rules_of}
 use Rattle.cose_msg.specs.Phases.{nothing_told, past_protected}
 use Rattle.cose_msg.proofs.Standing.{moved, shows_as, told_payload}
@@ -35,3 +36,21 @@ returns-else-left-eq0 g c = record {
         left = λ z. rw (grown, append_assoc) (rw c.requires.phase at (h.left (c.args.piece.now ++ z)));
       };
 }
+
+pub append-requires : goal.append-requires
+append-requires g c = grind (arith, common_steps)
+
+pub overflow_sub-left : goal.overflow_sub-left
+overflow_sub-left g c = grind (arith, common_steps)
+
+pub invariant_of-self : goal.invariant_of-self
+invariant_of-self g c = grind (arith, common_steps)
+
+pub past_protected-requires : goal.past_protected-requires
+past_protected-requires g c = grind (arith, common_steps)
+
+pub invariant_of-self-else-left-eq0 : goal.invariant_of-self-else-left-eq0
+invariant_of-self-else-left-eq0 g c = grind (arith, common_steps)
+
+pub invariant_of-self-else-left-eq0-2 : goal.invariant_of-self-else-left-eq0-2
+invariant_of-self-else-left-eq0-2 g c = grind (arith, common_steps)

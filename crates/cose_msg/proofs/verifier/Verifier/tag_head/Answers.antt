@@ -1,4 +1,5 @@
 use Rattle.std.proofs.Common.{◌≡◌, ◌+◌, [], ◌∷◌, ◌++◌, Result, refl, sym, ap, ◌∙◌, arith, length-append}
+use Rattle.std.proofs.lemmas.Grind.{common_steps}
 use Rattle.cose_head.specs.Head.{IsMore, bare_head}
 use Rattle.cose_msg.specs.Task.{Task, rules_of}
 use Rattle.cose_msg.specs.Front.{past_second_head, past_tag, tag_behind_cwt}
@@ -48,3 +49,21 @@ returns-in-Got g c = record {
       (λ z. (rw c.requires.phase at (h.left (c.args.byte ∷ z))) ∙ (head_completed nothing_told (past_second_head (rules_of g.row.H g.row.D task)) c.args.tag_head.at c.args.self.now.head.items c.args.byte c.in-Got.head c.in-Got.used (c.in-Got.ensures.stays tt) last z) ∙ ap (λ (kind : Result Kind Reason). past_tag (rules_of g.row.H g.row.D task) c.args.tag_head.at kind (c.args.tag_head.at + c.in-Got.used) z) says)
       (c.past_tag.ensures.stands task (shows_as task c.args.self.now h.told nothing_told inside.0 h.shows));
 }
+
+pub take_head_byte-requires : goal.take_head_byte-requires
+take_head_byte-requires g c = grind (arith, common_steps)
+
+pub invariant_of-self : goal.invariant_of-self
+invariant_of-self g c = grind (arith, common_steps)
+
+pub refuse-requires : goal.refuse-requires
+refuse-requires g c = grind (arith, common_steps)
+
+pub cose_tag-kind-requires : goal.cose_tag-kind-requires
+cose_tag-kind-requires g c = cc
+
+pub overflow_add-at : goal.overflow_add-at
+overflow_add-at g c = grind (arith, common_steps)
+
+pub past_tag-requires : goal.past_tag-requires
+past_tag-requires g c = grind (arith, common_steps)

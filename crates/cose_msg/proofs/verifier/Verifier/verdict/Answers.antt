@@ -1,4 +1,5 @@
-use Rattle.std.proofs.Common.{ap, sym, ◌∙◌}
+use Rattle.std.proofs.Common.{ap, sym, ◌∙◌, arith}
+use Rattle.std.proofs.lemmas.Grind.{common_steps}
 use Rattle.cose_msg.specs.Laws.{then_verified}
 use Rattle.cose_msg.proofs.Answered.{verdict_so_far}
 use Rattle.cose_msg.proofs.Decisions.{stands_with_verdict}
@@ -13,3 +14,60 @@ returns-in-Some-clause-answer g c = λ setting s B h.
 pub returns-in-None-clause-answer : goal.returns-in-None-clause-answer
 returns-in-None-clause-answer g c = λ setting s B h.
     verdict_so_far c.deciding_goes_last.ensures.verifying g.row.H g.row.D setting (g.E.EcVerifier.decides c.args.ec.now) s c.conclude.result (c.conclude.ensures.answer setting _ _ (counted_stands h))
+
+pub deciding_goes_last-requires : goal.deciding_goes_last-requires
+deciding_goes_last-requires g c = grind (arith, common_steps)
+
+pub waits-requires : goal.waits-requires
+waits-requires g c = grind (arith, common_steps)
+
+pub known_verdict-requires : goal.known_verdict-requires
+known_verdict-requires g c = grind (arith, common_steps)
+
+pub conclude-requires : goal.conclude-requires
+conclude-requires g c = grind (arith, common_steps)
+
+pub returns-in-Some-clause-status : goal.returns-in-Some-clause-status
+returns-in-Some-clause-status g c = grind (arith, common_steps)
+
+pub returns-in-Some-clause-kept : goal.returns-in-Some-clause-kept
+returns-in-Some-clause-kept g c = grind (arith, common_steps)
+
+pub returns-in-Some-clause-again : goal.returns-in-Some-clause-again
+returns-in-Some-clause-again g c = grind (arith, common_steps)
+
+pub returns-in-Some-clause-counts : goal.returns-in-Some-clause-counts
+returns-in-Some-clause-counts g c = grind (arith, common_steps)
+
+pub returns-in-Some-clause-inspects : goal.returns-in-Some-clause-inspects
+returns-in-Some-clause-inspects g c = grind (arith, common_steps)
+
+pub returns-in-Some-clause-context : goal.returns-in-Some-clause-context
+returns-in-Some-clause-context g c = grind (arith, common_steps)
+
+pub returns-in-Some-clause-shown : goal.returns-in-Some-clause-shown
+returns-in-Some-clause-shown g c = grind (arith, common_steps)
+
+pub returns-in-Some-clause-held : goal.returns-in-Some-clause-held
+returns-in-Some-clause-held g c = grind (arith, common_steps)
+
+pub returns-in-Some-clause-opened : goal.returns-in-Some-clause-opened
+returns-in-Some-clause-opened g c = grind (arith, common_steps)
+
+pub returns-in-None-clause-counts : goal.returns-in-None-clause-counts
+returns-in-None-clause-counts g c = grind (arith, common_steps)
+
+pub returns-in-None-clause-inspects : goal.returns-in-None-clause-inspects
+returns-in-None-clause-inspects g c = grind (arith, common_steps)
+
+pub returns-in-None-clause-context : goal.returns-in-None-clause-context
+returns-in-None-clause-context g c = grind (arith, common_steps)
+
+pub returns-in-None-clause-shown : goal.returns-in-None-clause-shown
+returns-in-None-clause-shown g c = grind (arith, common_steps)
+
+pub returns-in-None-clause-held : goal.returns-in-None-clause-held
+returns-in-None-clause-held g c = grind (arith, common_steps)
+
+pub returns-in-None-clause-opened : goal.returns-in-None-clause-opened
+returns-in-None-clause-opened g c = grind (arith, common_steps)

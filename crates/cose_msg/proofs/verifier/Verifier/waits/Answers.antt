@@ -1,4 +1,5 @@
 use Rattle.std.proofs.Common.{◌<◌, arith}
+use Rattle.std.proofs.lemmas.Grind.{common_steps}
 use Rattle.cose_msg.proofs.Decisions.{stands_shown}
 use Rattle.cose_msg.proofs.PayloadsKnown.{stands_fixed, stands_grows}
 use Rattle.cose_msg.proofs.Statuses.{stands_status}
@@ -40,3 +41,18 @@ returns-clause-grows g c = λ task B n reading more h is. stands_grows more h is
 
 pub returns-clause-fixed : goal.returns-clause-fixed
 returns-clause-fixed g c = λ task B n reading more h is some. stands_fixed more h is some
+
+pub want-wanted-requires : goal.want-wanted-requires
+want-wanted-requires g c = grind (arith, common_steps)
+
+pub held-held-requires : goal.held-held-requires
+held-held-requires g c = grind (arith, common_steps)
+
+pub open_items-opened-requires : goal.open_items-opened-requires
+open_items-opened-requires g c = grind (arith, common_steps)
+
+pub returns-clause-held : goal.returns-clause-held
+returns-clause-held g c = grind (arith, common_steps)
+
+pub returns-clause-opened : goal.returns-clause-opened
+returns-clause-opened g c = grind (arith, common_steps)

@@ -1,4 +1,5 @@
 use Rattle.std.proofs.Common.{◌<◌, ◌++◌, length, take, ℕ, ap, ◌∙◌, sym, arith}
+use Rattle.std.proofs.lemmas.Grind.{common_steps}
 use Rattle.cose_msg.specs.Phase.{want_of}
 use Rattle.cose_msg.specs.Reading.{Reading}
 use Rattle.cose_msg.proofs.Runs.{without_more}
@@ -12,3 +13,36 @@ returns-clause-early g c = λ task s B more h lt. c.waits.ensures.open task B _ 
 
 pub returns-clause-payload : goal.returns-clause-payload
 returns-clause-payload g c = λ task s B h is more. c.waits.ensures.grows task B _ _ more h.so_far is ∙ ap (λ (n : ℕ). B ++ take n more) (sym c.wanted.ensures.value)
+
+pub waits-requires : goal.waits-requires
+waits-requires g c = grind (arith, common_steps)
+
+pub returns-then-self-clause-value : goal.returns-then-self-clause-value
+returns-then-self-clause-value g c = cc
+
+pub returns-then-self-clause-reads : goal.returns-then-self-clause-reads
+returns-then-self-clause-reads g c = grind (arith, common_steps)
+
+pub returns-then-self-clause-some : goal.returns-then-self-clause-some
+returns-then-self-clause-some g c = grind (arith, common_steps)
+
+pub returns-then-self-clause-none : goal.returns-then-self-clause-none
+returns-then-self-clause-none g c = grind (arith, common_steps)
+
+pub returns-then-self-clause-early : goal.returns-then-self-clause-early
+returns-then-self-clause-early g c = grind (arith, common_steps)
+
+pub returns-then-self-clause-payload : goal.returns-then-self-clause-payload
+returns-then-self-clause-payload g c = grind (arith, common_steps)
+
+pub wanted-requires : goal.wanted-requires
+wanted-requires g c = grind (arith, common_steps)
+
+pub returns-clause-value : goal.returns-clause-value
+returns-clause-value g c = cc
+
+pub returns-clause-some : goal.returns-clause-some
+returns-clause-some g c = grind (arith, common_steps)
+
+pub returns-clause-none : goal.returns-clause-none
+returns-clause-none g c = grind (arith, common_steps)

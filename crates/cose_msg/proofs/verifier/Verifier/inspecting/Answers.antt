@@ -1,0 +1,24 @@
+use Rattle.std.proofs.Common.{arith}
+use Rattle.std.proofs.lemmas.Grind.{common_steps}
+use Rattle.cose_msg.proofs.verifier.Verifier.inspecting.Goals as goal
+
+pub made-requires : goal.made-requires
+made-requires g c = grind (arith, common_steps)
+
+pub returns-clause-so_far : goal.returns-clause-so_far
+returns-clause-so_far g c = grind (arith, common_steps)
+
+pub returns-clause-none_taken : goal.returns-clause-none_taken
+returns-clause-none_taken g c = grind (arith, common_steps)
+
+pub returns-clause-tells : goal.returns-clause-tells
+returns-clause-tells g c = grind (arith, common_steps)
+
+pub returns-clause-held : goal.returns-clause-held
+returns-clause-held g c = grind (arith, common_steps)
+
+pub returns-clause-context : goal.returns-clause-context
+returns-clause-context g c = grind (arith, common_steps)
+
+pub returns-clause-inspects : goal.returns-clause-inspects
+returns-clause-inspects g c = grind (arith, common_steps)
