@@ -1,6 +1,5 @@
-use Rattle.std.proofs.Common.{arith}
+use Rattle.std.proofs.Common.{◌≡◌, [], option_map, refl, arith}
 use Rattle.std.proofs.lemmas.Grind.{common_steps}
-use Rattle.std.proofs.Common.{◌≡◌, [], option_map, refl}
 use Rattle.std.proofs.lemmas.Result.{err_from_is_err_and}
 use Rattle.cose_map.specs.Key.View.{contents, material_value}
 use Rattle.cose_msg.specs.Message.{secret_of}
@@ -141,12 +140,6 @@ put_front-requires-clause-protected g c = grind (arith, common_steps)
 pub put_front-requires-clause-kid : goal.put_front-requires-clause-kid
 put_front-requires-clause-kid g c = grind (arith, common_steps)
 
-pub branch-front-requires : goal.branch-front-requires
-branch-front-requires g c κs = grind (arith, common_steps)
-
-pub from_residual-requires : goal.from_residual-requires
-from_residual-requires g c κs = grind (arith, common_steps)
-
 pub returns-in_err-front-clause-fault : goal.returns-in_err-front-clause-fault
 returns-in_err-front-clause-fault g c = grind (arith, common_steps)
 
@@ -168,12 +161,6 @@ put_payload-requires-clause-some g c = grind (arith, common_steps)
 pub put_payload-requires-clause-limit : goal.put_payload-requires-clause-limit
 put_payload-requires-clause-limit g c = grind (arith, common_steps)
 
-pub branch-payload-requires : goal.branch-payload-requires
-branch-payload-requires g c κs = grind (arith, common_steps)
-
-pub from_residual-requires-in_err-payload : goal.from_residual-requires-in_err-payload
-from_residual-requires-in_err-payload g c κs = grind (arith, common_steps)
-
 pub returns-in_err-payload-clause-fault : goal.returns-in_err-payload-clause-fault
 returns-in_err-payload-clause-fault g c = grind (arith, common_steps)
 
@@ -194,12 +181,6 @@ deref-requires g c = grind (arith, common_steps)
 
 pub put_byte_string-requires : goal.put_byte_string-requires
 put_byte_string-requires g c = grind (arith, common_steps)
-
-pub branch-auth-requires : goal.branch-auth-requires
-branch-auth-requires g c κs = grind (arith, common_steps)
-
-pub from_residual-requires-in_err-auth : goal.from_residual-requires-in_err-auth
-from_residual-requires-in_err-auth g c κs = grind (arith, common_steps)
 
 pub returns-in_err-auth-clause-fault : goal.returns-in_err-auth-clause-fault
 returns-in_err-auth-clause-fault g c = grind (arith, common_steps)
