@@ -12,6 +12,7 @@ mod Spellings
 mod Spelled
 mod SpelledMessages
 mod OneSpelling
+mod ArraysOfFour
 mod FoundForms
 mod Found
 mod FoundFronts

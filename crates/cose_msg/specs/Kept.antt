@@ -1,5 +1,6 @@
 -- What a verifier counts and keeps besides the message itself.
 use Rattle.std.specs.Prelude.{◌≡◌, ℕ, Bool, true, false, List, length, Option, Some, None, Result, Ok, Err}
+use Rattle.cose_msg.specs.declared.hashing.Hashing.TheVariants as states
 use Rattle.cose_msg.specs.declared.phase.Phase.{Phase}
 use Rattle.cose_msg.specs.declared.phase.Phase.TheVariants as phases
 use Rattle.cose_msg.specs.declared.verdict.Inspected.{Inspected}
@@ -54,6 +55,10 @@ kept_answer v = answer_kept v.stopped (verdict_in v.phase)
 -- The same of a verifier that inspects.
 abbrev pub kept_inspection : {H D : ℕ} → Verifier H D → Option (Result Inspected Stop)
 kept_inspection v = answer_kept v.stopped (inspected_in v.phase)
+
+-- Nothing is kept of a key: neither which one was chosen, nor a hash that was begun with it.
+abbrev pub KeepsNoKey : {H D : ℕ} → Verifier H D → Type 0
+KeepsNoKey v = (v.chosen ≡ None) × (v.hashing ≡ states.Nothing)
 
 -- What came of a message is answered again as it is. Why the verifier stopped is told once.
 abbrev pub answered_again : {A : Type 0} → Result A Stop → Result A Stop

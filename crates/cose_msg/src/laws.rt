@@ -1,7 +1,7 @@
 //! Laws of the definitions that the contracts cite. A law is a function that does nothing, and whose contract is the law.
 
 ghost use Rattle.cose_msg.specs.Feed.{CutsDontMatter, PiecesJoin};
-ghost use Rattle.cose_msg.specs.GrammarLaws.{AuthenticIsMessage, MessageIsArrayOfFour, MessageIsRead, OneArrayOfFour};
+ghost use Rattle.cose_msg.specs.GrammarLaws.{ArrayOfFourIsMessage, AuthenticIsMessage, MessageIsArrayOfFour, MessageIsRead, OneArrayOfFour};
 ghost use Rattle.cose_msg.specs.MakingLaws.{MadeIsAuthentic};
 ghost use Rattle.cose_msg.specs.Laws.{AllAreFair, ComparingGoesLast, FinishGoesLast, MessageEndsTruncated, MessageIsBounded, MessageIsDefinite, MessageIsInspectedWithin, MessageIsVerifiedWithin, MessageStandsInside, MessageStays, OpenEarlier, OpenIsTruncated, VerdictStays, VerifyingGoesLast};
 ghost use Rattle.cose_msg.specs.Shown.{SignaturesAreOfSign1};
@@ -81,10 +81,12 @@ pub fn unrefused_is_message()
 
 /// A message that the grammar spells is read as what it is, whatever bytes follow it: its parts are those that are spelled (RFC
 /// 9052 sections 2, 3, 4.2 and 6.2). It is one item: an array of four elements, perhaps in the message's tag, and that perhaps in
-/// the tag of a CWT (RFC 8392 section 6). No bytes are two such arrays.
+/// the tag of a CWT (RFC 8392 section 6). The other way, each such array in tags that are allowed is a message, where its elements
+/// are good and within their limits. No bytes are two such arrays.
 pub fn spelled_is_read()
     ensures read { MessageIsRead }
     ensures one_item { MessageIsArrayOfFour }
+    ensures any_array { ArrayOfFourIsMessage }
     ensures one_array { OneArrayOfFour }
 {
     // That what spells a head or an item is read as one is all that the proof rests on.

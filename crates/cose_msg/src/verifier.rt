@@ -64,10 +64,12 @@ pub struct Verifier<'k, const H: usize, const D: usize> {
 
 impl<'k, const H: usize, const D: usize> Verifier<'k, H, D> {
     ghost use Rattle.std.specs.Prelude.{◌≡◌, ℕ, List, [], ◌∷◌, ◌++◌, ◌+◌, ◌-◌, length, take, true, false, if◌then◌else◌};
-    ghost use Rattle.cose_msg.specs.Kept.{HasTaken, bytes_taken, is_inspecting, setting_in};
+    ghost use Rattle.cose_msg.specs.Kept.{HasTaken, KeepsNoKey, bytes_taken, is_inspecting, setting_in};
     ghost use Rattle.cose_msg.specs.Phase.{grown, in_payload, is_settled, takes_bytes, want_of};
     ghost use Rattle.cose_msg.specs.Reading.{Reading, stop, Told};
     ghost use Rattle.cose_msg.specs.Shown.{Tells, held};
+    ghost use Rattle.cose_msg.specs.declared.status.Status.{Status};
+    ghost use Rattle.cose_msg.specs.Status.{status_in};
     ghost use Rattle.cose_msg.specs.Task.{Task, to_inspect, to_verify};
     ghost use Rattle.cose_msg.specs.Verifier.{Shows, SoFar, StandsFor, setting_of, task_of};
 
@@ -79,6 +81,7 @@ impl<'k, const H: usize, const D: usize> Verifier<'k, H, D> {
         ensures so_far { SoFar (record { setting = setting_of context.entry; inspects = inspecting }) [] [] result }
         ensures none_taken { HasTaken (record { setting = setting_of context.entry; inspects = inspecting }) [] [] result }
         ensures tells { Tells (record { setting = setting_of context.entry; inspects = inspecting }) [] result }
+        ensures status { status_in result ≡ Status.More }
         ensures held { held result ≡ 256 }
         ensures context { setting_in result ≡ setting_of context.entry }
         ensures inspects { is_inspecting result ≡ inspecting }
@@ -110,6 +113,7 @@ impl<'k, const H: usize, const D: usize> Verifier<'k, H, D> {
         ensures so_far { SoFar (to_verify (setting_of context.entry)) [] [] result }
         ensures none_taken { HasTaken (to_verify (setting_of context.entry)) [] [] result }
         ensures tells { Tells (to_verify (setting_of context.entry)) [] result }
+        ensures status { status_in result ≡ Status.More }
         ensures held { held result ≡ 256 }
         ensures context { setting_in result ≡ setting_of context.entry }
         ensures inspects { is_inspecting result ≡ false }
@@ -126,6 +130,7 @@ impl<'k, const H: usize, const D: usize> Verifier<'k, H, D> {
         ensures so_far { SoFar (to_inspect (setting_of context.entry)) [] [] result }
         ensures none_taken { HasTaken (to_inspect (setting_of context.entry)) [] [] result }
         ensures tells { Tells (to_inspect (setting_of context.entry)) [] result }
+        ensures status { status_in result ≡ Status.More }
         ensures held { held result ≡ 256 }
         ensures context { setting_in result ≡ setting_of context.entry }
         ensures inspects { is_inspecting result ≡ true }
@@ -153,7 +158,9 @@ impl<'k, const H: usize, const D: usize> Verifier<'k, H, D> {
         ensures so_far { SoFar (task_of self.old) [] [] self.new }
         ensures none_taken { HasTaken (task_of self.old) [] [] self.new }
         ensures tells { Tells (task_of self.old) [] self.new }
+        ensures status { status_in self.new ≡ Status.More }
         ensures held { held self.new ≡ 256 }
+        ensures keyless { KeepsNoKey self.new }
         ensures context { setting_in self.new ≡ setting_in self.old }
         ensures inspects { is_inspecting self.new ≡ is_inspecting self.old }
     {

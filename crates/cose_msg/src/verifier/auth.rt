@@ -1,6 +1,6 @@
 //! The authentication tag or signature of a message (RFC 9052 sections 6.3 and 4.4).
 
-ghost use Rattle.std.specs.Prelude.{◌≡◌, ◌<◌, ◌≤◌, ◌+◌, ◌^◌, ◌++◌, ℕ, None, true, length};
+ghost use Rattle.std.specs.Prelude.{◌≡◌, ◌<◌, ◌≤◌, ◌+◌, ◌^◌, ◌++◌, ℕ, None, true, false, length};
 ghost use Rattle.cose_msg.specs.Chosen.{has_length_of};
 ghost use Rattle.cose_msg.specs.Phases.{auth_fault_where};
 
@@ -43,7 +43,8 @@ fn fault_of_auth(head: &Head, alg: Option<Alg>) -> Option<Reason>
 
 /// Holds a piece of a tag or signature where there is a key. Else nothing is compared with it, and it is passed over.
 fn hold(store: &mut ArrayVec<u8, 132>, has_key: bool, piece: &[u8])
-    ensures { has_key ≡ true → length store.old.items + length piece.now ≤ 132 → store.new.items ≡ store.old.items ++ piece.now }
+    ensures held { has_key ≡ true → length store.old.items + length piece.now ≤ 132 → store.new.items ≡ store.old.items ++ piece.now }
+    ensures passed { has_key ≡ false → store.new ≡ store.old }
 {
     if has_key {
         append(store, piece);

@@ -39,7 +39,7 @@ impl<'k, const H: usize, const D: usize> Verifier<'k, H, D> {
     ghost use Rattle.cose_msg.specs.Feed.{Uses, nothing_used, payload_in};
     ghost use Rattle.cose_msg.specs.Kept.{HasTaken, bytes_taken, is_inspecting, kept_answer, setting_in};
     ghost use Rattle.cose_msg.specs.Message.{Setting, message, verdict_of};
-    ghost use Rattle.cose_msg.specs.Phase.{in_payload, is_settled, want_of};
+    ghost use Rattle.cose_msg.specs.Phase.{is_settled, want_of};
     ghost use Rattle.cose_msg.specs.Shown.{Tells, held, shown_of};
     ghost use Rattle.cose_msg.specs.Status.{is_complete, is_more, status_in, status_of, wanted_in};
     ghost use Rattle.cose_msg.specs.Task.{Task, rules_of, to_verify};
@@ -81,9 +81,6 @@ impl<'k, const H: usize, const D: usize> Verifier<'k, H, D> {
         // Fewer bytes than that don't settle the message.
         ensures early { (task : Task) (s B more : List ℕ) → HasTaken task s B self.now → length more < result
             → (message (rules_of H D task) (s ++ more)).settled ≡ false }
-        // In the payload they are what is left of it.
-        ensures payload { (task : Task) (s B : List ℕ) → HasTaken task s B self.now → in_payload self.now.phase ≡ true → (more : List ℕ)
-            → (message (rules_of H D task) (s ++ more)).told.payload ≡ B ++ take result more }
     {
         self.waits();
         if self.stopped {

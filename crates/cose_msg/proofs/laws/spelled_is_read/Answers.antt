@@ -1,3 +1,4 @@
+use Rattle.cose_msg.proofs.ArraysOfFour.{array_of_four_is_message}
 use Rattle.cose_msg.proofs.OneSpelling.{one_array_of_four}
 use Rattle.cose_msg.proofs.Spelled.{SpellingLaws}
 use Rattle.cose_msg.proofs.SpelledMessages.{message_is_array_of_four, message_read}
@@ -6,4 +7,4 @@ use Rattle.cose_msg.proofs.laws.spelled_is_read.Goals as goal
 pub returns : goal.returns
 returns c =
     let laws : SpellingLaws = record { head = c.bare_head_is_spelling.ensures.spelled; item = c.read_is_spelling.ensures.spelled } in
-    record { read = message_read laws; one_item = message_is_array_of_four; one_array = one_array_of_four c.read_is_spelling.ensures.one }
+    record { read = message_read laws; one_item = message_is_array_of_four; any_array = array_of_four_is_message; one_array = one_array_of_four c.read_is_spelling.ensures.one }

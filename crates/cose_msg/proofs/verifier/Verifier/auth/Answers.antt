@@ -13,7 +13,7 @@ returns-then-left-eq0 g c = record {
   stands = λ task B n reading h.
       let inside = rw c.requires.phase at h.holds in
       let held = more_held h.known.chosen c.args.self.now.auth.items h.known.auth c.args.piece.now c.hold.new.store.items
-      (λ some same. c.hold.ensures (c.is_some-has_key.ensures ∙ has_key c.args.self.now.chosen h.known.chosen inside.3.1 some) (let fits = auth_room h.known.chosen c.args.auth.length some inside.6 in omega (arith, ap length same, inside.1, c.requires.fits, fits))) inside.7 in
+      (λ some same. c.hold.ensures.held (c.is_some-has_key.ensures ∙ has_key c.args.self.now.chosen h.known.chosen inside.3.1 some) (let fits = auth_room h.known.chosen c.args.auth.length some inside.6 in omega (arith, ap length same, inside.1, c.requires.fits, fits))) inside.7 in
       let whole : length (h.known.auth ++ c.args.piece.now) ≡ c.args.auth.length = omega (arith, inside.1, c.requires.fits, c.if-left-eq0.true, length-append h.known.auth c.args.piece.now) in
       let count : c.args.auth.at + c.args.auth.length ≡ n + length c.args.piece.now = omega (arith, inside.2, whole, length-append h.known.auth c.args.piece.now) in
       let shows = shows_as task c.args.self.now h.told (headers_told h.known.headers h.known.payload) inside.0 h.shows in
@@ -27,7 +27,7 @@ returns-else-left-eq0 g c = record {
   stands = λ task B n reading h.
       let inside = rw c.requires.phase at h.holds in
       let held = more_held h.known.chosen c.args.self.now.auth.items h.known.auth c.args.piece.now c.hold.new.store.items
-      (λ some same. c.hold.ensures (c.is_some-has_key.ensures ∙ has_key c.args.self.now.chosen h.known.chosen inside.3.1 some) (let fits = auth_room h.known.chosen c.args.auth.length some inside.6 in omega (arith, ap length same, inside.1, c.requires.fits, fits))) inside.7 in
+      (λ some same. c.hold.ensures.held (c.is_some-has_key.ensures ∙ has_key c.args.self.now.chosen h.known.chosen inside.3.1 some) (let fits = auth_room h.known.chosen c.args.auth.length some inside.6 in omega (arith, ap length same, inside.1, c.requires.fits, fits))) inside.7 in
       let left : length (h.known.auth ++ c.args.piece.now) + (c.args.auth.left - length c.args.piece.now) ≡ c.args.auth.length = omega (arith, inside.1, c.requires.fits, length-append h.known.auth c.args.piece.now) in
       let count : n + length c.args.piece.now ≡ c.args.auth.at + length (h.known.auth ++ c.args.piece.now) = omega (arith, inside.2, length-append h.known.auth c.args.piece.now) in
       record {

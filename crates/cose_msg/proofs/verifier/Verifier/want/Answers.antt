@@ -1,4 +1,4 @@
-use Rattle.std.proofs.Common.{◌<◌, ◌++◌, length, take, ℕ, ap, ◌∙◌, sym, arith}
+use Rattle.std.proofs.Common.{◌<◌, length, ℕ, ap, ◌∙◌, sym, arith}
 use Rattle.std.proofs.lemmas.Grind.{common_steps}
 use Rattle.cose_msg.specs.Phase.{want_of}
 use Rattle.cose_msg.specs.Reading.{Reading}
@@ -10,9 +10,6 @@ returns-clause-reads g c = λ task s B h. c.wanted.ensures.value ∙ sym (c.wait
 
 pub returns-clause-early : goal.returns-clause-early
 returns-clause-early g c = λ task s B more h lt. c.waits.ensures.open task B _ _ more h.so_far (let short : length more < want_of c.args.self.now.phase = omega (arith, lt, c.wanted.ensures.value) in short)
-
-pub returns-clause-payload : goal.returns-clause-payload
-returns-clause-payload g c = λ task s B h is more. c.waits.ensures.grows task B _ _ more h.so_far is ∙ ap (λ (n : ℕ). B ++ take n more) (sym c.wanted.ensures.value)
 
 pub waits-requires : goal.waits-requires
 waits-requires g c = grind (arith, common_steps)
@@ -31,9 +28,6 @@ returns-then-self-clause-none g c = grind (arith, common_steps)
 
 pub returns-then-self-clause-early : goal.returns-then-self-clause-early
 returns-then-self-clause-early g c = grind (arith, common_steps)
-
-pub returns-then-self-clause-payload : goal.returns-then-self-clause-payload
-returns-then-self-clause-payload g c = grind (arith, common_steps)
 
 pub wanted-requires : goal.wanted-requires
 wanted-requires g c = grind (arith, common_steps)
