@@ -1,5 +1,5 @@
--- Rules, orders, bounds and signs of claims and of their admission, on examples, by computing: each row is another where its
--- rule is.
+-- The rules, orders, bounds and signs of claims and of their admission, on examples, by computing. Each row would have another
+-- answer if its rule were another.
 use Rattle.std.specs.Prelude.{◌≡◌, ℕ, ◌+◌, ◌-◌, ◌*◌, ◌^◌, ℤ, pos, negsuc, not, ◌==◌, nat_lt, if◌then◌else◌, List, [], ◌∷◌, map, filter, codes, Option, Some, None, Ok, option_map, refl}
 use Prim.Native.String.{String}
 use Rattle.cose_head.specs.declared.reason.Reason.TheVariants as reasons
@@ -44,7 +44,8 @@ whole_items : Says (
 unfolding said
 whole_items = refl
 
--- The item is a token by each of seven tags, however wide their head is, and whatever is in them. Those next to them are no maps.
+-- Seven tags are those of a token, however wide their heads are and whatever their content is. Tags next to them are no maps, and
+-- a token in a claim is the application's.
 tokens : Says (
     ("d000", refused reasons.NestedCwt 0) ∷
     ("d100", refused reasons.NestedCwt 0) ∷
@@ -69,7 +70,7 @@ tokens : Says (
 unfolding said
 tokens = refl
 
--- A pair goes before the next, and a label before its value. A label is an integer by its value, or a text.
+-- A pair goes before the next, and a label before its value. Labels are compared by value.
 pairs : Says (
     ("a2 0100 4000", refused reasons.BadValue 2) ∷
     ("a2 4000 0100", refused reasons.BadLabel 1) ∷
@@ -81,7 +82,7 @@ pairs : Says (
 unfolding said
 pairs = refl
 
--- The labels next to those of the claims, their negatives and texts are of other claims.
+-- Other claims have any value: the labels next to those of the claims, their negatives, and texts.
 others : Says (
     ("a1 0060", Ok silent) ∷
     ("a1 0960", Ok silent) ∷
@@ -92,7 +93,7 @@ others : Says (
 unfolding said
 others = refl
 
--- An issuer and a subject are texts, and an audience is one or has one or more.
+-- iss and sub are texts; aud is one, or an array of one or more.
 texts : Says (
     ("a1 0100", refused reasons.BadValue 2) ∷
     ("a1 0140", refused reasons.BadValue 2) ∷
@@ -131,7 +132,7 @@ floats : Says (
 unfolding said
 floats = refl
 
--- Nor has it a tag: that of a date is known, whatever it is on and however wide its head is. No other tag is.
+-- A date has no tag. The tag 1 has a reason of its own, whatever its content is and however wide its head is.
 tagged : Says (
     ("a1 04 c100", refused reasons.TaggedDate 2) ∷
     ("a1 05 c100", refused reasons.TaggedDate 2) ∷
@@ -144,7 +145,7 @@ tagged : Says (
 unfolding said
 tagged = refl
 
--- What else is no integer is wrong: texts, bytes, arrays, maps, truth values, nil and a simple value.
+-- Other values are wrong: texts, bytes, arrays, maps, truth values, nil and a simple value. Integers have either sign.
 other_dates : Says (
     ("a1 04 60", refused reasons.BadValue 2) ∷
     ("a1 05 60", refused reasons.BadValue 2) ∷
@@ -164,7 +165,7 @@ other_dates : Says (
 unfolding said
 other_dates = refl
 
--- The identifier of a token is bytes.
+-- cti is bytes.
 identifiers : Says (
     ("a1 0700", refused reasons.BadValue 2) ∷
     ("a1 0760", refused reasons.BadValue 2) ∷
@@ -197,7 +198,7 @@ claims_before_confirmation : Says (
 unfolding said
 claims_before_confirmation = refl
 
--- The labels of its members go before all that they are of, in their order.
+-- The labels of a confirmation go before its values, in their order.
 labels_of_members : Says (
     ("a1 08 a3 0300 0300 4000", refused reasons.DuplicateLabel 5) ∷
     ("a1 08 a3 0300 4000 0300", refused reasons.BadLabel 5) ∷
@@ -210,7 +211,7 @@ labels_of_members : Says (
 unfolding said
 labels_of_members = refl
 
--- Two keys go before either, an encrypted one before the identifier. It has any value, and is found by the value of its label.
+-- Two keys go before either of them, and an encrypted key before the identifier. It has any value, and its label any head.
 encrypted_keys : Says (
     ("a1 08 a2 01a20104204161 0280", refused reasons.BadConfirmation 2) ∷
     ("a1 08 a2 0280 01a0", refused reasons.BadConfirmation 2) ∷
@@ -222,7 +223,7 @@ encrypted_keys : Says (
 unfolding said
 encrypted_keys = refl
 
--- A key is one, before it is looked at as a symmetric one, and that goes before the identifier.
+-- That a key is one goes before that it is symmetric, and both before the identifier.
 plain_keys : Says (
     ("a1 08 a10100", refused reasons.BadConfirmation 4) ∷
     ("a1 08 a10180", refused reasons.BadConfirmation 4) ∷
@@ -239,7 +240,7 @@ plain_keys : Says (
 unfolding said
 plain_keys = refl
 
--- A moment, with a leeway and for whom the token has to be, a payload, and whether its claims are admitted.
+-- The current time, the leeway, the texts of the policy, a payload, and whether its claims are admitted.
 record Row : Type 0 where
   now : ℤ
   leeway : ℕ
@@ -256,8 +257,8 @@ Admits rows = map (λ row. admission (policy_of row) (hex row.payload)) rows ≡
 abbrev row : ℤ → ℕ → Option (List String) → String → Read (Unit {0}) → Row
 row now leeway mine payload outcome = record { now = now; leeway = leeway; mine = mine; payload = payload; outcome = outcome }
 
--- Every claim and the confirmation go before admission; there the end goes before the begin, and both before the audience,
--- whatever the places are. When the token was issued is no rule.
+-- Every claim and the confirmation go before admission; there exp goes before nbf, and both before the audience, whatever their
+-- places are. iat has no rule.
 orders : Admits (
     row (pos 0) 0 (Some ("b" ∷ [])) "a2 0400 0100" (admissions.refused reasons.BadValue 4) ∷
     row (pos 0) 0 (Some ("b" ∷ [])) "a2 036161 0100" (admissions.refused reasons.BadValue 5) ∷
@@ -277,7 +278,7 @@ orders : Admits (
 unfolding admission
 orders = refl
 
--- The leeway is added on the side of the token, and dates and the moment have a sign.
+-- The leeway is added to exp, and to the current time for nbf. Dates and the current time have a sign.
 signs : Admits (
     row (pos 4) 0 None "a1 0405" (Ok tt) ∷
     row (pos 5) 0 None "a1 0405" (admissions.refused reasons.Expired 2) ∷
@@ -297,7 +298,7 @@ signs : Admits (
 unfolding admission
 signs = refl
 
--- The sums have no limit: the latest and the earliest moment, the greatest leeway, and dates on both sides of each sum.
+-- The sums have no limit: the latest and the earliest current time, the greatest leeway, and dates on both sides of each sum.
 bounds : Admits (
     row (pos 4294967294) (2 ^ 32 - 1) None "a1 0400" (Ok tt) ∷
     row (pos 4294967295) (2 ^ 32 - 1) None "a1 0400" (admissions.refused reasons.Expired 2) ∷
@@ -323,7 +324,7 @@ bounds : Admits (
 unfolding admission
 bounds = refl
 
--- A text of the token is one of mine where all bytes are the same. An audience is left to the caller without mine.
+-- A text of the audience equals one of the policy's in all bytes. Without such texts the audience is left to the caller.
 audiences : Admits (
     row (pos 0) 0 None "a1 036161" (Ok tt) ∷
     row (pos 0) 0 (Some ("a" ∷ [])) "a1 036161" (Ok tt) ∷

@@ -1,4 +1,4 @@
-//! The orders, bounds and signs of admission: each row is another where its rule is.
+//! The orders, bounds and signs of admission. Each row would have another answer if its rule were another.
 
 use crate::tests::{at, refusal};
 use crate::{Audience, Claims, Policy};
@@ -13,7 +13,7 @@ fn refused(bytes: &[u8], policy: &Policy<'_>) -> Option<Refusal> {
     }
 }
 
-/// A policy without leeway, for whoever these texts stand for.
+/// A policy without leeway that names these texts.
 fn mine<'p>(texts: &'p [&'p str], now: i64) -> Policy<'p> {
     Policy {
         now,
@@ -45,7 +45,7 @@ fn judges_in_order(rt: HostRuntime) {
     }
 }
 
-/// When the token was issued is no rule.
+/// iat has no rule.
 #[test]
 fn admits_whenever_issued(rt: HostRuntime) {
     let rows: [&[u8]; 2] = [
@@ -57,7 +57,7 @@ fn admits_whenever_issued(rt: HostRuntime) {
     }
 }
 
-/// The leeway is added on the side of the token, and dates and the moment have a sign.
+/// The leeway is added to exp, and to the current time for nbf; dates and the current time have a sign.
 #[test]
 fn adds_the_leeway(rt: HostRuntime) {
     let expired = Some(refusal(Reason::Expired, 2));
@@ -87,7 +87,7 @@ fn adds_the_leeway(rt: HostRuntime) {
     }
 }
 
-/// The sums have no limit: the latest and the earliest moment, the greatest leeway, and dates on both sides of each sum.
+/// The sums have no limit: the latest and the earliest current time, the greatest leeway, and dates on both sides of each sum.
 #[test]
 fn adds_beyond_64_bits(rt: HostRuntime) {
     let expired = Some(refusal(Reason::Expired, 2));
@@ -208,12 +208,12 @@ fn adds_beyond_64_bits(rt: HostRuntime) {
     }
 }
 
-/// Whether a token of these claims is admitted, or why not, for whoever these texts stand for.
+/// Admits these claims, or refuses them, under a policy that names these texts.
 fn admits(rt: &impl Abort, texts: &[&str], bytes: &[u8], want: Option<Refusal>) {
     assert_eq!(rt; refused(bytes, &mine(texts, 0)), want, "of {bytes:?}");
 }
 
-/// A text of the token is one of mine where all bytes are the same; the subject is no audience.
+/// A text of the audience equals one of the policy's in all bytes; the subject is no audience.
 #[test]
 fn compares_whole_texts(rt: HostRuntime) {
     let others = Some(refusal(Reason::WrongAudience, 2));

@@ -1,11 +1,11 @@
-//! The rules and orders of claims: each row is another where its rule is.
+//! The rules and orders of claims. Each row would have another answer if its rule were another.
 
 use crate::Claims;
 use crate::tests::refusal;
 use cose_map::Reason;
 use std::test::Fail;
 
-/// The payload is one item, of room for its bytes and of the nesting; what is wrong in it goes before its tag, and a byte after it
+/// The payload is one item, with room for its bytes and with the nesting; a fault in it goes before its tag, and a byte after it
 /// before what the item is.
 #[test]
 fn reads_one_whole_item(rt: HostRuntime) {
@@ -25,7 +25,7 @@ fn reads_one_whole_item(rt: HostRuntime) {
     }
 }
 
-/// Each of seven tags, however wide its head is and whatever is in it, and those next to them.
+/// Seven tags are those of a token, however wide their heads are and whatever their content is; tags next to them are no maps.
 #[test]
 fn refuses_tokens_in_tokens(rt: HostRuntime) {
     let rows: [(&[u8], Reason, u64); 19] = [
@@ -130,7 +130,7 @@ fn wants_no_floats(rt: HostRuntime) {
     }
 }
 
-/// That of a date is known, whatever it is on; no other tag is.
+/// The tag 1 has a reason of its own, whatever its content is and however wide its head is.
 #[test]
 fn wants_no_tagged_dates(rt: HostRuntime) {
     let rows: [(&[u8], Reason, u64); 8] = [
@@ -209,7 +209,7 @@ fn reads_claims_before_the_confirmation(rt: HostRuntime) {
     }
 }
 
-/// The labels of its members go before all that they are of, in their order.
+/// The labels of a confirmation go before its values, in their order.
 #[test]
 fn reads_labels_of_members_first(rt: HostRuntime) {
     let rows: [(&[u8], Reason, u64); 8] = [
@@ -240,7 +240,7 @@ fn reads_labels_of_members_first(rt: HostRuntime) {
     }
 }
 
-/// Two keys go before either, an encrypted one before the identifier.
+/// Two keys go before either of them, and an encrypted key before the identifier.
 #[test]
 fn refuses_encrypted_keys(rt: HostRuntime) {
     let rows: [(&[u8], Reason, u64); 7] = [
@@ -266,7 +266,7 @@ fn refuses_encrypted_keys(rt: HostRuntime) {
     }
 }
 
-/// A key is one, before it is looked at as a symmetric one, and that goes before the identifier.
+/// That a key is one goes before that it is symmetric, and both before the identifier.
 #[test]
 fn refuses_plain_keys(rt: HostRuntime) {
     let rows: [(&[u8], Reason, u64); 12] = [
@@ -313,7 +313,7 @@ fn refuses_plain_keys(rt: HostRuntime) {
     }
 }
 
-/// Other claims and members, among them those of labels next to the known ones, are ignored.
+/// Other claims and members are ignored, those of labels next to the known ones among them.
 #[test]
 fn ignores_others(rt: HostRuntime) {
     let rows: [&[u8]; 13] = [
@@ -359,7 +359,7 @@ fn gives_the_least_values(rt: HostRuntime) -> Result<(), Fail> {
     Ok(())
 }
 
-/// An identifier of the token, and that of the key which it confirms.
+/// The identifier of the token, and the identifier of the key that it confirms.
 #[test]
 fn gives_both_identifiers(rt: HostRuntime) -> Result<(), Fail> {
     let claims = Claims::read(b"\xa2\x07\x41\x01\x08\xa1\x03\x41\x31", 4)?;
