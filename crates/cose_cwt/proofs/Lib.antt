@@ -3,3 +3,4 @@ pub mod Inside
 pub mod Trees
 pub mod WorkedClaims
 pub mod WorkedAdmission
+pub mod WorkedTokens

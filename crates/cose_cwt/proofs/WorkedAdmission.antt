@@ -18,11 +18,11 @@ done (Ok claims) = Ok tt
 done (Err refusal) = Err refusal
 
 -- Whether the claims of a payload are admitted.
-unfoldable admission : PolicyValue → List ℕ → Read (Unit {0})
+unfoldable pub admission : PolicyValue → List ℕ → Read (Unit {0})
 unfolding admitted claims_of claims_table members_table confirmation_of texts_from check_pairs children_of items_from look head_of_item bare_head read head depth_of is_utf8 chars lib.Utf8.encode
 admission policy bytes = done (admitted_claims 4 policy bytes)
 
-abbrev refused : Reason → ℕ → Read (Unit {0})
+abbrev pub refused : Reason → ℕ → Read (Unit {0})
 refused reason place = Err (record { reason = reason; place = place })
 
 -- At a moment, with a leeway, and with the audience left to the caller.

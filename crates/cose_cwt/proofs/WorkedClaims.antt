@@ -17,15 +17,15 @@ use Rattle.cose_cwt.specs.Claims.Form.{claims_table}
 use Rattle.cose_cwt.specs.Confirmation.{ConfirmationValue, confirmation_of, members_table}
 
 -- What claims say.
-record Said : Type 0 where
-  iss : Option (List ℕ)
-  sub : Option (List ℕ)
-  auds : List (List ℕ)
-  exp : Option ℤ
-  nbf : Option ℤ
-  iat : Option ℤ
-  cti : Option (List ℕ)
-  cnf : Option ConfirmationValue
+pub record Said : Type 0 where
+  pub iss : Option (List ℕ)
+  pub sub : Option (List ℕ)
+  pub auds : List (List ℕ)
+  pub exp : Option ℤ
+  pub nbf : Option ℤ
+  pub iat : Option ℤ
+  pub cti : Option (List ℕ)
+  pub cnf : Option ConfirmationValue
 
 abbrev said_of : Read ClaimsValue → Read Said
 said_of (Ok claims) = Ok (record {
@@ -41,14 +41,14 @@ said_of (Ok claims) = Ok (record {
 said_of (Err refusal) = Err refusal
 
 -- The claims of a payload, nested at most 4 deep.
-unfoldable said : List ℕ → Read Said
+unfoldable pub said : List ℕ → Read Said
 unfolding claims_of claims_table members_table confirmation_of texts_from key_of key_table material_of check_pairs children_of items_from look head_of_item bare_head read head depth_of is_utf8 chars lib.Utf8.encode
 said bytes = said_of (claims_of 4 (record { bytes = bytes; place = 0 }))
 
-abbrev refused : Reason → ℕ → Read Said
+abbrev pub refused : Reason → ℕ → Read Said
 refused reason place = Err (record { reason = reason; place = place })
 
-abbrev silent : Said
+abbrev pub silent : Said
 silent = record { iss = None; sub = None; auds = []; exp = None; nbf = None; iat = None; cti = None; cnf = None }
 
 no_bytes : said [] ≡ refused reasons.PastRoom 0

@@ -1,6 +1,8 @@
 //! Rows whose answers come from the standards and from another implementation of HMAC, not from this crate.
 
+mod admissions;
 mod example;
+mod refusals;
 mod rows;
 mod stops;
 mod tokens;

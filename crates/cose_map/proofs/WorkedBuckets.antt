@@ -233,6 +233,19 @@ six_is_known : both (0xa2 ∷ 2 ∷ 0x81 ∷ 6 ∷ 6 ∷ 0x40 ∷ []) 9 (0xa0 �
 unfolding both
 six_is_known = refl
 
+-- Each of them that may be there with another, 5 and 6 apart: 3 alone, crit itself, and 1 to 5.
+three_is_known : both (0xa2 ∷ 2 ∷ 0x81 ∷ 3 ∷ 3 ∷ 0 ∷ []) 9 (0xa0 ∷ []) [] 10 ≡ None
+unfolding both
+three_is_known = refl
+
+two_is_known : both (0xa1 ∷ 2 ∷ 0x81 ∷ 2 ∷ []) 7 (0xa0 ∷ []) [] 8 ≡ None
+unfolding both
+two_is_known = refl
+
+one_to_five_are_known : both (0xa5 ∷ 1 ∷ 5 ∷ 2 ∷ 0x85 ∷ 1 ∷ 2 ∷ 3 ∷ 4 ∷ 5 ∷ 3 ∷ 0 ∷ 4 ∷ 0x40 ∷ 5 ∷ 0x40 ∷ []) 19 (0xa0 ∷ []) [] 20 ≡ None
+unfolding both
+one_to_five_are_known = refl
+
 -- Of the elements of crit the first at fault is told, whatever its fault is.
 first_of_two_absent : both (0xa2 ∷ 1 ∷ 5 ∷ 2 ∷ 0x82 ∷ 0x18 ∷ 0x2a ∷ 0x18 ∷ 0x2b ∷ []) 12 (0xa0 ∷ []) [] 13 ≡ wrong CritAbsent 8
 unfolding both

@@ -187,7 +187,7 @@ fn refuses_claims(rt: HostRuntime) -> Result<(), Fail> {
 
 #[test]
 fn prints_what_claims_say(rt: HostRuntime) -> Result<(), Fail> {
-    let rows: [(&str, &str); 9] = [
+    let rows: [(&str, &str); 10] = [
         ("a0", ""),
         ("a11864f93c00", ""),
         ("a10160", "iss \n"),
@@ -201,6 +201,7 @@ fn prints_what_claims_say(rt: HostRuntime) -> Result<(), Fail> {
         ),
         ("a108a0", ""),
         ("a108a1034131", "cnf kid 31\n"),
+        ("a207410108a1034131", "cti 01\ncnf kid 31\n"),
     ];
     let alloc = rt.alloc();
     for (claims, lines) in rows {

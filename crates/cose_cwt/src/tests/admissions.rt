@@ -1,0 +1,239 @@
+//! The orders, bounds and signs of admission. Each row would have another answer if its rule were another.
+
+use crate::tests::{at, refusal};
+use crate::{Audience, Claims, Policy};
+use cose_map::{Reason, Refusal};
+use std::process::Abort;
+
+/// Whether the claims are admitted, or why not.
+fn refused(bytes: &[u8], policy: &Policy<'_>) -> Option<Refusal> {
+    match Claims::read(bytes, 4) {
+        Ok(claims) => claims.admit(policy).err(),
+        Err(refusal) => Some(refusal),
+    }
+}
+
+/// A policy without leeway that names these texts.
+fn mine<'p>(texts: &'p [&'p str], now: i64) -> Policy<'p> {
+    Policy {
+        now,
+        leeway: 0,
+        audience: Audience::Mine(texts),
+    }
+}
+
+/// Every claim and the confirmation go before admission; there exp goes before nbf, and both before the audience.
+#[test]
+fn judges_in_order(rt: HostRuntime) {
+    let rows: [(i64, &[u8], Reason, u64); 12] = [
+        (0, b"\xa2\x04\x00\x01\x00", Reason::BadValue, 4),
+        (0, b"\xa2\x03\x61\x61\x01\x00", Reason::BadValue, 5),
+        (0, b"\xa2\x04\x00\x08\xa1\x02\x80", Reason::EncryptedKey, 5),
+        (0, b"\xa2\x04\x00\x05\x01", Reason::Expired, 2),
+        (0, b"\xa2\x05\x01\x04\x00", Reason::Expired, 4),
+        (1, b"\xa2\x04\x00\x05\x02", Reason::Expired, 2),
+        (0, b"\xa2\x03\x61\x61\x04\x00", Reason::Expired, 5),
+        (1, b"\xa2\x03\x61\x61\x04\x00", Reason::Expired, 5),
+        (0, b"\xa2\x04\x00\x03\x61\x61", Reason::Expired, 2),
+        (0, b"\xa2\x03\x61\x61\x05\x01", Reason::NotYet, 5),
+        (0, b"\xa2\x05\x01\x03\x61\x61", Reason::NotYet, 2),
+        (0, b"\xa3\x03\x61\x61\x05\x01\x04\x00", Reason::Expired, 7),
+    ];
+    for (now, bytes, reason, place) in rows {
+        let want = Some(refusal(reason, place));
+        assert_eq!(rt; refused(bytes, &mine(&["b"], now)), want, "of {bytes:?}");
+    }
+}
+
+/// iat has no rule.
+#[test]
+fn admits_whenever_issued(rt: HostRuntime) {
+    let rows: [&[u8]; 2] = [
+        b"\xa1\x06\x1b\x7f\xff\xff\xff\xff\xff\xff\xff",
+        b"\xa1\x06\x20",
+    ];
+    for bytes in rows {
+        assert_eq!(rt; refused(bytes, &at(0, 0)), None, "of {bytes:?}");
+    }
+}
+
+/// The leeway is added to exp, and to the current time for nbf; dates and the current time have a sign.
+#[test]
+fn adds_the_leeway(rt: HostRuntime) {
+    let expired = Some(refusal(Reason::Expired, 2));
+    let not_yet = Some(refusal(Reason::NotYet, 2));
+    let rows: [(i64, u32, &[u8], Option<Refusal>); 14] = [
+        (4, 0, b"\xa1\x04\x05", None),
+        (5, 0, b"\xa1\x04\x05", expired),
+        (6, 2, b"\xa1\x04\x05", None),
+        (7, 2, b"\xa1\x04\x05", expired),
+        (5, 0, b"\xa1\x05\x05", None),
+        (4, 0, b"\xa1\x05\x05", not_yet),
+        (3, 2, b"\xa1\x05\x05", None),
+        (2, 2, b"\xa1\x05\x05", not_yet),
+        (-2, 0, b"\xa1\x04\x20", None),
+        (-1, 0, b"\xa1\x04\x20", expired),
+        (-1, 1, b"\xa1\x04\x20", None),
+        (-1, 0, b"\xa1\x05\x20", None),
+        (-2, 0, b"\xa1\x05\x20", not_yet),
+        (-2, 1, b"\xa1\x05\x20", None),
+    ];
+    for (now, leeway, bytes, want) in rows {
+        assert_eq!(rt;
+            refused(bytes, &at(now, leeway)),
+            want,
+            "of {bytes:?} at {now}"
+        );
+    }
+}
+
+/// The sums have no limit: the latest and the earliest current time, the greatest leeway, and dates on both sides of each sum.
+#[test]
+fn adds_beyond_64_bits(rt: HostRuntime) {
+    let expired = Some(refusal(Reason::Expired, 2));
+    let not_yet = Some(refusal(Reason::NotYet, 2));
+    let rows: [(i64, u32, &[u8], Option<Refusal>); 20] = [
+        (4_294_967_294, u32::MAX, b"\xa1\x04\x00", None),
+        (4_294_967_295, u32::MAX, b"\xa1\x04\x00", expired),
+        (0, u32::MAX, b"\xa1\x05\x1a\xff\xff\xff\xff", None),
+        (
+            0,
+            u32::MAX,
+            b"\xa1\x05\x1b\x00\x00\x00\x01\x00\x00\x00\x00",
+            not_yet,
+        ),
+        (
+            i64::MAX - 1,
+            0,
+            b"\xa1\x04\x1b\x7f\xff\xff\xff\xff\xff\xff\xff",
+            None,
+        ),
+        (
+            i64::MAX,
+            0,
+            b"\xa1\x04\x1b\x7f\xff\xff\xff\xff\xff\xff\xff",
+            expired,
+        ),
+        (
+            i64::MAX,
+            1,
+            b"\xa1\x04\x1b\x7f\xff\xff\xff\xff\xff\xff\xff",
+            None,
+        ),
+        (
+            i64::MAX,
+            0,
+            b"\xa1\x04\x1b\x80\x00\x00\x00\x00\x00\x00\x00",
+            None,
+        ),
+        (
+            i64::MAX,
+            0,
+            b"\xa1\x05\x1b\x7f\xff\xff\xff\xff\xff\xff\xff",
+            None,
+        ),
+        (
+            i64::MAX,
+            0,
+            b"\xa1\x05\x1b\x80\x00\x00\x00\x00\x00\x00\x00",
+            not_yet,
+        ),
+        (
+            i64::MAX,
+            u32::MAX,
+            b"\xa1\x05\x1b\x80\x00\x00\x00\xff\xff\xff\xfe",
+            None,
+        ),
+        (
+            i64::MAX,
+            u32::MAX,
+            b"\xa1\x05\x1b\x80\x00\x00\x00\xff\xff\xff\xff",
+            not_yet,
+        ),
+        (
+            i64::MIN,
+            u32::MAX,
+            b"\xa1\x04\x3b\x80\x00\x00\x00\x00\x00\x00\x00",
+            None,
+        ),
+        (
+            i64::MIN,
+            2,
+            b"\xa1\x04\x3b\x80\x00\x00\x00\x00\x00\x00\x00",
+            None,
+        ),
+        (
+            i64::MIN,
+            1,
+            b"\xa1\x04\x3b\x80\x00\x00\x00\x00\x00\x00\x00",
+            expired,
+        ),
+        (
+            i64::MIN,
+            0,
+            b"\xa1\x04\x3b\x7f\xff\xff\xff\xff\xff\xff\xff",
+            expired,
+        ),
+        (
+            i64::MIN,
+            0,
+            b"\xa1\x05\x3b\x7f\xff\xff\xff\xff\xff\xff\xff",
+            None,
+        ),
+        (
+            i64::MIN,
+            0,
+            b"\xa1\x05\x3b\x7f\xff\xff\xff\xff\xff\xff\xfe",
+            not_yet,
+        ),
+        (
+            i64::MIN,
+            u32::MAX,
+            b"\xa1\x05\x3b\x7f\xff\xff\xff\x00\x00\x00\x00",
+            None,
+        ),
+        (
+            i64::MIN,
+            u32::MAX,
+            b"\xa1\x05\x3b\x7f\xff\xff\xfe\xff\xff\xff\xff",
+            not_yet,
+        ),
+    ];
+    for (now, leeway, bytes, want) in rows {
+        assert_eq!(rt;
+            refused(bytes, &at(now, leeway)),
+            want,
+            "of {bytes:?} at {now}"
+        );
+    }
+}
+
+/// Admits these claims, or refuses them, under a policy that names these texts.
+fn admits(rt: &impl Abort, texts: &[&str], bytes: &[u8], want: Option<Refusal>) {
+    assert_eq!(rt; refused(bytes, &mine(texts, 0)), want, "of {bytes:?}");
+}
+
+/// A text of the audience equals one of the policy's in all bytes; the subject is no audience.
+#[test]
+fn compares_whole_texts(rt: HostRuntime) {
+    let others = Some(refusal(Reason::WrongAudience, 2));
+    let a = b"\xa1\x03\x61\x61";
+    let ab = b"\xa1\x03\x62\x61\x62";
+    let a_and_b = b"\xa1\x03\x82\x61\x61\x61\x62";
+    admits(&rt, &["a"], a, None);
+    admits(&rt, &["b", "a"], a, None);
+    admits(&rt, &[], a, others);
+    admits(&rt, &[""], a, others);
+    admits(&rt, &[""], b"\xa1\x03\x60", None);
+    admits(&rt, &["A"], a, others);
+    admits(&rt, &["ab"], a, others);
+    admits(&rt, &["a"], ab, others);
+    admits(&rt, &["b"], ab, others);
+    admits(&rt, &["ab"], a_and_b, others);
+    admits(&rt, &["a"], a_and_b, None);
+    admits(&rt, &["b"], a_and_b, None);
+    let for_the_subject = b"\xa2\x02\x61\x62\x03\x61\x61";
+    let at_the_audience = Some(refusal(Reason::WrongAudience, 5));
+    admits(&rt, &["b"], for_the_subject, at_the_audience);
+    assert_eq!(rt; refused(a, &at(0, 0)), None);
+}

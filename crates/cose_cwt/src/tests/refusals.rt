@@ -1,0 +1,375 @@
+//! The rules and orders of claims. Each row would have another answer if its rule were another.
+
+use crate::Claims;
+use crate::tests::refusal;
+use cose_map::Reason;
+use std::test::Fail;
+
+/// The payload is one item, with room for its bytes and with the nesting; a fault in it goes before its tag, and a byte after it
+/// before what the item is.
+#[test]
+fn reads_one_whole_item(rt: HostRuntime) {
+    let rows: [(&[u8], Reason, u64); 8] = [
+        (b"\xa1\x01", Reason::PastRoom, 0),
+        (b"\xa1\x01\x61", Reason::PastRoom, 2),
+        (b"\xa1\x18\x64\x81\x81\x81\x81\x00", Reason::TooDeep, 6),
+        (b"\xd1\x1c", Reason::Reserved, 1),
+        (b"\x00\x00", Reason::Trailing, 1),
+        (b"\xd1\x00\x00", Reason::Trailing, 2),
+        (b"\xa1\x01\x00\x00", Reason::Trailing, 3),
+        (b"\xa1\x40\x00\x00", Reason::Trailing, 3),
+    ];
+    for (bytes, reason, place) in rows {
+        let want = Some(refusal(reason, place));
+        assert_eq!(rt; Claims::read(bytes, 4).err(), want, "of {bytes:?}");
+    }
+}
+
+/// Seven tags are those of a token, however wide their heads are and whatever their content is; tags next to them are no maps.
+#[test]
+fn refuses_tokens_in_tokens(rt: HostRuntime) {
+    let rows: [(&[u8], Reason, u64); 19] = [
+        (b"\xd0\x00", Reason::NestedCwt, 0),
+        (b"\xd1\x00", Reason::NestedCwt, 0),
+        (b"\xd2\x00", Reason::NestedCwt, 0),
+        (b"\xd8\x3d\x00", Reason::NestedCwt, 0),
+        (b"\xd8\x60\x00", Reason::NestedCwt, 0),
+        (b"\xd8\x61\x00", Reason::NestedCwt, 0),
+        (b"\xd8\x62\x00", Reason::NestedCwt, 0),
+        (b"\xd9\x00\x3d\xa0", Reason::NestedCwt, 0),
+        (b"\xcf\x00", Reason::NotMap, 0),
+        (b"\xd3\x00", Reason::NotMap, 0),
+        (b"\xd8\x18\x00", Reason::NotMap, 0),
+        (b"\xd8\x3c\x00", Reason::NotMap, 0),
+        (b"\xd8\x3e\x00", Reason::NotMap, 0),
+        (b"\xd8\x5f\x00", Reason::NotMap, 0),
+        (b"\xd8\x63\x00", Reason::NotMap, 0),
+        (b"\x80", Reason::NotMap, 0),
+        (b"\x40", Reason::NotMap, 0),
+        (b"\x10", Reason::NotMap, 0),
+        (b"\x18\x3d", Reason::NotMap, 0),
+    ];
+    for (bytes, reason, place) in rows {
+        let want = Some(refusal(reason, place));
+        assert_eq!(rt; Claims::read(bytes, 4).err(), want, "of {bytes:?}");
+    }
+}
+
+/// A pair goes before the next, and a label before its value.
+#[test]
+fn reads_pairs_in_order(rt: HostRuntime) {
+    let rows: [(&[u8], Reason, u64); 7] = [
+        (b"\xa2\x01\x00\x40\x00", Reason::BadValue, 2),
+        (b"\xa2\x40\x00\x01\x00", Reason::BadLabel, 1),
+        (b"\xa1\x61\xff\x00", Reason::BadLabel, 1),
+        (b"\xa2\x04\x00\x04\x60", Reason::DuplicateLabel, 3),
+        (b"\xa3\x01\x00\x04\x00\x04\x00", Reason::BadValue, 2),
+        (b"\xa3\x04\x00\x04\x00\x01\x00", Reason::DuplicateLabel, 3),
+        (b"\xa1\x18\x04\xf9\x3c\x00", Reason::FloatDate, 3),
+    ];
+    for (bytes, reason, place) in rows {
+        let want = Some(refusal(reason, place));
+        assert_eq!(rt; Claims::read(bytes, 4).err(), want, "of {bytes:?}");
+    }
+}
+
+#[test]
+fn wants_texts(rt: HostRuntime) {
+    let rows: [(&[u8], Reason, u64); 15] = [
+        (b"\xa1\x01\x00", Reason::BadValue, 2),
+        (b"\xa1\x01\x40", Reason::BadValue, 2),
+        (b"\xa1\x01\x61\xff", Reason::BadValue, 2),
+        (b"\xa1\x02\x00", Reason::BadValue, 2),
+        (b"\xa1\x02\x40", Reason::BadValue, 2),
+        (b"\xa1\x02\x61\xff", Reason::BadValue, 2),
+        (b"\xa1\x03\x00", Reason::BadValue, 2),
+        (b"\xa1\x03\x40", Reason::BadValue, 2),
+        (b"\xa1\x03\x61\xff", Reason::BadValue, 2),
+        (b"\xa1\x03\xa0", Reason::BadValue, 2),
+        (b"\xa1\x03\x80", Reason::BadValue, 2),
+        (b"\xa1\x03\x81\x00", Reason::BadValue, 2),
+        (b"\xa1\x03\x81\x61\xff", Reason::BadValue, 2),
+        (b"\xa1\x03\x81\x81\x61\x61", Reason::BadValue, 2),
+        (b"\xa1\x03\x82\x61\x61\x61\xff", Reason::BadValue, 2),
+    ];
+    for (bytes, reason, place) in rows {
+        let want = Some(refusal(reason, place));
+        assert_eq!(rt; Claims::read(bytes, 4).err(), want, "of {bytes:?}");
+    }
+}
+
+/// A date is no float, whatever its width.
+#[test]
+fn wants_no_floats(rt: HostRuntime) {
+    let rows: [(&[u8], Reason, u64); 9] = [
+        (b"\xa1\x04\xf9\x3c\x00", Reason::FloatDate, 2),
+        (b"\xa1\x04\xfa\x3f\x80\x00\x00", Reason::FloatDate, 2),
+        (
+            b"\xa1\x04\xfb\x3f\xf0\x00\x00\x00\x00\x00\x00",
+            Reason::FloatDate,
+            2,
+        ),
+        (b"\xa1\x05\xf9\x3c\x00", Reason::FloatDate, 2),
+        (b"\xa1\x05\xfa\x3f\x80\x00\x00", Reason::FloatDate, 2),
+        (
+            b"\xa1\x05\xfb\x3f\xf0\x00\x00\x00\x00\x00\x00",
+            Reason::FloatDate,
+            2,
+        ),
+        (b"\xa1\x06\xf9\x3c\x00", Reason::FloatDate, 2),
+        (b"\xa1\x06\xfa\x3f\x80\x00\x00", Reason::FloatDate, 2),
+        (
+            b"\xa1\x06\xfb\x3f\xf0\x00\x00\x00\x00\x00\x00",
+            Reason::FloatDate,
+            2,
+        ),
+    ];
+    for (bytes, reason, place) in rows {
+        let want = Some(refusal(reason, place));
+        assert_eq!(rt; Claims::read(bytes, 4).err(), want, "of {bytes:?}");
+    }
+}
+
+/// The tag 1 has a reason of its own, whatever its content is and however wide its head is.
+#[test]
+fn wants_no_tagged_dates(rt: HostRuntime) {
+    let rows: [(&[u8], Reason, u64); 8] = [
+        (b"\xa1\x04\xc1\x00", Reason::TaggedDate, 2),
+        (b"\xa1\x05\xc1\x00", Reason::TaggedDate, 2),
+        (b"\xa1\x06\xc1\x00", Reason::TaggedDate, 2),
+        (b"\xa1\x04\xc1\xf9\x3c\x00", Reason::TaggedDate, 2),
+        (b"\xa1\x04\xd8\x01\x00", Reason::TaggedDate, 2),
+        (b"\xa1\x04\xc0\x00", Reason::BadValue, 2),
+        (b"\xa1\x04\xc2\x41\x00", Reason::BadValue, 2),
+        (b"\xa1\x04\xc3\x41\x00", Reason::BadValue, 2),
+    ];
+    for (bytes, reason, place) in rows {
+        let want = Some(refusal(reason, place));
+        assert_eq!(rt; Claims::read(bytes, 4).err(), want, "of {bytes:?}");
+    }
+}
+
+#[test]
+fn wants_integers(rt: HostRuntime) {
+    let rows: [(&[u8], Reason, u64); 9] = [
+        (b"\xa1\x04\x60", Reason::BadValue, 2),
+        (b"\xa1\x05\x60", Reason::BadValue, 2),
+        (b"\xa1\x06\x60", Reason::BadValue, 2),
+        (b"\xa1\x04\x40", Reason::BadValue, 2),
+        (b"\xa1\x04\x80", Reason::BadValue, 2),
+        (b"\xa1\x04\xa0", Reason::BadValue, 2),
+        (b"\xa1\x04\xf4", Reason::BadValue, 2),
+        (b"\xa1\x04\xf6", Reason::BadValue, 2),
+        (b"\xa1\x04\xf8\x20", Reason::BadValue, 2),
+    ];
+    for (bytes, reason, place) in rows {
+        let want = Some(refusal(reason, place));
+        assert_eq!(rt; Claims::read(bytes, 4).err(), want, "of {bytes:?}");
+    }
+}
+
+#[test]
+fn wants_bytes(rt: HostRuntime) {
+    let rows: [(&[u8], Reason, u64); 2] = [
+        (b"\xa1\x07\x00", Reason::BadValue, 2),
+        (b"\xa1\x07\x60", Reason::BadValue, 2),
+    ];
+    for (bytes, reason, place) in rows {
+        let want = Some(refusal(reason, place));
+        assert_eq!(rt; Claims::read(bytes, 4).err(), want, "of {bytes:?}");
+    }
+}
+
+#[test]
+fn wants_a_map(rt: HostRuntime) {
+    let rows: [(&[u8], Reason, u64); 4] = [
+        (b"\xa1\x08\x00", Reason::BadValue, 2),
+        (b"\xa1\x08\x80", Reason::BadValue, 2),
+        (b"\xa1\x08\xc1\xa0", Reason::BadValue, 2),
+        (b"\xa1\x08\xa1\x03\x60", Reason::BadValue, 4),
+    ];
+    for (bytes, reason, place) in rows {
+        let want = Some(refusal(reason, place));
+        assert_eq!(rt; Claims::read(bytes, 4).err(), want, "of {bytes:?}");
+    }
+}
+
+/// Every claim goes before every fault of the confirmation.
+#[test]
+fn reads_claims_before_the_confirmation(rt: HostRuntime) {
+    let rows: [(&[u8], Reason, u64); 4] = [
+        (b"\xa2\x08\xa1\x02\x80\x01\x00", Reason::BadValue, 6),
+        (b"\xa2\x08\xa1\x02\x80\x40\x00", Reason::BadLabel, 5),
+        (b"\xa2\x08\xa1\x40\x00\x01\x00", Reason::BadValue, 6),
+        (b"\xa2\x08\xa1\x02\x80\x08\x80", Reason::DuplicateLabel, 5),
+    ];
+    for (bytes, reason, place) in rows {
+        let want = Some(refusal(reason, place));
+        assert_eq!(rt; Claims::read(bytes, 4).err(), want, "of {bytes:?}");
+    }
+}
+
+/// The labels of a confirmation go before its values, in their order.
+#[test]
+fn reads_labels_of_members_first(rt: HostRuntime) {
+    let rows: [(&[u8], Reason, u64); 8] = [
+        (
+            b"\xa1\x08\xa3\x03\x00\x03\x00\x40\x00",
+            Reason::DuplicateLabel,
+            5,
+        ),
+        (b"\xa1\x08\xa3\x03\x00\x40\x00\x03\x00", Reason::BadLabel, 5),
+        (b"\xa1\x08\xa3\x01\xa0\x02\x80\x40\x00", Reason::BadLabel, 7),
+        (
+            b"\xa1\x08\xa4\x01\xa0\x02\x80\x03\x00\x03\x00",
+            Reason::DuplicateLabel,
+            9,
+        ),
+        (b"\xa1\x08\xa2\x02\x80\x02\x80", Reason::DuplicateLabel, 5),
+        (b"\xa1\x08\xa2\x02\x80\x40\x00", Reason::BadLabel, 5),
+        (b"\xa1\x08\xa2\x01\xa0\x01\xa0", Reason::DuplicateLabel, 5),
+        (
+            b"\xa1\x08\xa2\x01\xa2\x01\x04\x20\x41\x61\x40\x00",
+            Reason::BadLabel,
+            10,
+        ),
+    ];
+    for (bytes, reason, place) in rows {
+        let want = Some(refusal(reason, place));
+        assert_eq!(rt; Claims::read(bytes, 4).err(), want, "of {bytes:?}");
+    }
+}
+
+/// Two keys go before either of them, and an encrypted key before the identifier.
+#[test]
+fn refuses_encrypted_keys(rt: HostRuntime) {
+    let rows: [(&[u8], Reason, u64); 7] = [
+        (
+            b"\xa1\x08\xa2\x01\xa2\x01\x04\x20\x41\x61\x02\x80",
+            Reason::BadConfirmation,
+            2,
+        ),
+        (b"\xa1\x08\xa2\x02\x80\x01\xa0", Reason::BadConfirmation, 2),
+        (
+            b"\xa1\x08\xa3\x03\x00\x02\x80\x01\xa0",
+            Reason::BadConfirmation,
+            2,
+        ),
+        (b"\xa1\x08\xa2\x02\x80\x03\x00", Reason::EncryptedKey, 3),
+        (b"\xa1\x08\xa2\x03\x00\x02\x80", Reason::EncryptedKey, 5),
+        (b"\xa1\x08\xa1\x02\x00", Reason::EncryptedKey, 3),
+        (b"\xa1\x08\xa1\x18\x02\x00", Reason::EncryptedKey, 3),
+    ];
+    for (bytes, reason, place) in rows {
+        let want = Some(refusal(reason, place));
+        assert_eq!(rt; Claims::read(bytes, 4).err(), want, "of {bytes:?}");
+    }
+}
+
+/// That a key is one goes before that it is symmetric, and both before the identifier.
+#[test]
+fn refuses_plain_keys(rt: HostRuntime) {
+    let rows: [(&[u8], Reason, u64); 12] = [
+        (b"\xa1\x08\xa1\x01\x00", Reason::BadConfirmation, 4),
+        (b"\xa1\x08\xa1\x01\x80", Reason::BadConfirmation, 4),
+        (b"\xa1\x08\xa1\x01\xa0", Reason::BadConfirmation, 4),
+        (b"\xa1\x08\xa1\x01\xa1\x01\x04", Reason::BadConfirmation, 4),
+        (
+            b"\xa1\x08\xa1\x01\xa2\x01\x04\x20\x40",
+            Reason::BadConfirmation,
+            4,
+        ),
+        (
+            b"\xa1\x08\xa1\x01\xa2\x01\x04\x40\x00",
+            Reason::BadConfirmation,
+            4,
+        ),
+        (
+            b"\xa1\x08\xa1\x01\xa3\x01\x04\x20\x41\x61\x02\x00",
+            Reason::BadConfirmation,
+            4,
+        ),
+        (
+            b"\xa1\x08\xa1\x01\xa2\x01\x04\x20\x41\x61",
+            Reason::PlainKey,
+            4,
+        ),
+        (b"\xa1\x08\xa2\x01\xa0\x03\x00", Reason::BadConfirmation, 4),
+        (b"\xa1\x08\xa2\x03\x00\x01\xa0", Reason::BadConfirmation, 6),
+        (
+            b"\xa1\x08\xa2\x01\xa2\x01\x04\x20\x41\x61\x03\x00",
+            Reason::PlainKey,
+            4,
+        ),
+        (
+            b"\xa1\x08\xa2\x03\x00\x01\xa2\x01\x04\x20\x41\x61",
+            Reason::PlainKey,
+            6,
+        ),
+    ];
+    for (bytes, reason, place) in rows {
+        let want = Some(refusal(reason, place));
+        assert_eq!(rt; Claims::read(bytes, 4).err(), want, "of {bytes:?}");
+    }
+}
+
+/// Other claims and members are ignored, those of labels next to the known ones among them.
+#[test]
+fn ignores_others(rt: HostRuntime) {
+    let rows: [&[u8]; 13] = [
+        b"\xa1\x18\x64\x81\x81\x81\x00",
+        b"\xa1\x18\x64\xd8\x3d\x00",
+        b"\xa1\x00\x60",
+        b"\xa1\x09\x60",
+        b"\xa1\x20\x60",
+        b"\xa1\x23\x60",
+        b"\xa1\x27\x60",
+        b"\xa1\x61\x34\x60",
+        b"\xa1\x08\xa1\x00\x60",
+        b"\xa1\x08\xa1\x04\x60",
+        b"\xa1\x08\xa1\x20\x60",
+        b"\xa1\x08\xa1\x22\x60",
+        b"\xa1\x08\xa1\x61\x31\x60",
+    ];
+    for bytes in rows {
+        assert_eq!(rt; Claims::read(bytes, 4).err(), None, "of {bytes:?}");
+    }
+}
+
+/// Texts and bytes may be empty, and dates have a sign.
+#[test]
+fn gives_the_least_values(rt: HostRuntime) -> Result<(), Fail> {
+    assert_eq!(rt; Claims::read(b"\xa1\x01\x60", 4)?.iss(), Some(""));
+    assert_eq!(rt; Claims::read(b"\xa1\x02\x60", 4)?.sub(), Some(""));
+    assert_eq!(rt; Claims::read(b"\xa1\x03\x60", 4)?.auds().next(), Some(""));
+    assert_eq!(rt;
+        Claims::read(b"\xa1\x03\x81\x60", 4)?.auds().next(),
+        Some("")
+    );
+    assert_eq!(rt; Claims::read(b"\xa1\x04\x00", 4)?.exp(), Some(0));
+    assert_eq!(rt; Claims::read(b"\xa1\x04\x20", 4)?.exp(), Some(-1));
+    assert_eq!(rt; Claims::read(b"\xa1\x05\x00", 4)?.nbf(), Some(0));
+    assert_eq!(rt; Claims::read(b"\xa1\x05\x20", 4)?.nbf(), Some(-1));
+    assert_eq!(rt; Claims::read(b"\xa1\x06\x00", 4)?.iat(), Some(0));
+    assert_eq!(rt; Claims::read(b"\xa1\x06\x20", 4)?.iat(), Some(-1));
+    assert_eq!(rt;
+        Claims::read(b"\xa1\x07\x40", 4)?.cti(),
+        Some(b"".as_slice())
+    );
+    Ok(())
+}
+
+/// The identifier of the token, and the identifier of the key that it confirms.
+#[test]
+fn gives_both_identifiers(rt: HostRuntime) -> Result<(), Fail> {
+    let claims = Claims::read(b"\xa2\x07\x41\x01\x08\xa1\x03\x41\x31", 4)?;
+    assert_eq!(rt; claims.cti(), Some(b"\x01".as_slice()));
+    match claims.cnf() {
+        Some(cnf) => {
+            assert_eq!(rt; cnf.kid, Some(b"1".as_slice()));
+            assert!(rt; cnf.key.is_none());
+        }
+        None => panic!(rt; "a confirmation by its identifier"),
+    }
+    Ok(())
+}
