@@ -22,6 +22,8 @@ use crate::laws::claims_refusals_stand_inside;
 use cose_map::{ItemRef, KeySet, Pairs, Reason, Refusal, check_map, refused};
 
 /// The claims of a token, each known one of its form. They borrow the bytes that they were read from.
+///
+/// `Debug` prints how many bytes there are, and none of the claims, among which a key may be.
 #[derive(Clone, Copy, Debug)]
 pub struct Claims<'a> {
     pub(crate) pairs: Pairs<'a>,

@@ -5,15 +5,19 @@ ghost use Rattle.cose_head.specs.Placed.{if_utf8};
 ghost use Rattle.cose_head.specs.Whole.{is_one_item, whole};
 
 use crate::head::{Head, HeadStep, parse_head};
+use crate::hidden::Hidden;
 use crate::item::item_at;
 use crate::reason::Reason;
 use crate::refusal::Refusal;
+use std::fmt;
 
 /// A data item: its bytes, and the place of the first.
 ///
 /// The type keeps that the bytes are exactly one item, of a nesting of at most 32. [`ItemRef::read`] makes one of bytes,
 /// and [`Items`](crate::Items) gives those of children. What the methods say rests on that, and on the bytes alone.
-#[derive(Clone, Copy, Debug)]
+///
+/// `Debug` prints how many bytes there are, and none of them: the item may be a key.
+#[derive(Clone, Copy)]
 pub struct ItemRef<'a> {
     /// The bytes of the item.
     pub bytes: &'a [u8],
@@ -194,5 +198,14 @@ impl<'a> ItemRef<'a> {
         ensures { result ≡ is_a_map (look (placed self.now)) }
     {
         self.head().major == 5
+    }
+}
+
+impl fmt::Debug for ItemRef<'_> {
+    fn fmt<W: fmt::Write>(&self, f: &mut fmt::Formatter<W>) -> fmt::Result {
+        f.debug_struct("ItemRef")
+            .field("bytes", &Hidden(self.bytes))
+            .field("place", &self.place)
+            .finish()
     }
 }

@@ -6,13 +6,17 @@ ghost use Rattle.cose_head.specs.Reading.{child_count};
 ghost use Rattle.cose_head.specs.Whole.{is_one_item};
 
 use crate::head::{Head, HeadStep, parse_head};
+use crate::hidden::Hidden;
 use crate::item::read_item;
 use crate::item_ref::ItemRef;
+use std::fmt;
 
 /// The direct children of an array or a map, in their order. A map's are label, value, label, value.
 ///
 /// They are read one by one from the bytes, as the iterator comes to them, each of a nesting of at most 32.
-#[derive(Clone, Copy, Debug)]
+///
+/// `Debug` prints how many bytes and children are left, and none of the bytes: they may be a key's.
+#[derive(Clone, Copy)]
 pub struct Items<'a> {
     rest: &'a [u8],
     place: u64,
@@ -107,5 +111,15 @@ impl<'a> Iterator for Items<'a> {
         self.place += span.length as u64;
         self.rest = rest;
         Some(ItemRef { bytes, place })
+    }
+}
+
+impl fmt::Debug for Items<'_> {
+    fn fmt<W: fmt::Write>(&self, f: &mut fmt::Formatter<W>) -> fmt::Result {
+        f.debug_struct("Items")
+            .field("rest", &Hidden(self.rest))
+            .field("place", &self.place)
+            .field("left", &self.left)
+            .finish()
     }
 }

@@ -8,6 +8,8 @@
 //!
 //! [`Alg`] is the table of algorithms: the [`Kind`] of message of each, its [`Hash`], and the [`KeyType`] of its keys.
 //!
+//! `Debug` of an [`ItemRef`] and of [`Items`] prints how many bytes there are, and none of them ([`Hidden`]): they may be a key's.
+//!
 //! ```
 //! // A map of one pair, {1: 5}, whose first byte stands at place 3 of a message.
 //! let map = ItemRef::read(b"\xa1\x01\x05", 3, 8)?;
@@ -34,6 +36,7 @@
 mod algorithm;
 mod half_head;
 mod head;
+mod hidden;
 mod item;
 mod item_ref;
 mod items;
@@ -45,6 +48,7 @@ mod walker;
 
 pub use algorithm::{Alg, Hash, KeyType};
 pub use head::{Head, HeadStep, parse_head, write_head};
+pub use hidden::Hidden;
 pub use item::{Span, read_item};
 pub use item_ref::ItemRef;
 pub use items::Items;

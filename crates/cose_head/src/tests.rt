@@ -4,6 +4,7 @@ use super::*;
 use rows::{refused, rows, whole};
 use std::alloc::AllocError;
 use std::process::Abort;
+use std::test::Fail;
 
 pub(crate) mod rows;
 
@@ -468,4 +469,26 @@ fn does_what_the_example_says(rt: HostRuntime) {
     assert_eq!(rt; walker.put(0xa1), Step::Going);
     assert_eq!(rt; walker.put(0x01), Step::Going);
     assert_eq!(rt; walker.put(0x05), Step::Done);
+}
+
+#[test]
+fn shows_no_bytes_of_items(rt: HostRuntime) -> Result<(), Fail> {
+    // A key {1: 2, -4: h'64'}: of an item, of what is left of its children after the first, and of a value, the bytes are hidden.
+    let key = ItemRef::read(b"\xa2\x01\x02\x23\x41\x64", 7, 2).or(Err("no item"))?;
+    let shown = format!(in rt.alloc(); "{key:?}")?;
+    assert_eq!(rt; shown.as_str(), "ItemRef { bytes: 6 bytes, place: 7 }");
+
+    let mut children = Items::of(&key);
+    let label = children.next();
+    let shown = format!(in rt.alloc(); "{label:?}")?;
+    assert_eq!(rt;
+        shown.as_str(),
+        "Some(ItemRef { bytes: 1 bytes, place: 8 })"
+    );
+    let shown = format!(in rt.alloc(); "{children:?}")?;
+    assert_eq!(rt;
+        shown.as_str(),
+        "Items { rest: 4 bytes, place: 9, left: 3 }"
+    );
+    Ok(())
 }

@@ -21,6 +21,7 @@
 //! signatures [`Alg::auth_length`].
 #![tactic(auto)]
 
+mod comparison;
 mod hash;
 mod hasher;
 mod hmac;
@@ -30,6 +31,7 @@ mod structure;
 #[cfg(test)]
 mod tests;
 
+pub use comparison::same_bytes;
 pub use cose_head::{Alg, Kind};
 pub use running::Running;
 pub use structure::structure_front;

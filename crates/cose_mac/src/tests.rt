@@ -7,6 +7,7 @@ use sha2::Digest;
 use std::convert::AsSlice;
 use std::process::Abort;
 
+mod comparison;
 mod keys;
 mod rfc_4231;
 mod structures;

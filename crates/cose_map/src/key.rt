@@ -2,7 +2,6 @@
 
 mod curve;
 mod form;
-pub mod hidden;
 mod labels;
 pub mod material;
 mod members;

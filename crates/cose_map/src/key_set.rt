@@ -9,11 +9,10 @@ mod items;
 
 use crate::choice::fitting::Fitting;
 use crate::choice::query::Query;
-use crate::key::hidden::Hidden;
 use crate::key::{Key, NESTING};
 use crate::key_set::items::KeyItems;
 use crate::map::read::refused;
-use cose_head::{ItemRef, Reason, Refusal};
+use cose_head::{Hidden, ItemRef, Reason, Refusal};
 use std::fmt;
 
 /// A key set has at most so many bytes.

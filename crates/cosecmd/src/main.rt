@@ -5,6 +5,7 @@ mod answer;
 mod fault;
 mod job;
 mod line;
+mod mistake;
 mod print;
 mod reply;
 mod run;

@@ -8,6 +8,7 @@ mod feeding;
 mod long;
 mod making;
 mod messages;
+mod mistakes;
 mod options;
 mod rows;
 mod runs;

@@ -3,6 +3,7 @@
 ghost use Rattle.std.specs.Prelude.{◌≤◌, IfOk, length as length_of};
 
 use crate::fault::Fault;
+use crate::mistake::mistake;
 use crate::reply::{Reply, Status};
 use clap::error::ErrorKind;
 use clap::{Arg, ArgMatches, Command, value_parser};
@@ -268,7 +269,7 @@ fn line<'a>(alloc: Global) -> Result<Command<'a>, AllocError> {
         .subcommand(make_line(alloc)?)
 }
 
-/// The text of a line that is refused, or the help or version that it asks for.
+/// The text of a line that is refused, which repeats none of its arguments, or the help or version that it asks for.
 fn refused_line(alloc: Global, error: clap::Error) -> Result<Reply, Fault> {
     if matches!(error.kind(), ErrorKind::OutOfMemory) {
         return Err(Fault::Memory);
@@ -278,7 +279,7 @@ fn refused_line(alloc: Global, error: clap::Error) -> Result<Reply, Fault> {
     } else {
         Status::Done
     };
-    let text = format!(in alloc; "{error}")?;
+    let text = mistake(alloc, error.kind(), format!(in alloc; "{error}")?.as_str())?;
     Ok(Reply { status, text })
 }
 

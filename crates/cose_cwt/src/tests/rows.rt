@@ -201,3 +201,19 @@ fn gives_the_confirmation(rt: HostRuntime) -> Result<(), Fail> {
     assert_eq!(rt; by_key.cnf_set().map(|keys| keys.count()), Some(1));
     Ok(())
 }
+
+#[test]
+fn shows_no_bytes_of_claims(rt: HostRuntime) -> Result<(), Fail> {
+    // The key of cnf has its private part d (label -4), which no getter gives.
+    let bytes = b"\xa1\x08\xa1\x01\xa5\x01\x02\x20\x01\x21\x58\x20\
+        01234567890123456789012345678901\x22\xf5\x23\x58\x20\
+        dddddddddddddddddddddddddddddddd";
+    let claims = Claims::read(bytes, 4).or(Err("no claims"))?;
+    let shown = format!(in rt.alloc(); "{claims:?}")?;
+    assert_eq!(rt;
+        shown.as_str(),
+        "Claims { pairs: Pairs { items: Items { rest: 80 bytes, place: 1, left: 2 } }, \
+         confirmation: Some(Confirmation { key: Some(ItemRef { bytes: 77 bytes, place: 4 }), kid: None }) }"
+    );
+    Ok(())
+}

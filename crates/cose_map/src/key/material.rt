@@ -10,9 +10,8 @@ ghost use Rattle.cose_map.specs.Map.View.{seen_by};
 ghost use Rattle.cose_map.specs.Key.View.{contents, material_value, y_value};
 
 use crate::key::curve::Curve;
-use crate::key::hidden::Hidden;
 use crate::map::read::refused;
-use cose_head::{ItemRef, Reason, Refusal};
+use cose_head::{Hidden, ItemRef, Reason, Refusal};
 use std::fmt;
 
 /// The coordinate y of a point: its bytes, or its sign alone (RFC 9053 section 7.1.1). `Debug` prints how many

@@ -11,7 +11,7 @@ use crate::verdict::Verdict;
 use crate::verifier::Verifier;
 use arrayvec::ArrayVec;
 use cose_head::{Head, HeadStep, Kind, Reason};
-use cose_mac::Alg;
+use cose_mac::{Alg, same_bytes};
 
 /// The most bytes of a tag or signature of a message that is only inspected.
 const INSPECTED_LIMIT: u64 = 65_535;
@@ -190,7 +190,9 @@ impl<'k, const H: usize, const D: usize> Verifier<'k, H, D> {
     {
         self.hashing.finish();
         if alg.is_mac() {
-            if self.auth.as_slice() == self.hashing.result() {
+            let received = self.auth.as_slice();
+            let computed = self.hashing.result();
+            if same_bytes(received, computed) {
                 self.phase = Phase::Settled(Verdict::Authentic {
                     kind: whole.kind,
                     alg,

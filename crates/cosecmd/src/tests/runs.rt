@@ -121,7 +121,7 @@ fn explains_its_line(rt: HostRuntime) -> Result<(), Fail> {
             "0 told, 1 refused, 2 no answer",
             0,
         ),
-        (&["cosecmd", "sign"], "unrecognized subcommand 'sign'", 2),
+        (&["cosecmd", "sign"], "unrecognized subcommand\n", 2),
     ];
     for (words, part, status) in rows {
         let mut output = Vec::new(alloc);

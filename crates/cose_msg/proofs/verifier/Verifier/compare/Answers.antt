@@ -12,13 +12,13 @@ use Rattle.cose_msg.proofs.Opened.{finished, tag_compared}
 use Rattle.cose_msg.proofs.Standing.{moved}
 use Rattle.cose_msg.proofs.verifier.Verifier.compare.Goals as goal
 
-pub returns-then-eq : goal.returns-then-eq
-returns-then-eq g c = record {
+pub returns-then-same_bytes : goal.returns-then-same_bytes
+returns-then-same_bytes g c = record {
   stands = λ task known found at e key chosen alg count fed auth.
       let mac : is_mac_of found.alg ≡ true = ap is_mac_of alg ∙ (sym c.is_mac.ensures ∙ c.if-is_mac.true) in
       let verifies = is_verified found known.chosen task.inspects chosen key.2 in
-      let computed = c.result.ensures ∙ finished c.args.self.now.hashing (structure task.setting.aad known.headers known.payload) _ found c.finish.ensures known.chosen chosen fed in
-      let same : bytes_eq known.auth c.result.result.now ≡ true = rw (← auth) (rw c.as_slice.ensures.value at (sym c.eq.ensures ∙ c.if-eq.true)) in
+      let computed = c.result-computed.ensures ∙ finished c.args.self.now.hashing (structure task.setting.aad known.headers known.payload) _ found c.finish.ensures known.chosen chosen fed in
+      let same : bytes_eq known.auth c.result-computed.result.now ≡ true = rw (← auth) (rw c.as_slice-received.ensures.value at (sym c.same_bytes.ensures ∙ c.if-same_bytes.true)) in
       record {
         known = known;
         told = headers_told known.headers known.payload;
@@ -26,19 +26,19 @@ returns-then-eq g c = record {
         payload_known = refl;
         payload_told = refl;
         holds = (refl, λ is. verifies);
-        left = λ z. rw verifies (ap (λ (x : Option Chosen). settled (headers_told known.headers known.payload) (compared task.setting.aad x (whole_of known c.args.whole.head_at c.args.whole.taken))) chosen ∙ ap (settled (headers_told known.headers known.payload)) (tag_compared task.setting.aad known found c.result.result.now c.args.whole.head_at c.args.whole.taken true mac computed same ∙ rw (key.0, alg, count) refl));
+        left = λ z. rw verifies (ap (λ (x : Option Chosen). settled (headers_told known.headers known.payload) (compared task.setting.aad x (whole_of known c.args.whole.head_at c.args.whole.taken))) chosen ∙ ap (settled (headers_told known.headers known.payload)) (tag_compared task.setting.aad known found c.result-computed.result.now c.args.whole.head_at c.args.whole.taken true mac computed same ∙ rw (key.0, alg, count) refl));
       };
 }
 
-pub returns-else-eq : goal.returns-else-eq
-returns-else-eq g c = record {
+pub returns-else-same_bytes : goal.returns-else-same_bytes
+returns-else-same_bytes g c = record {
   stands = λ task known found at e key chosen alg count fed auth.
       let mac : is_mac_of found.alg ≡ true = ap is_mac_of alg ∙ (sym c.is_mac.ensures ∙ c.if-is_mac.true) in
       let verifies = is_verified found known.chosen task.inspects chosen key.2 in
-      let computed = c.result.ensures ∙ finished c.args.self.now.hashing (structure task.setting.aad known.headers known.payload) _ found c.finish.ensures known.chosen chosen fed in
-      let same : bytes_eq known.auth c.result.result.now ≡ false = rw (← auth) (rw c.as_slice.ensures.value at (sym c.eq.ensures ∙ c.if-eq.false)) in
+      let computed = c.result-computed.ensures ∙ finished c.args.self.now.hashing (structure task.setting.aad known.headers known.payload) _ found c.finish.ensures known.chosen chosen fed in
+      let same : bytes_eq known.auth c.result-computed.result.now ≡ false = rw (← auth) (rw c.as_slice-received.ensures.value at (sym c.same_bytes.ensures ∙ c.if-same_bytes.false)) in
       moved c.refuse.new.self _ _ refl refl
-      (λ z. rw verifies (ap (λ (x : Option Chosen). settled (headers_told known.headers known.payload) (compared task.setting.aad x (whole_of known c.args.whole.head_at c.args.whole.taken))) chosen ∙ ap (settled (headers_told known.headers known.payload)) (tag_compared task.setting.aad known found c.result.result.now c.args.whole.head_at c.args.whole.taken false mac computed same)))
+      (λ z. rw verifies (ap (λ (x : Option Chosen). settled (headers_told known.headers known.payload) (compared task.setting.aad x (whole_of known c.args.whole.head_at c.args.whole.taken))) chosen ∙ ap (settled (headers_told known.headers known.payload)) (tag_compared task.setting.aad known found c.result-computed.result.now c.args.whole.head_at c.args.whole.taken false mac computed same)))
       (c.refuse.ensures task known.payload c.args.whole.taken (headers_told known.headers known.payload) e refl);
 }
 

@@ -1,10 +1,10 @@
-//! What a log shows in place of the bytes of keys.
+//! What a log shows in place of bytes that may be a key's.
 
 use std::fmt;
 
 /// Bytes that no log may show: `Debug` prints how many they are.
 #[derive(Clone, Copy)]
-pub(crate) struct Hidden<'a>(pub(crate) &'a [u8]);
+pub struct Hidden<'a>(pub &'a [u8]);
 
 impl fmt::Debug for Hidden<'_> {
     fn fmt<W: fmt::Write>(&self, f: &mut fmt::Formatter<W>) -> fmt::Result {

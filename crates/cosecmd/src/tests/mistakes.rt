@@ -1,0 +1,75 @@
+//! Arguments that are refused: what is printed names the option that was expected, and repeats no argument, which may be a key
+//! that lacks its option.
+
+use crate::run::run;
+use std::test::Fail;
+
+/// A key set of the key `Jefe`.
+const KEYS: &str = "a2010420444a656665";
+
+/// What is printed of an argument that no option takes, behind `verify`.
+const NO_OPTION: &str = "error: unexpected argument found\n\n\
+    Usage: cosecmd verify [OPTIONS] --keys <HEX>\n\n\
+    For more information, try '--help'.\n";
+
+/// What is printed where the option is spelt wrongly: the usage is that of the option that was meant.
+const OTHER_SPELLING: &str = "error: unexpected argument found\n\n\
+    Usage: cosecmd verify --keys <HEX>\n\n\
+    For more information, try '--help'.\n";
+
+#[test]
+fn names_the_option_without_the_argument(rt: HostRuntime) -> Result<(), Fail> {
+    let rows: [(&[&str], &str); 13] = [
+        (&["verify", KEYS], NO_OPTION),
+        (&["verify", "--keys", KEYS, KEYS], NO_OPTION),
+        (&["verify", "--a2010420444a656665"], NO_OPTION),
+        (&["verify", "--kesy", KEYS], OTHER_SPELLING),
+        (&["verify", "--kesy=a2010420444a656665"], OTHER_SPELLING),
+        (&["verify", "-a2010420444a656665"], NO_OPTION),
+        (&["verify", "--", KEYS], NO_OPTION),
+        (
+            &[KEYS],
+            "error: unrecognized subcommand\n\nUsage: cosecmd <COMMAND>\n\n\
+             For more information, try '--help'.\n",
+        ),
+        (
+            &["verify", "--keys", KEYS, "--kind", KEYS],
+            "error: invalid value for '--kind <KIND>'\n  \
+             [possible values: mac0, sign1, tagged]\n\n\
+             For more information, try '--help'.\n",
+        ),
+        (
+            &["verify", "--kind", "x' for '4a656665"],
+            "error: invalid value for '--kind <KIND>'\n  \
+             [possible values: mac0, sign1, tagged]\n\n\
+             For more information, try '--help'.\n",
+        ),
+        (
+            &["cwt", "--now", KEYS],
+            "error: invalid value for '--now <N>'\n\n\
+             For more information, try '--help'.\n",
+        ),
+        (&["verify", "\n\nUsage: a2010420444a656665"], NO_OPTION),
+        (
+            &["verify", "--keys"],
+            "error: a value is required for '--keys <HEX>' but none was supplied\n\n\
+             For more information, try '--help'.\n",
+        ),
+    ];
+    for (options, expected) in rows {
+        let mut words = Vec::new(rt.alloc());
+        words.push("cosecmd")?;
+        words.extend_from_slice(options)?;
+        let mut output = Vec::new(rt.alloc());
+        let status = run(
+            rt.alloc(),
+            words.as_slice(),
+            &mut b"".as_slice(),
+            &mut output,
+        );
+        let text = str::from_utf8(output.as_slice()).or(Err("no text"))?;
+        assert_eq!(rt; text, expected, "{options:?}");
+        assert_eq!(rt; status, 2, "{options:?}");
+    }
+    Ok(())
+}
