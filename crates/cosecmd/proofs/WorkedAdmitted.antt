@@ -100,7 +100,9 @@ said_of_few = refl
 
 -- In the order of their labels, whatever that of the payload is; the key goes before its identifier.
 order_of_labels : Prints (said 1 0 None) (
-    ("a3 0602 026161 016162", lines ("admitted" ∷ "iss 62" ∷ "sub 61" ∷ "iat 2" ∷ [])) ∷ [])
+    ("a3 0602 026161 016162", lines ("admitted" ∷ "iss 62" ∷ "sub 61" ∷ "iat 2" ∷ [])) ∷
+    ("a2 074101 08a1034131", lines ("admitted" ∷ "cti 01" ∷ "cnf kid 31" ∷ [])) ∷
+    ("a2 08a1034131 074101", lines ("admitted" ∷ "cti 01" ∷ "cnf kid 31" ∷ [])) ∷ [])
 unfolding said
 order_of_labels = refl
 
