@@ -86,12 +86,13 @@ fn answer_make<R: Read, W: Write>(alloc: Global, words: &Make, input: &mut R, ou
     ensures printed { (bytes : List ℕ) → R.remaining input.old ≡ Some bytes →
         EndsWith (made_for words.now bytes) (W.contents output.old) (W.contents output.new) result }
 {
+    let aad = words.aad.as_slice();
     let job = Job::Make {
         alg: words.alg,
         key: words.key.as_slice(),
         length: words.length,
         kid: slice_of(&words.kid),
-        aad: words.aad.as_slice(),
+        aad,
     };
     answer(alloc, &job, input, output)
 }
