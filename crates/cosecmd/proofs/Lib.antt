@@ -1,5 +1,7 @@
 pub mod Admissions
+pub mod Asked
 pub mod Digests
+pub mod Failures
 pub mod Makings
 pub mod Replies
 pub mod Shows

@@ -1,5 +1,5 @@
 -- What the program prints for a job and an input, and how it ends.
-use Rattle.std.specs.Prelude.{◌≡◌, ◌≢◌, ℕ, ◌-◌, ◌^◌, true, List, [], ◌∷◌, ◌++◌, length, map, take, Option, Some, None, Ok, Err, option_map, codes, string_bytes, nat_lt, if◌then◌else◌}
+use Rattle.std.specs.Prelude.{◌≡◌, ◌≢◌, ℕ, ◌<◌, ◌-◌, ◌^◌, true, List, [], ◌∷◌, ◌++◌, length, map, take, Option, Some, None, Ok, Err, option_map, codes, string_bytes, nat_lt, if◌then◌else◌}
 use Rattle.std.specs.List.{concat}
 use Rattle.std.specs.Fmt.{decimal, signed_decimal}
 use Rattle.std.specs.Io.KnownBytes.{Appends}
@@ -237,3 +237,7 @@ pub record Says (output : Output) (reply : Reply) : Type 0 where
 -- What a run wrote and how it ended is this, but for a fault.
 abbrev pub Prints : Output → Option (List ℕ) → Option (List ℕ) → Status → Type 0
 Prints output old new status = status ≢ statuses.Fault → (status ≡ output.status) × Appends old new output.text
+
+-- A run that ends with this exit status: but for a fault it wrote this output, and ended so.
+abbrev pub EndsWith : Output → Option (List ℕ) → Option (List ℕ) → ℕ → Type 0
+EndsWith output old new status = status < 2 → (status ≡ code_of output.status) × Appends old new output.text

@@ -1,9 +1,8 @@
 //! What the program answers to a job, over any reader and writer.
 
-ghost use Rattle.std.specs.Prelude.{◌≡◌, ◌≤◌, ◌<◌, ℕ, List, Some, length as length_of};
-ghost use Rattle.std.specs.Io.KnownBytes.{Appends};
+ghost use Rattle.std.specs.Prelude.{◌≡◌, ◌≤◌, ℕ, List, Some, length as length_of};
 ghost use Rattle.cosecmd.specs.Job.{aad_of};
-ghost use Rattle.cosecmd.specs.Printed.{Prints, code_of, printed};
+ghost use Rattle.cosecmd.specs.Printed.{EndsWith, Prints, printed};
 
 mod cwt;
 mod digest;
@@ -83,8 +82,8 @@ pub fn answer<R: Read, W: Write>(alloc: Global, job: &Job, input: &mut R, output
     requires external { length_of (aad_of job.now) ≤ 65535 }
     ensures status { result ≤ 2 }
     // But for a fault it prints what the job and all that the reader gives come to, and ends so.
-    ensures printed { (bytes : List ℕ) → R.remaining input.old ≡ Some bytes → result < 2 →
-        (result ≡ code_of (printed job.now bytes).status) × Appends (W.contents output.old) (W.contents output.new) (printed job.now bytes).text }
+    ensures printed { (bytes : List ℕ) → R.remaining input.old ≡ Some bytes →
+        EndsWith (printed job.now bytes) (W.contents output.old) (W.contents output.new) result }
 {
     status_of(alloc, job, input, output).code()
 }

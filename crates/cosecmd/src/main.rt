@@ -1,6 +1,9 @@
 //! The program `cosecmd`: verifies COSE messages (RFC 9052) and CBOR Web Tokens (RFC 8392), and makes COSE_Mac0.
 #![tactic(auto)]
 
+ghost use Rattle.std.specs.Prelude.{◌≡◌};
+ghost use Rattle.std.specs.Process.{exit_status};
+
 mod answer;
 mod fault;
 mod job;
@@ -40,7 +43,9 @@ fn borrowed_words(alloc: Global, owned: &[String]) -> Result<Vec<&str>, AllocErr
 }
 
 /// Writes what is wrong with the words themselves.
-fn complain<W: Write>(output: &mut W, text: &str) -> ExitCode {
+fn complain<W: Write>(output: &mut W, text: &str) -> ExitCode
+    ensures { exit_status result ≡ 2 }
+{
     let _ = output.write_all(text.as_bytes());
     ExitCode::from(2)
 }

@@ -1,6 +1,9 @@
 //! A run of the program: its words, and then its job.
 
-ghost use Rattle.std.specs.Prelude.{◌≤◌};
+ghost use Rattle.std.specs.Prelude.{◌≡◌, ◌≤◌, ℕ, List, Some, option_map};
+ghost use Rattle.cose_map.specs.Key.View.{contents};
+ghost use Rattle.cosecmd.specs.Printed.{EndsWith};
+ghost use Rattle.cosecmd.specs.Words.{admitted_for, asked_for, digested_for, made_for, verified_for};
 
 use crate::answer::answer;
 use crate::job::Job;
@@ -10,6 +13,16 @@ use crate::words::{Cwt, Digest, Make, Request, Verify, request_of};
 use std::alloc::Global;
 use std::io::{Read, Write};
 
+/// The bytes of a word, where it is there.
+fn slice_of(word: &Option<Vec<u8>>) -> Option<&[u8]>
+    ensures { option_map contents result ≡ option_map (λ word. word.items) word.now }
+{
+    match word {
+        Some(word) => Some(word.as_slice()),
+        None => None,
+    }
+}
+
 /// The job of the command `verify`.
 fn answer_verify<R: Read, W: Write>(
     alloc: Global,
@@ -17,35 +30,31 @@ fn answer_verify<R: Read, W: Write>(
     input: &mut R,
     output: &mut W,
 ) -> u8
-    ensures { result ≤ 2 }
+    ensures status { result ≤ 2 }
+    ensures printed { (bytes : List ℕ) → R.remaining input.old ≡ Some bytes →
+        EndsWith (verified_for words.now bytes) (W.contents output.old) (W.contents output.new) result }
 {
-    let vouch = match &words.vouch {
-        Some(vouch) => Some(vouch.as_slice()),
-        None => None,
-    };
     let job = Job::Verify {
         keys: words.keys.as_slice(),
         aad: words.aad.as_slice(),
         wanted: words.wanted,
-        vouch,
+        vouch: slice_of(&words.vouch),
     };
     answer(alloc, &job, input, output)
 }
 
 /// The job of the command `cwt`.
 fn answer_cwt<R: Read, W: Write>(alloc: Global, words: &Cwt, input: &mut R, output: &mut W) -> u8
-    ensures { result ≤ 2 }
+    ensures status { result ≤ 2 }
+    ensures printed { (bytes : List ℕ) → R.remaining input.old ≡ Some bytes →
+        EndsWith (admitted_for words.entry.now bytes) (W.contents output.old) (W.contents output.new) result }
 {
     let verify = &words.verify;
-    let vouch = match &verify.vouch {
-        Some(vouch) => Some(vouch.as_slice()),
-        None => None,
-    };
     let job = Job::Cwt {
         keys: verify.keys.as_slice(),
         aad: verify.aad.as_slice(),
         wanted: verify.wanted,
-        vouch,
+        vouch: slice_of(&verify.vouch),
         now: words.now,
         leeway: words.leeway,
         aud: words.aud,
@@ -60,7 +69,9 @@ fn answer_digest<R: Read, W: Write>(
     input: &mut R,
     output: &mut W,
 ) -> u8
-    ensures { result ≤ 2 }
+    ensures status { result ≤ 2 }
+    ensures printed { (bytes : List ℕ) → R.remaining input.old ≡ Some bytes →
+        EndsWith (digested_for words.now bytes) (W.contents output.old) (W.contents output.new) result }
 {
     let job = Job::Digest {
         keys: words.keys.as_slice(),
@@ -71,20 +82,41 @@ fn answer_digest<R: Read, W: Write>(
 
 /// The job of the command `make`.
 fn answer_make<R: Read, W: Write>(alloc: Global, words: &Make, input: &mut R, output: &mut W) -> u8
-    ensures { result ≤ 2 }
+    ensures status { result ≤ 2 }
+    ensures printed { (bytes : List ℕ) → R.remaining input.old ≡ Some bytes →
+        EndsWith (made_for words.now bytes) (W.contents output.old) (W.contents output.new) result }
 {
-    let kid = match &words.kid {
-        Some(kid) => Some(kid.as_slice()),
-        None => None,
-    };
+    let aad = words.aad.as_slice();
     let job = Job::Make {
         alg: words.alg,
         key: words.key.as_slice(),
         length: words.length,
-        kid,
-        aad: words.aad.as_slice(),
+        kid: slice_of(&words.kid),
+        aad,
     };
     answer(alloc, &job, input, output)
+}
+
+/// Does what the words ask for, and says how the run ends.
+fn answer_request<R: Read, W: Write>(
+    alloc: Global,
+    request: &Request,
+    input: &mut R,
+    output: &mut W,
+) -> u8
+    ensures status { result ≤ 2 }
+    // But for a fault it prints what these words and all that the reader gives result in, and ends so.
+    ensures printed { (bytes : List ℕ) → R.remaining input.old ≡ Some bytes →
+        EndsWith (asked_for request.entry.now bytes) (W.contents output.old) (W.contents output.new) result }
+{
+    match request {
+        Request::Show(wanted) => answer(alloc, &Job::Show { wanted: *wanted }, input, output),
+        Request::Verify(words) => answer_verify(alloc, words, input, output),
+        Request::Cwt(words) => answer_cwt(alloc, words, input, output),
+        Request::Digest(words) => answer_digest(alloc, words, input, output),
+        Request::Make(words) => answer_make(alloc, words, input, output),
+        Request::Print(Reply { status, text }) => print(output, text.as_str(), *status).code(),
+    }
 }
 
 /// Runs the program: `words` are those of the command line, the first of them its name. The message, or the payload of
@@ -102,14 +134,7 @@ pub fn run<'a, R: Read, W: Write>(
     ensures { result ≤ 2 }
 {
     match request_of(alloc, words) {
-        Ok(Request::Show(wanted)) => answer(alloc, &Job::Show { wanted }, input, output),
-        Ok(Request::Verify(words)) => answer_verify(alloc, &words, input, output),
-        Ok(Request::Cwt(words)) => answer_cwt(alloc, &words, input, output),
-        Ok(Request::Digest(words)) => answer_digest(alloc, &words, input, output),
-        Ok(Request::Make(words)) => answer_make(alloc, &words, input, output),
-        Ok(Request::Print(Reply { status, text })) => {
-            print(output, text.as_str(), status).code()
-        }
+        Ok(request) => answer_request(alloc, &request, input, output),
         Err(fault) => print_fault(alloc, fault, output).code(),
     }
 }

@@ -1,5 +1,6 @@
 //! Messages and runs whose answers come from the standards' equations, not from this program.
 
+mod commands;
 mod contexts;
 mod cwt;
 mod digests;

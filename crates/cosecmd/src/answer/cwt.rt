@@ -1,6 +1,6 @@
 //! The lines of the job `cwt`: the claims of a token, where they are admitted.
 
-ghost use Rattle.std.specs.Prelude.{◌≡◌, ◌≢◌, ◌≤◌, ◌↔◌, ◌++◌, ℕ, true, false, List, [], Some, None, Ok, Err, IfErr, IfOk, codes, length, map, option_map, string_bytes};
+ghost use Rattle.std.specs.Prelude.{◌≡◌, ◌≢◌, ◌≤◌, ◌↔◌, ◌++◌, ◌||◌, ℕ, true, false, List, [], Some, None, Ok, Err, IfErr, IfOk, codes, is_some, length, map, option_map, string_bytes};
 ghost use Rattle.std.specs.List.{concat};
 ghost use Rattle.cose_head.specs.declared.refusal.Refusal.{Refusal};
 ghost use Rattle.cose_map.specs.Key.View.{contents, key_value};
@@ -16,6 +16,7 @@ ghost use Rattle.cose_cwt.specs.Claims.View.{claims_value};
 ghost use Rattle.cose_cwt.specs.Confirmation.View.{cnf_value};
 ghost use Rattle.cose_cwt.specs.Token.{UnlessStopped, claims_seen, stop_in};
 ghost use Rattle.cosecmd.specs.Admitted.{bytes_line, claims_lines, confirmation_lines, date_line, input_token, key_line, program_policy, refused_line, where_present};
+ghost use Rattle.cosecmd.specs.Faults.{fails_by_input};
 ghost use Rattle.cosecmd.specs.Printed.{Says, admitted_under, outcome_said, token_setting};
 ghost use Rattle.cosecmd.specs.Vouch.{vouching};
 
@@ -168,6 +169,7 @@ fn refused_reply(alloc: Global, part: &str, refusal: Refusal) -> Result<Reply, F
 fn token_reply(alloc: Global, token: Result<Claims, CwtStop>) -> Result<Reply, Fault>
     ensures says { IfOk result (Says (outcome_said (claims_seen token.entry))) }
     ensures unstopped { IfOk result (λ _. stop_in (claims_seen token.entry) ≡ None) }
+    ensures input { fails_by_input result ≡ is_some (stop_in (claims_seen token.entry)) }
     ensures fault { (refusal : Refusal) → result ≢ Err (Fault.Keys refusal) }
 {
     match token {
@@ -209,6 +211,9 @@ fn whole_token<'a, I: Intake>(
     requires payload_limit { (setting_in verifier.old).payload_limit ≤ 4096 }
     ensures whole { (setting : Setting) (bytes : List ℕ) → HasTaken (to_verify setting) [] [] verifier.old → I.to_come intake.old ≡ Some bytes →
         UnlessStopped (claims_seen result) (claims_seen result ≡ input_token setting (vouching (option_map contents vouch.now.word)) (policy_value policy.entry.now) bytes) }
+    // It stops where the intake failed in this call, and nowhere else.
+    ensures failure { (setting : Setting) → HasTaken (to_verify setting) [] [] verifier.old →
+        I.has_failed intake.new ≡ (I.has_failed intake.old || is_some (stop_in (claims_seen result))) }
 {
     // That a verdict stays when bytes follow is what the place of a further byte rests on.
     settled_stays();
@@ -222,7 +227,35 @@ fn whole_token<'a, I: Intake>(
     }
 }
 
-/// The reply to the job `cwt`: the key set is read before the input.
+/// The reply to the token of an intake: the key set is read before the intake is asked.
+fn admitted_reply<I: Intake>(
+    alloc: Global,
+    keys: &[u8],
+    aad: &[u8],
+    wanted: Wanted,
+    vouch: Option<&[u8]>,
+    policy: &Policy,
+    intake: &mut I,
+) -> Result<Reply, Fault>
+    requires external { length aad.now ≤ 65535 }
+    ensures says { (bytes : List ℕ) → I.to_come intake.old ≡ Some bytes →
+        IfOk result (Says (admitted_under (keys_of keys.now) aad.now wanted (option_map contents vouch.entry) (policy_value policy.entry.now) bytes)) }
+    ensures keys { (refusal : Refusal) → keys_of keys.now ≡ Err refusal ↔ result ≡ Err (Fault.Keys refusal) }
+    // Its fault is that the input failed where the intake failed in this call, and nowhere else.
+    ensures input { I.has_failed intake.new ≡ (I.has_failed intake.old || fails_by_input result) }
+{
+    let keys = match KeySet::read(keys) {
+        Ok(keys) => keys,
+        Err(refusal) => return Err(Fault::Keys(refusal)),
+    };
+    let mut verifier = Verifier::<HEADER, NESTING>::new(token_context(keys, aad, wanted));
+    let mut store = Store::<CLAIMS>::new();
+    let vouch = Vouch { word: vouch };
+    let token = whole_token(&mut verifier, intake, &mut store, &vouch, policy);
+    token_reply(alloc, token)
+}
+
+/// The reply to the job `cwt`.
 pub fn cwt_reply<R: Read>(
     alloc: Global,
     keys: &[u8],
@@ -237,14 +270,6 @@ pub fn cwt_reply<R: Read>(
         IfOk result (Says (admitted_under (keys_of keys.now) aad.now wanted (option_map contents vouch.entry) (policy_value policy.entry.now) bytes)) }
     ensures keys { (refusal : Refusal) → keys_of keys.now ≡ Err refusal ↔ result ≡ Err (Fault.Keys refusal) }
 {
-    let keys = match KeySet::read(keys) {
-        Ok(keys) => keys,
-        Err(refusal) => return Err(Fault::Keys(refusal)),
-    };
-    let mut verifier = Verifier::<HEADER, NESTING>::new(token_context(keys, aad, wanted));
     let mut intake = ReadIntake::new(input);
-    let mut store = Store::<CLAIMS>::new();
-    let vouch = Vouch { word: vouch };
-    let token = whole_token(&mut verifier, &mut intake, &mut store, &vouch, policy);
-    token_reply(alloc, token)
+    admitted_reply(alloc, keys, aad, wanted, vouch, policy, &mut intake)
 }

@@ -1,8 +1,9 @@
 //! The line of the job `digest`: what the signature of a message is verified with.
 
-ghost use Rattle.std.specs.Prelude.{◌≡◌, ◌≤◌, ◌↔◌, ℕ, List, Some, Ok, Err, IfErr, IfOk, length};
+ghost use Rattle.std.specs.Prelude.{◌≡◌, ◌≤◌, ◌↔◌, ◌||◌, ℕ, List, Some, Ok, Err, IfErr, IfOk, length};
 ghost use Rattle.cose_head.specs.declared.refusal.Refusal.{Refusal};
 ghost use Rattle.cose_map.specs.KeySet.{keys_of};
+ghost use Rattle.cosecmd.specs.Faults.{fails_by_input};
 ghost use Rattle.cosecmd.specs.Printed.{Says, digested_under, vouched};
 
 use crate::answer::verify::{
@@ -12,7 +13,7 @@ use crate::fault::Fault;
 use crate::reply::{Reply, Status};
 use crate::vouch::word_for;
 use cose_msg::laws::{deciding_goes_last, settled_stays, spelled_is_read, unrefused_is_message};
-use cose_msg::{KeySet, Never, Nothing, ReadIntake, Verdict, Verifier, Wanted, verify};
+use cose_msg::{Intake, KeySet, Never, Nothing, ReadIntake, Verdict, Verifier, Wanted, verify};
 use std::alloc::Global;
 use std::io::Read;
 
@@ -27,7 +28,54 @@ fn word_reply(alloc: Global, word: &[u8]) -> Result<Reply, Fault>
     Ok(Reply { status, text })
 }
 
-/// The reply to the job `digest`: nothing may stand behind a message whose signature is there.
+/// The reply to the message of an intake: nothing may stand after a message whose signature is there.
+fn digested_reply<I: Intake>(
+    alloc: Global,
+    keys: &[u8],
+    aad: &[u8],
+    intake: &mut I,
+) -> Result<Reply, Fault>
+    requires external { length aad.now ≤ 65535 }
+    ensures says { (bytes : List ℕ) → I.to_come intake.old ≡ Some bytes →
+        IfOk result (Says (digested_under (keys_of keys.now) aad.now bytes)) }
+    ensures keys { (refusal : Refusal) → keys_of keys.now ≡ Err refusal ↔ result ≡ Err (Fault.Keys refusal) }
+    // Its fault is that the input failed where the intake failed in this call, and nowhere else.
+    ensures input { I.has_failed intake.new ≡ (I.has_failed intake.old || fails_by_input result) }
+{
+    // The proof rests on these laws of messages.
+    settled_stays();
+    deciding_goes_last();
+    spelled_is_read();
+    unrefused_is_message();
+    let keys = match KeySet::read(keys) {
+        Ok(keys) => keys,
+        Err(refusal) => return Err(Fault::Keys(refusal)),
+    };
+    let mut verifier = Verifier::<HEADER, NESTING>::new(program_context(keys, aad, Wanted::Sign1));
+    let verdict = match verify::<CHUNK, HEADER, NESTING, _, _, _>(
+        &mut verifier,
+        intake,
+        &mut Nothing,
+        &Never,
+    ) {
+        Ok(verdict) => verdict,
+        // The sink that is nothing never fails, and a new verifier hasn't stopped.
+        Err(_) => return Err(Fault::Input),
+    };
+    let Some((key, digest, signature)) = verifier.sign_input() else {
+        let verdict = whole_verdict(verdict, intake)?;
+        return reply_of(alloc, verdict);
+    };
+    match trailing_at(verifier.taken(), intake)? {
+        Some(refusal) => reply_of(alloc, Verdict::Refused(refusal)),
+        None => {
+            let word = word_for(alloc, &key, digest, signature)?;
+            word_reply(alloc, word.as_slice())
+        }
+    }
+}
+
+/// The reply to the job `digest`: the key set is read before the input.
 pub fn digest_reply<R: Read>(
     alloc: Global,
     keys: &[u8],
@@ -39,36 +87,5 @@ pub fn digest_reply<R: Read>(
         IfOk result (Says (digested_under (keys_of keys.now) aad.now bytes)) }
     ensures keys { (refusal : Refusal) → keys_of keys.now ≡ Err refusal ↔ result ≡ Err (Fault.Keys refusal) }
 {
-    // What these say of messages is all that the proof rests on.
-    settled_stays();
-    deciding_goes_last();
-    spelled_is_read();
-    unrefused_is_message();
-    let keys = match KeySet::read(keys) {
-        Ok(keys) => keys,
-        Err(refusal) => return Err(Fault::Keys(refusal)),
-    };
-    let mut verifier = Verifier::<HEADER, NESTING>::new(program_context(keys, aad, Wanted::Sign1));
-    let mut intake = ReadIntake::new(input);
-    let verdict = match verify::<CHUNK, HEADER, NESTING, _, _, _>(
-        &mut verifier,
-        &mut intake,
-        &mut Nothing,
-        &Never,
-    ) {
-        Ok(verdict) => verdict,
-        // The sink that is nothing never fails, and a new verifier hasn't stopped.
-        Err(_) => return Err(Fault::Input),
-    };
-    let Some((key, digest, signature)) = verifier.sign_input() else {
-        let verdict = whole_verdict(verdict, &mut intake)?;
-        return reply_of(alloc, verdict);
-    };
-    match trailing_at(verifier.taken(), &mut intake)? {
-        Some(refusal) => reply_of(alloc, Verdict::Refused(refusal)),
-        None => {
-            let word = word_for(alloc, &key, digest, signature)?;
-            word_reply(alloc, word.as_slice())
-        }
-    }
+    digested_reply(alloc, keys, aad, &mut ReadIntake::new(input))
 }

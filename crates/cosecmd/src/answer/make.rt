@@ -3,6 +3,7 @@
 ghost use Rattle.std.specs.Prelude.{◌≡◌, ◌≤◌, ℕ, List, Some, IfOk, length as length_of, option_map};
 ghost use Rattle.cose_map.specs.Key.{key_of};
 ghost use Rattle.cose_map.specs.Key.View.{contents};
+ghost use Rattle.cosecmd.specs.Faults.{fault_in, fault_of_making};
 ghost use Rattle.cosecmd.specs.Printed.{Prints, made_under};
 
 use crate::fault::Fault;
@@ -29,6 +30,7 @@ pub fn make_message<R: Read, W: Write>(
 ) -> Result<Status, Fault>
     ensures makes { (bytes : List ℕ) → R.remaining input.old ≡ Some bytes →
         IfOk result (Prints (made_under (key_of (record { bytes = key.now; place = 0 })) alg length (option_map contents kid.entry) aad.now bytes) (W.contents output.old) (W.contents output.new)) }
+    ensures fault { fault_in result ≡ fault_of_making (key_of (record { bytes = key.now; place = 0 })) alg (option_map contents kid.entry) aad.now length }
 {
     let key = match Key::read(key, 0) {
         Ok(key) => key,

@@ -1,8 +1,9 @@
 //! The lines of the job `show`: the shape of a message, and what stands in its headers.
 
-ghost use Rattle.std.specs.Prelude.{◌≡◌, ◌++◌, ℕ, List, Some, IfErr, IfOk, option_map, string_bytes};
+ghost use Rattle.std.specs.Prelude.{◌≡◌, ◌++◌, ◌||◌, ℕ, List, Some, IfErr, IfOk, option_map, string_bytes};
 ghost use Rattle.cose_map.specs.Bucket.View.{bucket_pairs};
 ghost use Rattle.cose_msg.specs.Shown.{protected_of, unprotected_of};
+ghost use Rattle.cosecmd.specs.Faults.{fails_by_input};
 ghost use Rattle.cosecmd.specs.Printed.{Says, bucket_lines, shape_said, shown};
 
 use crate::answer::verify::{CHUNK, HEADER, NESTING, program_context, reply_of, trailing_at};
@@ -10,7 +11,9 @@ use crate::fault::Fault;
 use crate::line::word_of;
 use crate::reply::{Reply, Status};
 use cose_map::Bucket;
-use cose_msg::{Inspected, KeySet, Kind, Nothing, ReadIntake, Verdict, Verifier, Wanted, inspect};
+use cose_msg::{
+    Inspected, Intake, KeySet, Kind, Nothing, ReadIntake, Verdict, Verifier, Wanted, inspect,
+};
 use std::alloc::Global;
 use std::io::Read;
 
@@ -55,6 +58,7 @@ fn shape_reply(
     verifier: &Verifier<HEADER, NESTING>,
 ) -> Result<Reply, Fault>
     ensures says { IfOk result (Says (shape_said shape.kind shape.payload shape.auth shape.taken (protected_of verifier.now) (unprotected_of verifier.now))) }
+    ensures fault { IfErr result (λ fault. fault ≡ Fault.Memory) }
 {
     let Shape {
         kind,
@@ -70,17 +74,18 @@ fn shape_reply(
     Ok(Reply { status, text })
 }
 
-/// The reply to the job `show`: nothing may stand behind a message that has a shape.
-pub fn show_reply<R: Read>(alloc: Global, wanted: Wanted, input: &mut R) -> Result<Reply, Fault>
-    ensures says { (bytes : List ℕ) → R.remaining input.old ≡ Some bytes → IfOk result (Says (shown wanted bytes)) }
+/// The reply to the message of an intake: nothing may stand after a message that has a shape.
+fn shown_reply<I: Intake>(alloc: Global, wanted: Wanted, intake: &mut I) -> Result<Reply, Fault>
+    ensures says { (bytes : List ℕ) → I.to_come intake.old ≡ Some bytes → IfOk result (Says (shown wanted bytes)) }
+    // Its fault is that the input failed where the intake failed in this call, and nowhere else.
+    ensures input { I.has_failed intake.new ≡ (I.has_failed intake.old || fails_by_input result) }
 {
     let keys = match KeySet::read(NO_KEYS) {
         Ok(keys) => keys,
         Err(refusal) => return Err(Fault::Keys(refusal)),
     };
     let mut verifier = Verifier::inspecting(program_context(keys, b"", wanted));
-    let mut intake = ReadIntake::new(input);
-    match inspect::<CHUNK, HEADER, NESTING, _, _>(&mut verifier, &mut intake, &mut Nothing) {
+    match inspect::<CHUNK, HEADER, NESTING, _, _>(&mut verifier, intake, &mut Nothing) {
         Ok(
             Inspected::Shape {
                 kind,
@@ -88,7 +93,7 @@ pub fn show_reply<R: Read>(alloc: Global, wanted: Wanted, input: &mut R) -> Resu
                 auth,
                 taken,
             },
-        ) => match trailing_at(taken, &mut intake)? {
+        ) => match trailing_at(taken, intake)? {
             Some(refusal) => reply_of(alloc, Verdict::Refused(refusal)),
             None => {
                 let shape = Shape {
@@ -101,6 +106,14 @@ pub fn show_reply<R: Read>(alloc: Global, wanted: Wanted, input: &mut R) -> Resu
             }
         },
         Ok(Inspected::Refused(refusal)) => reply_of(alloc, Verdict::Refused(refusal)),
+        // The sink that is nothing never fails, and a new verifier hasn't stopped.
         Err(_) => Err(Fault::Input),
     }
+}
+
+/// The reply to the job `show`.
+pub fn show_reply<R: Read>(alloc: Global, wanted: Wanted, input: &mut R) -> Result<Reply, Fault>
+    ensures says { (bytes : List ℕ) → R.remaining input.old ≡ Some bytes → IfOk result (Says (shown wanted bytes)) }
+{
+    shown_reply(alloc, wanted, &mut ReadIntake::new(input))
 }

@@ -8,6 +8,7 @@ ghost use Rattle.cose_map.specs.KeySet.View.{keys as usable};
 ghost use Rattle.cose_msg.specs.Answer.{decided};
 ghost use Rattle.cose_msg.specs.Verifier.{setting_of};
 ghost use Rattle.cose_msg.specs.declared.verdict.Verdict.{Verdict};
+ghost use Rattle.cosecmd.specs.Faults.{fails_by_input};
 ghost use Rattle.cosecmd.specs.Printed.{Says, input_answer, behind, program_setting, said_of, verified_under, with_rest};
 ghost use Rattle.cosecmd.specs.Vouch.{vouching};
 
@@ -99,33 +100,58 @@ pub fn whole_verdict<I: Intake>(verdict: Verdict, intake: &mut I) -> Result<Verd
     }
 }
 
-/// The verdict of all that the reader gives.
-fn input_verdict<'j, R: Read>(
+/// The verdict of all that an intake gives.
+fn input_verdict<'j, I: Intake>(
     context: Context<'j>,
     vouch: &Vouch<'j>,
-    input: &mut R,
+    intake: &mut I,
 ) -> Result<Verdict, Fault>
     requires external { length context.aad.now ≤ 65535 }
-    ensures verdict { (bytes : List ℕ) → R.remaining input.old ≡ Some bytes →
+    ensures verdict { (bytes : List ℕ) → I.to_come intake.old ≡ Some bytes →
         IfOk result (λ verdict. input_answer (setting_of context.entry) (vouching (option_map contents vouch.now.word)) bytes ≡ decided verdict) }
     ensures fault { IfErr result (λ fault. fault ≡ Fault.Input) }
+    ensures failure { I.has_failed intake.new ≡ (I.has_failed intake.old || is_err result) }
 {
     let mut verifier = Verifier::<HEADER, NESTING>::new(context);
-    let mut intake = ReadIntake::new(input);
     let verdict = verify::<CHUNK, HEADER, NESTING, _, _, _>(
         &mut verifier,
-        &mut intake,
+        intake,
         &mut Nothing,
         vouch,
     );
     match verdict {
-        Ok(verdict) => whole_verdict(verdict, &mut intake),
+        Ok(verdict) => whole_verdict(verdict, intake),
         // The sink that is nothing never fails, and a new verifier hasn't stopped.
         Err(_) => Err(Fault::Input),
     }
 }
 
-/// The reply to the job `verify`: the key set is read before the input.
+/// The reply to the message of an intake: the key set is read before the intake is asked.
+fn verified_reply<I: Intake>(
+    alloc: Global,
+    keys: &[u8],
+    aad: &[u8],
+    wanted: Wanted,
+    vouch: Option<&[u8]>,
+    intake: &mut I,
+) -> Result<Reply, Fault>
+    requires external { length aad.now ≤ 65535 }
+    ensures says { (bytes : List ℕ) → I.to_come intake.old ≡ Some bytes →
+        IfOk result (Says (verified_under (keys_of keys.now) aad.now wanted (option_map contents vouch.entry) bytes)) }
+    ensures keys { (refusal : Refusal) → keys_of keys.now ≡ Err refusal ↔ result ≡ Err (Fault.Keys refusal) }
+    // Its fault is that the input failed where the intake failed in this call, and nowhere else.
+    ensures input { I.has_failed intake.new ≡ (I.has_failed intake.old || fails_by_input result) }
+{
+    let keys = match KeySet::read(keys) {
+        Ok(keys) => keys,
+        Err(refusal) => return Err(Fault::Keys(refusal)),
+    };
+    let context = program_context(keys, aad, wanted);
+    let verdict = input_verdict(context, &Vouch { word: vouch }, intake)?;
+    reply_of(alloc, verdict)
+}
+
+/// The reply to the job `verify`.
 pub fn verify_reply<R: Read>(
     alloc: Global,
     keys: &[u8],
@@ -139,11 +165,6 @@ pub fn verify_reply<R: Read>(
         IfOk result (Says (verified_under (keys_of keys.now) aad.now wanted (option_map contents vouch.entry) bytes)) }
     ensures keys { (refusal : Refusal) → keys_of keys.now ≡ Err refusal ↔ result ≡ Err (Fault.Keys refusal) }
 {
-    let keys = match KeySet::read(keys) {
-        Ok(keys) => keys,
-        Err(refusal) => return Err(Fault::Keys(refusal)),
-    };
-    let context = program_context(keys, aad, wanted);
-    let verdict = input_verdict(context, &Vouch { word: vouch }, input)?;
-    reply_of(alloc, verdict)
+    let mut intake = ReadIntake::new(input);
+    verified_reply(alloc, keys, aad, wanted, vouch, &mut intake)
 }

@@ -2,7 +2,7 @@
 
 use crate::run::run;
 use crate::tests::cwt::example;
-use crate::tests::{FRONT, KEYS, joined, message};
+use crate::tests::{FRONT, KEYS, MEMBER_Y, SIGNED, joined, message, point, signed};
 use std::alloc::Global;
 use std::io;
 use std::io::{Error, ErrorKind, Read, Write};
@@ -92,25 +92,55 @@ impl Write for KeepingWriter {
     }
 }
 
-#[test]
-fn says_that_the_input_failed(rt: HostRuntime) -> Result<(), Fail> {
-    let alloc = rt.alloc();
-    let bytes = message(alloc)?;
-    // 44 reads take the message, and one more looks for a byte behind it.
-    for fails_at in 1..=45 {
+/// A run with these words over a reader that fails at any of the reads of this message, or at the one after them, prints
+/// `fault input` and ends with 2.
+fn says_at_each_read(
+    rt: &(impl Abort + Alloc<A = Global>),
+    words: &[&str],
+    message: &[u8],
+) -> Result<(), Fail> {
+    for fails_at in 1..=message.len().saturating_add(1) {
         let mut reader = FailingReader {
-            bytes: bytes.as_slice(),
+            bytes: message,
             reads: 0,
             fails_at,
         };
-        let mut output = Vec::new(alloc);
-        let status = run(alloc, WORDS, &mut reader, &mut output);
+        let mut output = Vec::new(rt.alloc());
+        let status = run(rt.alloc(), words, &mut reader, &mut output);
         assert_eq!(rt;
             output.as_slice(),
             b"fault input\n".as_slice(),
-            "at read {fails_at}"
+            "{words:?} at read {fails_at}"
         );
-        assert_eq!(rt; (status, reader.reads), (2, fails_at), "at read {fails_at}");
+        assert_eq!(rt;
+            (status, reader.reads),
+            (2, fails_at),
+            "{words:?} at read {fails_at}"
+        );
+    }
+    Ok(())
+}
+
+#[test]
+fn says_that_the_input_failed(rt: HostRuntime) -> Result<(), Fail> {
+    let alloc = rt.alloc();
+    let made = message(alloc)?;
+    let token = example(alloc)?;
+    let signed = signed(alloc, SIGNED, &[0x5a; 64])?;
+    let point = point(alloc, MEMBER_Y)?;
+    let cwt = ["cosecmd", "cwt", "--keys", KEYS, "--now", "1444064943"];
+    let digest = ["cosecmd", "digest", "--keys", point.as_str()];
+    let lengths = (made.len(), token.len(), signed.len());
+    assert_eq!(rt; lengths, (44, 123, 74));
+    // Each byte is a read of its own, and one more read looks for a byte after the message.
+    let rows: [(&[&str], &[u8]); 4] = [
+        (WORDS, &made),
+        (&["cosecmd", "show"], &made),
+        (&digest, &signed),
+        (&cwt, &token),
+    ];
+    for (words, message) in rows {
+        says_at_each_read(&rt, words, message)?;
     }
     Ok(())
 }

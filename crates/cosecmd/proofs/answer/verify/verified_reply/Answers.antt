@@ -5,7 +5,7 @@ use Rattle.cose_msg.specs.Message.{Setting}
 use Rattle.cosecmd.specs.Printed.{input_answer}
 use Rattle.cosecmd.specs.Vouch.{vouching}
 use Rattle.cosecmd.proofs.Replies.{says_verified}
-use Rattle.cosecmd.proofs.answer.verify.verify_reply.Goals as goal
+use Rattle.cosecmd.proofs.answer.verify.verified_reply.Goals as goal
 
 pub returns-clause-says : goal.returns-clause-says
 returns-clause-says g c = λ bytes e.

@@ -1,0 +1,42 @@
+-- The job of some words prints what they ask for.
+use Rattle.std.proofs.Common.{◌≡◌, ℕ, ℤ, List, Option, Bor, option_map, refl, subst}
+use Rattle.cose_map.specs.Key.View.{contents}
+use Rattle.cose_msg.specs.declared.context.Wanted.{Wanted}
+use Rattle.cosecmd.specs.declared.job.Job.TheVariants.{Show, Verify, Cwt, Digest, Make}
+use Rattle.cosecmd.specs.declared.words.Cwt.{Cwt as CwtWords}
+use Rattle.cosecmd.specs.declared.words.Digest.{Digest as DigestWords}
+use Rattle.cosecmd.specs.declared.words.Make.{Make as MakeWords}
+use Rattle.cosecmd.specs.declared.words.Request.{Request}
+use Rattle.cosecmd.specs.declared.words.Request.TheVariants as asks
+use Rattle.cosecmd.specs.declared.words.Verify.{Verify as VerifyWords}
+use Rattle.cosecmd.specs.Printed.{EndsWith, Output, printed}
+use Rattle.cosecmd.specs.Words.{admitted_for, asked_for, digested_for, made_for, verified_for}
+
+-- What ends with one output ends with the same one under another name.
+pub ends_with : {said asked : Output} (old new : Option (List ℕ)) (status : ℕ) → said ≡ asked → EndsWith said old new status → EndsWith asked old new status
+ends_with old new status e ends = subst (λ (output : Output). EndsWith output old new status) e ends
+
+pub verify_words : (words : VerifyWords) (keys aad : Bor (List ℕ)) (vouch : Option (Bor (List ℕ))) (bytes : List ℕ) → keys.now ≡ words.keys.items → aad.now ≡ words.aad.items →
+    option_map contents vouch ≡ option_map (λ word. word.items) words.vouch → printed (Verify keys aad words.wanted vouch) bytes ≡ verified_for words bytes
+unfolding printed
+verify_words words keys aad vouch bytes k a v = rw (k, a, v) refl
+
+pub cwt_words : (words : CwtWords) (keys aad : Bor (List ℕ)) (vouch : Option (Bor (List ℕ))) (now : ℤ) (bytes : List ℕ) → keys.now ≡ words.verify.keys.items → aad.now ≡ words.verify.aad.items →
+    option_map contents vouch ≡ option_map (λ word. word.items) words.verify.vouch → now ≡ words.now →
+    printed (Cwt keys aad words.verify.wanted vouch now words.leeway words.aud) bytes ≡ admitted_for words bytes
+unfolding printed
+cwt_words words keys aad vouch now bytes k a v n = rw (k, a, v, n) refl
+
+pub digest_words : (words : DigestWords) (keys aad : Bor (List ℕ)) (bytes : List ℕ) → keys.now ≡ words.keys.items → aad.now ≡ words.aad.items →
+    printed (Digest keys aad) bytes ≡ digested_for words bytes
+unfolding printed
+digest_words words keys aad bytes k a = rw (k, a) refl
+
+pub make_words : (words : MakeWords) (key aad : Bor (List ℕ)) (kid : Option (Bor (List ℕ))) (bytes : List ℕ) → key.now ≡ words.key.items → aad.now ≡ words.aad.items →
+    option_map contents kid ≡ option_map (λ word. word.items) words.kid → printed (Make words.alg key words.length kid aad) bytes ≡ made_for words bytes
+unfolding printed
+make_words words key aad kid bytes k a v = rw (k, a, v) refl
+
+pub show_words : (request : Request) (wanted : Wanted) (bytes : List ℕ) → request ≡ asks.Show wanted → printed (Show wanted) bytes ≡ asked_for request bytes
+unfolding printed
+show_words request wanted bytes is = rw is refl

@@ -1,0 +1,33 @@
+-- Which fault a run ends with.
+use Rattle.std.specs.Prelude.{ℕ, Bool, true, false, List, Option, Some, None, Result, Ok, Err}
+use Rattle.cose_head.specs.declared.algorithm.Alg.{Alg}
+use Rattle.cose_map.specs.Key.Value.{KeyValue}
+use Rattle.cose_map.specs.Map.Read.{Read}
+use Rattle.cose_msg.specs.declared.make.MakeFault.{MakeFault}
+use Rattle.cose_msg.specs.declared.make.MakeFault.TheVariants as makes
+use Rattle.cose_msg.specs.Make.{make_fault}
+use Rattle.cosecmd.specs.declared.fault.Fault.{Fault}
+use Rattle.cosecmd.specs.declared.fault.Fault.TheVariants as faults
+
+-- Whether it says that the input failed.
+abbrev pub is_of_input : Fault → Bool
+is_of_input faults.Input = true
+is_of_input _ = false
+
+abbrev pub fails_by_input : {A : Type 0} → Result A Fault → Bool
+fails_by_input (Ok answer) = false
+fails_by_input (Err fault) = is_of_input fault
+
+abbrev pub fault_in : {A : Type 0} → Result A Fault → Option Fault
+fault_in (Ok answer) = None
+fault_in (Err fault) = Some fault
+
+-- What the key or the other arguments have wrong where a message is to be made. A short input has no fault of its own.
+abbrev pub fault_of_arguments : Option MakeFault → Option Fault
+fault_of_arguments (Some makes.WrongKey) = Some faults.WrongKey
+fault_of_arguments (Some makes.TooLong) = Some faults.TooLong
+fault_of_arguments _ = None
+
+abbrev pub fault_of_making : Read KeyValue → Alg → Option (List ℕ) → List ℕ → ℕ → Option Fault
+fault_of_making (Ok key) alg kid aad payload_length = fault_of_arguments (make_fault alg key kid aad payload_length)
+fault_of_making (Err refusal) alg kid aad payload_length = Some (faults.Key refusal)

@@ -1,0 +1,37 @@
+-- What is printed for the words of a command, and how it ends: the output of the job that these words ask for.
+use Rattle.std.specs.Prelude.{ℕ, List, Option, option_map, string_bytes}
+use Rattle.cose_cwt.specs.Claims.Audience.{text_value}
+use Rattle.cose_map.specs.Key.{key_of}
+use Rattle.cose_map.specs.KeySet.{keys_of}
+use Rattle.cosecmd.specs.Admitted.{program_policy}
+use Rattle.cosecmd.specs.Printed.{Output, admitted_under, digested_under, made_under, shown, verified_under}
+use Rattle.cosecmd.specs.declared.words.Cwt.{Cwt}
+use Rattle.cosecmd.specs.declared.words.Digest.{Digest}
+use Rattle.cosecmd.specs.declared.words.Make.{Make}
+use Rattle.cosecmd.specs.declared.words.Request.{Request}
+use Rattle.cosecmd.specs.declared.words.Request.TheVariants as asks
+use Rattle.cosecmd.specs.declared.words.Verify.{Verify}
+
+abbrev pub verified_for : Verify → List ℕ → Output
+verified_for words bytes = verified_under (keys_of words.keys.items) words.aad.items words.wanted (option_map (λ word. word.items) words.vouch) bytes
+
+abbrev pub admitted_for : Cwt → List ℕ → Output
+admitted_for words bytes =
+    admitted_under (keys_of words.verify.keys.items) words.verify.aad.items words.verify.wanted (option_map (λ word. word.items) words.verify.vouch)
+    (program_policy words.now words.leeway (option_map text_value words.aud)) bytes
+
+abbrev pub digested_for : Digest → List ℕ → Output
+digested_for words bytes = digested_under (keys_of words.keys.items) words.aad.items bytes
+
+abbrev pub made_for : Make → List ℕ → Output
+made_for words bytes =
+    made_under (key_of (record { bytes = words.key.items; place = 0 })) words.alg words.length (option_map (λ word. word.items) words.kid) words.aad.items bytes
+
+-- Help, the version and what is wrong with the line are printed as they are.
+abbrev pub asked_for : Request → List ℕ → Output
+asked_for (asks.Show wanted) bytes = shown wanted bytes
+asked_for (asks.Verify words) bytes = verified_for words bytes
+asked_for (asks.Cwt words) bytes = admitted_for words bytes
+asked_for (asks.Digest words) bytes = digested_for words bytes
+asked_for (asks.Make words) bytes = made_for words bytes
+asked_for (asks.Print reply) bytes = record { text = string_bytes reply.text; status = reply.status }

@@ -1,0 +1,188 @@
+//! What each option of a command changes in what is made, verified and admitted, and the help where the line asks for nothing.
+
+use crate::run::run;
+use crate::tests::cwt::made;
+use crate::tests::{FRONT, KEY, KEYS, PAYLOAD, hmac, joined};
+use std::alloc::{AllocError, Global};
+use std::process::Abort;
+use std::test::Fail;
+
+/// What a run with these arguments after the program's name writes for the input, and its exit status.
+fn ran(alloc: Global, arguments: &[&str], input: &[u8]) -> Result<(Vec<u8>, u8), AllocError> {
+    let mut words = Vec::new(alloc);
+    words.push("cosecmd")?;
+    words.extend_from_slice(arguments)?;
+    let mut input = input;
+    let mut output = Vec::new(alloc);
+    let status = run(alloc, words.as_slice(), &mut input, &mut output);
+    Ok((output, status))
+}
+
+/// A run with these arguments prints this text for the input, and ends with this status.
+fn prints(
+    rt: &(impl Abort + Alloc<A = Global>),
+    arguments: &[&str],
+    input: &[u8],
+    text: &str,
+    status: u8,
+) -> Result<(), AllocError> {
+    let (output, ended) = ran(rt.alloc(), arguments, input)?;
+    assert_eq!(rt; output.as_slice(), text.as_bytes(), "{arguments:?}");
+    assert_eq!(rt; ended, status, "{arguments:?}");
+    Ok(())
+}
+
+#[test]
+fn makes_with_external_data(rt: HostRuntime) -> Result<(), Fail> {
+    // The MAC_structure of the payload `hi` with the external data `01` (RFC 9052 section 6.3).
+    let tag = hmac(KEY, b"\x84\x64MAC0\x43\xa1\x01\x05\x41\x01\x42hi");
+    let message = joined(rt.alloc(), &[FRONT, PAYLOAD, &tag])?;
+    let make = [
+        "make", "--alg", "5", "--key", KEYS, "--length", "2", "--aad", "01",
+    ];
+    let (made, status) = ran(rt.alloc(), make.as_slice(), b"hi")?;
+    assert_eq!(rt; made.as_slice(), message.as_slice());
+    assert_eq!(rt; status, 0);
+    let authentic = ("authentic mac0 alg 5 payload 2 taken 44\n", 0);
+    let refused = ("refused BadAuth at 10\n", 1);
+    let rows: [(&[&str], (&str, u8)); 4] = [
+        (&["verify", "--keys", KEYS, "--aad", "01"], authentic),
+        (&["verify", "--keys", KEYS], refused),
+        (&["verify", "--keys", KEYS, "--aad", ""], refused),
+        (&["verify", "--keys", KEYS, "--aad", "02"], refused),
+    ];
+    for (arguments, (text, status)) in rows {
+        prints(&rt, arguments, made.as_slice(), text, status)?;
+    }
+    Ok(())
+}
+
+#[test]
+fn admits_a_kind(rt: HostRuntime) -> Result<(), Fail> {
+    let tagged = made(rt.alloc(), b"\xa0")?;
+    let untagged = tagged.get(1..).unwrap_or(&[]);
+    assert_eq!(rt; (tagged.len(), untagged.len()), (43, 42));
+    let admitted = ("admitted\n", 0);
+    let wrong_tag = ("refused message WrongTag at 0\n", 1);
+    let rows: [(&str, &[u8], (&str, u8)); 6] = [
+        ("mac0", untagged, admitted),
+        ("mac0", &tagged, admitted),
+        ("tagged", untagged, wrong_tag),
+        ("tagged", &tagged, admitted),
+        ("sign1", untagged, ("refused message UnknownAlg at 6\n", 1)),
+        ("sign1", &tagged, wrong_tag),
+    ];
+    for (kind, token, (text, status)) in rows {
+        let arguments = ["cwt", "--keys", KEYS, "--now", "0", "--kind", kind];
+        prints(&rt, arguments.as_slice(), token, text, status)?;
+    }
+    // Without the option the kind is the one that the tag names.
+    let arguments = ["cwt", "--keys", KEYS, "--now", "0"];
+    prints(&rt, arguments.as_slice(), untagged, wrong_tag.0, 1)?;
+    Ok(())
+}
+
+#[test]
+fn takes_the_whole_range_of_dates(rt: HostRuntime) -> Result<(), Fail> {
+    let expired = ("refused claims Expired at 2\n", 1);
+    let not_yet = ("refused claims NotYet at 2\n", 1);
+    // exp 0 and nbf 2^32 at the greatest leeway, exp and nbf 2^63 - 1 without one.
+    let rows: [(&[u8], &str, &str, (&str, u8)); 8] = [
+        (
+            b"\xa1\x04\0",
+            "4294967294",
+            "4294967295",
+            ("admitted\nexp 0\n", 0),
+        ),
+        (b"\xa1\x04\0", "4294967295", "4294967295", expired),
+        (
+            b"\xa1\x05\x1b\0\0\0\x01\0\0\0\0",
+            "1",
+            "4294967295",
+            ("admitted\nnbf 4294967296\n", 0),
+        ),
+        (
+            b"\xa1\x05\x1b\0\0\0\x01\0\0\0\0",
+            "0",
+            "4294967295",
+            not_yet,
+        ),
+        (
+            b"\xa1\x04\x1b\x7f\xff\xff\xff\xff\xff\xff\xff",
+            "9223372036854775806",
+            "0",
+            ("admitted\nexp 9223372036854775807\n", 0),
+        ),
+        (
+            b"\xa1\x04\x1b\x7f\xff\xff\xff\xff\xff\xff\xff",
+            "9223372036854775807",
+            "0",
+            expired,
+        ),
+        (
+            b"\xa1\x05\x1b\x7f\xff\xff\xff\xff\xff\xff\xff",
+            "9223372036854775807",
+            "0",
+            ("admitted\nnbf 9223372036854775807\n", 0),
+        ),
+        (
+            b"\xa1\x05\x1b\x7f\xff\xff\xff\xff\xff\xff\xff",
+            "9223372036854775806",
+            "0",
+            not_yet,
+        ),
+    ];
+    for (claims, now, leeway, (text, status)) in rows {
+        let token = made(rt.alloc(), claims)?;
+        let arguments = ["cwt", "--keys", KEYS, "--now", now, "--leeway", leeway];
+        prints(&rt, arguments.as_slice(), token.as_slice(), text, status)?;
+    }
+    Ok(())
+}
+
+#[test]
+fn names_its_exit_statuses(rt: HostRuntime) -> Result<(), Fail> {
+    let verified = "\nExit status: 0 authentic, 1 refused, \
+        2 no verdict (command line, keys, memory, input or output).\n";
+    let rows: [(&[&str], &str); 6] = [
+        (&["--help"], verified),
+        (&["verify", "--help"], verified),
+        (
+            &["show", "--help"],
+            "\nExit status: 0 shown, 1 refused, 2 no answer (command line, memory, input or output).\n",
+        ),
+        (
+            &["cwt", "--help"],
+            "\nExit status: 0 admitted, 1 refused, \
+            2 no answer (command line, keys, memory, input or output).\n",
+        ),
+        (
+            &["digest", "--help"],
+            "\nExit status: 0 told, 1 refused, \
+            2 no answer (command line, keys, memory, input or output).\n",
+        ),
+        (
+            &["make", "--help"],
+            "\nExit status: 0 made, 2 not or not whole \
+            (command line, key, memory, input or output): drop what was written.\n",
+        ),
+    ];
+    for (arguments, statuses) in rows {
+        let (output, ended) = ran(rt.alloc(), arguments, b"")?;
+        let text = str::from_utf8(output.as_slice()).or(Err("no text"))?;
+        assert!(rt; text.ends_with(statuses), "{text}");
+        assert_eq!(rt; ended, 0, "{text}");
+    }
+    Ok(())
+}
+
+#[test]
+fn helps_where_nothing_is_asked_for(rt: HostRuntime) -> Result<(), Fail> {
+    let (help, helped) = ran(rt.alloc(), &["--help"], b"")?;
+    assert_eq!(rt; helped, 0);
+    assert!(rt; help.as_slice().starts_with(b"Verifies COSE messages"));
+    let (output, status) = ran(rt.alloc(), &[], b"")?;
+    assert_eq!(rt; output.as_slice(), help.as_slice());
+    assert_eq!(rt; status, 2);
+    Ok(())
+}
