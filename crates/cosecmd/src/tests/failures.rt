@@ -92,13 +92,16 @@ impl Write for KeepingWriter {
     }
 }
 
-/// A run with these words over a reader that fails at any of the reads of this message, or at the one after them, prints
+/// A run with these arguments over a reader that fails at any of the reads of this message, or at the one after them, prints
 /// `fault input` and ends with 2.
 fn says_at_each_read(
     rt: &(impl Abort + Alloc<A = Global>),
-    words: &[&str],
+    arguments: &[&str],
     message: &[u8],
 ) -> Result<(), Fail> {
+    let mut words = Vec::new(rt.alloc());
+    words.push("cosecmd")?;
+    words.extend_from_slice(arguments)?;
     for fails_at in 1..=message.len().saturating_add(1) {
         let mut reader = FailingReader {
             bytes: message,
@@ -106,16 +109,16 @@ fn says_at_each_read(
             fails_at,
         };
         let mut output = Vec::new(rt.alloc());
-        let status = run(rt.alloc(), words, &mut reader, &mut output);
+        let status = run(rt.alloc(), words.as_slice(), &mut reader, &mut output);
         assert_eq!(rt;
             output.as_slice(),
             b"fault input\n".as_slice(),
-            "{words:?} at read {fails_at}"
+            "{arguments:?} at read {fails_at}"
         );
         assert_eq!(rt;
             (status, reader.reads),
             (2, fails_at),
-            "{words:?} at read {fails_at}"
+            "{arguments:?} at read {fails_at}"
         );
     }
     Ok(())
@@ -128,21 +131,16 @@ fn says_that_the_input_failed(rt: HostRuntime) -> Result<(), Fail> {
     let token = example(alloc)?;
     let signed = signed(alloc, SIGNED, &[0x5a; 64])?;
     let point = point(alloc, MEMBER_Y)?;
-    let cwt = ["cosecmd", "cwt", "--keys", KEYS, "--now", "1444064943"];
-    let digest = ["cosecmd", "digest", "--keys", point.as_str()];
+    // Each byte is a read of its own, and one more read looks for a byte after the message.
     let lengths = (made.len(), token.len(), signed.len());
     assert_eq!(rt; lengths, (44, 123, 74));
-    // Each byte is a read of its own, and one more read looks for a byte after the message.
-    let rows: [(&[&str], &[u8]); 4] = [
-        (WORDS, &made),
-        (&["cosecmd", "show"], &made),
-        (&digest, &signed),
-        (&cwt, &token),
-    ];
-    for (words, message) in rows {
-        says_at_each_read(&rt, words, message)?;
-    }
-    Ok(())
+    let verify = ["verify", "--keys", KEYS];
+    says_at_each_read(&rt, verify.as_slice(), made.as_slice())?;
+    says_at_each_read(&rt, ["show"].as_slice(), made.as_slice())?;
+    let digest = ["digest", "--keys", point.as_str()];
+    says_at_each_read(&rt, digest.as_slice(), signed.as_slice())?;
+    let cwt = ["cwt", "--keys", KEYS, "--now", "1444064943"];
+    says_at_each_read(&rt, cwt.as_slice(), token.as_slice())
 }
 
 #[test]
