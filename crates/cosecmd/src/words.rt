@@ -159,6 +159,71 @@ fn vouch_option<'a>(alloc: Global) -> Arg<'a> {
         .help("What a signature is good for: curve, digest, signature, x and y")
 }
 
+/// The option of the current time.
+fn now_option<'a>(alloc: Global) -> Arg<'a> {
+    Arg::new(alloc, "now")
+        .long("now")
+        .value_name("N")
+        .required(true)
+        .value_parser(value_parser!(i64).range(0..))
+        .help("The moment, in seconds since 1970; the program reads no clock")
+}
+
+/// The option of the leeway.
+fn leeway_option<'a>(alloc: Global) -> Arg<'a> {
+    Arg::new(alloc, "leeway")
+        .long("leeway")
+        .value_name("N")
+        .value_parser(value_parser!(u32))
+        .default_value("0")
+        .help("By how many seconds the clocks of issuer and reader may differ")
+}
+
+/// The option of the audience.
+fn aud_option<'a>(alloc: Global) -> Arg<'a> {
+    Arg::new(alloc, "aud").long("aud").value_name("TEXT").help(
+        "The audience that a token has to name, where it names one; without it any is good",
+    )
+}
+
+/// The option of the algorithm.
+fn alg_option<'a>(alloc: Global) -> Arg<'a> {
+    Arg::new(alloc, "alg")
+        .long("alg")
+        .value_name("N")
+        .required(true)
+        .value_parser(ALGORITHMS)
+        .help("The algorithm: HMAC 256/64 (4), 256/256 (5), 384/384 (6) or 512/512 (7)")
+}
+
+/// The option of the key.
+fn key_option<'a>(alloc: Global) -> Arg<'a> {
+    Arg::new(alloc, "key")
+        .long("key")
+        .value_name("HEX")
+        .required(true)
+        .help("The key, one symmetric COSE_Key (RFC 9052 section 7)")
+}
+
+/// The option of the payload's length.
+fn length_option<'a>(alloc: Global) -> Arg<'a> {
+    Arg::new(alloc, "length")
+        .long("length")
+        .value_name("N")
+        .required(true)
+        .value_parser(value_parser!(u64).range(0..PAYLOAD))
+        .help(
+            "The number of bytes of the payload, below 2^56; fewer on standard input end with status 2, and what follows them is left unread",
+        )
+}
+
+/// The option of the key's identifier.
+fn kid_option<'a>(alloc: Global) -> Arg<'a> {
+    Arg::new(alloc, "kid").long("kid").value_name("HEX").help(
+        "The identifier of the key that the message names, at most 255 bytes; without it the message names none",
+    )
+}
+
 /// The command `show` and its option.
 fn show_line<'a>(alloc: Global) -> Result<Command<'a>, AllocError> {
     Command::new(alloc, "show")
@@ -182,21 +247,6 @@ fn verify_line<'a>(alloc: Global) -> Result<Command<'a>, AllocError> {
 
 /// The command `cwt` and its options.
 fn cwt_line<'a>(alloc: Global) -> Result<Command<'a>, AllocError> {
-    let now = Arg::new(alloc, "now")
-        .long("now")
-        .value_name("N")
-        .required(true)
-        .value_parser(value_parser!(i64).range(0..))
-        .help("The moment, in seconds since 1970; the program reads no clock");
-    let leeway = Arg::new(alloc, "leeway")
-        .long("leeway")
-        .value_name("N")
-        .value_parser(value_parser!(u32))
-        .default_value("0")
-        .help("By how many seconds the clocks of issuer and reader may differ");
-    let aud = Arg::new(alloc, "aud").long("aud").value_name("TEXT").help(
-        "The audience that a token has to name, where it names one; without it any is good",
-    );
     Command::new(alloc, "cwt")
         .about("Admits the CBOR Web Token on standard input and prints its claims")
         .after_help(CWT_NOTES)
@@ -204,9 +254,9 @@ fn cwt_line<'a>(alloc: Global) -> Result<Command<'a>, AllocError> {
         .arg(aad_option(alloc))?
         .arg(kind_option(alloc))?
         .arg(vouch_option(alloc))?
-        .arg(now)?
-        .arg(leeway)?
-        .arg(aud)
+        .arg(now_option(alloc))?
+        .arg(leeway_option(alloc))?
+        .arg(aud_option(alloc))
 }
 
 /// The command `digest` and its options.
@@ -220,35 +270,13 @@ fn digest_line<'a>(alloc: Global) -> Result<Command<'a>, AllocError> {
 
 /// The command `make` and its options.
 fn make_line<'a>(alloc: Global) -> Result<Command<'a>, AllocError> {
-    let alg = Arg::new(alloc, "alg")
-        .long("alg")
-        .value_name("N")
-        .required(true)
-        .value_parser(ALGORITHMS)
-        .help("The algorithm: HMAC 256/64 (4), 256/256 (5), 384/384 (6) or 512/512 (7)");
-    let key = Arg::new(alloc, "key")
-        .long("key")
-        .value_name("HEX")
-        .required(true)
-        .help("The key, one symmetric COSE_Key (RFC 9052 section 7)");
-    let length = Arg::new(alloc, "length")
-        .long("length")
-        .value_name("N")
-        .required(true)
-        .value_parser(value_parser!(u64).range(0..PAYLOAD))
-        .help(
-            "The number of bytes of the payload, below 2^56; fewer on standard input end with status 2, and what follows them is left unread",
-        );
-    let kid = Arg::new(alloc, "kid").long("kid").value_name("HEX").help(
-        "The identifier of the key that the message names, at most 255 bytes; without it the message names none",
-    );
     Command::new(alloc, "make")
         .about("Makes a COSE_Mac0 of the payload on standard input and writes its bytes")
         .after_help(MAKE_NOTES)
-        .arg(alg)?
-        .arg(key)?
-        .arg(length)?
-        .arg(kid)?
+        .arg(alg_option(alloc))?
+        .arg(key_option(alloc))?
+        .arg(length_option(alloc))?
+        .arg(kid_option(alloc))?
         .arg(aad_option(alloc))
 }
 
