@@ -68,9 +68,11 @@ fn claims_after<'a>(
 /// Verifies one token, and gives its claims where the message is authentic and the claims are admitted.
 ///
 /// The payload goes into the store, which is made as new first, and which the claims borrow: they are read once the message is
-/// known to be authentic, so no claim of another message is ever handed out. The verifier isn't inspecting and has taken nothing yet, and its context
-/// allows the CWT tag and no payload that the store can't hold. After a verdict or a stop the verifier answers as after
-/// [`verify`], until `reset`.
+/// known to be authentic, so no claim of another message is ever handed out. After a refusal or a stop the store may hold the
+/// payload of the refused message, or a part of it: [`Store::clear`] drops it.
+///
+/// The verifier isn't inspecting and has taken nothing yet, and its context allows the CWT tag and no payload that the store can't
+/// hold. After a verdict or a stop the verifier answers as after [`verify`], until `reset`.
 pub fn verify_cwt<
     'a,
     'k,

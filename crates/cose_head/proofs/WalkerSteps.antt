@@ -12,7 +12,7 @@ use Rattle.cose_head.specs.Measured.{left_of}
 use Rattle.cose_head.specs.Reading.{Left, Outcome, read}
 use Rattle.cose_head.specs.Open as opened
 use Rattle.cose_head.specs.Open.{open_in}
-use Rattle.cose_head.specs.Walking.{Walk, end_of, walk, refused}
+use Rattle.cose_head.specs.Walking.{Walk, walk_end, walk, refused}
 use Rattle.cose_head.specs.Walker.{last_step, step_after, open_now, open_while, left_at, go_on, resume, HasPut, Answers, Leads, Passes}
 use Rattle.cose_head.proofs.Walking.{finish-none}
 use Rattle.cose_head.proofs.WalkSteps.{go_on-open, go_on-short}
@@ -36,15 +36,15 @@ on_ok (Ok progress) p = p
 on_ok (Err reason) p = tt
 
 -- reading by where it ends
-pub read_refused : {A : Type 0} (r : Outcome A) (refusal : Refusal) → end_of r ≡ Err refusal → r ≡ Err refusal
+pub read_refused : {A : Type 0} (r : Outcome A) (refusal : Refusal) → walk_end r ≡ Err refusal → r ≡ Err refusal
 read_refused (Ok found) refusal e = (let q : Ok found.1 ≡ Err refusal = e in cc)
 read_refused (Err other) refusal e = (let q : Err other ≡ Err refusal = e in let same : other ≡ refusal = cc in ap (λ r. Err r) same)
 
-pub read_whole : {A : Type 0} (r : Outcome A) (l : Left) → end_of r ≡ Ok l → (t : A) × (r ≡ Ok (t, l))
+pub read_whole : {A : Type 0} (r : Outcome A) (l : Left) → walk_end r ≡ Ok l → (t : A) × (r ≡ Ok (t, l))
 read_whole (Ok found) l e = (found.0, (let q : Ok found.1 ≡ Ok l = e in let same : found.1 ≡ l = cc in ap (λ k. Ok (found.0, k)) same))
 read_whole (Err other) l e = (let q : Err other ≡ Ok l = e in cc)
 
-end_of_walk : (depth : ℕ) (l : Left) → (walk depth l).end ≡ end_of (read depth l)
+end_of_walk : (depth : ℕ) (l : Left) → (walk depth l).end ≡ walk_end (read depth l)
 unfolding walk
 end_of_walk depth l = refl
 
@@ -61,7 +61,7 @@ unfolding resume
 resume_alike w other alike bytes = rw (alike.counts, alike.half, alike.string, alike.room, alike.place) refl
 
 module _ {D : ℕ} (old new : Walker D) (room : ℕ) (put : List ℕ) (piece : List ℕ) (has : HasPut room put old) where
-  read_end : end_of (read D (left_of (put ++ piece) room 0)) ≡ (resume old (piece ++ [])).end
+  read_end : walk_end (read D (left_of (put ++ piece) room 0)) ≡ (resume old (piece ++ [])).end
   read_end = sym (end_of_walk D (left_of (put ++ piece) room 0)) ∙ ap (λ (w : Walk). w.end) (has.rest piece)
       ∙ ap (λ bytes. (resume old bytes).end) (sym (append-nil piece))
 
@@ -160,7 +160,7 @@ module _ {D : ℕ} (w : Walker D) (room : ℕ) (put : List ℕ) (has : HasPut ro
   pub string_open : (open_in D (left_of put room 0)).content ≡ w.string
   string_open = ap (λ (o : opened.Open). o.content) open_so_far
 
-  read_more : (more : List ℕ) → end_of (read D (left_of (put ++ more) room 0)) ≡ (resume w more).end
+  read_more : (more : List ℕ) → walk_end (read D (left_of (put ++ more) room 0)) ≡ (resume w more).end
   read_more more = sym (end_of_walk D (left_of (put ++ more) room 0)) ∙ ap (λ (k : Walk). k.end) (has.rest more)
 
   -- fewer bytes than the string has left

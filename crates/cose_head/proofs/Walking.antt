@@ -5,17 +5,17 @@ use Rattle.cose_head.specs.declared.refusal.Refusal.{Refusal}
 use Rattle.cose_head.specs.Item.{Item, Items, item}
 use Rattle.cose_head.specs.Reading.{Left, Outcome, Reader, read, read_all, ◌>>=◌}
 use Rattle.cose_head.specs.Open.{Open, open_child, open_all, open_in}
-use Rattle.cose_head.specs.Walking.{Walk, end_of, ends, walk, walk_all, past_child, within, finish}
+use Rattle.cose_head.specs.Walking.{Walk, walk_end, ends, walk, walk_all, past_child, within, finish}
 
 -- what is made of a value doesn't change where it ends
-pub end_of-made : {A B : Type 0} (r : Outcome A) (make : A → B) → end_of (r >>= λ x. Ok (make x.0, x.1)) ≡ end_of r
+pub end_of-made : {A B : Type 0} (r : Outcome A) (make : A → B) → walk_end (r >>= λ x. Ok (make x.0, x.1)) ≡ walk_end r
 end_of-made (Ok x) make = refl
 end_of-made (Err refusal) make = refl
 
 -- a child, and then the others
 past_first : (r : Outcome Item) (inside : Open) (others : Reader Items) (open_others : Left → Open)
-    → record { end = end_of (r >>= λ first. others first.1 >>= λ rest. Ok (item first.0 rest.0, rest.1)); opened = open_child r inside open_others }
-    ≡ past_child (end_of r) inside (λ l. record { end = end_of (others l); opened = open_others l })
+    → record { end = walk_end (r >>= λ first. others first.1 >>= λ rest. Ok (item first.0 rest.0, rest.1)); opened = open_child r inside open_others }
+    ≡ past_child (walk_end r) inside (λ l. record { end = walk_end (others l); opened = open_others l })
 past_first (Ok first) inside others open_others =
     ap (λ e. record { end = e; opened = open_others first.1 }) (end_of-made (others first.1) (item first.0))
 past_first (Err refusal) inside others open_others = refl

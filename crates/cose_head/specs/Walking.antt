@@ -18,18 +18,18 @@ pub record Walk : Type 0 where
   pub end : Result Left Refusal
   pub opened : Open
 
-abbrev pub end_of : {A : Type 0} → Outcome A → Result Left Refusal
-end_of (Ok found) = Ok found.1
-end_of (Err refusal) = Err refusal
+abbrev pub walk_end : {A : Type 0} → Outcome A → Result Left Refusal
+walk_end (Ok found) = Ok found.1
+walk_end (Err refusal) = Err refusal
 
 abbrev pub ends : Left → Walk
 ends l = record { end = Ok l; opened = nothing_open }
 
 unfoldable pub walk : ℕ → Left → Walk
-walk depth l = record { end = end_of (read depth l); opened = open_in depth l }
+walk depth l = record { end = walk_end (read depth l); opened = open_in depth l }
 
 unfoldable pub walk_all : ℕ → ℕ → Left → Walk
-walk_all depth n l = record { end = end_of (read_all (read depth) n l); opened = open_all (read depth) (open_in depth) n l }
+walk_all depth n l = record { end = walk_end (read_all (read depth) n l); opened = open_all (read depth) (open_in depth) n l }
 
 -- A string of which n bytes are to come.
 abbrev pub walk_content : ℕ → Left → Walk

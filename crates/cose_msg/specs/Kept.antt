@@ -65,7 +65,8 @@ abbrev pub answered_again : {A : Type 0} → Result A Stop → Result A Stop
 answered_again (Ok answer) = Ok answer
 answered_again (Err stop) = Err stops.Again
 
--- The verifier has taken the bytes s, the payload B among them, has counted them, and hasn't stopped.
+-- The verifier has taken the bytes s, the payload B among them, has counted them, and goes on: it hasn't stopped, no end was said
+-- before they settled the message, and no signature was decided on.
 pub record HasTaken {H D : ℕ} (task : Task) (s B : List ℕ) (v : Verifier H D) : Type 0 where
   pub so_far : SoFar task s B v
   pub counted : v.taken ≡ length s

@@ -59,13 +59,13 @@ answer_over message payload_length bytes =
     if nat_lt (length bytes) payload_length then Err faults.ShortPayload else Ok (length (message (take payload_length bytes)))
 
 -- The intake's bytes are taken in their order, each once. Only an intake that failed may tell nothing more.
-abbrev pub Takes : Option (List ℕ) → Option (List ℕ) → Result ℕ MakeFault → List ℕ → Type 0
-Takes old new (Ok n) taken = Consumes old new taken
-Takes old new (Err faults.ShortPayload) taken = Consumes old new taken
-Takes old new (Err faults.WrongKey) taken = ⊥
-Takes old new (Err faults.Intake) taken = TakesInAll old new taken
-Takes old new (Err faults.Sink) taken = Consumes old new taken
-Takes old new (Err faults.TooLong) taken = ⊥
+abbrev pub TakesPayload : Option (List ℕ) → Option (List ℕ) → Result ℕ MakeFault → List ℕ → Type 0
+TakesPayload old new (Ok n) taken = Consumes old new taken
+TakesPayload old new (Err faults.ShortPayload) taken = Consumes old new taken
+TakesPayload old new (Err faults.WrongKey) taken = ⊥
+TakesPayload old new (Err faults.Intake) taken = TakesInAll old new taken
+TakesPayload old new (Err faults.Sink) taken = Consumes old new taken
+TakesPayload old new (Err faults.TooLong) taken = ⊥
 
 -- How many bytes were taken for a payload of this length: all of them; fewer where the intake has ended, and gives no further
 -- byte, or failed; at most so many where the sink failed.
@@ -86,6 +86,6 @@ Grows message payload_length contents contents_after (Err fault) taken =
 
 -- A call whose arguments have no fault has taken these bytes, to make the message of a payload of this length.
 pub record Makes (message : List ℕ → List ℕ) (payload_length : ℕ) (come come_after : Option (List ℕ)) (ended : Bool) (contents contents_after : Option (List ℕ)) (result : Result ℕ MakeFault) (taken : List ℕ) : Type 0 where
-  pub bytes : Takes come come_after result taken
+  pub bytes : TakesPayload come come_after result taken
   pub count : TakesSome payload_length ended come_after result (length taken)
   pub grows : Grows message payload_length contents contents_after result taken

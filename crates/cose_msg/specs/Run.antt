@@ -39,11 +39,11 @@ abbrev pub stops_for_sink : {A : Type 0} → Result A Stop → Bool
 stops_for_sink result = is_sink_stop (stop_in result)
 
 -- The intake's bytes are taken in their order, each once. Only an intake that failed may tell nothing more.
-abbrev pub Takes : Option (List ℕ) → Option (List ℕ) → Option Stop → List ℕ → Type 0
-Takes old new (Some stops.Intake) taken = TakesInAll old new taken
-Takes old new (Some stops.Sink) taken = Consumes old new taken
-Takes old new (Some stops.Again) taken = Consumes old new taken
-Takes old new None taken = Consumes old new taken
+abbrev pub TakesUntilStop : Option (List ℕ) → Option (List ℕ) → Option Stop → List ℕ → Type 0
+TakesUntilStop old new (Some stops.Intake) taken = TakesInAll old new taken
+TakesUntilStop old new (Some stops.Sink) taken = Consumes old new taken
+TakesUntilStop old new (Some stops.Again) taken = Consumes old new taken
+TakesUntilStop old new None taken = Consumes old new taken
 
 -- The sink grows by the payload among the bytes taken, or by a front of it where the sink failed.
 abbrev pub Grows : Option (List ℕ) → Option (List ℕ) → Option Stop → List ℕ → Type 0
@@ -83,7 +83,7 @@ Answers answer_of count taken (Err stop) ended come_after reading = reading.sett
 
 -- A verifier that had taken the bytes s, the payload B among them, has taken these after them. They are read by these rules.
 pub record Run {A : Type 0} (rules : Rules) (answer_of : A → Answer) (s B : List ℕ) (come come_after : Option (List ℕ)) (ended : Bool) (contents contents_after : Option (List ℕ)) (result : Result A Stop) (taken : List ℕ) : Type 0 where
-  pub bytes : Takes come come_after (stop_in result) taken
+  pub bytes : TakesUntilStop come come_after (stop_in result) taken
   -- None was taken after the one that settles the message.
   pub none_after_end : (n : ℕ) → n < length taken → (message rules (s ++ take n taken)).settled ≡ false
   pub answer : Answers answer_of (length (s ++ taken)) (length taken) result ended come_after (message rules (s ++ taken))
@@ -100,7 +100,7 @@ Stands {H} {D} task s B taken (Some stop) ended come_after v = (message (rules_o
 pub record Drive {H D : ℕ} (task : Task) (s B : List ℕ) (come come_after : Option (List ℕ)) (ended : Bool) (contents contents_after : Option (List ℕ)) (stop : Option Stop) (v : Verifier H D) : Type 0 where
   pub taken : List ℕ
   pub part : List ℕ
-  pub bytes : Takes come come_after stop taken
+  pub bytes : TakesUntilStop come come_after stop taken
   pub none_after_end : (n : ℕ) → n < length taken → (message (rules_of H D task) (s ++ take n taken)).settled ≡ false
   pub stands : Stands task (s ++ taken) (B ++ part) (length taken) stop ended come_after v
   pub counted : v.taken ≡ length (s ++ taken)

@@ -12,7 +12,7 @@ use Rattle.cose_msg.specs.declared.make.MakeFault.{MakeFault}
 use Rattle.cose_msg.specs.declared.make.MakeFault.TheVariants as faults
 use Rattle.cose_msg.specs.Grammar.{tag_number}
 use Rattle.cose_msg.specs.Intake.{marks}
-use Rattle.cose_msg.specs.Make.{Takes, TakesSome, stops_for_sink}
+use Rattle.cose_msg.specs.Make.{TakesPayload, TakesSome, stops_for_sink}
 use Rattle.cose_msg.specs.Making.{unprotected_made}
 use Rattle.cose_msg.specs.Sink.{AppendsFront}
 
@@ -61,7 +61,7 @@ Feeds old new bytes = (alg : Alg) (key message : List ℕ) → FedMac old alg ke
 
 -- A payload of this length was taken, fed to a MAC and put, piece by piece.
 pub record Streams (payload_length : ℕ) (come come_after : Option (List ℕ)) (ended : Bool) (old new : Seen) (fed_before fed_after : Running) (result : Result ℕ MakeFault) (taken : List ℕ) : Type 0 where
-  pub bytes : Takes come come_after result taken
+  pub bytes : TakesPayload come come_after result taken
   pub count : TakesSome payload_length ended come_after result (length taken)
   pub put : PutsTaken old.contents new.contents result taken
   pub answer : IfOk result (λ n. n ≡ payload_length)

@@ -9,7 +9,7 @@ use arrayvec::ArrayVec;
 use cose_head::{HeadStep, parse_head};
 
 /// Takes the next byte of a head, and says what its bytes come to. They are kept until the head is whole.
-pub(crate) fn take_head_byte(head: &mut ArrayVec<u8, 9>, byte: u8) -> HeadStep
+pub(crate) fn take_bare_head_byte(head: &mut ArrayVec<u8, 9>, byte: u8) -> HeadStep
     requires short { array_vec_len head.old < 9 }
     ensures short { array_vec_len head.new < 9 }
     ensures answer { result ≡ bare_head (head.old.items ++ byte ∷ []) }

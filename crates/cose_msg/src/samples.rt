@@ -1,9 +1,9 @@
-//! Messages, keys, contexts and a reader that several modules of tests take.
+//! Messages, keys, contexts, a reader and an intake that several modules of tests take.
 
-ghost use Rattle.std.specs.Prelude.{◌≡◌, ◌≤◌, IfSome, false, length};
+ghost use Rattle.std.specs.Prelude.{◌≡◌, ◌≤◌, IfSome, None, false, length};
 ghost use Rattle.cose_msg.specs.Kept.{is_inspecting};
 
-use crate::{Alg, Context, KeySet, Kind, Verdict, Verifier, Wanted};
+use crate::{Alg, Context, Intake, IntakeFault, KeySet, Kind, Verdict, Verifier, Wanted};
 use std::io;
 use std::io::{Error, ErrorKind, Read};
 
@@ -110,6 +110,46 @@ impl Read for FailingReader<'_> {
         let (piece, rest) = self.bytes.split_at(count);
         into[..count].copy_from_slice(piece);
         self.bytes = rest;
+        Ok(count)
+    }
+}
+
+/// The bytes of a slice. It keeps how many were asked for at most, and the number of its calls.
+#[derive(Drop)]
+pub(crate) struct WatchedIntake<'a> {
+    bytes: &'a [u8],
+    pub(crate) most: usize,
+    pub(crate) takes: usize,
+    ended: bool,
+}
+
+impl<'a> WatchedIntake<'a> {
+    /// An intake of these bytes.
+    pub(crate) fn new(bytes: &'a [u8]) -> Self {
+        WatchedIntake {
+            bytes,
+            most: 0,
+            takes: 0,
+            ended: false,
+        }
+    }
+}
+
+impl Intake for WatchedIntake<'_> {
+    ghost to_come = { λ _. None };
+
+    ghost has_failed = { λ _. false };
+
+    ghost ended = { λ intake. intake.ended };
+
+    fn take(&mut self, into: &mut [u8]) -> Result<usize, IntakeFault> {
+        self.most = self.most.max(into.len());
+        self.takes = self.takes.saturating_add(1);
+        let count = self.bytes.len().min(into.len());
+        let (piece, rest) = self.bytes.split_at(count);
+        into[..count].copy_from_slice(piece);
+        self.bytes = rest;
+        self.ended = count == 0;
         Ok(count)
     }
 }

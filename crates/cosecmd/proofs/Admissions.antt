@@ -22,7 +22,7 @@ use Rattle.cose_cwt.specs.Claims.{ClaimsValue}
 use Rattle.cose_cwt.specs.Token.{IsRun, IsToken, Outcome, UnlessStopped, of_claims, read_as, stop_in, token_of}
 use Rattle.cosecmd.specs.declared.reply.Reply.{Reply}
 use Rattle.cosecmd.specs.Admitted.{input_token, token_told, unless_trailed}
-use Rattle.cosecmd.specs.Printed.{Says, admitted_under, behind, outcome_said, token_setting}
+use Rattle.cosecmd.specs.Printed.{Says, admitted_under, trailing_refusal, outcome_said, token_setting}
 use Rattle.cosecmd.specs.Vouch.{vouching}
 
 -- The lines of a part behind those so far, by what was told of it.
@@ -57,7 +57,7 @@ or_trailing None claims = Ok claims
 or_trailing (Some refusal) claims = Err (stops.Message refusal)
 
 unless_behind : (rest taken bytes : List ℕ) (count : ℕ) (claims : ClaimsValue) → bytes ≡ taken ++ rest → count ≡ length taken →
-    unless_trailed (length bytes) count (Ok claims) ≡ or_trailing (behind rest count) claims
+    unless_trailed (length bytes) count (Ok claims) ≡ or_trailing (trailing_refusal rest count) claims
 unless_behind [] taken bytes count claims whole counted =
     let short : length bytes ≤ count = rw (whole, counted) (omega (arith, length-append taken [])) in
     rw (le-ltb count (length bytes) short) refl
@@ -67,13 +67,13 @@ unless_behind (byte ∷ rest) taken bytes count claims whole counted =
 
 admitted_token : (verdict : Verdict) (rest taken bytes : List ℕ) (policy : PolicyValue) (payload : List ℕ) (answer : Answer) (outcome : Outcome) (claims : ClaimsValue) → bytes ≡ taken ++ rest → Counts verdict (length taken) →
     answer ≡ decided verdict → outcome ≡ token_of 8 policy (Ok verdict) payload → outcome ≡ Ok claims →
-    token_told (length bytes) policy payload answer ≡ or_trailing (behind rest (length taken)) claims
+    token_told (length bytes) policy payload answer ≡ or_trailing (trailing_refusal rest (length taken)) claims
 admitted_token (Refused refusal) rest taken bytes policy payload answer outcome claims whole counted judged comes e =
     let clash : Err (stops.Message refusal) ≡ Ok claims = sym comes ∙ e in absurd cc
 admitted_token (Authentic kind alg size count) rest taken bytes policy payload answer outcome claims whole counted judged comes e =
     let admitted : of_claims (admitted_claims 8 policy payload) ≡ Ok claims = sym comes ∙ e in
     ap (token_told (length bytes) policy payload) judged ∙ ap (unless_trailed (length bytes) count) admitted
-    ∙ unless_behind rest taken bytes count claims whole counted ∙ ap (λ (n : ℕ). or_trailing (behind rest n) claims) counted
+    ∙ unless_behind rest taken bytes count claims whole counted ∙ ap (λ (n : ℕ). or_trailing (trailing_refusal rest n) claims) counted
 
 -- The verdict of the bytes taken is that of all.
 same_verdict : VerdictStays → (setting : Setting) (decides : Decides) (taken rest : List ℕ) (settled : Bool) → (read_as 1024 8 setting decides taken).settled ≡ settled →
@@ -85,7 +85,7 @@ same_verdict stays setting decides taken rest false is ends =
 -- What is left of the input, and what the whole comes to by it.
 abbrev IsLeft : Setting → Decides → PolicyValue → List ℕ → Option (List ℕ) → ℕ → ClaimsValue → Type 0
 IsLeft setting decides policy bytes come_after count claims =
-    (rest : List ℕ) × (come_after ≡ Some rest) × (input_token setting decides policy bytes ≡ or_trailing (behind rest count) claims)
+    (rest : List ℕ) × (come_after ≡ Some rest) × (input_token setting decides policy bytes ≡ or_trailing (trailing_refusal rest count) claims)
 
 left_by : VerdictStays → (setting : Setting) (decides : Decides) (policy : PolicyValue) (come_after : Option (List ℕ)) (ended : Bool) (verdict : Result Verdict Stop) (taken payload bytes : List ℕ) (outcome : Outcome) (claims : ClaimsValue) →
     Run (verifying 1024 8 setting decides) decided [] [] (Some bytes) come_after ended (Some []) (Some payload) verdict taken → outcome ≡ token_of 8 policy verdict payload →
@@ -117,12 +117,12 @@ left_of_run stays setting decides policy come come_after ended v bytes outcome c
     admitted_is (Err stop) e says = absurd cc
 
 pub is_alone : (setting : Setting) (decides : Decides) (policy : PolicyValue) (bytes : List ℕ) (come_after : Option (List ℕ)) (count : ℕ) (claims : ClaimsValue) → IsLeft setting decides policy bytes come_after count claims →
-    ((rest : List ℕ) → come_after ≡ Some rest → None ≡ behind rest count) → Ok claims ≡ input_token setting decides policy bytes
+    ((rest : List ℕ) → come_after ≡ Some rest → None ≡ trailing_refusal rest count) → Ok claims ≡ input_token setting decides policy bytes
 is_alone setting decides policy bytes come_after count claims left h =
     sym (left.2 ∙ ap (λ (r : Option Refusal). or_trailing r claims) (sym (h left.0 left.1)))
 
 pub is_followed : (setting : Setting) (decides : Decides) (policy : PolicyValue) (bytes : List ℕ) (come_after : Option (List ℕ)) (count : ℕ) (claims : ClaimsValue) (refusal : Refusal) → IsLeft setting decides policy bytes come_after count claims →
-    ((rest : List ℕ) → come_after ≡ Some rest → Some refusal ≡ behind rest count) → Err (stops.Message refusal) ≡ input_token setting decides policy bytes
+    ((rest : List ℕ) → come_after ≡ Some rest → Some refusal ≡ trailing_refusal rest count) → Err (stops.Message refusal) ≡ input_token setting decides policy bytes
 is_followed setting decides policy bytes come_after count claims refusal left h =
     sym (left.2 ∙ ap (λ (r : Option Refusal). or_trailing r claims) (sym (h left.0 left.1)))
 

@@ -22,7 +22,7 @@ use Rattle.cose_msg.specs.Unrefused.{BeginsWithMessage, IsUnrefused, UnrefusedIs
 use Rattle.cose_msg.specs.Verifier.{Counts}
 use Rattle.cosecmd.proofs.Trailing.{all_taken, kept_at_end, left_of_input, refused_past, trails}
 use Rattle.cosecmd.specs.declared.reply.Reply.{Reply}
-use Rattle.cosecmd.specs.Printed.{Output, Says, behind, digested, digested_as, digested_under, input_compared, program_setting, said_of, trailed, vouched, with_rest}
+use Rattle.cosecmd.specs.Printed.{Output, Says, trailing_refusal, digested, digested_as, digested_under, input_compared, program_setting, said_of, trailed, vouched, followed_by}
 use Rattle.cosecmd.specs.Vouch.{vouch_word}
 
 -- ---- a message without a signature
@@ -117,7 +117,7 @@ module _ {F : Type 0} (set : Read (List KeyValue)) (keys : List KeyValue) (good 
         all_come_to stays rules bytes taken o.0 o.2 (λ unsettled. let end = rw o.1 at ended (as_settled taken ∙ unsettled) in end)
 
     pub says_undigested : (verdict whole : Verdict) → (message (verifying 1024 8 setting decides) taken).answer ≡ decided verdict → Counts verdict (length taken) →
-        None ≡ sign_input_in setting.aad (message (comparing 1024 8 setting) taken).answer → ((rest : List ℕ) → come_after ≡ Some rest → whole ≡ with_rest rest verdict) →
+        None ≡ sign_input_in setting.aad (message (comparing 1024 8 setting) taken).answer → ((rest : List ℕ) → come_after ≡ Some rest → whole ≡ followed_by rest verdict) →
         IfOk reply (Says (said_of whole)) → IfOk reply (Says (digested_under set aad bytes))
     unfolding rules
     says_undigested verdict whole answer counted none h s =
@@ -139,7 +139,7 @@ module _ {F : Type 0} (set : Read (List KeyValue)) (keys : List KeyValue) (good 
           let ends = ends_with_it is_read is_message rules setting.aad (λ whole. refl) taken w.0 w.1 (λ n short. sym (as_settled (take n taken)) ∙ earlier n short) in
           (w.0, ap (λ (r : Reading). r.answer) read_whole ∙ w.1, ends ∙ sym counted, signed ∙ ap (sign_input_in setting.aad) w.1)
 
-      pub says_longer : (refusal : Refusal) → ((rest : List ℕ) → come_after ≡ Some rest → Some refusal ≡ behind rest count) → IfOk reply (Says (said_of (Refused refusal))) →
+      pub says_longer : (refusal : Refusal) → ((rest : List ℕ) → come_after ≡ Some rest → Some refusal ≡ trailing_refusal rest count) → IfOk reply (Says (said_of (Refused refusal))) →
           IfOk reply (Says (digested_under set aad bytes))
       says_longer refusal h s =
           let o = left_of_input come come_after bytes taken told consumes in
@@ -148,7 +148,7 @@ module _ {F : Type 0} (set : Read (List KeyValue)) (keys : List KeyValue) (good 
           ap (λ (a : Answer). trailed (length bytes) a) w.1 ∙ refused_past bytes taken o.0 (complete w.0) count refusal (ap Some w.2) o.2 counted (h o.0 o.1) in
           told_so (said_of (Refused refusal)) (ap (digested_as setting.aad) e) s
 
-      pub says_vouched : (word : List ℕ) → word ≡ vouch_word input → ((rest : List ℕ) → come_after ≡ Some rest → None ≡ behind rest count) → IfOk reply (Says (vouched word)) →
+      pub says_vouched : (word : List ℕ) → word ≡ vouch_word input → ((rest : List ℕ) → come_after ≡ Some rest → None ≡ trailing_refusal rest count) → IfOk reply (Says (vouched word)) →
           IfOk reply (Says (digested_under set aad bytes))
       says_vouched word is h s =
           let o = left_of_input come come_after bytes taken told consumes in

@@ -12,7 +12,7 @@ use Rattle.cose_msg.specs.Answer.{Answer, decided, shaped}
 use Rattle.cose_msg.specs.Message.{Setting, inspecting, message}
 use Rattle.cose_msg.specs.Rules.{Rules}
 use Rattle.cosecmd.specs.declared.reply.Reply.{Reply}
-use Rattle.cosecmd.specs.Printed.{Output, Says, behind, bucket_lines, pair_line, program_setting, said_of, shape_said, shown, shown_as, shown_of, trailed}
+use Rattle.cosecmd.specs.Printed.{Output, Says, trailing_refusal, bucket_lines, pair_line, program_setting, said_of, shape_said, shown, shown_as, shown_of, trailed}
 use Rattle.cosecmd.proofs.Trailing.{all_taken, kept_at_end, left_of_input, refused_past}
 
 module _ {F : Type 0} (setting : Setting) (keys : List KeyValue) (aad : List ℕ) (wanted : Wanted) (under : setting ≡ program_setting keys aad wanted) (bytes : List ℕ) (reply : Result Reply F) where
@@ -33,7 +33,7 @@ module _ {F : Type 0} (setting : Setting) (keys : List KeyValue) (aad : List ℕ
 
   module _ (come come_after : Option (List ℕ)) (taken : List ℕ) (kind : Kind) (payload auth count : ℕ) (told : come ≡ Some bytes) (consumes : Consumes come come_after taken) (counted : count ≡ length taken)
       (shape : (message (inspecting 1024 8 setting) bytes).answer ≡ shaped kind payload auth count) where
-    pub says_trailing : (refusal : Refusal) → ((rest : List ℕ) → come_after ≡ Some rest → Some refusal ≡ behind rest count) → IfOk reply (Says (said_of (Refused refusal))) → IfOk reply (Says (shown wanted bytes))
+    pub says_trailing : (refusal : Refusal) → ((rest : List ℕ) → come_after ≡ Some rest → Some refusal ≡ trailing_refusal rest count) → IfOk reply (Says (said_of (Refused refusal))) → IfOk reply (Says (shown wanted bytes))
     unfolding rules
     says_trailing refusal h s =
         let o = left_of_input come come_after bytes taken told consumes in
@@ -41,7 +41,7 @@ module _ {F : Type 0} (setting : Setting) (keys : List KeyValue) (aad : List ℕ
         ap (λ (a : Answer). trailed (length bytes) a) shape ∙ refused_past bytes taken o.0 (shaped kind payload auth count) count refusal refl o.2 counted (h o.0 o.1) in
         shown_so (said_of (Refused refusal)) (ap (shown_as (message rules bytes).told) e) s
 
-    pub says_shape : (protected unprotected : Option (List Pair)) → ((rest : List ℕ) → come_after ≡ Some rest → None ≡ behind rest count) →
+    pub says_shape : (protected unprotected : Option (List Pair)) → ((rest : List ℕ) → come_after ≡ Some rest → None ≡ trailing_refusal rest count) →
         protected ≡ (message (inspecting 1024 8 setting) taken).told.protected → unprotected ≡ (message (inspecting 1024 8 setting) taken).told.unprotected →
         IfOk reply (Says (shape_said kind payload auth count protected unprotected)) → IfOk reply (Says (shown wanted bytes))
     unfolding rules

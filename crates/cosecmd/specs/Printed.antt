@@ -85,11 +85,11 @@ program_setting keys aad wanted = record {
 }
 
 -- How many bytes a message has that nothing refuses.
-abbrev pub end_of : Answer → Option ℕ
-end_of (decided (Authentic kind alg payload taken)) = Some taken
-end_of (decided (Refused refusal)) = None
-end_of (complete whole) = Some whole.taken
-end_of (shaped kind payload auth taken) = Some taken
+abbrev pub message_length : Answer → Option ℕ
+message_length (decided (Authentic kind alg payload taken)) = Some taken
+message_length (decided (Refused refusal)) = None
+message_length (complete whole) = Some whole.taken
+message_length (shaped kind payload auth taken) = Some taken
 
 -- Nothing may stand behind it: here the whole input has n bytes.
 abbrev pub unless_longer : ℕ → Option ℕ → Answer → Answer
@@ -97,17 +97,17 @@ unless_longer n (Some taken) answer = if nat_lt taken n then refused Trailing ta
 unless_longer n None answer = answer
 
 abbrev pub trailed : ℕ → Answer → Answer
-trailed n answer = unless_longer n (end_of answer) answer
+trailed n answer = unless_longer n (message_length answer) answer
 
 -- What the first of these bytes behind a message is refused for, where there is one.
-abbrev pub behind : List ℕ → ℕ → Option Refusal
-behind [] taken = None
-behind (byte ∷ bytes) taken = Some (record { reason = Trailing; place = taken })
+abbrev pub trailing_refusal : List ℕ → ℕ → Option Refusal
+trailing_refusal [] taken = None
+trailing_refusal (byte ∷ bytes) taken = Some (record { reason = Trailing; place = taken })
 
 -- The same, where these bytes are left of the input behind the message.
-abbrev pub with_rest : List ℕ → Verdict → Verdict
-with_rest (byte ∷ bytes) (Authentic kind alg payload taken) = Refused (record { reason = Trailing; place = taken })
-with_rest rest verdict = verdict
+abbrev pub followed_by : List ℕ → Verdict → Verdict
+followed_by (byte ∷ bytes) (Authentic kind alg payload taken) = Refused (record { reason = Trailing; place = taken })
+followed_by rest verdict = verdict
 
 -- The verdict of a whole input, in buckets of at most 1,024 bytes that nest at most 8 deep.
 abbrev pub input_answer : Setting → Decides → List ℕ → Answer
@@ -219,7 +219,8 @@ made_under (Ok key) alg payload_length kid aad bytes =
     unless_faulty (make_fault alg key kid aad payload_length) (message_made key alg payload_length kid aad bytes)
 made_under (Err refusal) alg payload_length kid aad bytes = fault_of_key refusal
 
--- What is printed for a job, where the input is these bytes.
+-- What is printed for a job, where the input is these bytes. A text of status Fault is what the program's documents say; no clause
+-- asks a run that ends so to print it.
 unfoldable pub printed : Job → List ℕ → Output
 printed (Show wanted) bytes = shown wanted bytes
 printed (Verify keys aad wanted vouch) bytes = verified_under (keys_of keys.now) aad.now wanted (option_map contents vouch) bytes

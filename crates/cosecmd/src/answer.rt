@@ -71,13 +71,15 @@ fn status_of<R: Read, W: Write>(alloc: Global, job: &Job, input: &mut R, output:
     }
 }
 
-/// Does a job: the message or the payload comes from `input`. The lines, or the message that is made, go to `output`.
+/// Does a job: it reads the message or the payload from `input`, and writes the lines, or the message that is made, to `output`.
 ///
-/// Behind a message that isn't refused, and behind a token that is admitted, it reads once more: a further byte is `Trailing` at
-/// the end of the message. Behind a payload of which a message is made it reads nothing. It returns the exit status: 0 for a
-/// message that is authentic, shown or made, or whose digest is told, and for a token that is admitted, 1 for a message or a token
-/// that is refused, and 2 where the key or the key set is refused, a request for memory is refused, the input or the output fails,
-/// or a message can't be made. Then what went out of it is a front of it, without a line.
+/// After an accepted message, and after an admitted token, it reads once more: a further byte is `Trailing` at the end of the
+/// message. After the payload of `make` it reads nothing. It returns the exit status: 0 for a message that is authentic, shown or
+/// made, or whose digest is printed, and for a token that is admitted; 1 for a message or a token that is refused; 2 where the key
+/// or the key set is refused, a request for memory is refused, the input or the output fails, or a message can't be made.
+///
+/// With status 2 it writes one line that names the fault, or a prefix of it where the output fails. `make` writes no line once the
+/// first byte of the message was written: its output is then a prefix of the message.
 pub fn answer<R: Read, W: Write>(alloc: Global, job: &Job, input: &mut R, output: &mut W) -> u8
     requires external { length_of (aad_of job.now) ≤ 65535 }
     ensures status { result ≤ 2 }

@@ -1,6 +1,6 @@
 //! Intakes that fail, kept verdicts, and a store that failed before.
 
-use crate::tests::{KEY_SET, TOKEN, at, context, refusal};
+use crate::tests::{CLAIMS, KEY_SET, TOKEN, at, context, refusal};
 use crate::{CwtStop, verify_cwt};
 use cose_map::Reason;
 use cose_msg::{KeySet, Never, ReadIntake, Sink, SliceIntake, Stop, Store, Verifier};
@@ -103,6 +103,35 @@ fn answers_a_kept_refusal_again(rt: HostRuntime) -> Result<(), Fail> {
             &at(1_444_064_943, 0),
         );
         assert_eq!(rt; token.err(), truncated);
+    } else {
+        panic!(rt; "the verifier may not be asked again");
     }
+    Ok(())
+}
+
+#[test]
+fn may_hold_a_refused_payload(rt: HostRuntime) -> Result<(), Fail> {
+    let keys = KeySet::read(KEY_SET)?;
+    let mut verifier: Verifier<64, 4> = Verifier::new(context(keys));
+    let (front, tag) = TOKEN.split_at(91);
+    assert_eq!(rt; tag.len(), 32);
+    let mut changed = [0; 123];
+    changed[..91].copy_from_slice(front);
+    let mut intake = SliceIntake::new(&changed, 64);
+    let mut store: Store<4096> = Store::new();
+    let token = verify_cwt::<64, 64, 4, 4096, SliceIntake, Never>(
+        &mut verifier,
+        &mut intake,
+        &mut store,
+        &Never,
+        &at(1_444_064_943, 0),
+    );
+    assert_eq!(rt;
+        token.err(),
+        Some(CwtStop::Message(refusal(Reason::BadAuth, 89)))
+    );
+    assert_eq!(rt; store.bytes(), CLAIMS);
+    store.clear();
+    assert!(rt; store.bytes().is_empty());
     Ok(())
 }

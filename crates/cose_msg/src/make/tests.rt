@@ -2,7 +2,7 @@
 
 ghost use Rattle.std.specs.Prelude.{None};
 
-use crate::samples::{FailingReader, JEFE, MAC0};
+use crate::samples::{FailingReader, JEFE, MAC0, WatchedIntake};
 use crate::{
     Alg, Intake, Key, MakeFault, ReadIntake, Sink, SinkFault, SliceIntake, Store, make_mac0,
 };
@@ -105,6 +105,19 @@ fn refuses(
     length: u64,
     fault: MakeFault,
 ) {
+    refuses_with(rt, alg, key, kid, b"", length, fault);
+}
+
+/// The same with external data.
+fn refuses_with(
+    rt: &impl Abort,
+    alg: Alg,
+    key: &[u8],
+    kid: Option<&[u8]>,
+    aad: &[u8],
+    length: u64,
+    fault: MakeFault,
+) {
     let key = Key::read(key, 0).expect(rt, "a key");
     let mut intake = SliceIntake::new(b"hi", 64);
     let mut sink: Store<80> = Store::new();
@@ -112,7 +125,7 @@ fn refuses(
         alg,
         &key,
         kid,
-        b"",
+        aad,
         &mut intake,
         length,
         &mut sink,
@@ -146,6 +159,57 @@ fn refuses_arguments(rt: HostRuntime) {
     );
     refuses(&rt, Alg::Hmac256, JEFE, None, 1 << 56, MakeFault::TooLong);
     refuses(&rt, Alg::Es256, JEFE, None, 1 << 56, MakeFault::WrongKey);
+}
+
+#[test]
+fn limits_external_data(rt: HostRuntime) {
+    let aad = [0x5a; 65_536];
+    refuses_with(&rt, Alg::Hmac256, JEFE, None, &aad, 2, MakeFault::TooLong);
+    let key = Key::read(JEFE, 0).expect(&rt, "a key");
+    let mut intake = SliceIntake::new(b"hi", 64);
+    let mut sink: Store<80> = Store::new();
+    let answer = make_mac0::<64, SliceIntake, Store<80>>(
+        Alg::Hmac256,
+        &key,
+        None,
+        &aad[1..],
+        &mut intake,
+        2,
+        &mut sink,
+    );
+    assert_eq!(rt; answer, Ok(44));
+    assert_eq!(rt; &sink.bytes()[..12], &MAC0[..12]);
+}
+
+/// Makes a message in chunks of `C` bytes: no call takes more of the payload.
+fn takes_chunks<const C: usize>(rt: &impl Abort)
+    requires some { 1 ≤ C }
+    requires limit { C ≤ 65536 }
+{
+    let key = Key::read(JEFE, 0).expect(rt, "a key");
+    let payload = [0x68; 200];
+    let mut intake = WatchedIntake::new(&payload);
+    let mut sink: Store<300> = Store::new();
+    let answer = make_mac0::<C, WatchedIntake, Store<300>>(
+        Alg::Hmac256,
+        &key,
+        None,
+        b"",
+        &mut intake,
+        200,
+        &mut sink,
+    );
+    // Nine bytes before the payload's content, and the tag with its head after it.
+    assert_eq!(rt; answer, Ok(9 + 200 + 34));
+    assert_eq!(rt; intake.most, C.min(200));
+}
+
+#[test]
+fn takes_no_more_than_a_chunk(rt: HostRuntime) {
+    takes_chunks::<1>(&rt);
+    takes_chunks::<7>(&rt);
+    takes_chunks::<64>(&rt);
+    takes_chunks::<65_536>(&rt);
 }
 
 #[test]

@@ -59,6 +59,24 @@ fn refuses_a_tag_that_is_too_long(rt: HostRuntime) {
 }
 
 #[test]
+fn refuses_to_inspect_a_payload_over_its_limit(rt: HostRuntime) {
+    let context = context_of(b"\xa0", 1).expect(&rt, "a context");
+    let mut verifier: Verifier<32, 4> = Verifier::inspecting(context);
+    let mut intake = SliceIntake::new(MAC0, 7);
+    let refused = inspect::<64, 32, 4, SliceIntake, Nothing>(
+        &mut verifier,
+        &mut intake,
+        &mut Nothing,
+    );
+    let wanted = Inspected::Refused(Refusal {
+        reason: Reason::PayloadTooLong,
+        place: 7,
+    });
+    assert_eq!(rt; refused, Ok(wanted));
+    assert_eq!(rt; verifier.taken(), 8);
+}
+
+#[test]
 fn shows_the_buckets_after_a_refusal(rt: HostRuntime) {
     let mut verifier = under_jefe::<32, 4>().expect(&rt, "a verifier");
     let mut changed = *MAC0;

@@ -1,52 +1,10 @@
 //! Runs at the limits of the chunk, the stores and the nesting: no call takes or puts more than a chunk.
 
-ghost use Rattle.std.specs.Prelude.{◌≤◌, None, false};
+ghost use Rattle.std.specs.Prelude.{◌≤◌, None};
 
-use crate::samples::{AUTHENTIC, MAC0, mac0_with_kid, under_jefe};
-use crate::{
-    Alg, Intake, IntakeFault, Kind, Never, Nothing, Sink, SinkFault, Store, Verdict, verify,
-};
+use crate::samples::{AUTHENTIC, MAC0, WatchedIntake, mac0_with_kid, under_jefe};
+use crate::{Alg, Kind, Never, Nothing, Sink, SinkFault, Store, Verdict, verify};
 use std::process::Abort;
-
-/// The bytes of a slice. It keeps how many were asked for at most, and the number of its calls.
-#[derive(Drop)]
-struct WatchedIntake<'a> {
-    bytes: &'a [u8],
-    most: usize,
-    takes: usize,
-    ended: bool,
-}
-
-impl<'a> WatchedIntake<'a> {
-    /// An intake of these bytes.
-    fn new(bytes: &'a [u8]) -> Self {
-        WatchedIntake {
-            bytes,
-            most: 0,
-            takes: 0,
-            ended: false,
-        }
-    }
-}
-
-impl Intake for WatchedIntake<'_> {
-    ghost to_come = { λ _. None };
-
-    ghost has_failed = { λ _. false };
-
-    ghost ended = { λ intake. intake.ended };
-
-    fn take(&mut self, into: &mut [u8]) -> Result<usize, IntakeFault> {
-        self.most = self.most.max(into.len());
-        self.takes = self.takes.saturating_add(1);
-        let count = self.bytes.len().min(into.len());
-        let (piece, rest) = self.bytes.split_at(count);
-        into[..count].copy_from_slice(piece);
-        self.bytes = rest;
-        self.ended = count == 0;
-        Ok(count)
-    }
-}
 
 /// A store of two bytes. It keeps how many were put at most.
 #[derive(Drop)]

@@ -4,7 +4,7 @@ ghost use Rattle.std.specs.Prelude.{◌≡◌, ◌<◌, ◌≤◌, ◌+◌, ◌^
 ghost use Rattle.cose_msg.specs.Chosen.{has_length_of};
 ghost use Rattle.cose_msg.specs.Phases.{auth_fault_where};
 
-use crate::bare_head::take_head_byte;
+use crate::bare_head::take_bare_head_byte;
 use crate::phase::{Auth, AuthHead, Phase, Shape, Signed, Whole};
 use crate::store_bytes::append;
 use crate::verdict::Verdict;
@@ -88,7 +88,7 @@ impl<'k, const H: usize, const D: usize> Verifier<'k, H, D> {
             → StandsFor task B (n + 1) self.new (λ z. reading (byte ∷ z)) }
     {
         let at = auth_head.at;
-        match take_head_byte(&mut self.head, byte) {
+        match take_bare_head_byte(&mut self.head, byte) {
             HeadStep::More(_) => {}
             HeadStep::Fault(reason) => self.refuse(reason, at),
             HeadStep::Got(head, used) => self.past_auth_head(auth_head, head, at + used as u64),

@@ -3,7 +3,7 @@
 ghost use Rattle.std.specs.Prelude.{◌≡◌};
 ghost use Rattle.cose_msg.specs.Front as spec;
 
-use crate::bare_head::take_head_byte;
+use crate::bare_head::take_bare_head_byte;
 use crate::context::Wanted;
 use crate::phase::{ArrayHead, Phase, TagHead};
 use crate::verifier::Verifier;
@@ -93,7 +93,7 @@ impl<'k, const H: usize, const D: usize> Verifier<'k, H, D> {
         ensures stands { (task : Task) (B : List ℕ) (n : ℕ) (reading : List ℕ → Reading) → StandsFor task B n self.old reading
             → StandsFor task B (n + 1) self.new (λ z. reading (byte ∷ z)) }
     {
-        match take_head_byte(&mut self.head, byte) {
+        match take_bare_head_byte(&mut self.head, byte) {
             HeadStep::More(_) => {}
             HeadStep::Fault(reason) => self.refuse(reason, 0),
             HeadStep::Got(head, used) => self.past_first_head(head, used as u64),
@@ -148,7 +148,7 @@ impl<'k, const H: usize, const D: usize> Verifier<'k, H, D> {
             → StandsFor task B (n + 1) self.new (λ z. reading (byte ∷ z)) }
     {
         let at = tag_head.at;
-        match take_head_byte(&mut self.head, byte) {
+        match take_bare_head_byte(&mut self.head, byte) {
             HeadStep::More(_) => {}
             HeadStep::Fault(reason) => self.refuse(reason, at),
             HeadStep::Got(head, used) => {
@@ -187,7 +187,7 @@ impl<'k, const H: usize, const D: usize> Verifier<'k, H, D> {
             → StandsFor task B (n + 1) self.new (λ z. reading (byte ∷ z)) }
     {
         let ArrayHead { kind, at } = array_head;
-        match take_head_byte(&mut self.head, byte) {
+        match take_bare_head_byte(&mut self.head, byte) {
             HeadStep::More(_) => {}
             HeadStep::Fault(reason) => self.refuse(reason, at),
             HeadStep::Got(head, used) => self.past_array_head(kind, head, at, at + used as u64),

@@ -8,7 +8,7 @@ ghost use Rattle.cose_map.specs.Bucket.{bucket_of};
 ghost use Rattle.cose_map.specs.Map.View.{refusal_in};
 ghost use Rattle.cose_msg.specs.Reading.{wanted_after};
 
-use crate::bare_head::take_head_byte;
+use crate::bare_head::take_bare_head_byte;
 use crate::phase::{Phase, Protected, ProtectedHead, Unprotected};
 use crate::store_bytes::append;
 use crate::verifier::{Place, Verifier};
@@ -67,7 +67,7 @@ impl<'k, const H: usize, const D: usize> Verifier<'k, H, D> {
             → StandsFor task B (n + 1) self.new (λ z. reading (byte ∷ z)) }
     {
         let ProtectedHead { kind, at } = protected_head;
-        match take_head_byte(&mut self.head, byte) {
+        match take_bare_head_byte(&mut self.head, byte) {
             HeadStep::More(_) => {}
             HeadStep::Fault(reason) => self.refuse(reason, at),
             HeadStep::Got(head, used) => self.past_protected_head(kind, head, at, at + used as u64),

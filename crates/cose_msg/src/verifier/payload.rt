@@ -3,7 +3,7 @@
 ghost use Rattle.std.specs.Prelude.{◌≡◌, ◌<◌, ◌≤◌, ◌+◌, ◌^◌, ℕ, [], if◌then◌else◌};
 ghost use Rattle.cose_msg.specs.Phases.{is_nil as is_nil_head, payload_fault_within};
 
-use crate::bare_head::take_head_byte;
+use crate::bare_head::take_bare_head_byte;
 use crate::phase::{Payload, PayloadHead, Phase};
 use crate::verifier::Verifier;
 use cose_head::{Head, HeadStep, Kind, Reason};
@@ -68,7 +68,7 @@ impl<'k, const H: usize, const D: usize> Verifier<'k, H, D> {
             → StandsFor task B (n + 1) self.new (λ z. reading (byte ∷ z)) }
     {
         let at = payload_head.at;
-        match take_head_byte(&mut self.head, byte) {
+        match take_bare_head_byte(&mut self.head, byte) {
             HeadStep::More(_) => {}
             HeadStep::Fault(reason) => self.refuse(reason, at),
             HeadStep::Got(head, used) => self.past_payload_head(

@@ -9,7 +9,7 @@ ghost use Rattle.cose_msg.specs.Answer.{decided};
 ghost use Rattle.cose_msg.specs.Verifier.{setting_of};
 ghost use Rattle.cose_msg.specs.declared.verdict.Verdict.{Verdict};
 ghost use Rattle.cosecmd.specs.Faults.{fails_by_input};
-ghost use Rattle.cosecmd.specs.Printed.{Says, input_answer, behind, program_setting, said_of, verified_under, with_rest};
+ghost use Rattle.cosecmd.specs.Printed.{Says, input_answer, trailing_refusal, program_setting, said_of, verified_under, followed_by};
 ghost use Rattle.cosecmd.specs.Vouch.{vouching};
 
 use crate::fault::Fault;
@@ -51,7 +51,7 @@ pub fn reply_of(alloc: Global, verdict: Verdict) -> Result<Reply, Fault>
 
 /// What a byte behind a message of so many bytes is refused for, where there is one.
 pub fn trailing_at<I: Intake>(taken: u64, intake: &mut I) -> Result<Option<Refusal>, Fault>
-    ensures whole { (rest : List ℕ) → I.to_come intake.old ≡ Some rest → IfOk result (λ refusal. refusal ≡ behind rest taken) }
+    ensures whole { (rest : List ℕ) → I.to_come intake.old ≡ Some rest → IfOk result (λ refusal. refusal ≡ trailing_refusal rest taken) }
     ensures fault { IfErr result (λ fault. fault ≡ Fault.Input) }
     ensures failure { I.has_failed intake.new ≡ (I.has_failed intake.old || is_err result) }
 {
@@ -87,7 +87,7 @@ pub fn whole_verdict<I: Intake>(verdict: Verdict, intake: &mut I) -> Result<Verd
     ensures unread { (refusal : Refusal) → verdict ≡ Verdict.Refused refusal → intake.new ≡ intake.old }
 
     // Behind an authentic one nothing may stand.
-    ensures whole { (rest : List ℕ) → I.to_come intake.old ≡ Some rest → IfOk result (λ whole. whole ≡ with_rest rest verdict) }
+    ensures whole { (rest : List ℕ) → I.to_come intake.old ≡ Some rest → IfOk result (λ whole. whole ≡ followed_by rest verdict) }
     ensures fault { IfErr result (λ fault. fault ≡ Fault.Input) }
     ensures failure { I.has_failed intake.new ≡ (I.has_failed intake.old || is_err result) }
 {

@@ -3,7 +3,7 @@
 use crate::tests::feeding::feed_all;
 use crate::tests::streams::Asked;
 use crate::tests::{SIGNED, counted, decision, point_set, signed, signed_digest, verifier};
-use cose_msg::{KeySet, SliceIntake, Status, Store, Verifier, Wanted, verify};
+use cose_msg::{Alg, KeySet, Kind, SliceIntake, Status, Store, Verdict, Verifier, Wanted, verify};
 use std::process::Abort;
 use std::test::Fail;
 
@@ -12,6 +12,8 @@ fn decides(rt: &impl Abort, verifier: &mut Verifier<1024, 4>, asked: &Asked, hol
     assert_eq!(rt; verifier.status(), Status::Complete);
     if verifier.is_complete() && !verifier.is_inspecting() {
         assert_eq!(rt; verifier.verdict(asked), decision(holds));
+    } else {
+        panic!(rt; "the message isn't complete");
     }
     assert_eq!(rt; verifier.status(), Status::Complete);
 }
@@ -62,5 +64,35 @@ fn asks_about_the_signature(rt: HostRuntime) -> Result<(), Fail> {
             decides_fed(&rt, keys, bytes.as_slice(), cut, &asked);
         }
     }
+    Ok(())
+}
+
+#[test]
+fn verifies_a_signature_without_its_tag(rt: HostRuntime) -> Result<(), Fail> {
+    let alloc = rt.alloc();
+    let set = point_set(alloc)?;
+    let keys = KeySet::read(set.as_slice()).or(Err("no key set"))?;
+    let digest = signed_digest(alloc)?;
+    let signature: [u8; 64] = counted();
+    let tagged = signed(alloc, SIGNED, &signature)?;
+    // The tag is no part of what is signed.
+    let untagged = tagged.get(1..).unwrap_or(&[]);
+    let asked = Asked {
+        digest: &digest,
+        signature: &signature,
+        says: true,
+    };
+    let mut verifier = verifier(keys, Wanted::Sign1);
+    let mut intake = SliceIntake::new(untagged, 64);
+    let mut store = Store::<16>::new();
+    let answer = verify::<128, 1024, 4, _, _, _>(&mut verifier, &mut intake, &mut store, &asked);
+    let authentic = Verdict::Authentic {
+        kind: Kind::Sign1,
+        alg: Alg::Es256,
+        payload: 0,
+        taken: 73,
+    };
+    assert_eq!(rt; answer, Ok(authentic));
+    assert_eq!(rt; verifier.taken(), 73);
     Ok(())
 }

@@ -12,15 +12,15 @@ pub returns-in-More : goal.returns-in-More
 returns-in-More g c = record {
   stands = λ task B n reading h.
       let inside = rw c.requires.phase at h.holds in
-      let kept = rw c.in-More.is at c.take_head_byte.ensures.kept in
-      let half : IsMore (bare_head (c.args.self.now.head.items ++ c.args.byte ∷ [])) = rw (← c.take_head_byte.ensures.answer, c.in-More.is) tt in
+      let kept = rw c.in-More.is at c.take_bare_head_byte.ensures.kept in
+      let half : IsMore (bare_head (c.args.self.now.head.items ++ c.args.byte ∷ [])) = rw (← c.take_bare_head_byte.ensures.answer, c.in-More.is) tt in
       record {
         known = h.known;
         told = h.told;
         shows = h.shows;
         payload_known = h.payload_known;
         payload_told = h.payload_told;
-        holds = rw c.requires.phase (inside.0, (holds_more 0 n c.args.byte c.args.self.now.head.items c.take_head_byte.new.head.items inside.1.1 kept half));
+        holds = rw c.requires.phase (inside.0, (holds_more 0 n c.args.byte c.args.self.now.head.items c.take_bare_head_byte.new.head.items inside.1.1 kept half));
         left = λ z. rw (c.requires.phase, kept, regrouped) (rw c.requires.phase at (h.left (c.args.byte ∷ z)));
       };
 }
@@ -47,8 +47,8 @@ returns-in-Got g c = record {
       (c.past_first_head.ensures.stands task (shows_as task c.args.self.now h.told nothing_told inside.0 h.shows));
 }
 
-pub take_head_byte-requires : goal.take_head_byte-requires
-take_head_byte-requires g c = grind (arith, common_steps)
+pub take_bare_head_byte-requires : goal.take_bare_head_byte-requires
+take_bare_head_byte-requires g c = grind (arith, common_steps)
 
 pub invariant_of-self : goal.invariant_of-self
 invariant_of-self g c = grind (arith, common_steps)

@@ -11,15 +11,15 @@ pub returns-in-More : goal.returns-in-More
 returns-in-More g c = record {
   stands = λ task B n reading h.
       let inside = rw c.requires.phase at h.holds in
-      let kept = rw c.in-More.is at c.take_head_byte.ensures.kept in
-      let half : IsMore (bare_head (c.args.self.now.head.items ++ c.args.byte ∷ [])) = rw (← c.take_head_byte.ensures.answer, c.in-More.is) tt in
+      let kept = rw c.in-More.is at c.take_bare_head_byte.ensures.kept in
+      let half : IsMore (bare_head (c.args.self.now.head.items ++ c.args.byte ∷ [])) = rw (← c.take_bare_head_byte.ensures.answer, c.in-More.is) tt in
       record {
         known = h.known;
         told = h.told;
         shows = h.shows;
         payload_known = h.payload_known;
         payload_told = h.payload_told;
-        holds = rw c.requires.phase (inside.0, (holds_more c.args.payload_head.at n c.args.byte c.args.self.now.head.items c.take_head_byte.new.head.items inside.1.1 kept half), inside.2, inside.3, inside.4, inside.5);
+        holds = rw c.requires.phase (inside.0, (holds_more c.args.payload_head.at n c.args.byte c.args.self.now.head.items c.take_bare_head_byte.new.head.items inside.1.1 kept half), inside.2, inside.3, inside.4, inside.5);
         left = λ z. rw (c.requires.phase, kept, regrouped) (rw c.requires.phase at (h.left (c.args.byte ∷ z)));
       };
 }
@@ -46,8 +46,8 @@ returns-in-Got g c = record {
       (c.past_payload_head.ensures.stands task h.known (shows_as task c.args.self.now h.told (headers_told h.known.headers []) inside.0 h.shows) (h.payload_known ∙ sym none) inside.2 inside.3 inside.4 inside.5);
 }
 
-pub take_head_byte-requires : goal.take_head_byte-requires
-take_head_byte-requires g c = grind (arith, common_steps)
+pub take_bare_head_byte-requires : goal.take_bare_head_byte-requires
+take_bare_head_byte-requires g c = grind (arith, common_steps)
 
 pub invariant_of-self : goal.invariant_of-self
 invariant_of-self g c = grind (arith, common_steps)
