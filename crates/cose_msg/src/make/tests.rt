@@ -1,6 +1,6 @@
 //! Messages made under the key `Jefe`, against an independent HMAC, and what stops the making.
 
-ghost use Rattle.std.specs.Prelude.{None};
+ghost use Rattle.std.specs.Prelude.{◌≤◌, None};
 
 use crate::samples::{FailingReader, JEFE, MAC0, WatchedIntake};
 use crate::{
