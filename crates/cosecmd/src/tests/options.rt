@@ -105,48 +105,77 @@ fn wants_a_kind(rt: HostRuntime) -> Result<(), Fail> {
     Ok(())
 }
 
-#[test]
-fn vouches_for_a_signature(rt: HostRuntime) -> Result<(), Fail> {
+const AUTHENTIC: (&str, u8) = ("authentic sign1 alg -7 payload 0 taken 74\n", 0);
+
+const REFUSED: (&str, u8) = ("refused BadAuth at 8\n", 1);
+
+/// A word that vouches: the curve, digest and signature in this order or the other one, x, and what follows it.
+#[derive(Clone, Copy)]
+struct Word<'w> {
+    curve: &'w str,
+    is_swapped: bool,
+    rest: &'w str,
+    more: &'w str,
+}
+
+/// What is printed for the signed message under the point with this member y, where this word vouches.
+fn vouches(
+    rt: &(impl Abort + Alloc<A = Global>),
+    member: &str,
+    word: &Word,
+    (text, status): (&str, u8),
+) -> Result<(), Fail> {
     let alloc = rt.alloc();
     let digest = hex::encode(alloc, signed_digest(alloc)?.as_slice())?;
-    let bytes = signed(alloc, SIGNED, &[0x5a; 64])?;
     let signature = hex::encode(alloc, [0x5a; 64].as_slice())?;
-    let whole = point(alloc, MEMBER_Y)?;
-    let odd = point(alloc, "f5")?;
-    let even = point(alloc, "f4")?;
-    let word = format!(in alloc; "01{digest}{signature}{X}")?;
-    let word_y = format!(in alloc; "{word}{Y}")?;
-    let word_odd = format!(in alloc; "{word}01")?;
-    let word_even = format!(in alloc; "{word}00")?;
-    let longer = format!(in alloc; "{word_y}00")?;
-    let curve = format!(in alloc; "02{digest}{signature}{X}{Y}")?;
-    let swapped = format!(in alloc; "01{signature}{digest}{X}{Y}")?;
-    let authentic = ("authentic sign1 alg -7 payload 0 taken 74\n", 0);
-    let refused = ("refused BadAuth at 8\n", 1);
-    let rows: [(&str, &str, (&str, u8)); 10] = [
-        (&whole, &word_y, authentic),
-        (&odd, &word_odd, authentic),
-        (&even, &word_even, authentic),
-        (&odd, &word_even, refused),
-        (&whole, &word_odd, refused),
-        (&whole, &word, refused),
-        (&whole, &longer, refused),
-        (&whole, &curve, refused),
-        (&whole, &swapped, refused),
-        (&whole, "", refused),
+    let (first, second) = if word.is_swapped {
+        (signature.as_str(), digest.as_str())
+    } else {
+        (digest.as_str(), signature.as_str())
+    };
+    let (curve, rest, more) = (word.curve, word.rest, word.more);
+    let vouch = format!(in alloc; "{curve}{first}{second}{X}{rest}{more}")?;
+    let keys = point(alloc, member)?;
+    let bytes = signed(alloc, SIGNED, &[0x5a; 64])?;
+    let options = ["--keys", keys.as_str(), "--vouch", vouch.as_str()];
+    prints(rt, options.as_slice(), bytes.as_slice(), text, status)?;
+    Ok(())
+}
+
+#[test]
+fn vouches_for_a_signature(rt: HostRuntime) -> Result<(), Fail> {
+    let rows: [(&str, (&str, bool, &str, &str), (&str, u8)); 9] = [
+        (MEMBER_Y, ("01", false, Y, ""), AUTHENTIC),
+        ("f5", ("01", false, "01", ""), AUTHENTIC),
+        ("f4", ("01", false, "00", ""), AUTHENTIC),
+        ("f5", ("01", false, "00", ""), REFUSED),
+        (MEMBER_Y, ("01", false, "01", ""), REFUSED),
+        (MEMBER_Y, ("01", false, "", ""), REFUSED),
+        (MEMBER_Y, ("01", false, Y, "00"), REFUSED),
+        (MEMBER_Y, ("02", false, Y, ""), REFUSED),
+        (MEMBER_Y, ("01", true, Y, ""), REFUSED),
     ];
-    for (keys, vouch, (text, status)) in rows {
-        let options = ["--keys", keys, "--vouch", vouch];
-        prints(&rt, options.as_slice(), bytes.as_slice(), text, status)?;
+    for (member, (curve, is_swapped, rest, more), printed) in rows {
+        let word = Word {
+            curve,
+            is_swapped,
+            rest,
+            more,
+        };
+        vouches(&rt, member, &word, printed)?;
     }
-    let options = ["--keys", whole.as_str()];
-    prints(
-        &rt,
-        options.as_slice(),
-        bytes.as_slice(),
-        refused.0,
-        refused.1,
-    )?;
+    Ok(())
+}
+
+#[test]
+fn refuses_a_signature_that_nothing_vouches_for(rt: HostRuntime) -> Result<(), Fail> {
+    let (text, status) = REFUSED;
+    let keys = point(rt.alloc(), MEMBER_Y)?;
+    let bytes = signed(rt.alloc(), SIGNED, &[0x5a; 64])?;
+    let empty = ["--keys", keys.as_str(), "--vouch", ""];
+    prints(&rt, empty.as_slice(), bytes.as_slice(), text, status)?;
+    let none = ["--keys", keys.as_str()];
+    prints(&rt, none.as_slice(), bytes.as_slice(), text, status)?;
     Ok(())
 }
 
