@@ -2,5 +2,6 @@ pub mod lemmas
 pub mod WorkedLabels
 pub mod WorkedBuckets
 pub mod WorkedKeys
+pub mod WorkedTables
 pub mod WorkedChoice
 mod WorkedReasons

@@ -2,4 +2,5 @@ pub mod Label
 pub mod Map
 pub mod Bucket
 pub mod KeySet
+pub mod KeyTable
 pub mod Laws

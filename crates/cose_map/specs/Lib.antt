@@ -3,5 +3,6 @@ pub mod Map
 pub mod Bucket
 pub mod Key
 pub mod KeySet
+pub mod KeyTable
 pub mod Choice
 pub mod Laws

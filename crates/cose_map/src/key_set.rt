@@ -11,6 +11,7 @@ use crate::choice::fitting::Fitting;
 use crate::choice::query::Query;
 use crate::key::{Key, NESTING};
 use crate::key_set::items::KeyItems;
+use crate::keys::{KeyMeaning, Keys};
 use crate::map::read::refused;
 use cose_head::{Hidden, ItemRef, Reason, Refusal};
 use std::fmt;
@@ -26,7 +27,7 @@ pub struct KeySet<'a> {
 }
 
 /// The key that an item is, if it is a usable one.
-fn usable<'a>(item: &ItemRef<'a>) -> Option<Key<'a>>
+pub(crate) fn usable<'a>(item: &ItemRef<'a>) -> Option<Key<'a>>
     ensures { option_map key_value result ≡ usable_key (placed item.now) }
 {
     Key::read(item.bytes, item.place).ok()
@@ -36,7 +37,8 @@ impl<'a> KeySet<'a> {
     ghost use Rattle.std.specs.Prelude.{◌≤◌, [], ◌∷◌, length, IfErr};
     ghost use Rattle.cose_map.specs.Choice.{chosen};
     ghost use Rattle.cose_map.specs.Choice.View.{question, found_value};
-    ghost use Rattle.cose_map.specs.KeySet.{keys_of};
+    ghost use Rattle.cose_map.specs.KeySet.{keys_of, items_in};
+    ghost use Rattle.cose_map.specs.KeySet.Items.{key_items_left};
     ghost use Rattle.cose_map.specs.KeySet.View.{keys};
     ghost use Rattle.cose_map.specs.Map.View.{seen_by};
 
@@ -73,6 +75,13 @@ impl<'a> KeySet<'a> {
         Some(KeySet { set: item })
     }
 
+    /// The items that should be keys.
+    pub(crate) fn items(&self) -> KeyItems<'a>
+        ensures { key_items_left result ≡ items_in (placed self.now.set) }
+    {
+        KeyItems::of(self.set)
+    }
+
     /// The number of usable keys.
     pub fn count(&self) -> usize
         ensures { result ≡ length (keys self.now) }
@@ -107,6 +116,18 @@ impl<'a> KeySet<'a> {
             }
         }
         fitting.answer(query)
+    }
+}
+
+impl KeyMeaning for KeySet<'_> {
+    ghost use Rattle.cose_map.specs.KeySet.View.{keys};
+
+    ghost usable = { keys };
+}
+
+impl<'a> Keys<'a> for KeySet<'a> {
+    fn find(&self, query: &Query) -> Result<(Key<'a>, i128), Reason> {
+        KeySet::find(self, query)
     }
 }
 

@@ -5,7 +5,7 @@
 //! stand at 3 and 6 of the message, and what comes after both at 10:
 //!
 //! ```rust
-//! use cose_map::{Bucket, KeySet, Kind, Material, Query, check_pair};
+//! use cose_map::{Bucket, KeySet, KeyTable, Kind, Material, Query, check_pair};
 //!
 //! let protected = Bucket::read(b"\xa1\x01\x05", 3, 4)?;
 //! let unprotected = Bucket::read(b"\xa1\x04\x411", 6, 4)?;
@@ -26,6 +26,18 @@
 //! }
 //! ```
 //!
+//! A [`KeySet`] keeps its bytes and reads its keys again at each call. For many messages a [`KeyTable`] reads each key once,
+//! and keeps up to as many as its type says:
+//!
+//! ```rust
+//! let table = KeyTable::<16>::read(b"\xa3\x01\x04\x02\x411\x20\x44Jefe")?;
+//! assert_eq!(rt; table.count(), 1);
+//! let (_key, algorithm) = table.find(&query)?;
+//! assert_eq!(rt; algorithm, 5);
+//! ```
+//!
+//! Code that takes either is generic over [`Keys`].
+//!
 //! The labels that RFC 9052 section 3.1 defines stand in [`header`]. [`read_map`] and [`check_map`] read any map with a table of
 //! value forms, a [`Form`], into its [`Pairs`]. [`KeySet::of_key`] is the set of one key that stands in another item.
 //!
@@ -37,6 +49,8 @@ mod bucket;
 mod choice;
 mod key;
 mod key_set;
+mod key_table;
+mod keys;
 mod label;
 pub mod laws;
 mod map;
@@ -49,6 +63,8 @@ pub use key::Key;
 pub use key::material::{Material, Y};
 pub use key::operations::Ops;
 pub use key_set::KeySet;
+pub use key_table::KeyTable;
+pub use keys::{KeyMeaning, Keys};
 pub use label::Label;
 pub use map::form::Form;
 pub use map::pairs::Pairs;

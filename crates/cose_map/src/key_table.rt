@@ -1,0 +1,118 @@
+//! Tables of keys: the usable keys of a key set (RFC 9052 section 7), each of which is read once.
+
+ghost use Rattle.std.specs.Prelude.{◌≤◌};
+
+mod slot;
+
+use crate::choice::fitting::Fitting;
+use crate::choice::query::Query;
+use crate::key::Key;
+use crate::key_set::{KeySet, usable};
+use crate::key_table::slot::Slot;
+use crate::keys::{KeyMeaning, Keys};
+use arrayvec::ArrayVec;
+use cose_head::{Reason, Refusal};
+use std::fmt;
+
+/// The usable keys of a key set, at most `N`, which is from 1 to 256. A table reads each key once, and a
+/// [`KeySet`] reads all its keys again at each call.
+///
+/// It holds the keys themselves, so its size grows with `N`: several users share a large table by reference. `Debug`
+/// prints how many keys there are, and nothing of them.
+#[derive(Drop)]
+pub struct KeyTable<'a, const N: usize> {
+    slots: ArrayVec<Slot<'a>, N>,
+    ghost limit: { N ≤ 256 },
+}
+
+impl<'a, const N: usize> KeyTable<'a, N> {
+    ghost use Rattle.std.specs.Prelude.{◌≡◌, ◌≤◌, length, IfErr};
+    ghost use Rattle.cose_map.specs.Choice.{chosen};
+    ghost use Rattle.cose_map.specs.Choice.View.{question, found_value};
+    ghost use Rattle.cose_map.specs.KeySet.{keys_of};
+    ghost use Rattle.cose_map.specs.KeyTable.{keys, table_of};
+    ghost use Rattle.cose_map.specs.Map.View.{seen_by};
+
+    /// Reads a key set of at most 65,535 bytes and at most `N` usable keys, from 1 to 256 (RFC 9052 section 7).
+    ///
+    /// A key that is refused is skipped, and takes none of the `N` places. The refusal is that of [`KeySet::read`], and
+    /// then [`Reason::BadKeySet`] at 0 where there are more than `N` usable keys.
+    #[tactic(auto, using(crate::proofs::lemmas::KeyTable::table_holds, crate::proofs::lemmas::KeyTable::table_is_full))]
+    pub fn read(bytes: &'a [u8]) -> Result<KeyTable<'a, N>, Refusal>
+        requires some { 1 ≤ N }
+        requires limit { N ≤ 256 }
+        ensures exact { seen_by keys result ≡ table_of N (keys_of bytes.now) }
+        ensures within { IfErr result (λ refusal. refusal.place ≤ length bytes.now) }
+    {
+        let set = KeySet::read(bytes)?;
+        let mut slots = ArrayVec::new();
+        for item in set.items() {
+            if let Some(key) = usable(&item) {
+                if slots.is_full() {
+                    return Err(Refusal {
+                        reason: Reason::BadKeySet,
+                        place: 0,
+                    });
+                }
+                slots.push(Slot { key });
+            }
+        }
+        // What this ensures of the length is what the proof rests on.
+        let _count = slots.len();
+        Ok(KeyTable { slots })
+    }
+
+    /// The number of usable keys.
+    pub fn count(&self) -> usize
+        ensures { result ≡ length (keys self.now) }
+    {
+        self.slots.len()
+    }
+
+    /// The one key that fits what a message asks, and the number of the algorithm that it is used with. The reasons are
+    /// those of [`KeySet::find`].
+    #[tactic(auto, unfolding(crate::specs::Choice::chosen))]
+    pub fn find(&self, query: &Query) -> Result<(Key<'a>, i128), Reason>
+        ensures { found_value result ≡ chosen (question query.now) (keys self.now) }
+    {
+        if !query.is_answerable() {
+            return Err(Reason::UnknownAlg);
+        }
+        let mut fitting = Fitting::Nothing;
+        for slot in self.slots.as_slice() {
+            fitting = fitting.with(slot.key, query);
+        }
+        fitting.answer(query)
+    }
+}
+
+impl<const N: usize> KeyMeaning for KeyTable<'_, N> {
+    ghost use Rattle.cose_map.specs.KeyTable.{keys};
+
+    ghost usable = { keys };
+}
+
+impl<'a, const N: usize> Keys<'a> for KeyTable<'a, N> {
+    fn find(&self, query: &Query) -> Result<(Key<'a>, i128), Reason> {
+        KeyTable::find(self, query)
+    }
+}
+
+impl<'t, 'a, const N: usize> KeyMeaning for &'t KeyTable<'a, N> {
+    ghost use Rattle.cose_map.specs.KeyTable.{keys};
+
+    ghost usable = { λ table. keys table.now };
+}
+
+impl<'t, 'a, const N: usize> Keys<'a> for &'t KeyTable<'a, N> {
+    fn find(&self, query: &Query) -> Result<(Key<'a>, i128), Reason> {
+        KeyTable::find(*self, query)
+    }
+}
+
+impl<const N: usize> fmt::Debug for KeyTable<'_, N> {
+    fn fmt<W: fmt::Write>(&self, f: &mut fmt::Formatter<W>) -> fmt::Result {
+        let count = self.count();
+        f.debug_struct("KeyTable").field("keys", &count).finish()
+    }
+}
