@@ -1,6 +1,6 @@
 //! The example of the crate's documentation.
 
-use crate::{Bucket, KeySet, Kind, Material, Query, check_pair};
+use crate::{Bucket, KeySet, KeyTable, Kind, Material, Query, check_pair};
 use std::test::Fail;
 
 #[test]
@@ -22,5 +22,9 @@ fn finds_the_key_of_a_message(rt: HostRuntime) -> Result<(), Fail> {
         Material::Symmetric(secret) => assert_eq!(rt; secret, b"Jefe".as_slice()),
         Material::Ec { .. } => panic!(rt; "a point makes no MAC"),
     }
+    let table = KeyTable::<16>::read(b"\xa3\x01\x04\x02\x411\x20\x44Jefe")?;
+    assert_eq!(rt; table.count(), 1);
+    let (_key, algorithm) = table.find(&query)?;
+    assert_eq!(rt; algorithm, 5);
     Ok(())
 }
