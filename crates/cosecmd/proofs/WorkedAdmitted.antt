@@ -106,13 +106,6 @@ early_with_the_greatest_leeway : Prints (said 0 4294967295 None) (
 unfolding said
 early_with_the_greatest_leeway = refl
 
--- Claims nest at most 8 deep.
-nested_claims : Prints (said 0 0 None) (
-    ("a10a8181818181818100", lines ("admitted" ∷ [])) ∷
-    ("a10a818181818181818100", line "refused claims TooDeep at 9" statuses.Refused) ∷ [])
-unfolding said
-nested_claims = refl
-
 -- No claim that is known; a text of no bytes; two audiences; a date before 1970; bytes; a key's identifier, and neither.
 said_of_few : Prints (said 0 0 (Some "b")) (
     ("a0", lines ("admitted" ∷ [])) ∷
@@ -195,6 +188,17 @@ unfoldable said_behind : ℕ → ℕ → Bool → Output
 unfolding said
 said_behind now n holds = outcome_said (token_told n (program_policy (pos now) 0 None) (hex example)
     (verified [] (vouching None) (Some found) (if holds then decided (Authentic Mac0 Hmac256 80 123) else refused BadAuth 89)))
+
+-- Of an authentic message with this payload; its claims nest at most 8 deep.
+unfoldable said_of_payload : List ℕ → Output
+unfolding said
+said_of_payload payload = outcome_said (token_told 0 (program_policy (pos 0) 0 None) payload (decided (Authentic Mac0 Hmac256 0 0)))
+
+nested_claims : Prints said_of_payload (
+    ("a10a8181818181818100", lines ("admitted" ∷ [])) ∷
+    ("a10a818181818181818100", line "refused claims TooDeep at 9" statuses.Refused) ∷ [])
+unfolding said_of_payload
+nested_claims = refl
 
 abbrev either : Bool → Output → Output
 either holds output = if holds then output else line "refused message BadAuth at 89" statuses.Refused
