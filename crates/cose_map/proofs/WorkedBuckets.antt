@@ -177,7 +177,7 @@ no_map : bucket 3 (0x80 ∷ []) ≡ refused NotMap 3
 unfolding bucket
 no_map = refl
 
--- Neither an integer nor a string nor an array is a map, nor is a map behind a tag, nil or a float.
+-- Neither an integer nor a string is a map, nor is a tag of a map, nil or a float.
 no_maps : map (bucket 3) ((0 ∷ []) ∷ (0x20 ∷ []) ∷ (0x40 ∷ []) ∷ (0x60 ∷ []) ∷ (0xc1 ∷ 0xa0 ∷ []) ∷ (0xf6 ∷ []) ∷ (0xf9 ∷ 0 ∷ 0 ∷ []) ∷ []) ≡
     replicate 7 (refused NotMap 3)
 unfolding bucket
