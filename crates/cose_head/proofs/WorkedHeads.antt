@@ -1,5 +1,5 @@
 -- Bare heads and shortest heads on examples, by computing.
-use Rattle.std.proofs.Common.{◌≡◌, ℕ, [], ◌∷◌, refl}
+use Rattle.std.proofs.Common.{◌≡◌, ℕ, [], ◌∷◌, map, replicate, refl}
 use Rattle.cose_head.specs.declared.head.Head.{Head}
 use Rattle.cose_head.specs.declared.head.HeadStep.TheVariants.{Got, More, Fault}
 use Rattle.cose_head.specs.declared.reason.Reason.TheVariants.{Reserved, Indefinite, BadSimple}
@@ -33,6 +33,22 @@ in_nine_bytes : bare_head (0xdb ∷ 0 ∷ 0 ∷ 0 ∷ 1 ∷ 0 ∷ 0 ∷ 0 ∷ 0 
 unfolding bare_head
 in_nine_bytes = refl
 
+-- an argument may have more bytes than it needs
+any_width : map bare_head (
+    (1 ∷ []) ∷
+    (0x18 ∷ 1 ∷ []) ∷
+    (0x19 ∷ 0 ∷ 1 ∷ []) ∷
+    (0x1a ∷ 0 ∷ 0 ∷ 0 ∷ 1 ∷ []) ∷
+    (0x1b ∷ 0 ∷ 0 ∷ 0 ∷ 0 ∷ 0 ∷ 0 ∷ 0 ∷ 1 ∷ []) ∷ [])
+    ≡ Got (head 0 1 1) 1 ∷ Got (head 0 1 2) 2 ∷ Got (head 0 1 3) 3 ∷ Got (head 0 1 5) 5 ∷ Got (head 0 1 9) 9 ∷ []
+unfolding bare_head
+any_width = refl
+
+-- of each width all argument bytes are wanted
+missing_arguments : map bare_head ((0x18 ∷ []) ∷ (0x19 ∷ []) ∷ (0x1a ∷ []) ∷ (0x1b ∷ []) ∷ []) ≡ More 1 ∷ More 2 ∷ More 4 ∷ More 8 ∷ []
+unfolding bare_head
+missing_arguments = refl
+
 -- bytes that follow stay out
 followed : bare_head (0x84 ∷ 0x40 ∷ []) ≡ Got (head 4 4 1) 1
 unfolding bare_head
@@ -47,6 +63,19 @@ indefinite : bare_head (0x9f ∷ []) ≡ Fault Indefinite
 unfolding bare_head
 indefinite = refl
 
+-- in each major type: 28 to 30, and 31
+reserved_in_each_type : map (λ initial. bare_head (initial ∷ [])) (
+    0x1c ∷ 0x1d ∷ 0x1e ∷ 0x3c ∷ 0x3d ∷ 0x3e ∷ 0x5c ∷ 0x5d ∷ 0x5e ∷ 0x7c ∷ 0x7d ∷ 0x7e ∷
+    0x9c ∷ 0x9d ∷ 0x9e ∷ 0xbc ∷ 0xbd ∷ 0xbe ∷ 0xdc ∷ 0xdd ∷ 0xde ∷ 0xfc ∷ 0xfd ∷ 0xfe ∷ [])
+    ≡ replicate 24 (Fault Reserved)
+unfolding bare_head
+reserved_in_each_type = refl
+
+thirty_one_in_each_type : map (λ initial. bare_head (initial ∷ [])) (0x1f ∷ 0x3f ∷ 0x5f ∷ 0x7f ∷ 0x9f ∷ 0xbf ∷ 0xdf ∷ 0xff ∷ []) ≡
+    Fault Reserved ∷ Fault Reserved ∷ Fault Indefinite ∷ Fault Indefinite ∷ Fault Indefinite ∷ Fault Indefinite ∷ Fault Reserved ∷ Fault Indefinite ∷ []
+unfolding bare_head
+thirty_one_in_each_type = refl
+
 half_simple : bare_head (0xf8 ∷ []) ≡ More 1
 unfolding bare_head
 half_simple = refl
@@ -58,6 +87,15 @@ bad_simple = refl
 good_simple : bare_head (0xf8 ∷ 0x20 ∷ 0 ∷ []) ≡ Got (head 7 32 2) 2
 unfolding bare_head
 good_simple = refl
+
+-- below 32 in two bytes is wrong of a simple value alone, and of it down to 0
+below_32_in_two_bytes : map bare_head (
+    (0x18 ∷ 31 ∷ []) ∷ (0x38 ∷ 31 ∷ []) ∷ (0x58 ∷ 31 ∷ []) ∷ (0x78 ∷ 31 ∷ []) ∷ (0x98 ∷ 31 ∷ []) ∷ (0xb8 ∷ 31 ∷ []) ∷ (0xd8 ∷ 31 ∷ []) ∷
+    (0xf8 ∷ 0 ∷ []) ∷ (0xf9 ∷ 0 ∷ 31 ∷ []) ∷ [])
+    ≡ Got (head 0 31 2) 2 ∷ Got (head 1 31 2) 2 ∷ Got (head 2 31 2) 2 ∷ Got (head 3 31 2) 2 ∷ Got (head 4 31 2) 2 ∷ Got (head 5 31 2) 2 ∷
+    Got (head 6 31 2) 2 ∷ Fault BadSimple ∷ Got (head 7 31 3) 3 ∷ []
+unfolding bare_head
+below_32_in_two_bytes = refl
 
 half_argument : bare_head (0x1b ∷ 0 ∷ 0 ∷ []) ≡ More 6
 unfolding bare_head
@@ -101,7 +139,17 @@ short_2_32 : shortest_head 2 0x1_0000_0000 ≡ 0x5b ∷ 0 ∷ 0 ∷ 0 ∷ 1 ∷ 
 unfolding shortest_head
 short_2_32 = refl
 
+short_below_2_64 : shortest_head 2 0xffff_ffff_ffff_ffff ≡ 0x5b ∷ replicate 8 0xff
+unfolding shortest_head
+short_below_2_64 = refl
+
 -- the major type is in the high three bits, whatever the width
+short_of_maps : map (shortest_head 5) (0 ∷ 23 ∷ 24 ∷ 256 ∷ 65_536 ∷ 0x1_0000_0000 ∷ []) ≡
+    (0xa0 ∷ []) ∷ (0xb7 ∷ []) ∷ (0xb8 ∷ 24 ∷ []) ∷ (0xb9 ∷ 1 ∷ 0 ∷ []) ∷ (0xba ∷ 0 ∷ 1 ∷ 0 ∷ 0 ∷ []) ∷
+    (0xbb ∷ 0 ∷ 0 ∷ 0 ∷ 1 ∷ 0 ∷ 0 ∷ 0 ∷ 0 ∷ []) ∷ []
+unfolding shortest_head
+short_of_maps = refl
+
 short_tag_61 : shortest_head 6 61 ≡ 0xd8 ∷ 61 ∷ []
 unfolding shortest_head
 short_tag_61 = refl

@@ -1,5 +1,5 @@
 -- Reading and shortest spellings on examples, by computing.
-use Rattle.std.proofs.Common.{◌≡◌, ℕ, List, [], ◌∷◌, ◌++◌, Ok, Err, Result, refl}
+use Rattle.std.proofs.Common.{◌≡◌, ℕ, List, [], ◌∷◌, ◌++◌, map as each, replicate, Ok, Err, Result, refl}
 use Rattle.std.specs.Prelude.{codes}
 use Rattle.cose_head.specs.declared.item.Span.{Span}
 use Rattle.cose_head.specs.declared.reason.Reason.{Reason}
@@ -45,6 +45,21 @@ wide_argument : answer (0x18 ∷ 0 ∷ []) 2 0 ≡ whole 2 0
 unfolding answer
 wide_argument = refl
 
+-- a text is read whether it is UTF-8 or not, and a label of a map may come twice
+text_of_no_utf8 : answer (0x61 ∷ 0xff ∷ []) 2 0 ≡ whole 2 0
+unfolding answer
+text_of_no_utf8 = refl
+
+label_twice : answer (0xa2 ∷ 1 ∷ 0 ∷ 1 ∷ 0 ∷ []) 5 1 ≡ whole 5 1
+unfolding answer
+label_twice = refl
+
+-- no nesting is needed for a number, a string, a simple value or a float
+leaves : each (λ bytes. answer bytes 3 0) ((0 ∷ []) ∷ (0x20 ∷ []) ∷ (0x40 ∷ []) ∷ (0x60 ∷ []) ∷ (0xf4 ∷ []) ∷ (0xf8 ∷ 0xff ∷ []) ∷ (0xf9 ∷ 0 ∷ 0 ∷ []) ∷ []) ≡
+    whole 1 0 ∷ whole 1 0 ∷ whole 1 0 ∷ whole 1 0 ∷ whole 1 0 ∷ whole 2 0 ∷ whole 3 0 ∷ []
+unfolding answer
+leaves = refl
+
 nested : answer (0x81 ∷ 0x81 ∷ 0 ∷ []) 3 2 ≡ whole 3 2
 unfolding answer
 nested = refl
@@ -56,6 +71,19 @@ nested_too_deep = refl
 empty_array : answer (0x80 ∷ []) 1 1 ≡ whole 1 1
 unfolding answer
 empty_array = refl
+
+-- an empty map and an empty array within a map or a tag count too
+empty_map : answer (0xa0 ∷ []) 1 1 ≡ whole 1 1
+unfolding answer
+empty_map = refl
+
+nested_in_map : answer (0xa1 ∷ 0 ∷ 0x80 ∷ []) 3 2 ≡ whole 3 2
+unfolding answer
+nested_in_map = refl
+
+nested_in_tag : answer (0xc1 ∷ 0x80 ∷ []) 2 2 ≡ whole 2 2
+unfolding answer
+nested_in_tag = refl
 
 empty_array_too_deep : answer (0x80 ∷ []) 1 0 ≡ fault TooDeep 0
 unfolding answer
@@ -109,6 +137,10 @@ string_past_room : answer (0x44 ∷ 1 ∷ 2 ∷ []) 4 0 ≡ fault PastRoom 0
 unfolding answer
 string_past_room = refl
 
+half_head_of_child : answer (0x81 ∷ 0x19 ∷ 0 ∷ []) 9 1 ≡ fault Truncated 3
+unfolding answer
+half_head_of_child = refl
+
 missing_child : answer (0x82 ∷ 0 ∷ []) 3 1 ≡ fault Truncated 2
 unfolding answer
 missing_child = refl
@@ -120,6 +152,10 @@ children_past_room = refl
 pairs_past_room : answer (0xbb ∷ 0x80 ∷ 0 ∷ 0 ∷ 0 ∷ 0 ∷ 0 ∷ 0 ∷ 0 ∷ []) 65535 1 ≡ fault PastRoom 0
 unfolding answer
 pairs_past_room = refl
+
+longest_string : answer (0x5b ∷ replicate 8 0xff) 65535 0 ≡ fault PastRoom 0
+unfolding answer
+longest_string = refl
 
 -- low bits 30 are reserved in every major type, 31 in majors 0, 1 and 6; and that goes before the room and the missing bytes
 reserved_in_strings : answer (0x5e ∷ []) 1 0 ≡ fault Reserved 0
@@ -158,6 +194,23 @@ simple_in_one_byte = refl
 float_of_no_bits : answer (0xf9 ∷ 0 ∷ 0 ∷ []) 3 0 ≡ whole 3 0
 unfolding answer
 float_of_no_bits = refl
+
+-- all of the head goes before the nesting: its low bits, the room of its argument bytes, and these
+array_reserved_and_too_deep : each (λ initial. answer (initial ∷ []) 1 0) (0x9c ∷ 0xbe ∷ 0xdc ∷ []) ≡ replicate 3 (fault Reserved 0)
+unfolding answer
+array_reserved_and_too_deep = refl
+
+endless_and_too_deep : each (λ initial. answer (initial ∷ []) 1 0) (0x9f ∷ 0xbf ∷ []) ≡ replicate 2 (fault Indefinite 0)
+unfolding answer
+endless_and_too_deep = refl
+
+argument_past_room_and_too_deep : each (λ initial. answer (initial ∷ []) 1 0) (0x98 ∷ 0xb8 ∷ 0xd8 ∷ []) ≡ replicate 3 (fault PastRoom 0)
+unfolding answer
+argument_past_room_and_too_deep = refl
+
+half_head_too_deep : each (λ initial. answer (initial ∷ []) 2 0) (0x98 ∷ 0xb8 ∷ 0xd8 ∷ []) ≡ replicate 3 (fault Truncated 1)
+unfolding answer
+half_head_too_deep = refl
 
 -- the nesting goes before the room of the children
 array_too_deep_and_past_room : answer (0x82 ∷ []) 1 0 ≡ fault TooDeep 0

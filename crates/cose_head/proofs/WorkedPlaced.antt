@@ -1,5 +1,5 @@
 -- Items, what they are, and their children, on examples, by computing.
-use Rattle.std.proofs.Common.{◌≡◌, ℕ, pos, negsuc, true, false, List, [], ◌∷◌, Option, Some, None, refl}
+use Rattle.std.proofs.Common.{◌≡◌, ℕ, pos, negsuc, true, false, List, [], ◌∷◌, map as each, replicate, Option, Some, None, refl}
 use Rattle.cose_head.specs.Head.{bare_head}
 use Rattle.cose_head.specs.Placed.{Placed, Look, integer, byte_content, text_content, an_array, a_map, a_tag, truth, a_float, other, look, tag_in, children_of, items_from, head_of_item}
 use Rattle.cose_head.specs.Reading.{read, head}
@@ -31,6 +31,15 @@ minus_one = refl
 minus_ten : seen (0x29 ∷ []) ≡ integer (negsuc 9)
 unfolding seen
 minus_ten = refl
+
+-- the greatest integer and the least one
+greatest : seen (0x1b ∷ replicate 8 0xff) ≡ integer (pos 18446744073709551615)
+unfolding seen
+greatest = refl
+
+least : seen (0x3b ∷ replicate 8 0xff) ≡ integer (negsuc 18446744073709551615)
+unfolding seen
+least = refl
 
 bytes : seen (0x42 ∷ 1 ∷ 2 ∷ []) ≡ byte_content (1 ∷ 2 ∷ [])
 unfolding seen
@@ -67,6 +76,10 @@ no_value = refl
 half_float : seen (0xf9 ∷ 0x3c ∷ 0 ∷ []) ≡ a_float
 unfolding seen
 half_float = refl
+
+longer_floats : each seen ((0xfa ∷ replicate 4 0) ∷ (0xfb ∷ replicate 8 0) ∷ []) ≡ a_float ∷ a_float ∷ []
+unfolding seen
+longer_floats = refl
 
 nil : seen (0xf6 ∷ []) ≡ other
 unfolding seen

@@ -1,5 +1,5 @@
 -- Buckets and pairs of buckets on examples, by computing.
-use Rattle.std.proofs.Common.{◌≡◌, ℕ, pos, List, [], ◌∷◌, Option, Some, None, Ok, Err, map, refl}
+use Rattle.std.proofs.Common.{◌≡◌, ℕ, pos, negsuc, List, [], ◌∷◌, Option, Some, None, Ok, Err, map, replicate, refl}
 use Rattle.std.specs.Str.{is_utf8, chars}
 use Rattle.cose_head.specs.declared.reason.Reason.{Reason}
 use Rattle.cose_head.specs.declared.reason.Reason.TheVariants.{NotMap, BadLabel, DuplicateLabel, BothBuckets, BadValue, CritUnprotected, CritAbsent, CritUnknown, BothIvs, PastRoom, TooDeep, Trailing}
@@ -11,6 +11,7 @@ use Rattle.cose_head.specs.Placed.{Placed, look, children_of, items_from, head_o
 use Rattle.cose_map.specs.Label.{LabelValue, number, words}
 use Rattle.cose_map.specs.Map.Read.{Read, check_pairs}
 use Rattle.cose_map.specs.Map.Pairs.{Pair}
+use Rattle.cose_map.specs.Map.View.{refusal_in}
 use Rattle.cose_map.specs.Bucket.{bucket_of, alg_of, kid_of}
 use Rattle.cose_map.specs.Bucket.Form.{bucket_table}
 use Rattle.cose_map.specs.Bucket.Both.{pair_faults, least}
@@ -67,6 +68,49 @@ other_labels : map (bucket 0) (
 unfolding bucket
 other_labels = refl
 
+-- What a label's value may be. Of these: an unsigned integer, a negative one, bytes, a text, and one that is no UTF-8; arrays: the
+-- empty one, of a number, of a text, of bytes, of such a text, and of a number and bytes; a map; a tag of bytes; false, nil, a float.
+abbrev pub values : List (List ℕ)
+values =
+    (0 ∷ []) ∷ (0x20 ∷ []) ∷ (0x40 ∷ []) ∷ (0x61 ∷ 0x61 ∷ []) ∷ (0x61 ∷ 0xff ∷ []) ∷
+    (0x80 ∷ []) ∷ (0x81 ∷ 1 ∷ []) ∷ (0x81 ∷ 0x61 ∷ 0x61 ∷ []) ∷ (0x81 ∷ 0x40 ∷ []) ∷ (0x81 ∷ 0x61 ∷ 0xff ∷ []) ∷ (0x82 ∷ 1 ∷ 0x40 ∷ []) ∷
+    (0xa1 ∷ 1 ∷ 1 ∷ []) ∷ (0xc1 ∷ 0x40 ∷ []) ∷ (0xf4 ∷ []) ∷ (0xf6 ∷ []) ∷ (0xf9 ∷ 0 ∷ 0 ∷ []) ∷ []
+
+abbrev good : Option Refusal
+good = None
+
+abbrev bad : Option Refusal
+bad = Some (record { reason = BadValue; place = 2 })
+
+unfoldable refused_for : ℕ → List (Option Refusal)
+unfolding bucket
+refused_for label = map (λ value. refusal_in (bucket 0 (0xa1 ∷ label ∷ value))) values
+
+alg_values : refused_for 1 ≡
+    good ∷ good ∷ bad ∷ good ∷ bad ∷ bad ∷ bad ∷ bad ∷ bad ∷ bad ∷ bad ∷ bad ∷ bad ∷ bad ∷ bad ∷ bad ∷ []
+unfolding refused_for
+alg_values = refl
+
+crit_values : refused_for 2 ≡
+    bad ∷ bad ∷ bad ∷ bad ∷ bad ∷ bad ∷ good ∷ good ∷ bad ∷ bad ∷ bad ∷ bad ∷ bad ∷ bad ∷ bad ∷ bad ∷ []
+unfolding refused_for
+crit_values = refl
+
+content_type_values : refused_for 3 ≡
+    good ∷ bad ∷ bad ∷ good ∷ bad ∷ bad ∷ bad ∷ bad ∷ bad ∷ bad ∷ bad ∷ bad ∷ bad ∷ bad ∷ bad ∷ bad ∷ []
+unfolding refused_for
+content_type_values = refl
+
+-- The identifier, IV and Partial IV.
+bytes_values : map refused_for (4 ∷ 5 ∷ 6 ∷ []) ≡ replicate 3 (bad ∷ bad ∷ good ∷ replicate 13 bad)
+unfolding refused_for
+bytes_values = refl
+
+-- The labels next to these, and -1: any value.
+other_values : map refused_for (0 ∷ 7 ∷ 0x20 ∷ []) ≡ replicate 3 (replicate 16 good)
+unfolding refused_for
+other_values = refl
+
 -- "b", "a" and "b": the third is the first again.
 words_twice : bucket 0 (0xa3 ∷ 0x61 ∷ 0x62 ∷ 0 ∷ 0x61 ∷ 0x61 ∷ 0 ∷ 0x61 ∷ 0x62 ∷ 0 ∷ []) ≡ refused DuplicateLabel 7
 unfolding bucket
@@ -86,6 +130,19 @@ value_before_next_label : bucket 0 (0xa2 ∷ 4 ∷ 0 ∷ 0x40 ∷ 0 ∷ []) ≡ 
 unfolding bucket
 value_before_next_label = refl
 
+-- -1 and 0, and "a" and "ab", are two labels.
+numbers_that_differ : bucket 0 (0xa2 ∷ 0x20 ∷ 0 ∷ 0 ∷ 0 ∷ []) ≡ Ok (
+    record { name = number (negsuc 0); label = placed 1 (0x20 ∷ []); value = placed 2 (0 ∷ []) } ∷
+    record { name = number (pos 0); label = placed 3 (0 ∷ []); value = placed 4 (0 ∷ []) } ∷ [])
+unfolding bucket
+numbers_that_differ = refl
+
+words_that_differ : bucket 0 (0xa2 ∷ 0x61 ∷ 0x61 ∷ 0 ∷ 0x62 ∷ 0x61 ∷ 0x62 ∷ 0 ∷ []) ≡ Ok (
+    record { name = words (0x61 ∷ []); label = placed 1 (0x61 ∷ 0x61 ∷ []); value = placed 3 (0 ∷ []) } ∷
+    record { name = words (0x61 ∷ 0x62 ∷ []); label = placed 4 (0x62 ∷ 0x61 ∷ 0x62 ∷ []); value = placed 7 (0 ∷ []) } ∷ [])
+unfolding bucket
+words_that_differ = refl
+
 minus_one_twice : bucket 0 (0xa2 ∷ 0x20 ∷ 0 ∷ 0x38 ∷ 0 ∷ 0 ∷ []) ≡ refused DuplicateLabel 3
 unfolding bucket
 minus_one_twice = refl
@@ -104,6 +161,10 @@ same_number_twice : bucket 3 (0xa2 ∷ 1 ∷ 5 ∷ 0x18 ∷ 1 ∷ 5 ∷ []) ≡ 
 unfolding bucket
 same_number_twice = refl
 
+as_deep_as_allowed : refusal_in (bucket 6 (0xa1 ∷ 0x0a ∷ 0x81 ∷ 0x81 ∷ 0x81 ∷ 0 ∷ [])) ≡ None
+unfolding bucket
+as_deep_as_allowed = refl
+
 too_deep : bucket 6 (0xa1 ∷ 0x0a ∷ 0x81 ∷ 0x81 ∷ 0x81 ∷ 0x81 ∷ 0 ∷ []) ≡ refused TooDeep 11
 unfolding bucket
 too_deep = refl
@@ -115,6 +176,12 @@ byte_after = refl
 no_map : bucket 3 (0x80 ∷ []) ≡ refused NotMap 3
 unfolding bucket
 no_map = refl
+
+-- Neither an integer nor a string is a map, nor is a tag of a map, nil or a float.
+no_maps : map (bucket 3) ((0 ∷ []) ∷ (0x20 ∷ []) ∷ (0x40 ∷ []) ∷ (0x60 ∷ []) ∷ (0xc1 ∷ 0xa0 ∷ []) ∷ (0xf6 ∷ []) ∷ (0xf9 ∷ 0 ∷ 0 ∷ []) ∷ []) ≡
+    replicate 7 (refused NotMap 3)
+unfolding bucket
+no_maps = refl
 
 past_room : bucket 3 (0xa2 ∷ 1 ∷ 5 ∷ []) ≡ refused PastRoom 3
 unfolding bucket
@@ -173,6 +240,19 @@ critical_understood : both (0xa3 ∷ 1 ∷ 5 ∷ 2 ∷ 0x81 ∷ 0x18 ∷ 0x2a �
 unfolding both
 critical_understood = refl
 
+-- The application may understand several labels, and texts; a number is no text.
+critical_understood_too : both (0xa3 ∷ 1 ∷ 5 ∷ 2 ∷ 0x81 ∷ 0x18 ∷ 0x2a ∷ 0x18 ∷ 0x2a ∷ 0 ∷ []) 13 (0xa0 ∷ []) (words (0x31 ∷ []) ∷ number (pos 42) ∷ []) 14 ≡ None
+unfolding both
+critical_understood_too = refl
+
+critical_words_understood : both (0xa2 ∷ 0x61 ∷ 0x31 ∷ 0 ∷ 2 ∷ 0x81 ∷ 0x61 ∷ 0x31 ∷ []) 11 (0xa0 ∷ []) (words (0x31 ∷ []) ∷ []) 12 ≡ None
+unfolding both
+critical_words_understood = refl
+
+critical_words_and_number : both (0xa2 ∷ 0x61 ∷ 0x31 ∷ 0 ∷ 2 ∷ 0x81 ∷ 0x61 ∷ 0x31 ∷ []) 11 (0xa0 ∷ []) (number (pos 1) ∷ []) 12 ≡ wrong CritUnknown 9
+unfolding both
+critical_words_and_number = refl
+
 crit_unprotected : both (0xa1 ∷ 1 ∷ 5 ∷ []) 6 (0xa1 ∷ 2 ∷ 0x81 ∷ 1 ∷ []) [] 10 ≡ wrong CritUnprotected 7
 unfolding both
 crit_unprotected = refl
@@ -185,6 +265,22 @@ both_are_there = refl
 wider_in_the_unprotected : both (0xa1 ∷ 1 ∷ 5 ∷ []) 6 (0xa1 ∷ 0x18 ∷ 1 ∷ 5 ∷ []) [] 10 ≡ wrong BothBuckets 7
 unfolding both
 wider_in_the_unprotected = refl
+
+wider_crit : both (0xa2 ∷ 1 ∷ 5 ∷ 0x18 ∷ 2 ∷ 0x81 ∷ 4 ∷ []) 10 (0xa0 ∷ []) [] 11 ≡ wrong CritAbsent 9
+unfolding both
+wider_crit = refl
+
+wider_crit_unprotected : both (0xa1 ∷ 1 ∷ 5 ∷ []) 6 (0xa1 ∷ 0x18 ∷ 2 ∷ 0x81 ∷ 1 ∷ []) [] 11 ≡ wrong CritUnprotected 7
+unfolding both
+wider_crit_unprotected = refl
+
+wider_ivs : both (0xa1 ∷ 0x18 ∷ 5 ∷ 0x40 ∷ []) 7 (0xa1 ∷ 0x18 ∷ 6 ∷ 0x40 ∷ []) [] 11 ≡ wrong BothIvs 11
+unfolding both
+wider_ivs = refl
+
+words_in_both : both (0xa1 ∷ 0x61 ∷ 0x31 ∷ 0 ∷ []) 7 (0xa1 ∷ 0x61 ∷ 0x31 ∷ 0 ∷ []) [] 11 ≡ wrong BothBuckets 8
+unfolding both
+words_in_both = refl
 
 wider_in_crit : both (0xa2 ∷ 1 ∷ 5 ∷ 2 ∷ 0x81 ∷ 0x18 ∷ 1 ∷ []) 10 (0xa0 ∷ []) [] 11 ≡ None
 unfolding both
@@ -224,6 +320,10 @@ seven_is_unknown = refl
 zero_is_unknown : both (0xa2 ∷ 0 ∷ 0 ∷ 2 ∷ 0x81 ∷ 0 ∷ []) 9 (0xa0 ∷ []) [] 10 ≡ wrong CritUnknown 8
 unfolding both
 zero_is_unknown = refl
+
+minus_one_is_unknown : both (0xa2 ∷ 0x20 ∷ 0 ∷ 2 ∷ 0x81 ∷ 0x20 ∷ []) 9 (0xa0 ∷ []) [] 10 ≡ wrong CritUnknown 8
+unfolding both
+minus_one_is_unknown = refl
 
 words_are_unknown : both (0xa2 ∷ 0x61 ∷ 0x31 ∷ 0 ∷ 2 ∷ 0x81 ∷ 0x61 ∷ 0x31 ∷ []) 11 (0xa0 ∷ []) [] 12 ≡ wrong CritUnknown 9
 unfolding both

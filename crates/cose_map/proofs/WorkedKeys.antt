@@ -1,19 +1,22 @@
 -- Keys and key sets on examples, by computing.
-use Rattle.std.proofs.Common.{◌≡◌, ℕ, pos, true, false, List, [], ◌∷◌, ◌++◌, replicate, Option, Some, None, Ok, Err, refl}
+use Rattle.std.proofs.Common.{◌≡◌, ℕ, pos, true, false, List, [], ◌∷◌, ◌++◌, map, replicate, Option, Some, None, Ok, Err, refl}
 use Rattle.std.specs.Str.{is_utf8, chars}
 use Rattle.cose_head.specs.declared.reason.Reason.{Reason}
-use Rattle.cose_head.specs.declared.reason.Reason.TheVariants.{PastRoom, BadValue, BadKeySet, UnknownKey, Trailing}
+use Rattle.cose_head.specs.declared.reason.Reason.TheVariants.{TooDeep, PastRoom, NotMap, BadLabel, DuplicateLabel, BadValue, BadKeySet, UnknownKey, Trailing}
+use Rattle.cose_head.specs.declared.refusal.Refusal.{Refusal}
 use Rattle.cose_head.specs.Head.{bare_head}
 use Rattle.cose_head.specs.Item.{depth_of}
 use Rattle.cose_head.specs.Reading.{read, head}
 use Rattle.cose_head.specs.Placed.{look, children_of, items_from, head_of_item}
 use Rattle.cose_map.specs.Label.{LabelValue, number, words}
 use Rattle.cose_map.specs.Map.Read.{Read, check_pairs}
+use Rattle.cose_map.specs.Map.View.{refusal_in}
 use Rattle.cose_map.specs.Key.{key_of}
 use Rattle.cose_map.specs.Key.Form.{key_table}
 use Rattle.cose_map.specs.Key.Material.{material_of}
 use Rattle.cose_map.specs.KeySet.{keys_of}
 use Rattle.cose_map.specs.Key.Value.{KeyValue, symmetric, elliptic, coordinate, sign}
+use Rattle.cose_map.proofs.WorkedBuckets.{values}
 
 unfoldable keys : List ℕ → Read (List KeyValue)
 unfolding keys_of key_of key_table material_of check_pairs children_of items_from look head_of_item bare_head read head depth_of is_utf8 chars lib.Utf8.encode
@@ -53,6 +56,15 @@ a_number : keys (0 ∷ []) ≡ refused BadKeySet 0
 unfolding keys
 a_number = refl
 
+-- Only an array and a map are key sets, and bytes after an item go before what it is.
+no_sets : map keys ((0 ∷ []) ∷ (0x20 ∷ []) ∷ (0x40 ∷ []) ∷ (0x60 ∷ []) ∷ (0xc1 ∷ 0xa0 ∷ []) ∷ (0xf6 ∷ []) ∷ (0xf9 ∷ 0 ∷ 0 ∷ []) ∷ []) ≡ replicate 7 (refused BadKeySet 0)
+unfolding keys
+no_sets = refl
+
+byte_after_no_set : map keys ((0 ∷ 0 ∷ []) ∷ (0x80 ∷ 0 ∷ []) ∷ []) ≡ replicate 2 (refused Trailing 1)
+unfolding keys
+byte_after_no_set = refl
+
 empty_map : keys (0xa0 ∷ []) ≡ Ok []
 unfolding keys
 empty_map = refl
@@ -74,10 +86,85 @@ unknown_type : keys (0x82 ∷ 0xa2 ∷ 1 ∷ 1 ∷ 0x20 ∷ 6 ∷ 0xa2 ∷ 1 ∷
 unfolding keys
 unknown_type = refl
 
+-- And so is what is no key for another reason: no map, a bad label, a label twice, a bad value, a member that is missing.
+other_refused_keys : keys (0x86 ∷ 0x80 ∷ 0xa1 ∷ 0x40 ∷ 0 ∷ 0xa2 ∷ 1 ∷ 4 ∷ 1 ∷ 4 ∷ 0xa1 ∷ 1 ∷ 0x40 ∷ 0xa1 ∷ 1 ∷ 4 ∷ 0xa2 ∷ 1 ∷ 4 ∷ 0x20 ∷ 0x44 ∷ jefe) ≡ Ok (secret None ∷ [])
+unfolding keys
+other_refused_keys = refl
+
+single_refused_key : keys (0xa1 ∷ 1 ∷ 4 ∷ []) ≡ Ok []
+unfolding keys
+single_refused_key = refl
+
+-- A set nests at most 8 deep, the array that holds its keys counted, and so does a key alone.
+abbrev deep : ℕ → List ℕ
+deep n = 0xa3 ∷ 1 ∷ 4 ∷ 0x20 ∷ 0x44 ∷ jefe ++ 0x0a ∷ replicate n 0x81 ++ 0 ∷ []
+
+as_deep_as_allowed : keys (0x81 ∷ deep 6) ≡ Ok (secret None ∷ [])
+unfolding keys
+as_deep_as_allowed = refl
+
+too_deep : keys (0x81 ∷ deep 7) ≡ refused TooDeep 17
+unfolding keys
+too_deep = refl
+
+key_as_deep_as_allowed : key (deep 7) ≡ Ok (secret None)
+unfolding key
+key_as_deep_as_allowed = refl
+
+key_too_deep : key (deep 8) ≡ refused TooDeep 17
+unfolding key
+key_too_deep = refl
+
 keys_in_order : keys (0x82 ∷ 0xa2 ∷ 1 ∷ 4 ∷ 0x20 ∷ 0x41 ∷ 0x61 ∷ 0xa2 ∷ 1 ∷ 4 ∷ 0x20 ∷ 0x44 ∷ jefe)
     ≡ Ok (record { kid = None; alg = None; operations = None; material = symmetric (0x61 ∷ []) } ∷ secret None ∷ [])
 unfolding keys
 keys_in_order = refl
+
+-- A key is read as a bucket is, but for no bytes, which are none.
+not_read : map key ([] ∷ (0x80 ∷ []) ∷ (0xa0 ∷ 0 ∷ []) ∷ (0xa1 ∷ 0x40 ∷ 0 ∷ []) ∷ (0xa2 ∷ 1 ∷ 4 ∷ 0x18 ∷ 1 ∷ 4 ∷ []) ∷ []) ≡
+    refused PastRoom 0 ∷ refused NotMap 0 ∷ refused Trailing 1 ∷ refused BadLabel 1 ∷ refused DuplicateLabel 3 ∷ []
+unfolding key
+not_read = refl
+
+-- What a member of keys of every type may be, of the values in the examples of buckets: a bad one is refused at its place, and with a
+-- good one the type is missing, or is unknown.
+abbrev bad : Option Refusal
+bad = Some (record { reason = BadValue; place = 2 })
+
+abbrev missing : Option Refusal
+missing = Some (record { reason = BadValue; place = 0 })
+
+abbrev unknown : Option Refusal
+unknown = Some (record { reason = UnknownKey; place = 0 })
+
+unfoldable refused_for : ℕ → List (Option Refusal)
+unfolding key
+refused_for label = map (λ value. refusal_in (key (0xa1 ∷ label ∷ value))) values
+
+kty_values : refused_for 1 ≡
+    unknown ∷ unknown ∷ bad ∷ unknown ∷ unknown ∷ bad ∷ bad ∷ bad ∷ bad ∷ bad ∷ bad ∷ bad ∷ bad ∷ bad ∷ bad ∷ bad ∷ []
+unfolding refused_for
+kty_values = refl
+
+-- The identifier and the Base IV.
+bytes_values : map refused_for (2 ∷ 5 ∷ []) ≡ replicate 2 (bad ∷ bad ∷ missing ∷ replicate 13 bad)
+unfolding refused_for
+bytes_values = refl
+
+alg_values : refused_for 3 ≡
+    missing ∷ missing ∷ bad ∷ missing ∷ bad ∷ bad ∷ bad ∷ bad ∷ bad ∷ bad ∷ bad ∷ bad ∷ bad ∷ bad ∷ bad ∷ bad ∷ []
+unfolding refused_for
+alg_values = refl
+
+-- An operation may be any text.
+operations_values : refused_for 4 ≡
+    bad ∷ bad ∷ bad ∷ bad ∷ bad ∷ bad ∷ missing ∷ missing ∷ bad ∷ missing ∷ bad ∷ bad ∷ bad ∷ bad ∷ bad ∷ bad ∷ []
+unfolding refused_for
+operations_values = refl
+
+other_values : map refused_for (0 ∷ 6 ∷ 0x20 ∷ []) ≡ replicate 3 (replicate 16 missing)
+unfolding refused_for
+other_values = refl
 
 no_type : key (0xa0 ∷ []) ≡ refused BadValue 0
 unfolding key
@@ -86,6 +173,15 @@ no_type = refl
 other_type : key (0xa2 ∷ 1 ∷ 1 ∷ 0x20 ∷ 6 ∷ []) ≡ refused UnknownKey 0
 unfolding key
 other_type = refl
+
+-- The types next to 2 and 4, and these numbers with the other sign.
+other_types : map (λ n. key (0xa1 ∷ 1 ∷ n ∷ [])) (0 ∷ 1 ∷ 3 ∷ 5 ∷ 0x21 ∷ 0x23 ∷ []) ≡ replicate 6 (refused UnknownKey 0)
+unfolding key
+other_types = refl
+
+no_secrets : map (λ value. key (0xa2 ∷ 1 ∷ 4 ∷ 0x20 ∷ value)) values ≡ replicate 16 (refused BadValue 4)
+unfolding key
+no_secrets = refl
 
 empty_secret : key (0xa2 ∷ 1 ∷ 4 ∷ 0x20 ∷ 0x40 ∷ []) ≡ refused BadValue 4
 unfolding key
@@ -162,11 +258,42 @@ named_curve : key (0xa2 ∷ 1 ∷ 2 ∷ 0x20 ∷ 0x61 ∷ 0xff ∷ []) ≡ refus
 unfolding key
 named_curve = refl
 
+other_curves : map (λ n. key (0xa2 ∷ 1 ∷ 2 ∷ 0x20 ∷ n ∷ [])) (0 ∷ 3 ∷ 4 ∷ 6 ∷ 0x20 ∷ []) ≡ replicate 5 (refused UnknownKey 0)
+unfolding key
+other_curves = refl
+
+missing_curve : key (0xa1 ∷ 1 ∷ 2 ∷ []) ≡ refused BadValue 0
+unfolding key
+missing_curve = refl
+
 other_curve : key (0xa2 ∷ 1 ∷ 2 ∷ 0x20 ∷ 2 ∷ []) ≡ refused UnknownKey 0
 unfolding key
 other_curve = refl
 
 -- A member of another form is refused at its value: bytes for a curve, a number for x, nil for y, and a number for d.
+no_curves : map (λ value. key (0xa2 ∷ 1 ∷ 2 ∷ 0x20 ∷ value)) values ≡
+    refused UnknownKey 0 ∷ refused UnknownKey 0 ∷ refused BadValue 4 ∷ refused UnknownKey 0 ∷ refused UnknownKey 0 ∷ replicate 11 (refused BadValue 4)
+unfolding key
+no_curves = refl
+
+no_x : map (λ value. key (0xa3 ∷ 1 ∷ 2 ∷ 0x20 ∷ 1 ∷ 0x21 ∷ value)) values ≡ replicate 16 (refused BadValue 6)
+unfolding key
+no_x = refl
+
+-- y may be false, and d bytes.
+abbrev refused_at : ℕ → Option Refusal
+refused_at place = Some (record { reason = BadValue; place = place })
+
+no_y : map (λ value. refusal_in (key (0xa4 ∷ 1 ∷ 2 ∷ 0x20 ∷ 1 ∷ 0x21 ∷ 0x58 ∷ 32 ∷ point ++ 0x22 ∷ value))) values ≡
+    replicate 13 (refused_at 41) ++ None ∷ refused_at 41 ∷ refused_at 41 ∷ []
+unfolding key
+no_y = refl
+
+no_d : map (λ value. refusal_in (key (0xa5 ∷ 1 ∷ 2 ∷ 0x20 ∷ 1 ∷ 0x21 ∷ 0x58 ∷ 32 ∷ point ++ 0x22 ∷ 0xf5 ∷ 0x23 ∷ value))) values ≡
+    refused_at 43 ∷ refused_at 43 ∷ None ∷ replicate 13 (refused_at 43)
+unfolding key
+no_d = refl
+
 bytes_for_a_curve : key (0xa2 ∷ 1 ∷ 2 ∷ 0x20 ∷ 0x40 ∷ []) ≡ refused BadValue 4
 unfolding key
 bytes_for_a_curve = refl
@@ -204,6 +331,10 @@ missing_y_before_d = refl
 kid_before_type : key (0xa2 ∷ 1 ∷ 1 ∷ 2 ∷ 0 ∷ []) ≡ refused BadValue 4
 unfolding key
 kid_before_type = refl
+
+short_and_long_x : map (λ n. key (0xa3 ∷ 1 ∷ 2 ∷ 0x20 ∷ 1 ∷ 0x21 ∷ 0x58 ∷ n ∷ replicate n 7)) (31 ∷ 33 ∷ []) ≡ replicate 2 (refused BadValue 6)
+unfolding key
+short_and_long_x = refl
 
 short_x : key (0xa3 ∷ 1 ∷ 2 ∷ 0x20 ∷ 1 ∷ 0x21 ∷ 0x41 ∷ 7 ∷ []) ≡ refused BadValue 6
 unfolding key

@@ -8,7 +8,7 @@ use Rattle.cose_head.specs.Shortest.{shortest, shortest_all}
 use Rattle.cose_head.specs.declared.kind.Kind.TheVariants.{Mac0, Sign1}
 use Rattle.cose_head.specs.declared.reason.Reason.TheVariants.{BadAuth}
 use Rattle.cose_head.specs.declared.algorithm.Alg.{Alg}
-use Rattle.cose_head.specs.declared.algorithm.Alg.TheVariants.{Hmac64, Hmac256, Es256}
+use Rattle.cose_head.specs.declared.algorithm.Alg.TheVariants.{Hmac64, Hmac256, Hmac384, Hmac512, Es256}
 use Rattle.cose_mac.specs.Hmac.{mac}
 use Rattle.cose_mac.specs.Hash.{digest_of}
 use Rattle.cose_mac.specs.Structure.{mac_structure, sig_structure}
@@ -107,6 +107,20 @@ short_tag : (byte : ℕ → ℕ) →
     if_mac_of "84644d41433043a1010440426869" Hmac64 (any byte 8) 10 19
 unfolding reading structure mac_structure shortest shortest_all shortest_head
 short_tag byte = refl
+
+-- HMAC 384/384 and 512/512: 48 bytes, and 64.
+long_tags : (byte : ℕ → ℕ) →
+    comparison (under plain) (hex "d18443a10106a0 426869 5830" ++ any byte 48) ∷ comparison (under plain) (hex "d18443a10107a0 426869 5840" ++ any byte 64) ∷ [] ≡
+    if_mac_of "84644d41433043a1010640426869" Hmac384 (any byte 48) 10 60 ∷ if_mac_of "84644d41433043a1010740426869" Hmac512 (any byte 64) 10 76 ∷ []
+unfolding reading structure mac_structure shortest shortest_all shortest_head
+long_tags byte = refl
+
+-- No byte of payload.
+no_payload : (byte : ℕ → ℕ) →
+    comparison (under plain) (hex "d18443a10105a0 40 5820" ++ any byte 32) ≡
+    (if bytes_eq (any byte 32) (mac Hmac256 jefe (hex "84644d41433043a101054040")) then decided (Authentic Mac0 Hmac256 0 42) else refused BadAuth 8)
+unfolding reading structure mac_structure shortest shortest_all shortest_head
+no_payload byte = refl
 
 -- A signature: whoever verifies is asked, with the key, the digest of the structure and the 64 bytes.
 sign1 : (decides : Decides) (byte : ℕ → ℕ) →

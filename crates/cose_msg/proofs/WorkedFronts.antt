@@ -69,7 +69,11 @@ wanting_mac0 : Gives (wanting wants.Mac0) (
     (hex "d0", refused Encrypted 0) ∷
     (hex "d861", refused SeveralParties 0) ∷
     (hex "84", refused Truncated 1) ∷
+    (hex "9804", refused Truncated 2) ∷
     (hex "83", refused NotFour 0) ∷
+    (hex "85", refused NotFour 0) ∷
+    (hex "04", refused WrongType 0) ∷
+    (hex "44", refused WrongType 0) ∷
     (hex "a4", refused WrongType 0) ∷
     (hex "d83dd2", refused WrongTag 2) ∷ [])
 unfolding reading
@@ -81,7 +85,9 @@ wanting_sign1 : Gives (wanting wants.Sign1) (
     (hex "d0", refused Encrypted 0) ∷
     (hex "d861", refused SeveralParties 0) ∷
     (hex "84", refused Truncated 1) ∷
+    (hex "83", refused NotFour 0) ∷
     (hex "85", refused NotFour 0) ∷
+    (hex "a4", refused WrongType 0) ∷
     (hex "d83dd1", refused WrongTag 2) ∷ [])
 unfolding reading
 wanting_sign1 = refl
@@ -109,8 +115,11 @@ numbers_of_no_tags : Gives (verdict plain) (
     (hex "d83d11", refused CwtTagAlone 2) ∷
     (hex "d83d92", refused CwtTagAlone 2) ∷
     (hex "d104", refused WrongType 1) ∷
+    (hex "d124", refused WrongType 1) ∷
     (hex "d144", refused WrongType 1) ∷
-    (hex "d1c4", refused WrongType 1) ∷ [])
+    (hex "d164", refused WrongType 1) ∷
+    (hex "d1c4", refused WrongType 1) ∷
+    (hex "d1e4", refused WrongType 1) ∷ [])
 unfolding reading
 numbers_of_no_tags = refl
 
@@ -122,7 +131,11 @@ behind_the_cwt_tag : Gives (verdict plain) (
     (hex "d83d00", refused CwtTagAlone 2) ∷
     (hex "d83d9c", refused Reserved 2) ∷
     (hex "d83dd83d", refused WrongTag 2) ∷
+    (hex "d83dcf", refused WrongTag 2) ∷
+    (hex "d83dd3", refused WrongTag 2) ∷
     (hex "d83dd0", refused Encrypted 2) ∷
+    (hex "d83dd860", refused Encrypted 2) ∷
+    (hex "d83dd861", refused SeveralParties 2) ∷
     (hex "d83dd862", refused SeveralParties 2) ∷
     (hex "d83dd1", refused Truncated 3) ∷
     (hex "d9003dd1", refused Truncated 4) ∷

@@ -7,8 +7,12 @@ use Rattle.cose_msg.proofs.WorkedMessages.{hex, Gives, reading, verdict, verdict
 
 -- The head of the protected bucket: a byte string, of no more bytes than there is room for. Its type is looked at first.
 protected_heads : Gives (verdict plain) (
+    (hex "d184 00", refused WrongType 2) ∷
+    (hex "d184 20", refused WrongType 2) ∷
     (hex "d184 60", refused WrongType 2) ∷
+    (hex "d184 80", refused WrongType 2) ∷
     (hex "d184 a0", refused WrongType 2) ∷
+    (hex "d184 c0", refused WrongType 2) ∷
     (hex "d184 f6", refused WrongType 2) ∷
     (hex "d184 5f", refused Indefinite 2) ∷
     (hex "d184 590400", refused Truncated 5) ∷

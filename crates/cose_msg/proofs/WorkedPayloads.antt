@@ -15,6 +15,8 @@ payload_heads : Gives (verdict plain) (
     (hex "d18443a10105a0 f7", refused WrongType 7) ∷
     (hex "d18443a10105a0 f5", refused WrongType 7) ∷
     (hex "d18443a10105a0 96", refused WrongType 7) ∷
+    (hex "d18443a10105a0 b6", refused WrongType 7) ∷
+    (hex "d18443a10105a0 d6", refused WrongType 7) ∷
     (hex "d18443a10105a0 c2", refused WrongType 7) ∷
     (hex "d18443a10105a0 16", refused WrongType 7) ∷
     (hex "d18443a10105a0 36", refused WrongType 7) ∷
@@ -56,6 +58,12 @@ auth_heads : Gives (verdict plain) (
     (hex "d18443a10105a0 4268", refused Truncated 9) ∷
     (hex "d18443a10105a0 426869", refused Truncated 10) ∷
     (hex "d18443a10105a0 426869 5f", refused Indefinite 10) ∷
+    (hex "d18443a10105a0 426869 1820", refused WrongType 10) ∷
+    (hex "d18443a10105a0 426869 3820", refused WrongType 10) ∷
+    (hex "d18443a10105a0 426869 9820", refused WrongType 10) ∷
+    (hex "d18443a10105a0 426869 b820", refused WrongType 10) ∷
+    (hex "d18443a10105a0 426869 d820", refused WrongType 10) ∷
+    (hex "d18443a10105a0 426869 f820", refused WrongType 10) ∷
     (hex "d18443a10105a0 426869 60", refused WrongType 10) ∷
     (hex "d18443a10105a0 426869 f6", refused WrongType 10) ∷
     (hex "d18443a10105a0 426869 7820", refused WrongType 10) ∷
@@ -71,12 +79,20 @@ auth_heads = refl
 -- The lengths of the other algorithms: HMAC 256/64, 384/384 and 512/512, and ES256.
 auth_lengths : Gives (verdict (secret None None None ∷ point None ∷ [])) (
     (hex "d18443a10104a0 40 48", refused Truncated 9) ∷
+    (hex "d18443a10104a0 40 47", refused BadAuthLength 8) ∷
+    (hex "d18443a10104a0 40 49", refused BadAuthLength 8) ∷
     (hex "d18443a10104a0 40 5820", refused BadAuthLength 8) ∷
     (hex "d18443a10106a0 40 5830", refused Truncated 10) ∷
+    (hex "d18443a10106a0 40 582f", refused BadAuthLength 8) ∷
+    (hex "d18443a10106a0 40 5831", refused BadAuthLength 8) ∷
     (hex "d18443a10106a0 40 5820", refused BadAuthLength 8) ∷
     (hex "d18443a10107a0 40 5840", refused Truncated 10) ∷
+    (hex "d18443a10107a0 40 583f", refused BadAuthLength 8) ∷
+    (hex "d18443a10107a0 40 5841", refused BadAuthLength 8) ∷
     (hex "d18443a10107a0 40 5830", refused BadAuthLength 8) ∷
     (hex "d28443a10126a0 40 5840", refused Truncated 10) ∷
+    (hex "d28443a10126a0 40 583f", refused BadAuthLength 8) ∷
+    (hex "d28443a10126a0 40 5841", refused BadAuthLength 8) ∷
     (hex "d28443a10126a0 40 5820", refused BadAuthLength 8) ∷ [])
 unfolding reading
 auth_lengths = refl

@@ -17,6 +17,8 @@ by_a_head : Gives is_settled (
     (hex "d1845904", false) ∷
     (hex "d184590401", true) ∷
     (hex "d18443a10105a0 f6", true) ∷
+    (hex "d18443a10105a0 5b01000000000000", false) ∷
+    (hex "d18443a10105a0 5b0100000000000000", true) ∷
     (hex "d18443a10105a0 42", false) ∷
     (hex "d18443a10105a0 426869 58", false) ∷
     (hex "d18443a10105a0 426869 581f", true) ∷
@@ -52,6 +54,10 @@ by_a_bucket : Gives is_settled (
     (hex "d18443a10105 8100", true) ∷
     (hex "d18443a10105 a101", false) ∷
     (hex "d18443a10105 a10105", true) ∷
+    (hex "d18443a10105 a104", false) ∷
+    (hex "d18443a10105 a10400", true) ∷
+    (hex "d18447a201050281182a", false) ∷
+    (hex "d18447a201050281182a a0", true) ∷
     (hex "d18443a10105 a0", false) ∷
     (hex "d18443a10126 a0", true) ∷ [])
 unfolding reading

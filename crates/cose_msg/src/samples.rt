@@ -1,9 +1,12 @@
-//! Messages, keys, contexts, a reader and an intake that several modules of tests take.
+//! Messages, keys, contexts, a reader, an intake and a sink that several modules of tests take.
 
 ghost use Rattle.std.specs.Prelude.{◌≡◌, ◌≤◌, IfSome, None, false, length};
 ghost use Rattle.cose_msg.specs.Kept.{is_inspecting};
 
-use crate::{Alg, Context, Intake, IntakeFault, KeySet, Kind, Verdict, Verifier, Wanted};
+use crate::{
+    Alg, Context, Intake, IntakeFault, KeySet, Kind, Sink, SinkFault, Store, Verdict, Verifier,
+    Wanted,
+};
 use std::io;
 use std::io::{Error, ErrorKind, Read};
 
@@ -151,5 +154,49 @@ impl Intake for WatchedIntake<'_> {
         self.bytes = rest;
         self.ended = count == 0;
         Ok(count)
+    }
+}
+
+/// A store of `L` bytes. It keeps how many were put at most, and how many in all.
+#[derive(Drop)]
+pub(crate) struct WatchedSink<const L: usize> {
+    store: Store<L>,
+    pub(crate) most: usize,
+    pub(crate) sum: usize,
+    failed: bool,
+}
+
+impl<const L: usize> WatchedSink<L> {
+    /// An empty sink.
+    pub(crate) fn new() -> Self {
+        WatchedSink {
+            store: Store::new(),
+            most: 0,
+            sum: 0,
+            failed: false,
+        }
+    }
+
+    /// The bytes that it holds.
+    pub(crate) fn bytes(&self) -> &[u8] {
+        self.store.bytes()
+    }
+}
+
+impl<const L: usize> Sink for WatchedSink<L> {
+    ghost contents = { λ _. None };
+
+    ghost has_failed = { λ sink. sink.failed };
+
+    ghost sure = { λ _. 0 };
+
+    fn put(&mut self, piece: &[u8]) -> Result<(), SinkFault> {
+        self.most = self.most.max(piece.len());
+        self.sum = self.sum.saturating_add(piece.len());
+        if self.store.put(piece).is_err() {
+            self.failed = true;
+            return Err(SinkFault);
+        }
+        Ok(())
     }
 }

@@ -84,6 +84,28 @@ for_others : said 1444064943 0 (Some "other") (hex example) ≡ line "refused cl
 unfolding said
 for_others = refl
 
+-- At the last moment there is, 2^63 - 1: exp and nbf at it, and a second later.
+at_the_last_moment : Prints (said 9223372036854775807 0 None) (
+    ("a1041b7fffffffffffffff", line "refused claims Expired at 2" statuses.Refused) ∷
+    ("a1041b8000000000000000", lines ("admitted" ∷ "exp 9223372036854775808" ∷ [])) ∷
+    ("a1051b7fffffffffffffff", lines ("admitted" ∷ "nbf 9223372036854775807" ∷ [])) ∷
+    ("a1051b8000000000000000", line "refused claims NotYet at 2" statuses.Refused) ∷ [])
+unfolding said
+at_the_last_moment = refl
+
+-- With the greatest leeway, 2^32 - 1, at 2^32 and at 0.
+at_the_greatest_leeway : Prints (said 4294967296 4294967295 None) (
+    ("a10401", line "refused claims Expired at 2" statuses.Refused) ∷
+    ("a10402", lines ("admitted" ∷ "exp 2" ∷ [])) ∷ [])
+unfolding said
+at_the_greatest_leeway = refl
+
+early_with_the_greatest_leeway : Prints (said 0 4294967295 None) (
+    ("a1051affffffff", lines ("admitted" ∷ "nbf 4294967295" ∷ [])) ∷
+    ("a1051b0000000100000000", line "refused claims NotYet at 2" statuses.Refused) ∷ [])
+unfolding said
+early_with_the_greatest_leeway = refl
+
 -- No claim that is known; a text of no bytes; two audiences; a date before 1970; bytes; a key's identifier, and neither.
 said_of_few : Prints (said 0 0 (Some "b")) (
     ("a0", lines ("admitted" ∷ [])) ∷
@@ -144,6 +166,20 @@ refused_messages : Prints (prints plain 0) (
 unfolding prints
 refused_messages = refl
 
+-- The limits of its headers are those of `verify`, and no label is understood besides the standard's.
+at_the_limits : Prints (prints plain 0) (
+    ("d184590400", line "refused message Truncated at 5" statuses.Refused) ∷
+    ("d184590401", line "refused message PastRoom at 2" statuses.Refused) ∷
+    ("d1844aa10a8181818181818100", line "refused message Truncated at 13" statuses.Refused) ∷
+    ("d1844ba10a818181818181818100", line "refused message TooDeep at 12" statuses.Refused) ∷
+    ("d18443a10105a10a5903fb", line "refused message Truncated at 11" statuses.Refused) ∷
+    ("d18443a10105a10a5903fc", line "refused message PastRoom at 8" statuses.Refused) ∷
+    ("d18443a10105a10a8181818181818100", line "refused message Truncated at 16" statuses.Refused) ∷
+    ("d18443a10105a10a818181818181818100", line "refused message TooDeep at 15" statuses.Refused) ∷
+    ("d1844aa301050281182a182a00a0", line "refused message CritUnknown at 8" statuses.Refused) ∷ [])
+unfolding prints
+at_the_limits = refl
+
 -- What is said of a token with the claims of the example, behind which no byte stands, and one.
 abbrev found : Chosen
 found = record { key = record { kid = None; alg = None; operations = None; material = symmetric jefe }; alg = Hmac256 }
@@ -152,6 +188,17 @@ unfoldable said_behind : ℕ → ℕ → Bool → Output
 unfolding said
 said_behind now n holds = outcome_said (token_told n (program_policy (pos now) 0 None) (hex example)
     (verified [] (vouching None) (Some found) (if holds then decided (Authentic Mac0 Hmac256 80 123) else refused BadAuth 89)))
+
+-- Of an authentic message with this payload; its claims nest at most 8 deep.
+unfoldable said_of_payload : List ℕ → Output
+unfolding said
+said_of_payload payload = outcome_said (token_told 0 (program_policy (pos 0) 0 None) payload (decided (Authentic Mac0 Hmac256 0 0)))
+
+nested_claims : Prints said_of_payload (
+    ("a10a8181818181818100", lines ("admitted" ∷ [])) ∷
+    ("a10a818181818181818100", line "refused claims TooDeep at 9" statuses.Refused) ∷ [])
+unfolding said_of_payload
+nested_claims = refl
 
 abbrev either : Bool → Output → Output
 either holds output = if holds then output else line "refused message BadAuth at 89" statuses.Refused

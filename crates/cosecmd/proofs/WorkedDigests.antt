@@ -1,5 +1,5 @@
 -- What the program tells that signatures are verified with, on examples, by computing. The digest stands as it is defined.
-use Rattle.std.specs.Prelude.{◌≡◌, ℕ, true, List, [], ◌∷◌, ◌++◌, replicate, refl}
+use Rattle.std.specs.Prelude.{◌≡◌, ℕ, true, false, List, [], ◌∷◌, ◌++◌, map, replicate, refl}
 use Rattle.std.specs.Fmt.{digits}
 use Rattle.std.specs.Str.{is_utf8, chars}
 use Rattle.cose_head.specs.Head.{bare_head, shortest_head}
@@ -44,6 +44,15 @@ untagged : (byte : ℕ → ℕ) → digests point [] (hex "8443a10126a0 40 5840"
 unfolding digests structure sig_structure shortest shortest_all shortest_head
 untagged byte = refl
 
+in_cwt : (byte : ℕ → ℕ) → digests point [] (hex "d83dd28443a10126a0 40 5840" ++ any byte 64) ≡ told byte
+unfolding digests structure sig_structure shortest shortest_all shortest_head
+in_cwt byte = refl
+
+-- A word: the curve in one byte, the digest, the signature, x and y, or one byte for the sign of y.
+words_for : map (λ y. word_for 1 (hex "aa") y (hex "dd") (hex "5555")) (coordinate (hex "bb") ∷ sign true ∷ sign false ∷ []) ≡
+    hex "01 dd 5555 aa bb" ∷ hex "01 dd 5555 aa 01" ∷ hex "01 dd 5555 aa 00" ∷ []
+words_for = refl
+
 -- External data stands in the structure; a coordinate y that is a sign alone is told in one byte.
 abbrev signed_point : List ℕ
 signed_point = hex "a401022001215820" ++ (replicate 32 7 ++ hex "22f5")
@@ -70,6 +79,22 @@ refused_messages : Prints (digests point []) (
     ("d28443a10126a0f6", line "refused Detached at 7" statuses.Refused) ∷ [])
 unfolding digests
 refused_messages = refl
+
+-- The limits are those of `verify`, and no label is understood besides the standard's.
+at_the_limits : Prints (digests point []) (
+    ("d284590400", line "refused Truncated at 5" statuses.Refused) ∷
+    ("d284590401", line "refused PastRoom at 2" statuses.Refused) ∷
+    ("d2844aa10a8181818181818100", line "refused Truncated at 13" statuses.Refused) ∷
+    ("d2844ba10a818181818181818100", line "refused TooDeep at 12" statuses.Refused) ∷
+    ("d28443a10126a10a5903fb", line "refused Truncated at 11" statuses.Refused) ∷
+    ("d28443a10126a10a5903fc", line "refused PastRoom at 8" statuses.Refused) ∷
+    ("d28443a10126a10a8181818181818100", line "refused Truncated at 16" statuses.Refused) ∷
+    ("d28443a10126a10a818181818181818100", line "refused TooDeep at 15" statuses.Refused) ∷
+    ("d28443a10126a05b00ffffffffffffff", line "refused Truncated at 16" statuses.Refused) ∷
+    ("d28443a10126a05b0100000000000000", line "refused PayloadTooLong at 7" statuses.Refused) ∷
+    ("d2844aa301260281182a182a00a0", line "refused CritUnknown at 8" statuses.Refused) ∷ [])
+unfolding digests
+at_the_limits = refl
 
 no_key : digests plain [] (hex "d28443a10126a040") ≡ line "refused NoKey at 7" statuses.Refused
 unfolding digests

@@ -34,7 +34,7 @@ use Rattle.cosecmd.specs.declared.job.Job.{Job}
 use Rattle.cosecmd.specs.declared.job.Job.TheVariants.{Verify}
 use Rattle.cosecmd.specs.declared.reply.Status.{Status}
 use Rattle.cosecmd.specs.declared.reply.Status.TheVariants as statuses
-use Rattle.cosecmd.specs.Printed.{Output, output_of, printed, trailed}
+use Rattle.cosecmd.specs.Printed.{Output, code_of, output_of, printed, trailed}
 use Rattle.cosecmd.specs.Vouch.{vouching, word_for}
 
 -- Bytes in hexadecimal. Spaces are left out.
@@ -106,6 +106,25 @@ refused_messages : Prints (prints plain None) (
     ("d18443a10126a040", line "refused UnknownAlg at 7" statuses.Refused) ∷ [])
 unfolding prints digits
 refused_messages = refl
+
+-- A header bucket has at most 1,024 bytes and nests at most 8 deep; a payload has fewer than 2^56 bytes.
+at_the_limits : Prints (prints plain None) (
+    ("d184590400", line "refused Truncated at 5" statuses.Refused) ∷
+    ("d184590401", line "refused PastRoom at 2" statuses.Refused) ∷
+    ("d1844aa10a8181818181818100", line "refused Truncated at 13" statuses.Refused) ∷
+    ("d1844ba10a818181818181818100", line "refused TooDeep at 12" statuses.Refused) ∷
+    ("d18443a10105a10a5903fb", line "refused Truncated at 11" statuses.Refused) ∷
+    ("d18443a10105a10a5903fc", line "refused PastRoom at 8" statuses.Refused) ∷
+    ("d18443a10105a10a8181818181818100", line "refused Truncated at 16" statuses.Refused) ∷
+    ("d18443a10105a10a818181818181818100", line "refused TooDeep at 15" statuses.Refused) ∷
+    ("d18443a10105a05b00ffffffffffffff", line "refused Truncated at 16" statuses.Refused) ∷
+    ("d18443a10105a05b0100000000000000", line "refused PayloadTooLong at 7" statuses.Refused) ∷ [])
+unfolding prints digits
+at_the_limits = refl
+
+-- The exit statuses.
+exit_statuses : map code_of (statuses.Done ∷ statuses.Refused ∷ statuses.Fault ∷ []) ≡ 0 ∷ 1 ∷ 2 ∷ []
+exit_statuses = refl
 
 -- A tag of 32 bytes, whatever they are, is compared with the MAC of these.
 abbrev is_mac_of : (ℕ → ℕ) → String → Bool

@@ -55,6 +55,27 @@ order_of_message : prints (Show wants.Mac0) (hex "8447a2180a61780105a0 40 40") �
 unfolding prints
 order_of_message = refl
 
+-- The tag of a CWT may stand in front.
+in_cwt : prints (Show wants.Tagged) (hex "d83dd18443a10105a0 40 40") ≡ lines ("shape mac0 payload 0 auth 0 taken 11" ∷ "protected 01 05" ∷ [])
+unfolding prints
+in_cwt = refl
+
+-- The limits are those of `verify`, and no label is understood besides the standard's.
+at_the_limits : Prints (prints (Show wants.Tagged)) (
+    ("d184590400", line "refused Truncated at 5" statuses.Refused) ∷
+    ("d184590401", line "refused PastRoom at 2" statuses.Refused) ∷
+    ("d1844aa10a8181818181818100", line "refused Truncated at 13" statuses.Refused) ∷
+    ("d1844ba10a818181818181818100", line "refused TooDeep at 12" statuses.Refused) ∷
+    ("d18443a10105a10a5903fb", line "refused Truncated at 11" statuses.Refused) ∷
+    ("d18443a10105a10a5903fc", line "refused PastRoom at 8" statuses.Refused) ∷
+    ("d18443a10105a10a8181818181818100", line "refused Truncated at 16" statuses.Refused) ∷
+    ("d18443a10105a10a818181818181818100", line "refused TooDeep at 15" statuses.Refused) ∷
+    ("d18443a10105a05b00ffffffffffffff", line "refused Truncated at 16" statuses.Refused) ∷
+    ("d18443a10105a05b0100000000000000", line "refused PayloadTooLong at 7" statuses.Refused) ∷
+    ("d1844aa301050281182a182a00a0", line "refused CritUnknown at 8" statuses.Refused) ∷ [])
+unfolding prints
+at_the_limits = refl
+
 not_shown : Prints (prints (Show wants.Tagged)) (
     ("", line "refused Truncated at 0" statuses.Refused) ∷
     ("d18443a10105a0 40 40 ff", line "refused Trailing at 9" statuses.Refused) ∷

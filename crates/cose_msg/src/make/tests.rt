@@ -2,7 +2,7 @@
 
 ghost use Rattle.std.specs.Prelude.{◌≤◌, None};
 
-use crate::samples::{FailingReader, JEFE, MAC0, WatchedIntake};
+use crate::samples::{FailingReader, JEFE, MAC0, WatchedIntake, WatchedSink};
 use crate::{
     Alg, Intake, Key, MakeFault, ReadIntake, Sink, SinkFault, SliceIntake, Store, make_mac0,
 };
@@ -181,7 +181,16 @@ fn limits_external_data(rt: HostRuntime) {
     assert_eq!(rt; &sink.bytes()[..12], &MAC0[..12]);
 }
 
-/// Makes a message in chunks of `C` bytes: no call takes more of the payload.
+/// The message of 200 letters `h` by HMAC 256/64.
+fn long_message() -> [u8; 218] {
+    let mut message = [0x68; 218];
+    message[..9].copy_from_slice(b"\xd1\x84\x43\xa1\x01\x04\xa0\x58\xc8");
+    message[209..].copy_from_slice(b"\x48\x2e\xde\x18\x25\x85\xdc\xe7\x92");
+    message
+}
+
+/// Makes it in chunks of `C` bytes: no call takes more of the payload, and no piece is longer than a chunk or the tag, which is
+/// the longest of what isn't payload. The message is put whole.
 fn takes_chunks<const C: usize>(rt: &impl Abort)
     requires some { 1 ≤ C }
     requires limit { C ≤ 65536 }
@@ -189,9 +198,9 @@ fn takes_chunks<const C: usize>(rt: &impl Abort)
     let key = Key::read(JEFE, 0).expect(rt, "a key");
     let payload = [0x68; 200];
     let mut intake = WatchedIntake::new(&payload);
-    let mut sink: Store<300> = Store::new();
-    let answer = make_mac0::<C, WatchedIntake, Store<300>>(
-        Alg::Hmac256,
+    let mut sink = WatchedSink::<218>::new();
+    let answer = make_mac0::<C, WatchedIntake, WatchedSink<218>>(
+        Alg::Hmac64,
         &key,
         None,
         b"",
@@ -200,12 +209,15 @@ fn takes_chunks<const C: usize>(rt: &impl Abort)
         &mut sink,
     );
     // Nine bytes before the payload's content, and the tag with its head after it.
-    assert_eq!(rt; answer, Ok(9 + 200 + 34));
+    assert_eq!(rt; answer, Ok(9 + 200 + 9));
     assert_eq!(rt; intake.most, C.min(200));
+    assert!(rt; sink.most <= C.min(200).max(8));
+    assert_eq!(rt; sink.sum, 218);
+    assert_eq!(rt; sink.bytes(), long_message().as_slice());
 }
 
 #[test]
-fn takes_no_more_than_a_chunk(rt: HostRuntime) {
+fn takes_and_puts_no_more_than_a_chunk(rt: HostRuntime) {
     takes_chunks::<1>(&rt);
     takes_chunks::<7>(&rt);
     takes_chunks::<64>(&rt);

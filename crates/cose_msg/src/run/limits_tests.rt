@@ -1,35 +1,10 @@
 //! Runs at the limits of the chunk, the stores and the nesting: no call takes or puts more than a chunk.
 
-ghost use Rattle.std.specs.Prelude.{◌≤◌, None};
+ghost use Rattle.std.specs.Prelude.{◌≤◌};
 
-use crate::samples::{AUTHENTIC, MAC0, WatchedIntake, mac0_with_kid, under_jefe};
-use crate::{Alg, Kind, Never, Nothing, Sink, SinkFault, Store, Verdict, verify};
+use crate::samples::{AUTHENTIC, MAC0, WatchedIntake, WatchedSink, mac0_with_kid, under_jefe};
+use crate::{Alg, Kind, Never, Nothing, Verdict, verify};
 use std::process::Abort;
-
-/// A store of two bytes. It keeps how many were put at most.
-#[derive(Drop)]
-struct WatchedSink {
-    store: Store<2>,
-    most: usize,
-    failed: bool,
-}
-
-impl Sink for WatchedSink {
-    ghost contents = { λ _. None };
-
-    ghost has_failed = { λ sink. sink.failed };
-
-    ghost sure = { λ _. 0 };
-
-    fn put(&mut self, piece: &[u8]) -> Result<(), SinkFault> {
-        self.most = self.most.max(piece.len());
-        if self.store.put(piece).is_err() {
-            self.failed = true;
-            return Err(SinkFault);
-        }
-        Ok(())
-    }
-}
 
 /// The message is authentic at these limits, and what is taken and put at a time is within a chunk.
 fn verifies_at<const C: usize, const H: usize, const D: usize>(rt: &impl Abort)
@@ -41,19 +16,16 @@ fn verifies_at<const C: usize, const H: usize, const D: usize>(rt: &impl Abort)
 {
     let mut verifier = under_jefe::<H, D>().expect(rt, "a verifier");
     let mut intake = WatchedIntake::new(MAC0);
-    let mut sink = WatchedSink {
-        store: Store::new(),
-        most: 0,
-        failed: false,
-    };
-    let verdict = verify::<C, H, D, WatchedIntake, WatchedSink, Never>(
+    let mut sink = WatchedSink::<2>::new();
+    let verdict = verify::<C, H, D, WatchedIntake, WatchedSink<2>, Never>(
         &mut verifier,
         &mut intake,
         &mut sink,
         &Never,
     );
     assert_eq!(rt; verdict, Ok(AUTHENTIC));
-    assert_eq!(rt; sink.store.bytes(), b"hi".as_slice());
+    assert_eq!(rt; sink.bytes(), b"hi".as_slice());
+    assert_eq!(rt; sink.sum, 2);
     // It asks for what is left of a string, as far as a chunk holds it.
     assert_eq!(rt; (intake.most, sink.most), (C.min(32), C.min(2)));
 }

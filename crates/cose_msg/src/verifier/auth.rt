@@ -43,7 +43,8 @@ fn fault_of_auth(head: &Head, alg: Option<Alg>) -> Option<Reason>
 
 /// Holds a piece of a tag or signature where there is a key. Else nothing is compared with it, and it is passed over.
 fn hold(store: &mut ArrayVec<u8, 132>, has_key: bool, piece: &[u8])
-    ensures held { has_key ≡ true → length store.old.items + length piece.now ≤ 132 → store.new.items ≡ store.old.items ++ piece.now }
+    ensures held { has_key ≡ true → length store.old.items + length piece.now ≤ 132
+        → store.new.items ≡ store.old.items ++ piece.now }
     ensures passed { has_key ≡ false → store.new ≡ store.old }
 {
     if has_key {

@@ -268,7 +268,8 @@ pub fn cwt_reply<R: Read>(
     requires external { length aad.now ≤ 65535 }
     ensures says { (bytes : List ℕ) → R.remaining input.old ≡ Some bytes →
         IfOk result (Says (admitted_under (keys_of keys.now) aad.now wanted (option_map contents vouch.entry) (policy_value policy.entry.now) bytes)) }
-    ensures keys { (refusal : Refusal) → keys_of keys.now ≡ Err refusal ↔ result ≡ Err (Fault.Keys refusal) }
+    ensures keys { (refusal : Refusal) →
+        keys_of keys.now ≡ Err refusal ↔ result ≡ Err (Fault.Keys refusal) }
 {
     let mut intake = ReadIntake::new(input);
     admitted_reply(alloc, keys, aad, wanted, vouch, policy, &mut intake)

@@ -85,7 +85,8 @@ pub fn digest_reply<R: Read>(
     requires external { length aad.now ≤ 65535 }
     ensures says { (bytes : List ℕ) → R.remaining input.old ≡ Some bytes →
         IfOk result (Says (digested_under (keys_of keys.now) aad.now bytes)) }
-    ensures keys { (refusal : Refusal) → keys_of keys.now ≡ Err refusal ↔ result ≡ Err (Fault.Keys refusal) }
+    ensures keys { (refusal : Refusal) →
+        keys_of keys.now ≡ Err refusal ↔ result ≡ Err (Fault.Keys refusal) }
 {
     digested_reply(alloc, keys, aad, &mut ReadIntake::new(input))
 }

@@ -30,7 +30,9 @@ pub fn make_message<R: Read, W: Write>(
 ) -> Result<Status, Fault>
     ensures makes { (bytes : List ℕ) → R.remaining input.old ≡ Some bytes →
         IfOk result (Prints (made_under (key_of (record { bytes = key.now; place = 0 })) alg length (option_map contents kid.entry) aad.now bytes) (W.contents output.old) (W.contents output.new)) }
-    ensures fault { fault_in result ≡ fault_of_making (key_of (record { bytes = key.now; place = 0 })) alg (option_map contents kid.entry) aad.now length }
+    ensures fault { fault_in result ≡
+        fault_of_making (key_of (record { bytes = key.now; place = 0 })) alg
+        (option_map contents kid.entry) aad.now length }
 {
     let key = match Key::read(key, 0) {
         Ok(key) => key,

@@ -76,7 +76,8 @@ fn shape_reply(
 
 /// The reply to the message of an intake: nothing may stand after a message that has a shape.
 fn shown_reply<I: Intake>(alloc: Global, wanted: Wanted, intake: &mut I) -> Result<Reply, Fault>
-    ensures says { (bytes : List ℕ) → I.to_come intake.old ≡ Some bytes → IfOk result (Says (shown wanted bytes)) }
+    ensures says { (bytes : List ℕ) → I.to_come intake.old ≡ Some bytes →
+        IfOk result (Says (shown wanted bytes)) }
     // Its fault is that the input failed where the intake failed in this call, and nowhere else.
     ensures input { I.has_failed intake.new ≡ (I.has_failed intake.old || fails_by_input result) }
 {
@@ -113,7 +114,8 @@ fn shown_reply<I: Intake>(alloc: Global, wanted: Wanted, intake: &mut I) -> Resu
 
 /// The reply to the job `show`.
 pub fn show_reply<R: Read>(alloc: Global, wanted: Wanted, input: &mut R) -> Result<Reply, Fault>
-    ensures says { (bytes : List ℕ) → R.remaining input.old ≡ Some bytes → IfOk result (Says (shown wanted bytes)) }
+    ensures says { (bytes : List ℕ) → R.remaining input.old ≡ Some bytes →
+        IfOk result (Says (shown wanted bytes)) }
 {
     shown_reply(alloc, wanted, &mut ReadIntake::new(input))
 }

@@ -51,7 +51,8 @@ pub fn reply_of(alloc: Global, verdict: Verdict) -> Result<Reply, Fault>
 
 /// What a byte behind a message of so many bytes is refused for, where there is one.
 pub fn trailing_at<I: Intake>(taken: u64, intake: &mut I) -> Result<Option<Refusal>, Fault>
-    ensures whole { (rest : List ℕ) → I.to_come intake.old ≡ Some rest → IfOk result (λ refusal. refusal ≡ trailing_refusal rest taken) }
+    ensures whole { (rest : List ℕ) → I.to_come intake.old ≡ Some rest →
+        IfOk result (λ refusal. refusal ≡ trailing_refusal rest taken) }
     ensures fault { IfErr result (λ fault. fault ≡ Fault.Input) }
     ensures failure { I.has_failed intake.new ≡ (I.has_failed intake.old || is_err result) }
 {
@@ -87,7 +88,8 @@ pub fn whole_verdict<I: Intake>(verdict: Verdict, intake: &mut I) -> Result<Verd
     ensures unread { (refusal : Refusal) → verdict ≡ Verdict.Refused refusal → intake.new ≡ intake.old }
 
     // Behind an authentic one nothing may stand.
-    ensures whole { (rest : List ℕ) → I.to_come intake.old ≡ Some rest → IfOk result (λ whole. whole ≡ followed_by rest verdict) }
+    ensures whole { (rest : List ℕ) → I.to_come intake.old ≡ Some rest →
+        IfOk result (λ whole. whole ≡ followed_by rest verdict) }
     ensures fault { IfErr result (λ fault. fault ≡ Fault.Input) }
     ensures failure { I.has_failed intake.new ≡ (I.has_failed intake.old || is_err result) }
 {
@@ -163,7 +165,8 @@ pub fn verify_reply<R: Read>(
     requires external { length aad.now ≤ 65535 }
     ensures says { (bytes : List ℕ) → R.remaining input.old ≡ Some bytes →
         IfOk result (Says (verified_under (keys_of keys.now) aad.now wanted (option_map contents vouch.entry) bytes)) }
-    ensures keys { (refusal : Refusal) → keys_of keys.now ≡ Err refusal ↔ result ≡ Err (Fault.Keys refusal) }
+    ensures keys { (refusal : Refusal) →
+        keys_of keys.now ≡ Err refusal ↔ result ≡ Err (Fault.Keys refusal) }
 {
     let mut intake = ReadIntake::new(input);
     verified_reply(alloc, keys, aad, wanted, vouch, &mut intake)
