@@ -2,6 +2,7 @@
 
 ghost use Rattle.std.specs.Prelude.{◌<◌, ◌≤◌, ◌+◌, ◌^◌};
 
+use crate::status::Status;
 use crate::verdict::Verdict;
 use cose_head::Kind;
 use cose_mac::Alg;
@@ -203,4 +204,48 @@ pub(crate) enum Phase {
     Settled(Verdict),
     /// All bytes of a message that is only inspected are there.
     Shaped(Shape),
+}
+
+impl Phase {
+    ghost use Rattle.std.specs.Prelude.{◌≡◌, false};
+    ghost use Rattle.cose_msg.specs.Phase.{is_settled, want_of};
+    ghost use Rattle.cose_msg.specs.Status.{status_at};
+
+    /// Whether no further byte is wanted.
+    pub(crate) fn is_settled(&self) -> bool
+        ensures { result ≡ is_settled self.now }
+    {
+        matches!(
+            self,
+            Phase::Signed(_) | Phase::Decided(_) | Phase::Settled(_) | Phase::Shaped(_)
+        )
+    }
+
+    /// How many bytes are to come for certain: those of a string that are left, one of a head, and none once the message is
+    /// settled.
+    pub(crate) fn wanted(&self) -> u64
+        ensures value { result ≡ want_of self.now }
+        ensures some { is_settled self.now ≡ false → 0 < result }
+    {
+        match *self {
+            Phase::Protected(protected) => protected.left,
+            Phase::Unprotected(unprotected) => unprotected.wanted,
+            Phase::Payload(payload) => payload.left,
+            Phase::Auth(auth) => auth.left,
+            _ if self.is_settled() => 0,
+            _ => 1,
+        }
+    }
+
+    /// Where the message stands. Deciding on a signature, either way, leaves it complete.
+    pub(crate) fn status(&self) -> Status
+        ensures { result ≡ status_at self.now }
+    {
+        match *self {
+            Phase::Signed(_) | Phase::Decided(_) | Phase::Shaped(_) => Status::Complete,
+            Phase::Settled(Verdict::Authentic { .. }) => Status::Complete,
+            Phase::Settled(Verdict::Refused(refusal)) => Status::Refused(refusal),
+            _ => Status::More,
+        }
+    }
 }

@@ -196,10 +196,7 @@ impl<'k, const H: usize, const D: usize> Verifier<'k, H, D> {
     pub(crate) fn is_settled(&self) -> bool
         ensures { result ≡ is_settled self.now.phase }
     {
-        matches!(
-            self.phase,
-            Phase::Signed(_) | Phase::Decided(_) | Phase::Settled(_) | Phase::Shaped(_)
-        )
+        self.phase.is_settled()
     }
 
     /// Whether the next byte is one of the payload.
@@ -215,14 +212,7 @@ impl<'k, const H: usize, const D: usize> Verifier<'k, H, D> {
         ensures value { result ≡ want_of self.now.phase }
         ensures some { is_settled self.now.phase ≡ false → 0 < result }
     {
-        match self.phase {
-            Phase::Protected(protected) => protected.left,
-            Phase::Unprotected(unprotected) => unprotected.wanted,
-            Phase::Payload(payload) => payload.left,
-            Phase::Auth(auth) => auth.left,
-            _ if self.is_settled() => 0,
-            _ => 1,
-        }
+        self.phase.wanted()
     }
 
     /// Takes the next byte of a head. Where none is wanted, nothing changes.

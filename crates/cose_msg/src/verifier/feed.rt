@@ -4,7 +4,6 @@ ghost use Rattle.std.specs.Prelude.{◌≡◌, ◌<◌, ◌≤◌, ◌+◌, ◌*
 
 use crate::elliptic::EcVerifier;
 use crate::laws::{deciding_goes_last, messages_are_bounded};
-use crate::phase::Phase;
 use crate::status::{Fed, Status};
 use crate::verdict::Verdict;
 use crate::verifier::Verifier;
@@ -55,12 +54,7 @@ impl<'k, const H: usize, const D: usize> Verifier<'k, H, D> {
         if self.stopped {
             return Status::Stopped;
         }
-        match self.phase {
-            Phase::Signed(_) | Phase::Decided(_) | Phase::Shaped(_) => Status::Complete,
-            Phase::Settled(Verdict::Authentic { .. }) => Status::Complete,
-            Phase::Settled(Verdict::Refused(refusal)) => Status::Refused(refusal),
-            _ => Status::More,
-        }
+        self.phase.status()
     }
 
     /// Whether all bytes of the message are there, and none of them refused it: [`Verifier::verdict`] may be asked.
