@@ -22,7 +22,10 @@ mod using;
 ghost use Rattle.std.specs.Prelude.{◌≡◌, ◌≤◌, false, length};
 ghost use Rattle.cose_msg.specs.Kept.{is_inspecting};
 
-use cose_msg::{Alg, Context, KeySet, Kind, Reason, Refusal, Verdict, Verifier, Wanted};
+use cose_msg::{
+    Alg, Context, KeySet, Kind, Never, Reason, Refusal, SliceIntake, Stop, Store, Verdict,
+    Verifier, Wanted, verify,
+};
 use sha2::{Digest, Sha256};
 use std::alloc::{AllocError, Global};
 use std::test::Fail;
@@ -127,6 +130,19 @@ fn verifier(keys: KeySet, wanted: Wanted) -> Verifier<1024, 4>
         wanted,
         ..context(keys)
     })
+}
+
+/// What `verify` answers for bytes that come in pieces of at most so many. The payload goes into the store.
+fn verified_in_pieces(
+    verifier: &mut Verifier<1024, 4>,
+    bytes: &[u8],
+    cut: usize,
+    store: &mut Store<16>,
+) -> Result<Verdict, Stop>
+    requires { is_inspecting verifier.old ≡ false }
+{
+    let mut intake = SliceIntake::new(bytes, cut.max(1));
+    verify::<128, 1024, 4, _, _, _>(verifier, &mut intake, store, &Never)
 }
 
 /// Several pieces, one after another.
