@@ -22,9 +22,14 @@ mod using;
 ghost use Rattle.std.specs.Prelude.{◌≡◌, ◌≤◌, false, length};
 ghost use Rattle.cose_msg.specs.Kept.{is_inspecting};
 
-use cose_msg::{Alg, Context, KeySet, Kind, Reason, Refusal, Verdict, Verifier, Wanted};
+use crate::run::run;
+use cose_msg::{
+    Alg, Context, KeySet, Kind, Never, Reason, Refusal, SliceIntake, Stop, Store, Verdict,
+    Verifier, Wanted, verify,
+};
 use sha2::{Digest, Sha256};
 use std::alloc::{AllocError, Global};
+use std::process::Abort;
 use std::test::Fail;
 
 /// The key, `Jefe` (RFC 4231 section 4.3).
@@ -127,6 +132,48 @@ fn verifier(keys: KeySet, wanted: Wanted) -> Verifier<1024, 4>
         wanted,
         ..context(keys)
     })
+}
+
+/// What `verify` answers for bytes that come in pieces of at most so many. The payload goes into the store.
+fn verified_in_pieces(
+    verifier: &mut Verifier<1024, 4>,
+    bytes: &[u8],
+    cut: usize,
+    store: &mut Store<16>,
+) -> Result<Verdict, Stop>
+    requires { is_inspecting verifier.old ≡ false }
+{
+    let mut intake = SliceIntake::new(bytes, cut.max(1));
+    verify::<128, 1024, 4, _, _, _>(verifier, &mut intake, store, &Never)
+}
+
+/// What a run with these arguments after the program's name writes for the input, its exit status, and what it leaves of the
+/// input.
+fn ran<'i>(
+    alloc: Global,
+    arguments: &[&str],
+    mut input: &'i [u8],
+) -> Result<(Vec<u8>, u8, &'i [u8]), AllocError> {
+    let mut words = Vec::new(alloc);
+    words.push("cosecmd")?;
+    words.extend_from_slice(arguments)?;
+    let mut output = Vec::new(alloc);
+    let status = run(alloc, words.as_slice(), &mut input, &mut output);
+    Ok((output, status, input))
+}
+
+/// A run with these arguments prints this text for the input, and ends with this status.
+fn prints(
+    rt: &(impl Abort + Alloc<A = Global>),
+    arguments: &[&str],
+    input: &[u8],
+    text: &str,
+    status: u8,
+) -> Result<(), AllocError> {
+    let (output, ended, _left) = ran(rt.alloc(), arguments, input)?;
+    assert_eq!(rt; output.as_slice(), text.as_bytes(), "{arguments:?}: {text}");
+    assert_eq!(rt; ended, status, "{arguments:?}: {text}");
+    Ok(())
 }
 
 /// Several pieces, one after another.

@@ -2,24 +2,31 @@
 
 use crate::samples::FailingReader;
 use crate::{Intake, IntakeFault, ReadIntake};
+use std::process::Abort;
+
+/// The next call takes this piece by the read of this number, and the intake has ended where the piece is empty.
+fn takes(rt: &impl Abort, intake: &mut ReadIntake<FailingReader>, reads: usize, piece: &[u8]) {
+    let count = piece.len();
+    let mut into = [0; 8];
+    assert_eq!(rt; intake.take(&mut into), Ok(count), "in call {reads}");
+    assert_eq!(rt; into.get(..count), Some(piece), "in call {reads}");
+    assert_eq!(rt; intake.reader.reads, reads);
+    assert_eq!(rt; (intake.failed, intake.ended), (false, count == 0));
+}
 
 #[test]
 fn reads_once_in_a_call(rt: HostRuntime) {
     let mut intake = ReadIntake::new(FailingReader::new(b"abcdefgh", 0));
     let rows: [(usize, &[u8]); 6] = [
-        (3, b"abc"),
-        (3, b"def"),
-        (2, b"gh"),
-        (0, b""),
-        (0, b""),
-        (0, b""),
+        (1, b"abc"),
+        (2, b"def"),
+        (3, b"gh"),
+        (4, b""),
+        (5, b""),
+        (6, b""),
     ];
-    for (i, (count, piece)) in rows.into_iter().enumerate() {
-        let mut into = [0; 8];
-        assert_eq!(rt; intake.take(&mut into), Ok(count), "in call {i}");
-        assert_eq!(rt; into.get(..count), Some(piece), "in call {i}");
-        assert_eq!(rt; intake.reader.reads, i.saturating_add(1));
-        assert_eq!(rt; (intake.failed, intake.ended), (false, count == 0));
+    for (reads, piece) in rows {
+        takes(&rt, &mut intake, reads, piece);
     }
 }
 
@@ -35,14 +42,22 @@ fn takes_no_more_than_fit(rt: HostRuntime) {
     assert_eq!(rt; intake.reader.reads, 5);
 }
 
+/// The next call answers so, and then this is known of the intake: whether it has failed, and whether it has ended.
+fn answers(
+    rt: &impl Abort,
+    intake: &mut ReadIntake<FailingReader>,
+    answer: Result<usize, IntakeFault>,
+    state: (bool, bool),
+) {
+    assert_eq!(rt; intake.take(&mut [0; 8]), answer, "then {state:?}");
+    assert_eq!(rt; (intake.failed, intake.ended), state, "after {answer:?}");
+}
+
 #[test]
 fn stays_failed(rt: HostRuntime) {
     let mut intake = ReadIntake::new(FailingReader::new(b"abcdef", 2));
-    let rows: [Result<usize, IntakeFault>; 4] = [Ok(3), Err(IntakeFault), Ok(3), Ok(0)];
-    for (i, answer) in rows.into_iter().enumerate() {
-        let mut into = [0; 8];
-        assert_eq!(rt; intake.take(&mut into), answer, "in call {i}");
-        assert_eq!(rt; intake.failed, i > 0, "in call {i}");
-        assert_eq!(rt; intake.ended, i == 3, "in call {i}");
-    }
+    answers(&rt, &mut intake, Ok(3), (false, false));
+    answers(&rt, &mut intake, Err(IntakeFault), (true, false));
+    answers(&rt, &mut intake, Ok(3), (true, false));
+    answers(&rt, &mut intake, Ok(0), (true, true));
 }

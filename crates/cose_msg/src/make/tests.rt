@@ -45,7 +45,37 @@ const EMPTY: &[u8] = &[
     0x94, 0x79, 0x85, 0x54, 0x7e, 0x48, 0x4c, 0xee, 0x27, 0xe1,
 ];
 
-/// Makes a message in pieces of one byte and of many, and leaves the byte behind the payload.
+/// Makes a message of this payload but for its last byte, which is left, in pieces and chunks of `C` bytes.
+fn makes_in_pieces<const C: usize>(
+    rt: &impl Abort,
+    alg: Alg,
+    kid: Option<&[u8]>,
+    aad: &[u8],
+    payload: &[u8],
+    message: &[u8],
+)
+    requires some { 1 ≤ C }
+    requires limit { C ≤ 65536 }
+{
+    let key = Key::read(JEFE, 0).expect(rt, "a key");
+    let length = payload.len().saturating_sub(1) as u64;
+    let mut intake = SliceIntake::new(payload, C);
+    let mut sink: Store<80> = Store::new();
+    let count = make_mac0::<C, SliceIntake, Store<80>>(
+        alg,
+        &key,
+        kid,
+        aad,
+        &mut intake,
+        length,
+        &mut sink,
+    );
+    assert_eq!(rt; count, Ok(message.len() as u64));
+    assert_eq!(rt; sink.bytes(), message);
+    assert_eq!(rt; intake.take(&mut [7, 7]), Ok(1));
+}
+
+/// The same in pieces of one byte, and of more bytes than there are.
 fn makes(
     rt: &impl Abort,
     alg: Alg,
@@ -54,36 +84,8 @@ fn makes(
     payload: &[u8],
     message: &[u8],
 ) {
-    let key = Key::read(JEFE, 0).expect(rt, "a key");
-    let length = payload.len().saturating_sub(1) as u64;
-    let mut intake = SliceIntake::new(payload, 1);
-    let mut sink: Store<80> = Store::new();
-    let count = make_mac0::<1, SliceIntake, Store<80>>(
-        alg,
-        &key,
-        kid,
-        aad,
-        &mut intake,
-        length,
-        &mut sink,
-    );
-    assert_eq!(rt; count, Ok(message.len() as u64));
-    assert_eq!(rt; sink.bytes(), message);
-    assert_eq!(rt; intake.take(&mut [7, 7]), Ok(1));
-    let mut intake = SliceIntake::new(payload, 64);
-    let mut sink: Store<80> = Store::new();
-    let count = make_mac0::<64, SliceIntake, Store<80>>(
-        alg,
-        &key,
-        kid,
-        aad,
-        &mut intake,
-        length,
-        &mut sink,
-    );
-    assert_eq!(rt; count, Ok(message.len() as u64));
-    assert_eq!(rt; sink.bytes(), message);
-    assert_eq!(rt; intake.take(&mut [7, 7]), Ok(1));
+    makes_in_pieces::<1>(rt, alg, kid, aad, payload, message);
+    makes_in_pieces::<64>(rt, alg, kid, aad, payload, message);
 }
 
 #[test]

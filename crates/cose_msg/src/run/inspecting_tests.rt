@@ -1,21 +1,36 @@
 //! What a verifier tells besides its answer, and messages that are only inspected.
 
+ghost use Rattle.std.specs.Prelude.{◌≡◌, false, true};
+ghost use Rattle.cose_msg.specs.Kept.{is_inspecting};
+
 use crate::samples::{CURVE_KEY, MAC0, SIGN1, context_of, under_jefe};
 use crate::{
-    Inspected, Kind, Label, Never, Nothing, Reason, Refusal, SliceIntake, Verdict, Verifier,
+    Inspected, Kind, Label, Never, Nothing, Reason, Refusal, SliceIntake, Stop, Verdict, Verifier,
     inspect, verify,
 };
+
+/// What `inspect` answers for the bytes of this intake.
+fn inspected(verifier: &mut Verifier<32, 4>, intake: &mut SliceIntake) -> Result<Inspected, Stop>
+    requires { is_inspecting verifier.old ≡ true }
+    ensures { is_inspecting verifier.new ≡ true }
+{
+    inspect::<64, 32, 4, SliceIntake, Nothing>(verifier, intake, &mut Nothing)
+}
+
+/// What `verify` answers for these bytes.
+fn verified(verifier: &mut Verifier<32, 4>, bytes: &[u8]) -> Result<Verdict, Stop>
+    requires { is_inspecting verifier.old ≡ false }
+{
+    let mut intake = SliceIntake::new(bytes, 64);
+    verify::<64, 32, 4, SliceIntake, Nothing, Never>(verifier, &mut intake, &mut Nothing, &Never)
+}
 
 #[test]
 fn inspects_a_shape(rt: HostRuntime) {
     let context = context_of(b"\xa0", 4_096).expect(&rt, "a context");
     let mut verifier: Verifier<32, 4> = Verifier::inspecting(context);
     let mut intake = SliceIntake::new(MAC0, 7);
-    let shape = inspect::<64, 32, 4, SliceIntake, Nothing>(
-        &mut verifier,
-        &mut intake,
-        &mut Nothing,
-    );
+    let shape = inspected(&mut verifier, &mut intake);
     let wanted = Inspected::Shape {
         kind: Kind::Mac0,
         payload: 2,
@@ -27,11 +42,7 @@ fn inspects_a_shape(rt: HostRuntime) {
     assert_eq!(rt; verifier.held(), 256 + 3 + 1);
     assert_eq!(rt; verifier.open_items(), 0);
     assert_eq!(rt; verifier.sign_input().is_none(), true);
-    let again = inspect::<64, 32, 4, SliceIntake, Nothing>(
-        &mut verifier,
-        &mut intake,
-        &mut Nothing,
-    );
+    let again = inspected(&mut verifier, &mut intake);
     assert_eq!(rt; again, Ok(wanted));
     verifier.reset();
     assert_eq!(rt; verifier.held(), 256);
@@ -45,11 +56,7 @@ fn refuses_a_tag_that_is_too_long(rt: HostRuntime) {
         b"\xd1\x84\x43\xa1\x01\x05\xa0\x42\x68\x69\x5a\x00\x01\x00\x00\x00",
         64,
     );
-    let refused = inspect::<64, 32, 4, SliceIntake, Nothing>(
-        &mut verifier,
-        &mut intake,
-        &mut Nothing,
-    );
+    let refused = inspected(&mut verifier, &mut intake);
     let wanted = Inspected::Refused(Refusal {
         reason: Reason::BadAuthLength,
         place: 10,
@@ -63,11 +70,7 @@ fn refuses_to_inspect_a_payload_over_its_limit(rt: HostRuntime) {
     let context = context_of(b"\xa0", 1).expect(&rt, "a context");
     let mut verifier: Verifier<32, 4> = Verifier::inspecting(context);
     let mut intake = SliceIntake::new(MAC0, 7);
-    let refused = inspect::<64, 32, 4, SliceIntake, Nothing>(
-        &mut verifier,
-        &mut intake,
-        &mut Nothing,
-    );
+    let refused = inspected(&mut verifier, &mut intake);
     let wanted = Inspected::Refused(Refusal {
         reason: Reason::PayloadTooLong,
         place: 7,
@@ -81,13 +84,7 @@ fn shows_the_buckets_after_a_refusal(rt: HostRuntime) {
     let mut verifier = under_jefe::<32, 4>().expect(&rt, "a verifier");
     let mut changed = *MAC0;
     changed[43] ^= 1;
-    let mut intake = SliceIntake::new(&changed, 64);
-    let verdict = verify::<64, 32, 4, SliceIntake, Nothing, Never>(
-        &mut verifier,
-        &mut intake,
-        &mut Nothing,
-        &Never,
-    );
+    let verdict = verified(&mut verifier, &changed);
     let refused = Verdict::Refused(Refusal {
         reason: Reason::BadAuth,
         place: 10,
@@ -105,13 +102,7 @@ fn shows_the_buckets_after_a_refusal(rt: HostRuntime) {
 #[test]
 fn shows_no_bucket_that_was_refused(rt: HostRuntime) {
     let mut verifier = under_jefe::<32, 4>().expect(&rt, "a verifier");
-    let mut intake = SliceIntake::new(b"\xd1\x84\x43\xa1\x01\x05\xa1\x40\x00", 64);
-    let verdict = verify::<64, 32, 4, SliceIntake, Nothing, Never>(
-        &mut verifier,
-        &mut intake,
-        &mut Nothing,
-        &Never,
-    );
+    let verdict = verified(&mut verifier, b"\xd1\x84\x43\xa1\x01\x05\xa1\x40\x00");
     let refused = Verdict::Refused(Refusal {
         reason: Reason::BadLabel,
         place: 7,
@@ -124,13 +115,7 @@ fn shows_no_bucket_that_was_refused(rt: HostRuntime) {
 #[test]
 fn counts_open_items(rt: HostRuntime) {
     let mut verifier = under_jefe::<32, 4>().expect(&rt, "a verifier");
-    let mut intake = SliceIntake::new(b"\xd1\x84\x43\xa1\x01\x05\xa1\x0a\x81\x81", 64);
-    let verdict = verify::<64, 32, 4, SliceIntake, Nothing, Never>(
-        &mut verifier,
-        &mut intake,
-        &mut Nothing,
-        &Never,
-    );
+    let verdict = verified(&mut verifier, b"\xd1\x84\x43\xa1\x01\x05\xa1\x0a\x81\x81");
     let truncated = Verdict::Refused(Refusal {
         reason: Reason::Truncated,
         place: 10,
@@ -145,13 +130,7 @@ fn counts_open_items(rt: HostRuntime) {
 fn hands_out_what_a_signature_is_verified_with(rt: HostRuntime) {
     let context = context_of(CURVE_KEY, 4_096).expect(&rt, "a context");
     let mut verifier: Verifier<32, 4> = Verifier::new(context);
-    let mut intake = SliceIntake::new(SIGN1, 64);
-    let verdict = verify::<64, 32, 4, SliceIntake, Nothing, Never>(
-        &mut verifier,
-        &mut intake,
-        &mut Nothing,
-        &Never,
-    );
+    let verdict = verified(&mut verifier, SIGN1);
     let refused = Verdict::Refused(Refusal {
         reason: Reason::BadAuth,
         place: 8,

@@ -1,36 +1,8 @@
 //! What each option of a command changes in what is made, verified and admitted, and the help where the line asks for nothing.
 
-use crate::run::run;
 use crate::tests::cwt::made;
-use crate::tests::{FRONT, KEY, KEYS, PAYLOAD, hmac, joined};
-use std::alloc::{AllocError, Global};
-use std::process::Abort;
+use crate::tests::{FRONT, KEY, KEYS, PAYLOAD, hmac, joined, prints, ran};
 use std::test::Fail;
-
-/// What a run with these arguments after the program's name writes for the input, and its exit status.
-fn ran(alloc: Global, arguments: &[&str], input: &[u8]) -> Result<(Vec<u8>, u8), AllocError> {
-    let mut words = Vec::new(alloc);
-    words.push("cosecmd")?;
-    words.extend_from_slice(arguments)?;
-    let mut input = input;
-    let mut output = Vec::new(alloc);
-    let status = run(alloc, words.as_slice(), &mut input, &mut output);
-    Ok((output, status))
-}
-
-/// A run with these arguments prints this text for the input, and ends with this status.
-fn prints(
-    rt: &(impl Abort + Alloc<A = Global>),
-    arguments: &[&str],
-    input: &[u8],
-    text: &str,
-    status: u8,
-) -> Result<(), AllocError> {
-    let (output, ended) = ran(rt.alloc(), arguments, input)?;
-    assert_eq!(rt; output.as_slice(), text.as_bytes(), "{arguments:?}");
-    assert_eq!(rt; ended, status, "{arguments:?}");
-    Ok(())
-}
 
 #[test]
 fn makes_with_external_data(rt: HostRuntime) -> Result<(), Fail> {
@@ -40,7 +12,7 @@ fn makes_with_external_data(rt: HostRuntime) -> Result<(), Fail> {
     let make = [
         "make", "--alg", "5", "--key", KEYS, "--length", "2", "--aad", "01",
     ];
-    let (made, status) = ran(rt.alloc(), make.as_slice(), b"hi")?;
+    let (made, status, _left) = ran(rt.alloc(), make.as_slice(), b"hi")?;
     assert_eq!(rt; made.as_slice(), message.as_slice());
     assert_eq!(rt; status, 0);
     let authentic = ("authentic mac0 alg 5 payload 2 taken 44\n", 0);
@@ -168,7 +140,7 @@ fn names_its_exit_statuses(rt: HostRuntime) -> Result<(), Fail> {
         ),
     ];
     for (arguments, statuses) in rows {
-        let (output, ended) = ran(rt.alloc(), arguments, b"")?;
+        let (output, ended, _left) = ran(rt.alloc(), arguments, b"")?;
         let text = str::from_utf8(output.as_slice()).or(Err("no text"))?;
         assert!(rt; text.ends_with(statuses), "{text}");
         assert_eq!(rt; ended, 0, "{text}");
@@ -178,10 +150,10 @@ fn names_its_exit_statuses(rt: HostRuntime) -> Result<(), Fail> {
 
 #[test]
 fn helps_where_nothing_is_asked_for(rt: HostRuntime) -> Result<(), Fail> {
-    let (help, helped) = ran(rt.alloc(), &["--help"], b"")?;
+    let (help, helped, _left) = ran(rt.alloc(), &["--help"], b"")?;
     assert_eq!(rt; helped, 0);
     assert!(rt; help.as_slice().starts_with(b"Verifies COSE messages"));
-    let (output, status) = ran(rt.alloc(), &[], b"")?;
+    let (output, status, _left) = ran(rt.alloc(), &[], b"")?;
     assert_eq!(rt; output.as_slice(), help.as_slice());
     assert_eq!(rt; status, 2);
     Ok(())

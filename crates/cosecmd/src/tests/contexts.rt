@@ -1,11 +1,8 @@
 //! What the context of a message changes: the labels that are understood, the CWT tag, the limit of the payload.
 
-use crate::tests::feeding::feed_all;
+use crate::tests::rows::{answers_in_pieces, ends_in_pieces};
 use crate::tests::{KEY, authentic, context, hmac, key_set, refused};
-use cose_msg::{
-    Context, KeySet, Label, Never, Reason, SliceIntake, Status, Store, Verdict, Verifier, Wanted,
-    verify,
-};
+use cose_msg::{Context, KeySet, Label, Reason, Status, Verdict, Verifier, Wanted};
 use std::process::Abort;
 use std::test::Fail;
 
@@ -51,25 +48,9 @@ fn comes_to(rt: &impl Abort, context: Context, bytes: &[u8], verdict: Verdict, t
     assert!(rt; context.aad.len() <= 65_535);
     for cut in [1usize, 2, 7, 64] {
         let mut verifier = Verifier::<1024, 4>::new(context);
-        let mut intake = SliceIntake::new(bytes, cut.max(1));
-        let mut store = Store::<16>::new();
-        let answer = verify::<128, 1024, 4, _, _, _>(
-            &mut verifier,
-            &mut intake,
-            &mut store,
-            &Never,
-        );
-        assert_eq!(rt; answer, Ok(verdict), "{bytes:?} in pieces of {cut}");
-        assert_eq!(rt; verifier.taken(), taken, "{bytes:?} in pieces of {cut}");
+        answers_in_pieces(rt, &mut verifier, bytes, cut, verdict, taken);
         let mut verifier = Verifier::<1024, 4>::new(context);
-        let mut store = Store::<16>::new();
-        feed_all(rt, &mut verifier, bytes, cut, &mut store);
-        assert_eq!(rt;
-            verifier.end(),
-            status_of(verdict),
-            "{bytes:?} in pieces of {cut}"
-        );
-        assert_eq!(rt; verifier.taken(), taken, "{bytes:?} in pieces of {cut}");
+        ends_in_pieces(rt, &mut verifier, bytes, cut, status_of(verdict), taken);
     }
 }
 

@@ -1,8 +1,7 @@
 //! Tokens that the program admits or refuses: the claims of RFC 8392, its example, and confirmations of RFC 8747.
 
-use crate::run::run;
-use crate::tests::{KEYS, MEMBER_Y, X, Y, point};
-use sha2::{Digest, Sha256};
+use crate::tests::digests::{SIGNATURE, digest_and_signature};
+use crate::tests::{KEYS, MEMBER_Y, X, Y, point, prints, ran, signed};
 use std::alloc::{AllocError, Global};
 use std::process::Abort;
 use std::test::Fail;
@@ -35,26 +34,6 @@ const RFC_TAG: &str = "48093101ef6d789200";
 const RFC_KEY: &str = "a4205820403697de87af64611c1d32a05dab0fe1fcb715a86ab435f1ec99192d79569388\
     0104024c53796d6d65747269633235360304";
 
-/// A run with these words behind `cwt` prints this text for the token, and ends with this status.
-fn prints(
-    rt: &(impl Abort + Alloc<A = Global>),
-    options: &[&str],
-    token: &[u8],
-    text: &str,
-    status: u8,
-) -> Result<(), AllocError> {
-    let mut words = Vec::new(rt.alloc());
-    words.push("cosecmd")?;
-    words.push("cwt")?;
-    words.extend_from_slice(options)?;
-    let mut input = token;
-    let mut output = Vec::new(rt.alloc());
-    let ended = run(rt.alloc(), words.as_slice(), &mut input, &mut output);
-    assert_eq!(rt; output.as_slice(), text.as_bytes(), "{options:?}");
-    assert_eq!(rt; ended, status, "{options:?}");
-    Ok(())
-}
-
 /// The bytes that digits spell.
 fn bytes_of(alloc: Global, digits: &str) -> Result<Vec<u8>, Fail> {
     Ok(hex::decode(alloc, digits).or(Err("no hexadecimal"))?)
@@ -64,8 +43,7 @@ fn bytes_of(alloc: Global, digits: &str) -> Result<Vec<u8>, Fail> {
 pub fn made(alloc: Global, claims: &[u8]) -> Result<Vec<u8>, Fail> {
     let count = claims.len();
     let length = format!(in alloc; "{count}")?;
-    let words = [
-        "cosecmd",
+    let make = [
         "make",
         "--alg",
         "5",
@@ -74,15 +52,18 @@ pub fn made(alloc: Global, claims: &[u8]) -> Result<Vec<u8>, Fail> {
         "--length",
         length.as_str(),
     ];
-    let mut input = claims;
-    let mut token = Vec::new(alloc);
-    let _ = run(alloc, words.as_slice(), &mut input, &mut token);
+    let (token, _status, _left) = ran(alloc, make.as_slice(), claims)?;
     Ok(token)
+}
+
+/// The token of claims that are given in hexadecimal.
+fn token_of(alloc: Global, claims: &str) -> Result<Vec<u8>, Fail> {
+    made(alloc, bytes_of(alloc, claims)?.as_slice())
 }
 
 /// The token of the claims of RFC 8392.
 pub fn example(alloc: Global) -> Result<Vec<u8>, Fail> {
-    made(alloc, bytes_of(alloc, CLAIMS)?.as_slice())
+    token_of(alloc, CLAIMS)
 }
 
 /// The token behind the CWT tag (RFC 8392 section 6).
@@ -90,6 +71,32 @@ fn with_cwt_tag(alloc: Global, token: &[u8]) -> Result<Vec<u8>, Fail> {
     let mut tagged = bytes_of(alloc, "d83d")?;
     tagged.extend_from_slice(token)?;
     Ok(tagged)
+}
+
+/// A run with these arguments refuses the token so.
+fn refuses(
+    rt: &(impl Abort + Alloc<A = Global>),
+    arguments: &[&str],
+    token: &[u8],
+    refusal: &str,
+) -> Result<(), AllocError> {
+    let alloc = rt.alloc();
+    let text = format!(in alloc; "refused {refusal}\n")?;
+    prints(rt, arguments, token, text.as_str(), 1)
+}
+
+/// A run with these arguments admits the token of these claims, and prints these lines of them.
+fn admits(
+    rt: &(impl Abort + Alloc<A = Global>),
+    arguments: &[&str],
+    claims: &str,
+    lines: &str,
+) -> Result<(), Fail> {
+    let alloc = rt.alloc();
+    let token = token_of(alloc, claims)?;
+    let text = format!(in alloc; "admitted\n{lines}")?;
+    prints(rt, arguments, token.as_slice(), text.as_str(), 0)?;
+    Ok(())
 }
 
 #[test]
@@ -111,12 +118,12 @@ fn admits_within_the_dates(rt: HostRuntime) -> Result<(), Fail> {
         ("1443944942", "1", not_yet),
     ];
     for (now, leeway, (text, status)) in rows {
-        let options = ["--keys", KEYS, "--now", now, "--leeway", leeway];
-        prints(&rt, options.as_slice(), token.as_slice(), text, status)?;
-        prints(&rt, options.as_slice(), tagged.as_slice(), text, status)?;
+        let cwt = ["cwt", "--keys", KEYS, "--now", now, "--leeway", leeway];
+        prints(&rt, cwt.as_slice(), token.as_slice(), text, status)?;
+        prints(&rt, cwt.as_slice(), tagged.as_slice(), text, status)?;
     }
-    let options = ["--keys", KEYS, "--now", LAST];
-    prints(&rt, options.as_slice(), token.as_slice(), LINES, 0)?;
+    let cwt = ["cwt", "--keys", KEYS, "--now", LAST];
+    prints(&rt, cwt.as_slice(), token.as_slice(), LINES, 0)?;
     Ok(())
 }
 
@@ -131,8 +138,8 @@ fn admits_the_example_of_the_standard(rt: HostRuntime) -> Result<(), Fail> {
         ("1443944943", "refused claims NotYet at 65\n", 1),
     ];
     for (now, text, status) in rows {
-        let options = ["--keys", RFC_KEY, "--now", now];
-        prints(&rt, options.as_slice(), token.as_slice(), text, status)?;
+        let cwt = ["cwt", "--keys", RFC_KEY, "--now", now];
+        prints(&rt, cwt.as_slice(), token.as_slice(), text, status)?;
     }
     Ok(())
 }
@@ -151,9 +158,9 @@ fn admits_its_audience(rt: HostRuntime) -> Result<(), Fail> {
         ("a0", "c", ("admitted\n", 0)),
     ];
     for (claims, aud, (text, status)) in rows {
-        let token = made(rt.alloc(), bytes_of(rt.alloc(), claims)?.as_slice())?;
-        let options = ["--keys", KEYS, "--now", LAST, "--aud", aud];
-        prints(&rt, options.as_slice(), token.as_slice(), text, status)?;
+        let token = token_of(rt.alloc(), claims)?;
+        let cwt = ["cwt", "--keys", KEYS, "--now", LAST, "--aud", aud];
+        prints(&rt, cwt.as_slice(), token.as_slice(), text, status)?;
     }
     Ok(())
 }
@@ -161,26 +168,24 @@ fn admits_its_audience(rt: HostRuntime) -> Result<(), Fail> {
 #[test]
 fn refuses_claims(rt: HostRuntime) -> Result<(), Fail> {
     let rows: [(&str, &str); 13] = [
-        ("", "PastRoom at 0"),
-        ("a000", "Trailing at 1"),
-        ("00", "NotMap at 0"),
-        ("d83d00", "NestedCwt at 0"),
-        ("a10380", "BadValue at 2"),
-        ("a104f93c00", "FloatDate at 2"),
-        ("a104c11a5612aeb0", "TaggedDate at 2"),
-        ("a1043bffffffffffffffff", "Expired at 2"),
-        ("a108a201a00280", "BadConfirmation at 2"),
-        ("a108a101a10101", "BadConfirmation at 4"),
-        ("a108a101a20104204161", "PlainKey at 4"),
-        ("a108a10280", "EncryptedKey at 3"),
-        ("a108a10300", "BadValue at 4"),
+        ("", "claims PastRoom at 0"),
+        ("a000", "claims Trailing at 1"),
+        ("00", "claims NotMap at 0"),
+        ("d83d00", "claims NestedCwt at 0"),
+        ("a10380", "claims BadValue at 2"),
+        ("a104f93c00", "claims FloatDate at 2"),
+        ("a104c11a5612aeb0", "claims TaggedDate at 2"),
+        ("a1043bffffffffffffffff", "claims Expired at 2"),
+        ("a108a201a00280", "claims BadConfirmation at 2"),
+        ("a108a101a10101", "claims BadConfirmation at 4"),
+        ("a108a101a20104204161", "claims PlainKey at 4"),
+        ("a108a10280", "claims EncryptedKey at 3"),
+        ("a108a10300", "claims BadValue at 4"),
     ];
-    let alloc = rt.alloc();
+    let cwt = ["cwt", "--keys", KEYS, "--now", "9223372036854775807"];
     for (claims, refusal) in rows {
-        let token = made(alloc, bytes_of(alloc, claims)?.as_slice())?;
-        let text = format!(in alloc; "refused claims {refusal}\n")?;
-        let options = ["--keys", KEYS, "--now", "9223372036854775807"];
-        prints(&rt, options.as_slice(), token.as_slice(), text.as_str(), 1)?;
+        let token = token_of(rt.alloc(), claims)?;
+        refuses(&rt, cwt.as_slice(), token.as_slice(), refusal)?;
     }
     Ok(())
 }
@@ -203,41 +208,47 @@ fn prints_what_claims_say(rt: HostRuntime) -> Result<(), Fail> {
         ("a108a1034131", "cnf kid 31\n"),
         ("a207410108a1034131", "cti 01\ncnf kid 31\n"),
     ];
-    let alloc = rt.alloc();
+    let cwt = [
+        "cwt",
+        "--keys",
+        KEYS,
+        "--now",
+        "9223372036854775807",
+        "--leeway",
+        "4294967295",
+    ];
     for (claims, lines) in rows {
-        let token = made(alloc, bytes_of(alloc, claims)?.as_slice())?;
-        let text = format!(in alloc; "admitted\n{lines}")?;
-        let options = [
-            "--keys",
-            KEYS,
-            "--now",
-            "9223372036854775807",
-            "--leeway",
-            "4294967295",
-        ];
-        prints(&rt, options.as_slice(), token.as_slice(), text.as_str(), 0)?;
+        admits(&rt, cwt.as_slice(), claims, lines)?;
     }
     Ok(())
 }
 
+/// Of the token that confirms the key with this member y, after these bytes, this y is printed, and then this line.
+fn prints_the_key(
+    rt: &(impl Abort + Alloc<A = Global>),
+    front: &str,
+    member: &str,
+    y: &str,
+    kid: &str,
+) -> Result<(), Fail> {
+    let alloc = rt.alloc();
+    let key = point(alloc, member)?;
+    let claims = format!(in alloc; "{front}{key}")?;
+    let lines = format!(in alloc; "cnf key 1 {X} {y}\n{kid}")?;
+    let cwt = ["cwt", "--keys", KEYS, "--now", "0"];
+    admits(rt, cwt.as_slice(), claims.as_str(), lines.as_str())
+}
+
 #[test]
 fn prints_a_confirmed_key(rt: HostRuntime) -> Result<(), Fail> {
-    let alloc = rt.alloc();
-    let whole = point(alloc, MEMBER_Y)?;
-    let odd = point(alloc, "f5")?;
-    let even = point(alloc, "f4")?;
     let rows: [(&str, &str, &str, &str); 4] = [
-        ("a108a101", &whole, Y, ""),
-        ("a108a101", &odd, "true", ""),
-        ("a108a101", &even, "false", ""),
-        ("a108a203413101", &whole, Y, "cnf kid 31\n"),
+        ("a108a101", MEMBER_Y, Y, ""),
+        ("a108a101", "f5", "true", ""),
+        ("a108a101", "f4", "false", ""),
+        ("a108a203413101", MEMBER_Y, Y, "cnf kid 31\n"),
     ];
-    for (front, key, y, kid) in rows {
-        let claims = bytes_of(alloc, format!(in alloc; "{front}{key}")?.as_str())?;
-        let token = made(alloc, claims.as_slice())?;
-        let text = format!(in alloc; "admitted\ncnf key 1 {X} {y}\n{kid}")?;
-        let options = ["--keys", KEYS, "--now", "0"];
-        prints(&rt, options.as_slice(), token.as_slice(), text.as_str(), 0)?;
+    for (front, member, y, kid) in rows {
+        prints_the_key(&rt, front, member, y, kid)?;
     }
     Ok(())
 }
@@ -256,7 +267,7 @@ fn issued(alloc: Global, letters: u16) -> Result<Vec<u8>, AllocError> {
 #[test]
 fn limits_the_payload(rt: HostRuntime) -> Result<(), Fail> {
     let alloc = rt.alloc();
-    let options = ["--keys", KEYS, "--now", "0"];
+    let cwt = ["cwt", "--keys", KEYS, "--now", "0"];
     // 4,096 bytes, and then 4,097.
     let longest = made(alloc, issued(alloc, 4_091)?.as_slice())?;
     let mut text = format!(in alloc; "admitted\niss ")?;
@@ -264,21 +275,10 @@ fn limits_the_payload(rt: HostRuntime) -> Result<(), Fail> {
         text.push_str("61")?;
     }
     text.push_str("\n")?;
-    prints(
-        &rt,
-        options.as_slice(),
-        longest.as_slice(),
-        text.as_str(),
-        0,
-    )?;
+    prints(&rt, cwt.as_slice(), longest.as_slice(), text.as_str(), 0)?;
     let longer = made(alloc, issued(alloc, 4_092)?.as_slice())?;
-    prints(
-        &rt,
-        options.as_slice(),
-        longer.as_slice(),
-        "refused message PayloadTooLong at 7\n",
-        1,
-    )?;
+    let refusal = "message PayloadTooLong at 7";
+    refuses(&rt, cwt.as_slice(), longer.as_slice(), refusal)?;
     Ok(())
 }
 
@@ -309,13 +309,11 @@ fn refuses_messages(rt: HostRuntime) -> Result<(), Fail> {
             "claims WrongAudience at 32",
         ),
     ];
-    let alloc = rt.alloc();
     for (words, token, refusal) in rows {
-        let mut options = Vec::new(alloc);
-        options.extend_from_slice(&["--keys", KEYS, "--now"])?;
-        options.extend_from_slice(words)?;
-        let text = format!(in alloc; "refused {refusal}\n")?;
-        prints(&rt, options.as_slice(), token, text.as_str(), 1)?;
+        let mut cwt = Vec::new(rt.alloc());
+        cwt.extend_from_slice(&["cwt", "--keys", KEYS, "--now"])?;
+        cwt.extend_from_slice(words)?;
+        refuses(&rt, cwt.as_slice(), token, refusal)?;
     }
     Ok(())
 }
@@ -324,34 +322,38 @@ fn refuses_messages(rt: HostRuntime) -> Result<(), Fail> {
 fn refuses_tokens_behind_the_cwt_tag(rt: HostRuntime) -> Result<(), Fail> {
     let token = example(rt.alloc())?;
     let mut tagged = with_cwt_tag(rt.alloc(), token.as_slice())?;
-    let options = ["--keys", KEYS, "--now", LAST, "--aud", "other"];
-    let refused = "refused claims WrongAudience at 32\n";
-    prints(&rt, options.as_slice(), tagged.as_slice(), refused, 1)?;
+    let cwt = ["cwt", "--keys", KEYS, "--now", LAST, "--aud", "other"];
+    let refusal = "claims WrongAudience at 32";
+    refuses(&rt, cwt.as_slice(), tagged.as_slice(), refusal)?;
     tagged.push(0xff)?;
-    let options = ["--keys", KEYS, "--now", LAST];
-    let refused = "refused message Trailing at 125\n";
-    prints(&rt, options.as_slice(), tagged.as_slice(), refused, 1)?;
+    let cwt = ["cwt", "--keys", KEYS, "--now", LAST];
+    let refusal = "message Trailing at 125";
+    refuses(&rt, cwt.as_slice(), tagged.as_slice(), refusal)?;
     Ok(())
+}
+
+/// A COSE_Sign1 whose payload is the empty map, up to the signature.
+const SIGNED_TOKEN: &str = "d28443a10126a041a05840";
+
+/// The Sig_structure of it (RFC 9052 section 4.4).
+const TOKEN_STRUCTURE: &str = "846a5369676e61747572653143a101264041a0";
+
+/// The word that vouches for its signature under the key whose y is odd.
+fn vouching(alloc: Global) -> Result<String, Fail> {
+    let asked = digest_and_signature(alloc, TOKEN_STRUCTURE)?;
+    Ok(format!(in alloc; "01{asked}{X}01")?)
 }
 
 #[test]
 fn vouches_for_a_signed_token(rt: HostRuntime) -> Result<(), Fail> {
-    let alloc = rt.alloc();
-    // The payload a0 (RFC 9052 section 4.4).
-    let structure = bytes_of(alloc, "846a5369676e61747572653143a101264041a0")?;
-    let digest = hex::encode(alloc, Sha256::digest(structure.as_slice()).as_slice())?;
-    let signature = hex::encode(alloc, [0x5a; 64].as_slice())?;
-    let token = bytes_of(
-        alloc,
-        format!(in alloc; "d28443a10126a041a05840{signature}")?.as_str(),
-    )?;
-    let keys = point(alloc, "f5")?;
-    let word = format!(in alloc; "01{digest}{signature}{X}01")?;
-    let options = ["--keys", keys.as_str(), "--now", "0", "--vouch", &word];
-    prints(&rt, options.as_slice(), token.as_slice(), "admitted\n", 0)?;
-    let options = ["--keys", keys.as_str(), "--now", "0"];
-    let refused = "refused message BadAuth at 9\n";
-    prints(&rt, options.as_slice(), token.as_slice(), refused, 1)?;
+    let token = signed(rt.alloc(), SIGNED_TOKEN, SIGNATURE)?;
+    let keys = point(rt.alloc(), "f5")?;
+    let word = vouching(rt.alloc())?;
+    let cwt = ["cwt", "--keys", &keys, "--now", "0", "--vouch", &word];
+    prints(&rt, cwt.as_slice(), token.as_slice(), "admitted\n", 0)?;
+    let cwt = ["cwt", "--keys", &keys, "--now", "0"];
+    let refusal = "message BadAuth at 9";
+    refuses(&rt, cwt.as_slice(), token.as_slice(), refusal)?;
     Ok(())
 }
 
@@ -376,10 +378,10 @@ fn takes_keys_for_tokens(rt: HostRuntime) -> Result<(), Fail> {
         (&["--keys", "A2010420444A656665"], LINES, 0),
     ];
     for (words, text, status) in rows {
-        let mut options = Vec::new(rt.alloc());
-        options.extend_from_slice(&["--now", LAST])?;
-        options.extend_from_slice(words)?;
-        prints(&rt, options.as_slice(), token.as_slice(), text, status)?;
+        let mut cwt = Vec::new(rt.alloc());
+        cwt.extend_from_slice(&["cwt", "--now", LAST])?;
+        cwt.extend_from_slice(words)?;
+        prints(&rt, cwt.as_slice(), token.as_slice(), text, status)?;
     }
     Ok(())
 }
@@ -387,41 +389,46 @@ fn takes_keys_for_tokens(rt: HostRuntime) -> Result<(), Fail> {
 #[test]
 fn refuses_lines_without_a_moment(rt: HostRuntime) -> Result<(), Fail> {
     let rows: [(&[&str], &str); 9] = [
-        (&["--keys", KEYS], "--now <N>"),
-        (&["--now", "0"], "--keys <HEX>"),
+        (&["cwt", "--keys", KEYS], "--now <N>"),
+        (&["cwt", "--now", "0"], "--keys <HEX>"),
         (
-            &["--keys", KEYS, "--now", "9223372036854775808"],
+            &["cwt", "--keys", KEYS, "--now", "9223372036854775808"],
             "invalid value for '--now <N>'\n",
         ),
         (
-            &["--keys", KEYS, "--now=-1"],
+            &["cwt", "--keys", KEYS, "--now=-1"],
             "invalid value for '--now <N>'\n",
         ),
         (
-            &["--keys", KEYS, "--now", "1.5"],
+            &["cwt", "--keys", KEYS, "--now", "1.5"],
             "invalid value for '--now <N>'\n",
         ),
-        (&["--keys", KEYS, "--now", ""], "--now <N>"),
+        (&["cwt", "--keys", KEYS, "--now", ""], "--now <N>"),
         (
-            &["--keys", KEYS, "--now", "0", "--leeway", "4294967296"],
+            &[
+                "cwt",
+                "--keys",
+                KEYS,
+                "--now",
+                "0",
+                "--leeway",
+                "4294967296",
+            ],
             "invalid value for '--leeway <N>'\n",
         ),
         (
-            &["--keys", KEYS, "--now", "0", "--leeway=-1"],
+            &["cwt", "--keys", KEYS, "--now", "0", "--leeway=-1"],
             "invalid value for '--leeway <N>'\n",
         ),
         (
-            &["--keys", KEYS, "--now", "0", "--aud", "a", "--aud", "b"],
+            &[
+                "cwt", "--keys", KEYS, "--now", "0", "--aud", "a", "--aud", "b",
+            ],
             "--aud <TEXT>",
         ),
     ];
-    let alloc = rt.alloc();
-    for (options, part) in rows {
-        let mut words = Vec::new(alloc);
-        words.extend_from_slice(&["cosecmd", "cwt"])?;
-        words.extend_from_slice(options)?;
-        let mut output = Vec::new(alloc);
-        let ended = run(alloc, words.as_slice(), &mut b"".as_slice(), &mut output);
+    for (arguments, part) in rows {
+        let (output, ended, _left) = ran(rt.alloc(), arguments, b"")?;
         let text = str::from_utf8(output.as_slice()).or(Err("no text"))?;
         assert!(rt;
             text.starts_with("error: ") && text.contains(part),

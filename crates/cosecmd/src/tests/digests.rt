@@ -1,9 +1,8 @@
 //! What the program tells that a signature is verified with.
 
-use crate::run::run;
-use crate::tests::{KEYS, MEMBER_Y, SIGNED, SIGNED_STRUCTURE, X, Y, point, signed};
+use crate::tests::{KEYS, MEMBER_Y, SIGNED, SIGNED_STRUCTURE, X, Y, point, prints, signed};
 use sha2::{Digest, Sha256};
-use std::alloc::{AllocError, Global};
+use std::alloc::Global;
 use std::process::Abort;
 use std::test::Fail;
 
@@ -15,30 +14,11 @@ const IN_CWT: &str = "d83dd28443a10126a0405840";
 /// The Sig_structure of the same message with the external data `01` (RFC 9052 section 4.4).
 const SIGNED_STRUCTURE_WITH_DATA: &str = "846a5369676e61747572653143a10126410140";
 
-/// A run with these words behind the program's name prints this text for the message, and ends with this status.
-fn prints(
-    rt: &(impl Abort + Alloc<A = Global>),
-    words: &[&str],
-    message: &[u8],
-    text: &str,
-    status: u8,
-) -> Result<(), AllocError> {
-    let mut line = Vec::new(rt.alloc());
-    line.push("cosecmd")?;
-    line.extend_from_slice(words)?;
-    let mut input = message;
-    let mut output = Vec::new(rt.alloc());
-    let ended = run(rt.alloc(), line.as_slice(), &mut input, &mut output);
-    assert_eq!(rt; output.as_slice(), text.as_bytes(), "{text}");
-    assert_eq!(rt; ended, status, "{text}");
-    Ok(())
-}
-
 /// The signature.
-const SIGNATURE: &[u8] = &[0x5a; 64];
+pub const SIGNATURE: &[u8] = &[0x5a; 64];
 
 /// The digest of a structure, and then the signature, in hexadecimal.
-fn digest_and_signature(alloc: Global, structure: &str) -> Result<String, Fail> {
+pub fn digest_and_signature(alloc: Global, structure: &str) -> Result<String, Fail> {
     let structure = hex::decode(alloc, structure).or(Err("no hexadecimal"))?;
     let mut bytes = Vec::new(alloc);
     bytes.extend_from_slice(&Sha256::digest(structure.as_slice()))?;
@@ -139,22 +119,18 @@ fn tells_nothing_of_what_is_refused(rt: HostRuntime) -> Result<(), Fail> {
     let mut longer = signed(alloc, SIGNED, SIGNATURE)?;
     longer.push(0)?;
     let mac0 = hex::decode(alloc, "d18443a10105a0").or(Err("no hexadecimal"))?;
-    let rows: [(&str, &[u8], &str); 6] = [
-        (&keys, longer.as_slice(), "refused Trailing at 74\n"),
-        (
-            &keys,
-            whole.as_slice().get(..73).unwrap_or(&[]),
-            "refused Truncated at 73\n",
-        ),
-        (&keys, b"", "refused Truncated at 0\n"),
+    let cut = whole.as_slice().get(..73).unwrap_or(&[]);
+    let rows: [(&str, &[u8], &str, u8); 6] = [
+        (&keys, longer.as_slice(), "refused Trailing at 74\n", 1),
+        (&keys, cut, "refused Truncated at 73\n", 1),
+        (&keys, b"", "refused Truncated at 0\n", 1),
         // A COSE_Mac0 has no signature.
-        (&keys, mac0.as_slice(), "refused WrongTag at 0\n"),
+        (&keys, mac0.as_slice(), "refused WrongTag at 0\n", 1),
         // No key of the set is one for signatures.
-        (KEYS, whole.as_slice(), "refused NoKey at 7\n"),
-        ("80", whole.as_slice(), "fault keys BadKeySet at 0\n"),
+        (KEYS, whole.as_slice(), "refused NoKey at 7\n", 1),
+        ("80", whole.as_slice(), "fault keys BadKeySet at 0\n", 2),
     ];
-    for (keys, message, text) in rows {
-        let status = if text.starts_with("fault") { 2 } else { 1 };
+    for (keys, message, text, status) in rows {
         let words = ["digest", "--keys", keys];
         prints(&rt, words.as_slice(), message, text, status)?;
     }

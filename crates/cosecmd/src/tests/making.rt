@@ -1,7 +1,7 @@
 //! Messages that the program makes: their bytes, what the words and the input have wrong, and what `verify` says of them.
 
-use crate::run::run;
-use crate::tests::{KEYS, message};
+use crate::tests::runs::verifies;
+use crate::tests::{KEYS, message, ran};
 use std::alloc::{AllocError, Global};
 use std::process::Abort;
 use std::test::Fail;
@@ -9,47 +9,32 @@ use std::test::Fail;
 /// 255 bytes of an identifier, in hexadecimal.
 const LONGEST: usize = 510;
 
-/// What a run with these words behind `make` writes for the input, and how it ends. What it leaves of the input is answered too.
-fn makes<'i>(
-    alloc: Global,
-    options: &[&str],
-    mut input: &'i [u8],
-) -> Result<(Vec<u8>, u8, &'i [u8]), AllocError> {
-    let mut words = Vec::new(alloc);
-    words.push("cosecmd")?;
-    words.push("make")?;
-    words.extend_from_slice(options)?;
-    let mut output = Vec::new(alloc);
-    let status = run(alloc, words.as_slice(), &mut input, &mut output);
-    Ok((output, status, input))
-}
-
-/// A run with these options writes this and ends with 2.
+/// A run with these arguments writes this and ends with 2.
 fn faults(
     rt: &(impl Abort + Alloc<A = Global>),
-    options: &[&str],
+    arguments: &[&str],
     text: &str,
 ) -> Result<(), AllocError> {
-    let (output, status, left) = makes(rt.alloc(), options, b"hi")?;
-    assert_eq!(rt; output.as_slice(), text.as_bytes(), "{options:?}");
+    let (output, status, left) = ran(rt.alloc(), arguments, b"hi")?;
+    assert_eq!(rt; output.as_slice(), text.as_bytes(), "{arguments:?}");
     // Nothing was read.
-    assert_eq!(rt; (status, left.len()), (2, 2), "{options:?}");
+    assert_eq!(rt; (status, left.len()), (2, 2), "{arguments:?}");
     Ok(())
 }
 
 #[test]
 fn makes_the_message(rt: HostRuntime) -> Result<(), Fail> {
-    let options = ["--alg", "5", "--key", KEYS, "--length", "2"];
+    let make = ["make", "--alg", "5", "--key", KEYS, "--length", "2"];
     let whole = message(rt.alloc())?;
-    let (output, status, left) = makes(rt.alloc(), options.as_slice(), b"hi")?;
+    let (output, status, left) = ran(rt.alloc(), make.as_slice(), b"hi")?;
     assert_eq!(rt; output.as_slice(), whole.as_slice());
     assert_eq!(rt; (status, left.len()), (0, 0));
     // What stands behind the payload stays.
-    let (output, status, left) = makes(rt.alloc(), options.as_slice(), b"hi there")?;
+    let (output, status, left) = ran(rt.alloc(), make.as_slice(), b"hi there")?;
     assert_eq!(rt; output.as_slice(), whole.as_slice());
     assert_eq!(rt; (status, left), (0, b" there".as_slice()));
     // The input is a byte short.
-    let (output, status, left) = makes(rt.alloc(), options.as_slice(), b"h")?;
+    let (output, status, left) = ran(rt.alloc(), make.as_slice(), b"h")?;
     assert_eq!(rt; output.as_slice(), whole.get(..9).unwrap_or(&[]));
     assert_eq!(rt; (status, left.len()), (2, 0));
     Ok(())
@@ -59,21 +44,33 @@ fn makes_the_message(rt: HostRuntime) -> Result<(), Fail> {
 fn makes_as_many_bytes_as_are_wanted(rt: HostRuntime) -> Result<(), Fail> {
     let rows: [(&[&str], &[u8], usize); 4] = [
         (
-            &["--alg", "5", "--key", KEYS, "--length", "2", "--kid", "31"],
+            &[
+                "make", "--alg", "5", "--key", KEYS, "--length", "2", "--kid", "31",
+            ],
             b"hi",
             47,
         ),
-        (&["--alg", "7", "--key", KEYS, "--length", "0"], b"", 74),
-        (&["--alg", "4", "--key", KEYS, "--length", "2"], b"hi", 19),
         (
-            &["--alg", "5", "--key", KEYS, "--length", "2", "--kid", ""],
+            &["make", "--alg", "7", "--key", KEYS, "--length", "0"],
+            b"",
+            74,
+        ),
+        (
+            &["make", "--alg", "4", "--key", KEYS, "--length", "2"],
+            b"hi",
+            19,
+        ),
+        (
+            &[
+                "make", "--alg", "5", "--key", KEYS, "--length", "2", "--kid", "",
+            ],
             b"hi",
             46,
         ),
     ];
-    for (options, input, count) in rows {
-        let (output, status, _left) = makes(rt.alloc(), options, input)?;
-        assert_eq!(rt; (output.len(), status), (count, 0), "{options:?}");
+    for (make, input, count) in rows {
+        let (output, status, _left) = ran(rt.alloc(), make, input)?;
+        assert_eq!(rt; (output.len(), status), (count, 0), "{make:?}");
     }
     Ok(())
 }
@@ -89,8 +86,8 @@ fn says_which_argument_is_at_fault(rt: HostRuntime) -> Result<(), Fail> {
         ("5", "a2010420444a65666500", "fault key Trailing at 9\n"),
     ];
     for (alg, key, text) in rows {
-        let options = ["--alg", alg, "--key", key, "--length", "2"];
-        faults(&rt, options.as_slice(), text)?;
+        let make = ["make", "--alg", alg, "--key", key, "--length", "2"];
+        faults(&rt, make.as_slice(), text)?;
     }
     Ok(())
 }
@@ -102,8 +99,10 @@ fn identified(alloc: Global, key: &str, digits: usize) -> Result<(Vec<u8>, u8), 
         word.push(b'6')?;
     }
     let kid = str::from_utf8(word.as_slice()).or(Err("no text"))?;
-    let options = ["--alg", "5", "--key", key, "--length", "2", "--kid", kid];
-    let (output, status, _left) = makes(alloc, options.as_slice(), b"hi")?;
+    let make = [
+        "make", "--alg", "5", "--key", key, "--length", "2", "--kid", kid,
+    ];
+    let (output, status, _left) = ran(alloc, make.as_slice(), b"hi")?;
     Ok((output, status))
 }
 
@@ -131,10 +130,10 @@ fn reads_the_words_of_make_in_order(rt: HostRuntime) -> Result<(), Fail> {
         ("80", "31", "", "fault key NotMap at 0\n"),
     ];
     for (key, kid, aad, text) in rows {
-        let options = [
-            "--aad", aad, "--kid", kid, "--length", "2", "--key", key, "--alg", "5",
+        let make = [
+            "make", "--aad", aad, "--kid", kid, "--length", "2", "--key", key, "--alg", "5",
         ];
-        faults(&rt, options.as_slice(), text)?;
+        faults(&rt, make.as_slice(), text)?;
     }
     Ok(())
 }
@@ -142,25 +141,41 @@ fn reads_the_words_of_make_in_order(rt: HostRuntime) -> Result<(), Fail> {
 #[test]
 fn refuses_lines_without_a_message(rt: HostRuntime) -> Result<(), Fail> {
     let rows: [&[&str]; 8] = [
-        &["--key", KEYS, "--length", "2"],
-        &["--alg", "5", "--length", "2"],
-        &["--alg", "5", "--key", KEYS],
-        &["--alg", "3", "--key", KEYS, "--length", "2"],
-        &["--alg", "8", "--key", KEYS, "--length", "2"],
-        &["--alg", "5", "--key", KEYS, "--length", "72057594037927936"],
-        &["--alg", "5", "--key", KEYS, "--length", "2a"],
+        &["make", "--key", KEYS, "--length", "2"],
+        &["make", "--alg", "5", "--length", "2"],
+        &["make", "--alg", "5", "--key", KEYS],
+        &["make", "--alg", "3", "--key", KEYS, "--length", "2"],
+        &["make", "--alg", "8", "--key", KEYS, "--length", "2"],
         &[
-            "--alg", "5", "--key", KEYS, "--length", "2", "--vouch", "00",
+            "make",
+            "--alg",
+            "5",
+            "--key",
+            KEYS,
+            "--length",
+            "72057594037927936",
+        ],
+        &["make", "--alg", "5", "--key", KEYS, "--length", "2a"],
+        &[
+            "make", "--alg", "5", "--key", KEYS, "--length", "2", "--vouch", "00",
         ],
     ];
-    for options in rows {
-        let (output, status, left) = makes(rt.alloc(), options, b"hi")?;
-        assert_eq!(rt; (status, left.len()), (2, 2), "{options:?}");
-        assert!(rt; output.as_slice().starts_with(b"error: "), "{options:?}");
+    for make in rows {
+        let (output, status, left) = ran(rt.alloc(), make, b"hi")?;
+        assert_eq!(rt; (status, left.len()), (2, 2), "{make:?}");
+        assert!(rt; output.as_slice().starts_with(b"error: "), "{make:?}");
     }
     // The greatest length is one that the program takes: it begins the message, and the input ends.
-    let options = ["--alg", "5", "--key", KEYS, "--length", "72057594037927935"];
-    let (output, status, _left) = makes(rt.alloc(), options.as_slice(), b"")?;
+    let make = [
+        "make",
+        "--alg",
+        "5",
+        "--key",
+        KEYS,
+        "--length",
+        "72057594037927935",
+    ];
+    let (output, status, _left) = ran(rt.alloc(), make.as_slice(), b"")?;
     assert_eq!(rt;
         (output.as_slice(), status),
         (
@@ -171,36 +186,48 @@ fn refuses_lines_without_a_message(rt: HostRuntime) -> Result<(), Fail> {
     Ok(())
 }
 
-/// The message that is made by this algorithm is authentic, and has so many bytes besides the payload.
+/// The message that is made of this payload by this algorithm, with this key identifier.
+fn made(
+    rt: &(impl Abort + Alloc<A = Global>),
+    alg: &str,
+    kid: Option<&str>,
+    payload: &[u8],
+) -> Result<Vec<u8>, AllocError> {
+    let alloc = rt.alloc();
+    let count = payload.len();
+    let length = format!(in alloc; "{count}")?;
+    let mut make = Vec::new(alloc);
+    make.extend_from_slice(&[
+        "make",
+        "--alg",
+        alg,
+        "--key",
+        KEYS,
+        "--length",
+        length.as_str(),
+    ])?;
+    if let Some(kid) = kid {
+        make.extend_from_slice(&["--kid", kid])?;
+    }
+    let (made, status, _left) = ran(alloc, make.as_slice(), payload)?;
+    assert_eq!(rt; status, 0, "alg {alg}, {count} bytes");
+    Ok(made)
+}
+
+/// The message that is made so is authentic, and has so many bytes besides the payload.
 fn goes_round(
     rt: &(impl Abort + Alloc<A = Global>),
     alg: &str,
     kid: Option<&str>,
     payload: &[u8],
     others: usize,
-) -> Result<(), Fail> {
+) -> Result<(), AllocError> {
     let alloc = rt.alloc();
+    let made = made(rt, alg, kid, payload)?;
     let count = payload.len();
-    let length = format!(in alloc; "{count}")?;
-    let mut options = Vec::new(alloc);
-    options.extend_from_slice(&["--alg", alg, "--key", KEYS, "--length", length.as_str()])?;
-    if let Some(kid) = kid {
-        options.extend_from_slice(&["--kid", kid])?;
-    }
-    let (made, status, _left) = makes(alloc, options.as_slice(), payload)?;
-    assert_eq!(rt; status, 0, "alg {alg}, {count} bytes");
     let taken = count.saturating_add(others);
-    let words = ["cosecmd", "verify", "--keys", KEYS];
-    let mut verdict = Vec::new(alloc);
-    let status = run(alloc, words.as_slice(), &mut made.as_slice(), &mut verdict);
     let line = format!(in alloc; "authentic mac0 alg {alg} payload {count} taken {taken}\n")?;
-    assert_eq!(rt;
-        verdict.as_slice(),
-        line.as_bytes(),
-        "alg {alg}, {count} bytes"
-    );
-    assert_eq!(rt; status, 0, "alg {alg}, {count} bytes");
-    Ok(())
+    verifies(rt, KEYS, made.as_slice(), line.as_str(), 0)
 }
 
 #[test]

@@ -35,6 +35,19 @@ fn takes_the_message_in_any_pieces(rt: HostRuntime) -> Result<(), Fail> {
     Ok(())
 }
 
+/// `verify` gives this verdict on bytes from a reader under these keys, and takes so many of them.
+pub fn answers_read(rt: &impl Abort, keys: KeySet, bytes: &[u8], verdict: Verdict, taken: usize) {
+    let mut reader = bytes;
+    let mut store = Store::<16>::new();
+    let answer = verdict_of(keys, &mut ReadIntake::new(&mut reader), &mut store);
+    assert_eq!(rt; answer, Ok(verdict), "{bytes:?}");
+    assert_eq!(rt;
+        bytes.len(),
+        reader.len().saturating_add(taken),
+        "{bytes:?}"
+    );
+}
+
 /// The message with these bytes behind its front gets this verdict, and this number of its bytes is taken.
 fn answers(
     rt: &(impl Abort + Alloc<A = Global>),
@@ -45,15 +58,7 @@ fn answers(
 ) -> Result<(), AllocError> {
     let bytes = joined(rt.alloc(), &[FRONT, payload, tag])?;
     let keys = key_set().expect(rt, "a key set");
-    let mut reader = bytes.as_slice();
-    let mut store = Store::<16>::new();
-    let answer = verdict_of(keys, &mut ReadIntake::new(&mut reader), &mut store);
-    assert_eq!(rt; answer, Ok(verdict), "{bytes:?}");
-    assert_eq!(rt;
-        bytes.len(),
-        reader.len().saturating_add(taken),
-        "{bytes:?}"
-    );
+    answers_read(rt, keys, bytes.as_slice(), verdict, taken);
     Ok(())
 }
 

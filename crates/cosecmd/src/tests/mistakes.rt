@@ -1,7 +1,7 @@
 //! Arguments that are refused: what is printed names the option that was expected, and repeats no argument, which may be a key
 //! that lacks its option.
 
-use crate::run::run;
+use crate::tests::ran;
 use std::test::Fail;
 
 /// A key set of the key `Jefe`.
@@ -56,20 +56,11 @@ fn names_the_option_without_the_argument(rt: HostRuntime) -> Result<(), Fail> {
              For more information, try '--help'.\n",
         ),
     ];
-    for (options, expected) in rows {
-        let mut words = Vec::new(rt.alloc());
-        words.push("cosecmd")?;
-        words.extend_from_slice(options)?;
-        let mut output = Vec::new(rt.alloc());
-        let status = run(
-            rt.alloc(),
-            words.as_slice(),
-            &mut b"".as_slice(),
-            &mut output,
-        );
+    for (arguments, expected) in rows {
+        let (output, status, _left) = ran(rt.alloc(), arguments, b"")?;
         let text = str::from_utf8(output.as_slice()).or(Err("no text"))?;
-        assert_eq!(rt; text, expected, "{options:?}");
-        assert_eq!(rt; status, 2, "{options:?}");
+        assert_eq!(rt; text, expected, "{arguments:?}");
+        assert_eq!(rt; status, 2, "{arguments:?}");
     }
     Ok(())
 }

@@ -1,33 +1,12 @@
 //! The options of `verify`: external data, the kind, and the word that vouches for a signature.
 
-use crate::run::run;
 use crate::tests::{
-    FRONT, KEY, KEYS, MEMBER_Y, PAYLOAD, SIGNED, X, Y, hmac, joined, message, point, signed,
-    signed_digest,
+    FRONT, KEY, KEYS, MEMBER_Y, PAYLOAD, SIGNED, X, Y, hmac, joined, message, point, prints,
+    signed, signed_digest,
 };
-use std::alloc::{AllocError, Global};
+use std::alloc::Global;
 use std::process::Abort;
 use std::test::Fail;
-
-/// A run with these words behind `verify` prints this text for the message, and ends with this status.
-fn prints(
-    rt: &(impl Abort + Alloc<A = Global>),
-    options: &[&str],
-    message: &[u8],
-    text: &str,
-    status: u8,
-) -> Result<(), AllocError> {
-    let mut words = Vec::new(rt.alloc());
-    words.push("cosecmd")?;
-    words.push("verify")?;
-    words.extend_from_slice(options)?;
-    let mut input = message;
-    let mut output = Vec::new(rt.alloc());
-    let ended = run(rt.alloc(), words.as_slice(), &mut input, &mut output);
-    assert_eq!(rt; output.as_slice(), text.as_bytes(), "{options:?}");
-    assert_eq!(rt; ended, status, "{options:?}");
-    Ok(())
-}
 
 #[test]
 fn authenticates_external_data(rt: HostRuntime) -> Result<(), Fail> {
@@ -37,13 +16,13 @@ fn authenticates_external_data(rt: HostRuntime) -> Result<(), Fail> {
     let authentic = "authentic mac0 alg 5 payload 2 taken 44\n";
     let refused = "refused BadAuth at 10\n";
     let rows: [(&[&str], &str, u8); 4] = [
-        (&["--keys", KEYS, "--aad", "0102"], authentic, 0),
-        (&["--keys", KEYS, "--aad", "0103"], refused, 1),
-        (&["--keys", KEYS, "--aad", ""], refused, 1),
-        (&["--keys", KEYS], refused, 1),
+        (&["verify", "--keys", KEYS, "--aad", "0102"], authentic, 0),
+        (&["verify", "--keys", KEYS, "--aad", "0103"], refused, 1),
+        (&["verify", "--keys", KEYS, "--aad", ""], refused, 1),
+        (&["verify", "--keys", KEYS], refused, 1),
     ];
-    for (options, text, status) in rows {
-        prints(&rt, options, bytes.as_slice(), text, status)?;
+    for (verify, text, status) in rows {
+        prints(&rt, verify, bytes.as_slice(), text, status)?;
     }
     Ok(())
 }
@@ -60,8 +39,8 @@ fn prints_with(
         digits.extend_from_slice(b"00")?;
     }
     let word = str::from_utf8(digits.as_slice()).or(Err("no text"))?;
-    let options = ["--keys", KEYS, "--aad", word];
-    prints(rt, options.as_slice(), b"", text, status)?;
+    let verify = ["verify", "--keys", KEYS, "--aad", word];
+    prints(rt, verify.as_slice(), b"", text, status)?;
     Ok(())
 }
 
@@ -99,8 +78,8 @@ fn wants_a_kind(rt: HostRuntime) -> Result<(), Fail> {
         ("sign1", untagged, "refused UnknownAlg at 6\n", 1),
     ];
     for (kind, bytes, text, status) in rows {
-        let options = ["--keys", KEYS, "--kind", kind];
-        prints(&rt, options.as_slice(), bytes, text, status)?;
+        let verify = ["verify", "--keys", KEYS, "--kind", kind];
+        prints(&rt, verify.as_slice(), bytes, text, status)?;
     }
     Ok(())
 }
@@ -137,8 +116,8 @@ fn vouches(
     let vouch = format!(in alloc; "{curve}{first}{second}{X}{rest}{more}")?;
     let keys = point(alloc, member)?;
     let bytes = signed(alloc, SIGNED, &[0x5a; 64])?;
-    let options = ["--keys", keys.as_str(), "--vouch", vouch.as_str()];
-    prints(rt, options.as_slice(), bytes.as_slice(), text, status)?;
+    let verify = ["verify", "--keys", &keys, "--vouch", &vouch];
+    prints(rt, verify.as_slice(), bytes.as_slice(), text, status)?;
     Ok(())
 }
 
@@ -172,9 +151,9 @@ fn refuses_a_signature_that_nothing_vouches_for(rt: HostRuntime) -> Result<(), F
     let (text, status) = REFUSED;
     let keys = point(rt.alloc(), MEMBER_Y)?;
     let bytes = signed(rt.alloc(), SIGNED, &[0x5a; 64])?;
-    let empty = ["--keys", keys.as_str(), "--vouch", ""];
+    let empty = ["verify", "--keys", keys.as_str(), "--vouch", ""];
     prints(&rt, empty.as_slice(), bytes.as_slice(), text, status)?;
-    let none = ["--keys", keys.as_str()];
+    let none = ["verify", "--keys", keys.as_str()];
     prints(&rt, none.as_slice(), bytes.as_slice(), text, status)?;
     Ok(())
 }
@@ -183,18 +162,21 @@ fn refuses_a_signature_that_nothing_vouches_for(rt: HostRuntime) -> Result<(), F
 fn reads_its_words_in_order(rt: HostRuntime) -> Result<(), Fail> {
     let rows: [(&[&str], &str); 4] = [
         (
-            &["--vouch", "zz", "--aad", "zz", "--keys", "zz"],
+            &["verify", "--vouch", "zz", "--aad", "zz", "--keys", "zz"],
             "fault line keys\n",
         ),
         (
-            &["--vouch", "zz", "--aad", "zz", "--keys", "80"],
+            &["verify", "--vouch", "zz", "--aad", "zz", "--keys", "80"],
             "fault line aad\n",
         ),
-        (&["--vouch", "zz", "--keys", "80"], "fault line vouch\n"),
-        (&["--keys", "80"], "fault keys BadKeySet at 0\n"),
+        (
+            &["verify", "--vouch", "zz", "--keys", "80"],
+            "fault line vouch\n",
+        ),
+        (&["verify", "--keys", "80"], "fault keys BadKeySet at 0\n"),
     ];
-    for (options, text) in rows {
-        prints(&rt, options, b"", text, 2)?;
+    for (verify, text) in rows {
+        prints(&rt, verify, b"", text, 2)?;
     }
     Ok(())
 }

@@ -1,11 +1,12 @@
 //! Messages phase by phase: each refusal with its place and the bytes that were taken, and what is authentic in every cut.
 
+ghost use Rattle.std.specs.Prelude.{◌≡◌, false};
+ghost use Rattle.cose_msg.specs.Kept.{is_inspecting};
+
 use crate::tests::feeding::feed_all;
-use crate::tests::{KEY, KEYS, hmac, refused, verifier};
-use cose_msg::{
-    Alg, KeySet, Kind, Never, ReadIntake, Reason, Refusal, SliceIntake, Status, Store, Verdict,
-    Wanted, verify,
-};
+use crate::tests::messages::answers_read;
+use crate::tests::{KEY, KEYS, hmac, refused, verified_in_pieces, verifier};
+use cose_msg::{Alg, KeySet, Kind, Reason, Refusal, Status, Store, Verdict, Verifier, Wanted};
 use std::alloc::Global;
 use std::process::Abort;
 use std::test::Fail;
@@ -27,6 +28,38 @@ const WITH_KID: &str = "d18443a10105a10441314268695820";
 /// Two keys with that identifier, the secrets of which are `a` and `b`.
 const BOTH_FIT: &str = "82a30104024131204161a30104024131204162";
 
+/// `verify` gives this verdict on bytes that come in pieces of at most so many, and takes so many of them.
+pub fn answers_in_pieces(
+    rt: &impl Abort,
+    verifier: &mut Verifier<1024, 4>,
+    bytes: &[u8],
+    cut: usize,
+    verdict: Verdict,
+    taken: u64,
+)
+    requires { is_inspecting verifier.old ≡ false }
+{
+    let mut store = Store::<16>::new();
+    let answer = verified_in_pieces(verifier, bytes, cut, &mut store);
+    assert_eq!(rt; answer, Ok(verdict), "{bytes:?} in pieces of {cut}");
+    assert_eq!(rt; verifier.taken(), taken, "{bytes:?} in pieces of {cut}");
+}
+
+/// Bytes that are fed in pieces of at most so many, and then end, result in this status, and so many of them are taken.
+pub fn ends_in_pieces(
+    rt: &impl Abort,
+    verifier: &mut Verifier<1024, 4>,
+    bytes: &[u8],
+    cut: usize,
+    status: Status,
+    taken: u64,
+) {
+    let mut store = Store::<16>::new();
+    feed_all(rt, verifier, bytes, cut, &mut store);
+    assert_eq!(rt; verifier.end(), status, "{bytes:?} in pieces of {cut}");
+    assert_eq!(rt; verifier.taken(), taken, "{bytes:?} in pieces of {cut}");
+}
+
 /// These bytes are refused under these keys for this reason at this place, after so many of them.
 fn refuses(
     rt: &(impl Abort + Alloc<A = Global>),
@@ -37,29 +70,11 @@ fn refuses(
     let set = hex::decode(rt.alloc(), keys).or(Err("no hexadecimal"))?;
     let message = hex::decode(rt.alloc(), bytes).or(Err("no hexadecimal"))?;
     let keys = KeySet::read(set.as_slice()).or(Err("no key set"))?;
-    let mut verifier = verifier(keys, Wanted::Tagged);
-    let mut reader = message.as_slice();
-    let mut store = Store::<16>::new();
-    let verdict = verify::<16, 1024, 4, _, _, _>(
-        &mut verifier,
-        &mut ReadIntake::new(&mut reader),
-        &mut store,
-        &Never,
-    );
     let (reason, place, taken) = answer;
-    assert_eq!(rt; verdict, Ok(refused(reason, place)), "{bytes}");
-    assert_eq!(rt;
-        message.len(),
-        reader.len().saturating_add(taken),
-        "{bytes}"
-    );
-    refuses_fed(
-        rt,
-        keys,
-        message.as_slice(),
-        Refusal { reason, place },
-        taken,
-    );
+    let refusal = Refusal { reason, place };
+    let verdict = Verdict::Refused(refusal);
+    answers_read(rt, keys, message.as_slice(), verdict, taken);
+    refuses_fed(rt, keys, message.as_slice(), refusal, taken);
     Ok(())
 }
 
@@ -138,18 +153,8 @@ fn refuses_where_no_one_key_fits(rt: HostRuntime) -> Result<(), Fail> {
 pub fn refuses_fed(rt: &impl Abort, keys: KeySet, message: &[u8], refusal: Refusal, taken: usize) {
     for cut in [1usize, 2, 7, 64] {
         let mut verifier = verifier(keys, Wanted::Tagged);
-        let mut store = Store::<16>::new();
-        feed_all(rt, &mut verifier, message, cut, &mut store);
-        assert_eq!(rt;
-            verifier.end(),
-            Status::Refused(refusal),
-            "{message:?} in pieces of {cut}"
-        );
-        assert_eq!(rt;
-            verifier.taken(),
-            taken as u64,
-            "{message:?} in pieces of {cut}"
-        );
+        let status = Status::Refused(refusal);
+        ends_in_pieces(rt, &mut verifier, message, cut, status, taken as u64);
     }
 }
 
@@ -196,9 +201,8 @@ fn authenticates_in_pieces(
         taken: row.taken,
     };
     let mut verifier = verifier(*keys, row.wanted);
-    let mut intake = SliceIntake::new(message, cut.max(1));
     let mut store = Store::<16>::new();
-    let verdict = verify::<128, 1024, 4, _, _, _>(&mut verifier, &mut intake, &mut store, &Never);
+    let verdict = verified_in_pieces(&mut verifier, message, cut, &mut store);
     assert_eq!(rt; verdict, Ok(authentic), "{front} in pieces of {cut}");
     assert_eq!(rt; verifier.taken(), row.taken, "{front} in pieces of {cut}");
     assert_eq!(rt;
@@ -225,13 +229,25 @@ fn completes_in_pieces(rt: &impl Abort, keys: &KeySet, row: &Row, message: &[u8]
     );
 }
 
+/// The message up to its tag, and then so many bytes of the MAC of this structure under this secret.
+fn with_tag(
+    alloc: Global,
+    front: &str,
+    structure: &str,
+    secret: &[u8],
+    count: usize,
+) -> Result<Vec<u8>, Fail> {
+    let structure = hex::decode(alloc, structure).or(Err("no hexadecimal"))?;
+    let tag = hmac(secret, structure.as_slice());
+    let mut message = hex::decode(alloc, front).or(Err("no hexadecimal"))?;
+    message.extend_from_slice(tag.get(..count).unwrap_or(&[]))?;
+    Ok(message)
+}
+
 /// The message is authentic in every cut.
 fn authenticates(rt: &(impl Abort + Alloc<A = Global>), row: Row) -> Result<(), Fail> {
     let set = hex::decode(rt.alloc(), row.keys).or(Err("no hexadecimal"))?;
-    let structure = hex::decode(rt.alloc(), row.structure).or(Err("no hexadecimal"))?;
-    let mut message = hex::decode(rt.alloc(), row.front).or(Err("no hexadecimal"))?;
-    let tag = hmac(row.secret, structure.as_slice());
-    message.extend_from_slice(tag.get(..row.tag).unwrap_or(&[]))?;
+    let mut message = with_tag(rt.alloc(), row.front, row.structure, row.secret, row.tag)?;
     // A byte behind the message isn't taken.
     message.push(0xff)?;
     let keys = KeySet::read(set.as_slice()).or(Err("no key set"))?;
@@ -311,30 +327,16 @@ fn refuses_a_tag_of_another_key(rt: HostRuntime) -> Result<(), Fail> {
     // A key without an identifier fits every identifier.
     let set = hex::decode(rt.alloc(), KEYS).or(Err("no hexadecimal"))?;
     let keys = KeySet::read(set.as_slice()).or(Err("no key set"))?;
-    let structure = hex::decode(rt.alloc(), WITH_5).or(Err("no hexadecimal"))?;
-    let mut message = hex::decode(rt.alloc(), WITH_KID).or(Err("no hexadecimal"))?;
-    message.extend_from_slice(&hmac(b"a", structure.as_slice()))?;
+    let message = with_tag(rt.alloc(), WITH_KID, WITH_5, b"a", 32)?;
+    for cut in [1usize, 2, 7, 64] {
+        let mut verifier = verifier(keys, Wanted::Tagged);
+        let verdict = refused(Reason::BadAuth, 13);
+        answers_in_pieces(&rt, &mut verifier, message.as_slice(), cut, verdict, 47);
+    }
     let refusal = Refusal {
         reason: Reason::BadAuth,
         place: 13,
     };
-    for cut in [1usize, 2, 7, 64] {
-        let mut verifier = verifier(keys, Wanted::Tagged);
-        let mut intake = SliceIntake::new(message.as_slice(), cut.max(1));
-        let mut store = Store::<16>::new();
-        let verdict = verify::<128, 1024, 4, _, _, _>(
-            &mut verifier,
-            &mut intake,
-            &mut store,
-            &Never,
-        );
-        assert_eq!(rt;
-            verdict,
-            Ok(Verdict::Refused(refusal)),
-            "in pieces of {cut}"
-        );
-        assert_eq!(rt; verifier.taken(), 47, "in pieces of {cut}");
-    }
     refuses_fed(&rt, keys, message.as_slice(), refusal, 47);
     Ok(())
 }

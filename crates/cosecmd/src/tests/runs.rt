@@ -1,26 +1,20 @@
 //! Runs of the program: what is printed, and the status.
 
-use crate::run::run;
-use crate::tests::{KEYS, joined, message};
+use crate::tests::{KEYS, joined, message, prints, ran};
 use std::alloc::{AllocError, Global};
 use std::process::Abort;
 use std::test::Fail;
 
 /// `verify` under these keys prints this text for the message, and ends with this status.
-fn prints(
+pub fn verifies(
     rt: &(impl Abort + Alloc<A = Global>),
     keys: &str,
     message: &[u8],
     text: &str,
     status: u8,
 ) -> Result<(), AllocError> {
-    let mut input = message;
-    let mut output = Vec::new(rt.alloc());
-    let words = ["cosecmd", "verify", "--keys", keys];
-    let ended = run(rt.alloc(), words.as_slice(), &mut input, &mut output);
-    assert_eq!(rt; output.as_slice(), text.as_bytes(), "under {keys}");
-    assert_eq!(rt; ended, status, "under {keys}");
-    Ok(())
+    let verify = ["verify", "--keys", keys];
+    prints(rt, verify.as_slice(), message, text, status)
 }
 
 #[test]
@@ -38,11 +32,11 @@ fn prints_the_verdict(rt: HostRuntime) -> Result<(), Fail> {
         ("0xa2010420444a656665", "fault line keys\n", 2),
     ];
     for (keys, text, status) in rows {
-        prints(&rt, keys, message.as_slice(), text, status)?;
+        verifies(&rt, keys, message.as_slice(), text, status)?;
     }
     let longer = joined(rt.alloc(), &[message.as_slice(), b"\xff"])?;
-    prints(&rt, KEYS, longer.as_slice(), "refused Trailing at 44\n", 1)?;
-    prints(&rt, KEYS, b"", "refused Truncated at 0\n", 1)?;
+    verifies(&rt, KEYS, longer.as_slice(), "refused Trailing at 44\n", 1)?;
+    verifies(&rt, KEYS, b"", "refused Truncated at 0\n", 1)?;
     Ok(())
 }
 
@@ -82,50 +76,32 @@ fn takes_a_key_set(rt: HostRuntime) -> Result<(), Fail> {
         ("81a2010420444a656665", authentic, 0),
     ];
     for (keys, text, status) in rows {
-        prints(&rt, keys, message.as_slice(), text, status)?;
+        verifies(&rt, keys, message.as_slice(), text, status)?;
     }
     Ok(())
 }
 
 #[test]
 fn explains_its_line(rt: HostRuntime) -> Result<(), Fail> {
-    let alloc = rt.alloc();
     let rows: [(&[&str], &str, u8); 11] = [
-        (&["cosecmd", "--help"], "Usage: cosecmd <COMMAND>", 0),
+        (&["--help"], "Usage: cosecmd <COMMAND>", 0),
+        (&["--help"], "0 authentic, 1 refused, 2 no verdict", 0),
+        (&["--help"], "no prefix and no spaces", 0),
         (
-            &["cosecmd", "--help"],
+            &["verify", "--help"],
             "0 authentic, 1 refused, 2 no verdict",
             0,
         ),
-        (&["cosecmd", "--help"], "no prefix and no spaces", 0),
-        (
-            &["cosecmd", "verify", "--help"],
-            "0 authentic, 1 refused, 2 no verdict",
-            0,
-        ),
-        (&["cosecmd", "--version"], "cosecmd 0.1.0\n", 0),
-        (&["cosecmd", "verify", "--help"], "The key set", 0),
-        (&["cosecmd", "verify"], "--keys <HEX>", 2),
-        (
-            &["cosecmd", "show", "--help"],
-            "0 shown, 1 refused, 2 no answer",
-            0,
-        ),
-        (
-            &["cosecmd", "cwt", "--help"],
-            "0 admitted, 1 refused, 2 no answer",
-            0,
-        ),
-        (
-            &["cosecmd", "digest", "--help"],
-            "0 told, 1 refused, 2 no answer",
-            0,
-        ),
-        (&["cosecmd", "sign"], "unrecognized subcommand\n", 2),
+        (&["--version"], "cosecmd 0.1.0\n", 0),
+        (&["verify", "--help"], "The key set", 0),
+        (&["verify"], "--keys <HEX>", 2),
+        (&["show", "--help"], "0 shown, 1 refused, 2 no answer", 0),
+        (&["cwt", "--help"], "0 admitted, 1 refused, 2 no answer", 0),
+        (&["digest", "--help"], "0 told, 1 refused, 2 no answer", 0),
+        (&["sign"], "unrecognized subcommand\n", 2),
     ];
-    for (words, part, status) in rows {
-        let mut output = Vec::new(alloc);
-        let ended = run(alloc, words, &mut b"".as_slice(), &mut output);
+    for (arguments, part, status) in rows {
+        let (output, ended, _left) = ran(rt.alloc(), arguments, b"")?;
         let text = str::from_utf8(output.as_slice()).or(Err("no text"))?;
         assert!(rt; text.contains(part), "{text}");
         assert_eq!(rt; ended, status, "{text}");

@@ -1,20 +1,8 @@
 //! Messages that the program shows.
 
-use crate::run::run;
-use crate::tests::KEYS;
-use std::alloc::{AllocError, Global};
+use crate::tests::{KEYS, prints, ran};
+use std::alloc::Global;
 use std::test::Fail;
-
-/// What a run with these words behind the program's name prints for the message, and how it ends.
-fn ran(alloc: Global, words: &[&str], message: &[u8]) -> Result<(Vec<u8>, u8), AllocError> {
-    let mut line = Vec::new(alloc);
-    line.push("cosecmd")?;
-    line.extend_from_slice(words)?;
-    let mut input = message;
-    let mut output = Vec::new(alloc);
-    let status = run(alloc, line.as_slice(), &mut input, &mut output);
-    Ok((output, status))
-}
 
 /// The bytes of a message that ends with so many zeros.
 fn with_zeros(alloc: Global, front: &str, zeros: usize) -> Result<Vec<u8>, Fail> {
@@ -77,9 +65,7 @@ fn shows_the_headers(rt: HostRuntime) -> Result<(), Fail> {
     for (kind, front, zeros, text) in rows {
         let message = with_zeros(rt.alloc(), front, zeros)?;
         let words = ["show", "--kind", kind];
-        let (output, status) = ran(rt.alloc(), words.as_slice(), message.as_slice())?;
-        assert_eq!(rt; output.as_slice(), text.as_bytes(), "{front}");
-        assert_eq!(rt; status == 0, !text.starts_with("refused"), "{front}");
+        prints(&rt, words.as_slice(), message.as_slice(), text, 0)?;
     }
     Ok(())
 }
@@ -99,9 +85,7 @@ fn refuses_to_show(rt: HostRuntime) -> Result<(), Fail> {
     ];
     for (message, text) in rows {
         let message = with_zeros(rt.alloc(), message, 0)?;
-        let (output, status) = ran(rt.alloc(), ["show"].as_slice(), message.as_slice())?;
-        assert_eq!(rt; output.as_slice(), text.as_bytes());
-        assert_eq!(rt; status, 1, "{text}");
+        prints(&rt, ["show"].as_slice(), message.as_slice(), text, 1)?;
     }
     Ok(())
 }
@@ -130,10 +114,8 @@ fn shows_what_is_made(rt: HostRuntime) -> Result<(), Fail> {
         let make = [
             "make", "--alg", alg, "--key", KEYS, "--length", "2", "--kid", "31",
         ];
-        let (made, _status) = ran(rt.alloc(), make.as_slice(), b"hi")?;
-        let (output, status) = ran(rt.alloc(), ["show"].as_slice(), made.as_slice())?;
-        assert_eq!(rt; output.as_slice(), text.as_bytes());
-        assert_eq!(rt; status, 0, "alg {alg}");
+        let (made, _status, _left) = ran(rt.alloc(), make.as_slice(), b"hi")?;
+        prints(&rt, ["show"].as_slice(), made.as_slice(), text, 0)?;
     }
     Ok(())
 }

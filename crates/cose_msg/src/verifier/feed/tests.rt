@@ -113,11 +113,7 @@ fn wants_what_is_left_of_an_unprotected_string(rt: HostRuntime) {
 }
 
 /// Feeds a piece, and puts what it holds of the payload into a store.
-fn feed_into<const H: usize, const D: usize>(
-    verifier: &mut Verifier<H, D>,
-    piece: &[u8],
-    store: &mut Store<2>,
-) -> Fed {
+fn feed_into(verifier: &mut Verifier<16, 1>, piece: &[u8], store: &mut Store<2>) -> Fed {
     let fed = verifier.feed(piece);
     let payload = &piece[fed.payload_from..fed.payload_to];
     if !payload.is_empty() {
