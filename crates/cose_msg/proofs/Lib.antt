@@ -36,6 +36,7 @@ mod ToldForms
 mod PayloadLimit
 mod PayloadsKnown
 mod Statuses
+mod Arms
 mod Feeds
 mod Cuts
 mod Making

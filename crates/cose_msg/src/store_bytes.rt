@@ -19,6 +19,7 @@ pub(crate) fn front_of(piece: &[u8], most: u64) -> &[u8]
     ensures some { 0 < length result.now }
     ensures most { length result.now ≤ most }
     ensures fits { length result.now ≤ length piece.now }
+    ensures all { length piece.now ≤ most → length result.now ≡ length piece.now }
     ensures whole { length result.now < most → length result.now ≡ length piece.now }
 {
     if piece.len() as u64 <= most {

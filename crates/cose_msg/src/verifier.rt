@@ -42,20 +42,21 @@ pub(crate) struct Place {
 /// A verifier of one message at a time, of header buckets of at most `H` bytes each, nested at most `D` deep.
 #[derive(Drop)]
 pub struct Verifier<'k, const H: usize, const D: usize> {
-    context: Context<'k>,
+    phase: Phase,
+    taken: u64,
+    stopped: bool,
     inspecting: bool,
-    protected: ArrayVec<u8, H>,
-    unprotected: ArrayVec<u8, H>,
+    context: Context<'k>,
     protected_at: Option<Place>,
     unprotected_at: Option<Place>,
     head: ArrayVec<u8, 9>,
     auth: ArrayVec<u8, 132>,
-    walker: Walker<D>,
     hashing: Hashing,
     chosen: Option<Chosen<'k>>,
-    phase: Phase,
-    taken: u64,
-    stopped: bool,
+    // What depends on a parameter is last: a proof about a field goes through the types of those before it.
+    walker: Walker<D>,
+    protected: ArrayVec<u8, H>,
+    unprotected: ArrayVec<u8, H>,
     ghost some_room: { 16 ≤ H },
     ghost limit: { H ≤ 65535 },
     ghost nesting: { D ≤ 32 },
@@ -87,20 +88,20 @@ impl<'k, const H: usize, const D: usize> Verifier<'k, H, D> {
         ensures inspects { is_inspecting result ≡ inspecting }
     {
         Verifier {
-            context,
+            phase: Phase::FirstHead,
+            taken: 0,
+            stopped: false,
             inspecting,
-            protected: ArrayVec::new(),
-            unprotected: ArrayVec::new(),
+            context,
             protected_at: None,
             unprotected_at: None,
             head: ArrayVec::new(),
             auth: ArrayVec::new(),
-            walker: Walker::new(H),
             hashing: Hashing::Nothing,
             chosen: None,
-            phase: Phase::FirstHead,
-            taken: 0,
-            stopped: false,
+            walker: Walker::new(H),
+            protected: ArrayVec::new(),
+            unprotected: ArrayVec::new(),
         }
     }
 

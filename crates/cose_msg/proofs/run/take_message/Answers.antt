@@ -6,6 +6,7 @@ use Rattle.cose_msg.specs.Phase.{in_payload, want_of}
 use Rattle.cose_msg.specs.Task.{rules_of}
 use Rattle.cose_msg.proofs.PayloadLimit.{payload_within}
 use Rattle.cose_msg.proofs.Runs.{at_start, concluded, first_of, goes_on, is_done, marks_nothing, not_at_end, promise_kept, put_done, put_failed, sure_enough, settled_if_none_asked, stopped_by_intake, stopped_by_sink, take_short}
+use Rattle.cose_msg.proofs.Arms.{unfailed}
 use Rattle.cose_msg.proofs.Standing.{stands_in}
 use Rattle.cose_msg.proofs.run.take_message.Goals.{else-in_payload-via-then-in_payload+else-is_err, else-in_payload-via-else-in_payload}
 use Rattle.cose_msg.proofs.run.take_message.Goals as goal
@@ -136,7 +137,7 @@ pub returns-then-asked-eq0-clause-once : goal.returns-then-asked-eq0-clause-once
 returns-then-asked-eq0-clause-once g c = grind (arith, common_steps)
 
 pub returns-then-asked-eq0-clause-sink_failure : goal.returns-then-asked-eq0-clause-sink_failure
-returns-then-asked-eq0-clause-sink_failure g c = grind (arith, common_steps)
+returns-then-asked-eq0-clause-sink_failure g c = c.pieces.invariant.4 ∙ unfailed _ _ refl
 
 pub returns-then-asked-eq0-clause-sure : goal.returns-then-asked-eq0-clause-sure
 returns-then-asked-eq0-clause-sure g c = grind (arith, common_steps)
@@ -184,7 +185,7 @@ pub returns-then-count-eq0-clause-once : goal.returns-then-count-eq0-clause-once
 returns-then-count-eq0-clause-once g c = grind (arith, common_steps)
 
 pub returns-then-count-eq0-clause-sink_failure : goal.returns-then-count-eq0-clause-sink_failure
-returns-then-count-eq0-clause-sink_failure g c = grind (arith, common_steps)
+returns-then-count-eq0-clause-sink_failure g c = c.pieces.invariant.4 ∙ unfailed _ _ refl
 
 pub returns-then-count-eq0-clause-sure : goal.returns-then-count-eq0-clause-sure
 returns-then-count-eq0-clause-sure g c = grind (arith, common_steps)

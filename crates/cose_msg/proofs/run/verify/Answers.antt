@@ -4,6 +4,8 @@ use Rattle.std.specs.Prelude.{is_err}
 use Rattle.cose_msg.specs.Answer.{decided}
 use Rattle.cose_msg.specs.Message.{verifying}
 use Rattle.cose_msg.specs.Task.{to_verify}
+use Rattle.cose_msg.specs.Kept.{verdict_in}
+use Rattle.cose_msg.proofs.Arms.{kept_again, kept_intake, kept_sink, kept_stop, unfailed}
 use Rattle.cose_msg.proofs.Answered.{kept_verdict_run, kept_verdict_settles, of_any, still, stopped, verdict_run, verifying_alike}
 use Rattle.cose_msg.proofs.Runs.{counted_stands, told_before}
 use Rattle.cose_msg.proofs.Standing.{stands_in}
@@ -84,13 +86,13 @@ pub kept_answer-requires : goal.kept_answer-requires
 kept_answer-requires g c = grind (arith, common_steps)
 
 pub returns-in-Some-clause-kept : goal.returns-in-Some-clause-kept
-returns-in-Some-clause-kept g c = grind (arith, common_steps)
+returns-in-Some-clause-kept g c = kept_again c.args.verifier.now.stopped (verdict_in c.args.verifier.now.phase) c.in-Some.answer (sym c.kept_answer.ensures ∙ c.in-Some.is)
 
 pub returns-in-Some-clause-again : goal.returns-in-Some-clause-again
 returns-in-Some-clause-again g c = grind (arith, common_steps)
 
 pub returns-in-Some-clause-stopped : goal.returns-in-Some-clause-stopped
-returns-in-Some-clause-stopped g c = grind (arith, common_steps)
+returns-in-Some-clause-stopped g c = kept_stop c.args.verifier.now.stopped (verdict_in c.args.verifier.now.phase) c.in-Some.answer (sym c.kept_answer.ensures ∙ c.in-Some.is)
 
 pub returns-in-Some-clause-inspects : goal.returns-in-Some-clause-inspects
 returns-in-Some-clause-inspects g c = grind (arith, common_steps)
@@ -102,13 +104,13 @@ pub returns-in-Some-clause-opened : goal.returns-in-Some-clause-opened
 returns-in-Some-clause-opened g c = grind (arith, common_steps)
 
 pub returns-in-Some-clause-intake_failure : goal.returns-in-Some-clause-intake_failure
-returns-in-Some-clause-intake_failure g c = grind (arith, common_steps)
+returns-in-Some-clause-intake_failure g c = unfailed _ _ (kept_intake c.args.verifier.now.stopped (verdict_in c.args.verifier.now.phase) c.in-Some.answer (sym c.kept_answer.ensures ∙ c.in-Some.is))
 
 pub returns-in-Some-clause-sink_failure : goal.returns-in-Some-clause-sink_failure
-returns-in-Some-clause-sink_failure g c = grind (arith, common_steps)
+returns-in-Some-clause-sink_failure g c = unfailed _ _ (kept_sink c.args.verifier.now.stopped (verdict_in c.args.verifier.now.phase) c.in-Some.answer (sym c.kept_answer.ensures ∙ c.in-Some.is))
 
 pub returns-in-Some-clause-sure : goal.returns-in-Some-clause-sure
-returns-in-Some-clause-sure g c = grind (arith, common_steps)
+returns-in-Some-clause-sure g c = λ setting s B h enough. kept_sink c.args.verifier.now.stopped (verdict_in c.args.verifier.now.phase) c.in-Some.answer (sym c.kept_answer.ensures ∙ c.in-Some.is)
 
 pub take_message-requires : goal.take_message-requires
 take_message-requires g c = grind (arith, common_steps)

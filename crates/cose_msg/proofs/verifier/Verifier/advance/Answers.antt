@@ -1,6 +1,8 @@
-use Rattle.std.proofs.Common.{rules, ◌≡◌, take, true, arith}
+use Rattle.std.proofs.Common.{◌≡◌, ◌≤◌, length, take, true, false, sym, subst, ◌∙◌, arith}
 use Rattle.std.proofs.lemmas.Grind.{common_steps}
-use Rattle.cose_msg.specs.Phase.{takes_bytes}
+use Rattle.cose_msg.specs.declared.phase.Phase.{Phase}
+use Rattle.cose_msg.specs.Phase.{takes_bytes, want_of}
+use Rattle.cose_msg.proofs.Arms.{takes_byte}
 use Rattle.cose_msg.proofs.Steps.{first_byte, grown_by_byte}
 use Rattle.cose_msg.proofs.verifier.Verifier.advance.Goals as goal
 
@@ -22,7 +24,7 @@ returns-in-Auth-clause-stands g c = λ task B n reading h.
 
 pub returns-in_default-2-clause-stands : goal.returns-in_default-2-clause-stands
 returns-in_default-2-clause-stands g c = λ task B n reading h.
-    let byte : takes_bytes c.args.self.now.phase ≡ true = search rules in
+    let byte : takes_bytes c.args.self.now.phase ≡ true = takes_byte c.args.self.now.phase c.in_default-2.not-Protected c.in_default-2.not-Unprotected c.in_default-2.not-Payload c.in_default-2.not-Auth (sym c.is_settled.ensures ∙ c.if-is_settled.false) in
     rw (grown_by_byte c.args.self.now.phase B (take 1 c.args.piece.now) byte, first_byte c.args.piece.now c.requires.some) (c.take_byte.ensures task B n reading h)
 
 pub front_of-part-requires-clause-some : goal.front_of-part-requires-clause-some
@@ -65,7 +67,9 @@ pub returns-in-Protected-clause-uses : goal.returns-in-Protected-clause-uses
 returns-in-Protected-clause-uses g c = grind (arith, common_steps)
 
 pub returns-in-Protected-clause-whole : goal.returns-in-Protected-clause-whole
-returns-in-Protected-clause-whole g c = grind (arith, common_steps)
+returns-in-Protected-clause-whole g c = λ le.
+    let all : length c.front_of-part.result.now ≡ length c.args.piece.now = c.front_of-part.ensures.all (subst (λ (p : Phase). length c.args.piece.now ≤ want_of p) c.in-Protected.is le) in
+    cc
 
 pub returns-in-Unprotected-clause-fits : goal.returns-in-Unprotected-clause-fits
 returns-in-Unprotected-clause-fits g c = grind (arith, common_steps)
@@ -74,7 +78,9 @@ pub returns-in-Unprotected-clause-uses : goal.returns-in-Unprotected-clause-uses
 returns-in-Unprotected-clause-uses g c = grind (arith, common_steps)
 
 pub returns-in-Unprotected-clause-whole : goal.returns-in-Unprotected-clause-whole
-returns-in-Unprotected-clause-whole g c = grind (arith, common_steps)
+returns-in-Unprotected-clause-whole g c = λ le.
+    let all : length c.front_of-part-in-Unprotected.result.now ≡ length c.args.piece.now = c.front_of-part-in-Unprotected.ensures.all (subst (λ (p : Phase). length c.args.piece.now ≤ want_of p) c.in-Unprotected.is le) in
+    cc
 
 pub returns-in-Payload-clause-fits : goal.returns-in-Payload-clause-fits
 returns-in-Payload-clause-fits g c = grind (arith, common_steps)
@@ -83,7 +89,9 @@ pub returns-in-Payload-clause-uses : goal.returns-in-Payload-clause-uses
 returns-in-Payload-clause-uses g c = grind (arith, common_steps)
 
 pub returns-in-Payload-clause-whole : goal.returns-in-Payload-clause-whole
-returns-in-Payload-clause-whole g c = grind (arith, common_steps)
+returns-in-Payload-clause-whole g c = λ le.
+    let all : length c.front_of-part-in-Payload.result.now ≡ length c.args.piece.now = c.front_of-part-in-Payload.ensures.all (subst (λ (p : Phase). length c.args.piece.now ≤ want_of p) c.in-Payload.is le) in
+    cc
 
 pub returns-in-Auth-clause-fits : goal.returns-in-Auth-clause-fits
 returns-in-Auth-clause-fits g c = grind (arith, common_steps)
@@ -92,7 +100,9 @@ pub returns-in-Auth-clause-uses : goal.returns-in-Auth-clause-uses
 returns-in-Auth-clause-uses g c = grind (arith, common_steps)
 
 pub returns-in-Auth-clause-whole : goal.returns-in-Auth-clause-whole
-returns-in-Auth-clause-whole g c = grind (arith, common_steps)
+returns-in-Auth-clause-whole g c = λ le.
+    let all : length c.front_of-part-in-Auth.result.now ≡ length c.args.piece.now = c.front_of-part-in-Auth.ensures.all (subst (λ (p : Phase). length c.args.piece.now ≤ want_of p) c.in-Auth.is le) in
+    cc
 
-pub returns-in_default : goal.returns-in_default
-returns-in_default g c = grind (arith, common_steps)
+pub returns-in_default-clause-uses : goal.returns-in_default-clause-uses
+returns-in_default-clause-uses g c = λ unsettled. absurd (let settled = sym c.is_settled.ensures ∙ c.if-is_settled.true in let clash : true ≡ false = sym settled ∙ unsettled in cc)

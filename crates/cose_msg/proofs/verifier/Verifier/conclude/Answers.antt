@@ -4,10 +4,11 @@ use Rattle.cose_msg.specs.Kept.{verdict_in}
 use Rattle.cose_msg.specs.Laws.{then_verified}
 use Rattle.cose_msg.specs.declared.status.Status.TheVariants.{Complete}
 use Rattle.cose_msg.specs.Phase.{awaits_decision, is_settled}
-use Rattle.cose_msg.specs.Shown.{sign_input_of}
+use Rattle.cose_msg.specs.Shown.{held_input, sign_input_of}
 use Rattle.cose_msg.specs.Status.{status_at, status_of}
 use Rattle.cose_msg.specs.Task.{to_verify}
 use Rattle.cose_msg.specs.Verifier.{Counts}
+use Rattle.cose_msg.proofs.Arms.{known_is_decided, tells_no_input, unsigned_is_undecided}
 use Rattle.cose_msg.proofs.Decisions.{signed_count, stands_with_verdict, stands_without_verdict}
 use Rattle.cose_msg.proofs.Statuses.{settled_status, status_going}
 use Rattle.cose_msg.proofs.verifier.Verifier.conclude.Goals as goal
@@ -43,8 +44,8 @@ returns-in-Signed-clause-shown g c = rw c.in-Signed.is refl
 pub returns-in_default-phase : goal.returns-in_default-phase
 returns-in_default-phase g c =
     let none : verdict_in c.args.self.now.phase ≡ None = search rules in
-    let undecided : awaits_decision c.args.self.now.phase ≡ false = search rules in
-    let no_input : sign_input_of c.args.self.now ≡ None = search rules in
+    let undecided : awaits_decision c.args.self.now.phase ≡ false = unsigned_is_undecided c.args.self.now.phase c.in_default-phase.not-Signed in
+    let no_input : sign_input_of c.args.self.now ≡ None = tells_no_input c.args.self.now.phase (held_input c.args.self.now) undecided none in
     let same = c.truncate.ensures in
     record {
       kept = rw (same.phase, same.stopped) refl;
@@ -88,7 +89,7 @@ pub returns-in-Some-clause-opened : goal.returns-in-Some-clause-opened
 returns-in-Some-clause-opened g c = cc
 
 pub returns-in-Some-clause-complete : goal.returns-in-Some-clause-complete
-returns-in-Some-clause-complete g c = grind (arith, common_steps)
+returns-in-Some-clause-complete g c = λ awaits. absurd (known_is_decided c.args.self.now.phase c.in-Some.verdict (sym c.known_verdict.ensures ∙ c.in-Some.is) awaits)
 
 pub signed_verdict-verdict-requires : goal.signed_verdict-verdict-requires
 signed_verdict-verdict-requires g c = grind (arith, common_steps)

@@ -12,11 +12,11 @@ unfolding message bare_head
 returns-clause-so_far g c = record {
   known = unknown [];
   told = nothing_told;
-  shows = (refl, refl, refl, c.new-5.ensures.open);
+  shows = (refl, refl, refl, c.new-3.ensures.open);
   payload_known = refl;
   payload_told = refl;
-  holds = rw c.new-3.ensures (refl, (tt, refl));
-  left = λ z. rw c.new-3.ensures refl;
+  holds = rw c.new.ensures (refl, (tt, refl));
+  left = λ z. rw c.new.ensures refl;
 }
 
 pub returns-clause-none_taken : goal.returns-clause-none_taken
@@ -25,10 +25,10 @@ returns-clause-none_taken g c = record { so_far = returns-clause-so_far g c; cou
 
 pub returns-clause-tells : goal.returns-clause-tells
 unfolding message with_head bare_head
-returns-clause-tells g c = rw c.new-5.ensures.open refl
+returns-clause-tells g c = rw c.new-3.ensures.open refl
 
 pub returns-clause-held : goal.returns-clause-held
-returns-clause-held g c = rw (c.new.ensures, c.new-2.ensures, c.new-3.ensures, c.new-4.ensures) refl
+returns-clause-held g c = rw (c.new-4.ensures, c.new-5.ensures, c.new.ensures, c.new-2.ensures) refl
 
 pub new-requires : goal.new-requires
 new-requires g c = grind (arith, common_steps)

@@ -64,7 +64,12 @@ pub finish-requires : goal.finish-requires
 finish-requires g c = grind (arith, common_steps)
 
 pub invariant_of-self-else-head-eq0 : goal.invariant_of-self-else-head-eq0
-invariant_of-self-else-head-eq0 g c = grind (arith, common_steps)
+invariant_of-self-else-head-eq0 g c = record {
+  some_left = omega (arith, c.if-head-eq0.false);
+  within = omega arith;
+  limit = c.in-None.ensures.limit refl;
+  early = c.requires.early;
+}
 
 pub invariant_of-self-else-head-eq0-2 : goal.invariant_of-self-else-head-eq0-2
 invariant_of-self-else-head-eq0-2 g c = grind (arith, common_steps)

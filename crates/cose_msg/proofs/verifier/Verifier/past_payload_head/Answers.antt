@@ -4,6 +4,7 @@ use Rattle.cose_msg.specs.Message.{protected_content}
 use Rattle.cose_msg.specs.Phases.{headers_told, past_payload, payload_fault_within}
 use Rattle.cose_msg.specs.Task.{Task, rules_of}
 use Rattle.cose_msg.specs.Verifier.{IsOpened}
+use Rattle.cose_msg.proofs.Faults.{payload_fits}
 use Rattle.cose_msg.proofs.Opened.{opened_first, opened_whole}
 use Rattle.cose_msg.proofs.Standing.{moved}
 use Rattle.cose_msg.proofs.Steps.{string_none}
@@ -70,7 +71,12 @@ pub begin_auth_head-requires : goal.begin_auth_head-requires
 begin_auth_head-requires g c = grind (arith, common_steps)
 
 pub invariant_of-self-else-head-eq0 : goal.invariant_of-self-else-head-eq0
-invariant_of-self-else-head-eq0 g c = grind (arith, common_steps)
+invariant_of-self-else-head-eq0 g c = record {
+  some_left = omega (arith, c.if-head-eq0.false);
+  within = omega arith;
+  limit = payload_fits c.args.self.now.context.payload_limit c.args.head (sym c.in-None.ensures);
+  early = c.requires.early;
+}
 
 pub invariant_of-self-else-head-eq0-2 : goal.invariant_of-self-else-head-eq0-2
 invariant_of-self-else-head-eq0-2 g c = grind (arith, common_steps)

@@ -43,7 +43,12 @@ pub past_protected-requires : goal.past_protected-requires
 past_protected-requires g c = grind (arith, common_steps)
 
 pub invariant_of-self-else-head-eq0 : goal.invariant_of-self-else-head-eq0
-invariant_of-self-else-head-eq0 g c = grind (arith, common_steps)
+invariant_of-self-else-head-eq0 g c = record {
+  some_left = omega (arith, c.if-head-eq0.false);
+  within = omega arith;
+  limit = omega (arith, protected_fits g.row.H c.args.head (sym c.in-None.ensures), c.args.self.now.limit);
+  early = c.requires.early;
+}
 
 pub invariant_of-self-else-head-eq0-2 : goal.invariant_of-self-else-head-eq0-2
 invariant_of-self-else-head-eq0-2 g c = grind (arith, common_steps)
