@@ -73,8 +73,6 @@ fn next_child<const D: usize>(counts: &mut ArrayVec<usize, D>) -> bool
 /// [`Walker::pass`] alone give: that the walker was put these bytes and goes on.
 #[derive(Drop)]
 pub struct Walker<const D: usize> {
-    /// For each open array, map and tag, the outermost first, how many of its children haven't begun.
-    counts: ArrayVec<usize, D>,
     /// The bytes that are there of a head that isn't whole.
     half: ArrayVec<u8, 9>,
     /// How many bytes are to come of the open string.
@@ -85,6 +83,8 @@ pub struct Walker<const D: usize> {
     place: usize,
     /// The last answer.
     step: Step,
+    /// For each open array, map and tag, the outermost first, how many of its children haven't begun.
+    counts: ArrayVec<usize, D>,
     ghost begun: { is_half half.items ≡ true },
     ghost one_part: { 0 < string → length half.items ≡ 0 },
     ghost fits: { length half.items + string ≤ room },
@@ -101,12 +101,12 @@ impl<const D: usize> Walker<D> {
         ensures open { open_now result ≡ 0 }
     {
         Walker {
-            counts: ArrayVec::new(),
             half: ArrayVec::new(),
             string: 0,
             room,
             place: 0,
             step: Step::Going,
+            counts: ArrayVec::new(),
         }
     }
 
