@@ -95,6 +95,10 @@ pub store_suffices : (depth : ℕ) (policy : PolicyValue) (verdict : Result Verd
     stops_for_sink verdict ≡ false → is_for_store (stop_in outcome) ≡ false
 store_suffices depth policy verdict payload outcome comes e = ap (λ (o : Outcome). is_for_store (stop_in o)) comes ∙ store_stop depth policy verdict payload e
 
+pub none_or_some : {A P : Type 0} (option : Option A) → (option ≡ None → P) → ((value : A) → option ≡ Some value → P) → P
+none_or_some None none some = none refl
+none_or_some (Some value) none some = some value refl
+
 -- A kept answer is a verdict, or that the verifier had stopped: no failure of this call.
 no_failure : (depth : ℕ) (policy : PolicyValue) (payload : List ℕ) (stopped : Bool) (verdict : Option Verdict) (answer : Result Verdict Stop) → answer_kept stopped verdict ≡ Some answer →
     (is_for_intake (stop_in (token_of depth policy answer payload)) ≡ false) × (is_for_store (stop_in (token_of depth policy answer payload)) ≡ false)

@@ -57,7 +57,7 @@ UnlessStopped (Err (stops.Claims refusal)) says = says
 
 -- What a call did: a verifier that had taken nothing has taken these bytes, tells what they tell, stands where they leave the message
 -- and keeps its verdict, the store has the payload among them, and the outcome is what the token comes to. A place of the claims is in the payload, or at its end.
-pub record IsRun {H D : ℕ} (setting : Setting) (decides : Decides) (policy : PolicyValue) (come come_after : Option (List ℕ)) (ended : Bool) (v : Verifier H D) (outcome : Outcome) : Type 0 where
+pub record IsRun {H D : ℕ} {S : Type 0} {K : _} (setting : Setting) (decides : Decides) (policy : PolicyValue) (come come_after : Option (List ℕ)) (ended : Bool) (v : Verifier H D S K) (outcome : Outcome) : Type 0 where
   pub taken : List ℕ
   pub payload : List ℕ
   pub verdict : Result Verdict Stop

@@ -24,7 +24,7 @@
 //!     leeway: 60,
 //!     audience: Audience::Mine(&["coap://light.example.com"]),
 //! };
-//! match verify_cwt::<512, 1024, 8, 4096, _, _>(
+//! match verify_cwt::<512, 1024, 8, 4096, _, _, _>(
 //!     &mut verifier,
 //!     &mut intake,
 //!     &mut store,

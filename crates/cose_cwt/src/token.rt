@@ -5,9 +5,10 @@ ghost use Rattle.cose_head.specs.declared.refusal.Refusal.{Refusal};
 ghost use Rattle.cose_map.specs.Map.View.{seen_by};
 ghost use Rattle.cose_msg.specs.declared.verdict.Stop.{Stop};
 ghost use Rattle.cose_msg.specs.declared.verdict.Verdict.{Verdict};
-ghost use Rattle.cose_msg.specs.Kept.{HasTaken, bytes_taken, is_inspecting, is_stopped, kept_answer, setting_in};
+ghost use Rattle.cose_msg.specs.Kept.{HasTaken, bytes_taken, is_inspecting, is_stopped, kept_answer};
 ghost use Rattle.cose_msg.specs.Message.{Setting};
 ghost use Rattle.cose_msg.specs.Task.{to_verify};
+ghost use Rattle.cose_msg.specs.Verifier.{setting_in};
 ghost use Rattle.cose_cwt.specs.declared.token.CwtStop.{CwtStop};
 ghost use Rattle.cose_cwt.specs.Admission.{admitted_claims as admitted_claims_of};
 ghost use Rattle.cose_cwt.specs.Admission.View.{policy_value};
@@ -17,7 +18,7 @@ ghost use Rattle.cose_cwt.specs.Token.{IsRun, IsToken, UnlessStopped, claims_see
 use crate::claims::Claims;
 use crate::laws::claims_refusals_stand_inside;
 use crate::policy::Policy;
-use cose_map::Refusal;
+use cose_map::{Keys, Refusal};
 use cose_msg::laws::settled_stays;
 use cose_msg::{EcVerifier, Intake, Stop, Store, Verdict, Verifier, verify};
 
@@ -80,10 +81,11 @@ pub fn verify_cwt<
     const H: usize,
     const D: usize,
     const L: usize,
+    K: Keys<'k>,
     I: Intake,
     E: EcVerifier,
 >(
-    verifier: &mut Verifier<'k, H, D>,
+    verifier: &mut Verifier<'k, H, D, K>,
     intake: &mut I,
     store: &'a mut Store<L>,
     ec: &E,
@@ -115,17 +117,19 @@ pub fn verify_cwt<
     // A place of the claims is within the store's length, whatever the verifier. In a run it is in the payload, or at its end.
     ensures within { (refusal : Refusal) → claims_seen result ≡ Err (CwtStop.Claims refusal) → refusal.place ≤ L }
 
-    // It stops only for a failure of the intake in this call, and a verifier that stands for the bytes so far never for the store.
+    // It stops only for a failure of the intake in this call, and never for the store.
     ensures intake_failure { I.has_failed intake.new ≡ (I.has_failed intake.old || is_for_intake (stop_in (claims_seen result))) }
-    ensures store_suffices { (setting : Setting) (s B : List ℕ) → HasTaken (to_verify setting) s B verifier.old → is_for_store (stop_in (claims_seen result)) ≡ false }
-    // A kept answer is a failure of neither.
+    ensures store_suffices { is_for_store (stop_in (claims_seen result)) ≡ false }
+    // A kept answer is no failure of the intake.
     ensures again_unfailed { (answer : Result Verdict Stop) → kept_answer verifier.old ≡ Some answer →
-        (is_for_intake (stop_in (claims_seen result)) ≡ false) × (is_for_store (stop_in (claims_seen result)) ≡ false) }
+        is_for_intake (stop_in (claims_seen result)) ≡ false }
 {
     // That a verdict stays when bytes follow, and where claims are refused.
     settled_stays();
     claims_refusals_stand_inside();
+    // What this says of a verifier that has taken nothing is what the proof needs.
+    let _none = verifier.taken();
     store.clear();
-    let verdict = verify::<C, H, D, I, Store<L>, E>(verifier, intake, store, ec);
+    let verdict = verify::<C, H, D, K, I, Store<L>, E>(verifier, intake, store, ec);
     claims_after(verdict, store.bytes(), D, policy)
 }

@@ -16,7 +16,7 @@ use Rattle.cose_msg.specs.Rules.{Rules}
 use Rattle.cose_msg.specs.Run.{Drive, Run, SaysCount, inspection}
 use Rattle.cose_msg.specs.Shown.{shown_in, shown_of}
 use Rattle.cose_msg.specs.Task.{Task, rules_of, to_inspect, to_verify}
-use Rattle.cose_msg.specs.Verifier.{Counts}
+use Rattle.cose_msg.specs.Reader.{Counts}
 use Rattle.cose_msg.proofs.Decisions.{stands_inspected, stands_with_verdict}
 use Rattle.cose_msg.proofs.Runs.{Along, IsKept, at_start, concluded, counted_stands, kept_by, without_more}
 
@@ -35,10 +35,10 @@ verifying_alike goes_last H D setting decides = record {
 }
 
 -- An answer of all bytes that were taken.
-pub answered : {A : Type 0} (answer_of : A → Answer) {H D : ℕ} {task : Task} (rules : Rules) → Alike rules (rules_of H D task) → ((bytes : List ℕ) → StandsBy (length bytes) (message rules bytes).answer) →
-    {s B : List ℕ} {come come_after contents contents_after : Option (List ℕ)} {ended : Bool} {v : Verifier H D} (d : Drive task s B come come_after ended contents contents_after None v) (answer : A) →
+pub answered : {A : Type 0} (answer_of : A → Answer) {H D : ℕ} {S : Type 0} {K : _} {task : Task} (rules : Rules) → Alike rules (rules_of H D task) → ((bytes : List ℕ) → StandsBy (length bytes) (message rules bytes).answer) →
+    {s B : List ℕ} {come come_after contents contents_after : Option (List ℕ)} {ended : Bool} {v : Verifier H D S K} (d : Drive task s B come come_after ended contents contents_after None v) (answer : A) →
     (message rules (s ++ d.taken)).answer ≡ answer_of answer → SaysCount (answer_of answer) v.taken → Run rules answer_of s B come come_after ended contents contents_after (Ok answer) d.taken
-answered answer_of {H} {D} {task} rules same inside {s} {B} {come} {come_after} {contents} {contents_after} {ended} {v} d answer is count = record {
+answered answer_of {H} {D} {S} {K} {task} rules same inside {s} {B} {come} {come_after} {contents} {contents_after} {ended} {v} d answer is count = record {
   bytes = d.bytes;
   none_after_end = λ n lt. same.settled _ ∙ d.none_after_end n lt;
   answer = record {
@@ -51,10 +51,10 @@ answered answer_of {H} {D} {task} rules same inside {s} {B} {come} {come_after} 
 }
 
 -- A stop.
-pub stopped : {A : Type 0} (answer_of : A → Answer) {H D : ℕ} {task : Task} (rules : Rules) → Alike rules (rules_of H D task) →
-    {s B : List ℕ} {come come_after contents contents_after : Option (List ℕ)} {ended : Bool} {v : Verifier H D} (stop : Stop) (d : Drive task s B come come_after ended contents contents_after (Some stop) v) →
+pub stopped : {A : Type 0} (answer_of : A → Answer) {H D : ℕ} {S : Type 0} {K : _} {task : Task} (rules : Rules) → Alike rules (rules_of H D task) →
+    {s B : List ℕ} {come come_after contents contents_after : Option (List ℕ)} {ended : Bool} {v : Verifier H D S K} (stop : Stop) (d : Drive task s B come come_after ended contents contents_after (Some stop) v) →
     Run rules answer_of s B come come_after ended contents contents_after (Err stop) d.taken
-stopped answer_of {H} {D} {task} rules same {s} {B} {come} {come_after} {contents} {contents_after} {ended} {v} stop d = record {
+stopped answer_of {H} {D} {S} {K} {task} rules same {s} {B} {come} {come_after} {contents} {contents_after} {ended} {v} stop d = record {
   bytes = d.bytes;
   none_after_end = λ n lt. same.settled _ ∙ d.none_after_end n lt;
   answer = same.settled (s ++ d.taken) ∙ d.stands;
@@ -62,10 +62,10 @@ stopped answer_of {H} {D} {task} rules same {s} {B} {come} {come_after} {content
 }
 
 -- Nothing is taken where the message is settled already.
-pub still : {H D : ℕ} {task : Task} {s B : List ℕ} {v : Verifier H D} (come contents : Option (List ℕ)) (ended : Bool) → HasTaken task s B v →
+pub still : {H D : ℕ} {S : Type 0} {K : _} {task : Task} {s B : List ℕ} {v : Verifier H D S K} (come contents : Option (List ℕ)) (ended : Bool) → HasTaken task s B v →
     (message (rules_of H D task) (s ++ [])).told.payload ≡ B → shown_of v ≡ shown_in task.setting (message (rules_of H D task) (s ++ [])) → (message (rules_of H D task) (s ++ [])).settled ≡ true →
     Drive task s B come come ended contents contents None v
-still {H} {D} {task} {s} {B} {v} come contents ended h told shown done =
+still {H} {D} {S} {K} {task} {s} {B} {v} come contents ended h told shown done =
     let reads : message (rules_of H D task) ((s ++ []) ++ []) ≡ message (rules_of H D task) (s ++ []) = without_more H D task (s ++ []) in
     let settled_now : (message (rules_of H D task) ((s ++ []) ++ [])).settled ≡ true = ap (λ (r : Reading). r.settled) reads ∙ done in
     let start : Along task s B come come ended contents contents 0 0 v = at_start come contents ended 0 h in
@@ -79,7 +79,7 @@ pub verdict_so_far : VerifyingGoesLast → (H D : ℕ) (setting : Setting) (deci
 verdict_so_far goes_last H D setting decides bytes verdict is =
     ap (λ (r : Reading). r.answer) (goes_last H D setting decides bytes) ∙ ap (λ (r : Reading). then_verified setting.aad decides r.answer) (sym (without_more H D (to_verify setting) bytes)) ∙ is
 
-module _ {H D : ℕ} {setting : Setting} {s B : List ℕ} {come come_after contents contents_after : Option (List ℕ)} {ended : Bool} {v : Verifier H D} where
+module _ {H D : ℕ} {S : Type 0} {K : _} {setting : Setting} {s B : List ℕ} {come come_after contents contents_after : Option (List ℕ)} {ended : Bool} {v : Verifier H D S K} where
   pub verdict_run : VerifyingGoesLast → MessageStandsInside → AllAreFair → (decides : Decides) (verdict : Verdict) (d : Drive (to_verify setting) s B come come_after ended contents contents_after None v) →
       then_verified setting.aad decides (message (comparing H D setting) ((s ++ d.taken) ++ [])).answer ≡ decided verdict → Counts verdict v.taken →
       Run (verifying H D setting decides) decided s B come come_after ended contents contents_after (Ok verdict) d.taken
@@ -88,11 +88,11 @@ module _ {H D : ℕ} {setting : Setting} {s B : List ℕ} {come come_after conte
       let answer : (message (verifying H D setting decides) bytes).answer ≡ decided verdict = verdict_so_far goes_last H D setting decides bytes verdict is in
       answered decided (verifying H D setting decides) (verifying_alike goes_last H D setting decides) (inside (verifying H D setting decides) (fair.verifying H D setting decides)) d verdict answer count
 
-  pub kept_verdict_run : VerifyingGoesLast → MessageStandsInside → AllAreFair → (decides : Decides) (d : Drive (to_verify setting) s B come come_after ended contents contents_after None v) (result : Result Verdict Stop) → answer_kept v.stopped (verdict_in v.phase) ≡ Some result →
+  pub kept_verdict_run : VerifyingGoesLast → MessageStandsInside → AllAreFair → (decides : Decides) (d : Drive (to_verify setting) s B come come_after ended contents contents_after None v) (result : Result Verdict Stop) → answer_kept v.stopped (verdict_in v.reader.phase) ≡ Some result →
       Run (verifying H D setting decides) decided s B come come_after ended contents contents_after result d.taken
   kept_verdict_run goes_last inside fair decides d result kept =
-      let going : answer_kept false (verdict_in v.phase) ≡ Some result = rw d.stands.0.goes_on at kept in
-      let k : IsKept (verdict_in v.phase) result = kept_by (verdict_in v.phase) result going in
+      let going : answer_kept false (verdict_in v.reader.phase) ≡ Some result = rw d.stands.0.goes_on at kept in
+      let k : IsKept (verdict_in v.reader.phase) result = kept_by (verdict_in v.reader.phase) result going in
       let st = stands_with_verdict k.answer (counted_stands d.stands.0) k.kept_is in
       let run : Run (verifying H D setting decides) decided s B come come_after ended contents contents_after (Ok k.answer) d.taken = verdict_run goes_last inside fair decides k.answer d (ap (then_verified setting.aad decides) st.0) st.2 in
       subst (λ (r : Result Verdict Stop). Run (verifying H D setting decides) decided s B come come_after ended contents contents_after r d.taken) (sym k.result_is) run
@@ -107,26 +107,26 @@ module _ {H D : ℕ} {setting : Setting} {s B : List ℕ} {come come_after conte
       let answer : (message (inspecting H D setting) bytes).answer ≡ inspection shown = ap (λ (r : Reading). r.answer) (sym (without_more H D (to_inspect setting) bytes)) ∙ is in
       answered inspection (inspecting H D setting) (alike (inspecting H D setting)) (inside (inspecting H D setting) (fair.inspecting H D setting)) d shown answer count
 
-  pub kept_inspection_run : MessageStandsInside → AllAreFair → (d : Drive (to_inspect setting) s B come come_after ended contents contents_after None v) (result : Result Inspected Stop) → answer_kept v.stopped (inspected_in v.phase) ≡ Some result →
+  pub kept_inspection_run : MessageStandsInside → AllAreFair → (d : Drive (to_inspect setting) s B come come_after ended contents contents_after None v) (result : Result Inspected Stop) → answer_kept v.stopped (inspected_in v.reader.phase) ≡ Some result →
       Run (inspecting H D setting) inspection s B come come_after ended contents contents_after result d.taken
   kept_inspection_run inside fair d result kept =
-      let going : answer_kept false (inspected_in v.phase) ≡ Some result = rw d.stands.0.goes_on at kept in
-      let k : IsKept (inspected_in v.phase) result = kept_by (inspected_in v.phase) result going in
+      let going : answer_kept false (inspected_in v.reader.phase) ≡ Some result = rw d.stands.0.goes_on at kept in
+      let k : IsKept (inspected_in v.reader.phase) result = kept_by (inspected_in v.reader.phase) result going in
       let st = stands_inspected k.answer (counted_stands d.stands.0) k.kept_is in
       let run : Run (inspecting H D setting) inspection s B come come_after ended contents contents_after (Ok k.answer) d.taken = inspection_run inside fair k.answer d st.0 st.2 in
       subst (λ (r : Result Inspected Stop). Run (inspecting H D setting) inspection s B come come_after ended contents contents_after r d.taken) (sym k.result_is) run
 
 -- An answer that is kept is there without a further byte.
-pub kept_verdict_settles : {H D : ℕ} {setting : Setting} {s B : List ℕ} {v : Verifier H D} (result : Result Verdict Stop) → HasTaken (to_verify setting) s B v → answer_kept v.stopped (verdict_in v.phase) ≡ Some result → (message (rules_of H D (to_verify setting)) (s ++ [])).settled ≡ true
-kept_verdict_settles {H} {D} {setting} {s} {B} {v} result h kept =
-    let going : answer_kept false (verdict_in v.phase) ≡ Some result = rw h.goes_on at kept in
-    let k : IsKept (verdict_in v.phase) result = kept_by (verdict_in v.phase) result going in
+pub kept_verdict_settles : {H D : ℕ} {S : Type 0} {K : _} {setting : Setting} {s B : List ℕ} {v : Verifier H D S K} (result : Result Verdict Stop) → HasTaken (to_verify setting) s B v → answer_kept v.stopped (verdict_in v.reader.phase) ≡ Some result → (message (rules_of H D (to_verify setting)) (s ++ [])).settled ≡ true
+kept_verdict_settles {H} {D} {S} {K} {setting} {s} {B} {v} result h kept =
+    let going : answer_kept false (verdict_in v.reader.phase) ≡ Some result = rw h.goes_on at kept in
+    let k : IsKept (verdict_in v.reader.phase) result = kept_by (verdict_in v.reader.phase) result going in
     (stands_with_verdict k.answer (counted_stands h) k.kept_is).1
 
-pub kept_inspection_settles : {H D : ℕ} {setting : Setting} {s B : List ℕ} {v : Verifier H D} (result : Result Inspected Stop) → HasTaken (to_inspect setting) s B v → answer_kept v.stopped (inspected_in v.phase) ≡ Some result → (message (rules_of H D (to_inspect setting)) (s ++ [])).settled ≡ true
-kept_inspection_settles {H} {D} {setting} {s} {B} {v} result h kept =
-    let going : answer_kept false (inspected_in v.phase) ≡ Some result = rw h.goes_on at kept in
-    let k : IsKept (inspected_in v.phase) result = kept_by (inspected_in v.phase) result going in
+pub kept_inspection_settles : {H D : ℕ} {S : Type 0} {K : _} {setting : Setting} {s B : List ℕ} {v : Verifier H D S K} (result : Result Inspected Stop) → HasTaken (to_inspect setting) s B v → answer_kept v.stopped (inspected_in v.reader.phase) ≡ Some result → (message (rules_of H D (to_inspect setting)) (s ++ [])).settled ≡ true
+kept_inspection_settles {H} {D} {S} {K} {setting} {s} {B} {v} result h kept =
+    let going : answer_kept false (inspected_in v.reader.phase) ≡ Some result = rw h.goes_on at kept in
+    let k : IsKept (inspected_in v.reader.phase) result = kept_by (inspected_in v.reader.phase) result going in
     (stands_inspected k.answer (counted_stands h) k.kept_is).1
 
 -- ---- all bytes of an intake that tells them

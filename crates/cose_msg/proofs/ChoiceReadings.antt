@@ -1,19 +1,20 @@
 -- What follows both buckets, by what they come to together.
-use Rattle.std.proofs.Common.{◌≡◌, ℕ, Bool, true, false, List, [], length, Option, Some, None, Result, Ok, Err, refl, sym, ap}
+use Rattle.std.proofs.Common.{◌≡◌, ℕ, Bool, true, false, cond, List, [], length, Option, Some, None, Result, Ok, Err, refl, sym, ap}
 use Rattle.std.specs.Prelude.{◌==◌, is_none, option_map}
 use Rattle.cose_head.specs.declared.reason.Reason.{Reason}
 use Rattle.cose_head.specs.declared.refusal.Refusal.{Refusal}
+use Rattle.cose_map.specs.Key.Value.{KeyValue}
 use Rattle.cose_map.specs.Map.Pairs.{Pair}
 use Rattle.cose_map.specs.Map.Read.{Read}
 use Rattle.cose_map.specs.Bucket.Both.{pair_fault}
-use Rattle.cose_msg.specs.declared.verifier.choice.Choice as code
+use Rattle.cose_msg.specs.declared.reader.choice.Choice as code
 use Rattle.cose_msg.specs.Answer.{Chosen, Headers}
 use Rattle.cose_msg.specs.Chosen.{ChoiceIs, chosen_value}
 use Rattle.cose_msg.specs.Choosing.{choice_of, refused_at}
 use Rattle.cose_msg.specs.Message.{Setting, as_choice, found_key}
 use Rattle.cose_msg.specs.Phases.{both_buckets, headers_told, payload_head}
 use Rattle.cose_msg.specs.Reading.{stop}
-use Rattle.cose_msg.specs.Task.{Task, choice_for, rules_of}
+use Rattle.cose_msg.specs.Task.{Task, choice_among, choice_for, keys_for, rules_of}
 
 module _ (room nesting : ℕ) (task : Task) (headers : Headers) (place : ℕ) where
   fault : Option Refusal
@@ -50,6 +51,14 @@ module _ (room nesting : ℕ) (task : Task) (headers : Headers) (place : ℕ) wh
   pub choice_refuses : (refusal : Refusal) → choice_of task headers place ≡ Err refusal
       → (z : List ℕ) → both_buckets (rules_of room nesting task) headers place z ≡ stop (headers_told headers []) refusal.reason refusal.place
   choice_refuses refusal is z = refuses fault refusal refl is z
+
+-- What is chosen of the keys of a task is what its rules choose.
+chosen_for : (inspects : Bool) (setting : Setting) (headers : Headers) → choice_for inspects setting headers ≡ choice_among (cond inspects None (Some setting.keys)) headers
+chosen_for true setting headers = refl
+chosen_for false setting headers = refl
+
+pub chosen_among : (task : Task) (keys : Option (List KeyValue)) (headers : Headers) → keys ≡ keys_for task → choice_for task.inspects task.setting headers ≡ choice_among keys headers
+chosen_among task keys headers same = rw same (chosen_for task.inspects task.setting headers)
 
 -- A key is chosen exactly where a message isn't only inspected.
 chosen_is_key : (found : Result Chosen Reason) (chosen : Option Chosen) → as_choice found ≡ Ok chosen → is_none chosen ≡ false

@@ -15,9 +15,9 @@ use Rattle.cose_msg.specs.declared.verdict.Inspected.{Inspected}
 use Rattle.cose_msg.specs.declared.verdict.Inspected.TheVariants as inspected
 use Rattle.cose_msg.specs.declared.verdict.Verdict.{Verdict}
 use Rattle.cose_msg.specs.declared.verdict.Verdict.TheVariants.{Authentic, Refused}
-use Rattle.cose_msg.specs.declared.verifier.Chosen as code
-use Rattle.cose_msg.specs.declared.verifier.Place.{Place}
-use Rattle.cose_msg.specs.declared.verifier.Verifier.{Verifier}
+use Rattle.cose_msg.specs.declared.reader.Chosen as code
+use Rattle.cose_msg.specs.declared.reader.Place.{Place}
+use Rattle.cose_msg.specs.declared.reader.Reader.{Reader}
 use Rattle.cose_msg.specs.Answer.{Answer, Chosen, Whole, complete, decided, refused}
 use Rattle.cose_msg.specs.Chosen.{chosen_value}
 use Rattle.cose_msg.specs.Hashing.{authenticator, result_of}
@@ -28,9 +28,9 @@ use Rattle.cose_msg.specs.Phase.{awaits_decision, is_settled}
 use Rattle.cose_msg.specs.Phases.{headers_told}
 use Rattle.cose_msg.specs.Reading.{Reading, Told, settled}
 use Rattle.cose_msg.specs.Run.{SaysCount, inspection}
-use Rattle.cose_msg.specs.Shown.{SignInput, Shown, held_input, input_in, pairs_at, shown_in, shown_of, sign_input_in}
+use Rattle.cose_msg.specs.Shown.{SignInput, Shown, held_input, input_in, pairs_at, shown_in, shown_by, sign_input_in}
 use Rattle.cose_msg.specs.Task.{Task, rules_of, to_inspect, to_verify}
-use Rattle.cose_msg.specs.Verifier.{Counts, HoldsBucket, HoldsIn, IsSigned, Known, StandsFor, is_authentic, left_in, whole_of}
+use Rattle.cose_msg.specs.Reader.{Counts, HoldsBucket, HoldsIn, IsSigned, Known, StandsFor, is_authentic, left_in, whole_of}
 use Rattle.cose_msg.proofs.Waits.{ItemWaits, here, ends_in, truncated_in}
 
 -- ---- a signature
@@ -55,7 +55,7 @@ some_chosen : (chosen : Option code.Chosen) (found : Chosen) → option_map chos
 some_chosen (Some one) found e = (one, refl)
 some_chosen None found e = absurd cc
 
-module _ {H D : ℕ} {task : Task} {B : List ℕ} {n : ℕ} {v : Verifier H D} {reading : List ℕ → Reading} (p : Signed) (e : v.phase ≡ phases.Signed p) (h : StandsFor task B n v reading) where
+module _ {H D : ℕ} {task : Task} {B : List ℕ} {n : ℕ} {v : Reader H D} {reading : List ℕ → Reading} (p : Signed) (e : v.phase ≡ phases.Signed p) (h : StandsFor task B n v reading) where
   pub signed_in : IsSigned task h.known v.chosen v.hashing v.auth.items p
   signed_in = (subst (λ (phase : Phase). HoldsIn task h.known h.told n v phase) e h.holds).2
 
@@ -89,7 +89,7 @@ module _ {H D : ℕ} {task : Task} {B : List ℕ} {n : ℕ} {v : Verifier H D} {
 
 -- ---- an answer that is there
 
-module _ {H D : ℕ} (task : Task) (known : Known) (told : Told) (n : ℕ) (v : Verifier H D) where
+module _ {H D : ℕ} (task : Task) (known : Known) (told : Told) (n : ℕ) (v : Reader H D) where
   left : Phase → Reading
   left phase = left_in (rules_of H D task) known told v phase []
 
@@ -133,13 +133,13 @@ module _ {H D : ℕ} (task : Task) (known : Known) (told : Told) (n : ℕ) (v : 
   inspected_read (phases.Auth p) shown h e = absurd cc
   inspected_read (phases.Signed p) shown h e = absurd cc
 
-pub stands_with_verdict : {H D : ℕ} {task : Task} {B : List ℕ} {n : ℕ} {v : Verifier H D} {reading : List ℕ → Reading} (verdict : Verdict) → StandsFor task B n v reading → verdict_in v.phase ≡ Some verdict → ((reading []).answer ≡ decided verdict) × ((reading []).settled ≡ true) × Counts verdict n
+pub stands_with_verdict : {H D : ℕ} {task : Task} {B : List ℕ} {n : ℕ} {v : Reader H D} {reading : List ℕ → Reading} (verdict : Verdict) → StandsFor task B n v reading → verdict_in v.phase ≡ Some verdict → ((reading []).answer ≡ decided verdict) × ((reading []).settled ≡ true) × Counts verdict n
 unfolding left
 stands_with_verdict {H} {D} {task} {B} {n} {v} {reading} verdict h e =
     let r = verdict_read task h.known h.told n v v.phase verdict h.holds e in
     (ap (λ (x : Reading). x.answer) (h.left []) ∙ r.0, ap (λ (x : Reading). x.settled) (h.left []) ∙ r.1, r.2)
 
-pub stands_inspected : {H D : ℕ} {task : Task} {B : List ℕ} {n : ℕ} {v : Verifier H D} {reading : List ℕ → Reading} (shown : Inspected) → StandsFor task B n v reading → inspected_in v.phase ≡ Some shown → ((reading []).answer ≡ inspection shown) × ((reading []).settled ≡ true) × SaysCount (inspection shown) n
+pub stands_inspected : {H D : ℕ} {task : Task} {B : List ℕ} {n : ℕ} {v : Reader H D} {reading : List ℕ → Reading} (shown : Inspected) → StandsFor task B n v reading → inspected_in v.phase ≡ Some shown → ((reading []).answer ≡ inspection shown) × ((reading []).settled ≡ true) × SaysCount (inspection shown) n
 unfolding left
 stands_inspected {H} {D} {task} {B} {n} {v} {reading} shown h e =
     let r = inspected_read task h.known h.told n v v.phase shown h.holds e in
@@ -147,7 +147,7 @@ stands_inspected {H} {D} {task} {B} {n} {v} {reading} shown h e =
 
 -- ---- no answer yet
 
-module _ {H D : ℕ} (setting : Setting) (known : Known) (told : Told) (n : ℕ) (v : Verifier H D) where
+module _ {H D : ℕ} (setting : Setting) (known : Known) (told : Told) (n : ℕ) (v : Reader H D) where
   open_without_verdict : (phase : Phase) → HoldsIn (to_verify setting) known told n v phase → verdict_in phase ≡ None → awaits_decision phase ≡ false → is_settled phase ≡ false
   open_without_verdict (phases.Settled verdict) h none e = absurd cc
   open_without_verdict (phases.Decided verdict) h none e = absurd h
@@ -184,10 +184,10 @@ module _ {H D : ℕ} (setting : Setting) (known : Known) (told : Told) (n : ℕ)
   open_without_shape (phases.AuthHead p) h none = refl
   open_without_shape (phases.Auth p) h none = refl
 
-pub stands_without_verdict : {H D : ℕ} {setting : Setting} {B : List ℕ} {n : ℕ} {v : Verifier H D} {reading : List ℕ → Reading} → StandsFor (to_verify setting) B n v reading → verdict_in v.phase ≡ None → awaits_decision v.phase ≡ false → is_settled v.phase ≡ false
+pub stands_without_verdict : {H D : ℕ} {setting : Setting} {B : List ℕ} {n : ℕ} {v : Reader H D} {reading : List ℕ → Reading} → StandsFor (to_verify setting) B n v reading → verdict_in v.phase ≡ None → awaits_decision v.phase ≡ false → is_settled v.phase ≡ false
 stands_without_verdict {H} {D} {setting} {B} {n} {v} {reading} h none e = open_without_verdict setting h.known h.told n v v.phase h.holds none e
 
-pub stands_without_shape : {H D : ℕ} {setting : Setting} {B : List ℕ} {n : ℕ} {v : Verifier H D} {reading : List ℕ → Reading} → StandsFor (to_inspect setting) B n v reading → inspected_in v.phase ≡ None → is_settled v.phase ≡ false
+pub stands_without_shape : {H D : ℕ} {setting : Setting} {B : List ℕ} {n : ℕ} {v : Reader H D} {reading : List ℕ → Reading} → StandsFor (to_inspect setting) B n v reading → inspected_in v.phase ≡ None → is_settled v.phase ≡ false
 stands_without_shape {H} {D} {setting} {B} {n} {v} {reading} h none = open_without_shape setting h.known h.told n v v.phase h.holds none
 
 pub open_shows_no_input : (phase : Phase) (held : Option SignInput) → is_settled phase ≡ false → input_in phase held ≡ None
@@ -221,7 +221,7 @@ shown_alike : (p q : Option (List Pair)) (r t : Option (List Pair)) (x y : Optio
     → shown p r x m ≡ shown q t y n
 shown_alike p q r t x y m n e f g h = rw (e, f, g, h) refl
 
-module _ {H D : ℕ} (task : Task) (known : Known) (told : Told) (n : ℕ) (v : Verifier H D) (waits : ItemWaits v) where
+module _ {H D : ℕ} (task : Task) (known : Known) (told : Told) (n : ℕ) (v : Reader H D) (waits : ItemWaits v) where
   open_input : (phase : Phase) → HoldsIn task known told n v phase → is_settled phase ≡ false → input_in phase (held_input v) ≡ sign_input_in task.setting.aad (left task known told n v phase).answer
   unfolding left here
   open_input phase h e = open_shows_no_input phase (held_input v) e ∙ sym (ap (sign_input_in task.setting.aad) (truncated_in task known told n v waits phase h e))
@@ -248,7 +248,7 @@ module _ {H D : ℕ} (task : Task) (known : Known) (told : Told) (n : ℕ) (v : 
   input_shown (phases.AuthHead p) h = open_input (phases.AuthHead p) h refl
   input_shown (phases.Auth p) h = open_input (phases.Auth p) h refl
 
-pub stands_shown : {H D : ℕ} {task : Task} {B : List ℕ} {n : ℕ} {v : Verifier H D} {reading : List ℕ → Reading} → ItemWaits v → StandsFor task B n v reading → shown_of v ≡ shown_in task.setting (reading [])
+pub stands_shown : {H D : ℕ} {task : Task} {B : List ℕ} {n : ℕ} {v : Reader H D} {reading : List ℕ → Reading} → ItemWaits v → StandsFor task B n v reading → shown_by v ≡ shown_in task.setting (reading [])
 unfolding left here
 stands_shown {H} {D} {task} {B} {n} {v} {reading} waits h =
     let same : (reading []).told ≡ h.told = ap (λ (r : Reading). r.told) (h.left [] ∙ ends_in task h.known h.told n v waits v.phase h.holds) in

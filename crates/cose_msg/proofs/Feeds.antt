@@ -1,5 +1,5 @@
 -- A piece that is fed, as far as it was used.
-use Rattle.std.proofs.Common.{◌≡◌, ℕ, ◌+◌, ◌-◌, ◌^◌, ◌<◌, ◌≤◌, Bool, true, false, cond, List, [], ◌∷◌, ◌++◌, length, take, drop, sym, ap, subst, ◌∙◌, append_assoc, arith, inl, inr, length-append, eq-eqb}
+use Rattle.std.proofs.Common.{◌≡◌, ℕ, ◌+◌, ◌-◌, ◌^◌, ◌<◌, ◌≤◌, Bool, true, false, cond, List, [], ◌∷◌, ◌++◌, length, take, drop, refl, sym, ap, subst, ◌∙◌, append_assoc, arith, inl, inr, length-append, eq-eqb}
 use Rattle.std.specs.Prelude.{◌==◌}
 use Rattle.std.proofs.lemmas.Bool.{cases_lt, ne_eqb}
 use Rattle.std.proofs.lemmas.List.{append-nil, take_all, length-take, length-drop, drop-drop}
@@ -11,6 +11,8 @@ use Rattle.cose_msg.specs.Message.{message}
 use Rattle.cose_msg.specs.Phase.{grown, in_payload, is_settled, want_of}
 use Rattle.cose_msg.specs.Reading.{Reading}
 use Rattle.cose_msg.specs.Shown.{Tells, shown_in, shown_of}
+use Rattle.cose_msg.specs.declared.status.Status.TheVariants.{More}
+use Rattle.cose_msg.specs.Status.{status_of}
 use Rattle.cose_msg.specs.Task.{Task, rules_of}
 use Rattle.cose_msg.proofs.Runs.{Bounded, grown_by, settled_if_none_asked, without_more}
 
@@ -67,14 +69,25 @@ part_extended piece from to used count le there = elim (cases_lt 0 to) [
 
 -- ---- a piece so far
 
+unsettled_is_more : (reading : Reading) → reading.settled ≡ false → status_of reading ≡ More
+unsettled_is_more reading unsettled = rw unsettled refl
+
 -- So many bytes of the piece were used, and those between two places are the payload's. A payload that ended before is known.
-pub record Along {H D : ℕ} (task : Task) (s B piece : List ℕ) (used from to : ℕ) (v : Verifier H D) : Type 0 where
+pub record Along {H D : ℕ} {S : Type 0} {K : _} (task : Task) (s B piece : List ℕ) (used from to : ℕ) (v : Verifier H D S K) : Type 0 where
   pub stands : HasTaken task (s ++ take used piece) (B ++ part_of piece from to) v
   pub none_earlier : (n : ℕ) → n < used → (message (rules_of H D task) (s ++ take n piece)).settled ≡ false
   pub over : 0 < to → to < used → (more : List ℕ) → (message (rules_of H D task) ((s ++ take used piece) ++ more)).told.payload ≡ B ++ part_of piece from to
 
-pub at_start : {H D : ℕ} {task : Task} {s B : List ℕ} (piece : List ℕ) {v : Verifier H D} → HasTaken task s B v → Along task s B piece 0 0 0 v
-at_start {H} {D} {task} {s} {B} piece {v} stands = record {
+-- Nothing is used of a piece where the message is no more than it was, unless it wants more.
+pub uses_none : {H D : ℕ} (task : Task) (s piece : List ℕ) → (status_of (message (rules_of H D task) s) ≡ More → ⊥) → Uses (rules_of H D task) s piece 0
+uses_none {H} {D} task s piece wants_none = record {
+  within = omega arith;
+  none_earlier = λ n lt. absurd (omega (arith, lt));
+  all = λ unsettled. absurd (wants_none (unsettled_is_more (message (rules_of H D task) s) (ap (λ (r : Reading). r.settled) (sym (without_more H D task s)) ∙ unsettled)));
+}
+
+pub at_start : {H D : ℕ} {S : Type 0} {K : _} {task : Task} {s B : List ℕ} (piece : List ℕ) {v : Verifier H D S K} → HasTaken task s B v → Along task s B piece 0 0 0 v
+at_start {H} {D} {S} {K} {task} {s} {B} piece {v} stands = record {
   stands = subst (λ (t : List ℕ). HasTaken task t (B ++ []) v) (sym (append-nil s)) (subst (λ (t : List ℕ). HasTaken task s t v) (sym (append-nil B)) stands);
   none_earlier = λ n lt. absurd (omega (arith, lt));
   over = λ some lt. absurd (omega (arith, some, lt));
@@ -97,22 +110,22 @@ none_earlier_then H D task s piece used count before within n lt = elim (cases_l
       rw (e, ← append_assoc s (take used piece) part) (within part short))
 ]
 
-module _ {H D : ℕ} {task : Task} {s B piece : List ℕ} {used from to : ℕ} {v : Verifier H D} (next : Verifier H D) (count : ℕ) (a : Along task s B piece used from to v) where
-  pub stepped : HasTaken task ((s ++ take used piece) ++ next_of piece used count) (grown v.phase (B ++ part_of piece from to) (next_of piece used count)) next →
-      HasTaken task ((s ++ take used piece) ++ take count (drop used piece)) (grown v.phase (B ++ part_of piece from to) (take count (drop used piece))) next
-  stepped h = subst (λ (rest : List ℕ). HasTaken task ((s ++ take used piece) ++ take count rest) (grown v.phase (B ++ part_of piece from to) (take count rest)) next) (rest_of piece used) h
+module _ {H D : ℕ} {S : Type 0} {K : _} {task : Task} {s B piece : List ℕ} {used from to : ℕ} {v : Verifier H D S K} (next : Verifier H D S K) (count : ℕ) (a : Along task s B piece used from to v) where
+  pub stepped : HasTaken task ((s ++ take used piece) ++ next_of piece used count) (grown v.reader.phase (B ++ part_of piece from to) (next_of piece used count)) next →
+      HasTaken task ((s ++ take used piece) ++ take count (drop used piece)) (grown v.reader.phase (B ++ part_of piece from to) (take count (drop used piece))) next
+  stepped h = subst (λ (rest : List ℕ). HasTaken task ((s ++ take used piece) ++ take count rest) (grown v.reader.phase (B ++ part_of piece from to) (take count rest)) next) (rest_of piece used) h
 
   regrouped : (s ++ take used piece) ++ take count (drop used piece) ≡ s ++ take (used + count) piece
   regrouped = append_assoc s (take used piece) (take count (drop used piece)) ∙ ap (λ (t : List ℕ). s ++ t) (sym (used_then piece used count))
 
   -- A step outside the payload.
-  pub goes_past : in_payload v.phase ≡ false → ((more : List ℕ) → 0 < length (B ++ part_of piece from to) → (message (rules_of H D task) ((s ++ take used piece) ++ more)).told.payload ≡ B ++ part_of piece from to) →
+  pub goes_past : in_payload v.reader.phase ≡ false → ((more : List ℕ) → 0 < length (B ++ part_of piece from to) → (message (rules_of H D task) ((s ++ take used piece) ++ more)).told.payload ≡ B ++ part_of piece from to) →
       ((more : List ℕ) → length more < count → (message (rules_of H D task) ((s ++ take used piece) ++ more)).settled ≡ false) →
-      HasTaken task ((s ++ take used piece) ++ take count (drop used piece)) (grown v.phase (B ++ part_of piece from to) (take count (drop used piece))) next →
+      HasTaken task ((s ++ take used piece) ++ take count (drop used piece)) (grown v.reader.phase (B ++ part_of piece from to) (take count (drop used piece))) next →
       (0 < to → from < to) → to ≤ used → used + count ≤ length piece → Along task s B piece (used + count) from to next
   goes_past outside fixed within stands order among fits =
-      let same : grown v.phase (B ++ part_of piece from to) (take count (drop used piece)) ≡ B ++ part_of piece from to =
-      grown_by v.phase (B ++ part_of piece from to) (take count (drop used piece)) ∙ rw outside (append-nil (B ++ part_of piece from to)) in
+      let same : grown v.reader.phase (B ++ part_of piece from to) (take count (drop used piece)) ≡ B ++ part_of piece from to =
+      grown_by v.reader.phase (B ++ part_of piece from to) (take count (drop used piece)) ∙ rw outside (append-nil (B ++ part_of piece from to)) in
       record {
         stands = subst (λ (t : List ℕ). HasTaken task t (B ++ part_of piece from to) next) regrouped (subst (λ (t : List ℕ). HasTaken task ((s ++ take used piece) ++ take count (drop used piece)) t next) same stands);
         none_earlier = none_earlier_then H D task s piece used count a.none_earlier within;
@@ -122,24 +135,24 @@ module _ {H D : ℕ} {task : Task} {s B piece : List ℕ} {used from to : ℕ} {
       }
 
   -- The payload doesn't begin a second time.
-  pub is_behind : ((more : List ℕ) → (message (rules_of H D task) ((s ++ take used piece) ++ more)).told.payload ≡ (B ++ part_of piece from to) ++ take (want_of v.phase) more) → 0 < want_of v.phase → 0 < to → to ≤ used → to ≡ used
+  pub is_behind : ((more : List ℕ) → (message (rules_of H D task) ((s ++ take used piece) ++ more)).told.payload ≡ (B ++ part_of piece from to) ++ take (want_of v.reader.phase) more) → 0 < want_of v.reader.phase → 0 < to → to ≤ used → to ≡ used
   is_behind grows some begun among = elim (cases_lt to used) [
     | inl before ↦ (
         let byte : List ℕ = 0 ∷ [] in
-        let both : B ++ part_of piece from to ≡ (B ++ part_of piece from to) ++ take (want_of v.phase) byte = sym (a.over begun before byte) ∙ grows byte in
-        let lengths : length (B ++ part_of piece from to) ≡ length (B ++ part_of piece from to) + length (take (want_of v.phase) byte) = ap length both ∙ length-append (B ++ part_of piece from to) (take (want_of v.phase) byte) in
-        absurd (omega (arith, lengths, some, length-take (want_of v.phase) byte)))
+        let both : B ++ part_of piece from to ≡ (B ++ part_of piece from to) ++ take (want_of v.reader.phase) byte = sym (a.over begun before byte) ∙ grows byte in
+        let lengths : length (B ++ part_of piece from to) ≡ length (B ++ part_of piece from to) + length (take (want_of v.reader.phase) byte) = ap length both ∙ length-append (B ++ part_of piece from to) (take (want_of v.reader.phase) byte) in
+        absurd (omega (arith, lengths, some, length-take (want_of v.reader.phase) byte)))
     | inr not_before ↦ omega (arith, among, not_before)
   ]
 
   -- A step in the payload: it goes on where it was, or begins.
-  pub goes_on : (from_next : ℕ) → in_payload v.phase ≡ true → part_of piece from_next (used + count) ≡ part_of piece from to ++ take count (drop used piece) →
+  pub goes_on : (from_next : ℕ) → in_payload v.reader.phase ≡ true → part_of piece from_next (used + count) ≡ part_of piece from to ++ take count (drop used piece) →
       ((more : List ℕ) → length more < count → (message (rules_of H D task) ((s ++ take used piece) ++ more)).settled ≡ false) →
-      HasTaken task ((s ++ take used piece) ++ take count (drop used piece)) (grown v.phase (B ++ part_of piece from to) (take count (drop used piece))) next →
+      HasTaken task ((s ++ take used piece) ++ take count (drop used piece)) (grown v.reader.phase (B ++ part_of piece from to) (take count (drop used piece))) next →
       Along task s B piece (used + count) from_next (used + count) next
   goes_on from_next inside part within stands =
-      let same : grown v.phase (B ++ part_of piece from to) (take count (drop used piece)) ≡ B ++ part_of piece from_next (used + count) =
-      grown_by v.phase (B ++ part_of piece from to) (take count (drop used piece)) ∙ rw inside (append_assoc B (part_of piece from to) (take count (drop used piece))) ∙ ap (λ (t : List ℕ). B ++ t) (sym part) in
+      let same : grown v.reader.phase (B ++ part_of piece from to) (take count (drop used piece)) ≡ B ++ part_of piece from_next (used + count) =
+      grown_by v.reader.phase (B ++ part_of piece from to) (take count (drop used piece)) ∙ rw inside (append_assoc B (part_of piece from to) (take count (drop used piece))) ∙ ap (λ (t : List ℕ). B ++ t) (sym part) in
       record {
         stands = subst (λ (t : List ℕ). HasTaken task t (B ++ part_of piece from_next (used + count)) next) regrouped (subst (λ (t : List ℕ). HasTaken task ((s ++ take used piece) ++ take count (drop used piece)) t next) same stands);
         none_earlier = none_earlier_then H D task s piece used count a.none_earlier within;
@@ -148,10 +161,10 @@ module _ {H D : ℕ} {task : Task} {s B piece : List ℕ} {used from to : ℕ} {
 
 -- ---- what comes of a piece
 
-module _ {H D : ℕ} {task : Task} {s B piece : List ℕ} {used from to : ℕ} {v : Verifier H D} (a : Along task s B piece used from to v) where
+module _ {H D : ℕ} {S : Type 0} {K : _} {task : Task} {s B piece : List ℕ} {used from to : ℕ} {v : Verifier H D S K} (a : Along task s B piece used from to v) where
   -- No byte of it is left, or the message is settled.
-  pub uses_all : Bounded → H ≤ 65535 → (count : ℕ) → (message (rules_of H D task) ((s ++ take used piece) ++ [])).settled ≡ is_settled v.phase →
-      (0 < length (take (length piece - used) (drop used piece)) → is_settled v.phase ≡ false → v.taken < 2 ^ 57 → 0 < count) → count ≡ 0 → used ≤ length piece → Uses (rules_of H D task) s piece used
+  pub uses_all : Bounded → H ≤ 65535 → (count : ℕ) → (message (rules_of H D task) ((s ++ take used piece) ++ [])).settled ≡ is_settled v.reader.phase →
+      (0 < length (take (length piece - used) (drop used piece)) → is_settled v.reader.phase ≡ false → v.taken < 2 ^ 57 → 0 < count) → count ≡ 0 → used ≤ length piece → Uses (rules_of H D task) s piece used
   uses_all bounded limit count same some none within = record {
     within = within;
     none_earlier = a.none_earlier;
@@ -171,5 +184,5 @@ module _ {H D : ℕ} {task : Task} {s B piece : List ℕ} {used from to : ℕ} {
       let known : (message (rules_of H D task) s).told.payload ≡ B = ap (λ (r : Reading). r.told.payload) (sym (without_more H D task s)) ∙ before in
       ap (λ (r : Reading). r.told.payload) (sym (without_more H D task (s ++ take used piece))) ∙ now ∙ ap (λ (t : List ℕ). t ++ part_of piece from to) (sym known)
 
-pub tells_now : {H D : ℕ} (task : Task) (bytes : List ℕ) (v : Verifier H D) → shown_of v ≡ shown_in task.setting (message (rules_of H D task) (bytes ++ [])) → Tells task bytes v
+pub tells_now : {H D : ℕ} {S : Type 0} {K : _} (task : Task) (bytes : List ℕ) (v : Verifier H D S K) → shown_of v ≡ shown_in task.setting (message (rules_of H D task) (bytes ++ [])) → Tells task bytes v
 tells_now {H} {D} task bytes v e = e ∙ ap (shown_in task.setting) (without_more H D task bytes)

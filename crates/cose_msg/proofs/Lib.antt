@@ -24,7 +24,7 @@ mod MadeHeaders
 mod MadeMessages
 mod Choices
 mod ChoiceReadings
-mod Keys
+mod ChosenKeys
 mod Opened
 mod Standing
 mod Steps
@@ -36,7 +36,9 @@ mod ToldForms
 mod PayloadLimit
 mod PayloadsKnown
 mod Statuses
-mod Arms
+mod PhaseCases
+mod KeptAnswers
+mod Untouched
 mod Feeds
 mod Cuts
 mod Making

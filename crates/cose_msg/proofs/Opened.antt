@@ -9,7 +9,7 @@ use Rattle.cose_msg.specs.declared.hashing.Hashing.{Hashing}
 use Rattle.cose_msg.specs.Answer.{Chosen, Headers}
 use Rattle.cose_msg.specs.Hashing.{Hashes, HashesFor, authenticator}
 use Rattle.cose_msg.specs.Message.{compared, judged, protected_content, secret_of, structure}
-use Rattle.cose_msg.specs.Verifier.{Known, OpenedFor, whole_of}
+use Rattle.cose_msg.specs.Reader.{Known, OpenedFor, whole_of}
 
 abbrev pub with_payload : Known → List ℕ → Known
 with_payload known payload = record { headers = known.headers; chosen = known.chosen; payload = payload; auth = known.auth }

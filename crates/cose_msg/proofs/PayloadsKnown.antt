@@ -5,14 +5,14 @@ use Rattle.std.proofs.lemmas.List.{length-take, take-append-drop, take_all}
 use Rattle.cose_msg.specs.declared.phase.Payload.{Payload}
 use Rattle.cose_msg.specs.declared.phase.Phase.{Phase}
 use Rattle.cose_msg.specs.declared.phase.Phase.TheVariants as phases
-use Rattle.cose_msg.specs.declared.verifier.Verifier.{Verifier}
+use Rattle.cose_msg.specs.declared.reader.Reader.{Reader}
 use Rattle.cose_msg.specs.Answer.{Chosen, Headers}
 use Rattle.cose_msg.specs.Phase.{in_payload, want_of}
 use Rattle.cose_msg.specs.Phases.{headers_told, finish, auth, auth_head, auth_head_fault, past_auth_head, past_payload}
 use Rattle.cose_msg.specs.Reading.{Reading, Told}
 use Rattle.cose_msg.specs.Rules.{Rules}
 use Rattle.cose_msg.specs.Task.{Task, rules_of}
-use Rattle.cose_msg.specs.Verifier.{HoldsIn, Known, StandsFor, left_in}
+use Rattle.cose_msg.specs.Reader.{HoldsIn, Known, StandsFor, left_in}
 use Rattle.cose_msg.proofs.Steps.{string_whole}
 use Rattle.cose_msg.proofs.ToldForms.{Tells, unless_fault-tells, with_head-tells, with_string-tells}
 use Rattle.cose_msg.proofs.Waits.{fewer, string_waits}
@@ -36,7 +36,7 @@ none_known told other e none some =
     let empty : length told.payload ≡ 0 = ap length (ap (λ (t : Told). t.payload) e ∙ none) in
     absurd (omega (arith, empty, some))
 
-module _ {H D : ℕ} (task : Task) (known : Known) (told : Told) (n : ℕ) (v : Verifier H D) where
+module _ {H D : ℕ} (task : Task) (known : Known) (told : Told) (n : ℕ) (v : Reader H D) where
   -- Where the payload isn't the phase that the next byte is in, nothing is added to it.
   fixed_in : (phase : Phase) → HoldsIn task known told n v phase → in_payload phase ≡ false → known.payload ≡ told.payload → 0 < length told.payload → (more : List ℕ) →
       (left_in (rules_of H D task) known told v phase more).told.payload ≡ told.payload
@@ -90,11 +90,11 @@ module _ {H D : ℕ} (task : Task) (known : Known) (told : Told) (n : ℕ) (v : 
 
 -- ---- a verifier
 
-pub stands_fixed : {H D : ℕ} {task : Task} {B : List ℕ} {n : ℕ} {v : Verifier H D} {reading : List ℕ → Reading} → (more : List ℕ) → StandsFor task B n v reading → in_payload v.phase ≡ false → 0 < length B → (reading more).told.payload ≡ B
+pub stands_fixed : {H D : ℕ} {task : Task} {B : List ℕ} {n : ℕ} {v : Reader H D} {reading : List ℕ → Reading} → (more : List ℕ) → StandsFor task B n v reading → in_payload v.phase ≡ false → 0 < length B → (reading more).told.payload ≡ B
 stands_fixed {H} {D} {task} {B} {n} {v} {reading} more h e some =
     let there : 0 < length h.told.payload = omega (arith, some, ap length h.payload_told) in
     ap (λ (r : Reading). r.told.payload) (h.left more) ∙ fixed_in task h.known h.told n v v.phase h.holds e (h.payload_known ∙ sym h.payload_told) there more ∙ h.payload_told
 
-pub stands_grows : {H D : ℕ} {task : Task} {B : List ℕ} {n : ℕ} {v : Verifier H D} {reading : List ℕ → Reading} → (more : List ℕ) → StandsFor task B n v reading → in_payload v.phase ≡ true → (reading more).told.payload ≡ B ++ take (want_of v.phase) more
+pub stands_grows : {H D : ℕ} {task : Task} {B : List ℕ} {n : ℕ} {v : Reader H D} {reading : List ℕ → Reading} → (more : List ℕ) → StandsFor task B n v reading → in_payload v.phase ≡ true → (reading more).told.payload ≡ B ++ take (want_of v.phase) more
 stands_grows {H} {D} {task} {B} {n} {v} {reading} more h e =
     ap (λ (r : Reading). r.told.payload) (h.left more) ∙ grows_in task h.known h.told n v v.phase h.holds e more ∙ ap (λ (t : List ℕ). t ++ take (want_of v.phase) more) h.payload_known

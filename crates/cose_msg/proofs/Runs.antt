@@ -24,7 +24,7 @@ use Rattle.cose_msg.specs.Run.{Drive}
 use Rattle.cose_msg.specs.Shown.{Tells, shown_in, shown_of}
 use Rattle.cose_msg.specs.Sink.{AppendsFront, Puts}
 use Rattle.cose_msg.specs.Task.{Task, rules_of}
-use Rattle.cose_msg.specs.Verifier.{StandsFor}
+use Rattle.cose_msg.specs.Reader.{StandsFor}
 
 pub or_false : (b other : Bool) → other ≡ false → (b || other) ≡ b
 or_false true other e = refl
@@ -44,7 +44,7 @@ taken_before_failure (Some xs) (Some ys) (Some zs) x p q = p ∙ ap (λ (t : Lis
 
 -- ---- a run so far
 
-pub record Along {H D : ℕ} (task : Task) (s B : List ℕ) (come come_now : Option (List ℕ)) (ended_now : Bool) (contents contents_now : Option (List ℕ)) (sure sure_now : ℕ) (v : Verifier H D) : Type 0 where
+pub record Along {H D : ℕ} {S : Type 0} {K : _} (task : Task) (s B : List ℕ) (come come_now : Option (List ℕ)) (ended_now : Bool) (contents contents_now : Option (List ℕ)) (sure sure_now : ℕ) (v : Verifier H D S K) : Type 0 where
   pub taken : List ℕ
   pub part : List ℕ
   pub bytes : Consumes come come_now taken
@@ -54,8 +54,8 @@ pub record Along {H D : ℕ} (task : Task) (s B : List ℕ) (come come_now : Opt
   pub payload : Appends contents contents_now part
   pub promise : sure ≤ sure_now + length part
 
-abbrev pub at_start : {H D : ℕ} {task : Task} {s B : List ℕ} {v : Verifier H D} (come contents : Option (List ℕ)) (ended : Bool) (sure : ℕ) → HasTaken task s B v → Along task s B come come ended contents contents sure sure v
-at_start {H} {D} {task} {s} {B} {v} come contents ended sure stands = record {
+abbrev pub at_start : {H D : ℕ} {S : Type 0} {K : _} {task : Task} {s B : List ℕ} {v : Verifier H D S K} (come contents : Option (List ℕ)) (ended : Bool) (sure : ℕ) → HasTaken task s B v → Along task s B come come ended contents contents sure sure v
+at_start {H} {D} {S} {K} {task} {s} {B} {v} come contents ended sure stands = record {
   taken = [];
   part = [];
   bytes = Consumes-nil come;
@@ -91,8 +91,8 @@ kept_by (Some answer) result e = let same : result ≡ Ok answer = cc in record 
 kept_by None result e = absurd cc
 
 -- The number of bytes is the one that is counted.
-pub counted_stands : {H D : ℕ} {task : Task} {s B : List ℕ} {v : Verifier H D} → HasTaken task s B v → StandsFor task B v.taken v (λ z. message (rules_of H D task) (s ++ z))
-counted_stands {H} {D} {task} {s} {B} {v} h = subst (λ (n : ℕ). StandsFor task B n v (λ z. message (rules_of H D task) (s ++ z))) (sym h.counted) h.so_far
+pub counted_stands : {H D : ℕ} {S : Type 0} {K : _} {task : Task} {s B : List ℕ} {v : Verifier H D S K} → HasTaken task s B v → StandsFor task B v.taken v.reader (λ z. message (rules_of H D task) (s ++ z))
+counted_stands {H} {D} {S} {K} {task} {s} {B} {v} h = subst (λ (n : ℕ). StandsFor task B n v.reader (λ z. message (rules_of H D task) (s ++ z))) (sym h.counted) h.so_far
 
 pub without_more : (H D : ℕ) (task : Task) (bytes : List ℕ) → message (rules_of H D task) (bytes ++ []) ≡ message (rules_of H D task) bytes
 without_more H D task bytes = ap (message (rules_of H D task)) (append-nil bytes)
@@ -155,12 +155,12 @@ none_after_more H D task s taken piece before within n lt = elim (cases_lt n (le
       rw (e, ← append_assoc s taken (take m piece)) (within (take m piece) short))
 ]
 
-pub goes_on : {H D : ℕ} {task : Task} {s B : List ℕ} {come come_now come_after contents contents_now contents_after : Option (List ℕ)} {ended ended_after : Bool} {sure sure_now sure_after : ℕ} {v next : Verifier H D} (piece : List ℕ) → (a : Along task s B come come_now ended contents contents_now sure sure_now v) → Consumes come_now come_after piece →
-    ((more : List ℕ) → length more < length piece → (message (rules_of H D task) ((s ++ a.taken) ++ more)).settled ≡ false) → HasTaken task ((s ++ a.taken) ++ piece) (grown v.phase (B ++ a.part) piece) next → ended_after ≡ false →
-    Appends contents_now contents_after (payload_of (in_payload v.phase) piece) → sure_now ≤ sure_after + length (payload_of (in_payload v.phase) piece) → Along task s B come come_after ended_after contents contents_after sure sure_after next
-goes_on {H} {D} {task} {s} {B} {come} {come_now} {come_after} {contents} {contents_now} {contents_after} {ended} {ended_after} {sure} {sure_now} {sure_after} {v} {next} piece a took within stands e grew promise =
-    let more : List ℕ = payload_of (in_payload v.phase) piece in
-    let payload_is : grown v.phase (B ++ a.part) piece ≡ B ++ (a.part ++ more) = grown_by v.phase (B ++ a.part) piece ∙ append_assoc B a.part more in
+pub goes_on : {H D : ℕ} {S : Type 0} {K : _} {task : Task} {s B : List ℕ} {come come_now come_after contents contents_now contents_after : Option (List ℕ)} {ended ended_after : Bool} {sure sure_now sure_after : ℕ} {v next : Verifier H D S K} (piece : List ℕ) → (a : Along task s B come come_now ended contents contents_now sure sure_now v) → Consumes come_now come_after piece →
+    ((more : List ℕ) → length more < length piece → (message (rules_of H D task) ((s ++ a.taken) ++ more)).settled ≡ false) → HasTaken task ((s ++ a.taken) ++ piece) (grown v.reader.phase (B ++ a.part) piece) next → ended_after ≡ false →
+    Appends contents_now contents_after (payload_of (in_payload v.reader.phase) piece) → sure_now ≤ sure_after + length (payload_of (in_payload v.reader.phase) piece) → Along task s B come come_after ended_after contents contents_after sure sure_after next
+goes_on {H} {D} {S} {K} {task} {s} {B} {come} {come_now} {come_after} {contents} {contents_now} {contents_after} {ended} {ended_after} {sure} {sure_now} {sure_after} {v} {next} piece a took within stands e grew promise =
+    let more : List ℕ = payload_of (in_payload v.reader.phase) piece in
+    let payload_is : grown v.reader.phase (B ++ a.part) piece ≡ B ++ (a.part ++ more) = grown_by v.reader.phase (B ++ a.part) piece ∙ append_assoc B a.part more in
     record {
       taken = a.taken ++ piece;
       part = a.part ++ more;
@@ -175,15 +175,15 @@ goes_on {H} {D} {task} {s} {B} {come} {come_now} {come_after} {contents} {conten
 -- ---- exits
 
 -- What the bytes tell that were taken in all.
-told_of_all : {H D : ℕ} (task : Task) (v : Verifier H D) (bytes all : List ℕ) → bytes ≡ all → shown_of v ≡ shown_in task.setting (message (rules_of H D task) (bytes ++ [])) → Tells task all v
+told_of_all : {H D : ℕ} {S : Type 0} {K : _} (task : Task) (v : Verifier H D S K) (bytes all : List ℕ) → bytes ≡ all → shown_of v ≡ shown_in task.setting (message (rules_of H D task) (bytes ++ [])) → Tells task all v
 told_of_all {H} {D} task v bytes all same h = subst (λ (b : List ℕ). Tells task b v) same (h ∙ ap (shown_in task.setting) (without_more H D task bytes))
 
 -- Nothing more is wanted, or the intake has ended.
-pub concluded : {H D : ℕ} {task : Task} {s B : List ℕ} {come come_now come_after contents contents_now : Option (List ℕ)} {ended ended_after : Bool} {sure sure_now : ℕ} {v : Verifier H D} → (a : Along task s B come come_now ended contents contents_now sure sure_now v) →
+pub concluded : {H D : ℕ} {S : Type 0} {K : _} {task : Task} {s B : List ℕ} {come come_now come_after contents contents_now : Option (List ℕ)} {ended ended_after : Bool} {sure sure_now : ℕ} {v : Verifier H D S K} → (a : Along task s B come come_now ended contents contents_now sure sure_now v) →
     Consumes come_now come_after [] → (message (rules_of H D task) ((s ++ a.taken) ++ [])).told.payload ≡ B ++ a.part → shown_of v ≡ shown_in task.setting (message (rules_of H D task) ((s ++ a.taken) ++ [])) →
     ((message (rules_of H D task) ((s ++ a.taken) ++ [])).settled ≡ false → (ended_after ≡ true) × IsAtEnd come_after) → ((message (rules_of H D task) ((s ++ a.taken) ++ [])).settled ≡ true → 0 < length a.taken → ended_after ≡ false) →
     Drive task s B come come_after ended_after contents contents_now None v
-concluded {H} {D} {task} {s} {B} {come} {come_now} {come_after} {contents} {contents_now} {ended} {ended_after} {sure} {sure_now} {v} a took told shown not_yet once =
+concluded {H} {D} {S} {K} {task} {s} {B} {come} {come_now} {come_after} {contents} {contents_now} {ended} {ended_after} {sure} {sure_now} {v} a took told shown not_yet once =
     let bytes : List ℕ = s ++ a.taken in
     let here : message (rules_of H D task) (bytes ++ []) ≡ message (rules_of H D task) bytes = without_more H D task bytes in
     let same : (message (rules_of H D task) bytes).settled ≡ (message (rules_of H D task) (bytes ++ [])).settled = ap (λ (r : Reading). r.settled) (sym here) in
@@ -200,10 +200,10 @@ concluded {H} {D} {task} {s} {B} {come} {come_now} {come_after} {contents} {cont
     }
 
 -- A failed intake.
-pub stopped_by_intake : {H D : ℕ} {task : Task} {s B : List ℕ} {come come_now come_after contents contents_now : Option (List ℕ)} {ended ended_after : Bool} {sure sure_now : ℕ} {v next : Verifier H D} → (a : Along task s B come come_now ended contents contents_now sure sure_now v) →
+pub stopped_by_intake : {H D : ℕ} {S : Type 0} {K : _} {task : Task} {s B : List ℕ} {come come_now come_after contents contents_now : Option (List ℕ)} {ended ended_after : Bool} {sure sure_now : ℕ} {v next : Verifier H D S K} → (a : Along task s B come come_now ended contents contents_now sure sure_now v) →
     KeepsOrForgets come_now come_after → (message (rules_of H D task) ((s ++ a.taken) ++ [])).told.payload ≡ B ++ a.part → shown_of v ≡ shown_in task.setting (message (rules_of H D task) ((s ++ a.taken) ++ [])) → (message (rules_of H D task) ((s ++ a.taken) ++ [])).settled ≡ false →
     next.taken ≡ v.taken → shown_of next ≡ shown_of v → Drive task s B come come_after ended_after contents contents_now (Some stops.Intake) next
-stopped_by_intake {H} {D} {task} {s} {B} {come} {come_now} {come_after} {contents} {contents_now} {ended} {ended_after} {sure} {sure_now} {v} {next} a keeps told shown unsettled_yet count same =
+stopped_by_intake {H} {D} {S} {K} {task} {s} {B} {come} {come_now} {come_after} {contents} {contents_now} {ended} {ended_after} {sure} {sure_now} {v} {next} a keeps told shown unsettled_yet count same =
     let bytes : List ℕ = s ++ a.taken in
     let here : message (rules_of H D task) (bytes ++ []) ≡ message (rules_of H D task) bytes = without_more H D task bytes in
     record {
@@ -219,15 +219,15 @@ stopped_by_intake {H} {D} {task} {s} {B} {come} {come_now} {come_after} {content
     }
 
 -- A failed sink: the piece was of the payload.
-pub stopped_by_sink : {H D : ℕ} {task : Task} {s B : List ℕ} {come come_now come_after contents contents_now contents_after : Option (List ℕ)} {ended ended_after : Bool} {sure sure_now : ℕ} {v next : Verifier H D} (stepped : Verifier H D) (piece : List ℕ) → (a : Along task s B come come_now ended contents contents_now sure sure_now v) →
-    Consumes come_now come_after piece → ((more : List ℕ) → length more < length piece → (message (rules_of H D task) ((s ++ a.taken) ++ more)).settled ≡ false) → (message (rules_of H D task) ((s ++ a.taken) ++ piece)).settled ≡ false → in_payload v.phase ≡ true →
-    (message (rules_of H D task) (((s ++ a.taken) ++ piece) ++ [])).told.payload ≡ grown v.phase (B ++ a.part) piece → shown_of stepped ≡ shown_in task.setting (message (rules_of H D task) (((s ++ a.taken) ++ piece) ++ [])) → AppendsFront contents_now contents_after piece →
+pub stopped_by_sink : {H D : ℕ} {S : Type 0} {K : _} {task : Task} {s B : List ℕ} {come come_now come_after contents contents_now contents_after : Option (List ℕ)} {ended ended_after : Bool} {sure sure_now : ℕ} {v next : Verifier H D S K} (stepped : Verifier H D S K) (piece : List ℕ) → (a : Along task s B come come_now ended contents contents_now sure sure_now v) →
+    Consumes come_now come_after piece → ((more : List ℕ) → length more < length piece → (message (rules_of H D task) ((s ++ a.taken) ++ more)).settled ≡ false) → (message (rules_of H D task) ((s ++ a.taken) ++ piece)).settled ≡ false → in_payload v.reader.phase ≡ true →
+    (message (rules_of H D task) (((s ++ a.taken) ++ piece) ++ [])).told.payload ≡ grown v.reader.phase (B ++ a.part) piece → shown_of stepped ≡ shown_in task.setting (message (rules_of H D task) (((s ++ a.taken) ++ piece) ++ [])) → AppendsFront contents_now contents_after piece →
     stepped.taken ≡ length ((s ++ a.taken) ++ piece) → next.taken ≡ stepped.taken → shown_of next ≡ shown_of stepped → Drive task s B come come_after ended_after contents contents_after (Some stops.Sink) next
-stopped_by_sink {H} {D} {task} {s} {B} {come} {come_now} {come_after} {contents} {contents_now} {contents_after} {ended} {ended_after} {sure} {sure_now} {v} {next} stepped piece a took within unsettled_yet in_it told shown front counted count same =
+stopped_by_sink {H} {D} {S} {K} {task} {s} {B} {come} {come_now} {come_after} {contents} {contents_now} {contents_after} {ended} {ended_after} {sure} {sure_now} {v} {next} stepped piece a took within unsettled_yet in_it told shown front counted count same =
     let bytes : List ℕ = (s ++ a.taken) ++ piece in
     let regrouped : bytes ≡ s ++ (a.taken ++ piece) = append_assoc s a.taken piece in
     let here : message (rules_of H D task) (bytes ++ []) ≡ message (rules_of H D task) bytes = without_more H D task bytes in
-    let payload_is : grown v.phase (B ++ a.part) piece ≡ B ++ (a.part ++ piece) = grown_by v.phase (B ++ a.part) piece ∙ rw in_it (append_assoc B a.part piece) in
+    let payload_is : grown v.reader.phase (B ++ a.part) piece ≡ B ++ (a.part ++ piece) = grown_by v.reader.phase (B ++ a.part) piece ∙ rw in_it (append_assoc B a.part piece) in
     record {
       taken = a.taken ++ piece;
       part = a.part ++ piece;
@@ -258,6 +258,11 @@ pub marks_nothing : (was : Bool) (result : Result (Unit {0}) SinkFault) → is_e
 marks_nothing was (Ok u) e = refl
 marks_nothing was (Err fault) e = absurd cc
 
+pub marks_fault : (was first : Bool) (result : Result (Unit {0}) SinkFault) → is_err result ≡ true → marks was result ≡ (first || true)
+marks_fault was true (Err fault) e = refl
+marks_fault was false (Err fault) e = refl
+marks_fault was first (Ok u) e = absurd cc
+
 pub is_done : (result : Result (Unit {0}) SinkFault) → is_err result ≡ true → IsOk result → ⊥
 is_done (Ok u) e p = absurd cc
 is_done (Err fault) e p = absurd cc
@@ -267,10 +272,10 @@ not_at_end zero lt = absurd (omega (arith, lt))
 not_at_end (suc n) lt = refl
 
 -- A sink that is sure of every payload doesn't fail.
-pub sure_enough : {H D : ℕ} {task : Task} {s B : List ℕ} {come come_now contents contents_now : Option (List ℕ)} {ended : Bool} {sure sure_now : ℕ} {v : Verifier H D} (piece known : List ℕ) → (a : Along task s B come come_now ended contents contents_now sure sure_now v) → in_payload v.phase ≡ true → known ≡ grown v.phase (B ++ a.part) piece →
+pub sure_enough : {H D : ℕ} {S : Type 0} {K : _} {task : Task} {s B : List ℕ} {come come_now contents contents_now : Option (List ℕ)} {ended : Bool} {sure sure_now : ℕ} {v : Verifier H D S K} (piece known : List ℕ) → (a : Along task s B come come_now ended contents contents_now sure sure_now v) → in_payload v.reader.phase ≡ true → known ≡ grown v.reader.phase (B ++ a.part) piece →
     length known ≤ task.setting.payload_limit → task.setting.payload_limit ≤ sure → length piece ≤ sure_now
-sure_enough {H} {D} {task} {s} {B} {come} {come_now} {contents} {contents_now} {ended} {sure} {sure_now} {v} piece known a in_it e limit enough =
-    let payload_is : known ≡ B ++ (a.part ++ piece) = e ∙ grown_by v.phase (B ++ a.part) piece ∙ rw in_it (append_assoc B a.part piece) in
+sure_enough {H} {D} {S} {K} {task} {s} {B} {come} {come_now} {contents} {contents_now} {ended} {sure} {sure_now} {v} piece known a in_it e limit enough =
+    let payload_is : known ≡ B ++ (a.part ++ piece) = e ∙ grown_by v.reader.phase (B ++ a.part) piece ∙ rw in_it (append_assoc B a.part piece) in
     omega (arith, a.promise, ap length payload_is, length-append B (a.part ++ piece), length-append a.part piece)
 
 -- ---- a message is settled within a number of bytes
@@ -295,7 +300,7 @@ too_long : (settled : Bool) → (settled ≡ false → settled ≡ true) → set
 too_long true h = refl
 too_long false h = h refl
 
-pub settled_if_none_asked : {H D : ℕ} → Bounded → H ≤ 65535 → {task : Task} {s B : List ℕ} {v : Verifier H D} (asked : ℕ) → HasTaken task s B v → (message (rules_of H D task) (s ++ [])).settled ≡ is_settled v.phase → (is_settled v.phase ≡ false → v.taken < 2 ^ 57 → 0 < asked) → asked ≡ 0 →
+pub settled_if_none_asked : {H D : ℕ} {S : Type 0} {K : _} → Bounded → H ≤ 65535 → {task : Task} {s B : List ℕ} {v : Verifier H D S K} (asked : ℕ) → HasTaken task s B v → (message (rules_of H D task) (s ++ [])).settled ≡ is_settled v.reader.phase → (is_settled v.reader.phase ≡ false → v.taken < 2 ^ 57 → 0 < asked) → asked ≡ 0 →
     (message (rules_of H D task) (s ++ [])).settled ≡ true
 settled_if_none_asked {H} {D} within limit {task} {s} {B} {v} asked h same some none =
     too_long (message (rules_of H D task) (s ++ [])).settled

@@ -1,13 +1,15 @@
--- What a verifier stands for goes by the reading alone.
-use Rattle.std.proofs.Common.{◌≡◌, ℕ, ◌+◌, List, [], ◌∷◌, ◌++◌, length, take, None, refl, sym, ap, subst, ◌∙◌, arith, append_assoc, length-append}
+-- What a reader stands for goes by the reading alone.
+use Rattle.std.proofs.Common.{◌≡◌, ℕ, Bool, ◌+◌, List, [], ◌∷◌, ◌++◌, length, take, None, refl, sym, ap, subst, ◌∙◌, arith, append_assoc, length-append}
 use Rattle.std.proofs.Math.Seq.{take-length}
 use Rattle.cose_head.specs.declared.kind.Kind.TheVariants.{Mac0}
+use Rattle.cose_map.specs.Key.Value.{KeyValue}
 use Rattle.cose_map.specs.Map.Pairs.{Pair}
-use Rattle.cose_msg.specs.declared.verifier.Verifier.{Verifier}
+use Rattle.cose_msg.specs.declared.context.Terms.{Terms}
+use Rattle.cose_msg.specs.declared.reader.Reader.{Reader}
 use Rattle.cose_msg.specs.Reading.{Reading, Told}
 use Rattle.cose_head.specs.Head.{IsMore, bare_head}
 use Rattle.cose_msg.specs.Task.{Task}
-use Rattle.cose_msg.specs.Verifier.{HoldsIn, Known, Shows, StandsFor, setting_of}
+use Rattle.cose_msg.specs.Reader.{HoldsIn, Known, Shows, StandsFor, setting_with}
 
 -- Where nothing is known yet, anything will do.
 abbrev pub unknown : List ℕ → Known
@@ -27,7 +29,7 @@ under_pairs pairs = record {
   auth = [];
 }
 
-pub along : {H D : ℕ} {task : Task} {B : List ℕ} {n : ℕ} (v : Verifier H D) (new old : List ℕ → Reading) → ((z : List ℕ) → new z ≡ old z) → StandsFor task B n v old → StandsFor task B n v new
+pub along : {H D : ℕ} {task : Task} {B : List ℕ} {n : ℕ} (v : Reader H D) (new old : List ℕ → Reading) → ((z : List ℕ) → new z ≡ old z) → StandsFor task B n v old → StandsFor task B n v new
 along v new old same h = record {
   known = h.known;
   told = h.told;
@@ -39,7 +41,7 @@ along v new old same h = record {
 }
 
 -- The same with other numbers and lists that are equal.
-pub moved : {H D : ℕ} {task : Task} {B B' : List ℕ} {n n' : ℕ} (v : Verifier H D) (new old : List ℕ → Reading) → B' ≡ B → n' ≡ n → ((z : List ℕ) → new z ≡ old z) → StandsFor task B' n' v old → StandsFor task B n v new
+pub moved : {H D : ℕ} {task : Task} {B B' : List ℕ} {n n' : ℕ} (v : Reader H D) (new old : List ℕ → Reading) → B' ≡ B → n' ≡ n → ((z : List ℕ) → new z ≡ old z) → StandsFor task B' n' v old → StandsFor task B n v new
 moved {H} {D} {task} {B} {B'} {n} {n'} v new old same_payload same_count same h = record {
   known = h.known;
   told = h.told;
@@ -51,7 +53,7 @@ moved {H} {D} {task} {B} {B'} {n} {n'} v new old same_payload same_count same h 
 }
 
 -- What is told may be said in other words.
-pub shows_as : {H D : ℕ} (task : Task) (v : Verifier H D) (told other : Told) → told ≡ other → Shows task told v → Shows task other v
+pub shows_as : {H D : ℕ} (task : Task) (v : Reader H D) (told other : Told) → told ≡ other → Shows task told v → Shows task other v
 shows_as task v told other same h = subst (λ (t : Told). Shows task t v) same h
 
 -- One byte more of a head is held, and it isn't whole.
@@ -64,18 +66,15 @@ holds_more at n byte held now count kept half =
 pub told_payload : (told other : Told) (B : List ℕ) → told ≡ other → told.payload ≡ B → other.payload ≡ B
 told_payload told other B same is = sym (ap (λ (t : Told). t.payload) same) ∙ is
 
--- A verifier of one context and the other's purpose, both of one task.
-pub same_task : (task a b : Task) → a ≡ task → b ≡ task → record { setting = a.setting; inspects = b.inspects } ≡ task
-same_task task a b e f = rw (e, f) refl
+-- A task that is a reader's, with the keys and for the purpose that it says.
+pub whole_task : (task : Task) (keys : List KeyValue) (terms : Terms) (inspects : Bool) → keys ≡ task.setting.keys → inspects ≡ task.inspects
+    → record { setting = setting_with task.setting.keys terms; inspects = task.inspects } ≡ task → record { setting = setting_with keys terms; inspects = inspects } ≡ task
+whole_task task keys terms inspects same purpose e = rw (same, purpose) e
 
 -- A piece was taken whole.
-pub took_piece : {H D : ℕ} {task : Task} (v : Verifier H D) (s piece : List ℕ) (grows : List ℕ → List ℕ) (used : ℕ) (reading : List ℕ → Reading) → used ≡ length piece
+pub took_piece : {H D : ℕ} {task : Task} (v : Reader H D) (s piece : List ℕ) (grows : List ℕ → List ℕ) (used : ℕ) (reading : List ℕ → Reading) → used ≡ length piece
     → StandsFor task (grows (take used piece)) (length s + used) v (λ z. reading (s ++ (take used piece ++ z))) → StandsFor task (grows piece) (length (s ++ piece)) v (λ z. reading ((s ++ piece) ++ z))
 took_piece v s piece grows used reading e h =
     let all : take used piece ≡ piece = ap (λ (n : ℕ). take n piece) e ∙ take-length piece in
     let count : length s + used ≡ length (s ++ piece) = omega (arith, e, length-append s piece) in
     moved v _ _ (ap grows all) count (λ z. ap reading (append_assoc s piece z ∙ ap (λ (t : List ℕ). s ++ (t ++ z)) (sym all))) h
-
--- Its context is that of the task.
-pub stands_in : {H D : ℕ} {task : Task} {B : List ℕ} {n : ℕ} {v : Verifier H D} {reading : List ℕ → Reading} → StandsFor task B n v reading → setting_of v.context ≡ task.setting
-stands_in h = ap (λ (t : Task). t.setting) h.shows.0

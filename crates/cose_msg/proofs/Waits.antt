@@ -14,14 +14,14 @@ use Rattle.cose_head.specs.Walker.{HasPut}
 use Rattle.cose_msg.specs.declared.phase.Payload.{Payload}
 use Rattle.cose_msg.specs.declared.phase.Phase.{Phase}
 use Rattle.cose_msg.specs.declared.phase.Phase.TheVariants as phases
-use Rattle.cose_msg.specs.declared.verifier.Verifier.{Verifier}
+use Rattle.cose_msg.specs.declared.reader.Reader.{Reader}
 use Rattle.cose_msg.specs.Answer.{Answer, refused}
 use Rattle.cose_msg.specs.Front.{past_array_head, past_first_head, past_second_head}
 use Rattle.cose_msg.specs.Phase.{in_payload, is_settled, want_of}
 use Rattle.cose_msg.specs.Phases.{nothing_told, unprotected_told, headers_told, finish, past_auth_head, past_payload, past_payload_head, past_protected, past_protected_head, past_unprotected}
 use Rattle.cose_msg.specs.Reading.{Next, Reading, Told, cut, settled, past_head, open_items_after, wanted_after, with_head, with_item, with_string}
 use Rattle.cose_msg.specs.Task.{Task, rules_of}
-use Rattle.cose_msg.specs.Verifier.{HoldsHead, HoldsIn, Known, StandsFor, left_in}
+use Rattle.cose_msg.specs.Reader.{HoldsHead, HoldsIn, Known, StandsFor, left_in}
 use Rattle.cose_msg.proofs.Steps.{string_whole}
 
 -- ---- the forms
@@ -59,11 +59,11 @@ fewer held more n left count lt = omega (arith, length-append held more)
 -- ---- the phases
 
 -- What the walker of the unprotected bucket says: of fewer further bytes than it wants, that they end in its item.
-abbrev pub ItemWaits : {H D : ℕ} → Verifier H D → Type 0
+abbrev pub ItemWaits : {H D : ℕ} → Reader H D → Type 0
 ItemWaits {H} {D} v = HasPut H v.unprotected.items v.walker → (more : List ℕ) → length more < wanted_after H D v.unprotected.items →
     read D (left_of (v.unprotected.items ++ more) H 0) ≡ refuse Truncated (length (v.unprotected.items ++ more))
 
-module _ {H D : ℕ} (task : Task) (known : Known) (told : Told) (n : ℕ) (v : Verifier H D) (waits : ItemWaits v) where
+module _ {H D : ℕ} (task : Task) (known : Known) (told : Told) (n : ℕ) (v : Reader H D) (waits : ItemWaits v) where
   -- A phase at the bytes that are held of it.
   unfoldable pub here : Phase → List ℕ → Reading
   here phase z = left_in (rules_of H D task) known told v phase z
@@ -203,26 +203,26 @@ module _ {H D : ℕ} (task : Task) (known : Known) (told : Told) (n : ℕ) (v : 
 
 -- ---- a verifier
 
-pub stands_open : {H D : ℕ} {task : Task} {B : List ℕ} {n : ℕ} {v : Verifier H D} {reading : List ℕ → Reading} → ItemWaits v → (more : List ℕ) → StandsFor task B n v reading → length more < want_of v.phase → (reading more).settled ≡ false
+pub stands_open : {H D : ℕ} {task : Task} {B : List ℕ} {n : ℕ} {v : Reader H D} {reading : List ℕ → Reading} → ItemWaits v → (more : List ℕ) → StandsFor task B n v reading → length more < want_of v.phase → (reading more).settled ≡ false
 unfolding here
 stands_open {H} {D} {task} {B} {n} {v} {reading} waits more h lt = ap (λ (r : Reading). r.settled) (h.left more) ∙ open_in task h.known h.told n v waits v.phase h.holds more lt
 
-pub stands_settled : {H D : ℕ} {task : Task} {B : List ℕ} {n : ℕ} {v : Verifier H D} {reading : List ℕ → Reading} → ItemWaits v → StandsFor task B n v reading → (reading []).settled ≡ is_settled v.phase
+pub stands_settled : {H D : ℕ} {task : Task} {B : List ℕ} {n : ℕ} {v : Reader H D} {reading : List ℕ → Reading} → ItemWaits v → StandsFor task B n v reading → (reading []).settled ≡ is_settled v.phase
 unfolding here
 stands_settled {H} {D} {task} {B} {n} {v} {reading} waits h = ap (λ (r : Reading). r.settled) (h.left [] ∙ ends_in task h.known h.told n v waits v.phase h.holds)
 
-pub stands_wanted : {H D : ℕ} {task : Task} {B : List ℕ} {n : ℕ} {v : Verifier H D} {reading : List ℕ → Reading} → ItemWaits v → StandsFor task B n v reading → (reading []).wanted ≡ want_of v.phase
+pub stands_wanted : {H D : ℕ} {task : Task} {B : List ℕ} {n : ℕ} {v : Reader H D} {reading : List ℕ → Reading} → ItemWaits v → StandsFor task B n v reading → (reading []).wanted ≡ want_of v.phase
 unfolding here
 stands_wanted {H} {D} {task} {B} {n} {v} {reading} waits h = ap (λ (r : Reading). r.wanted) (h.left [] ∙ ends_in task h.known h.told n v waits v.phase h.holds)
 
-pub stands_told : {H D : ℕ} {task : Task} {B : List ℕ} {n : ℕ} {v : Verifier H D} {reading : List ℕ → Reading} → ItemWaits v → StandsFor task B n v reading → (reading []).told.payload ≡ B
+pub stands_told : {H D : ℕ} {task : Task} {B : List ℕ} {n : ℕ} {v : Reader H D} {reading : List ℕ → Reading} → ItemWaits v → StandsFor task B n v reading → (reading []).told.payload ≡ B
 unfolding here
 stands_told {H} {D} {task} {B} {n} {v} {reading} waits h = ap (λ (r : Reading). r.told.payload) (h.left [] ∙ ends_in task h.known h.told n v waits v.phase h.holds) ∙ h.payload_told
 
-pub stands_payload : {H D : ℕ} {task : Task} {B : List ℕ} {n : ℕ} {v : Verifier H D} {reading : List ℕ → Reading} → ItemWaits v → (more : List ℕ) → StandsFor task B n v reading → in_payload v.phase ≡ true → length more ≤ want_of v.phase → (reading more).settled ≡ false
+pub stands_payload : {H D : ℕ} {task : Task} {B : List ℕ} {n : ℕ} {v : Reader H D} {reading : List ℕ → Reading} → ItemWaits v → (more : List ℕ) → StandsFor task B n v reading → in_payload v.phase ≡ true → length more ≤ want_of v.phase → (reading more).settled ≡ false
 unfolding here
 stands_payload {H} {D} {task} {B} {n} {v} {reading} waits more h is le = ap (λ (r : Reading). r.settled) (h.left more) ∙ payload_open task h.known h.told n v waits v.phase h.holds is more le
 
-pub stands_truncated : {H D : ℕ} {task : Task} {B : List ℕ} {n : ℕ} {v : Verifier H D} {reading : List ℕ → Reading} → ItemWaits v → StandsFor task B n v reading → is_settled v.phase ≡ false → (reading []).answer ≡ refused Truncated n
+pub stands_truncated : {H D : ℕ} {task : Task} {B : List ℕ} {n : ℕ} {v : Reader H D} {reading : List ℕ → Reading} → ItemWaits v → StandsFor task B n v reading → is_settled v.phase ≡ false → (reading []).answer ≡ refused Truncated n
 unfolding here
 stands_truncated {H} {D} {task} {B} {n} {v} {reading} waits h e = ap (λ (r : Reading). r.answer) (h.left []) ∙ truncated_in task h.known h.told n v waits v.phase h.holds e

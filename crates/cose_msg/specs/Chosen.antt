@@ -7,8 +7,8 @@ use Rattle.cose_head.specs.declared.refusal.Refusal.{Refusal}
 use Rattle.cose_map.specs.Key.View.{key_value}
 use Rattle.cose_map.specs.Map.Pairs.{Pair}
 use Rattle.cose_map.specs.Map.Read.{Read}
-use Rattle.cose_msg.specs.declared.verifier.Chosen as code
-use Rattle.cose_msg.specs.declared.verifier.choice.Choice as code_choice
+use Rattle.cose_msg.specs.declared.reader.Chosen as code
+use Rattle.cose_msg.specs.declared.reader.choice.Choice as code_choice
 use Rattle.cose_msg.specs.Answer.{Chosen}
 
 abbrev pub chosen_value : code.Chosen → Chosen

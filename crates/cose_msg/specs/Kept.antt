@@ -10,22 +10,18 @@ use Rattle.cose_msg.specs.declared.verdict.Stop.TheVariants as stops
 use Rattle.cose_msg.specs.declared.verdict.Verdict.{Verdict}
 use Rattle.cose_msg.specs.declared.verdict.Verdict.TheVariants.{Authentic, Refused}
 use Rattle.cose_msg.specs.declared.verifier.Verifier.{Verifier}
-use Rattle.cose_msg.specs.Message.{Setting}
+use Rattle.cose_msg.specs.Reader.{SoFar}
 use Rattle.cose_msg.specs.Task.{Task}
-use Rattle.cose_msg.specs.Verifier.{SoFar, setting_of}
+use Rattle.cose_msg.specs.Verifier.{task_of}
 
--- What the verifier reads a message under.
-abbrev pub setting_in : {H D : ℕ} → Verifier H D → Setting
-setting_in v = setting_of v.context
-
-abbrev pub bytes_taken : {H D : ℕ} → Verifier H D → ℕ
+abbrev pub bytes_taken : {H D : ℕ} {S : Type 0} {K : _} → Verifier H D S K → ℕ
 bytes_taken v = v.taken
 
-abbrev pub is_stopped : {H D : ℕ} → Verifier H D → Bool
+abbrev pub is_stopped : {H D : ℕ} {S : Type 0} {K : _} → Verifier H D S K → Bool
 is_stopped v = v.stopped
 
 -- Whether it was made for inspecting alone.
-abbrev pub is_inspecting : {H D : ℕ} → Verifier H D → Bool
+abbrev pub is_inspecting : {H D : ℕ} {S : Type 0} {K : _} → Verifier H D S K → Bool
 is_inspecting v = v.inspecting
 
 abbrev pub verdict_in : Phase → Option Verdict
@@ -49,25 +45,26 @@ answer_kept false (Some answer) = Some (Ok answer)
 answer_kept false None = None
 
 -- The answer that is kept until the verifier is reset: that it had stopped, or the verdict.
-abbrev pub kept_answer : {H D : ℕ} → Verifier H D → Option (Result Verdict Stop)
-kept_answer v = answer_kept v.stopped (verdict_in v.phase)
+abbrev pub kept_answer : {H D : ℕ} {S : Type 0} {K : _} → Verifier H D S K → Option (Result Verdict Stop)
+kept_answer v = answer_kept v.stopped (verdict_in v.reader.phase)
 
 -- The same of a verifier that inspects.
-abbrev pub kept_inspection : {H D : ℕ} → Verifier H D → Option (Result Inspected Stop)
-kept_inspection v = answer_kept v.stopped (inspected_in v.phase)
+abbrev pub kept_inspection : {H D : ℕ} {S : Type 0} {K : _} → Verifier H D S K → Option (Result Inspected Stop)
+kept_inspection v = answer_kept v.stopped (inspected_in v.reader.phase)
 
 -- Nothing is kept of a key: neither which one was chosen, nor a hash that was begun with it.
-abbrev pub KeepsNoKey : {H D : ℕ} → Verifier H D → Type 0
-KeepsNoKey v = (v.chosen ≡ None) × (v.hashing ≡ states.Nothing)
+abbrev pub KeepsNoKey : {H D : ℕ} {S : Type 0} {K : _} → Verifier H D S K → Type 0
+KeepsNoKey v = (v.reader.chosen ≡ None) × (v.reader.hashing ≡ states.Nothing)
 
 -- What came of a message is answered again as it is. Why the verifier stopped is told once.
 abbrev pub answered_again : {A : Type 0} → Result A Stop → Result A Stop
 answered_again (Ok answer) = Ok answer
 answered_again (Err stop) = Err stops.Again
 
--- The verifier has taken the bytes s, the payload B among them, has counted them, and goes on: it hasn't stopped, no end was said
--- before they settled the message, and no signature was decided on.
-pub record HasTaken {H D : ℕ} (task : Task) (s B : List ℕ) (v : Verifier H D) : Type 0 where
-  pub so_far : SoFar task s B v
+-- The verifier, which was made for this task, has taken the bytes s, the payload B among them, has counted them, and goes on: it
+-- hasn't stopped, no end was said before they settled the message, and no signature was decided on.
+pub record HasTaken {H D : ℕ} {S : Type 0} {K : _} (task : Task) (s B : List ℕ) (v : Verifier H D S K) : Type 0 where
+  pub made_for : task_of v ≡ task
+  pub so_far : SoFar task s B v.reader
   pub counted : v.taken ≡ length s
   pub goes_on : v.stopped ≡ false

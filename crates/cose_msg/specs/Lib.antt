@@ -16,6 +16,7 @@ pub mod Hashing
 pub mod Phase
 pub mod Chosen
 pub mod Task
+pub mod Reader
 pub mod Verifier
 pub mod Choosing
 pub mod Intake

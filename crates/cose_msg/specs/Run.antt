@@ -17,7 +17,7 @@ use Rattle.cose_msg.specs.Rules.{Rules}
 use Rattle.cose_msg.specs.Shown.{Tells}
 use Rattle.cose_msg.specs.Sink.{AppendsFront}
 use Rattle.cose_msg.specs.Task.{Task, rules_of}
-use Rattle.cose_msg.specs.Verifier.{Counts}
+use Rattle.cose_msg.specs.Reader.{Counts}
 
 -- Why it stopped, if it did.
 abbrev pub stop_in : {A : Type 0} → Result A Stop → Option Stop
@@ -91,13 +91,13 @@ pub record Run {A : Type 0} (rules : Rules) (answer_of : A → Answer) (s B : Li
   pub payload : (grown : List ℕ) × ((message rules (s ++ taken)).told.payload ≡ B ++ grown) × Grows contents contents_after (stop_in result) grown
 
 -- Where the taking stopped, the bytes haven't settled the message.
-abbrev pub Stands : {H D : ℕ} → Task → List ℕ → List ℕ → ℕ → Option Stop → Bool → Option (List ℕ) → Verifier H D → Type 0
+abbrev pub Stands : {H D : ℕ} {S : Type 0} {K : _} → Task → List ℕ → List ℕ → ℕ → Option Stop → Bool → Option (List ℕ) → Verifier H D S K → Type 0
 Stands {H} {D} task s B taken None ended come_after v = HasTaken task s B v × Ends taken ended come_after (message (rules_of H D task) s)
 Stands {H} {D} task s B taken (Some stop) ended come_after v = (message (rules_of H D task) s).settled ≡ false
 
 -- A verifier that had taken the bytes s, the payload B among them, has taken bytes until none was wanted or the intake had ended,
 -- or until one of both failed.
-pub record Drive {H D : ℕ} (task : Task) (s B : List ℕ) (come come_after : Option (List ℕ)) (ended : Bool) (contents contents_after : Option (List ℕ)) (stop : Option Stop) (v : Verifier H D) : Type 0 where
+pub record Drive {H D : ℕ} {S : Type 0} {K : _} (task : Task) (s B : List ℕ) (come come_after : Option (List ℕ)) (ended : Bool) (contents contents_after : Option (List ℕ)) (stop : Option Stop) (v : Verifier H D S K) : Type 0 where
   pub taken : List ℕ
   pub part : List ℕ
   pub bytes : TakesUntilStop come come_after stop taken

@@ -10,7 +10,8 @@ use Rattle.cose_map.specs.Key.View.{contents, key_value}
 use Rattle.cose_map.specs.Map.Pairs.{Pair}
 use Rattle.cose_map.specs.Map.Read.{Read}
 use Rattle.cose_msg.specs.declared.phase.Phase.{Phase}
-use Rattle.cose_msg.specs.declared.verifier.Place.{Place}
+use Rattle.cose_msg.specs.declared.reader.Place.{Place}
+use Rattle.cose_msg.specs.declared.reader.Reader.{Reader}
 use Rattle.cose_msg.specs.declared.verifier.Verifier.{Verifier}
 use Rattle.cose_msg.specs.Answer.{Answer, Chosen, Whole, decided, complete, shaped}
 use Rattle.cose_msg.specs.Chosen.{chosen_value}
@@ -18,9 +19,9 @@ use Rattle.cose_msg.specs.Hashing.{result_of}
 use Rattle.cose_msg.specs.Message.{Setting, digest_signed, message, comparing, uncompared}
 use Rattle.cose_msg.specs.Phase.{has_signature}
 use Rattle.cose_msg.specs.Phases.{placed_at}
+use Rattle.cose_msg.specs.Reader.{opened_by}
 use Rattle.cose_msg.specs.Reading.{Reading}
 use Rattle.cose_msg.specs.Task.{Task, rules_of}
-use Rattle.cose_msg.specs.Verifier.{opened}
 
 -- What a signature is verified with (RFC 9052 section 4.4): the key, the digest of the structure that was signed, and the signature.
 pub record SignInput : Type 0 where
@@ -70,7 +71,7 @@ shown_in setting reading = record {
   open_items = reading.told.open_items;
 }
 
--- ---- of a verifier
+-- ---- of a reader
 
 abbrev pub value_of : {A : Type 0} → Read A → Option A
 value_of (Ok value) = Some value
@@ -80,39 +81,55 @@ abbrev pub pairs_at : ℕ → Option Place → List ℕ → Option (List Pair)
 pairs_at nesting None content = None
 pairs_at nesting (Some place) content = value_of (bucket_of nesting (placed_at place.at content))
 
-abbrev pub protected_of : {H D : ℕ} → Verifier H D → Option (List Pair)
-protected_of {H} {D} v = pairs_at D v.protected_at v.protected.items
+abbrev pub protected_by : {H D : ℕ} → Reader H D → Option (List Pair)
+protected_by {H} {D} v = pairs_at D v.protected_at v.protected.items
 
-abbrev pub unprotected_of : {H D : ℕ} → Verifier H D → Option (List Pair)
-unprotected_of {H} {D} v = pairs_at D v.unprotected_at v.unprotected.items
+abbrev pub unprotected_by : {H D : ℕ} → Reader H D → Option (List Pair)
+unprotected_by {H} {D} v = pairs_at D v.unprotected_at v.unprotected.items
 
-abbrev pub held_input : {H D : ℕ} → Verifier H D → Option SignInput
+abbrev pub held_input : {H D : ℕ} → Reader H D → Option SignInput
 held_input v = option_map (λ found. record { key = found.key; digest = result_of v.hashing; signature = v.auth.items }) (option_map chosen_value v.chosen)
 
 abbrev pub input_in : Phase → Option SignInput → Option SignInput
 input_in phase held = if has_signature phase then held else None
 
-abbrev pub sign_input_of : {H D : ℕ} → Verifier H D → Option SignInput
-sign_input_of v = input_in v.phase (held_input v)
+abbrev pub sign_input_by : {H D : ℕ} → Reader H D → Option SignInput
+sign_input_by v = input_in v.phase (held_input v)
 
-abbrev pub shown_of : {H D : ℕ} → Verifier H D → Shown
-shown_of v = record {
-  protected = protected_of v;
-  unprotected = unprotected_of v;
-  sign_input = sign_input_of v;
-  open_items = opened v;
+abbrev pub shown_by : {H D : ℕ} → Reader H D → Shown
+shown_by v = record {
+  protected = protected_by v;
+  unprotected = unprotected_by v;
+  sign_input = sign_input_by v;
+  open_items = opened_by v;
 }
 
+-- The bytes of the message in the stores. The running hash counts as 256.
+abbrev pub held_by : {H D : ℕ} → Reader H D → ℕ
+held_by v = length v.protected.items + length v.unprotected.items + length v.head.items + length v.auth.items + 256
+
+-- ---- of a verifier
+
+abbrev pub protected_of : {H D : ℕ} {S : Type 0} {K : _} → Verifier H D S K → Option (List Pair)
+protected_of v = protected_by v.reader
+
+abbrev pub unprotected_of : {H D : ℕ} {S : Type 0} {K : _} → Verifier H D S K → Option (List Pair)
+unprotected_of v = unprotected_by v.reader
+
+abbrev pub sign_input_of : {H D : ℕ} {S : Type 0} {K : _} → Verifier H D S K → Option SignInput
+sign_input_of v = sign_input_by v.reader
+
+abbrev pub shown_of : {H D : ℕ} {S : Type 0} {K : _} → Verifier H D S K → Shown
+shown_of v = shown_by v.reader
+
 -- The verifier tells what these bytes of a message tell.
-abbrev pub Tells : {H D : ℕ} → Task → List ℕ → Verifier H D → Type 0
+abbrev pub Tells : {H D : ℕ} {S : Type 0} {K : _} → Task → List ℕ → Verifier H D S K → Type 0
 Tells {H} {D} task s v = shown_of v ≡ shown_in task.setting (message (rules_of H D task) s)
+
+-- How many bytes of the message it holds.
+abbrev pub held : {H D : ℕ} {S : Type 0} {K : _} → Verifier H D S K → ℕ
+held v = held_by v.reader
 
 -- What the code hands out, without where it lies in memory.
 abbrev pub input_value : Key × Bor (List ℕ) × Bor (List ℕ) → SignInput
 input_value input = record { key = key_value input.0; digest = contents input.1; signature = contents input.2 }
-
--- ---- what is held
-
--- The bytes of the message in the verifier's stores. The running hash counts as 256.
-abbrev pub held : {H D : ℕ} → Verifier H D → ℕ
-held v = length v.protected.items + length v.unprotected.items + length v.head.items + length v.auth.items + 256

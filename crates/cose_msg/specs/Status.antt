@@ -53,9 +53,9 @@ status_at (phases.Settled verdict) = status_of_verdict verdict
 status_at (phases.Shaped p) = Complete
 status_at _ = More
 
-abbrev pub status_in : {H D : ℕ} → Verifier H D → Status
-status_in v = if v.stopped then Stopped else status_at v.phase
+abbrev pub status_in : {H D : ℕ} {S : Type 0} {K : _} → Verifier H D S K → Status
+status_in v = if v.stopped then Stopped else status_at v.reader.phase
 
 -- How many bytes are to come for certain. A verifier that has stopped wants none.
-abbrev pub wanted_in : {H D : ℕ} → Verifier H D → ℕ
-wanted_in v = if v.stopped then 0 else want_of v.phase
+abbrev pub wanted_in : {H D : ℕ} {S : Type 0} {K : _} → Verifier H D S K → ℕ
+wanted_in v = if v.stopped then 0 else want_of v.reader.phase

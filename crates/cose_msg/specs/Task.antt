@@ -1,6 +1,7 @@
 -- What a verifier was made for, and the rules that it reads a message by.
-use Rattle.std.specs.Prelude.{ℕ, Bool, true, false, Option, None, Result, Ok}
+use Rattle.std.specs.Prelude.{ℕ, Bool, true, false, List, Option, Some, None, Result, Ok, if◌then◌else◌}
 use Rattle.cose_head.specs.declared.reason.Reason.{Reason}
+use Rattle.cose_map.specs.Key.Value.{KeyValue}
 use Rattle.cose_msg.specs.Answer.{Answer, Chosen, Headers, Whole}
 use Rattle.cose_msg.specs.Message.{Setting, rules_with, key_choice_of, compared, shape_of}
 use Rattle.cose_msg.specs.Rules.{Rules}
@@ -20,6 +21,15 @@ to_inspect setting = record { setting = setting; inspects = true }
 abbrev pub choice_for : Bool → Setting → Headers → Result (Option Chosen) Reason
 choice_for true setting = λ headers. Ok None
 choice_for false setting = key_choice_of setting.keys
+
+-- The keys of which one is chosen. There are none where a message is only inspected.
+abbrev pub keys_for : Task → Option (List KeyValue)
+keys_for task = if task.inspects then None else Some task.setting.keys
+
+-- What is chosen of the keys that are there, if any are.
+abbrev pub choice_among : Option (List KeyValue) → Headers → Result (Option Chosen) Reason
+choice_among None headers = Ok None
+choice_among (Some keys) headers = key_choice_of keys headers
 
 abbrev pub finish_for : Bool → Setting → Whole → Answer
 finish_for true setting = shape_of

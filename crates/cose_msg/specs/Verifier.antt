@@ -1,37 +1,17 @@
--- What a verifier stands for: what is left of the reading of a message.
-use Rattle.std.specs.Prelude.{◌≡◌, ℕ, ◌+◌, ◌≤◌, Bool, true, false, List, [], ◌++◌, length, Option, Some, None, Ok, ⊤, is_none, option_map, map, ◌==◌}
-use Rattle.cose_head.specs.declared.kind.Kind.{Kind}
-use Rattle.cose_head.specs.Head.{IsMore, bare_head}
-use Rattle.cose_head.specs.Walker.{HasPut, open_now}
-use Rattle.cose_head.specs.Algorithm.{is_mac_of}
-use Rattle.cose_map.specs.Bucket.{bucket_of}
-use Rattle.cose_map.specs.KeySet.View.{keys}
+-- A verifier: what its message is verified under, and what it was made for.
+use Rattle.std.specs.Prelude.{ℕ, List, map}
+use Rattle.cose_map.specs.Key.Value.{KeyValue}
 use Rattle.cose_map.specs.Label.View.{label_value}
-use Rattle.cose_map.specs.Map.Pairs.{Pair}
 use Rattle.cose_msg.specs.declared.context.Context.{Context}
-use Rattle.cose_msg.specs.declared.hashing.Hashing.{Hashing}
-use Rattle.cose_msg.specs.declared.phase.Phase.{Phase}
-use Rattle.cose_msg.specs.declared.phase.Phase.TheVariants as phases
-use Rattle.cose_msg.specs.declared.phase.Signed.{Signed}
-use Rattle.cose_msg.specs.declared.verdict.Verdict.{Verdict}
-use Rattle.cose_msg.specs.declared.verdict.Verdict.TheVariants.{Authentic, Refused}
-use Rattle.cose_msg.specs.declared.verifier.Chosen as code
-use Rattle.cose_msg.specs.declared.verifier.Place.{Place}
 use Rattle.cose_msg.specs.declared.verifier.Verifier.{Verifier}
-use Rattle.cose_msg.specs.Answer.{decided, complete, shaped, Chosen, Headers, Whole}
-use Rattle.cose_msg.specs.Chosen.{chosen_value}
-use Rattle.cose_msg.specs.Front.{first_head, second_head, array_head}
-use Rattle.cose_msg.specs.Hashing.{Hashes, HashesFor, authenticator, result_of}
-use Rattle.cose_msg.specs.Message.{Setting, has_auth_length, message, structure}
-use Rattle.cose_msg.specs.Phases.{nothing_told, unprotected_told, headers_told, placed_at, protected_head, protected, unprotected, payload_head, payload, auth_head, auth}
-use Rattle.cose_msg.specs.Reading.{Reading, Told, open_items_after, wanted_after, settled}
-use Rattle.cose_msg.specs.Rules.{Rules}
-use Rattle.cose_msg.specs.Task.{Task, rules_of}
+use Rattle.cose_msg.specs.Message.{Setting}
+use Rattle.cose_msg.specs.Reader.{opened_by, setting_with}
+use Rattle.cose_msg.specs.Task.{Task}
 
--- A context of the code, without where it lies in memory.
-abbrev pub setting_of : Context → Setting
-setting_of context = record {
-  keys = keys context.keys;
+-- A context of the code, without where it lies in memory, by what its keys mean.
+abbrev pub setting_of : {S : Type 0} → (S → List KeyValue) → Context S → Setting
+setting_of usable context = record {
+  keys = usable context.keys;
   aad = context.aad.now;
   wanted = context.wanted;
   cwt = context.cwt;
@@ -39,162 +19,14 @@ setting_of context = record {
   payload_limit = context.payload_limit;
 }
 
--- What a verifier was made for.
-abbrev pub task_of : {H D : ℕ} → Verifier H D → Task
-task_of v = record { setting = setting_of v.context; inspects = v.inspecting }
+-- What the verifier reads a message under.
+abbrev pub setting_in : {H D : ℕ} {S : Type 0} {K : _} → Verifier H D S K → Setting
+setting_in {K = K} v = setting_with (K.usable v.keys) v.reader.terms
 
--- The store of a header bucket whose pairs are told: it was found good there.
-abbrev pub HoldsBucket : ℕ → Option (List Pair) → Option Place → List ℕ → Type 0
-HoldsBucket nesting None place content = place ≡ None
-HoldsBucket nesting (Some pairs) None content = ⊥
-HoldsBucket nesting (Some pairs) (Some place) content = bucket_of nesting (placed_at place.at content) ≡ Ok pairs
+-- What it was made for.
+abbrev pub task_of : {H D : ℕ} {S : Type 0} {K : _} → Verifier H D S K → Task
+task_of v = record { setting = setting_in v; inspects = v.inspecting }
 
 -- How many arrays, maps and tags of the unprotected bucket are open.
-abbrev pub opened : {H D : ℕ} → Verifier H D → ℕ
-opened v = open_now v.walker
-
--- What a verifier was made for, the buckets that are told, and what is open.
-abbrev pub Shows : {H D : ℕ} → Task → Told → Verifier H D → Type 0
-Shows {H} {D} task told v = (task_of v ≡ task)
-    × HoldsBucket D told.protected v.protected_at v.protected.items × HoldsBucket D told.unprotected v.unprotected_at v.unprotected.items
-    × (opened v ≡ told.open_items)
-
--- What is known of a message besides what is told: its headers, the key, and the bytes so far of the payload, and of the tag or
--- signature. No key is chosen where it is only inspected.
-pub record Known : Type 0 where
-  pub headers : Headers
-  pub chosen : Option Chosen
-  pub payload : List ℕ
-  pub auth : List ℕ
-
-abbrev pub whole_of : Known → ℕ → ℕ → Whole
-whole_of known auth_at taken = record {
-  headers = known.headers;
-  chosen = known.chosen;
-  payload = known.payload;
-  auth = known.auth;
-  auth_at = auth_at;
-  taken = taken;
-}
-
--- What is left of the definition: the phase, at the bytes that are held of it and those to come.
-abbrev pub left_in : {H D : ℕ} → Rules → Known → Told → Verifier H D → Phase → List ℕ → Reading
-left_in rules known told v phases.FirstHead z = first_head rules 0 (v.head.items ++ z)
-left_in rules known told v (phases.TagHead p) z = second_head rules p.at (v.head.items ++ z)
-left_in rules known told v (phases.ArrayHead p) z = array_head rules p.kind p.at (v.head.items ++ z)
-left_in rules known told v (phases.ProtectedHead p) z = protected_head rules p.kind p.at (v.head.items ++ z)
-left_in rules known told v (phases.Protected p) z = protected rules p.kind p.length p.at (v.protected.items ++ z)
-left_in rules known told v (phases.Unprotected p) z =
-    unprotected rules p.kind v.protected.items known.headers.protected_pairs p.at (v.unprotected.items ++ z)
-left_in rules known told v (phases.PayloadHead p) z = payload_head rules known.headers known.chosen p.at (v.head.items ++ z)
-left_in rules known told v (phases.Payload p) z = payload rules known.headers known.chosen p.length p.at (known.payload ++ z)
-left_in rules known told v (phases.AuthHead p) z = auth_head rules known.headers known.chosen known.payload p.at (v.head.items ++ z)
-left_in rules known told v (phases.Auth p) z =
-    auth rules known.headers known.chosen known.payload p.head_at p.length p.at (known.auth ++ z)
-left_in rules known told v (phases.Signed p) z =
-    settled (headers_told known.headers known.payload) (complete (whole_of known p.head_at p.taken))
-left_in rules known told v (phases.Decided verdict) z = settled told (decided verdict)
-left_in rules known told v (phases.Settled verdict) z = settled told (decided verdict)
-left_in rules known told v (phases.Shaped p) z = settled told (shaped p.kind p.payload p.auth p.taken)
-
--- A head at this place, of which some bytes are held and not all; n bytes were taken in all.
-abbrev pub HoldsHead : {H D : ℕ} → ℕ → ℕ → Verifier H D → Type 0
-HoldsHead at n v = IsMore (bare_head v.head.items) × (n ≡ at + length v.head.items)
-
--- The kind, and the key, if one is to be chosen.
-abbrev pub HoldsKey : {H D : ℕ} → Task → Known → Verifier H D → Kind → Type 0
-HoldsKey task known v kind =
-    (known.headers.kind ≡ kind) × (option_map chosen_value v.chosen ≡ known.chosen) × (is_none known.chosen ≡ task.inspects)
-
--- The hash was fed a front of the structure that any payload of so many bytes completes, and the payload so far.
-pub record Opened (hashing : Hashing) (aad : List ℕ) (headers : Headers) (payload : List ℕ) (n : ℕ) (found : Chosen) : Type 0 where
-  pub front : List ℕ
-  pub fed : Hashes hashing found (front ++ payload)
-  pub completes : (all : List ℕ) → length all ≡ n → front ++ all ≡ structure aad headers all
-
-abbrev pub OpenedFor : Option Chosen → Hashing → List ℕ → Headers → List ℕ → ℕ → Type 0
-OpenedFor (Some found) hashing aad headers payload n = Opened hashing aad headers payload n found
-OpenedFor None hashing aad headers payload n = ⊤
-
-abbrev pub IsOpened : Hashing → List ℕ → Known → ℕ → Type 0
-IsOpened hashing aad known n = OpenedFor known.chosen hashing aad known.headers known.payload n
-
--- The hash was fed the whole structure.
-abbrev pub IsFed : Hashing → List ℕ → Known → Type 0
-IsFed hashing aad known = HashesFor hashing known.chosen (structure aad known.headers known.payload)
-
--- The tag or signature is held so far, where there is a key for it. Else it is passed over.
-abbrev pub HoldsAuth : Option Chosen → List ℕ → List ℕ → Type 0
-HoldsAuth (Some found) held auth = held ≡ auth
-HoldsAuth None held auth = ⊤
-
--- All bytes of a message with a signature are there: the key, the digest of what was signed, and the signature.
-pub record IsSigned (task : Task) (known : Known) (chosen : Option code.Chosen) (hashing : Hashing) (auth : List ℕ) (p : Signed) : Type 0 where
-  pub found : Chosen
-  pub key_is : option_map chosen_value chosen ≡ Some found
-  pub chosen_is : known.chosen ≡ Some found
-  pub verifies : task.inspects ≡ false
-  pub kind_is : known.headers.kind ≡ p.kind
-  pub alg_is : found.alg ≡ p.alg
-  pub no_tag : is_mac_of p.alg ≡ false
-  pub payload_is : length known.payload ≡ p.payload
-  pub auth_is : auth ≡ known.auth
-  pub digest_is : result_of hashing ≡ authenticator found (structure task.setting.aad known.headers known.payload)
-
--- The number of bytes of a message whose verdict says it.
-abbrev pub Counts : Verdict → ℕ → Type 0
-Counts (Authentic kind alg payload taken) n = taken ≡ n
-Counts (Refused refusal) n = ⊤
-
--- Nothing is authentic that is only inspected.
-abbrev pub is_authentic : Verdict → Bool
-is_authentic (Authentic kind alg payload taken) = true
-is_authentic (Refused refusal) = false
-
--- What holds of the stores in each phase, where n bytes were taken.
-abbrev pub HoldsIn : {H D : ℕ} → Task → Known → Told → ℕ → Verifier H D → Phase → Type 0
-HoldsIn task known told n v phases.FirstHead = (told ≡ nothing_told) × HoldsHead 0 n v
-HoldsIn task known told n v (phases.TagHead p) = (told ≡ nothing_told) × HoldsHead p.at n v
-HoldsIn task known told n v (phases.ArrayHead p) = (told ≡ nothing_told) × HoldsHead p.at n v
-HoldsIn task known told n v (phases.ProtectedHead p) = (told ≡ nothing_told) × HoldsHead p.at n v
-HoldsIn {H} task known told n v (phases.Protected p) =
-    (told ≡ nothing_told) × (length v.protected.items + p.left ≡ p.length) × (p.length ≤ H) × (n ≡ p.at + length v.protected.items)
-HoldsIn {H} {D} task known told n v (phases.Unprotected p) =
-    (told ≡ unprotected_told known.headers.protected_pairs (open_items_after H D v.unprotected.items))
-    × (bucket_of D (placed_at p.protected_at v.protected.items) ≡ Ok known.headers.protected_pairs)
-    × HasPut H v.unprotected.items v.walker × (n ≡ p.at + length v.unprotected.items)
-    × (p.wanted ≡ wanted_after H D v.unprotected.items)
-HoldsIn task known told n v (phases.PayloadHead p) =
-    (told ≡ headers_told known.headers []) × HoldsHead p.at n v × HoldsKey task known v p.kind
-    × (known.headers.protected ≡ v.protected.items) × (p.is_bare ≡ (length known.headers.protected_pairs == 0))
-    × HashesFor v.hashing known.chosen []
-HoldsIn task known told n v (phases.Payload p) =
-    (told ≡ headers_told known.headers known.payload) × (length known.payload + p.left ≡ p.length) × (n ≡ p.at + length known.payload)
-    × HoldsKey task known v p.kind × IsOpened v.hashing task.setting.aad known p.length
-HoldsIn task known told n v (phases.AuthHead p) =
-    (told ≡ headers_told known.headers known.payload) × HoldsHead p.at n v × HoldsKey task known v p.kind
-    × (length known.payload ≡ p.payload) × IsFed v.hashing task.setting.aad known
-HoldsIn task known told n v (phases.Auth p) =
-    (told ≡ headers_told known.headers known.payload) × (length known.auth + p.left ≡ p.length) × (n ≡ p.at + length known.auth)
-    × HoldsKey task known v p.kind × (length known.payload ≡ p.payload) × IsFed v.hashing task.setting.aad known
-    × (has_auth_length known.chosen p.length ≡ true) × HoldsAuth known.chosen v.auth.items known.auth
-HoldsIn task known told n v (phases.Signed p) =
-    (told ≡ headers_told known.headers known.payload) × (n ≡ p.taken) × IsSigned task known v.chosen v.hashing v.auth.items p
-HoldsIn task known told n v (phases.Decided verdict) = ⊥
-HoldsIn task known told n v (phases.Settled verdict) = Counts verdict n × (is_authentic verdict ≡ true → task.inspects ≡ false)
-HoldsIn task known told n v (phases.Shaped p) = (p.taken ≡ n) × (task.inspects ≡ true)
-
--- A verifier for this task, which has taken n bytes, the payload B among them, stands for a reading of the bytes to come. (Once it
--- has decided on a signature it stands for none.)
-pub record StandsFor {H D : ℕ} (task : Task) (B : List ℕ) (n : ℕ) (v : Verifier H D) (reading : List ℕ → Reading) : Type 0 where
-  pub known : Known
-  pub told : Told
-  pub shows : Shows task told v
-  pub payload_known : known.payload ≡ B
-  pub payload_told : told.payload ≡ B
-  pub holds : HoldsIn task known told n v v.phase
-  pub left : (z : List ℕ) → reading z ≡ left_in (rules_of H D task) known told v v.phase z
-
--- The verifier has taken the bytes s, the payload B among them.
-abbrev pub SoFar : {H D : ℕ} → Task → List ℕ → List ℕ → Verifier H D → Type 0
-SoFar {H} {D} task s B v = StandsFor task B (length s) v (λ z. message (rules_of H D task) (s ++ z))
+abbrev pub opened : {H D : ℕ} {S : Type 0} {K : _} → Verifier H D S K → ℕ
+opened v = opened_by v.reader

@@ -15,9 +15,10 @@ pub enum Wanted {
 
 /// What a message is verified under: the keys, and what the application knows of the message.
 #[derive(Clone, Copy, Debug)]
-pub struct Context<'k> {
-    /// The keys, exactly one of which has to fit the message.
-    pub keys: KeySet<'k>,
+pub struct Context<'k, S = KeySet<'k>> {
+    /// The keys, exactly one of which has to fit the message: a key set, which is read again for each message, or a
+    /// [`KeyTable`](cose_map::KeyTable) or a reference to one, which was read once.
+    pub keys: S,
     /// The externally supplied data (RFC 9052 section 4.3), at most 65,535 bytes.
     pub aad: &'k [u8],
     /// The kinds of messages that are wanted.
@@ -28,4 +29,19 @@ pub struct Context<'k> {
     pub understood: &'k [Label<'k>],
     /// The most bytes that a payload may have.
     pub payload_limit: u64,
+}
+
+/// A context without its keys.
+#[derive(Clone, Copy)]
+pub(crate) struct Terms<'k> {
+    /// The externally supplied data.
+    pub(crate) aad: &'k [u8],
+    /// The kinds of messages that are wanted.
+    pub(crate) wanted: Wanted,
+    /// Whether the CWT tag may stand before the message's own.
+    pub(crate) cwt: bool,
+    /// The labels that the application understands.
+    pub(crate) understood: &'k [Label<'k>],
+    /// The most bytes that a payload may have.
+    pub(crate) payload_limit: u64,
 }

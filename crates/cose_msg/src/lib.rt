@@ -21,7 +21,7 @@
 //! });
 //! let mut payload = Store::<4096>::new();
 //! let mut intake = SliceIntake::new(message, 64);
-//! let verdict = verify::<512, 1024, 8, _, _, _>(&mut verifier, &mut intake, &mut payload, &Never);
+//! let verdict = verify::<512, 1024, 8, _, _, _, _>(&mut verifier, &mut intake, &mut payload, &Never);
 //! ```
 //!
 //! A COSE_Sign1 is authentic where the [`EcVerifier`] that is handed in says so, asked with the key, the digest of the
@@ -70,6 +70,7 @@ mod intake;
 pub mod laws;
 mod make;
 mod phase;
+mod reader;
 mod run;
 #[cfg(test)]
 mod samples;
@@ -83,7 +84,7 @@ mod verifier;
 pub use context::{Context, Wanted};
 pub use cose_head::{Kind, Reason, Refusal};
 pub use cose_mac::Alg;
-pub use cose_map::{Bucket, Key, KeySet, Label};
+pub use cose_map::{Bucket, Key, KeySet, KeyTable, Keys, Label};
 pub use elliptic::{EcVerifier, Never};
 pub use intake::{Intake, IntakeFault, ReadIntake, SliceIntake};
 pub use make::{MakeFault, make_mac0};

@@ -5,13 +5,13 @@ ghost use Rattle.cose_msg.specs.declared.verdict.Inspected.{Inspected};
 ghost use Rattle.cose_msg.specs.declared.verdict.Stop.{Stop};
 ghost use Rattle.cose_msg.specs.declared.verdict.Verdict.{Verdict};
 ghost use Rattle.cose_msg.specs.Answer.{decided};
-ghost use Rattle.cose_msg.specs.Kept.{HasTaken, answered_again, bytes_taken, is_inspecting, is_stopped, kept_answer, kept_inspection, setting_in};
+ghost use Rattle.cose_msg.specs.Kept.{HasTaken, answered_again, bytes_taken, is_inspecting, is_stopped, kept_answer, kept_inspection};
 ghost use Rattle.cose_msg.specs.Message.{Setting, inspecting, message, verdict_of, verifying};
 ghost use Rattle.cose_msg.specs.Run.{Drive, Run, inspection, stop_in, stops_for_intake, stops_for_sink};
 ghost use Rattle.cose_msg.specs.Shown.{Tells, held};
 ghost use Rattle.cose_msg.specs.Status.{status_in, status_left};
 ghost use Rattle.cose_msg.specs.Task.{Task, rules_of, to_inspect, to_verify};
-ghost use Rattle.cose_msg.specs.Verifier.{opened};
+ghost use Rattle.cose_msg.specs.Verifier.{opened, setting_in};
 
 use crate::elliptic::EcVerifier;
 use crate::intake::Intake;
@@ -21,14 +21,19 @@ use crate::laws::{
 use crate::sink::Sink;
 use crate::verdict::{Inspected, Stop, Verdict};
 use crate::verifier::Verifier;
+use cose_map::Keys;
 
 /// Takes pieces of a message until no further byte is wanted, or the intake has ended. It takes none after the message, and hands
 /// the payload to the sink as it comes.
-fn take_message<'k, const C: usize, const H: usize, const D: usize, I: Intake, S: Sink>(
-    verifier: &mut Verifier<'k, H, D>,
-    intake: &mut I,
-    sink: &mut S,
-) -> Result<(), Stop>
+fn take_message<
+    'k,
+    const C: usize,
+    const H: usize,
+    const D: usize,
+    K: Keys<'k>,
+    I: Intake,
+    S: Sink,
+>(verifier: &mut Verifier<'k, H, D, K>, intake: &mut I, sink: &mut S) -> Result<(), Stop>
     requires some { 1 ≤ C }
     requires limit { C ≤ 65536 }
     requires goes_on { is_stopped verifier.old ≡ false }
@@ -52,7 +57,7 @@ fn take_message<'k, const C: usize, const H: usize, const D: usize, I: Intake, S
     messages_are_bounded();
     let mut chunk = [0u8; C];
     'pieces: loop {
-        verifier.waits();
+        verifier.reader.waits();
         let asked = verifier.request(C);
         if asked == 0 {
             return Ok(());
@@ -68,9 +73,9 @@ fn take_message<'k, const C: usize, const H: usize, const D: usize, I: Intake, S
             return Ok(());
         }
         let piece = &chunk[..count];
-        let in_payload = verifier.is_in_payload();
+        let in_payload = verifier.reader.is_in_payload();
         verifier.take_piece(piece);
-        verifier.waits();
+        verifier.reader.waits();
         if in_payload && sink.put(piece).is_err() {
             verifier.stop();
             return Err(Stop::Sink);
@@ -91,10 +96,16 @@ pub fn verify<
     const C: usize,
     const H: usize,
     const D: usize,
+    K: Keys<'k>,
     I: Intake,
     S: Sink,
     E: EcVerifier,
->(verifier: &mut Verifier<'k, H, D>, intake: &mut I, sink: &mut S, ec: &E) -> Result<Verdict, Stop>
+>(
+    verifier: &mut Verifier<'k, H, D, K>,
+    intake: &mut I,
+    sink: &mut S,
+    ec: &E,
+) -> Result<Verdict, Stop>
     requires some { 1 ≤ C }
     requires limit { C ≤ 65536 }
     requires verifies { is_inspecting verifier.old ≡ false }
@@ -132,12 +143,12 @@ pub fn verify<
     settled_stays();
     nothing_stands_after_the_bytes();
     deciding_goes_last();
-    verifier.waits();
+    verifier.reader.waits();
     match verifier.kept_answer() {
         Some(answer) => return answer,
         None => {}
     }
-    match take_message::<C, H, D, I, S>(verifier, intake, sink) {
+    match take_message::<C, H, D, K, I, S>(verifier, intake, sink) {
         Ok(()) => Ok(verifier.conclude(ec)),
         Err(stop) => Err(stop),
     }
@@ -147,8 +158,8 @@ pub fn verify<
 /// signature may have 65,535 bytes, and is passed over.
 ///
 /// The answer is kept, and what stops it is told, as by [`verify`]. The verifier is one that [`Verifier::inspecting`] made.
-pub fn inspect<'k, const C: usize, const H: usize, const D: usize, I: Intake, S: Sink>(
-    verifier: &mut Verifier<'k, H, D>,
+pub fn inspect<'k, const C: usize, const H: usize, const D: usize, K: Keys<'k>, I: Intake, S: Sink>(
+    verifier: &mut Verifier<'k, H, D, K>,
     intake: &mut I,
     sink: &mut S,
 ) -> Result<Inspected, Stop>
@@ -188,12 +199,12 @@ pub fn inspect<'k, const C: usize, const H: usize, const D: usize, I: Intake, S:
     // What these say of messages is all that the proof rests on.
     settled_stays();
     nothing_stands_after_the_bytes();
-    verifier.waits();
+    verifier.reader.waits();
     match verifier.kept_inspection() {
         Some(answer) => return answer,
         None => {}
     }
-    match take_message::<C, H, D, I, S>(verifier, intake, sink) {
+    match take_message::<C, H, D, K, I, S>(verifier, intake, sink) {
         Ok(()) => Ok(verifier.conclude_inspection()),
         Err(stop) => Err(stop),
     }

@@ -12,8 +12,8 @@ use arrayvec::ArrayVec;
 /// Holds up to `L` bytes. A piece that doesn't fit fails, and so does each after it; neither is kept.
 #[derive(Drop)]
 pub struct Store<const L: usize> {
-    held: ArrayVec<u8, L>,
     failed: bool,
+    held: ArrayVec<u8, L>,
 }
 
 impl<const L: usize> Store<L> {
@@ -24,8 +24,8 @@ impl<const L: usize> Store<L> {
         ensures sure { ⟦<Store<L> as Sink>⟧.sure result ≡ L }
     {
         Store {
-            held: ArrayVec::new(),
             failed: false,
+            held: ArrayVec::new(),
         }
     }
 

@@ -14,7 +14,7 @@ use Rattle.cose_msg.specs.Answer.{Answer, decided}
 use Rattle.cose_msg.specs.Laws.{VerdictStays}
 use Rattle.cose_msg.specs.Message.{Decides, Setting, verdict_of, verifying}
 use Rattle.cose_msg.specs.Run.{Run}
-use Rattle.cose_msg.specs.Verifier.{Counts}
+use Rattle.cose_msg.specs.Reader.{Counts}
 use Rattle.cose_cwt.specs.declared.token.CwtStop.{CwtStop}
 use Rattle.cose_cwt.specs.declared.token.CwtStop.TheVariants as stops
 use Rattle.cose_cwt.specs.Admission.{PolicyValue, admitted_claims}
@@ -103,7 +103,7 @@ left_by stays setting decides policy (Some rest) ended (Ok verdict) taken payloa
     let counted : Counts token.verdict (length taken) = subst (λ (v : Verdict). Counts v (length taken)) one run.answer.counted in
     (rest, refl, admitted_token token.verdict rest taken bytes policy (read_as 1024 8 setting decides bytes).told.payload (read_as 1024 8 setting decides bytes).answer outcome claims whole counted token.judged token.comes e)
 
-pub left_of_run : VerdictStays → (setting : Setting) (decides : Decides) (policy : PolicyValue) (come come_after : Option (List ℕ)) (ended : Bool) (v : Verifier 1024 8) (bytes : List ℕ) (outcome : Outcome) (claims : ClaimsValue) (count : ℕ) →
+pub left_of_run : VerdictStays → (setting : Setting) (decides : Decides) (policy : PolicyValue) (come come_after : Option (List ℕ)) (ended : Bool) {S : Type 0} {K : _} (v : Verifier 1024 8 S K) (bytes : List ℕ) (outcome : Outcome) (claims : ClaimsValue) (count : ℕ) →
     IsRun setting decides policy come come_after ended v outcome → UnlessStopped outcome (IsToken 1024 8 setting decides policy bytes outcome) → outcome ≡ Ok claims → come ≡ Some bytes → count ≡ v.taken →
     IsLeft setting decides policy bytes come_after count claims
 left_of_run stays setting decides policy come come_after ended v bytes outcome claims count run token e told counts =

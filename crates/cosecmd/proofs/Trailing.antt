@@ -9,7 +9,7 @@ use Rattle.cose_head.specs.declared.refusal.Refusal.{Refusal}
 use Rattle.cose_msg.specs.declared.verdict.Verdict.{Verdict}
 use Rattle.cose_msg.specs.declared.verdict.Verdict.TheVariants.{Authentic, Refused}
 use Rattle.cose_msg.specs.Answer.{Answer, decided}
-use Rattle.cose_msg.specs.Verifier.{Counts}
+use Rattle.cose_msg.specs.Reader.{Counts}
 use Rattle.cosecmd.specs.Printed.{trailing_refusal, message_length, trailed, unless_longer, followed_by}
 
 -- What a further byte behind the bytes taken makes of an answer, where it ends with them.

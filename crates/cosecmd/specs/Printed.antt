@@ -12,6 +12,7 @@ use Rattle.cose_head.specs.declared.algorithm.Alg.{Alg}
 use Rattle.cose_head.specs.Algorithm.{algorithm_number}
 use Rattle.cose_map.specs.Key.{key_of}
 use Rattle.cose_map.specs.KeySet.{keys_of}
+use Rattle.cose_map.specs.KeyTable.{table_of}
 use Rattle.cose_map.specs.Key.Value.{KeyValue}
 use Rattle.cose_map.specs.Key.View.{contents}
 use Rattle.cose_map.specs.Map.Pairs.{Pair}
@@ -68,6 +69,10 @@ status_of (Refused refusal) = statuses.Refused
 
 abbrev pub said_of : Verdict → Output
 said_of verdict = record { text = verdict_line verdict ++ codes "\n"; status = status_of verdict }
+
+-- The program has room for 16 usable keys.
+abbrev pub program_keys : List ℕ → Read (List KeyValue)
+program_keys bytes = table_of 16 (keys_of bytes)
 
 -- A key set that is refused.
 abbrev pub fault_of_keys : Refusal → Output
@@ -223,10 +228,10 @@ made_under (Err refusal) alg payload_length kid aad bytes = fault_of_key refusal
 -- asks a run that ends so to print it.
 unfoldable pub printed : Job → List ℕ → Output
 printed (Show wanted) bytes = shown wanted bytes
-printed (Verify keys aad wanted vouch) bytes = verified_under (keys_of keys.now) aad.now wanted (option_map contents vouch) bytes
+printed (Verify keys aad wanted vouch) bytes = verified_under (program_keys keys.now) aad.now wanted (option_map contents vouch) bytes
 printed (Cwt keys aad wanted vouch now leeway aud) bytes =
-    admitted_under (keys_of keys.now) aad.now wanted (option_map contents vouch) (program_policy now leeway (option_map text_value aud)) bytes
-printed (Digest keys aad) bytes = digested_under (keys_of keys.now) aad.now bytes
+    admitted_under (program_keys keys.now) aad.now wanted (option_map contents vouch) (program_policy now leeway (option_map text_value aud)) bytes
+printed (Digest keys aad) bytes = digested_under (program_keys keys.now) aad.now bytes
 printed (Make alg key payload_length kid aad) bytes =
     made_under (key_of (record { bytes = key.now; place = 0 })) alg payload_length (option_map contents kid) aad.now bytes
 

@@ -2,9 +2,8 @@
 use Rattle.std.specs.Prelude.{ℕ, List, Option, option_map, string_bytes}
 use Rattle.cose_cwt.specs.Claims.Audience.{text_value}
 use Rattle.cose_map.specs.Key.{key_of}
-use Rattle.cose_map.specs.KeySet.{keys_of}
 use Rattle.cosecmd.specs.Admitted.{program_policy}
-use Rattle.cosecmd.specs.Printed.{Output, admitted_under, digested_under, made_under, shown, verified_under}
+use Rattle.cosecmd.specs.Printed.{Output, admitted_under, digested_under, made_under, program_keys, shown, verified_under}
 use Rattle.cosecmd.specs.declared.words.Cwt.{Cwt}
 use Rattle.cosecmd.specs.declared.words.Digest.{Digest}
 use Rattle.cosecmd.specs.declared.words.Make.{Make}
@@ -13,15 +12,15 @@ use Rattle.cosecmd.specs.declared.words.Request.TheVariants as asks
 use Rattle.cosecmd.specs.declared.words.Verify.{Verify}
 
 abbrev pub verified_for : Verify → List ℕ → Output
-verified_for words bytes = verified_under (keys_of words.keys.items) words.aad.items words.wanted (option_map (λ word. word.items) words.vouch) bytes
+verified_for words bytes = verified_under (program_keys words.keys.items) words.aad.items words.wanted (option_map (λ word. word.items) words.vouch) bytes
 
 abbrev pub admitted_for : Cwt → List ℕ → Output
 admitted_for words bytes =
-    admitted_under (keys_of words.verify.keys.items) words.verify.aad.items words.verify.wanted (option_map (λ word. word.items) words.verify.vouch)
+    admitted_under (program_keys words.verify.keys.items) words.verify.aad.items words.verify.wanted (option_map (λ word. word.items) words.verify.vouch)
     (program_policy words.now words.leeway (option_map text_value words.aud)) bytes
 
 abbrev pub digested_for : Digest → List ℕ → Output
-digested_for words bytes = digested_under (keys_of words.keys.items) words.aad.items bytes
+digested_for words bytes = digested_under (program_keys words.keys.items) words.aad.items bytes
 
 abbrev pub made_for : Make → List ℕ → Output
 made_for words bytes =

@@ -1,22 +1,26 @@
 //! Messages and runs whose answers come from the standards' equations, not from this program.
 
+mod bounds;
 mod commands;
 mod contexts;
 mod cwt;
 mod digests;
 mod failures;
 mod feeding;
+mod limits;
 mod long;
 mod making;
 mod messages;
 mod mistakes;
 mod options;
+mod replaced;
 mod rows;
 mod runs;
 mod showing;
 mod signatures;
 mod stops;
 mod streams;
+mod tables;
 mod using;
 
 ghost use Rattle.std.specs.Prelude.{◌≡◌, ◌≤◌, false, length};
@@ -24,7 +28,7 @@ ghost use Rattle.cose_msg.specs.Kept.{is_inspecting};
 
 use crate::run::run;
 use cose_msg::{
-    Alg, Context, KeySet, Kind, Never, Reason, Refusal, SliceIntake, Stop, Store, Verdict,
+    Alg, Context, KeySet, Keys, Kind, Never, Reason, Refusal, SliceIntake, Stop, Store, Verdict,
     Verifier, Wanted, verify,
 };
 use sha2::{Digest, Sha256};
@@ -111,7 +115,7 @@ fn key_set() -> Option<KeySet<'static>> {
 }
 
 /// What messages are verified under: these keys, and nothing that is known besides the CWT tag.
-fn context(keys: KeySet) -> Context
+fn context<'k, S: Keys<'k>>(keys: S) -> Context<'k, S>
     ensures { length result.aad.now ≤ 65535 }
 {
     Context {
@@ -144,7 +148,7 @@ fn verified_in_pieces(
     requires { is_inspecting verifier.old ≡ false }
 {
     let mut intake = SliceIntake::new(bytes, cut.max(1));
-    verify::<128, 1024, 4, _, _, _>(verifier, &mut intake, store, &Never)
+    verify::<128, 1024, 4, _, _, _, _>(verifier, &mut intake, store, &Never)
 }
 
 /// What a run with these arguments after the program's name writes for the input, its exit status, and what it leaves of the

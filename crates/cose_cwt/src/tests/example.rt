@@ -25,7 +25,7 @@ fn example(rt: &impl Abort, keys: KeySet<'_>, token: &[u8]) {
         leeway: 60,
         audience: Audience::Mine(&["coap://light.example.com"]),
     };
-    match verify_cwt::<512, 1024, 8, 4096, _, _>(
+    match verify_cwt::<512, 1024, 8, 4096, _, _, _>(
         &mut verifier,
         &mut intake,
         &mut store,

@@ -37,7 +37,7 @@ fn stops_at(rt: &impl Abort, keys: KeySet<'_>, fails_at: usize) {
     let mut verifier: Verifier<64, 4> = Verifier::new(context(keys));
     let mut intake = ReadIntake::new(FailingReader { reads: 0, fails_at });
     let mut store: Store<4096> = Store::new();
-    let token = verify_cwt::<64, 64, 4, 4096, ReadIntake<FailingReader>, Never>(
+    let token = verify_cwt::<64, 64, 4, 4096, _, ReadIntake<FailingReader>, Never>(
         &mut verifier,
         &mut intake,
         &mut store,
@@ -63,7 +63,7 @@ fn forgets_what_the_store_held(rt: HostRuntime) -> Result<(), Fail> {
     let _ = store.put(&[0; 4097]);
     let mut verifier: Verifier<64, 4> = Verifier::new(context(keys));
     let mut intake = SliceIntake::new(TOKEN, 64);
-    let token = verify_cwt::<64, 64, 4, 4096, SliceIntake, Never>(
+    let token = verify_cwt::<64, 64, 4, 4096, _, SliceIntake, Never>(
         &mut verifier,
         &mut intake,
         &mut store,
@@ -83,7 +83,7 @@ fn answers_a_kept_refusal_again(rt: HostRuntime) -> Result<(), Fail> {
     let mut verifier: Verifier<64, 4> = Verifier::new(context(keys));
     let mut nothing = SliceIntake::new(b"", 1);
     let mut store: Store<4096> = Store::new();
-    let token = verify_cwt::<64, 64, 4, 4096, SliceIntake, Never>(
+    let token = verify_cwt::<64, 64, 4, 4096, _, SliceIntake, Never>(
         &mut verifier,
         &mut nothing,
         &mut store,
@@ -95,7 +95,7 @@ fn answers_a_kept_refusal_again(rt: HostRuntime) -> Result<(), Fail> {
     let context = verifier.context();
     if verifier.taken() == 0 && context.cwt && context.payload_limit <= 4096 {
         let mut intake = SliceIntake::new(TOKEN, 64);
-        let token = verify_cwt::<64, 64, 4, 4096, SliceIntake, Never>(
+        let token = verify_cwt::<64, 64, 4, 4096, _, SliceIntake, Never>(
             &mut verifier,
             &mut intake,
             &mut store,
@@ -119,7 +119,7 @@ fn may_hold_a_refused_payload(rt: HostRuntime) -> Result<(), Fail> {
     changed[..91].copy_from_slice(front);
     let mut intake = SliceIntake::new(&changed, 64);
     let mut store: Store<4096> = Store::new();
-    let token = verify_cwt::<64, 64, 4, 4096, SliceIntake, Never>(
+    let token = verify_cwt::<64, 64, 4, 4096, _, SliceIntake, Never>(
         &mut verifier,
         &mut intake,
         &mut store,

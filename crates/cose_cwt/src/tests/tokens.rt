@@ -38,7 +38,7 @@ fn expiry(key_set: &[u8], token: &[u8], policy: &Policy<'_>) -> Result<Option<i1
     let mut verifier: Verifier<64, 4> = Verifier::new(context(keys));
     let mut intake = SliceIntake::new(token, 7);
     let mut store: Store<4096> = Store::new();
-    let claims = verify_cwt::<64, 64, 4, 4096, SliceIntake, Never>(
+    let claims = verify_cwt::<64, 64, 4, 4096, _, SliceIntake, Never>(
         &mut verifier,
         &mut intake,
         &mut store,
@@ -46,6 +46,19 @@ fn expiry(key_set: &[u8], token: &[u8], policy: &Policy<'_>) -> Result<Option<i1
         policy,
     )?;
     Ok(claims.exp())
+}
+
+#[test]
+fn is_truncated_at_each_cut(rt: HostRuntime) {
+    for count in 0..TOKEN.len() {
+        let front = TOKEN.get(..count).unwrap_or(&[]);
+        let truncated = refusal(Reason::Truncated, count as u64);
+        assert_eq!(rt;
+            expiry(KEY_SET, front, &at(1_444_064_943, 0)),
+            Err(CwtStop::Message(truncated)),
+            "{count} bytes"
+        );
+    }
 }
 
 #[test]
@@ -134,7 +147,7 @@ fn verifies_signed(rt: &impl Abort, keys: KeySet<'_>) {
     signed[..10].copy_from_slice(b"\xd2\x84\x43\xa1\x01\x26\xa0\x40\x58\x40");
     let mut verifier: Verifier<64, 4> = Verifier::new(context(keys));
     let mut intake = SliceIntake::new(&signed, 64);
-    let verdict = verify::<64, 64, 4, SliceIntake, Nothing, Always>(
+    let verdict = verify::<64, 64, 4, _, SliceIntake, Nothing, Always>(
         &mut verifier,
         &mut intake,
         &mut Nothing,
@@ -155,7 +168,7 @@ fn verifies_under_the_confirmed_key(rt: HostRuntime) -> Result<(), Fail> {
     let mut verifier: Verifier<64, 4> = Verifier::new(context(keys));
     let mut intake = SliceIntake::new(CONFIRMING, 64);
     let mut store: Store<4096> = Store::new();
-    let token = verify_cwt::<64, 64, 4, 4096, SliceIntake, Never>(
+    let token = verify_cwt::<64, 64, 4, 4096, _, SliceIntake, Never>(
         &mut verifier,
         &mut intake,
         &mut store,

@@ -14,7 +14,7 @@ fn inspected(verifier: &mut Verifier<32, 4>, intake: &mut SliceIntake) -> Result
     requires { is_inspecting verifier.old ≡ true }
     ensures { is_inspecting verifier.new ≡ true }
 {
-    inspect::<64, 32, 4, SliceIntake, Nothing>(verifier, intake, &mut Nothing)
+    inspect::<64, 32, 4, _, SliceIntake, Nothing>(verifier, intake, &mut Nothing)
 }
 
 /// What `verify` answers for these bytes.
@@ -22,7 +22,7 @@ fn verified(verifier: &mut Verifier<32, 4>, bytes: &[u8]) -> Result<Verdict, Sto
     requires { is_inspecting verifier.old ≡ false }
 {
     let mut intake = SliceIntake::new(bytes, 64);
-    verify::<64, 32, 4, SliceIntake, Nothing, Never>(verifier, &mut intake, &mut Nothing, &Never)
+    verify::<64, 32, 4, _, SliceIntake, Nothing, Never>(verifier, &mut intake, &mut Nothing, &Never)
 }
 
 #[test]

@@ -17,7 +17,7 @@ fn verifies_at<const C: usize, const H: usize, const D: usize>(rt: &impl Abort)
     let mut verifier = under_jefe::<H, D>().expect(rt, "a verifier");
     let mut intake = WatchedIntake::new(MAC0);
     let mut sink = WatchedSink::<2>::new();
-    let verdict = verify::<C, H, D, WatchedIntake, WatchedSink<2>, Never>(
+    let verdict = verify::<C, H, D, _, WatchedIntake, WatchedSink<2>, Never>(
         &mut verifier,
         &mut intake,
         &mut sink,
@@ -43,7 +43,7 @@ fn takes_a_string_of_the_unprotected_header_at_once(rt: HostRuntime) {
     let mut verifier = under_jefe::<16, 1>().expect(&rt, "a verifier");
     let message = mac0_with_kid();
     let mut intake = WatchedIntake::new(&message);
-    let verdict = verify::<64, 16, 1, WatchedIntake, Nothing, Never>(
+    let verdict = verify::<64, 16, 1, _, WatchedIntake, Nothing, Never>(
         &mut verifier,
         &mut intake,
         &mut Nothing,

@@ -62,7 +62,7 @@ fn verifies_in_pieces(rt: &impl Abort, cut: usize)
     let mut verifier: Verifier<32, 4> = Verifier::new(context);
     let mut intake = SliceIntake::new(&bytes, cut);
     let mut sink: Store<80> = Store::new();
-    let verdict = verify::<64, 32, 4, SliceIntake, Store<80>, Never>(
+    let verdict = verify::<64, 32, 4, _, SliceIntake, Store<80>, Never>(
         &mut verifier,
         &mut intake,
         &mut sink,
@@ -88,14 +88,14 @@ fn says_each_stop_once(rt: HostRuntime) {
     let context = context().expect(&rt, "a context");
     let mut verifier: Verifier<32, 4> = Verifier::new(context);
     let mut failing = ReadIntake::new(FailingReader::new(TOKEN, 40));
-    let stop = verify::<64, 32, 4, ReadIntake<FailingReader>, Nothing, Never>(
+    let stop = verify::<64, 32, 4, _, ReadIntake<FailingReader>, Nothing, Never>(
         &mut verifier,
         &mut failing,
         &mut Nothing,
         &Never,
     );
     assert_eq!(rt; stop, Err(Stop::Intake));
-    let again = verify::<64, 32, 4, ReadIntake<FailingReader>, Nothing, Never>(
+    let again = verify::<64, 32, 4, _, ReadIntake<FailingReader>, Nothing, Never>(
         &mut verifier,
         &mut failing,
         &mut Nothing,
@@ -105,7 +105,7 @@ fn says_each_stop_once(rt: HostRuntime) {
     verifier.reset();
     let mut small: Store<79> = Store::new();
     let mut intake = SliceIntake::new(TOKEN, 64);
-    let stop = verify::<64, 32, 4, SliceIntake, Store<79>, Never>(
+    let stop = verify::<64, 32, 4, _, SliceIntake, Store<79>, Never>(
         &mut verifier,
         &mut intake,
         &mut small,
@@ -123,7 +123,7 @@ fn keeps_a_verdict(rt: HostRuntime) {
         reason: Reason::Truncated,
         place: 113,
     }));
-    let verdict = verify::<64, 32, 4, SliceIntake, Nothing, Never>(
+    let verdict = verify::<64, 32, 4, _, SliceIntake, Nothing, Never>(
         &mut verifier,
         &mut half,
         &mut Nothing,
@@ -131,7 +131,7 @@ fn keeps_a_verdict(rt: HostRuntime) {
     );
     assert_eq!(rt; verdict, truncated);
     let mut whole = SliceIntake::new(TOKEN, 64);
-    let verdict = verify::<64, 32, 4, SliceIntake, Nothing, Never>(
+    let verdict = verify::<64, 32, 4, _, SliceIntake, Nothing, Never>(
         &mut verifier,
         &mut whole,
         &mut Nothing,
@@ -139,7 +139,7 @@ fn keeps_a_verdict(rt: HostRuntime) {
     );
     assert_eq!(rt; verdict, truncated);
     verifier.reset();
-    let verdict = verify::<64, 32, 4, SliceIntake, Nothing, Never>(
+    let verdict = verify::<64, 32, 4, _, SliceIntake, Nothing, Never>(
         &mut verifier,
         &mut whole,
         &mut Nothing,

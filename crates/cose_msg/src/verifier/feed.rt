@@ -1,4 +1,4 @@
-//! A verifier that is fed: pieces of a message as they come, of any length, and what they come to so far.
+//! A verifier that is fed: pieces of a message as they come, of any length, and the status after them.
 
 ghost use Rattle.std.specs.Prelude.{◌≡◌, ◌<◌, ◌≤◌, ◌+◌, ◌*◌, ◌^◌, ℕ, true, false, List, [], ◌++◌, Some, Ok, length, take, ◌==◌, if◌then◌else◌};
 
@@ -7,6 +7,7 @@ use crate::laws::{deciding_goes_last, messages_are_bounded};
 use crate::status::{Fed, Status};
 use crate::verdict::Verdict;
 use crate::verifier::Verifier;
+use cose_map::Keys;
 
 /// The most bytes that are taken in one step. (Any number would do; it keeps the counts small.)
 const STEP: usize = 65_536;
@@ -32,29 +33,29 @@ impl Part {
     }
 }
 
-impl<'k, const H: usize, const D: usize> Verifier<'k, H, D> {
+impl<'k, const H: usize, const D: usize, S: Keys<'k>> Verifier<'k, H, D, S> {
     ghost use Rattle.cose_head.specs.declared.reason.Reason.{Reason};
     ghost use Rattle.cose_msg.specs.Answer.{decided};
     ghost use Rattle.cose_msg.specs.Feed.{Uses, nothing_used, payload_in};
-    ghost use Rattle.cose_msg.specs.Kept.{HasTaken, bytes_taken, is_inspecting, kept_answer, setting_in};
+    ghost use Rattle.cose_msg.specs.Kept.{HasTaken, bytes_taken, is_inspecting, kept_answer};
     ghost use Rattle.cose_msg.specs.Message.{Setting, message, verdict_of};
     ghost use Rattle.cose_msg.specs.Phase.{is_settled, want_of};
     ghost use Rattle.cose_msg.specs.Shown.{Tells, held, shown_of};
     ghost use Rattle.cose_msg.specs.Status.{is_complete, is_more, status_in, status_of, wanted_in};
     ghost use Rattle.cose_msg.specs.Task.{Task, rules_of, to_verify};
-    ghost use Rattle.cose_msg.specs.Verifier.{opened};
+    ghost use Rattle.cose_msg.specs.Verifier.{opened, setting_in};
 
     /// Where the message stands after the bytes so far.
     pub fn status(&self) -> Status
         ensures value { result ≡ status_in self.now }
-        // It goes by what the bytes so far come to.
+        // It is that of the bytes so far, by definition.
         ensures reads { (task : Task) (s B : List ℕ) → HasTaken task s B self.now → result ≡ status_of (message (rules_of H D task) s) }
     {
-        self.waits();
+        self.reader.waits();
         if self.stopped {
             return Status::Stopped;
         }
-        self.phase.status()
+        self.reader.phase.status()
     }
 
     /// Whether all bytes of the message are there, and none of them refused it: [`Verifier::verdict`] may be asked.
@@ -76,20 +77,21 @@ impl<'k, const H: usize, const D: usize> Verifier<'k, H, D> {
         ensures early { (task : Task) (s B more : List ℕ) → HasTaken task s B self.now → length more < result
             → (message (rules_of H D task) (s ++ more)).settled ≡ false }
     {
-        self.waits();
+        self.reader.waits();
         if self.stopped {
             return 0;
         }
-        self.wanted()
+        self.reader.wanted()
     }
 
     /// How many bytes of the rest of a piece to take next.
     fn step(&self, rest: usize) -> usize
         ensures rest { result ≤ rest }
         ensures short { result ≤ 65536 }
-        ensures wanted { result ≤ want_of self.now.phase }
+        ensures wanted { result ≤ want_of self.now.reader.phase }
         ensures early { 0 < result → self.now.taken < 2 ^ 57 }
-        ensures some { 0 < rest → is_settled self.now.phase ≡ false → self.now.taken < 2 ^ 57 → 0 < result }
+        ensures some { 0 < rest → is_settled self.now.reader.phase ≡ false → self.now.taken < 2 ^ 57
+            → 0 < result }
     {
         if rest == 0 {
             return 0;
@@ -129,7 +131,7 @@ impl<'k, const H: usize, const D: usize> Verifier<'k, H, D> {
     {
         // What this says of messages is all that the proof rests on.
         messages_are_bounded();
-        self.waits();
+        self.reader.waits();
         let mut used = 0;
         let mut payload = Part { from: 0, to: 0 };
         if self.want() == 0 {
@@ -141,7 +143,7 @@ impl<'k, const H: usize, const D: usize> Verifier<'k, H, D> {
             };
         }
         'pieces: loop {
-            self.waits();
+            self.reader.waits();
             let rest = &piece[used..];
             let count = self.step(rest.len());
             if count == 0 {
@@ -152,7 +154,7 @@ impl<'k, const H: usize, const D: usize> Verifier<'k, H, D> {
                     status: self.status(),
                 };
             }
-            if self.is_in_payload() {
+            if self.reader.is_in_payload() {
                 payload = payload.extended(used, count);
             }
             self.take_piece(&rest[..count]);
@@ -175,12 +177,11 @@ impl<'k, const H: usize, const D: usize> Verifier<'k, H, D> {
         ensures held { held self.new ≤ 2 * H + 512 }
         ensures opened { opened self.new ≤ D }
     {
-        self.waits();
-        let status = self.status();
-        if !matches!(status, Status::More) {
-            return status;
+        self.reader.waits();
+        match self.status() {
+            Status::More => Status::Refused(self.reader.truncate(self.taken)),
+            status => status,
         }
-        Status::Refused(self.truncate())
     }
 
     /// The verdict on a message that is complete: it asks `ec` about the signature of a COSE_Sign1 (RFC 9052 section 4.4), once.
@@ -205,8 +206,8 @@ impl<'k, const H: usize, const D: usize> Verifier<'k, H, D> {
     {
         // What this says of messages is all that the proof rests on.
         deciding_goes_last();
-        self.waits();
-        match self.known_verdict() {
+        self.reader.waits();
+        match self.reader.known_verdict() {
             Some(verdict) => verdict,
             None => self.conclude(ec),
         }

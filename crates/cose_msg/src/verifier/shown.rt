@@ -1,53 +1,26 @@
 //! What a verifier tells of a message besides what comes of it, and what it holds.
 
-ghost use Rattle.std.specs.Prelude.{◌≡◌, ◌<◌, ◌≤◌, ◌+◌, ◌*◌, ◌^◌, length, option_map};
+ghost use Rattle.std.specs.Prelude.{◌≡◌, ◌≤◌, ◌+◌, ◌*◌, option_map};
 ghost use Rattle.cose_map.specs.Bucket.View.{bucket_pairs};
-ghost use Rattle.cose_msg.specs.Phase.{has_signature};
-ghost use Rattle.cose_msg.specs.Shown.{held, input_value, pairs_at, protected_of, sign_input_of, unprotected_of};
+ghost use Rattle.cose_msg.specs.Shown.{held, input_value, protected_of, sign_input_of, unprotected_of};
 ghost use Rattle.cose_msg.specs.Verifier.{opened};
 
-use crate::phase::Phase;
-use crate::verifier::{Place, Verifier};
-use cose_map::{Bucket, Key};
+use crate::verifier::Verifier;
+use cose_map::{Bucket, Key, Keys};
 
-/// The running hash counts as so many bytes.
-const HASH: usize = 256;
-
-/// The bucket of these bytes, where one was found good at this place.
-fn bucket_at(bytes: &[u8], place: Option<Place>, depth: usize) -> Option<Bucket<'_>>
-    requires shallow { depth ≤ 32 }
-    requires short { length bytes.now ≤ 65535 }
-    ensures { option_map bucket_pairs result ≡ pairs_at depth place bytes.now }
-{
-    match place {
-        Some(place) => match Bucket::read(bytes, place.at, depth) {
-            Ok(bucket) => Some(bucket),
-            Err(_) => None,
-        },
-        None => None,
-    }
-}
-
-impl<'k, const H: usize, const D: usize> Verifier<'k, H, D> {
+impl<'k, const H: usize, const D: usize, S: Keys<'k>> Verifier<'k, H, D, S> {
     /// The protected header bucket (RFC 9052 section 3), once it was found good, also where the message is refused later.
     pub fn protected(&self) -> Option<Bucket<'_>>
         ensures { option_map bucket_pairs result ≡ protected_of self.now }
     {
-        bucket_at(self.protected.as_slice(), self.protected_at, D)
+        self.reader.protected()
     }
 
     /// The unprotected header bucket (RFC 9052 section 3), once it was found good, also where the message is refused later.
     pub fn unprotected(&self) -> Option<Bucket<'_>>
         ensures { option_map bucket_pairs result ≡ unprotected_of self.now }
     {
-        bucket_at(self.unprotected.as_slice(), self.unprotected_at, D)
-    }
-
-    /// Whether all bytes of a message with a signature are there.
-    fn has_signature(&self) -> bool
-        ensures { result ≡ has_signature self.now.phase }
-    {
-        matches!(self.phase, Phase::Signed(_) | Phase::Decided(_))
+        self.reader.unprotected()
     }
 
     /// What the signature of a COSE_Sign1 is verified with (RFC 9052 section 4.4), once all bytes are there, and also when it was
@@ -55,13 +28,7 @@ impl<'k, const H: usize, const D: usize> Verifier<'k, H, D> {
     pub fn sign_input(&self) -> Option<(Key<'k>, &[u8], &[u8])>
         ensures { option_map input_value result ≡ sign_input_of self.now }
     {
-        if !self.has_signature() {
-            return None;
-        }
-        match &self.chosen {
-            Some(chosen) => Some((chosen.key, self.hashing.result(), self.auth.as_slice())),
-            None => None,
-        }
+        self.reader.sign_input()
     }
 
     /// How many bytes of the message are held: those of both header buckets, of a head and of the tag or signature, and 256 for
@@ -70,7 +37,7 @@ impl<'k, const H: usize, const D: usize> Verifier<'k, H, D> {
         ensures value { result ≡ held self.now }
         ensures limit { result ≤ 2 * H + 512 }
     {
-        self.protected.len() + self.unprotected.len() + self.head.len() + self.auth.len() + HASH
+        self.reader.held()
     }
 
     /// How many arrays, maps and tags of the unprotected bucket are open: their head was taken, and their end wasn't.
@@ -78,6 +45,6 @@ impl<'k, const H: usize, const D: usize> Verifier<'k, H, D> {
         ensures value { result ≡ opened self.now }
         ensures limit { result ≤ D }
     {
-        self.walker.open_items()
+        self.reader.open_items()
     }
 }

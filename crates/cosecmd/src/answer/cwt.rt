@@ -4,12 +4,10 @@ ghost use Rattle.std.specs.Prelude.{◌≡◌, ◌≢◌, ◌≤◌, ◌↔◌, 
 ghost use Rattle.std.specs.List.{concat};
 ghost use Rattle.cose_head.specs.declared.refusal.Refusal.{Refusal};
 ghost use Rattle.cose_map.specs.Key.View.{contents, key_value};
-ghost use Rattle.cose_map.specs.KeySet.{keys_of};
-ghost use Rattle.cose_map.specs.KeySet.View.{keys as usable};
-ghost use Rattle.cose_msg.specs.Kept.{HasTaken, bytes_taken, is_inspecting, setting_in};
+ghost use Rattle.cose_msg.specs.Kept.{HasTaken, bytes_taken, is_inspecting};
 ghost use Rattle.cose_msg.specs.Message.{Setting};
 ghost use Rattle.cose_msg.specs.Task.{to_verify};
-ghost use Rattle.cose_msg.specs.Verifier.{setting_of};
+ghost use Rattle.cose_msg.specs.Verifier.{setting_in, setting_of};
 ghost use Rattle.cose_cwt.specs.Admission.View.{policy_value};
 ghost use Rattle.cose_cwt.specs.Claims.Audience.{text_value, texts_left};
 ghost use Rattle.cose_cwt.specs.Claims.View.{claims_value};
@@ -17,17 +15,19 @@ ghost use Rattle.cose_cwt.specs.Confirmation.View.{cnf_value};
 ghost use Rattle.cose_cwt.specs.Token.{UnlessStopped, claims_seen, stop_in};
 ghost use Rattle.cosecmd.specs.Admitted.{bytes_line, claims_lines, confirmation_lines, date_line, input_token, key_line, program_policy, refused_line, where_present};
 ghost use Rattle.cosecmd.specs.Faults.{fails_by_input};
-ghost use Rattle.cosecmd.specs.Printed.{Says, admitted_under, outcome_said, token_setting};
+ghost use Rattle.cosecmd.specs.Printed.{Says, admitted_under, outcome_said, program_keys, token_setting};
 ghost use Rattle.cosecmd.specs.Vouch.{vouching};
 
-use crate::answer::verify::{CHUNK, HEADER, NESTING, program_context, trailing_at};
+use crate::answer::verify::{CHUNK, HEADER, KEYS, NESTING, program_context, trailing_at};
 use crate::fault::Fault;
 use crate::reply::{Reply, Status};
 use crate::vouch::Vouch;
 use cose_cwt::{Audience, Auds, Claims, Cnf, CwtStop, Policy, verify_cwt};
 use cose_map::{Material, Y};
 use cose_msg::laws::settled_stays;
-use cose_msg::{Context, Intake, Key, KeySet, ReadIntake, Refusal, Stop, Store, Verifier, Wanted};
+use cose_msg::{
+    Context, Intake, Key, KeyTable, Keys, ReadIntake, Refusal, Stop, Store, Verifier, Wanted,
+};
 use std::alloc::Global;
 use std::io::Read;
 use std::slice;
@@ -187,8 +187,9 @@ fn token_reply(alloc: Global, token: Result<Claims, CwtStop>) -> Result<Reply, F
 }
 
 /// What a token is verified under: what a message is, with a payload that the store holds.
-fn token_context<'j>(keys: KeySet<'j>, aad: &'j [u8], wanted: Wanted) -> Context<'j>
-    ensures setting { setting_of result ≡ token_setting (usable keys.entry) aad.entry.now wanted }
+fn token_context<'j, S: Keys<'j>>(keys: S, aad: &'j [u8], wanted: Wanted) -> Context<'j, S>
+    ensures setting { setting_of S.usable result
+        ≡ token_setting (S.usable keys) aad.entry.now wanted }
     ensures external { result.aad ≡ aad.entry }
 {
     Context {
@@ -198,8 +199,8 @@ fn token_context<'j>(keys: KeySet<'j>, aad: &'j [u8], wanted: Wanted) -> Context
 }
 
 /// The token that the whole input is: behind one whose claims are admitted, a further byte makes it `Trailing`.
-fn whole_token<'a, I: Intake>(
-    verifier: &mut Verifier<HEADER, NESTING>,
+fn whole_token<'a, 'j, I: Intake>(
+    verifier: &mut Verifier<'j, HEADER, NESTING, KeyTable<'j, KEYS>>,
     intake: &mut I,
     store: &'a mut Store<CLAIMS>,
     vouch: &Vouch,
@@ -217,7 +218,7 @@ fn whole_token<'a, I: Intake>(
 {
     // That a verdict stays when bytes follow is what the place of a further byte rests on.
     settled_stays();
-    let claims = verify_cwt::<CHUNK, HEADER, NESTING, CLAIMS, _, _>(
+    let claims = verify_cwt::<CHUNK, HEADER, NESTING, CLAIMS, _, _, _>(
         verifier, intake, store, vouch, policy,
     )?;
     match trailing_at(verifier.taken(), intake) {
@@ -239,16 +240,20 @@ fn admitted_reply<I: Intake>(
 ) -> Result<Reply, Fault>
     requires external { length aad.now ≤ 65535 }
     ensures says { (bytes : List ℕ) → I.to_come intake.old ≡ Some bytes →
-        IfOk result (Says (admitted_under (keys_of keys.now) aad.now wanted (option_map contents vouch.entry) (policy_value policy.entry.now) bytes)) }
-    ensures keys { (refusal : Refusal) → keys_of keys.now ≡ Err refusal ↔ result ≡ Err (Fault.Keys refusal) }
+        IfOk result (Says (admitted_under (program_keys keys.now) aad.now wanted
+            (option_map contents vouch.entry) (policy_value policy.entry.now) bytes)) }
+    ensures keys { (refusal : Refusal)
+        → program_keys keys.now ≡ Err refusal ↔ result ≡ Err (Fault.Keys refusal) }
     // Its fault is that the input failed where the intake failed in this call, and nowhere else.
     ensures input { I.has_failed intake.new ≡ (I.has_failed intake.old || fails_by_input result) }
 {
-    let keys = match KeySet::read(keys) {
+    let keys = match KeyTable::<KEYS>::read(keys) {
         Ok(keys) => keys,
         Err(refusal) => return Err(Fault::Keys(refusal)),
     };
-    let mut verifier = Verifier::<HEADER, NESTING>::new(token_context(keys, aad, wanted));
+    let mut verifier = Verifier::<HEADER, NESTING, KeyTable<'_, KEYS>>::new(token_context(
+        keys, aad, wanted,
+    ));
     let mut store = Store::<CLAIMS>::new();
     let vouch = Vouch { word: vouch };
     let token = whole_token(&mut verifier, intake, &mut store, &vouch, policy);
@@ -267,9 +272,10 @@ pub fn cwt_reply<R: Read>(
 ) -> Result<Reply, Fault>
     requires external { length aad.now ≤ 65535 }
     ensures says { (bytes : List ℕ) → R.remaining input.old ≡ Some bytes →
-        IfOk result (Says (admitted_under (keys_of keys.now) aad.now wanted (option_map contents vouch.entry) (policy_value policy.entry.now) bytes)) }
+        IfOk result (Says (admitted_under (program_keys keys.now) aad.now wanted
+            (option_map contents vouch.entry) (policy_value policy.entry.now) bytes)) }
     ensures keys { (refusal : Refusal) →
-        keys_of keys.now ≡ Err refusal ↔ result ≡ Err (Fault.Keys refusal) }
+        program_keys keys.now ≡ Err refusal ↔ result ≡ Err (Fault.Keys refusal) }
 {
     let mut intake = ReadIntake::new(input);
     admitted_reply(alloc, keys, aad, wanted, vouch, policy, &mut intake)

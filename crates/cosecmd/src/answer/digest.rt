@@ -2,18 +2,17 @@
 
 ghost use Rattle.std.specs.Prelude.{◌≡◌, ◌≤◌, ◌↔◌, ◌||◌, ℕ, List, Some, Ok, Err, IfErr, IfOk, length};
 ghost use Rattle.cose_head.specs.declared.refusal.Refusal.{Refusal};
-ghost use Rattle.cose_map.specs.KeySet.{keys_of};
 ghost use Rattle.cosecmd.specs.Faults.{fails_by_input};
-ghost use Rattle.cosecmd.specs.Printed.{Says, digested_under, vouched};
+ghost use Rattle.cosecmd.specs.Printed.{Says, digested_under, program_keys, vouched};
 
 use crate::answer::verify::{
-    CHUNK, HEADER, NESTING, program_context, reply_of, trailing_at, whole_verdict,
+    CHUNK, HEADER, KEYS, NESTING, program_context, reply_of, trailing_at, whole_verdict,
 };
 use crate::fault::Fault;
 use crate::reply::{Reply, Status};
 use crate::vouch::word_for;
 use cose_msg::laws::{deciding_goes_last, settled_stays, spelled_is_read, unrefused_is_message};
-use cose_msg::{Intake, KeySet, Never, Nothing, ReadIntake, Verdict, Verifier, Wanted, verify};
+use cose_msg::{Intake, KeyTable, Never, Nothing, ReadIntake, Verdict, Verifier, Wanted, verify};
 use std::alloc::Global;
 use std::io::Read;
 
@@ -37,8 +36,9 @@ fn digested_reply<I: Intake>(
 ) -> Result<Reply, Fault>
     requires external { length aad.now ≤ 65535 }
     ensures says { (bytes : List ℕ) → I.to_come intake.old ≡ Some bytes →
-        IfOk result (Says (digested_under (keys_of keys.now) aad.now bytes)) }
-    ensures keys { (refusal : Refusal) → keys_of keys.now ≡ Err refusal ↔ result ≡ Err (Fault.Keys refusal) }
+        IfOk result (Says (digested_under (program_keys keys.now) aad.now bytes)) }
+    ensures keys { (refusal : Refusal)
+        → program_keys keys.now ≡ Err refusal ↔ result ≡ Err (Fault.Keys refusal) }
     // Its fault is that the input failed where the intake failed in this call, and nowhere else.
     ensures input { I.has_failed intake.new ≡ (I.has_failed intake.old || fails_by_input result) }
 {
@@ -47,12 +47,16 @@ fn digested_reply<I: Intake>(
     deciding_goes_last();
     spelled_is_read();
     unrefused_is_message();
-    let keys = match KeySet::read(keys) {
+    let keys = match KeyTable::<KEYS>::read(keys) {
         Ok(keys) => keys,
         Err(refusal) => return Err(Fault::Keys(refusal)),
     };
-    let mut verifier = Verifier::<HEADER, NESTING>::new(program_context(keys, aad, Wanted::Sign1));
-    let verdict = match verify::<CHUNK, HEADER, NESTING, _, _, _>(
+    let mut verifier = Verifier::<HEADER, NESTING, KeyTable<'_, KEYS>>::new(program_context(
+        keys,
+        aad,
+        Wanted::Sign1,
+    ));
+    let verdict = match verify::<CHUNK, HEADER, NESTING, _, _, _, _>(
         &mut verifier,
         intake,
         &mut Nothing,
@@ -84,9 +88,9 @@ pub fn digest_reply<R: Read>(
 ) -> Result<Reply, Fault>
     requires external { length aad.now ≤ 65535 }
     ensures says { (bytes : List ℕ) → R.remaining input.old ≡ Some bytes →
-        IfOk result (Says (digested_under (keys_of keys.now) aad.now bytes)) }
+        IfOk result (Says (digested_under (program_keys keys.now) aad.now bytes)) }
     ensures keys { (refusal : Refusal) →
-        keys_of keys.now ≡ Err refusal ↔ result ≡ Err (Fault.Keys refusal) }
+        program_keys keys.now ≡ Err refusal ↔ result ≡ Err (Fault.Keys refusal) }
 {
     digested_reply(alloc, keys, aad, &mut ReadIntake::new(input))
 }

@@ -86,7 +86,7 @@ fn shown_reply<I: Intake>(alloc: Global, wanted: Wanted, intake: &mut I) -> Resu
         Err(refusal) => return Err(Fault::Keys(refusal)),
     };
     let mut verifier = Verifier::inspecting(program_context(keys, b"", wanted));
-    match inspect::<CHUNK, HEADER, NESTING, _, _>(&mut verifier, intake, &mut Nothing) {
+    match inspect::<CHUNK, HEADER, NESTING, _, _, _>(&mut verifier, intake, &mut Nothing) {
         Ok(
             Inspected::Shape {
                 kind,

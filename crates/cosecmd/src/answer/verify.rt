@@ -3,13 +3,12 @@
 ghost use Rattle.std.specs.Prelude.{◌≡◌, ◌≤◌, ◌↔◌, ◌||◌, ℕ, List, Some, Ok, Err, IfErr, IfOk, is_err, length, option_map};
 ghost use Rattle.cose_head.specs.declared.refusal.Refusal.{Refusal};
 ghost use Rattle.cose_map.specs.Key.View.{contents};
-ghost use Rattle.cose_map.specs.KeySet.{keys_of};
-ghost use Rattle.cose_map.specs.KeySet.View.{keys as usable};
+ghost use Rattle.cose_map.specs.KeyTable.{keys as usable};
 ghost use Rattle.cose_msg.specs.Answer.{decided};
 ghost use Rattle.cose_msg.specs.Verifier.{setting_of};
 ghost use Rattle.cose_msg.specs.declared.verdict.Verdict.{Verdict};
 ghost use Rattle.cosecmd.specs.Faults.{fails_by_input};
-ghost use Rattle.cosecmd.specs.Printed.{Says, input_answer, trailing_refusal, program_setting, said_of, verified_under, followed_by};
+ghost use Rattle.cosecmd.specs.Printed.{Says, input_answer, trailing_refusal, program_keys, program_setting, said_of, verified_under, followed_by};
 ghost use Rattle.cosecmd.specs.Vouch.{vouching};
 
 use crate::fault::Fault;
@@ -17,8 +16,8 @@ use crate::line::Line;
 use crate::reply::{Reply, Status};
 use crate::vouch::Vouch;
 use cose_msg::{
-    Context, Intake, KeySet, Nothing, ReadIntake, Reason, Refusal, Verdict, Verifier, Wanted,
-    verify,
+    Context, Intake, KeyTable, Keys, Nothing, ReadIntake, Reason, Refusal, Verdict, Verifier,
+    Wanted, verify,
 };
 use std::alloc::Global;
 use std::io::Read;
@@ -31,6 +30,9 @@ pub const CHUNK: usize = 4_096;
 
 /// How deep the items of a header bucket may nest.
 pub const NESTING: usize = 8;
+
+/// The most usable keys of the option `--keys`.
+pub const KEYS: usize = 16;
 
 /// The most bytes of a payload, which is the most that any message may have.
 const PAYLOAD: u64 = (1 << 56) - 1;
@@ -67,8 +69,9 @@ pub fn trailing_at<I: Intake>(taken: u64, intake: &mut I) -> Result<Option<Refus
 }
 
 /// What a message is verified or inspected under: the CWT tag is known, and no label is understood besides the standard's.
-pub fn program_context<'j>(keys: KeySet<'j>, aad: &'j [u8], wanted: Wanted) -> Context<'j>
-    ensures setting { setting_of result ≡ program_setting (usable keys.entry) aad.entry.now wanted }
+pub fn program_context<'j, S: Keys<'j>>(keys: S, aad: &'j [u8], wanted: Wanted) -> Context<'j, S>
+    ensures setting { setting_of S.usable result
+        ≡ program_setting (S.usable keys) aad.entry.now wanted }
     ensures external { result.aad ≡ aad.entry }
 {
     Context {
@@ -104,18 +107,19 @@ pub fn whole_verdict<I: Intake>(verdict: Verdict, intake: &mut I) -> Result<Verd
 
 /// The verdict of all that an intake gives.
 fn input_verdict<'j, I: Intake>(
-    context: Context<'j>,
+    context: Context<'j, KeyTable<'j, KEYS>>,
     vouch: &Vouch<'j>,
     intake: &mut I,
 ) -> Result<Verdict, Fault>
     requires external { length context.aad.now ≤ 65535 }
     ensures verdict { (bytes : List ℕ) → I.to_come intake.old ≡ Some bytes →
-        IfOk result (λ verdict. input_answer (setting_of context.entry) (vouching (option_map contents vouch.now.word)) bytes ≡ decided verdict) }
+        IfOk result (λ verdict. input_answer (setting_of usable context.entry)
+            (vouching (option_map contents vouch.now.word)) bytes ≡ decided verdict) }
     ensures fault { IfErr result (λ fault. fault ≡ Fault.Input) }
     ensures failure { I.has_failed intake.new ≡ (I.has_failed intake.old || is_err result) }
 {
-    let mut verifier = Verifier::<HEADER, NESTING>::new(context);
-    let verdict = verify::<CHUNK, HEADER, NESTING, _, _, _>(
+    let mut verifier = Verifier::<HEADER, NESTING, KeyTable<'_, KEYS>>::new(context);
+    let verdict = verify::<CHUNK, HEADER, NESTING, _, _, _, _>(
         &mut verifier,
         intake,
         &mut Nothing,
@@ -139,12 +143,14 @@ fn verified_reply<I: Intake>(
 ) -> Result<Reply, Fault>
     requires external { length aad.now ≤ 65535 }
     ensures says { (bytes : List ℕ) → I.to_come intake.old ≡ Some bytes →
-        IfOk result (Says (verified_under (keys_of keys.now) aad.now wanted (option_map contents vouch.entry) bytes)) }
-    ensures keys { (refusal : Refusal) → keys_of keys.now ≡ Err refusal ↔ result ≡ Err (Fault.Keys refusal) }
+        IfOk result (Says (verified_under (program_keys keys.now) aad.now wanted
+            (option_map contents vouch.entry) bytes)) }
+    ensures keys { (refusal : Refusal)
+        → program_keys keys.now ≡ Err refusal ↔ result ≡ Err (Fault.Keys refusal) }
     // Its fault is that the input failed where the intake failed in this call, and nowhere else.
     ensures input { I.has_failed intake.new ≡ (I.has_failed intake.old || fails_by_input result) }
 {
-    let keys = match KeySet::read(keys) {
+    let keys = match KeyTable::<KEYS>::read(keys) {
         Ok(keys) => keys,
         Err(refusal) => return Err(Fault::Keys(refusal)),
     };
@@ -164,9 +170,10 @@ pub fn verify_reply<R: Read>(
 ) -> Result<Reply, Fault>
     requires external { length aad.now ≤ 65535 }
     ensures says { (bytes : List ℕ) → R.remaining input.old ≡ Some bytes →
-        IfOk result (Says (verified_under (keys_of keys.now) aad.now wanted (option_map contents vouch.entry) bytes)) }
+        IfOk result (Says (verified_under (program_keys keys.now) aad.now wanted
+            (option_map contents vouch.entry) bytes)) }
     ensures keys { (refusal : Refusal) →
-        keys_of keys.now ≡ Err refusal ↔ result ≡ Err (Fault.Keys refusal) }
+        program_keys keys.now ≡ Err refusal ↔ result ≡ Err (Fault.Keys refusal) }
 {
     let mut intake = ReadIntake::new(input);
     verified_reply(alloc, keys, aad, wanted, vouch, &mut intake)

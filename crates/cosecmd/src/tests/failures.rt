@@ -2,95 +2,24 @@
 
 use crate::run::run;
 use crate::tests::cwt::example;
-use crate::tests::{FRONT, KEYS, MEMBER_Y, SIGNED, joined, message, point, signed};
+use crate::tests::streams::{FailingReader, KeepingWriter};
+use crate::tests::{FRONT, KEYS, MEMBER_Y, SIGNED, joined, message, point, ran, signed};
 use std::alloc::Global;
-use std::io;
-use std::io::{Error, ErrorKind, Read, Write};
 use std::process::Abort;
 use std::test::Fail;
 
 const WORDS: &[&str] = &["cosecmd", "verify", "--keys", KEYS];
 
+const SHOW: &[&str] = &["cosecmd", "show"];
+
+const DIGEST: &[&str] = &["cosecmd", "digest", "--keys", KEYS];
+
+const CWT: &[&str] = &["cosecmd", "cwt", "--keys", KEYS, "--now", "0"];
+
 /// To make the message of 44 bytes.
 const MAKE: &[&str] = &[
     "cosecmd", "make", "--alg", "5", "--key", KEYS, "--length", "2",
 ];
-
-/// Gives one byte in each read, and fails at one of them.
-#[derive(Drop)]
-struct FailingReader<'a> {
-    bytes: &'a [u8],
-    reads: usize,
-    fails_at: usize,
-}
-
-impl Read for FailingReader<'_> {
-    fn read(&mut self, into: &mut [u8]) -> io::Result<usize> {
-        self.reads = self.reads.saturating_add(1);
-        if self.reads == self.fails_at {
-            return Err(Error::from(ErrorKind::Other));
-        }
-        match (self.bytes, into) {
-            ([first, rest @ ..], [slot, ..]) => {
-                *slot = *first;
-                self.bytes = rest;
-                Ok(1)
-            }
-            _ => Ok(0),
-        }
-    }
-}
-
-/// Takes at most eight bytes in each write, and fails at one of them.
-#[derive(Drop)]
-struct FailingWriter {
-    writes: usize,
-    fails_at: usize,
-}
-
-impl Write for FailingWriter {
-    fn write(&mut self, bytes: &[u8]) -> io::Result<usize> {
-        self.writes = self.writes.saturating_add(1);
-        if self.writes == self.fails_at {
-            return Err(Error::from(ErrorKind::Other));
-        }
-        Ok(bytes.len().min(8))
-    }
-
-    fn flush(&mut self) -> io::Result<()> {
-        Ok(())
-    }
-}
-
-/// Takes at most eight bytes in each write, and keeps them. One of the writes fails, or takes none.
-#[derive(Drop)]
-struct KeepingWriter {
-    held: Vec<u8>,
-    writes: usize,
-    fails_at: usize,
-    takes_none: bool,
-}
-
-impl Write for KeepingWriter {
-    fn write(&mut self, bytes: &[u8]) -> io::Result<usize> {
-        self.writes = self.writes.saturating_add(1);
-        if self.writes == self.fails_at {
-            if self.takes_none {
-                return Ok(0);
-            }
-            return Err(Error::from(ErrorKind::Other));
-        }
-        let piece = bytes.get(..8).unwrap_or(bytes);
-        match self.held.extend_from_slice(piece) {
-            Ok(()) => Ok(piece.len()),
-            Err(_) => Err(Error::from(ErrorKind::OutOfMemory)),
-        }
-    }
-
-    fn flush(&mut self) -> io::Result<()> {
-        Ok(())
-    }
-}
 
 /// A run with these arguments over a reader that fails at any of the reads of this message, or at the one after them, prints
 /// `fault input` and ends with 2.
@@ -143,28 +72,67 @@ fn says_that_the_input_failed(rt: HostRuntime) -> Result<(), Fail> {
     says_at_each_read(&rt, cwt.as_slice(), token.as_slice())
 }
 
+/// A run with these words prints this text, and ends with this status, after so many reads; the next one would fail.
+fn reads_no_more(
+    rt: &(impl Abort + Alloc<A = Global>),
+    words: &[&str],
+    bytes: &[u8],
+    reads: usize,
+    ends: (&str, u8),
+) {
+    let (text, status) = ends;
+    let mut reader = FailingReader {
+        bytes,
+        reads: 0,
+        fails_at: reads.saturating_add(1),
+    };
+    let mut output = Vec::new(rt.alloc());
+    let ended = run(rt.alloc(), &*words, &mut reader, &mut output);
+    assert_eq!(rt; output.as_slice(), text.as_bytes(), "{words:?}");
+    assert_eq!(rt; (ended, reader.reads), (status, reads), "{words:?}: {text}");
+}
+
 #[test]
 fn reads_nothing_behind_a_refusal(rt: HostRuntime) -> Result<(), Fail> {
-    let alloc = rt.alloc();
     let front: [&[u8]; 2] = [FRONT, b"\xf6\0"];
-    let detached = joined(alloc, front.as_slice())?;
-    let rows: [(&[u8], usize, &str); 2] = [
-        (b"\0\0", 1, "refused WrongType at 0\n"),
-        (detached.as_slice(), 8, "refused Detached at 7\n"),
+    let detached = joined(rt.alloc(), front.as_slice())?;
+    let rows: [(&[&str], &str, &str); 4] = [
+        (WORDS, "refused WrongType at 0\n", "refused Detached at 7\n"),
+        (SHOW, "refused WrongType at 0\n", "refused Detached at 7\n"),
+        (
+            CWT,
+            "refused message WrongType at 0\n",
+            "refused message Detached at 7\n",
+        ),
+        // It wants a COSE_Sign1, and the message of the second text is a COSE_Mac0.
+        (DIGEST, "refused WrongType at 0\n", ""),
     ];
-    for (bytes, reads, text) in rows {
-        // The read that would be the first behind the refusal fails.
-        let mut reader = FailingReader {
-            bytes,
-            reads: 0,
-            fails_at: reads.saturating_add(1),
-        };
-        let mut output = Vec::new(alloc);
-        let status = run(alloc, WORDS, &mut reader, &mut output);
-        assert_eq!(rt; output.as_slice(), text.as_bytes());
-        assert_eq!(rt; (status, reader.reads), (1, reads), "{text}");
+    for (words, first, second) in rows {
+        reads_no_more(&rt, words, b"\0\0", 1, (first, 1));
+        if !second.is_empty() {
+            reads_no_more(&rt, words, detached.as_slice(), 8, (second, 1));
+        }
     }
+    reads_no_more(
+        &rt,
+        DIGEST,
+        detached.as_slice(),
+        1,
+        ("refused WrongTag at 0\n", 1),
+    );
     Ok(())
+}
+
+#[test]
+fn judges_the_keys_before_it_reads(rt: HostRuntime) {
+    let rows: [&[&str]; 3] = [
+        &["cosecmd", "verify", "--keys", "80"],
+        &["cosecmd", "digest", "--keys", "80"],
+        &["cosecmd", "cwt", "--keys", "80", "--now", "0"],
+    ];
+    for words in rows {
+        reads_no_more(&rt, words, b"\0\0", 0, ("fault keys BadKeySet at 0\n", 2));
+    }
 }
 
 #[test]
@@ -188,28 +156,6 @@ fn reads_once_more_behind_admitted_claims_alone(rt: HostRuntime) -> Result<(), F
         assert_eq!(rt; output.as_slice(), text.as_bytes());
         assert_eq!(rt; (ended, reader.reads), (status, reads), "at {now}");
     }
-    Ok(())
-}
-
-#[test]
-fn ends_with_two_where_the_output_failed(rt: HostRuntime) -> Result<(), Fail> {
-    let alloc = rt.alloc();
-    let bytes = message(alloc)?;
-    // The line of 40 bytes takes five writes.
-    for fails_at in 1..=5 {
-        let mut writer = FailingWriter {
-            writes: 0,
-            fails_at,
-        };
-        let status = run(alloc, WORDS, &mut bytes.as_slice(), &mut writer);
-        assert_eq!(rt; (status, writer.writes), (2, fails_at));
-    }
-    let mut writer = FailingWriter {
-        writes: 0,
-        fails_at: 6,
-    };
-    let status = run(alloc, WORDS, &mut bytes.as_slice(), &mut writer);
-    assert_eq!(rt; (status, writer.writes), (0, 5));
     Ok(())
 }
 
@@ -243,44 +189,89 @@ fn writes_no_line_where_the_payload_failed(rt: HostRuntime) -> Result<(), Fail> 
     Ok(())
 }
 
-/// The message is made until one of the writes fails. Whether all were done is answered.
-fn makes_until(
+/// A run whose write of this number fails, or takes none, writes a part of what it would write, and ends with 2. Whether it
+/// makes so many writes is answered.
+fn stops_at_write(
     rt: &(impl Abort + Alloc<A = Global>),
+    words: &[&str],
+    mut input: &[u8],
+    whole: (&[u8], u8),
     fails_at: usize,
     takes_none: bool,
-) -> Result<bool, Fail> {
-    let alloc = rt.alloc();
-    let bytes = message(alloc)?;
+) -> bool {
+    let (text, status) = whole;
     let mut writer = KeepingWriter {
-        held: Vec::new(alloc),
+        held: Vec::new(rt.alloc()),
         writes: 0,
         fails_at,
         takes_none,
     };
-    let status = run(alloc, MAKE, &mut b"hi".as_slice(), &mut writer);
+    let ended = run(rt.alloc(), &*words, &mut input, &mut writer);
     if writer.writes < fails_at {
-        assert_eq!(rt; writer.held.as_slice(), bytes.as_slice());
-        assert_eq!(rt; status, 0);
-        return Ok(true);
+        assert_eq!(rt;
+            (writer.held.as_slice(), ended),
+            (text, status),
+            "{words:?}"
+        );
+        return false;
     }
-    assert!(rt; bytes.as_slice().starts_with(writer.held.as_slice()));
-    assert!(rt; writer.held.len() < 44, "at write {fails_at}");
-    assert_eq!(rt;
-        (status, writer.writes),
-        (2, fails_at),
-        "at write {fails_at}"
+    assert!(rt;
+        text.starts_with(writer.held.as_slice()),
+        "{words:?} at write {fails_at}"
     );
-    Ok(false)
+    assert!(rt;
+        writer.held.len() < text.len(),
+        "{words:?} at write {fails_at}"
+    );
+    assert_eq!(rt; (ended, writer.writes), (2, fails_at), "{words:?}");
+    true
+}
+
+/// The same for each of its writes, of which there are fewer than 400.
+fn stops_at_each_write(
+    rt: &(impl Abort + Alloc<A = Global>),
+    arguments: &[&str],
+    input: &[u8],
+) -> Result<(), Fail> {
+    let (text, status, _left) = ran(rt.alloc(), &*arguments, input)?;
+    let mut words = Vec::new(rt.alloc());
+    words.push("cosecmd")?;
+    words.extend_from_slice(arguments)?;
+    for takes_none in [false, true] {
+        let whole = (text.as_slice(), status);
+        let mut writes = 0usize;
+        'writes: for fails_at in 1..400 {
+            if !stops_at_write(rt, words.as_slice(), input, whole, fails_at, takes_none) {
+                break 'writes;
+            }
+            writes = fails_at;
+        }
+        assert!(rt; 0 < writes && writes < 399, "{arguments:?}: {writes}");
+    }
+    Ok(())
 }
 
 #[test]
-fn stops_making_where_the_output_failed(rt: HostRuntime) -> Result<(), Fail> {
-    for takes_none in [false, true] {
-        let mut ended = false;
-        for fails_at in 1..=45 {
-            ended = makes_until(&rt, fails_at, takes_none)?;
-        }
-        assert!(rt; ended);
-    }
-    Ok(())
+fn ends_with_two_where_the_output_failed(rt: HostRuntime) -> Result<(), Fail> {
+    let alloc = rt.alloc();
+    let made = message(alloc)?;
+    let token = example(alloc)?;
+    let signed = signed(alloc, SIGNED, &[0x5a; 64])?;
+    let point = point(alloc, MEMBER_Y)?;
+    let make = [
+        "make", "--alg", "5", "--key", KEYS, "--length", "2", "--kid", "31",
+    ];
+    let cwt = ["cwt", "--keys", KEYS, "--now", "1444064943"];
+    let late = ["cwt", "--keys", KEYS, "--now", "1444064944"];
+    let digest = ["digest", "--keys", point.as_str()];
+    stops_at_each_write(&rt, &["verify", "--keys", KEYS], made.as_slice())?;
+    stops_at_each_write(&rt, &["verify", "--keys", KEYS], b"")?;
+    stops_at_each_write(&rt, &["verify", "--keys", "zz"], b"")?;
+    stops_at_each_write(&rt, &["show"], made.as_slice())?;
+    stops_at_each_write(&rt, digest.as_slice(), signed.as_slice())?;
+    stops_at_each_write(&rt, cwt.as_slice(), token.as_slice())?;
+    stops_at_each_write(&rt, late.as_slice(), token.as_slice())?;
+    stops_at_each_write(&rt, make.as_slice(), b"hi")?;
+    stops_at_each_write(&rt, make.as_slice(), b"h")?;
+    stops_at_each_write(&rt, &["--help"], b"")
 }

@@ -33,7 +33,7 @@ fn authenticates_a_long_payload(rt: HostRuntime) -> Result<(), Fail> {
     let auth = auth_of(&block);
     let mut intake = LongIntake::new(FRONT, &block, 1_000, &auth);
     let mut verifier = verifier(keys, Wanted::Tagged);
-    let verdict = verify::<4_096, 1024, 4, _, _, _>(
+    let verdict = verify::<4_096, 1024, 4, _, _, _, _>(
         &mut verifier,
         &mut intake,
         &mut Nothing,

@@ -18,7 +18,7 @@ fn verdict_of<I: Intake, S: Sink>(
     intake: &mut I,
     sink: &mut S,
 ) -> Result<Verdict, Stop> {
-    verify::<16, 1024, 4, _, _, _>(&mut verifier(keys, Wanted::Tagged), intake, sink, &Never)
+    verify::<16, 1024, 4, _, _, _, _>(&mut verifier(keys, Wanted::Tagged), intake, sink, &Never)
 }
 
 #[test]

@@ -5,6 +5,7 @@ ghost use Rattle.cose_msg.specs.Kept.{is_inspecting};
 
 use crate::tests::feeding::feed_all;
 use crate::tests::messages::answers_read;
+use crate::tests::tables::answers_under_table;
 use crate::tests::{KEY, KEYS, hmac, refused, verified_in_pieces, verifier};
 use cose_msg::{Alg, KeySet, Kind, Reason, Refusal, Status, Store, Verdict, Verifier, Wanted};
 use std::alloc::Global;
@@ -75,6 +76,7 @@ fn refuses(
     let verdict = Verdict::Refused(refusal);
     answers_read(rt, keys, message.as_slice(), verdict, taken);
     refuses_fed(rt, keys, message.as_slice(), refusal, taken);
+    answers_under_table(rt, set.as_slice(), message.as_slice(), verdict);
     Ok(())
 }
 
@@ -151,7 +153,7 @@ fn refuses_where_no_one_key_fits(rt: HostRuntime) -> Result<(), Fail> {
 
 /// The same, where the bytes are fed in pieces and then end.
 pub fn refuses_fed(rt: &impl Abort, keys: KeySet, message: &[u8], refusal: Refusal, taken: usize) {
-    for cut in [1usize, 2, 7, 64] {
+    for cut in [1usize, 2, 3, 4, 5, 6, 7, 8, 9, 64] {
         let mut verifier = verifier(keys, Wanted::Tagged);
         let status = Status::Refused(refusal);
         ends_in_pieces(rt, &mut verifier, message, cut, status, taken as u64);
@@ -251,10 +253,40 @@ fn authenticates(rt: &(impl Abort + Alloc<A = Global>), row: Row) -> Result<(), 
     // A byte behind the message isn't taken.
     message.push(0xff)?;
     let keys = KeySet::read(set.as_slice()).or(Err("no key set"))?;
-    for cut in [1, 2, 7, 64] {
+    for cut in [1, 2, 3, 4, 5, 6, 7, 8, 9, 64] {
         authenticates_in_pieces(rt, &keys, &row, message.as_slice(), cut)?;
     }
+    ends_early(rt, &keys, &row, message.as_slice());
     Ok(())
+}
+
+/// Each front of the message that is shorter is Truncated where it ends.
+fn ends_early(rt: &impl Abort, keys: &KeySet, row: &Row, message: &[u8]) {
+    for count in 0..row.taken {
+        let front = message.get(..count as usize).unwrap_or(&[]);
+        let truncated = Refusal {
+            reason: Reason::Truncated,
+            place: count,
+        };
+        let mut verifier = verifier(*keys, row.wanted);
+        answers_in_pieces(
+            rt,
+            &mut verifier,
+            front,
+            64,
+            Verdict::Refused(truncated),
+            count,
+        );
+        verifier.reset();
+        ends_in_pieces(
+            rt,
+            &mut verifier,
+            front,
+            64,
+            Status::Refused(truncated),
+            count,
+        );
+    }
 }
 
 #[test]

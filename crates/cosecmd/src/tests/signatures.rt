@@ -53,7 +53,7 @@ fn asks_about_the_signature(rt: HostRuntime) -> Result<(), Fail> {
             let mut verifier = verifier(keys, Wanted::Tagged);
             let mut intake = SliceIntake::new(bytes.as_slice(), cut.max(1));
             let mut store = Store::<16>::new();
-            let answer = verify::<128, 1024, 4, _, _, _>(
+            let answer = verify::<128, 1024, 4, _, _, _, _>(
                 &mut verifier,
                 &mut intake,
                 &mut store,
@@ -85,7 +85,7 @@ fn verifies_a_signature_without_its_tag(rt: HostRuntime) -> Result<(), Fail> {
     let mut verifier = verifier(keys, Wanted::Sign1);
     let mut intake = SliceIntake::new(untagged, 64);
     let mut store = Store::<16>::new();
-    let answer = verify::<128, 1024, 4, _, _, _>(&mut verifier, &mut intake, &mut store, &asked);
+    let answer = verify::<128, 1024, 4, _, _, _, _>(&mut verifier, &mut intake, &mut store, &asked);
     let authentic = Verdict::Authentic {
         kind: Kind::Sign1,
         alg: Alg::Es256,

@@ -1,81 +1,304 @@
-//! An intake or a sink that fails in the course of a message.
+//! Messages that end early or come in pieces, and an intake or a sink that fails in the course of them.
 
-ghost use Rattle.std.specs.Prelude.{◌≡◌, false};
+ghost use Rattle.std.specs.Prelude.{◌≡◌, ◌≤◌, false};
 ghost use Rattle.cose_msg.specs.Kept.{is_inspecting};
 
-use crate::tests::streams::{FailingIntake, FailingSink};
-use crate::tests::{authentic, key_set, message, verifier};
-use cose_msg::{Intake, Never, Sink, SliceIntake, Stop, Store, Verdict, Verifier, Wanted, verify};
+use crate::tests::cwt::example;
+use crate::tests::streams::{Asked, FailingIntake, FailingSink};
+use crate::tests::{
+    KEY, SIGNED, authentic, context, decision, hmac, joined, key_set, message, point_set, signed,
+    signed_digest, verifier,
+};
+use cose_msg::{
+    Alg, EcVerifier, Fed, Intake, KeySet, Kind, Never, Nothing, Reason, Refusal, Sink, SliceIntake,
+    Status, Stop, Store, Verdict, Verifier, Wanted, verify,
+};
+use std::alloc::{AllocError, Global};
 use std::process::Abort;
 use std::test::Fail;
 
+/// The protected header of 16 bytes, and the unprotected header of 16 bytes.
+const PROTECTED: &[u8] = b"\xa2\x01\x05\x0a\x4b12345678901";
+
+const UNPROTECTED: &[u8] = b"\xa1\x0b\x4d1234567890123";
+
 /// What `verify` answers where it takes a byte at a time.
-fn answer<I: Intake, S: Sink>(
-    verifier: &mut Verifier<1024, 4>,
+fn answer<const H: usize, I: Intake, S: Sink, E: EcVerifier>(
+    verifier: &mut Verifier<H, 4>,
     intake: &mut I,
     sink: &mut S,
+    ec: &E,
 ) -> Result<Verdict, Stop>
     requires { is_inspecting verifier.old ≡ false }
     ensures { is_inspecting verifier.new ≡ false }
 {
-    verify::<1, 1024, 4, _, _, _>(verifier, intake, sink, &Never)
+    verify::<1, H, 4, _, _, _, _>(verifier, intake, sink, ec)
 }
 
-/// After `reset` the message is authentic.
-fn authenticates(rt: &impl Abort, verifier: &mut Verifier<1024, 4>, bytes: &[u8])
+/// A message that is authentic, and what it is verified with.
+#[derive(Drop)]
+struct Case<'a, E> {
+    keys: KeySet<'a>,
+    ec: E,
+    bytes: &'a [u8],
+    verdict: Verdict,
+    payload: &'a [u8],
+    /// The place of the payload's first byte.
+    payload_at: u64,
+}
+
+/// What a verifier says of its message and of itself.
+fn said<const H: usize>(verifier: &Verifier<H, 4>) -> (Status, [u64; 4], [bool; 5]) {
+    (
+        verifier.status(),
+        [
+            verifier.taken(),
+            verifier.want(),
+            verifier.held() as u64,
+            verifier.open_items() as u64,
+        ],
+        [
+            verifier.is_complete(),
+            verifier.is_inspecting(),
+            verifier.protected().is_some(),
+            verifier.unprotected().is_some(),
+            verifier.sign_input().is_some(),
+        ],
+    )
+}
+
+/// A verifier that has stopped after so many bytes uses no byte, wants none, and ends as stopped.
+fn stays_stopped<const H: usize>(
+    rt: &impl Abort,
+    verifier: &mut Verifier<H, 4>,
+    bytes: &[u8],
+    taken: u64,
+)
     requires { is_inspecting verifier.old ≡ false }
+    ensures { is_inspecting verifier.new ≡ false }
 {
-    verifier.reset();
-    let mut intake = SliceIntake::new(bytes, 64);
-    let mut store = Store::<16>::new();
-    let verdict = answer(verifier, &mut intake, &mut store);
-    assert_eq!(rt; verdict, Ok(authentic(44)));
-    assert_eq!(rt; store.bytes(), b"hi".as_slice());
+    let nothing = Fed {
+        used: 0,
+        payload_from: 0,
+        payload_to: 0,
+        status: Status::Stopped,
+    };
+    assert_eq!(rt; verifier.feed(bytes), nothing, "after {taken}");
+    assert_eq!(rt; verifier.end(), Status::Stopped, "after {taken}");
+    assert_eq!(rt; (verifier.taken(), verifier.want()), (taken, 0));
+}
+
+impl<E: EcVerifier> Case<'_, E> {
+    /// After `reset` a verifier is as a new one, and the message is authentic.
+    fn authenticates_anew<const H: usize>(&self, rt: &impl Abort, verifier: &mut Verifier<H, 4>)
+        requires some_room { 16 ≤ H }
+        requires limit { H ≤ 65535 }
+        requires verifies { is_inspecting verifier.old ≡ false }
+    {
+        verifier.reset();
+        let new = Verifier::<H, 4>::new(context(self.keys));
+        assert_eq!(rt; said(verifier), said(&new));
+        let mut intake = SliceIntake::new(self.bytes, 64);
+        let mut store = Store::<128>::new();
+        let verdict = answer(verifier, &mut intake, &mut store, &self.ec);
+        assert_eq!(rt; verdict, Ok(self.verdict));
+        assert_eq!(rt; store.bytes(), self.payload);
+    }
+
+    /// In pieces of each length the message is authentic, and all of it is taken.
+    fn authenticates_in_pieces<const H: usize>(&self, rt: &impl Abort)
+        requires some_room { 16 ≤ H }
+        requires limit { H ≤ 65535 }
+    {
+        for cut in 1..=9usize {
+            let mut verifier = Verifier::<H, 4>::new(context(self.keys));
+            let mut intake = SliceIntake::new(self.bytes, cut);
+            let verdict = verify::<64, H, 4, _, _, _, _>(
+                &mut verifier,
+                &mut intake,
+                &mut Nothing,
+                &self.ec,
+            );
+            assert_eq!(rt; verdict, Ok(self.verdict), "in pieces of {cut}");
+            assert_eq!(rt;
+                verifier.taken(),
+                self.bytes.len() as u64,
+                "in pieces of {cut}"
+            );
+        }
+    }
+
+    /// So many bytes of the message are Truncated where they end, whether they are verified or fed.
+    fn ends_early<const H: usize>(&self, rt: &impl Abort, count: usize)
+        requires some_room { 16 ≤ H }
+        requires limit { H ≤ 65535 }
+    {
+        let front = self.bytes.get(..count).unwrap_or(&[]);
+        let refusal = Refusal {
+            reason: Reason::Truncated,
+            place: count as u64,
+        };
+        let mut verifier = Verifier::<H, 4>::new(context(self.keys));
+        let mut intake = SliceIntake::new(front, 64);
+        let verdict = answer(&mut verifier, &mut intake, &mut Nothing, &self.ec);
+        assert_eq!(rt; verdict, Ok(Verdict::Refused(refusal)));
+        assert_eq!(rt; verifier.taken(), refusal.place);
+        verifier.reset();
+        verifier.feed(front);
+        assert_eq!(rt; verifier.end(), Status::Refused(refusal));
+        assert_eq!(rt; verifier.taken(), refusal.place);
+    }
+
+    /// The message, a byte at each call, and an intake that fails at the call of this number.
+    fn stops_at_take<const H: usize>(&self, rt: &impl Abort, fails_at: usize)
+        requires some_room { 16 ≤ H }
+        requires limit { H ≤ 65535 }
+    {
+        let mut verifier = Verifier::<H, 4>::new(context(self.keys));
+        let mut intake = FailingIntake::new(self.bytes, fails_at);
+        let mut store = Store::<128>::new();
+        let stop = answer(&mut verifier, &mut intake, &mut store, &self.ec);
+        assert_eq!(rt; stop, Err(Stop::Intake), "at call {fails_at}");
+        let again = answer(&mut verifier, &mut intake, &mut store, &self.ec);
+        assert_eq!(rt; again, Err(Stop::Again), "at call {fails_at}");
+        assert_eq!(rt; intake.takes(), fails_at);
+        let taken = (fails_at as u64).saturating_sub(1);
+        stays_stopped(rt, &mut verifier, self.bytes, taken);
+        self.authenticates_anew(rt, &mut verifier);
+    }
+
+    /// The message, a byte at each call, and a sink that fails at the call of this number.
+    fn stops_at_put<const H: usize>(&self, rt: &impl Abort, fails_at: usize)
+        requires some_room { 16 ≤ H }
+        requires limit { H ≤ 65535 }
+    {
+        let mut verifier = Verifier::<H, 4>::new(context(self.keys));
+        let mut intake = SliceIntake::new(self.bytes, 64);
+        let mut sink = FailingSink::<128>::new(fails_at);
+        let stop = answer(&mut verifier, &mut intake, &mut sink, &self.ec);
+        assert_eq!(rt; stop, Err(Stop::Sink), "at call {fails_at}");
+        let again = answer(&mut verifier, &mut intake, &mut sink, &self.ec);
+        assert_eq!(rt; again, Err(Stop::Again), "at call {fails_at}");
+        let held = self
+            .payload
+            .get(..fails_at.saturating_sub(1))
+            .unwrap_or(&[]);
+        assert_eq!(rt; (sink.puts(), sink.bytes()), (fails_at, held));
+        let taken = self.payload_at.saturating_add(fails_at as u64);
+        stays_stopped(rt, &mut verifier, self.bytes, taken);
+        self.authenticates_anew(rt, &mut verifier);
+    }
+
+    /// The message ends after each number of bytes; the intake fails at each of its calls in turn, and so does the sink.
+    /// Without a failure there are no further calls.
+    fn stops_at_each<const H: usize>(&self, rt: &impl Abort)
+        requires some_room { 16 ≤ H }
+        requires limit { H ≤ 65535 }
+    {
+        self.authenticates_in_pieces::<H>(rt);
+        for fails_at in 1..=self.bytes.len() {
+            self.ends_early::<H>(rt, fails_at.saturating_sub(1));
+            self.stops_at_take::<H>(rt, fails_at);
+        }
+        for fails_at in 1..=self.payload.len() {
+            self.stops_at_put::<H>(rt, fails_at);
+        }
+        let mut verifier = Verifier::<H, 4>::new(context(self.keys));
+        let mut intake = FailingIntake::new(self.bytes, self.bytes.len().saturating_add(1));
+        let mut sink = FailingSink::<128>::new(self.payload.len().saturating_add(1));
+        let verdict = answer(&mut verifier, &mut intake, &mut sink, &self.ec);
+        assert_eq!(rt; verdict, Ok(self.verdict));
+        let calls = (self.bytes.len(), self.payload.len());
+        assert_eq!(rt; (intake.takes(), sink.puts()), calls);
+    }
 }
 
 #[test]
-fn stops_where_the_intake_fails(rt: HostRuntime) -> Result<(), Fail> {
+fn stops_a_mac0(rt: HostRuntime) -> Result<(), Fail> {
     let bytes = message(rt.alloc())?;
-    let keys = key_set().ok_or("no keys")?;
-    for fails_at in 1..=44 {
-        let mut verifier = verifier(keys, Wanted::Tagged);
-        let mut intake = FailingIntake::new(bytes.as_slice(), fails_at);
-        let mut store = Store::<16>::new();
-        let stop = answer(&mut verifier, &mut intake, &mut store);
-        assert_eq!(rt; stop, Err(Stop::Intake), "at call {fails_at}");
-        let again = answer(&mut verifier, &mut intake, &mut store);
-        assert_eq!(rt; again, Err(Stop::Again), "at call {fails_at}");
-        assert_eq!(rt; intake.takes(), fails_at);
-        authenticates(&rt, &mut verifier, bytes.as_slice());
-    }
-    let mut verifier = verifier(keys, Wanted::Tagged);
-    let mut intake = FailingIntake::new(bytes.as_slice(), 45);
-    let verdict = answer(&mut verifier, &mut intake, &mut Store::<16>::new());
-    assert_eq!(rt; (verdict, intake.takes()), (Ok(authentic(44)), 44));
+    let case = Case {
+        keys: key_set().ok_or("no keys")?,
+        ec: Never,
+        bytes: bytes.as_slice(),
+        verdict: authentic(44),
+        payload: b"hi",
+        payload_at: 8,
+    };
+    case.stops_at_each::<1024>(&rt);
     Ok(())
 }
 
 #[test]
-fn stops_where_the_sink_fails(rt: HostRuntime) -> Result<(), Fail> {
-    let bytes = message(rt.alloc())?;
-    let keys = key_set().ok_or("no keys")?;
-    let rows: [(usize, &[u8]); 2] = [(1, b""), (2, b"h")];
-    for (fails_at, held) in rows {
-        let mut verifier = verifier(keys, Wanted::Tagged);
-        let mut intake = SliceIntake::new(bytes.as_slice(), 64);
-        let mut sink = FailingSink::<16>::new(fails_at);
-        let stop = answer(&mut verifier, &mut intake, &mut sink);
-        assert_eq!(rt; stop, Err(Stop::Sink), "at call {fails_at}");
-        let again = answer(&mut verifier, &mut intake, &mut sink);
-        assert_eq!(rt; again, Err(Stop::Again), "at call {fails_at}");
-        assert_eq!(rt; (sink.puts(), sink.bytes()), (fails_at, held));
-        authenticates(&rt, &mut verifier, bytes.as_slice());
-    }
-    let mut verifier = verifier(keys, Wanted::Tagged);
-    let mut intake = SliceIntake::new(bytes.as_slice(), 64);
-    let mut sink = FailingSink::<16>::new(3);
-    let verdict = answer(&mut verifier, &mut intake, &mut sink);
-    assert_eq!(rt; (verdict, sink.puts()), (Ok(authentic(44)), 2));
+fn stops_a_sign1(rt: HostRuntime) -> Result<(), Fail> {
+    let alloc = rt.alloc();
+    let set = point_set(alloc)?;
+    let signature = [0x5a; 64];
+    let digest = signed_digest(alloc)?;
+    let bytes = signed(alloc, SIGNED, &signature)?;
+    let case = Case {
+        keys: KeySet::read(set.as_slice()).or(Err("no key set"))?,
+        ec: Asked {
+            digest: &digest,
+            signature: &signature,
+            says: true,
+        },
+        bytes: bytes.as_slice(),
+        verdict: decision(true),
+        payload: b"",
+        payload_at: 8,
+    };
+    case.stops_at_each::<1024>(&rt);
+    Ok(())
+}
+
+#[test]
+fn stops_a_token(rt: HostRuntime) -> Result<(), Fail> {
+    let bytes = example(rt.alloc())?;
+    let case = Case {
+        keys: key_set().ok_or("no keys")?,
+        ec: Never,
+        bytes: bytes.as_slice(),
+        verdict: Verdict::Authentic {
+            kind: Kind::Mac0,
+            alg: Alg::Hmac256,
+            payload: 80,
+            taken: 123,
+        },
+        payload: bytes.get(9..89).unwrap_or(&[]),
+        payload_at: 9,
+    };
+    case.stops_at_each::<1024>(&rt);
+    Ok(())
+}
+
+/// The message of the payload `hi` with those headers.
+fn full_headers(alloc: Global) -> Result<Vec<u8>, AllocError> {
+    let structure = joined(alloc, &[b"\x84\x64MAC0\x50", PROTECTED, b"\x40\x42hi"])?;
+    let tag = hmac(KEY, structure.as_slice());
+    joined(
+        alloc,
+        &[
+            b"\xd1\x84\x50",
+            PROTECTED,
+            UNPROTECTED,
+            b"\x42hi\x58\x20",
+            &tag,
+        ],
+    )
+}
+
+#[test]
+fn stops_a_message_whose_headers_fill_their_room(rt: HostRuntime) -> Result<(), Fail> {
+    let bytes = full_headers(rt.alloc())?;
+    let case = Case {
+        keys: key_set().ok_or("no keys")?,
+        ec: Never,
+        bytes: bytes.as_slice(),
+        verdict: authentic(72),
+        payload: b"hi",
+        payload_at: 36,
+    };
+    case.stops_at_each::<16>(&rt);
     Ok(())
 }
 
@@ -105,7 +328,7 @@ fn tells_what_is_open_where_the_intake_fails(rt: HostRuntime) -> Result<(), Fail
     for (fails_at, open_items) in rows {
         let mut verifier = verifier(keys, Wanted::Tagged);
         let mut intake = FailingIntake::new(bytes, fails_at);
-        let stop = answer(&mut verifier, &mut intake, &mut Store::<16>::new());
+        let stop = answer(&mut verifier, &mut intake, &mut Store::<16>::new(), &Never);
         assert_eq!(rt; stop, Err(Stop::Intake), "at call {fails_at}");
         assert_eq!(rt; verifier.open_items(), open_items, "at call {fails_at}");
         verifier.reset();

@@ -1,9 +1,11 @@
-//! What stands in tests for a network, a disk and whoever verifies signatures.
+//! What stands in tests for a network, a disk and a verifier of signatures.
 
 ghost use Rattle.std.specs.Prelude.{◌&&◌, not, None, false, if◌then◌else◌};
 ghost use Rattle.std.specs.Str.{bytes_eq};
 
 use cose_msg::{EcVerifier, Intake, IntakeFault, Key, Sink, SinkFault, Store};
+use std::io;
+use std::io::{Error, ErrorKind, Read, Write};
 
 /// The bytes of a slice, as many as fit. One of its calls fails, and gives none.
 #[derive(Drop)]
@@ -100,6 +102,146 @@ impl<const L: usize> Sink for FailingSink<L> {
             self.failed = true;
             return Err(SinkFault);
         }
+        Ok(())
+    }
+}
+
+/// Gives one byte in each read, and fails at one of them.
+#[derive(Drop)]
+pub struct FailingReader<'a> {
+    /// The bytes that are left.
+    pub bytes: &'a [u8],
+    /// The number of its reads.
+    pub reads: usize,
+    /// The number of the read that fails, the first being 1.
+    pub fails_at: usize,
+}
+
+impl Read for FailingReader<'_> {
+    fn read(&mut self, into: &mut [u8]) -> io::Result<usize> {
+        self.reads = self.reads.saturating_add(1);
+        if self.reads == self.fails_at {
+            return Err(Error::from(ErrorKind::Other));
+        }
+        match (self.bytes, into) {
+            ([first, rest @ ..], [slot, ..]) => {
+                *slot = *first;
+                self.bytes = rest;
+                Ok(1)
+            }
+            _ => Ok(0),
+        }
+    }
+}
+
+/// Takes at most eight bytes in each write, and keeps them. One of the writes fails, or takes none.
+#[derive(Drop)]
+pub struct KeepingWriter {
+    /// The bytes that it took.
+    pub held: Vec<u8>,
+    /// The number of its writes.
+    pub writes: usize,
+    /// The number of the write that fails or takes none, the first being 1.
+    pub fails_at: usize,
+    /// Whether that write takes none.
+    pub takes_none: bool,
+}
+
+impl Write for KeepingWriter {
+    fn write(&mut self, bytes: &[u8]) -> io::Result<usize> {
+        self.writes = self.writes.saturating_add(1);
+        if self.writes == self.fails_at {
+            if self.takes_none {
+                return Ok(0);
+            }
+            return Err(Error::from(ErrorKind::Other));
+        }
+        let piece = bytes.get(..8).unwrap_or(bytes);
+        match self.held.extend_from_slice(piece) {
+            Ok(()) => Ok(piece.len()),
+            Err(_) => Err(Error::from(ErrorKind::OutOfMemory)),
+        }
+    }
+
+    fn flush(&mut self) -> io::Result<()> {
+        Ok(())
+    }
+}
+
+/// The bytes of a slice, as many as each call asks for. It notes how many that are, of 64 calls at most.
+#[derive(Drop)]
+pub struct NotingIntake<'a> {
+    bytes: &'a [u8],
+    asked: [usize; 64],
+    takes: usize,
+    ended: bool,
+}
+
+impl<'a> NotingIntake<'a> {
+    /// An intake of these bytes.
+    pub fn new(bytes: &'a [u8]) -> Self {
+        NotingIntake {
+            bytes,
+            asked: [0; 64],
+            takes: 0,
+            ended: false,
+        }
+    }
+
+    /// How many bytes each of its calls asked for.
+    pub fn asked(&self) -> &[usize] {
+        self.asked.get(..self.takes).unwrap_or(&self.asked)
+    }
+}
+
+impl Intake for NotingIntake<'_> {
+    ghost to_come = { λ _. None };
+
+    ghost has_failed = { λ _. false };
+
+    ghost ended = { λ intake. intake.ended };
+
+    fn take(&mut self, into: &mut [u8]) -> Result<usize, IntakeFault> {
+        if let Some(asked) = self.asked.get_mut(self.takes) {
+            *asked = into.len();
+        }
+        self.takes = self.takes.saturating_add(1);
+        let count = self.bytes.len().min(into.len());
+        let (piece, rest) = self.bytes.split_at(count);
+        into[..count].copy_from_slice(piece);
+        self.bytes = rest;
+        self.ended = count == 0;
+        Ok(count)
+    }
+}
+
+/// Takes every piece, and notes the length of the longest.
+#[derive(Drop)]
+pub struct NotingSink {
+    longest: usize,
+}
+
+impl NotingSink {
+    /// A sink that took nothing yet.
+    pub fn new() -> Self {
+        NotingSink { longest: 0 }
+    }
+
+    /// The length of the longest piece.
+    pub fn longest(&self) -> usize {
+        self.longest
+    }
+}
+
+impl Sink for NotingSink {
+    ghost contents = { λ _. None };
+
+    ghost has_failed = { λ _. false };
+
+    ghost sure = { λ _. 0 };
+
+    fn put(&mut self, piece: &[u8]) -> Result<(), SinkFault> {
+        self.longest = self.longest.max(piece.len());
         Ok(())
     }
 }

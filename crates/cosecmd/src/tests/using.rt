@@ -12,10 +12,12 @@ use crate::tests::{
 };
 use cose_cwt::{Audience, Claims, CwtStop, Policy, verify_cwt};
 use cose_mac::{Alg, Running, structure_front};
-use cose_map::{Bucket, KeySet, Kind, Material, Query, Reason, Refusal, check_pair};
+use cose_map::{
+    Bucket, KeySet, KeyTable, Keys, Kind, Material, Query, Reason, Refusal, check_pair,
+};
 use cose_msg::{
-    Context, EcVerifier, Intake, Never, Sink, SliceIntake, Status, Stop, Store, Verdict, Verifier,
-    Wanted, verify,
+    Context, EcVerifier, Intake, Never, Nothing, Sink, SliceIntake, Status, Stop, Store, Verdict,
+    Verifier, Wanted, verify,
 };
 use std::mem::size_of;
 use std::process::Abort;
@@ -33,7 +35,7 @@ enum Problem {
 }
 
 /// What the application knows before the message: its keys, no external data, no CWT tag, payloads of at most 4,096 bytes.
-fn context(keys: KeySet) -> Context
+fn context<'k, S: Keys<'k>>(keys: S) -> Context<'k, S>
     ensures { length result.aad.now ≤ 65535 }
 {
     Context {
@@ -55,7 +57,7 @@ fn payload_of<'p, I: Intake>(
     requires { is_inspecting verifier.old ≡ false }
     ensures { is_inspecting verifier.new ≡ false }
 {
-    match verify::<512, 1_024, 8, _, _, _>(verifier, intake, store, &Never) {
+    match verify::<512, 1_024, 8, _, _, _, _>(verifier, intake, store, &Never) {
         Ok(Verdict::Authentic { .. }) => Ok(store.bytes()),
         Ok(Verdict::Refused(refusal)) => Err(Problem::Message(refusal)),
         Err(stop) => Err(Problem::Stopped(stop)),
@@ -73,6 +75,43 @@ fn payload_length(key_set: &[u8], message: &[u8]) -> Result<usize, Problem> {
     let mut store = Store::new();
     let payload = payload_of(&mut verifier, &mut intake, &mut store)?;
     Ok(payload.len())
+}
+
+/// Whether the next message is authentic. The verifier is used for one message after another.
+fn is_next_authentic<'k>(
+    verifier: &mut Verifier<'k, 1_024, 8, &'k KeyTable<'k, 16>>,
+    message: &[u8],
+) -> bool {
+    verifier.reset();
+    if verifier.is_inspecting() {
+        return false;
+    }
+    let mut intake = SliceIntake::new(message, 512);
+    let verdict = verify::<512, 1_024, 8, _, _, _, _>(verifier, &mut intake, &mut Nothing, &Never);
+    matches!(verdict, Ok(Verdict::Authentic { .. }))
+}
+
+/// How many of these messages are authentic under the keys of a table.
+fn count_authentic<'k>(table: &'k KeyTable<'k, 16>, messages: &[&[u8]]) -> usize {
+    let mut verifier = Verifier::new(context(table));
+    let mut count = 0usize;
+    for message in messages {
+        if is_next_authentic(&mut verifier, message) {
+            count = count.saturating_add(1);
+        }
+    }
+    count
+}
+
+#[test]
+fn counts_what_is_authentic(rt: HostRuntime) -> Result<(), Fail> {
+    let table = KeyTable::<16>::read(KEY_SET).or(Err("no table"))?;
+    let good = message(rt.alloc())?;
+    let bad = good.get(..43).unwrap_or(&[]);
+    let messages: [&[u8]; 3] = [good.as_slice(), bad, good.as_slice()];
+    assert_eq!(rt; count_authentic(&table, &messages), 2);
+    assert_eq!(rt; count_authentic(&table, &[bad]), 0);
+    Ok(())
 }
 
 #[test]
@@ -158,7 +197,7 @@ fn claims_of<'p>(
         leeway: 60,
         audience: Audience::Mine(&["coap://light.example.com"]),
     };
-    verify_cwt::<512, 1_024, 8, 4_096, _, _>(&mut verifier, &mut intake, store, &Never, &policy)
+    verify_cwt::<512, 1_024, 8, 4_096, _, _, _>(&mut verifier, &mut intake, store, &Never, &policy)
 }
 
 #[test]

@@ -1,6 +1,8 @@
-use Rattle.std.proofs.Common.{◌≤◌, [], length, subst, sym, arith}
-use Rattle.cose_msg.specs.Task.{Task}
-use Rattle.cose_cwt.proofs.Tokens.{kept_is_no_failure, store_suffices, token_of_run, token_placed, with_contents}
+use Rattle.std.proofs.Common.{◌≡◌, ◌≤◌, ℕ, Bool, [], None, Some, length, subst, sym, ◌∙◌, arith}
+use Rattle.cose_msg.specs.Kept.{HasTaken, kept_answer}
+use Rattle.cose_msg.specs.Task.{to_verify}
+use Rattle.cose_msg.specs.Verifier.{setting_in}
+use Rattle.cose_cwt.proofs.Tokens.{kept_is_no_failure, none_or_some, store_suffices, token_of_run, token_placed, with_contents}
 use Rattle.cose_cwt.proofs.token.verify_cwt.Goals as goal
 
 pub returns-clause-run : goal.returns-clause-run
@@ -24,19 +26,24 @@ returns-clause-token g c = λ setting bytes h told.
     let r = returns-clause-run g c setting h in
     token_of_run c.settled_stays.ensures.message _ _ _ _ _ _ _ _ _ r.taken _ bytes _ r.run r.comes told
 
--- The payload is within its limit, and so within the store.
+-- A kept answer is no failure. With none the payload is within its limit, and so within the store.
 pub returns-clause-store_suffices : goal.returns-clause-store_suffices
-returns-clause-store_suffices g c = λ setting s B h.
-    let limit : setting.payload_limit ≤ g.row.L = subst (λ (t : Task). t.setting.payload_limit ≤ g.row.L) h.so_far.shows.0 c.requires.payload_limit in
-    store_suffices _ _ _ _ _ c.claims_after.ensures
-    (c.verify-verdict.ensures.sure setting s B h (subst (λ n. setting.payload_limit ≤ n) (sym c.clear.ensures.sure) limit))
+returns-clause-store_suffices g c =
+    let before = c.args.verifier.now in
+    let setting = setting_in before in
+    none_or_some (kept_answer before) (λ none.
+        (let anew : HasTaken (to_verify setting) [] [] before = subst (λ (inspects : Bool). HasTaken (record { setting = setting; inspects = inspects }) [] [] before) c.requires.verifies (c.taken-none.ensures.anew (c.taken-none.ensures.value ∙ c.requires.none_taken) none) in
+        store_suffices _ _ _ _ _ c.claims_after.ensures (c.verify-verdict.ensures.sure setting [] [] anew (subst (λ (n : ℕ). setting.payload_limit ≤ n) (sym c.clear.ensures.sure) c.requires.payload_limit))))
+    (λ answer kept. (kept_is_no_failure _ _ _ _ _ _ _ _ c.claims_after.ensures kept (c.verify-verdict.ensures.again answer kept).0).1)
 
 pub returns-clause-again_unfailed : goal.returns-clause-again_unfailed
 returns-clause-again_unfailed g c = λ answer kept.
-    let same = (c.verify-verdict.ensures.again answer kept).0 in
-    kept_is_no_failure _ _ _ _ _ _ _ _ c.claims_after.ensures kept same
+    (kept_is_no_failure _ _ _ _ _ _ _ _ c.claims_after.ensures kept (c.verify-verdict.ensures.again answer kept).0).0
 
 pub returns-clause-within : goal.returns-clause-within
 returns-clause-within g c = λ refusal e.
     let placed : refusal.place ≤ length c.bytes.result.now = token_placed _ _ _ _ _ refusal c.claims_after.ensures e (c.claims_refusals_stand_inside.ensures.admission _ _ _) in
     omega (arith, placed, c.bytes.ensures.limit)
+
+pub returns-clause-context : goal.returns-clause-context
+returns-clause-context g c = λ setting h. c.verify-verdict.ensures.context setting [] [] h

@@ -1,13 +1,12 @@
-use Rattle.std.proofs.Common.{◌≡◌, ℕ, ◌<◌, ◌≤◌, true, false, List, [], length, take, refl, sym, ◌∙◌, arith}
+use Rattle.std.proofs.Common.{◌≡◌, ℕ, ◌<◌, ◌≤◌, rules, length-append, true, false, List, [], ◌++◌, length, take, drop, refl, sym, ap, ◌∙◌, arith}
 use Rattle.std.proofs.lemmas.Grind.{common_steps}
 use Rattle.std.proofs.lemmas.List.{length-take}
 use Rattle.std.proofs.KnownBytes.{Consumes-nil, Appends-nil}
 use Rattle.cose_msg.specs.Phase.{in_payload, want_of}
-use Rattle.cose_msg.specs.Task.{rules_of}
+use Rattle.cose_msg.specs.Task.{Task, rules_of}
 use Rattle.cose_msg.proofs.PayloadLimit.{payload_within}
-use Rattle.cose_msg.proofs.Runs.{at_start, concluded, first_of, goes_on, is_done, marks_nothing, not_at_end, promise_kept, put_done, put_failed, sure_enough, settled_if_none_asked, stopped_by_intake, stopped_by_sink, take_short}
-use Rattle.cose_msg.proofs.Arms.{unfailed}
-use Rattle.cose_msg.proofs.Standing.{stands_in}
+use Rattle.cose_msg.proofs.Runs.{at_start, concluded, first_of, goes_on, is_done, marks_fault, marks_nothing, not_at_end, promise_kept, put_done, put_failed, sure_enough, settled_if_none_asked, stopped_by_intake, stopped_by_sink, take_short}
+use Rattle.cose_msg.proofs.KeptAnswers.{unfailed}
 use Rattle.cose_msg.proofs.run.take_message.Goals.{else-in_payload-via-then-in_payload+else-is_err, else-in_payload-via-else-in_payload}
 use Rattle.cose_msg.proofs.run.take_message.Goals as goal
 
@@ -16,15 +15,15 @@ pieces-init g c = (λ task s B h. at_start _ _ _ _ h, c.requires.goes_on, refl, 
 
 pub pieces-preserved : goal.pieces-preserved
 pieces-preserved g c =
-    let count : c.in-Ok.count ≤ want_of c.pieces.verifier.phase = omega (arith, c.take.auto.into, c.in-Ok.ensures.within, c.request-asked.ensures.wanted, length-take c.request-asked.result c.pieces.chunk) in
-    let fits : (l : List ℕ) → length (take c.in-Ok.count l) ≤ want_of c.pieces.verifier.phase = λ l. omega (arith, take_short c.in-Ok.count l) in
-    let within : (l more : List ℕ) → length more < length (take c.in-Ok.count l) → length more < want_of c.pieces.verifier.phase = λ l more lt. omega (arith, fits l, lt) in
+    let count : c.in-Ok.count ≤ want_of c.pieces.verifier.reader.phase = omega (arith, c.take.auto.into, c.in-Ok.ensures.within, c.request-asked.ensures.wanted, length-take c.request-asked.result c.pieces.chunk) in
+    let fits : (l : List ℕ) → length (take c.in-Ok.count l) ≤ want_of c.pieces.verifier.reader.phase = λ l. omega (arith, take_short c.in-Ok.count l) in
+    let within : (l more : List ℕ) → length more < length (take c.in-Ok.count l) → length more < want_of c.pieces.verifier.reader.phase = λ l more lt. omega (arith, fits l, lt) in
     let some : 0 < c.in-Ok.count = omega (arith, c.if-count-eq0.false) in
     let stopped = c.take_piece.ensures.marked ∙ c.pieces.invariant.1 in
     let inspects = c.take_piece.ensures.inspects ∙ c.pieces.invariant.2 in
     elim c.else-in_payload.branch [
       | else-in_payload-via-then-in_payload+else-is_err w ↦
-          (let in_it : in_payload c.pieces.verifier.phase ≡ true = sym c.is_in_payload-in_payload.ensures ∙ w.if-in_payload.true in
+          (let in_it : in_payload c.pieces.verifier.reader.phase ≡ true = sym c.is_in_payload-in_payload.ensures ∙ w.if-in_payload.true in
           let done = sym w.is_err.ensures.value ∙ w.if-is_err.false in
           rw w.sink-is (
             λ task s B h.
@@ -37,7 +36,7 @@ pieces-preserved g c =
             w.put.ensures.failure ∙ marks_nothing _ w.put.result done ∙ c.pieces.invariant.4,
           ))
       | else-in_payload-via-else-in_payload w ↦
-          (let in_it : in_payload c.pieces.verifier.phase ≡ false = sym c.is_in_payload-in_payload.ensures ∙ w.if-in_payload.false in
+          (let in_it : in_payload c.pieces.verifier.reader.phase ≡ false = sym c.is_in_payload-in_payload.ensures ∙ w.if-in_payload.false in
           rw w.sink-is (
             λ task s B h.
                 (let a = c.pieces.invariant.0 task s B h in
@@ -54,7 +53,7 @@ pub returns-then-asked-eq0-clause-drive : goal.returns-then-asked-eq0-clause-dri
 returns-then-asked-eq0-clause-drive g c = λ task s B h.
     let a = c.pieces.invariant.0 task s B h in
     let none : c.request-asked.result ≡ 0 = omega (arith, c.if-asked-eq0.true) in
-    let room : g.row.H ≤ 65535 = c.pieces.verifier.limit in
+    let room : g.row.H ≤ 65535 = c.pieces.verifier.reader.limit in
     let done = settled_if_none_asked (record { compared = c.messages_are_bounded.ensures.verified.1; inspected = c.messages_are_bounded.ensures.inspected }) room c.request-asked.result a.stands (c.waits.ensures.settled task _ _ _ a.stands.so_far) c.request-asked.ensures.some none in
     concluded a (Consumes-nil _) (c.waits.ensures.payload task _ _ _ a.stands.so_far) (c.waits.ensures.shows task _ _ _ a.stands.so_far)
     (λ e. let clash : true ≡ false = sym done ∙ e in absurd cc) (λ e. a.not_ended)
@@ -62,13 +61,13 @@ returns-then-asked-eq0-clause-drive g c = λ task s B h.
 pub returns-in-Err-clause-drive : goal.returns-in-Err-clause-drive
 returns-in-Err-clause-drive g c = λ task s B h.
     let a = c.pieces.invariant.0 task s B h in
-    let wanted : 0 < want_of c.pieces.verifier.phase = omega (arith, c.if-asked-eq0.false, c.request-asked.ensures.wanted) in
+    let wanted : 0 < want_of c.pieces.verifier.reader.phase = omega (arith, c.if-asked-eq0.false, c.request-asked.ensures.wanted) in
     stopped_by_intake a c.in-Err.ensures.bytes (c.waits.ensures.payload task _ _ _ a.stands.so_far) (c.waits.ensures.shows task _ _ _ a.stands.so_far) (c.waits.ensures.open task _ _ _ [] a.stands.so_far wanted) c.stop.ensures.taken c.stop.ensures.shown
 
 pub returns-then-count-eq0-clause-drive : goal.returns-then-count-eq0-clause-drive
 returns-then-count-eq0-clause-drive g c = λ task s B h.
     let a = c.pieces.invariant.0 task s B h in
-    let wanted : 0 < want_of c.pieces.verifier.phase = omega (arith, c.if-asked-eq0.false, c.request-asked.ensures.wanted) in
+    let wanted : 0 < want_of c.pieces.verifier.reader.phase = omega (arith, c.if-asked-eq0.false, c.request-asked.ensures.wanted) in
     let none : c.in-Ok.count ≡ 0 = omega (arith, c.if-count-eq0.true) in
     let open_yet = c.waits.ensures.open task _ _ _ [] a.stands.so_far wanted in
     let took = rw none at c.in-Ok.ensures.bytes in
@@ -80,10 +79,10 @@ pub returns-then-is_err-clause-drive : goal.returns-then-is_err-clause-drive
 returns-then-is_err-clause-drive g c = λ task s B h.
     let a = c.pieces.invariant.0 task s B h in
     let stands = c.take_piece.ensures.taken task _ _ a.stands in
-    let in_it : in_payload c.pieces.verifier.phase ≡ true = sym c.is_in_payload-in_payload.ensures ∙ c.if-in_payload.true in
-    let count : c.in-Ok.count ≤ want_of c.pieces.verifier.phase = omega (arith, c.take.auto.into, c.in-Ok.ensures.within, c.request-asked.ensures.wanted, length-take c.request-asked.result c.pieces.chunk) in
-    let fits : (l : List ℕ) → length (take c.in-Ok.count l) ≤ want_of c.pieces.verifier.phase = λ l. omega (arith, take_short c.in-Ok.count l) in
-    let within : (l more : List ℕ) → length more < length (take c.in-Ok.count l) → length more < want_of c.pieces.verifier.phase = λ l more lt. omega (arith, fits l, lt) in
+    let in_it : in_payload c.pieces.verifier.reader.phase ≡ true = sym c.is_in_payload-in_payload.ensures ∙ c.if-in_payload.true in
+    let count : c.in-Ok.count ≤ want_of c.pieces.verifier.reader.phase = omega (arith, c.take.auto.into, c.in-Ok.ensures.within, c.request-asked.ensures.wanted, length-take c.request-asked.result c.pieces.chunk) in
+    let fits : (l : List ℕ) → length (take c.in-Ok.count l) ≤ want_of c.pieces.verifier.reader.phase = λ l. omega (arith, take_short c.in-Ok.count l) in
+    let within : (l more : List ℕ) → length more < length (take c.in-Ok.count l) → length more < want_of c.pieces.verifier.reader.phase = λ l more lt. omega (arith, fits l, lt) in
     stopped_by_sink c.take_piece.new.self _ a (first_of _ _ c.in-Ok.count c.take.new.into _ c.in-Ok.ensures.within c.in-Ok.ensures.bytes.0)
     (λ more lt. c.waits.ensures.open task _ _ _ more a.stands.so_far (within _ more lt)) (c.waits.ensures.open_payload task _ _ _ _ a.stands.so_far in_it (fits _)) in_it
     (c.waits-in-pieces.ensures.payload task _ _ _ stands.so_far) (c.waits-in-pieces.ensures.shows task _ _ _ stands.so_far) (put_failed _ _ _ c.put.result (sym c.is_err.ensures.value ∙ c.if-is_err.true) c.put.ensures.bytes)
@@ -94,23 +93,23 @@ pub returns-then-is_err-clause-sure : goal.returns-then-is_err-clause-sure
 returns-then-is_err-clause-sure g c = λ task s B h enough.
     let a = c.pieces.invariant.0 task s B h in
     let stands = c.take_piece.ensures.taken task _ _ a.stands in
-    let in_it : in_payload c.pieces.verifier.phase ≡ true = sym c.is_in_payload-in_payload.ensures ∙ c.if-in_payload.true in
+    let in_it : in_payload c.pieces.verifier.reader.phase ≡ true = sym c.is_in_payload-in_payload.ensures ∙ c.if-in_payload.true in
     let known = c.waits-in-pieces.ensures.payload task _ _ _ stands.so_far in
     let limit = payload_within (rules_of g.row.H g.row.D task) _ in
     let promised = c.put.ensures.promised (sure_enough _ _ a in_it known limit enough) in
     absurd (is_done c.put.result (sym c.is_err.ensures.value ∙ c.if-is_err.true) promised)
 
 pub returns-then-asked-eq0-clause-context : goal.returns-then-asked-eq0-clause-context
-returns-then-asked-eq0-clause-context g c = λ task s B h. stands_in (c.pieces.invariant.0 task s B h).stands.so_far
+returns-then-asked-eq0-clause-context g c = λ task s B h. ap (λ (t : Task). t.setting) (c.pieces.invariant.0 task s B h).stands.made_for
 
 pub returns-in-Err-clause-context : goal.returns-in-Err-clause-context
-returns-in-Err-clause-context g c = λ task s B h. c.stop.ensures.context ∙ stands_in (c.pieces.invariant.0 task s B h).stands.so_far
+returns-in-Err-clause-context g c = λ task s B h. c.stop.ensures.context ∙ ap (λ (t : Task). t.setting) (c.pieces.invariant.0 task s B h).stands.made_for
 
 pub returns-then-count-eq0-clause-context : goal.returns-then-count-eq0-clause-context
-returns-then-count-eq0-clause-context g c = λ task s B h. stands_in (c.pieces.invariant.0 task s B h).stands.so_far
+returns-then-count-eq0-clause-context g c = λ task s B h. ap (λ (t : Task). t.setting) (c.pieces.invariant.0 task s B h).stands.made_for
 
 pub returns-then-is_err-clause-context : goal.returns-then-is_err-clause-context
-returns-then-is_err-clause-context g c = λ task s B h. c.stop-then-is_err.ensures.context ∙ stands_in (c.take_piece.ensures.taken task _ _ (c.pieces.invariant.0 task s B h).stands).so_far
+returns-then-is_err-clause-context g c = λ task s B h. c.stop-then-is_err.ensures.context ∙ ap (λ (t : Task). t.setting) (c.take_piece.ensures.taken task _ _ (c.pieces.invariant.0 task s B h).stands).made_for
 
 pub messages_are_bounded-requires : goal.messages_are_bounded-requires
 messages_are_bounded-requires g c = cc
@@ -219,3 +218,28 @@ returns-then-is_err-clause-opened g c = grind (arith, common_steps)
 
 pub returns-then-is_err-clause-once : goal.returns-then-is_err-clause-once
 returns-then-is_err-clause-once g c = grind (arith, common_steps)
+
+pub returns-then-is_err-clause-intake_failure : goal.returns-then-is_err-clause-intake_failure
+returns-then-is_err-clause-intake_failure g c = c.in-Ok.ensures.failure ∙ c.pieces.invariant.3 ∙ unfailed _ false refl
+
+pub returns-then-is_err-clause-sink_failure : goal.returns-then-is_err-clause-sink_failure
+returns-then-is_err-clause-sink_failure g c = c.put.ensures.failure ∙ marks_fault _ _ c.put.result (sym c.is_err.ensures.value ∙ c.if-is_err.true)
+
+pub take_piece-requires : goal.take_piece-requires
+take_piece-requires g c κs =
+    let count : c.in-Ok.count ≤ want_of c.pieces.verifier.reader.phase = omega (arith, c.take.auto.into, c.in-Ok.ensures.within, c.request-asked.ensures.wanted, length-take c.request-asked.result c.pieces.chunk) in (
+      search rules,
+      (
+        (refl, tt),
+        (
+          omega (arith, c.if-count-eq0.false, c.in-Ok.ensures.within, length-take c.in-Ok.count (c.take.new.into ++ drop c.request-asked.result c.pieces.chunk), length-append c.take.new.into (drop c.request-asked.result c.pieces.chunk)),
+          (
+            omega (arith, count, take_short c.in-Ok.count (c.take.new.into ++ drop c.request-asked.result c.pieces.chunk)),
+            (
+              c.request-asked.ensures.early (omega (arith, c.if-asked-eq0.false)),
+              omega (arith, take_short c.in-Ok.count (c.take.new.into ++ drop c.request-asked.result c.pieces.chunk), c.take.auto.into, c.in-Ok.ensures.within, c.request-asked.ensures.most, c.requires.limit, length-take c.request-asked.result c.pieces.chunk),
+            ),
+          ),
+        ),
+      ),
+    )

@@ -3,12 +3,11 @@ use Rattle.std.proofs.lemmas.Grind.{common_steps}
 use Rattle.std.specs.Prelude.{is_err}
 use Rattle.cose_msg.specs.Answer.{decided}
 use Rattle.cose_msg.specs.Message.{verifying}
-use Rattle.cose_msg.specs.Task.{to_verify}
+use Rattle.cose_msg.specs.Task.{Task, to_verify}
 use Rattle.cose_msg.specs.Kept.{verdict_in}
-use Rattle.cose_msg.proofs.Arms.{kept_again, kept_intake, kept_sink, kept_stop, unfailed}
+use Rattle.cose_msg.proofs.KeptAnswers.{kept_again, kept_intake, kept_sink, kept_stop, unfailed}
 use Rattle.cose_msg.proofs.Answered.{kept_verdict_run, kept_verdict_settles, of_any, still, stopped, verdict_run, verifying_alike}
 use Rattle.cose_msg.proofs.Runs.{counted_stands, told_before}
-use Rattle.cose_msg.proofs.Standing.{stands_in}
 use Rattle.cose_msg.proofs.Statuses.{left_by_answer, left_by_kept, left_by_stop}
 use Rattle.cose_msg.proofs.run.verify.Goals as goal
 
@@ -62,7 +61,7 @@ pub returns-in-Err-clause-before : goal.returns-in-Err-clause-before
 returns-in-Err-clause-before g c = λ setting s B h. told_before g.row.H g.row.D (to_verify setting) s B (c.waits.ensures.payload (to_verify setting) B _ _ h.so_far)
 
 pub returns-in-Some-clause-context : goal.returns-in-Some-clause-context
-returns-in-Some-clause-context g c = λ setting s B h. stands_in h.so_far
+returns-in-Some-clause-context g c = λ setting s B h. ap (λ (t : Task). t.setting) h.made_for
 
 pub returns-in-Ok-clause-context : goal.returns-in-Ok-clause-context
 returns-in-Ok-clause-context g c = λ setting s B h. c.conclude.ensures.context ∙ c.take_message.ensures.context (to_verify setting) s B h
@@ -86,13 +85,13 @@ pub kept_answer-requires : goal.kept_answer-requires
 kept_answer-requires g c = grind (arith, common_steps)
 
 pub returns-in-Some-clause-kept : goal.returns-in-Some-clause-kept
-returns-in-Some-clause-kept g c = kept_again c.args.verifier.now.stopped (verdict_in c.args.verifier.now.phase) c.in-Some.answer (sym c.kept_answer.ensures ∙ c.in-Some.is)
+returns-in-Some-clause-kept g c = kept_again c.args.verifier.now.stopped (verdict_in c.args.verifier.now.reader.phase) c.in-Some.answer (sym c.kept_answer.ensures ∙ c.in-Some.is)
 
 pub returns-in-Some-clause-again : goal.returns-in-Some-clause-again
 returns-in-Some-clause-again g c = grind (arith, common_steps)
 
 pub returns-in-Some-clause-stopped : goal.returns-in-Some-clause-stopped
-returns-in-Some-clause-stopped g c = kept_stop c.args.verifier.now.stopped (verdict_in c.args.verifier.now.phase) c.in-Some.answer (sym c.kept_answer.ensures ∙ c.in-Some.is)
+returns-in-Some-clause-stopped g c = kept_stop c.args.verifier.now.stopped (verdict_in c.args.verifier.now.reader.phase) c.in-Some.answer (sym c.kept_answer.ensures ∙ c.in-Some.is)
 
 pub returns-in-Some-clause-inspects : goal.returns-in-Some-clause-inspects
 returns-in-Some-clause-inspects g c = grind (arith, common_steps)
@@ -104,13 +103,13 @@ pub returns-in-Some-clause-opened : goal.returns-in-Some-clause-opened
 returns-in-Some-clause-opened g c = grind (arith, common_steps)
 
 pub returns-in-Some-clause-intake_failure : goal.returns-in-Some-clause-intake_failure
-returns-in-Some-clause-intake_failure g c = unfailed _ _ (kept_intake c.args.verifier.now.stopped (verdict_in c.args.verifier.now.phase) c.in-Some.answer (sym c.kept_answer.ensures ∙ c.in-Some.is))
+returns-in-Some-clause-intake_failure g c = unfailed _ _ (kept_intake c.args.verifier.now.stopped (verdict_in c.args.verifier.now.reader.phase) c.in-Some.answer (sym c.kept_answer.ensures ∙ c.in-Some.is))
 
 pub returns-in-Some-clause-sink_failure : goal.returns-in-Some-clause-sink_failure
-returns-in-Some-clause-sink_failure g c = unfailed _ _ (kept_sink c.args.verifier.now.stopped (verdict_in c.args.verifier.now.phase) c.in-Some.answer (sym c.kept_answer.ensures ∙ c.in-Some.is))
+returns-in-Some-clause-sink_failure g c = unfailed _ _ (kept_sink c.args.verifier.now.stopped (verdict_in c.args.verifier.now.reader.phase) c.in-Some.answer (sym c.kept_answer.ensures ∙ c.in-Some.is))
 
 pub returns-in-Some-clause-sure : goal.returns-in-Some-clause-sure
-returns-in-Some-clause-sure g c = λ setting s B h enough. kept_sink c.args.verifier.now.stopped (verdict_in c.args.verifier.now.phase) c.in-Some.answer (sym c.kept_answer.ensures ∙ c.in-Some.is)
+returns-in-Some-clause-sure g c = λ setting s B h enough. kept_sink c.args.verifier.now.stopped (verdict_in c.args.verifier.now.reader.phase) c.in-Some.answer (sym c.kept_answer.ensures ∙ c.in-Some.is)
 
 pub take_message-requires : goal.take_message-requires
 take_message-requires g c = grind (arith, common_steps)

@@ -165,7 +165,7 @@ fn goes_on_by_verify(rt: HostRuntime) {
     assert_eq!(rt; verifier.feed(front).status, Status::More);
     let mut intake = SliceIntake::new(rest, 64);
     let mut store = Store::<2>::new();
-    let verdict = verify::<64, 16, 1, SliceIntake, Store<2>, Never>(
+    let verdict = verify::<64, 16, 1, _, SliceIntake, Store<2>, Never>(
         &mut verifier,
         &mut intake,
         &mut store,
@@ -227,7 +227,7 @@ fn ends_where_no_byte_follows(rt: HostRuntime) {
 fn stays_stopped(rt: HostRuntime) {
     let mut verifier = under_jefe::<16, 1>().expect(&rt, "a verifier");
     let mut failing = ReadIntake::new(FailingReader::new(MAC0, 3));
-    let stop = verify::<64, 16, 1, ReadIntake<FailingReader>, Nothing, Never>(
+    let stop = verify::<64, 16, 1, _, ReadIntake<FailingReader>, Nothing, Never>(
         &mut verifier,
         &mut failing,
         &mut Nothing,
@@ -307,7 +307,7 @@ fn decides_on_a_signature_once(rt: HostRuntime) {
 fn verified(verifier: &mut Verifier<16, 1>, bytes: &[u8], holds: bool) -> Result<Verdict, Stop>
     requires { is_inspecting verifier.old ≡ false }
 {
-    verify::<64, 16, 1, SliceIntake, Nothing, Says>(
+    verify::<64, 16, 1, _, SliceIntake, Nothing, Says>(
         verifier,
         &mut SliceIntake::new(bytes, 64),
         &mut Nothing,

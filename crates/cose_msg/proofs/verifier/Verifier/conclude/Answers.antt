@@ -1,122 +1,19 @@
-use Rattle.std.proofs.Common.{rules, ◌≡◌, ℕ, true, false, [], None, sym, ap, refl, subst, ◌∙◌, arith}
-use Rattle.std.proofs.lemmas.Grind.{common_steps}
-use Rattle.cose_msg.specs.Kept.{verdict_in}
-use Rattle.cose_msg.specs.Laws.{then_verified}
-use Rattle.cose_msg.specs.declared.status.Status.TheVariants.{Complete}
-use Rattle.cose_msg.specs.Phase.{awaits_decision, is_settled}
-use Rattle.cose_msg.specs.Shown.{held_input, sign_input_of}
-use Rattle.cose_msg.specs.Status.{status_at, status_of}
-use Rattle.cose_msg.specs.Task.{to_verify}
-use Rattle.cose_msg.specs.Verifier.{Counts}
-use Rattle.cose_msg.proofs.Arms.{known_is_decided, tells_no_input, unsigned_is_undecided}
-use Rattle.cose_msg.proofs.Decisions.{signed_count, stands_with_verdict, stands_without_verdict}
-use Rattle.cose_msg.proofs.Statuses.{settled_status, status_going}
+use Rattle.std.proofs.Common.{refl}
 use Rattle.cose_msg.proofs.verifier.Verifier.conclude.Goals as goal
 
-pub returns-in-Some-clause-answer : goal.returns-in-Some-clause-answer
-returns-in-Some-clause-answer g c = λ setting B reading h.
-    ap (then_verified setting.aad (g.E.EcVerifier.decides c.args.ec.now)) (stands_with_verdict c.in-Some.verdict h (sym c.known_verdict.ensures ∙ c.in-Some.is)).0
-
-pub returns-in-Some-clause-counted : goal.returns-in-Some-clause-counted
-returns-in-Some-clause-counted g c = λ setting B reading h. (stands_with_verdict c.in-Some.verdict h (sym c.known_verdict.ensures ∙ c.in-Some.is)).2
-
-pub returns-in-Some-clause-status : goal.returns-in-Some-clause-status
-returns-in-Some-clause-status g c = λ setting B reading h goes_on.
-    let settles = (stands_with_verdict c.in-Some.verdict h (sym c.known_verdict.ensures ∙ c.in-Some.is)).1 in
-    status_going c.args.self.now _ goes_on (settled_status (reading []) _ (c.waits.ensures.status (to_verify setting) B _ reading h) settles)
-
-pub returns-in-Signed-clause-status : goal.returns-in-Signed-clause-status
-returns-in-Signed-clause-status g c = λ setting B reading h goes_on.
-    let settles : (reading []).settled ≡ true = c.waits.ensures.settled (to_verify setting) B _ reading h ∙ ap is_settled c.in-Signed.is in
-    let complete : Complete ≡ status_of (reading []) = sym (ap status_at c.in-Signed.is) ∙ c.waits.ensures.status (to_verify setting) B _ reading h in
-    rw goes_on (settled_status (reading []) Complete complete settles)
-
-pub returns-in-Signed-clause-answer : goal.returns-in-Signed-clause-answer
-returns-in-Signed-clause-answer g c = λ setting B reading h. c.signed_verdict-verdict.ensures.answer (to_verify setting) B _ reading h
-
-pub returns-in-Signed-clause-counted : goal.returns-in-Signed-clause-counted
-returns-in-Signed-clause-counted g c = λ setting B reading h.
-    subst (λ (n : ℕ). Counts c.signed_verdict-verdict.result n) (sym (signed_count c.in-Signed.signed c.in-Signed.is h)) c.signed_verdict-verdict.ensures.counted
-
-pub returns-in-Signed-clause-shown : goal.returns-in-Signed-clause-shown
-returns-in-Signed-clause-shown g c = rw c.in-Signed.is refl
-
-pub returns-in_default-phase : goal.returns-in_default-phase
-returns-in_default-phase g c =
-    let none : verdict_in c.args.self.now.phase ≡ None = search rules in
-    let undecided : awaits_decision c.args.self.now.phase ≡ false = unsigned_is_undecided c.args.self.now.phase c.in_default-phase.not-Signed in
-    let no_input : sign_input_of c.args.self.now ≡ None = tells_no_input c.args.self.now.phase (held_input c.args.self.now) undecided none in
-    let same = c.truncate.ensures in
+pub returns : goal.returns
+returns g c =
+    let e = c.conclude.ensures in
     record {
-      kept = rw (same.phase, same.stopped) refl;
-      counts = same.taken;
-      inspects = same.inspects;
-      context = same.context;
-      shown = same.shown no_input;
-      held = same.held;
-      opened = same.opened;
-      complete = λ awaits. let clash : false ≡ true = sym undecided ∙ awaits in absurd cc;
-      answer = λ setting B reading h. rw (c.waits.ensures.truncated (to_verify setting) B _ reading h (stands_without_verdict h none undecided), same.same) refl;
-      counted = λ setting B reading h. tt;
-      status = λ setting B reading h goes_on. rw (same.phase, same.stopped, goes_on, c.waits.ensures.truncated (to_verify setting) B _ reading h (stands_without_verdict h none undecided), same.same) refl;
+      kept = rw e.kept refl;
+      counts = refl;
+      inspects = refl;
+      context = rw e.terms refl;
+      shown = e.shown;
+      held = e.held;
+      opened = e.opened;
+      complete = λ awaits goes_on. rw goes_on (e.complete awaits);
+      answer = e.answer;
+      counted = e.counted;
+      status = λ setting B reading h goes_on. rw goes_on (e.status setting B reading h);
     }
-
-pub waits-requires : goal.waits-requires
-waits-requires g c = grind (arith, common_steps)
-
-pub known_verdict-requires : goal.known_verdict-requires
-known_verdict-requires g c = grind (arith, common_steps)
-
-pub returns-in-Some-clause-kept : goal.returns-in-Some-clause-kept
-returns-in-Some-clause-kept g c = cc
-
-pub returns-in-Some-clause-counts : goal.returns-in-Some-clause-counts
-returns-in-Some-clause-counts g c = cc
-
-pub returns-in-Some-clause-inspects : goal.returns-in-Some-clause-inspects
-returns-in-Some-clause-inspects g c = cc
-
-pub returns-in-Some-clause-context : goal.returns-in-Some-clause-context
-returns-in-Some-clause-context g c = cc
-
-pub returns-in-Some-clause-shown : goal.returns-in-Some-clause-shown
-returns-in-Some-clause-shown g c = cc
-
-pub returns-in-Some-clause-held : goal.returns-in-Some-clause-held
-returns-in-Some-clause-held g c = cc
-
-pub returns-in-Some-clause-opened : goal.returns-in-Some-clause-opened
-returns-in-Some-clause-opened g c = cc
-
-pub returns-in-Some-clause-complete : goal.returns-in-Some-clause-complete
-returns-in-Some-clause-complete g c = λ awaits. absurd (known_is_decided c.args.self.now.phase c.in-Some.verdict (sym c.known_verdict.ensures ∙ c.in-Some.is) awaits)
-
-pub signed_verdict-verdict-requires : goal.signed_verdict-verdict-requires
-signed_verdict-verdict-requires g c = grind (arith, common_steps)
-
-pub invariant_of-self : goal.invariant_of-self
-invariant_of-self g c = grind (arith, common_steps)
-
-pub truncate-requires : goal.truncate-requires
-truncate-requires g c = grind (arith, common_steps)
-
-pub returns-in-Signed-clause-kept : goal.returns-in-Signed-clause-kept
-returns-in-Signed-clause-kept g c = cc
-
-pub returns-in-Signed-clause-counts : goal.returns-in-Signed-clause-counts
-returns-in-Signed-clause-counts g c = cc
-
-pub returns-in-Signed-clause-inspects : goal.returns-in-Signed-clause-inspects
-returns-in-Signed-clause-inspects g c = cc
-
-pub returns-in-Signed-clause-context : goal.returns-in-Signed-clause-context
-returns-in-Signed-clause-context g c = cc
-
-pub returns-in-Signed-clause-held : goal.returns-in-Signed-clause-held
-returns-in-Signed-clause-held g c = cc
-
-pub returns-in-Signed-clause-opened : goal.returns-in-Signed-clause-opened
-returns-in-Signed-clause-opened g c = cc
-
-pub returns-in-Signed-clause-complete : goal.returns-in-Signed-clause-complete
-returns-in-Signed-clause-complete g c = grind (arith, common_steps)

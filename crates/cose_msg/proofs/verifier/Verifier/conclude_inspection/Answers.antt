@@ -1,50 +1,18 @@
-use Rattle.std.proofs.Common.{◌≡◌, [], None, Some, ◌∙◌, sym, refl, arith}
-use Rattle.std.proofs.lemmas.Grind.{common_steps}
-use Rattle.cose_msg.specs.Kept.{inspected_in}
-use Rattle.cose_msg.specs.Shown.{held_input}
-use Rattle.cose_msg.specs.Task.{to_inspect}
-use Rattle.cose_msg.proofs.Decisions.{open_shows_no_input, stands_inspected, stands_without_shape}
-use Rattle.cose_msg.proofs.Statuses.{settled_status, status_going}
+use Rattle.std.proofs.Common.{refl}
 use Rattle.cose_msg.proofs.verifier.Verifier.conclude_inspection.Goals as goal
 
-pub returns-in-Some : goal.returns-in-Some
-returns-in-Some g c =
-    let is : inspected_in c.args.self.now.phase ≡ Some c.in-Some.inspected = sym c.inspected.ensures ∙ c.in-Some.is in
+pub returns : goal.returns
+returns g c =
+    let e = c.conclude_inspection.ensures in
     record {
-      kept = rw is refl;
+      kept = rw e.kept refl;
       counts = refl;
       inspects = refl;
-      context = refl;
-      shown = λ setting B reading h. refl;
-      held = refl;
-      opened = refl;
-      answer = λ setting B reading h. (stands_inspected c.in-Some.inspected h is).0;
-      counted = λ setting B reading h. (stands_inspected c.in-Some.inspected h is).2;
-      status = λ setting B reading h goes_on. status_going c.args.self.now _ goes_on (settled_status (reading []) _ (c.waits.ensures.status (to_inspect setting) B _ reading h) (stands_inspected c.in-Some.inspected h is).1);
+      context = rw e.terms refl;
+      shown = e.shown;
+      held = e.held;
+      opened = e.opened;
+      answer = e.answer;
+      counted = e.counted;
+      status = λ setting B reading h goes_on. rw goes_on (e.status setting B reading h);
     }
-
-pub returns-in-None : goal.returns-in-None
-returns-in-None g c =
-    let none : inspected_in c.args.self.now.phase ≡ None = sym c.inspected.ensures ∙ c.in-None.is in
-    let same = c.truncate.ensures in
-    record {
-      kept = rw (same.phase, same.stopped) refl;
-      counts = same.taken;
-      inspects = same.inspects;
-      context = same.context;
-      shown = λ setting B reading h. same.shown (open_shows_no_input c.args.self.now.phase (held_input c.args.self.now) (stands_without_shape h none));
-      held = same.held;
-      opened = same.opened;
-      answer = λ setting B reading h. rw (c.waits.ensures.truncated (to_inspect setting) B _ reading h (stands_without_shape h none), same.same) refl;
-      counted = λ setting B reading h. tt;
-      status = λ setting B reading h goes_on. rw (same.phase, same.stopped, goes_on, c.waits.ensures.truncated (to_inspect setting) B _ reading h (stands_without_shape h none), same.same) refl;
-    }
-
-pub waits-requires : goal.waits-requires
-waits-requires g c = grind (arith, common_steps)
-
-pub inspected-requires : goal.inspected-requires
-inspected-requires g c = grind (arith, common_steps)
-
-pub truncate-requires : goal.truncate-requires
-truncate-requires g c = grind (arith, common_steps)

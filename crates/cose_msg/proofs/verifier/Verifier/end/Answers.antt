@@ -1,69 +1,45 @@
-use Rattle.std.proofs.Common.{arith}
+use Rattle.std.proofs.Common.{◌≡◌, true, false, refl, sym, ap, ◌∙◌, arith}
 use Rattle.std.proofs.lemmas.Grind.{common_steps}
+use Rattle.cose_msg.specs.Status.{is_more, status_at}
+use Rattle.cose_msg.specs.Shown.{held_input}
+use Rattle.cose_msg.proofs.Decisions.{open_shows_no_input}
+use Rattle.cose_msg.proofs.PhaseCases.{more_is_unsettled}
+use Rattle.cose_msg.proofs.Statuses.{more_goes_on, more_unless_stopped}
 use Rattle.cose_msg.proofs.verifier.Verifier.end.Goals as goal
 
 pub waits-requires : goal.waits-requires
 waits-requires g c = grind (arith, common_steps)
 
-pub status-status-requires : goal.status-status-requires
-status-status-requires g c = grind (arith, common_steps)
-
-pub returns-then-not-matches-clause-stands : goal.returns-then-not-matches-clause-stands
-returns-then-not-matches-clause-stands g c = cc
-
-pub returns-then-not-matches-clause-truncated : goal.returns-then-not-matches-clause-truncated
-returns-then-not-matches-clause-truncated g c = grind (arith, common_steps)
-
-pub returns-then-not-matches-clause-kept : goal.returns-then-not-matches-clause-kept
-returns-then-not-matches-clause-kept g c = grind (arith, common_steps)
-
-pub returns-then-not-matches-clause-again : goal.returns-then-not-matches-clause-again
-returns-then-not-matches-clause-again g c = grind (arith, common_steps)
-
-pub returns-then-not-matches-clause-counts : goal.returns-then-not-matches-clause-counts
-returns-then-not-matches-clause-counts g c = cc
-
-pub returns-then-not-matches-clause-inspects : goal.returns-then-not-matches-clause-inspects
-returns-then-not-matches-clause-inspects g c = cc
-
-pub returns-then-not-matches-clause-context : goal.returns-then-not-matches-clause-context
-returns-then-not-matches-clause-context g c = cc
-
-pub returns-then-not-matches-clause-shown : goal.returns-then-not-matches-clause-shown
-returns-then-not-matches-clause-shown g c = cc
-
-pub returns-then-not-matches-clause-held : goal.returns-then-not-matches-clause-held
-returns-then-not-matches-clause-held g c = grind (arith, common_steps)
-
-pub returns-then-not-matches-clause-opened : goal.returns-then-not-matches-clause-opened
-returns-then-not-matches-clause-opened g c = grind (arith, common_steps)
-
 pub truncate-requires : goal.truncate-requires
 truncate-requires g c = grind (arith, common_steps)
 
-pub returns-clause-stands : goal.returns-clause-stands
-returns-clause-stands g c = grind (arith, common_steps)
+pub returns-in-More-clause-stands : goal.returns-in-More-clause-stands
+returns-in-More-clause-stands g c =
+    let goes_on = more_goes_on c.args.self.now.stopped _ (sym c.status.ensures.value ∙ c.in-More.is) in
+    rw (goes_on, c.truncate.ensures.phase) refl
 
-pub returns-clause-truncated : goal.returns-clause-truncated
-returns-clause-truncated g c = grind (arith, common_steps)
+pub returns-in-More-clause-truncated : goal.returns-in-More-clause-truncated
+returns-in-More-clause-truncated g c = λ more. rw c.truncate.ensures.same refl
 
-pub returns-clause-kept : goal.returns-clause-kept
-returns-clause-kept g c = grind (arith, common_steps)
+pub returns-in-More-clause-kept : goal.returns-in-More-clause-kept
+returns-in-More-clause-kept g c = λ more.
+    let goes_on = more_goes_on c.args.self.now.stopped _ more in
+    rw (goes_on, c.truncate.ensures.phase, c.truncate.ensures.same) refl
 
-pub returns-clause-again : goal.returns-clause-again
-returns-clause-again g c = grind (arith, common_steps)
+pub returns-in-More-clause-again : goal.returns-in-More-clause-again
+returns-in-More-clause-again g c = λ settled.
+    let clash : true ≡ false = sym (ap is_more (sym c.status.ensures.value ∙ c.in-More.is)) ∙ settled in absurd cc
 
-pub returns-clause-counts : goal.returns-clause-counts
-returns-clause-counts g c = cc
+pub returns-in-More-clause-context : goal.returns-in-More-clause-context
+returns-in-More-clause-context g c = rw c.truncate.ensures.terms refl
 
-pub returns-clause-inspects : goal.returns-clause-inspects
-returns-clause-inspects g c = cc
+-- A message that wants more tells no signature.
+pub returns-in-More-clause-shown : goal.returns-in-More-clause-shown
+returns-in-More-clause-shown g c =
+    let now = c.args.self.now in
+    let more = more_unless_stopped now.stopped (status_at now.reader.phase) (sym c.status.ensures.value ∙ c.in-More.is) in
+    let unsettled = more_is_unsettled now.reader.phase more in
+    c.truncate.ensures.shown (open_shows_no_input now.reader.phase (held_input now.reader) unsettled)
 
-pub returns-clause-context : goal.returns-clause-context
-returns-clause-context g c = cc
-
-pub returns-clause-held : goal.returns-clause-held
-returns-clause-held g c = grind (arith, common_steps)
-
-pub returns-clause-opened : goal.returns-clause-opened
-returns-clause-opened g c = grind (arith, common_steps)
+pub invariant_of-self-clause-untouched : goal.invariant_of-self-clause-untouched
+invariant_of-self-clause-untouched g c = λ none. c.truncate.ensures.untouched none (c.args.self.now.untouched none)

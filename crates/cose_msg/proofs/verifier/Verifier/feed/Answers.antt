@@ -1,11 +1,26 @@
 use Rattle.std.specs.Prelude.{◌==◌}
-use Rattle.std.proofs.Common.{◌≡◌, ◌+◌, ◌<◌, ◌≤◌, ℕ, true, false, List, length, refl, sym, ◌∙◌, arith}
+use Rattle.std.proofs.Common.{rules, ◌≡◌, ◌+◌, ◌<◌, ◌≤◌, ℕ, true, false, List, length, refl, sym, ap, ◌∙◌, arith}
 use Rattle.cose_msg.specs.Phase.{in_payload, want_of}
-use Rattle.cose_msg.proofs.Feeds.{at_start, chosen_within, fits_in, goes_on, goes_past, in_order, is_behind, knows_payload, part_extended, stepped, tells_now, uses_all}
-use Rattle.cose_msg.proofs.Standing.{stands_in}
+use Rattle.cose_msg.specs.Status.{status_of}
+use Rattle.cose_msg.specs.Task.{Task}
+use Rattle.cose_msg.proofs.Feeds.{at_start, chosen_within, fits_in, goes_on, goes_past, in_order, is_behind, knows_payload, part_extended, stepped, tells_now, uses_all, uses_none}
+use Rattle.cose_msg.proofs.Runs.{without_more}
 use Rattle.cose_msg.proofs.Statuses.{wants_and_goes_on}
 use Rattle.cose_msg.proofs.verifier.Verifier.feed.Goals.{then-is_in_payload, else-is_in_payload}
 use Rattle.cose_msg.proofs.verifier.Verifier.feed.Goals as goal
+
+pub returns-then-want-eq0-clause-uses : goal.returns-then-want-eq0-clause-uses
+returns-then-want-eq0-clause-uses g c = λ task s B h.
+    uses_none task s c.args.piece.now (λ more. (
+        let wants : 0 < c.want.result = c.want.ensures.some (sym c.status.ensures.value ∙ c.status.ensures.reads task s B h ∙ more) in
+        omega (arith, wants, c.if-want-eq0.true)))
+
+pub returns-then-want-eq0-clause-status : goal.returns-then-want-eq0-clause-status
+returns-then-want-eq0-clause-status g c = λ task s B h.
+    c.status.ensures.reads task s B h ∙ ap status_of (sym (without_more g.row.H g.row.D task s))
+
+pub returns-then-want-eq0-clause-tells : goal.returns-then-want-eq0-clause-tells
+returns-then-want-eq0-clause-tells g c = λ task s B h. c.waits.ensures.shows task B _ _ h.so_far
 
 pub pieces-init : goal.pieces-init
 pieces-init g c = (
@@ -26,13 +41,13 @@ pieces-preserved g c =
     let count : ℕ = c.step-count.result in
     let fits = fits_in c.args.piece.now used count i.4 c.step-count.ensures.rest in
     let some : 0 < count = omega (arith, c.if-count-eq0.false) in
-    let wanted : 0 < want_of c.pieces.self.phase = omega (arith, some, c.step-count.ensures.wanted) in
-    let within : (more : List ℕ) → length more < count → length more < want_of c.pieces.self.phase = λ more lt. omega (arith, lt, c.step-count.ensures.wanted) in
+    let wanted : 0 < want_of c.pieces.self.reader.phase = omega (arith, some, c.step-count.ensures.wanted) in
+    let within : (more : List ℕ) → length more < count → length more < want_of c.pieces.self.reader.phase = λ more lt. omega (arith, lt, c.step-count.ensures.wanted) in
     let goes_still = c.take_piece.ensures.marked ∙ i.1 in
     let inspects = c.take_piece.ensures.inspects ∙ i.2 in
     elim c.if-is_in_payload.branch [
       | then-is_in_payload w ↦
-          (let inside : in_payload c.pieces.self.phase ≡ true = sym c.is_in_payload.ensures ∙ w.if-is_in_payload.true in
+          (let inside : in_payload c.pieces.self.reader.phase ≡ true = sym c.is_in_payload.ensures ∙ w.if-is_in_payload.true in
           rw (w.payload-is, w.extended-payload.ensures.from, w.extended-payload.ensures.to) (
             λ task s B h.
                 (let a = i.0 task s B h in
@@ -48,7 +63,7 @@ pieces-preserved g c =
             λ e. (let before = chosen_within (c.pieces.payload.to == 0) used c.pieces.payload.from used (omega arith) (omega (arith, i.5, i.6)) in absurd (omega (arith, before, e, some))),
           ))
       | else-is_in_payload w ↦
-          (let outside : in_payload c.pieces.self.phase ≡ false = sym c.is_in_payload.ensures ∙ w.if-is_in_payload.false in
+          (let outside : in_payload c.pieces.self.reader.phase ≡ false = sym c.is_in_payload.ensures ∙ w.if-is_in_payload.false in
           rw w.payload-is (
             λ task s B h.
                 (let a = i.0 task s B h in
@@ -68,7 +83,7 @@ pieces-preserved g c =
 pub returns-then-count-eq0-clause-uses : goal.returns-then-count-eq0-clause-uses
 returns-then-count-eq0-clause-uses g c = λ task s B h.
     let a = c.pieces.invariant.0 task s B h in
-    let limit : g.row.H ≤ 65535 = c.pieces.self.limit in
+    let limit : g.row.H ≤ 65535 = c.pieces.self.reader.limit in
     uses_all a (record { compared = c.messages_are_bounded.ensures.verified.1; inspected = c.messages_are_bounded.ensures.inspected }) limit c.step-count.result (c.waits-in-pieces.ensures.settled task _ _ _ a.stands.so_far) c.step-count.ensures.some c.if-count-eq0.true c.pieces.invariant.4
 
 pub returns-then-count-eq0-clause-taken : goal.returns-then-count-eq0-clause-taken
@@ -88,4 +103,21 @@ returns-then-count-eq0-clause-tells g c = λ task s B h.
     tells_now task _ c.pieces.self (c.waits-in-pieces.ensures.shows task _ _ _ a.stands.so_far)
 
 pub returns-then-count-eq0-clause-context : goal.returns-then-count-eq0-clause-context
-returns-then-count-eq0-clause-context g c = λ task s B h. let a = c.pieces.invariant.0 task s B h in stands_in a.stands.so_far
+returns-then-count-eq0-clause-context g c = λ task s B h. let a = c.pieces.invariant.0 task s B h in ap (λ (t : Task). t.setting) a.stands.made_for
+
+pub returns-then-count-eq0-clause-again : goal.returns-then-count-eq0-clause-again
+returns-then-count-eq0-clause-again g c = λ settled. absurd (c.if-want-eq0.false (c.want.ensures.none settled))
+
+pub take_piece-requires : goal.take_piece-requires
+take_piece-requires g c κs =
+    let fits = fits_in c.args.piece.now c.pieces.used c.step-count.result c.pieces.invariant.4 c.step-count.ensures.rest in
+    let some : 0 < c.step-count.result = omega (arith, c.if-count-eq0.false) in (
+      search rules,
+      (
+        (refl, tt),
+        (
+          omega (arith, fits.1, some),
+          (omega (arith, fits.1, c.step-count.ensures.wanted), (c.step-count.ensures.early some, omega (arith, fits.1, c.step-count.ensures.short))),
+        ),
+      ),
+    )

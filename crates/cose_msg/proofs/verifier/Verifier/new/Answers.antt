@@ -5,9 +5,6 @@ use Rattle.cose_msg.proofs.verifier.Verifier.new.Goals as goal
 pub made-requires : goal.made-requires
 made-requires g c = grind (arith, common_steps)
 
-pub returns-clause-so_far : goal.returns-clause-so_far
-returns-clause-so_far g c = grind (arith, common_steps)
-
 pub returns-clause-none_taken : goal.returns-clause-none_taken
 returns-clause-none_taken g c = grind (arith, common_steps)
 

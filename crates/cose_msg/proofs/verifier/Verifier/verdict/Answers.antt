@@ -4,6 +4,7 @@ use Rattle.cose_msg.specs.Laws.{then_verified}
 use Rattle.cose_msg.proofs.Answered.{verdict_so_far}
 use Rattle.cose_msg.proofs.Decisions.{stands_with_verdict}
 use Rattle.cose_msg.proofs.Runs.{counted_stands}
+use Rattle.cose_msg.proofs.Statuses.{complete_stays}
 use Rattle.cose_msg.proofs.verifier.Verifier.verdict.Goals as goal
 
 pub returns-in-Some-clause-answer : goal.returns-in-Some-clause-answer
@@ -28,7 +29,7 @@ pub conclude-requires : goal.conclude-requires
 conclude-requires g c = grind (arith, common_steps)
 
 pub returns-in-Some-clause-status : goal.returns-in-Some-clause-status
-returns-in-Some-clause-status g c = grind (arith, common_steps)
+returns-in-Some-clause-status g c = λ setting s B h. rw h.goes_on (complete_stays c.args.self.now.stopped _ h.goes_on c.requires.complete)
 
 pub returns-in-Some-clause-kept : goal.returns-in-Some-clause-kept
 returns-in-Some-clause-kept g c = grind (arith, common_steps)

@@ -1,6 +1,6 @@
 use Rattle.std.proofs.Common.{option_map, sym, ◌∙◌}
 use Rattle.cose_map.specs.Key.View.{contents}
-use Rattle.cose_map.specs.KeySet.View.{keys as usable}
+use Rattle.cose_map.specs.KeyTable.{keys as usable}
 use Rattle.cose_msg.specs.Verifier.{setting_of}
 use Rattle.cosecmd.proofs.Admissions.{says_admitted}
 use Rattle.cosecmd.proofs.Failures.{failed_as_answered}
@@ -8,7 +8,7 @@ use Rattle.cosecmd.proofs.answer.cwt.admitted_reply.Goals as goal
 
 pub returns-clause-says : goal.returns-clause-says
 returns-clause-says g c = λ bytes e.
-    let setting = setting_of c.token_context.result in
+    let setting = setting_of usable c.token_context.result in
     says_admitted _ (usable c.in-Ok.keys) setting c.args.aad.now c.args.wanted (option_map contents c.args.vouch) _ bytes _ c.token_reply.result
     (sym c.in-Ok.ensures.exact) c.token_context.ensures.setting
     (c.whole_token-token.ensures.whole setting bytes c.new-verifier.ensures.none_taken e)
@@ -16,4 +16,4 @@ returns-clause-says g c = λ bytes e.
 
 pub returns-clause-input : goal.returns-clause-input
 returns-clause-input g c = failed_as_answered _ _ _ _
-    (c.whole_token-token.ensures.failure (setting_of c.token_context.result) c.new-verifier.ensures.none_taken) c.token_reply.ensures.input
+    (c.whole_token-token.ensures.failure (setting_of usable c.token_context.result) c.new-verifier.ensures.none_taken) c.token_reply.ensures.input

@@ -17,17 +17,17 @@ pub returns-in-Ok-None-clause-whole : goal.returns-in-Ok-None-clause-whole
 returns-in-Ok-None-clause-whole g c = λ setting bytes h e.
     is_alone setting (vouching (option_map contents c.args.vouch.now.word)) (policy_value c.args.policy.now) bytes _ _ (claims_value c.in_ok-claims.claims)
     (left_of_run c.settled_stays.ensures.verdict setting (vouching (option_map contents c.args.vouch.now.word)) (policy_value c.args.policy.now) _ _ _ _ bytes _ (claims_value c.in_ok-claims.claims) _
-    (c.in_ok-claims.ensures.run setting h) (c.in_ok-claims.ensures.token setting bytes h e) refl e c.taken.ensures)
+    (c.in_ok-claims.ensures.run setting h) (c.in_ok-claims.ensures.token setting bytes h e) refl e c.taken.ensures.value)
     (λ rest s. sym c.in-Ok-None.field-0-is ∙ c.in-Ok-None.ensures.whole rest s)
 
 pub returns-in-Ok-Some-clause-whole : goal.returns-in-Ok-Some-clause-whole
 returns-in-Ok-Some-clause-whole g c = λ setting bytes h e.
     is_followed setting (vouching (option_map contents c.args.vouch.now.word)) (policy_value c.args.policy.now) bytes _ _ (claims_value c.in_ok-claims.claims) c.in-Ok-Some.refusal
     (left_of_run c.settled_stays.ensures.verdict setting (vouching (option_map contents c.args.vouch.now.word)) (policy_value c.args.policy.now) _ _ _ _ bytes _ (claims_value c.in_ok-claims.claims) _
-    (c.in_ok-claims.ensures.run setting h) (c.in_ok-claims.ensures.token setting bytes h e) refl e c.taken.ensures)
+    (c.in_ok-claims.ensures.run setting h) (c.in_ok-claims.ensures.token setting bytes h e) refl e c.taken.ensures.value)
     (λ rest s. sym c.in-Ok-Some.field-0-is ∙ c.in-Ok-Some.ensures.whole rest s)
 
 pub returns-in_err-claims-clause-failure : goal.returns-in_err-claims-clause-failure
 returns-in_err-claims-clause-failure g c = λ setting h.
     let p = err_from_is_err_and c.from_residual.result c.from_residual.ensures.1 in
-    rw (p.1, p.2) (stopped_for_intake _ _ (Err c.in_err-claims.field-0.0) _ c.in_err-claims.ensures.intake_failure (c.in_err-claims.ensures.store_suffices setting [] [] h) c.in_err-claims.ensures.stopped h.goes_on)
+    rw (p.1, p.2) (stopped_for_intake _ _ (Err c.in_err-claims.field-0.0) _ c.in_err-claims.ensures.intake_failure c.in_err-claims.ensures.store_suffices c.in_err-claims.ensures.stopped h.goes_on)

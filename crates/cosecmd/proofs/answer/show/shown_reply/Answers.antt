@@ -11,7 +11,7 @@ use Rattle.cosecmd.proofs.answer.show.shown_reply.Goals as goal
 
 pub returns-in-Ok-Refused-clause-says : goal.returns-in-Ok-Refused-clause-says
 returns-in-Ok-Refused-clause-says g c = λ bytes e.
-    let setting = setting_of c.program_context.result in
+    let setting = setting_of usable c.program_context.result in
     let is : c.in-Ok-Refused.field-0 ≡ inspected.Refused c.in-Ok-Refused.refusal = c.in-Ok-Refused.field-0-is in
     says_refused setting (usable c.in-Ok.keys) [] c.args.wanted c.program_context.ensures.setting bytes c.reply_of-in-Ok-Refused.result c.in-Ok-Refused.refusal
     (c.in-Ok-Refused.ensures.answer setting [] [] bytes c.inspecting-verifier.ensures.none_taken e ∙ ap inspection is)
@@ -19,7 +19,7 @@ returns-in-Ok-Refused-clause-says g c = λ bytes e.
 
 pub returns-in-Some-clause-says : goal.returns-in-Some-clause-says
 returns-in-Some-clause-says g c = λ bytes e.
-    let setting = setting_of c.program_context.result in
+    let setting = setting_of usable c.program_context.result in
     let run = c.in-Ok-Shape.ensures.run setting [] [] c.inspecting-verifier.ensures.none_taken in
     let is : c.in-Ok-Shape.field-0 ≡ inspected.Shape c.in-Ok-Shape.kind c.in-Ok-Shape.payload c.in-Ok-Shape.auth c.in-Ok-Shape.taken = c.in-Ok-Shape.field-0-is in
     let counted : c.in-Ok-Shape.taken ≡ length run.0 = subst (λ (x : Inspected). SaysCount (inspection x) (length run.0)) is run.1.answer.counted in
@@ -31,7 +31,7 @@ returns-in-Some-clause-says g c = λ bytes e.
 
 pub returns-in-None-clause-says : goal.returns-in-None-clause-says
 returns-in-None-clause-says g c = λ bytes e.
-    let setting = setting_of c.program_context.result in
+    let setting = setting_of usable c.program_context.result in
     let run = c.in-Ok-Shape.ensures.run setting [] [] c.inspecting-verifier.ensures.none_taken in
     let is : c.in-Ok-Shape.field-0 ≡ inspected.Shape c.in-Ok-Shape.kind c.in-Ok-Shape.payload c.in-Ok-Shape.auth c.in-Ok-Shape.taken = c.in-Ok-Shape.field-0-is in
     let counted : c.in-Ok-Shape.taken ≡ length run.0 = subst (λ (x : Inspected). SaysCount (inspection x) (length run.0)) is run.1.answer.counted in

@@ -1,6 +1,6 @@
 use Rattle.std.proofs.Common.{option_map, ap, sym, ◌∙◌}
 use Rattle.cose_map.specs.Key.View.{contents}
-use Rattle.cose_map.specs.KeySet.View.{keys as usable}
+use Rattle.cose_map.specs.KeyTable.{keys as usable}
 use Rattle.cose_msg.specs.Message.{Setting}
 use Rattle.cosecmd.specs.Printed.{input_answer}
 use Rattle.cosecmd.specs.Vouch.{vouching}

@@ -1,0 +1,101 @@
+-- What is known of a phase that is none of some.
+use Rattle.std.proofs.Common.{◌≡◌, true, false, Option, Some, None, refl}
+use Rattle.cose_msg.specs.declared.phase.Auth.{Auth}
+use Rattle.cose_msg.specs.declared.phase.Payload.{Payload}
+use Rattle.cose_msg.specs.declared.phase.Phase.{Phase}
+use Rattle.cose_msg.specs.declared.phase.Phase.TheVariants as phases
+use Rattle.cose_msg.specs.declared.phase.Protected.{Protected}
+use Rattle.cose_msg.specs.declared.phase.Signed.{Signed}
+use Rattle.cose_msg.specs.declared.phase.Unprotected.{Unprotected}
+use Rattle.cose_msg.specs.declared.status.Status.TheVariants.{More}
+use Rattle.cose_msg.specs.declared.verdict.Verdict.{Verdict}
+use Rattle.cose_msg.specs.declared.verdict.Verdict.TheVariants.{Authentic, Refused}
+use Rattle.cose_msg.specs.Kept.{verdict_in}
+use Rattle.cose_msg.specs.Phase.{awaits_decision, is_settled, takes_bytes}
+use Rattle.cose_msg.specs.Shown.{SignInput, input_in}
+use Rattle.cose_msg.specs.Status.{status_at}
+
+-- In what isn't settled and no string a byte is taken alone.
+pub takes_byte : (phase : Phase) → ((p : Protected) → phase ≡ phases.Protected p → ⊥) → ((p : Unprotected) → phase ≡ phases.Unprotected p → ⊥) →
+    ((p : Payload) → phase ≡ phases.Payload p → ⊥) → ((p : Auth) → phase ≡ phases.Auth p → ⊥) → is_settled phase ≡ false → takes_bytes phase ≡ true
+takes_byte phases.FirstHead a b c d e = refl
+takes_byte (phases.TagHead p) a b c d e = refl
+takes_byte (phases.ArrayHead p) a b c d e = refl
+takes_byte (phases.ProtectedHead p) a b c d e = refl
+takes_byte (phases.Protected p) a b c d e = absurd (a p refl)
+takes_byte (phases.Unprotected p) a b c d e = absurd (b p refl)
+takes_byte (phases.PayloadHead p) a b c d e = refl
+takes_byte (phases.Payload p) a b c d e = absurd (c p refl)
+takes_byte (phases.AuthHead p) a b c d e = refl
+takes_byte (phases.Auth p) a b c d e = absurd (d p refl)
+takes_byte (phases.Signed p) a b c d e = absurd cc
+takes_byte (phases.Decided verdict) a b c d e = absurd cc
+takes_byte (phases.Settled verdict) a b c d e = absurd cc
+takes_byte (phases.Shaped p) a b c d e = absurd cc
+
+pub unsigned_is_undecided : (phase : Phase) → ((p : Signed) → phase ≡ phases.Signed p → ⊥) → awaits_decision phase ≡ false
+unsigned_is_undecided phases.FirstHead none = refl
+unsigned_is_undecided (phases.TagHead p) none = refl
+unsigned_is_undecided (phases.ArrayHead p) none = refl
+unsigned_is_undecided (phases.ProtectedHead p) none = refl
+unsigned_is_undecided (phases.Protected p) none = refl
+unsigned_is_undecided (phases.Unprotected p) none = refl
+unsigned_is_undecided (phases.PayloadHead p) none = refl
+unsigned_is_undecided (phases.Payload p) none = refl
+unsigned_is_undecided (phases.AuthHead p) none = refl
+unsigned_is_undecided (phases.Auth p) none = refl
+unsigned_is_undecided (phases.Signed p) none = absurd (none p refl)
+unsigned_is_undecided (phases.Decided verdict) none = refl
+unsigned_is_undecided (phases.Settled verdict) none = refl
+unsigned_is_undecided (phases.Shaped p) none = refl
+
+-- What has a verdict awaits no decision.
+pub known_is_decided : (phase : Phase) (verdict : Verdict) → verdict_in phase ≡ Some verdict → awaits_decision phase ≡ true → ⊥
+known_is_decided (phases.Signed p) verdict known awaits = cc
+known_is_decided (phases.Decided other) verdict known awaits = cc
+known_is_decided (phases.Settled other) verdict known awaits = cc
+known_is_decided phases.FirstHead verdict known awaits = cc
+known_is_decided (phases.TagHead p) verdict known awaits = cc
+known_is_decided (phases.ArrayHead p) verdict known awaits = cc
+known_is_decided (phases.ProtectedHead p) verdict known awaits = cc
+known_is_decided (phases.Protected p) verdict known awaits = cc
+known_is_decided (phases.Unprotected p) verdict known awaits = cc
+known_is_decided (phases.PayloadHead p) verdict known awaits = cc
+known_is_decided (phases.Payload p) verdict known awaits = cc
+known_is_decided (phases.AuthHead p) verdict known awaits = cc
+known_is_decided (phases.Auth p) verdict known awaits = cc
+known_is_decided (phases.Shaped p) verdict known awaits = cc
+
+-- What awaits no decision and has no verdict tells no signature.
+pub tells_no_input : (phase : Phase) (held : Option SignInput) → awaits_decision phase ≡ false → verdict_in phase ≡ None → input_in phase held ≡ None
+tells_no_input phases.FirstHead held undecided none = refl
+tells_no_input (phases.TagHead p) held undecided none = refl
+tells_no_input (phases.ArrayHead p) held undecided none = refl
+tells_no_input (phases.ProtectedHead p) held undecided none = refl
+tells_no_input (phases.Protected p) held undecided none = refl
+tells_no_input (phases.Unprotected p) held undecided none = refl
+tells_no_input (phases.PayloadHead p) held undecided none = refl
+tells_no_input (phases.Payload p) held undecided none = refl
+tells_no_input (phases.AuthHead p) held undecided none = refl
+tells_no_input (phases.Auth p) held undecided none = refl
+tells_no_input (phases.Signed p) held undecided none = absurd cc
+tells_no_input (phases.Decided verdict) held undecided none = absurd cc
+tells_no_input (phases.Settled verdict) held undecided none = refl
+tells_no_input (phases.Shaped p) held undecided none = refl
+
+pub more_is_unsettled : (phase : Phase) → status_at phase ≡ More → is_settled phase ≡ false
+more_is_unsettled phases.FirstHead more = refl
+more_is_unsettled (phases.TagHead p) more = refl
+more_is_unsettled (phases.ArrayHead p) more = refl
+more_is_unsettled (phases.ProtectedHead p) more = refl
+more_is_unsettled (phases.Protected p) more = refl
+more_is_unsettled (phases.Unprotected p) more = refl
+more_is_unsettled (phases.PayloadHead p) more = refl
+more_is_unsettled (phases.Payload p) more = refl
+more_is_unsettled (phases.AuthHead p) more = refl
+more_is_unsettled (phases.Auth p) more = refl
+more_is_unsettled (phases.Signed p) more = absurd cc
+more_is_unsettled (phases.Decided verdict) more = absurd cc
+more_is_unsettled (phases.Settled (Authentic kind alg payload taken)) more = absurd cc
+more_is_unsettled (phases.Settled (Refused refusal)) more = absurd cc
+more_is_unsettled (phases.Shaped p) more = absurd cc

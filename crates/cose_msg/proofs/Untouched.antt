@@ -1,0 +1,75 @@
+-- A verifier that has taken nothing: it is as it was made, or keeps that the message is Truncated at 0.
+use Rattle.std.proofs.Common.{◌≡◌, ℕ, Bool, true, false, List, [], Option, Some, None, Result, Ok, Err, refl, sym, ap, subst, ◌∙◌}
+use Rattle.cose_head.specs.Head.{bare_head}
+use Rattle.cose_head.specs.declared.reason.Reason.TheVariants.{Truncated}
+use Rattle.cose_msg.specs.declared.phase.Phase.{Phase}
+use Rattle.cose_msg.specs.declared.phase.Phase.TheVariants as phases
+use Rattle.cose_msg.specs.declared.reader.Reader.{Reader}
+use Rattle.cose_msg.specs.declared.verdict.Stop.{Stop}
+use Rattle.cose_msg.specs.declared.verdict.Verdict.{Verdict}
+use Rattle.cose_msg.specs.declared.verdict.Verdict.TheVariants.{Refused}
+use Rattle.cose_msg.specs.declared.verifier.Verifier.{Verifier}
+use Rattle.cose_msg.specs.Kept.{HasTaken, answer_kept, kept_answer, verdict_in}
+use Rattle.cose_msg.specs.Message.{message}
+use Rattle.cose_msg.specs.Phase.{awaits_decision, is_settled}
+use Rattle.cose_msg.specs.Phases.{nothing_told}
+use Rattle.cose_msg.specs.Reader.{HoldsIn, IsUntouched, SoFar, first_phase, task_in}
+use Rattle.cose_msg.specs.Task.{Task}
+use Rattle.cose_msg.specs.Verifier.{task_of}
+use Rattle.cose_msg.proofs.Standing.{unknown}
+
+-- Such a reader is at the start of every message under its terms, unless the end was said.
+pub starts_message : {H D : ℕ} (task : Task) (v : Reader H D) → IsUntouched v → v.phase ≡ phases.FirstHead → task_in task v ≡ task → SoFar task [] [] v
+unfolding message bare_head
+starts_message task v (_, head, no_protected, no_unprotected, closed) first same = record {
+  known = unknown [];
+  told = nothing_told;
+  shows = (same, no_protected, no_unprotected, closed);
+  payload_known = refl;
+  payload_told = refl;
+  holds = subst (λ (phase : Phase). HoldsIn task (unknown []) nothing_told 0 v phase) (sym first) (rw head (refl, (tt, refl)));
+  left = λ z. rw (first, head) refl;
+}
+
+first_is_undecided : (is_ended : Bool) → awaits_decision (first_phase is_ended) ≡ false
+first_is_undecided true = refl
+first_is_undecided false = refl
+
+pub untouched_is_undecided : {H D : ℕ} (v : Reader H D) → IsUntouched v → awaits_decision v.phase ≡ false
+untouched_is_undecided v untouched = ap awaits_decision untouched.0 ∙ first_is_undecided (is_settled v.phase)
+
+-- Where no answer is kept, the verifier hasn't stopped, and no verdict is known.
+none_kept : {A : Type 0} (is_stopped : Bool) (answer : Option A) → answer_kept is_stopped answer ≡ None → (is_stopped ≡ false) × (answer ≡ None)
+none_kept true answer e = absurd cc
+none_kept false (Some answer) e = absurd cc
+none_kept false None e = (refl, refl)
+
+one_kept : {A : Type 0} (is_stopped : Bool) (answer : Option A) (one : A) → answer_kept is_stopped answer ≡ Some (Ok one) → answer ≡ Some one
+one_kept true answer one e = absurd cc
+one_kept false (Some answer) one e = cc
+one_kept false None one e = absurd cc
+
+first_without_verdict : (is_ended : Bool) → verdict_in (first_phase is_ended) ≡ None → first_phase is_ended ≡ phases.FirstHead
+first_without_verdict true none = absurd cc
+first_without_verdict false none = refl
+
+first_with_verdict : (is_ended : Bool) (verdict : Verdict) → verdict_in (first_phase is_ended) ≡ Some verdict → verdict ≡ Refused (record { reason = Truncated; place = 0 })
+first_with_verdict true verdict one = cc
+first_with_verdict false verdict one = absurd cc
+
+pub untouched_is_anew : {H D : ℕ} {S : Type 0} {K : _} (v : Verifier H D S K) → v.taken ≡ 0 → kept_answer v ≡ None → HasTaken (task_of v) [] [] v
+untouched_is_anew v none kept =
+    let untouched = v.untouched none in
+    let unsettled = none_kept v.stopped (verdict_in v.reader.phase) kept in
+    let first = untouched.0 ∙ first_without_verdict (is_settled v.reader.phase) (sym (ap verdict_in untouched.0) ∙ unsettled.1) in
+    record {
+      made_for = refl;
+      so_far = starts_message (task_of v) v.reader untouched first refl;
+      counted = none;
+      goes_on = unsettled.0;
+    }
+
+pub untouched_is_truncated : {H D : ℕ} {S : Type 0} {K : _} (v : Verifier H D S K) (verdict : Verdict) → v.taken ≡ 0 → kept_answer v ≡ Some (Ok verdict) → verdict ≡ Refused (record { reason = Truncated; place = 0 })
+untouched_is_truncated v verdict none kept =
+    let same = (v.untouched none).0 in
+    first_with_verdict (is_settled v.reader.phase) verdict (sym (ap verdict_in same) ∙ one_kept v.stopped (verdict_in v.reader.phase) verdict kept)

@@ -1,0 +1,108 @@
+use Rattle.std.proofs.Common.{◌≡◌, ◌≤◌, length, take, true, false, sym, subst, ◌∙◌, arith}
+use Rattle.std.proofs.lemmas.Grind.{common_steps}
+use Rattle.cose_msg.specs.declared.phase.Phase.{Phase}
+use Rattle.cose_msg.specs.Phase.{takes_bytes, want_of}
+use Rattle.cose_msg.proofs.PhaseCases.{takes_byte}
+use Rattle.cose_msg.proofs.Steps.{first_byte, grown_by_byte}
+use Rattle.cose_msg.proofs.reader.Reader.advance.Goals as goal
+
+pub returns-in-Protected-clause-stands : goal.returns-in-Protected-clause-stands
+returns-in-Protected-clause-stands g c = λ task B n reading among h.
+    rw (c.in-Protected.is, ← c.front_of-part.ensures.front) (c.protected_piece.ensures.stands task B n reading h)
+
+pub returns-in-Unprotected-clause-stands : goal.returns-in-Unprotected-clause-stands
+returns-in-Unprotected-clause-stands g c = λ task B n reading among h.
+    rw (c.in-Unprotected.is, ← c.front_of-part-in-Unprotected.ensures.front) (c.unprotected_piece.ensures.stands task B n reading among h)
+
+pub returns-in-Payload-clause-stands : goal.returns-in-Payload-clause-stands
+returns-in-Payload-clause-stands g c = λ task B n reading among h.
+    rw (c.in-Payload.is, ← c.front_of-part-in-Payload.ensures.front) (c.payload.ensures.stands task B n reading h)
+
+pub returns-in-Auth-clause-stands : goal.returns-in-Auth-clause-stands
+returns-in-Auth-clause-stands g c = λ task B n reading among h.
+    rw (c.in-Auth.is, ← c.front_of-part-in-Auth.ensures.front) (c.auth.ensures.stands task B n reading h)
+
+pub returns-in_default-2-clause-stands : goal.returns-in_default-2-clause-stands
+returns-in_default-2-clause-stands g c = λ task B n reading among h.
+    let byte : takes_bytes c.args.self.now.phase ≡ true = takes_byte c.args.self.now.phase c.in_default-2.not-Protected c.in_default-2.not-Unprotected c.in_default-2.not-Payload c.in_default-2.not-Auth (sym c.is_settled.ensures ∙ c.if-is_settled.false) in
+    rw (grown_by_byte c.args.self.now.phase B (take 1 c.args.piece.now) byte, first_byte c.args.piece.now c.requires.some) (c.take_byte.ensures task B n reading h)
+
+pub front_of-part-requires-clause-some : goal.front_of-part-requires-clause-some
+front_of-part-requires-clause-some g c = grind (arith, common_steps)
+
+pub front_of-part-requires-clause-most : goal.front_of-part-requires-clause-most
+front_of-part-requires-clause-most g c = grind (arith, common_steps)
+
+pub protected_piece-requires : goal.protected_piece-requires
+protected_piece-requires g c = grind (arith, common_steps)
+
+pub unprotected_piece-requires : goal.unprotected_piece-requires
+unprotected_piece-requires g c = grind (arith, common_steps)
+
+pub payload-requires : goal.payload-requires
+payload-requires g c = grind (arith, common_steps)
+
+pub front_of-part-requires-in-Auth-clause-some : goal.front_of-part-requires-in-Auth-clause-some
+front_of-part-requires-in-Auth-clause-some g c = grind (arith, common_steps)
+
+pub front_of-part-requires-in-Auth-clause-most : goal.front_of-part-requires-in-Auth-clause-most
+front_of-part-requires-in-Auth-clause-most g c = grind (arith, common_steps)
+
+pub auth-requires : goal.auth-requires
+auth-requires g c = grind (arith, common_steps)
+
+pub is_settled-requires : goal.is_settled-requires
+is_settled-requires g c = grind (arith, common_steps)
+
+pub bounds-piece-0 : goal.bounds-piece-0
+bounds-piece-0 g c = grind (arith, common_steps)
+
+pub take_byte-requires : goal.take_byte-requires
+take_byte-requires g c = grind (arith, common_steps)
+
+pub returns-in-Protected-clause-fits : goal.returns-in-Protected-clause-fits
+returns-in-Protected-clause-fits g c = grind (arith, common_steps)
+
+pub returns-in-Protected-clause-uses : goal.returns-in-Protected-clause-uses
+returns-in-Protected-clause-uses g c = grind (arith, common_steps)
+
+pub returns-in-Protected-clause-whole : goal.returns-in-Protected-clause-whole
+returns-in-Protected-clause-whole g c = λ le.
+    let all : length c.front_of-part.result.now ≡ length c.args.piece.now = c.front_of-part.ensures.all (subst (λ (p : Phase). length c.args.piece.now ≤ want_of p) c.in-Protected.is le) in
+    cc
+
+pub returns-in-Unprotected-clause-fits : goal.returns-in-Unprotected-clause-fits
+returns-in-Unprotected-clause-fits g c = grind (arith, common_steps)
+
+pub returns-in-Unprotected-clause-uses : goal.returns-in-Unprotected-clause-uses
+returns-in-Unprotected-clause-uses g c = grind (arith, common_steps)
+
+pub returns-in-Unprotected-clause-whole : goal.returns-in-Unprotected-clause-whole
+returns-in-Unprotected-clause-whole g c = λ le.
+    let all : length c.front_of-part-in-Unprotected.result.now ≡ length c.args.piece.now = c.front_of-part-in-Unprotected.ensures.all (subst (λ (p : Phase). length c.args.piece.now ≤ want_of p) c.in-Unprotected.is le) in
+    cc
+
+pub returns-in-Payload-clause-fits : goal.returns-in-Payload-clause-fits
+returns-in-Payload-clause-fits g c = grind (arith, common_steps)
+
+pub returns-in-Payload-clause-uses : goal.returns-in-Payload-clause-uses
+returns-in-Payload-clause-uses g c = grind (arith, common_steps)
+
+pub returns-in-Payload-clause-whole : goal.returns-in-Payload-clause-whole
+returns-in-Payload-clause-whole g c = λ le.
+    let all : length c.front_of-part-in-Payload.result.now ≡ length c.args.piece.now = c.front_of-part-in-Payload.ensures.all (subst (λ (p : Phase). length c.args.piece.now ≤ want_of p) c.in-Payload.is le) in
+    cc
+
+pub returns-in-Auth-clause-fits : goal.returns-in-Auth-clause-fits
+returns-in-Auth-clause-fits g c = grind (arith, common_steps)
+
+pub returns-in-Auth-clause-uses : goal.returns-in-Auth-clause-uses
+returns-in-Auth-clause-uses g c = grind (arith, common_steps)
+
+pub returns-in-Auth-clause-whole : goal.returns-in-Auth-clause-whole
+returns-in-Auth-clause-whole g c = λ le.
+    let all : length c.front_of-part-in-Auth.result.now ≡ length c.args.piece.now = c.front_of-part-in-Auth.ensures.all (subst (λ (p : Phase). length c.args.piece.now ≤ want_of p) c.in-Auth.is le) in
+    cc
+
+pub returns-in_default-clause-uses : goal.returns-in_default-clause-uses
+returns-in_default-clause-uses g c = λ unsettled. absurd (let settled = sym c.is_settled.ensures ∙ c.if-is_settled.true in let clash : true ≡ false = sym settled ∙ unsettled in cc)

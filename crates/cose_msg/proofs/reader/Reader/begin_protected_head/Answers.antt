@@ -1,0 +1,19 @@
+use Rattle.std.proofs.Common.{[], refl, sym, add-zero}
+use Rattle.cose_head.specs.Head.{bare_head}
+use Rattle.cose_msg.specs.Phases.{nothing_told}
+use Rattle.cose_msg.proofs.Standing.{unknown}
+use Rattle.cose_msg.proofs.reader.Reader.begin_protected_head.Goals as goal
+
+pub returns : goal.returns
+unfolding bare_head
+returns g c = record {
+  stands = λ task e. record {
+    known = unknown [];
+    told = nothing_told;
+    shows = e;
+    payload_known = refl;
+    payload_told = refl;
+    holds = rw c.clear.ensures (refl, (tt, sym (add-zero c.args.at)));
+    left = λ z. rw c.clear.ensures refl;
+  };
+}

@@ -1,0 +1,37 @@
+use Rattle.std.proofs.Common.{refl, sym, ◌∙◌, arith}
+use Rattle.std.proofs.lemmas.Grind.{common_steps}
+use Rattle.cose_msg.specs.Phases.{headers_told}
+use Rattle.cose_msg.proofs.ChosenKeys.{holds_auth, is_inspected, key_of_alg, no_key_without_alg}
+use Rattle.cose_msg.proofs.reader.Reader.finish.Goals as goal
+
+pub returns-in-Some : goal.returns-in-Some
+returns-in-Some g c = record {
+  stands = λ task known at e key count length fed held.
+      let is = key_of_alg c.args.self.now.chosen known.chosen c.in-Some.alg (sym c.in-Some.is ∙ c.alg.ensures) key.1 in
+      c.compare.ensures.stands task known is.found at e key is.chosen_is is.alg_is count fed (holds_auth known.chosen is.found c.args.self.now.auth.items known.auth is.chosen_is held);
+}
+
+pub returns-in-None : goal.returns-in-None
+returns-in-None g c = record {
+  stands = λ task known at e key count length fed held.
+      let none = no_key_without_alg c.args.self.now.chosen known.chosen (sym c.in-None.is ∙ c.alg.ensures) key.1 in
+      let inspects = is_inspected known.chosen task.inspects none key.2 in
+      record {
+        known = known;
+        told = headers_told known.headers known.payload;
+        shows = e;
+        payload_known = refl;
+        payload_told = refl;
+        holds = (refl, inspects);
+        left = λ z. rw (inspects, key.0, count, length) refl;
+      };
+}
+
+pub alg-requires : goal.alg-requires
+alg-requires g c = grind (arith, common_steps)
+
+pub compare-requires : goal.compare-requires
+compare-requires g c = grind (arith, common_steps)
+
+pub invariant_of-self : goal.invariant_of-self
+invariant_of-self g c = grind (arith, common_steps)

@@ -1,0 +1,46 @@
+use Rattle.std.proofs.Common.{◌+◌, [], length, refl, sym, arith}
+use Rattle.std.proofs.lemmas.Grind.{common_steps}
+use Rattle.cose_map.specs.Bucket.{bucket_of}
+use Rattle.cose_msg.specs.Task.{rules_of}
+use Rattle.cose_msg.specs.Phases.{nothing_told, placed_at, unprotected}
+use Rattle.cose_msg.proofs.Standing.{moved}
+use Rattle.cose_msg.proofs.Steps.{value_refused, value_there}
+use Rattle.cose_msg.proofs.reader.Reader.past_protected.Goals as goal
+
+pub returns-in-Some : goal.returns-in-Some
+returns-in-Some g c = record {
+  stands = λ task e.
+      let is = rw c.as_slice.ensures.value at c.in-Some.ensures in
+      moved c.refuse.new.self _ _ refl refl
+      (λ z. value_refused nothing_told (bucket_of g.row.D (placed_at c.args.at c.args.self.now.protected.items)) (unprotected (rules_of g.row.H g.row.D task) c.args.kind c.args.self.now.protected.items) c.in-Some.refusal (sym is) (c.args.at + length c.args.self.now.protected.items) z)
+      (c.refuse.ensures task [] (c.args.at + length c.args.self.now.protected.items) nothing_told e refl);
+}
+
+pub returns-in-None : goal.returns-in-None
+returns-in-None g c = record {
+  stands = λ task e.
+      let is = rw c.as_slice.ensures.value at c.in-None.ensures in
+      let pairs = value_there (bucket_of g.row.D (placed_at c.args.at c.args.self.now.protected.items)) (sym is) in
+      rw pairs.1 (rw c.len-length.ensures.value at (c.begin_unprotected.ensures.stands task pairs.0 e pairs.1));
+}
+
+pub len-length-requires : goal.len-length-requires
+len-length-requires g c = grind (arith, common_steps)
+
+pub as_slice-requires : goal.as_slice-requires
+as_slice-requires g c = grind (arith, common_steps)
+
+pub refusal_of-requires-clause-shallow : goal.refusal_of-requires-clause-shallow
+refusal_of-requires-clause-shallow g c = grind (arith, common_steps)
+
+pub refusal_of-requires-clause-in_range : goal.refusal_of-requires-clause-in_range
+refusal_of-requires-clause-in_range g c = grind (arith, common_steps)
+
+pub refuse-requires : goal.refuse-requires
+refuse-requires g c = grind (arith, common_steps)
+
+pub overflow_add-at : goal.overflow_add-at
+overflow_add-at g c = grind (arith, common_steps)
+
+pub begin_unprotected-requires : goal.begin_unprotected-requires
+begin_unprotected-requires g c = grind (arith, common_steps)

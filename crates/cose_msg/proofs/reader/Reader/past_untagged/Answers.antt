@@ -1,0 +1,22 @@
+use Rattle.std.proofs.Common.{[], refl, arith}
+use Rattle.std.proofs.lemmas.Grind.{common_steps}
+use Rattle.cose_msg.specs.Phases.{nothing_told}
+use Rattle.cose_msg.proofs.reader.Reader.past_untagged.Goals as goal
+
+pub returns-in-Mac0 : goal.returns-in-Mac0
+returns-in-Mac0 g c = record { stands = λ task e. rw c.in-Mac0.is (c.past_array_head.ensures.stands task e) }
+
+pub returns-in-Sign1 : goal.returns-in-Sign1
+returns-in-Sign1 g c = record { stands = λ task e. rw c.in-Sign1.is (c.past_array_head-in-Sign1.ensures.stands task e) }
+
+pub returns-in-Tagged : goal.returns-in-Tagged
+returns-in-Tagged g c = record { stands = λ task e. rw c.in-Tagged.is (c.refuse.ensures task [] c.args.at nothing_told e refl) }
+
+pub past_array_head-requires : goal.past_array_head-requires
+past_array_head-requires g c = grind (arith, common_steps)
+
+pub past_array_head-requires-in-Sign1 : goal.past_array_head-requires-in-Sign1
+past_array_head-requires-in-Sign1 g c = grind (arith, common_steps)
+
+pub refuse-requires : goal.refuse-requires
+refuse-requires g c = grind (arith, common_steps)

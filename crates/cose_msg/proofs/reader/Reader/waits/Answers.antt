@@ -1,0 +1,58 @@
+use Rattle.std.proofs.Common.{◌<◌, arith}
+use Rattle.std.proofs.lemmas.Grind.{common_steps}
+use Rattle.cose_msg.proofs.Decisions.{stands_shown}
+use Rattle.cose_msg.proofs.PayloadsKnown.{stands_fixed, stands_grows}
+use Rattle.cose_msg.proofs.Statuses.{stands_status}
+use Rattle.cose_msg.proofs.Waits.{ItemWaits, stands_open, stands_settled, stands_told, stands_payload, stands_truncated, stands_wanted}
+use Rattle.cose_msg.proofs.reader.Reader.waits.Goals as goal
+
+-- Fewer bytes than the walker wants don't end its item.
+walker : (g : Rattle.cose_msg.proofs.reader.Reader.waits.Given.Over) (c : goal.After-open_items-opened g) → ItemWaits c.args.self.now
+walker g c = λ put more lt.
+    let room : 0 < g.row.H = omega (arith, c.args.self.now.some_room) in
+    c.want-wanted.ensures.early _ _ more put room (omega (arith, lt, c.want-wanted.ensures.content _ _ put))
+
+pub returns-clause-open : goal.returns-clause-open
+returns-clause-open g c = λ task B n reading more h lt. stands_open (walker g c) more h lt
+
+pub returns-clause-settled : goal.returns-clause-settled
+returns-clause-settled g c = λ task B n reading h. stands_settled (walker g c) h
+
+pub returns-clause-wanted : goal.returns-clause-wanted
+returns-clause-wanted g c = λ task B n reading h. stands_wanted (walker g c) h
+
+pub returns-clause-payload : goal.returns-clause-payload
+returns-clause-payload g c = λ task B n reading h. stands_told (walker g c) h
+
+pub returns-clause-open_payload : goal.returns-clause-open_payload
+returns-clause-open_payload g c = λ task B n reading more h is le. stands_payload (walker g c) more h is le
+
+pub returns-clause-truncated : goal.returns-clause-truncated
+returns-clause-truncated g c = λ task B n reading h e. stands_truncated (walker g c) h e
+
+pub returns-clause-shows : goal.returns-clause-shows
+returns-clause-shows g c = λ task B n reading h. stands_shown (walker g c) h
+
+pub returns-clause-status : goal.returns-clause-status
+returns-clause-status g c = λ task B n reading h. stands_status h (stands_settled (walker g c) h)
+
+pub returns-clause-grows : goal.returns-clause-grows
+returns-clause-grows g c = λ task B n reading more h is. stands_grows more h is
+
+pub returns-clause-fixed : goal.returns-clause-fixed
+returns-clause-fixed g c = λ task B n reading more h is some. stands_fixed more h is some
+
+pub want-wanted-requires : goal.want-wanted-requires
+want-wanted-requires g c = grind (arith, common_steps)
+
+pub held-held-requires : goal.held-held-requires
+held-held-requires g c = grind (arith, common_steps)
+
+pub open_items-opened-requires : goal.open_items-opened-requires
+open_items-opened-requires g c = grind (arith, common_steps)
+
+pub returns-clause-held : goal.returns-clause-held
+returns-clause-held g c = grind (arith, common_steps)
+
+pub returns-clause-opened : goal.returns-clause-opened
+returns-clause-opened g c = grind (arith, common_steps)

@@ -1,9 +1,0 @@
-use Rattle.std.proofs.Common.{[], refl}
-use Rattle.cose_msg.specs.Phases.{nothing_told}
-use Rattle.cose_msg.proofs.verifier.Verifier.past_array_head.Goals as goal
-
-pub returns-in-Some : goal.returns-in-Some
-returns-in-Some g c = record { stands = λ task e. rw (← c.in-Some.ensures) (c.refuse.ensures task [] c.args.at nothing_told e refl) }
-
-pub returns-in-None : goal.returns-in-None
-returns-in-None g c = record { stands = λ task e. rw (← c.in-None.ensures) (c.begin_protected_head.ensures.stands task e) }

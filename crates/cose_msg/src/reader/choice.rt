@@ -1,0 +1,173 @@
+//! The choice of the key, once both header buckets are there (RFC 9052 sections 3.1 and 7.1).
+
+ghost use Rattle.std.specs.Prelude.{◌≡◌, ◌<◌, ◌≤◌, ◌+◌, ◌^◌, ℕ, ℤ, List, Ok, []};
+ghost use Rattle.cose_map.specs.Bucket.View.{bucket_pairs};
+ghost use Rattle.cose_map.specs.Choice.View.{found_value, question};
+ghost use Rattle.cose_map.specs.Key.View.{material_value};
+ghost use Rattle.cose_msg.specs.Chosen.{choice_seen, found_seen};
+ghost use Rattle.cose_msg.specs.Message.{operation_of as operation_value, question_of, secret_of as secret_bytes, past_chosen};
+ghost use Rattle.cose_msg.specs.Phases.{headers_of};
+ghost use Rattle.cose_msg.specs.Reader.{keys_in};
+ghost use Rattle.cose_msg.specs.Task.{choice_among};
+
+use crate::hashing::Hashing;
+use crate::reader::{Chosen, Reader};
+use cose_head::{Kind, Reason, Refusal};
+use cose_mac::Alg;
+use cose_map::{Bucket, Key, Keys, Material, Query, check_pair};
+
+/// The result of both buckets.
+#[derive(Clone, Copy)]
+pub(crate) struct Choice<'k> {
+    /// The key, and its algorithm, if one is to be chosen.
+    pub(crate) chosen: Option<Chosen<'k>>,
+    /// Whether the protected bucket has no pair.
+    pub(crate) is_bare: bool,
+}
+
+/// The operation that verifies messages of a kind (RFC 9052 section 7.1, table 5).
+fn operation_of(kind: Kind) -> i128
+    ensures { result ≡ operation_value kind }
+{
+    match kind {
+        Kind::Mac0 => 10,
+        Kind::Sign1 => 2,
+    }
+}
+
+/// The secret of a symmetric key.
+fn secret_of<'k>(material: &Material<'k>) -> &'k [u8]
+    ensures { result.now ≡ secret_bytes (material_value material.now) }
+{
+    match material {
+        Material::Symmetric(secret) => secret,
+        Material::Ec { .. } => &[],
+    }
+}
+
+/// What a message asks of its key.
+fn query_of<'q>(kind: Kind, protected: &Bucket<'q>, unprotected: &Bucket<'q>) -> Query<'q>
+    ensures { question result ≡ question_of (headers_of kind [] (bucket_pairs protected.now) (bucket_pairs unprotected.now)) }
+{
+    Query {
+        kind,
+        operation: operation_of(kind),
+        protected_alg: protected.alg(),
+        unprotected_alg: unprotected.alg(),
+        kid: protected.kid().or(unprotected.kid()),
+    }
+}
+
+/// The key that was found, with its algorithm.
+fn chosen_of<'k>(found: Result<(Key<'k>, i128), Reason>) -> Result<Chosen<'k>, Reason>
+    ensures { found_seen result ≡ past_chosen (found_value found.entry) }
+{
+    let (key, number) = found?;
+    match Alg::from_number(number) {
+        Some(alg) => Ok(Chosen { key, alg }),
+        None => Err(Reason::UnknownAlg),
+    }
+}
+
+/// The one key of these that fits what the buckets say, if one is to be chosen.
+fn key_for<'k, K: Keys<'k>>(
+    keys: Option<&K>,
+    kind: Kind,
+    protected: &Bucket<'_>,
+    unprotected: &Bucket<'_>,
+) -> Result<Option<Chosen<'k>>, Reason>
+    ensures { (content : List ℕ) → choice_seen result
+        ≡ choice_among (keys_in K.usable keys.entry)
+            (headers_of kind content (bucket_pairs protected.now) (bucket_pairs unprotected.now)) }
+{
+    let Some(keys) = keys else {
+        return Ok(None);
+    };
+    match chosen_of(keys.find(&query_of(kind, protected, unprotected))) {
+        Ok(chosen) => Ok(Some(chosen)),
+        Err(reason) => Err(reason),
+    }
+}
+
+impl<'k, const H: usize, const D: usize> Reader<'k, H, D> {
+    ghost use Rattle.std.specs.Prelude.{length, option_map};
+    ghost use Rattle.cose_map.specs.Bucket.{bucket_of};
+    ghost use Rattle.cose_map.specs.Map.Pairs.{Pair};
+    ghost use Rattle.cose_msg.specs.Choosing.{choice_of};
+    ghost use Rattle.cose_msg.specs.Chosen.{ChoiceIs, chosen_value};
+    ghost use Rattle.cose_msg.specs.Hashing.{HashesFor};
+    ghost use Rattle.cose_msg.specs.Phases.{both_buckets, headers_told, placed_at};
+    ghost use Rattle.cose_msg.specs.Reading.{Reading};
+    ghost use Rattle.cose_msg.specs.Reader.{Shows, StandsFor, task_in};
+    ghost use Rattle.cose_msg.specs.Task.{Task, keys_for, rules_of};
+
+    /// The result of both buckets, whose contents stand at these places and were found good.
+    fn choose<K: Keys<'k>>(
+        &self,
+        keys: Option<&K>,
+        kind: Kind,
+        protected_at: u64,
+        at: u64,
+    ) -> Result<Choice<'k>, Refusal>
+        requires protected_early { protected_at ≤ 36 }
+        requires early { at < 2 ^ 17 }
+        ensures { (task : Task) (pairs others : List Pair) → task_in task self.now ≡ task
+            → keys_in K.usable keys.entry ≡ keys_for task
+            → bucket_of D (placed_at protected_at self.now.protected.items) ≡ Ok pairs
+            → bucket_of D (placed_at at self.now.unprotected.items) ≡ Ok others
+            → ChoiceIs pairs result
+                (choice_of task (headers_of kind self.now.protected.items pairs others)
+                (at + length self.now.unprotected.items)) }
+    {
+        let protected = Bucket::read(self.protected.as_slice(), protected_at, D)?;
+        let unprotected = Bucket::read(self.unprotected.as_slice(), at, D)?;
+        let place = at + self.unprotected.len() as u64;
+        check_pair(&protected, &unprotected, self.terms.understood, place)?;
+        match key_for(keys, kind, &protected, &unprotected) {
+            Ok(chosen) => Ok(Choice {
+                chosen,
+                is_bare: protected.is_empty(),
+            }),
+            Err(reason) => Err(Refusal { reason, place }),
+        }
+    }
+
+    /// Begins the hash over the structure, where a key was chosen.
+    fn begin_hashing(chosen: &Option<Chosen<'k>>) -> Hashing
+        ensures { HashesFor result (option_map chosen_value chosen.now) [] }
+    {
+        match chosen {
+            Some(chosen) => Hashing::begin(chosen.alg, secret_of(&chosen.key.material)),
+            None => Hashing::Nothing,
+        }
+    }
+
+    /// What follows both buckets, whose contents stand at these places: their check together, and the choice of the key.
+    pub(crate) fn past_buckets<K: Keys<'k>>(
+        &mut self,
+        keys: Option<&K>,
+        kind: Kind,
+        protected_at: u64,
+        at: u64,
+    )
+        requires protected_early { protected_at ≤ 36 }
+        requires early { at < 2 ^ 17 }
+        ensures stands { (task : Task) (pairs others : List Pair)
+            → keys_in K.usable keys.entry ≡ keys_for task
+            → Shows task (headers_told (headers_of kind self.old.protected.items pairs others) []) self.old
+            → bucket_of D (placed_at protected_at self.old.protected.items) ≡ Ok pairs
+            → bucket_of D (placed_at at self.old.unprotected.items) ≡ Ok others
+            → StandsFor task [] (at + length self.old.unprotected.items) self.new
+            (λ z. both_buckets (rules_of H D task) (headers_of kind self.old.protected.items pairs others) (at + length self.old.unprotected.items) z) }
+    {
+        let after = at + self.unprotected.len() as u64;
+        match self.choose(keys, kind, protected_at, at) {
+            Ok(choice) => {
+                self.hashing = Self::begin_hashing(&choice.chosen);
+                self.chosen = choice.chosen;
+                self.begin_payload_head(kind, choice.is_bare, after);
+            }
+            Err(refusal) => self.refuse(refusal.reason, refusal.place),
+        }
+    }
+}

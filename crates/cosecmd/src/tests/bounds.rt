@@ -1,0 +1,43 @@
+//! How many bytes `verify` asks of an intake, and hands to a sink, at once.
+
+ghost use Rattle.std.specs.Prelude.{◌≤◌};
+
+use crate::tests::streams::{NotingIntake, NotingSink};
+use crate::tests::{authentic, key_set, message, verifier};
+use cose_msg::{KeySet, Never, Status, Wanted, verify};
+use std::process::Abort;
+use std::test::Fail;
+
+/// In chunks of `C` bytes, each call asks for as many bytes as a verifier wants that was fed those before, but for `C` at most. The
+/// sink gets no longer pieces.
+fn asks_within<const C: usize>(rt: &impl Abort, keys: KeySet, bytes: &[u8])
+    requires some { 1 ≤ C }
+    requires limit { C ≤ 65536 }
+{
+    let mut intake = NotingIntake::new(bytes);
+    let mut sink = NotingSink::new();
+    let mut asking = verifier(keys, Wanted::Tagged);
+    let verdict = verify::<C, 1024, 4, _, _, _, _>(&mut asking, &mut intake, &mut sink, &Never);
+    assert_eq!(rt; verdict, Ok(authentic(44)), "in chunks of {C}");
+    assert_eq!(rt; sink.longest(), C.min(2), "in chunks of {C}");
+    let mut fed = verifier(keys, Wanted::Tagged);
+    let mut rest = bytes;
+    for asked in intake.asked() {
+        assert_eq!(rt; *asked as u64, fed.want().min(C as u64), "in chunks of {C}");
+        let (piece, after) = rest.split_at((*asked).min(rest.len()));
+        fed.feed(piece);
+        rest = after;
+    }
+    assert_eq!(rt; fed.status(), Status::Complete, "in chunks of {C}");
+}
+
+#[test]
+fn asks_for_no_more_than_is_wanted(rt: HostRuntime) -> Result<(), Fail> {
+    let bytes = message(rt.alloc())?;
+    let keys = key_set().ok_or("no keys")?;
+    asks_within::<1>(&rt, keys, bytes.as_slice());
+    asks_within::<3>(&rt, keys, bytes.as_slice());
+    asks_within::<16>(&rt, keys, bytes.as_slice());
+    asks_within::<4_096>(&rt, keys, bytes.as_slice());
+    Ok(())
+}

@@ -1,0 +1,52 @@
+//! The message of 44 bytes with one of its bytes replaced.
+
+ghost use Rattle.std.specs.Prelude.{◌<◌};
+
+use crate::tests::{key_set, message, verifier};
+use cose_msg::{KeySet, Never, Nothing, SliceIntake, Stop, Verdict, Wanted, verify};
+use std::process::Abort;
+use std::test::Fail;
+
+/// What `verify` answers for bytes that come in pieces of at most so many, and how many it takes.
+fn outcome(keys: KeySet, bytes: &[u8; 44], cut: usize) -> (Result<Verdict, Stop>, u64) {
+    let mut verifier = verifier(keys, Wanted::Tagged);
+    let mut intake = SliceIntake::new(bytes, cut.max(1));
+    let verdict = verify::<64, 1024, 4, _, _, _, _>(
+        &mut verifier,
+        &mut intake,
+        &mut Nothing,
+        &Never,
+    );
+    (verdict, verifier.taken())
+}
+
+/// With another byte at this place, the message is refused, and in the same way in each cut.
+fn refuses_each_at(rt: &impl Abort, keys: KeySet, bytes: &[u8; 44], place: usize)
+    requires { place < 44 }
+{
+    for value in 0..=255u8 {
+        let mut replaced = *bytes;
+        replaced[place] = value;
+        let whole = outcome(keys, &replaced, 64);
+        let is_authentic = matches!(whole.0, Ok(Verdict::Authentic { .. }));
+        assert_eq!(rt; is_authentic, value == bytes[place], "{value} at {place}");
+        for cut in 1..=9usize {
+            let answer = outcome(keys, &replaced, cut);
+            assert_eq!(rt; answer, whole, "{value} at {place} in pieces of {cut}");
+        }
+    }
+}
+
+#[test]
+fn refuses_each_other_byte(rt: HostRuntime) -> Result<(), Fail> {
+    let made = message(rt.alloc())?;
+    let mut bytes = [0; 44];
+    for i in 0..44 {
+        bytes[i] = made.get(i).copied().ok_or("fewer bytes")?;
+    }
+    let keys = key_set().ok_or("no keys")?;
+    for place in 0..44 {
+        refuses_each_at(&rt, keys, &bytes, place);
+    }
+    Ok(())
+}
