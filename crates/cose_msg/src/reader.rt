@@ -180,7 +180,7 @@ impl<'k, const H: usize, const D: usize> Reader<'k, H, D> {
             → keys_in K.usable keys.entry ≡ keys_for task
             → StandsFor task B n self.old reading
             → StandsFor task (grown self.old.phase B (take result piece.now)) (n + result) self.new
-                (λ z. reading (take result piece.now ++ z)) }
+            (λ z. reading (take result piece.now ++ z)) }
     {
         match self.phase {
             Phase::Protected(protected) => {

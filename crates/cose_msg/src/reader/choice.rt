@@ -78,7 +78,7 @@ fn key_for<'k, K: Keys<'k>>(
 ) -> Result<Option<Chosen<'k>>, Reason>
     ensures { (content : List ℕ) → choice_seen result
         ≡ choice_among (keys_in K.usable keys.entry)
-            (headers_of kind content (bucket_pairs protected.now) (bucket_pairs unprotected.now)) }
+        (headers_of kind content (bucket_pairs protected.now) (bucket_pairs unprotected.now)) }
 {
     let Some(keys) = keys else {
         return Ok(None);
@@ -116,8 +116,8 @@ impl<'k, const H: usize, const D: usize> Reader<'k, H, D> {
             → bucket_of D (placed_at protected_at self.now.protected.items) ≡ Ok pairs
             → bucket_of D (placed_at at self.now.unprotected.items) ≡ Ok others
             → ChoiceIs pairs result
-                (choice_of task (headers_of kind self.now.protected.items pairs others)
-                (at + length self.now.unprotected.items)) }
+            (choice_of task (headers_of kind self.now.protected.items pairs others)
+            (at + length self.now.unprotected.items)) }
     {
         let protected = Bucket::read(self.protected.as_slice(), protected_at, D)?;
         let unprotected = Bucket::read(self.unprotected.as_slice(), at, D)?;

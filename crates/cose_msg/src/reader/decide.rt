@@ -126,7 +126,7 @@ impl<'k, const H: usize, const D: usize> Reader<'k, H, D> {
     fn is_signed<E: EcVerifier>(&self, ec: &E) -> bool
         ensures { (chosen : Chosen) → self.now.chosen ≡ Some chosen
             → result ≡ E.decides ec.now (key_value chosen.key) (result_of self.now.hashing)
-                self.now.auth.items }
+            self.now.auth.items }
     {
         match &self.chosen {
             Some(chosen) => ec.holds(&chosen.key, self.hashing.result(), self.auth.as_slice()),

@@ -241,7 +241,7 @@ fn admitted_reply<I: Intake>(
     requires external { length aad.now ≤ 65535 }
     ensures says { (bytes : List ℕ) → I.to_come intake.old ≡ Some bytes →
         IfOk result (Says (admitted_under (program_keys keys.now) aad.now wanted
-            (option_map contents vouch.entry) (policy_value policy.entry.now) bytes)) }
+        (option_map contents vouch.entry) (policy_value policy.entry.now) bytes)) }
     ensures keys { (refusal : Refusal)
         → program_keys keys.now ≡ Err refusal ↔ result ≡ Err (Fault.Keys refusal) }
     // Its fault is that the input failed where the intake failed in this call, and nowhere else.
@@ -273,7 +273,7 @@ pub fn cwt_reply<R: Read>(
     requires external { length aad.now ≤ 65535 }
     ensures says { (bytes : List ℕ) → R.remaining input.old ≡ Some bytes →
         IfOk result (Says (admitted_under (program_keys keys.now) aad.now wanted
-            (option_map contents vouch.entry) (policy_value policy.entry.now) bytes)) }
+        (option_map contents vouch.entry) (policy_value policy.entry.now) bytes)) }
     ensures keys { (refusal : Refusal) →
         program_keys keys.now ≡ Err refusal ↔ result ≡ Err (Fault.Keys refusal) }
 {

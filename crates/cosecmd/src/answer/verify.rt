@@ -114,7 +114,7 @@ fn input_verdict<'j, I: Intake>(
     requires external { length context.aad.now ≤ 65535 }
     ensures verdict { (bytes : List ℕ) → I.to_come intake.old ≡ Some bytes →
         IfOk result (λ verdict. input_answer (setting_of usable context.entry)
-            (vouching (option_map contents vouch.now.word)) bytes ≡ decided verdict) }
+        (vouching (option_map contents vouch.now.word)) bytes ≡ decided verdict) }
     ensures fault { IfErr result (λ fault. fault ≡ Fault.Input) }
     ensures failure { I.has_failed intake.new ≡ (I.has_failed intake.old || is_err result) }
 {
@@ -144,7 +144,7 @@ fn verified_reply<I: Intake>(
     requires external { length aad.now ≤ 65535 }
     ensures says { (bytes : List ℕ) → I.to_come intake.old ≡ Some bytes →
         IfOk result (Says (verified_under (program_keys keys.now) aad.now wanted
-            (option_map contents vouch.entry) bytes)) }
+        (option_map contents vouch.entry) bytes)) }
     ensures keys { (refusal : Refusal)
         → program_keys keys.now ≡ Err refusal ↔ result ≡ Err (Fault.Keys refusal) }
     // Its fault is that the input failed where the intake failed in this call, and nowhere else.
@@ -171,7 +171,7 @@ pub fn verify_reply<R: Read>(
     requires external { length aad.now ≤ 65535 }
     ensures says { (bytes : List ℕ) → R.remaining input.old ≡ Some bytes →
         IfOk result (Says (verified_under (program_keys keys.now) aad.now wanted
-            (option_map contents vouch.entry) bytes)) }
+        (option_map contents vouch.entry) bytes)) }
     ensures keys { (refusal : Refusal) →
         program_keys keys.now ≡ Err refusal ↔ result ≡ Err (Fault.Keys refusal) }
 {

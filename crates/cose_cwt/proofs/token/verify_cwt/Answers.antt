@@ -32,8 +32,8 @@ returns-clause-store_suffices g c =
     let before = c.args.verifier.now in
     let setting = setting_in before in
     none_or_some (kept_answer before) (λ none.
-        (let anew : HasTaken (to_verify setting) [] [] before = subst (λ (inspects : Bool). HasTaken (record { setting = setting; inspects = inspects }) [] [] before) c.requires.verifies (c.taken-none.ensures.anew (c.taken-none.ensures.value ∙ c.requires.none_taken) none) in
-        store_suffices _ _ _ _ _ c.claims_after.ensures (c.verify-verdict.ensures.sure setting [] [] anew (subst (λ (n : ℕ). setting.payload_limit ≤ n) (sym c.clear.ensures.sure) c.requires.payload_limit))))
+    (let anew : HasTaken (to_verify setting) [] [] before = subst (λ (inspects : Bool). HasTaken (record { setting = setting; inspects = inspects }) [] [] before) c.requires.verifies (c.taken-none.ensures.anew (c.taken-none.ensures.value ∙ c.requires.none_taken) none) in
+    store_suffices _ _ _ _ _ c.claims_after.ensures (c.verify-verdict.ensures.sure setting [] [] anew (subst (λ (n : ℕ). setting.payload_limit ≤ n) (sym c.clear.ensures.sure) c.requires.payload_limit))))
     (λ answer kept. (kept_is_no_failure _ _ _ _ _ _ _ _ c.claims_after.ensures kept (c.verify-verdict.ensures.again answer kept).0).1)
 
 pub returns-clause-again_unfailed : goal.returns-clause-again_unfailed

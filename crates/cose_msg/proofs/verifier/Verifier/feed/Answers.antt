@@ -12,8 +12,8 @@ use Rattle.cose_msg.proofs.verifier.Verifier.feed.Goals as goal
 pub returns-then-want-eq0-clause-uses : goal.returns-then-want-eq0-clause-uses
 returns-then-want-eq0-clause-uses g c = λ task s B h.
     uses_none task s c.args.piece.now (λ more. (
-        let wants : 0 < c.want.result = c.want.ensures.some (sym c.status.ensures.value ∙ c.status.ensures.reads task s B h ∙ more) in
-        omega (arith, wants, c.if-want-eq0.true)))
+    let wants : 0 < c.want.result = c.want.ensures.some (sym c.status.ensures.value ∙ c.status.ensures.reads task s B h ∙ more) in
+    omega (arith, wants, c.if-want-eq0.true)))
 
 pub returns-then-want-eq0-clause-status : goal.returns-then-want-eq0-clause-status
 returns-then-want-eq0-clause-status g c = λ task s B h.
