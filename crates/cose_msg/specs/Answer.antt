@@ -1,4 +1,4 @@
--- What the bytes of a message come to.
+-- The answer for the bytes of a message.
 use Rattle.std.specs.Prelude.{ℕ, List, Option}
 use Rattle.cose_head.specs.declared.kind.Kind.{Kind}
 use Rattle.cose_head.specs.declared.reason.Reason.{Reason}
@@ -31,8 +31,9 @@ pub record Whole : Type 0 where
   pub auth_at : ℕ
   pub taken : ℕ
 
--- A verdict; or all bytes are there and nobody compared the tag or asked for the signature; or the shape of a message
--- that is only inspected: its kind and the numbers of bytes of its payload, of its tag or signature, and of the whole.
+-- A verdict; or all bytes are there, the tag was not compared and the signature not asked about; or the shape of a
+-- message that is only inspected: its kind and the numbers of bytes of its payload, of its tag or signature, and of the
+-- whole.
 pub data Answer : Type 0 where
   decided : Verdict → Answer
   complete : Whole → Answer

@@ -8,16 +8,16 @@ use Rattle.cose_msg.specs.Answer.{Chosen, Whole}
 use Rattle.cose_msg.specs.Grammar.{IsMessage}
 use Rattle.cose_msg.specs.Message.{Decides, Setting, digest_signed, tag_of, uncompared}
 
--- Under the key that was chosen the tag is the MAC of the structure (section 6.3), or the signature is good for the digest of
--- the structure, which whoever verifies signatures decides (section 4.4).
+-- Under the key that was chosen the tag is the MAC of the structure (section 6.3), or the signature is good for the
+-- digest of the structure, as the `EcVerifier` decides (section 4.4).
 abbrev pub authentication_holds : List ℕ → Decides → Chosen → Whole → Bool
 authentication_holds aad decides found whole =
     if is_mac_of found.alg then bytes_eq whole.auth (tag_of aad found whole) else
     decides found.key (digest_signed aad found whole) whole.auth
 
--- The first bytes, as many as are taken, are a message by the grammar, with the one key that fits, and its authentication holds
--- under that key. So no bytes meet it that are cut short or spell anything else; and where the tag is a MAC, of all byte strings
--- of its length one alone will do.
+-- The first bytes, as many as are taken, are a message by the grammar, with the one key that fits, and its
+-- authentication holds under that key. So no bytes satisfy it that are cut short or spell anything else. Where the tag
+-- is a MAC, exactly one byte string of its length satisfies it.
 pub record IsAuthentic (room nesting : ℕ) (setting : Setting) (decides : Decides) (bytes : List ℕ) (kind : Kind) (alg : Alg) (payload taken : ℕ) : Type 0 where
   pub whole : Whole
   pub found : Chosen

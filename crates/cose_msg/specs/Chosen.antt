@@ -1,4 +1,4 @@
--- The key that was chosen, and what both buckets come to, without where they lie in memory.
+-- The key that was chosen, and the result of both buckets, without where they are in memory.
 use Rattle.std.specs.Prelude.{◌≡◌, ℕ, Bool, List, length, Option, Some, None, Result, Ok, Err, option_map, nat_le, ◌==◌}
 use Rattle.cose_head.specs.declared.algorithm.Alg.{Alg}
 use Rattle.cose_head.specs.Algorithm.{auth_length_of}
@@ -14,7 +14,7 @@ use Rattle.cose_msg.specs.Answer.{Chosen}
 abbrev pub chosen_value : code.Chosen → Chosen
 chosen_value chosen = record { key = key_value chosen.key; alg = chosen.alg }
 
--- Whether a tag or signature may have so many bytes, by its algorithm alone.
+-- Whether a tag or signature may have this length, by its algorithm alone.
 abbrev pub has_length_of : Option Alg → ℕ → Bool
 has_length_of (Some alg) n = n == auth_length_of alg
 has_length_of None n = nat_le n 65535
@@ -27,7 +27,7 @@ abbrev pub choice_seen : Result (Option code.Chosen) Reason → Result (Option C
 choice_seen (Ok chosen) = Ok (option_map chosen_value chosen)
 choice_seen (Err reason) = Err reason
 
--- The code's choice is that of the definition; it says besides whether the protected bucket has no pair.
+-- The code's choice is that of the definition; it also says whether the protected bucket has no pair.
 abbrev pub ChoiceIs : List Pair → Result code_choice.Choice Refusal → Read (Option Chosen) → Type 0
 ChoiceIs pairs (Ok choice) (Ok chosen) = (option_map chosen_value choice.chosen ≡ chosen) × (choice.is_bare ≡ (length pairs == 0))
 ChoiceIs pairs (Err refusal) (Err fault) = refusal ≡ fault

@@ -6,7 +6,7 @@ use Rattle.cose_msg.specs.declared.status.Status.{Status}
 use Rattle.cose_msg.specs.Message.{message}
 use Rattle.cose_msg.specs.Rules.{Rules}
 
--- Of a piece behind the bytes so far, the fewest bytes that settle the message; all of the piece, where none do.
+-- Of a piece after the bytes so far, the fewest bytes that settle the message; all of the piece, where none do.
 pub record Uses (rules : Rules) (so_far piece : List ℕ) (used : ℕ) : Type 0 where
   pub within : used ≤ length piece
   pub none_earlier : (n : ℕ) → n < used → (message rules (so_far ++ take n piece)).settled ≡ false
@@ -24,12 +24,12 @@ payload_in fed piece = part_of piece fed.payload_from fed.payload_to
 abbrev pub nothing_used : Status → Fed
 nothing_used status = record { used = 0; payload_from = 0; payload_to = 0; status = status }
 
--- Where pieces are fed in this order behind some bytes, these are the bytes so far.
+-- Where pieces are fed in this order after some bytes, these are the bytes so far.
 abbrev pub FedAfter : Rules → List ℕ → List (List ℕ) → List ℕ → Type 0
 FedAfter rules before [] so_far = so_far ≡ before
 FedAfter rules before (piece ∷ pieces) so_far = (used : ℕ) × Uses rules before piece used × FedAfter rules (before ++ take used piece) pieces so_far
 
--- They go by the joined pieces alone, however these were cut.
+-- They are a function of the joined pieces alone, however these were cut.
 abbrev pub CutsDontMatter : Type 0
 CutsDontMatter = (rules : Rules) (before : List ℕ) (pieces others : List (List ℕ)) (so_far other : List ℕ) → concat pieces ≡ concat others →
     FedAfter rules before pieces so_far → FedAfter rules before others other → so_far ≡ other

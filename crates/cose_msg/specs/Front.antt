@@ -51,7 +51,7 @@ abbrev pub past_tag : Rules → ℕ → Result Kind Reason → Phase
 past_tag rules at (Ok kind) place bytes = array_head rules kind place bytes
 past_tag rules at (Err reason) place bytes = stop nothing_told reason at
 
--- Behind the tag of a CWT, 61, comes a COSE tag (RFC 8392 section 6).
+-- After the tag of a CWT, 61, comes a COSE tag (RFC 8392 section 6).
 abbrev pub tag_behind_cwt : Wanted → Head → Result Kind Reason
 tag_behind_cwt wanted head = if is_tag head then kind_of_tag wanted head.arg else Err CwtTagAlone
 

@@ -23,7 +23,7 @@ is_untagged wants.Mac0 kinds.Mac0 = true
 is_untagged wants.Sign1 kinds.Sign1 = true
 is_untagged wanted kind = false
 
--- What stands before the four elements: the head of their array, without a tag, or behind the message's own, or behind that of
+-- What precedes the four elements: the head of their array, without a tag, or after the message's own, or after that of
 -- a CWT and the message's own.
 abbrev pub IsArrayOfFour : List ℕ → Type 0
 IsArrayOfFour bytes = IsHead bytes 4 4

@@ -1,4 +1,4 @@
--- What holds of a message that the grammar spells: it is read as what it is, and is authentic where its authentication holds.
+-- Laws of a message that the grammar spells: it is read as what it is, and is authentic where its authentication holds.
 use Rattle.std.specs.Prelude.{◌≡◌, ◌↔◌, ℕ, ◌-◌, ◌≤◌, true, false, List, ◌++◌, length, None, Ok}
 use Rattle.cose_head.specs.declared.kind.Kind.{Kind}
 use Rattle.cose_head.specs.Item.{Item, byte_string, depth_of, Spells}
@@ -25,7 +25,7 @@ abbrev pub MessageIsArrayOfFour : Type 0
 MessageIsArrayOfFour = (rules : Rules) (bytes : List ℕ) (whole : Whole) (m : IsMessage rules bytes whole) →
     SpellsMessage bytes whole.headers.kind (four_elements whole.headers.protected m.bucket whole.payload whole.auth)
 
--- The other way: the tags of such an array are those that the rules allow ..
+-- Conversely: the tags of such an array are those that the rules allow ..
 abbrev pub IsAllowed : {bytes : List ℕ} {kind : Kind} {elements : Item} → Rules → SpellsMessage bytes kind elements → Type 0
 IsAllowed {bytes} {kind} {elements} rules (bare spelled) = is_untagged rules.wanted kind ≡ true
 IsAllowed {bytes} {kind} {elements} rules (in_tag spelled) = wants_kind rules.wanted kind ≡ true

@@ -13,7 +13,7 @@ is_end (Ok zero) = true
 is_end (Ok (suc n)) = false
 is_end (Err e) = false
 
--- A failure takes nothing. What fails may tell nothing more.
+-- A failure takes nothing. After it the bytes to come may be unknown to the contract.
 abbrev pub KeepsOrForgets : Option (List ℕ) → Option (List ℕ) → Type 0
 KeepsOrForgets None new = ⊤
 KeepsOrForgets (Some bytes) None = ⊤
@@ -24,7 +24,7 @@ abbrev pub Takes : {E : Type 0} → Option (List ℕ) → Option (List ℕ) → 
 Takes old new (Ok n) into = Consumes old new (take n into) × (n ≡ 0 → IsAtEnd new)
 Takes old new (Err e) into = KeepsOrForgets old new
 
--- The bytes taken, in their order; a failure at the end may have made it silent.
+-- The bytes taken, in their order; after a failure at the end the bytes to come may be unknown to the contract.
 abbrev pub TakesInAll : Option (List ℕ) → Option (List ℕ) → List ℕ → Type 0
 TakesInAll None new taken = ⊤
 TakesInAll (Some bytes) None taken = (rest : List ℕ) × (bytes ≡ taken ++ rest)

@@ -1,4 +1,4 @@
--- What a verifier counts and keeps besides the message itself.
+-- What a verifier counts and keeps in addition to the message itself.
 use Rattle.std.specs.Prelude.{◌≡◌, ℕ, Bool, true, false, List, length, Option, Some, None, Result, Ok, Err}
 use Rattle.cose_msg.specs.declared.hashing.Hashing.TheVariants as states
 use Rattle.cose_msg.specs.declared.phase.Phase.{Phase}
@@ -29,7 +29,7 @@ verdict_in (phases.Decided verdict) = Some verdict
 verdict_in (phases.Settled verdict) = Some verdict
 verdict_in _ = None
 
--- A refusal says the same of a message that is only inspected.
+-- A refusal is the same for a message that is only inspected.
 abbrev pub refusal_in : Verdict → Option Inspected
 refusal_in (Refused refusal) = Some (inspected.Refused refusal)
 refusal_in (Authentic kind alg payload taken) = None
@@ -56,13 +56,14 @@ kept_inspection v = answer_kept v.stopped (inspected_in v.reader.phase)
 abbrev pub KeepsNoKey : {H D : ℕ} {S : Type 0} {K : _} → Verifier H D S K → Type 0
 KeepsNoKey v = (v.reader.chosen ≡ None) × (v.reader.hashing ≡ states.Nothing)
 
--- What came of a message is answered again as it is. Why the verifier stopped is told once.
+-- The result of a message is answered again as it is. The reason why the verifier stopped is answered once.
 abbrev pub answered_again : {A : Type 0} → Result A Stop → Result A Stop
 answered_again (Ok answer) = Ok answer
 answered_again (Err stop) = Err stops.Again
 
--- The verifier, which was made for this task, has taken the bytes s, the payload B among them, has counted them, and goes on: it
--- hasn't stopped, no end was said before they settled the message, and no signature was decided on.
+-- The verifier, which was made for this task, has taken the bytes s, the payload B among them, has counted them, and
+-- continues: it hasn't stopped, the end wasn't reported before they settled the message, and no signature was decided
+-- on.
 pub record HasTaken {H D : ℕ} {S : Type 0} {K : _} (task : Task) (s B : List ℕ) (v : Verifier H D S K) : Type 0 where
   pub made_for : task_of v ≡ task
   pub so_far : SoFar task s B v.reader

@@ -1,4 +1,4 @@
--- What holds of the reading of a message.
+-- Laws of the reading of a message.
 use Rattle.std.specs.Prelude.{◌≡◌, ◌≢◌, ◌↔◌, ℕ, ◌+◌, ◌-◌, ◌*◌, ◌^◌, ◌≤◌, min, List, ◌++◌, length, true, false, Option, Ok, IfErr, ⊤}
 use Rattle.cose_head.specs.declared.reason.Reason.{Reason}
 use Rattle.cose_head.specs.declared.reason.Reason.TheVariants.{Truncated}
@@ -26,27 +26,27 @@ MessageEndsTruncated = (rules : Rules) (bytes : List ℕ) → (message rules byt
 abbrev pub OpenEarlier : Type 0
 OpenEarlier = (rules : Rules) (bytes more : List ℕ) → (message rules (bytes ++ more)).settled ≡ false → (message rules bytes).settled ≡ false
 
--- So a settled verdict stays, whoever decides on signatures.
+-- So a settled verdict stays, whatever decides on signatures.
 abbrev pub VerdictStays : Type 0
 VerdictStays = (room nesting : ℕ) (setting : Setting) (decides : Decides) (bytes more : List ℕ) →
     (message (verifying room nesting setting decides) bytes).settled ≡ true →
     verdict_of room nesting setting decides (bytes ++ more) ≡ verdict_of room nesting setting decides bytes
 
--- A refusal for another reason than that bytes are missing, or no refusal.
+-- A refusal for a reason other than that bytes are missing, or no refusal.
 abbrev pub IsDefinite : Answer → Type 0
 IsDefinite (decided (Refused refusal)) = refusal.reason ≢ Truncated
 IsDefinite (decided (Authentic kind alg payload taken)) = ⊤
 IsDefinite (complete whole) = ⊤
 IsDefinite (shaped kind payload auth taken) = ⊤
 
--- A refusal stands no later than a place, and a message ends no later.
+-- A refusal's place is at most this one, and a message ends no later.
 abbrev pub StandsBy : ℕ → Answer → Type 0
 StandsBy end (decided (Refused refusal)) = refusal.place ≤ end
 StandsBy end (decided (Authentic kind alg payload taken)) = taken ≤ end
 StandsBy end (complete whole) = whole.taken ≤ end
 StandsBy end (shaped kind payload auth taken) = taken ≤ end
 
--- What the rules themselves answer is never Truncated, and stands within the message.
+-- What the rules themselves answer is never Truncated, and its place is within the message.
 pub record AreFair (rules : Rules) : Type 0 where
   pub choice : (headers : Headers) → IfErr (rules.choice headers) (λ reason. reason ≢ Truncated)
   pub definite : (whole : Whole) → IsDefinite (rules.finish whole)
@@ -68,11 +68,11 @@ abbrev pub OpenIsTruncated : Type 0
 OpenIsTruncated = (rules : Rules) → AreFair rules → (bytes : List ℕ) →
     ((message rules bytes).settled ≡ false) ↔ ((message rules bytes).answer ≡ refused Truncated (length bytes))
 
--- And nothing of it stands after the bytes.
+-- And no place of it is after the bytes.
 abbrev pub MessageStandsInside : Type 0
 MessageStandsInside = (rules : Rules) → AreFair rules → (bytes : List ℕ) → StandsBy (length bytes) (message rules bytes).answer
 
--- The most bytes of a payload; and that a tag or signature under the key that is chosen has at most so many.
+-- The most bytes of a payload; and the most bytes of a tag or signature under the key that is chosen.
 abbrev pub payload_at_most : ℕ → ℕ
 payload_at_most payload_limit = min payload_limit (2 ^ 56 - 1)
 
@@ -80,8 +80,8 @@ abbrev pub AuthIsAtMost : ℕ → Rules → Type 0
 AuthIsAtMost most rules = (headers : Headers) (chosen : Option Chosen) (n : ℕ) → rules.choice headers ≡ Ok chosen →
     rules.auth_fits chosen n ≡ true → n ≤ most
 
--- So many bytes settle a message, whatever they are: 9 for each of its six heads, the room of both buckets, the payload, and
--- the tag or signature.
+-- This many bytes settle a message, whatever they are: 9 for each of its six heads, the room of both buckets, the
+-- payload, and the tag or signature.
 abbrev pub MessageIsBounded : Type 0
 MessageIsBounded = (rules : Rules) (most : ℕ) → AuthIsAtMost most rules → (bytes : List ℕ) →
     2 * rules.room + 54 + payload_at_most rules.payload_limit + most ≤ length bytes → (message rules bytes).settled ≡ true
@@ -99,11 +99,11 @@ abbrev pub MessageIsInspectedWithin : Type 0
 MessageIsInspectedWithin = (room nesting : ℕ) (setting : Setting) (bytes : List ℕ) →
     2 * room + 65589 + payload_at_most setting.payload_limit ≤ length bytes → (message (inspecting room nesting setting) bytes).settled ≡ true
 
--- A reading with another answer made of its own.
+-- A reading whose answer is changed.
 abbrev pub answered : (Answer → Answer) → Reading → Reading
 answered change reading = record { answer = change reading.answer; settled = reading.settled; wanted = reading.wanted; told = reading.told }
 
--- Where two rules differ in what a whole message comes to alone, so do the answers. Refusals before that are the same.
+-- Where two rules differ only in the result for a whole message, so do the answers. Refusals before that are the same.
 abbrev pub FinishGoesLast : Type 0
 FinishGoesLast = (rules : Rules) (finish : Whole → Answer) (change : Answer → Answer) →
     ((reason : Reason) (place : ℕ) → change (refused reason place) ≡ refused reason place) →

@@ -52,13 +52,14 @@ stops_for_sink (Err faults.Intake) = false
 stops_for_sink (Err faults.Sink) = true
 stops_for_sink (Err faults.TooLong) = false
 
--- Where neither the intake nor the sink fails, and these bytes are to come: the number of the message's bytes, or that they
--- are fewer than the payload's length.
+-- Where neither the intake nor the sink fails, and these bytes are to come: the number of the message's bytes, or that
+-- they are fewer than the payload's length.
 abbrev pub answer_over : (List ℕ → List ℕ) → ℕ → List ℕ → Result ℕ MakeFault
 answer_over message payload_length bytes =
     if nat_lt (length bytes) payload_length then Err faults.ShortPayload else Ok (length (message (take payload_length bytes)))
 
--- The intake's bytes are taken in their order, each once. Only an intake that failed may tell nothing more.
+-- The intake's bytes are taken in their order, each once. The bytes to come may be unknown to the contract only after a
+-- failure of the intake.
 abbrev pub TakesPayload : Option (List ℕ) → Option (List ℕ) → Result ℕ MakeFault → List ℕ → Type 0
 TakesPayload old new (Ok n) taken = Consumes old new taken
 TakesPayload old new (Err faults.ShortPayload) taken = Consumes old new taken
@@ -67,8 +68,8 @@ TakesPayload old new (Err faults.Intake) taken = TakesInAll old new taken
 TakesPayload old new (Err faults.Sink) taken = Consumes old new taken
 TakesPayload old new (Err faults.TooLong) taken = ⊥
 
--- How many bytes were taken for a payload of this length: all of them; fewer where the intake has ended, and gives no further
--- byte, or failed; at most so many where the sink failed.
+-- How many bytes were taken for a payload of this length: all of them; fewer where the intake has ended, and gives no
+-- further byte, or failed; at most this many where the sink failed.
 abbrev pub TakesSome : ℕ → Bool → Option (List ℕ) → Result ℕ MakeFault → ℕ → Type 0
 TakesSome payload_length ended come_after (Ok n) count = count ≡ payload_length
 TakesSome payload_length ended come_after (Err faults.ShortPayload) count = (count < payload_length) × (ended ≡ true) × IsAtEnd come_after
@@ -77,8 +78,8 @@ TakesSome payload_length ended come_after (Err faults.Intake) count = count < pa
 TakesSome payload_length ended come_after (Err faults.Sink) count = count ≤ payload_length
 TakesSome payload_length ended come_after (Err faults.TooLong) count = ⊥
 
--- The sink grows by the message of the bytes taken, whose length is answered; or by a front of the message of every payload
--- that begins with them.
+-- The sink grows by the message of the bytes taken, whose length is answered; or by a prefix of the message of every
+-- payload that begins with them.
 abbrev pub Grows : (List ℕ → List ℕ) → ℕ → Option (List ℕ) → Option (List ℕ) → Result ℕ MakeFault → List ℕ → Type 0
 Grows message payload_length contents contents_after (Ok n) taken = Appends contents contents_after (message taken) × (n ≡ length (message taken))
 Grows message payload_length contents contents_after (Err fault) taken =

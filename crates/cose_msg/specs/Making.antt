@@ -44,7 +44,8 @@ made alg secret kid aad payload = shortest (
 abbrev pub mac_create : ℤ
 mac_create = pos 9
 
--- Whether a key makes MACs by an algorithm: it is a secret, and neither for another algorithm nor for other operations alone.
+-- Whether a key makes MACs by an algorithm: it is symmetric, is for no other algorithm, and lists no operations or the
+-- one that makes MACs.
 abbrev pub allows_making : KeyValue → Alg → Bool
 allows_making key alg = allows_algorithm key.alg (number (algorithm_number alg)) && allows_operation key.operations mac_create
 

@@ -24,7 +24,7 @@ question_made alg kid = record {
   kid = kid;
 }
 
--- Who verifies admits the message: it fits, its kind is wanted, and one key fits, with the same secret.
+-- The verifier accepts the message: it fits, its kind is wanted, and one key fits, with the same secret.
 pub record Admits (room nesting : ℕ) (setting : Setting) (alg : Alg) (secret : List ℕ) (kid : Option (List ℕ)) (payload : List ℕ) : Type 0 where
   -- the sizes of any verifier; a bucket that is a map has a nesting of 1
   pub some_room : 16 ≤ room

@@ -21,12 +21,12 @@ use Rattle.cose_msg.specs.Front.{first_head}
 use Rattle.cose_msg.specs.Reading.{Reading}
 use Rattle.cose_msg.specs.Rules.{Rules}
 
--- What the bytes come to, from the first on.
+-- The answer for the bytes, from the first on.
 unfoldable pub message : Rules → List ℕ → Reading
 message rules bytes = first_head rules 0 bytes
 
--- What a message is verified under: the usable keys, the externally supplied data, the kinds that are wanted, whether the CWT
--- tag may stand before the message's own, the labels that the application understands, and the most bytes of a payload.
+-- The setting of a verification: the usable keys, the externally supplied data, the kinds that are wanted, whether the
+-- CWT tag may precede the message's own, the labels that the application understands, and the most bytes of a payload.
 pub record Setting : Type 0 where
   pub keys : List KeyValue
   pub aad : List ℕ
@@ -104,7 +104,7 @@ judged holds found whole =
     if holds then decided (Authentic whole.headers.kind found.alg (length whole.payload) whole.taken) else
     refused BadAuth whole.auth_at
 
--- Who decides on signatures: of a key, the digest that was signed and the signature.
+-- The decision on a signature: of a key, the digest that was signed and the signature.
 abbrev pub Decides : Type 0
 Decides = KeyValue → List ℕ → List ℕ → Bool
 
@@ -112,7 +112,7 @@ Decides = KeyValue → List ℕ → List ℕ → Bool
 abbrev pub compare_tag : List ℕ → Chosen → Whole → Answer
 compare_tag aad found whole = judged (bytes_eq whole.auth (tag_of aad found whole)) found whole
 
--- The signature of a COSE_Sign1 is left to whoever verifies it (RFC 9052 section 4.4).
+-- The signature of a COSE_Sign1 is left to the `EcVerifier` (RFC 9052 section 4.4).
 abbrev pub compared : List ℕ → Option Chosen → Whole → Answer
 compared aad (Some found) whole = if is_mac_of found.alg then compare_tag aad found whole else complete whole
 compared aad None whole = complete whole
@@ -139,8 +139,8 @@ rules_with room nesting setting choice finish = record {
   finish = finish;
 }
 
--- Reading without the comparison; with the tags compared and the signatures left; with both decided; and inspecting, where no
--- key is chosen.
+-- Reading without the comparison; with the tags compared and the signatures left; with both decided; and inspecting,
+-- where no key is chosen.
 abbrev pub uncompared : ℕ → ℕ → Setting → Rules
 uncompared room nesting setting = rules_with room nesting setting (key_choice_of setting.keys) complete
 

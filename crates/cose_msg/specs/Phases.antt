@@ -1,4 +1,5 @@
--- The phases of a message behind its tags and the head of its array (RFC 9052 sections 2, 3, 4.2 and 6.2), the last first.
+-- The phases of a message after its tags and the head of its array (RFC 9052 sections 2, 3, 4.2 and 6.2), the last
+-- first.
 use Rattle.std.specs.Prelude.{ℕ, ◌^◌, Bool, List, [], Option, Some, None, Result, Ok, Err, nat_lt, nat_le, ◌==◌, ◌&&◌, ◌||◌, if◌then◌else◌}
 use Rattle.cose_head.specs.declared.head.Head.{Head}
 use Rattle.cose_head.specs.declared.kind.Kind.{Kind}
@@ -12,8 +13,8 @@ use Rattle.cose_msg.specs.Answer.{Chosen, Headers}
 use Rattle.cose_msg.specs.Reading.{Told, Phase, Next, settled, stop, with_head, with_string, with_item, unless, unless_fault, with_value}
 use Rattle.cose_msg.specs.Rules.{Rules}
 
--- What is known before the protected bucket was found good, in the unprotected bucket where so much of it is open, behind the
--- protected bucket, and behind both.
+-- What is known before the protected bucket was found good; in the unprotected bucket, where this much of it is open;
+-- after the protected bucket; and after both.
 abbrev pub nothing_told : Told
 nothing_told = record { protected = None; unprotected = None; payload = []; open_items = 0 }
 
@@ -34,7 +35,7 @@ headers_told headers payload = record {
 abbrev pub is_bytes_head : Head → Bool
 is_bytes_head head = head.major == 2
 
--- The tag or signature, whose head stands at auth_at. The message ends with it.
+-- The tag or signature, whose head is at auth_at. The message ends with it.
 abbrev pub finish : Rules → Headers → Option Chosen → List ℕ → ℕ → Next (List ℕ)
 finish rules headers chosen payload auth_at at auth place bytes = settled (headers_told headers payload) (rules.finish (record {
   headers = headers;
@@ -92,7 +93,7 @@ past_payload_head rules headers chosen at head =
 abbrev pub payload_head : Rules → Headers → Option Chosen → Phase
 payload_head rules headers chosen = with_head (headers_told headers []) (past_payload_head rules headers chosen)
 
--- The choice of the key. Its fault stands at the payload's head, and needs no byte of it.
+-- The choice of the key. Its fault is at the payload's head, and needs no byte of it.
 abbrev pub past_choice : Rules → Headers → Result (Option Chosen) Reason → Phase
 past_choice rules headers (Ok chosen) place bytes = payload_head rules headers chosen place bytes
 past_choice rules headers (Err reason) place bytes = stop (headers_told headers []) reason place

@@ -1,4 +1,4 @@
--- What a reader stands for: what is left of the reading of a message.
+-- The meaning of a reader: what is left of the reading of a message.
 use Rattle.std.specs.Borrow.{Bor}
 use Rattle.std.specs.Prelude.{◌≡◌, ℕ, ◌+◌, ◌≤◌, Bool, true, false, List, [], ◌++◌, length, Option, Some, None, Ok, ⊤, is_none, option_map, map, ◌==◌}
 use Rattle.cose_head.specs.declared.kind.Kind.{Kind}
@@ -32,7 +32,7 @@ use Rattle.cose_msg.specs.Reading.{Reading, Told, open_items_after, wanted_after
 use Rattle.cose_msg.specs.Rules.{Rules}
 use Rattle.cose_msg.specs.Task.{Task, rules_of}
 
--- What a message is verified under, by the terms of the code and these keys.
+-- The setting by the terms of the code and these keys.
 abbrev pub setting_with : List KeyValue → Terms → Setting
 setting_with keys terms = record {
   keys = keys;
@@ -43,15 +43,16 @@ setting_with keys terms = record {
   payload_limit = terms.payload_limit;
 }
 
--- A task under the terms of a reader, which knows neither the keys nor what the task is for: they are handed in with the bytes.
+-- A task under the terms of a reader, which knows neither the keys nor what the task is for: they are passed with the
+-- bytes.
 abbrev pub task_in : {H D : ℕ} → Task → Reader H D → Task
 task_in task v = record { setting = setting_with task.setting.keys v.terms; inspects = task.inspects }
 
--- The usable keys that are handed in, if any.
+-- The usable keys that are passed, if any.
 abbrev pub keys_in : {S : Type 0} → (S → List KeyValue) → Option (Bor S) → Option (List KeyValue)
 keys_in usable keys = option_map (λ given. usable given.now) keys
 
--- The store of a header bucket whose pairs are told: it was found good there.
+-- The store of a header bucket whose pairs are known: it was found good there.
 abbrev pub HoldsBucket : ℕ → Option (List Pair) → Option Place → List ℕ → Type 0
 HoldsBucket nesting None place content = place ≡ None
 HoldsBucket nesting (Some pairs) None content = ⊥
@@ -61,14 +62,14 @@ HoldsBucket nesting (Some pairs) (Some place) content = bucket_of nesting (place
 abbrev pub opened_by : {H D : ℕ} → Reader H D → ℕ
 opened_by v = open_now v.walker
 
--- The task's terms, the buckets that are told, and what is open.
+-- The task's terms, the buckets that are known, and what is open.
 abbrev pub Shows : {H D : ℕ} → Task → Told → Reader H D → Type 0
 Shows {H} {D} task told v = (task_in task v ≡ task)
     × HoldsBucket D told.protected v.protected_at v.protected.items × HoldsBucket D told.unprotected v.unprotected_at v.unprotected.items
     × (opened_by v ≡ told.open_items)
 
--- What is known of a message besides what is told: its headers, the key, and the bytes so far of the payload, and of the tag or
--- signature. No key is chosen where it is only inspected.
+-- What a reader stands for in addition to what a reading gives as known: the headers, the key, and the bytes so far of
+-- the payload, and of the tag or signature. No key is chosen where the message is only inspected.
 pub record Known : Type 0 where
   pub headers : Headers
   pub chosen : Option Chosen
@@ -114,7 +115,7 @@ abbrev pub HoldsKey : {H D : ℕ} → Task → Known → Reader H D → Kind →
 HoldsKey task known v kind =
     (known.headers.kind ≡ kind) × (option_map chosen_value v.chosen ≡ known.chosen) × (is_none known.chosen ≡ task.inspects)
 
--- The hash was fed a front of the structure that any payload of so many bytes completes, and the payload so far.
+-- The hash was fed a prefix of the structure that any payload of this length completes, and the payload so far.
 pub record Opened (hashing : Hashing) (aad : List ℕ) (headers : Headers) (payload : List ℕ) (n : ℕ) (found : Chosen) : Type 0 where
   pub front : List ℕ
   pub fed : Hashes hashing found (front ++ payload)
@@ -131,7 +132,7 @@ IsOpened hashing aad known n = OpenedFor known.chosen hashing aad known.headers 
 abbrev pub IsFed : Hashing → List ℕ → Known → Type 0
 IsFed hashing aad known = HashesFor hashing known.chosen (structure aad known.headers known.payload)
 
--- The tag or signature is held so far, where there is a key for it. Else it is passed over.
+-- The tag or signature is held so far, where there is a key for it. Otherwise it is skipped.
 abbrev pub HoldsAuth : Option Chosen → List ℕ → List ℕ → Type 0
 HoldsAuth (Some found) held auth = held ≡ auth
 HoldsAuth None held auth = ⊤
@@ -149,12 +150,12 @@ pub record IsSigned (task : Task) (known : Known) (chosen : Option code.Chosen) 
   pub auth_is : auth ≡ known.auth
   pub digest_is : result_of hashing ≡ authenticator found (structure task.setting.aad known.headers known.payload)
 
--- The number of bytes of a message whose verdict says it.
+-- The number of bytes of a message, where the verdict gives it.
 abbrev pub Counts : Verdict → ℕ → Type 0
 Counts (Authentic kind alg payload taken) n = taken ≡ n
 Counts (Refused refusal) n = ⊤
 
--- Nothing is authentic that is only inspected.
+-- A message that is only inspected is not authentic.
 abbrev pub is_authentic : Verdict → Bool
 is_authentic (Authentic kind alg payload taken) = true
 is_authentic (Refused refusal) = false
@@ -192,8 +193,8 @@ HoldsIn task known told n v (phases.Decided verdict) = ⊥
 HoldsIn task known told n v (phases.Settled verdict) = Counts verdict n × (is_authentic verdict ≡ true → task.inspects ≡ false)
 HoldsIn task known told n v (phases.Shaped p) = (p.taken ≡ n) × (task.inspects ≡ true)
 
--- A reader for this task, which has taken n bytes, the payload B among them, stands for a reading of the bytes to come. (Once it
--- has decided on a signature it stands for none.)
+-- A reader for this task, which has taken n bytes, the payload B among them, means a reading of the bytes to come.
+-- (Once it has decided on a signature it means none.)
 pub record StandsFor {H D : ℕ} (task : Task) (B : List ℕ) (n : ℕ) (v : Reader H D) (reading : List ℕ → Reading) : Type 0 where
   pub known : Known
   pub told : Told
@@ -207,7 +208,8 @@ pub record StandsFor {H D : ℕ} (task : Task) (B : List ℕ) (n : ℕ) (v : Rea
 abbrev pub SoFar : {H D : ℕ} → Task → List ℕ → List ℕ → Reader H D → Type 0
 SoFar {H} {D} task s B v = StandsFor task B (length s) v (λ z. message (rules_of H D task) (s ++ z))
 
--- The phase of a message of which nothing was taken: its first head, or, once its end was said, that it is Truncated at 0.
+-- The phase of a message of which nothing was taken: its first head, or, once its end was reported, that it is Truncated at
+-- 0.
 abbrev pub first_phase : Bool → Phase
 first_phase false = phases.FirstHead
 first_phase true = phases.Settled (Refused (record { reason = Truncated; place = 0 }))

@@ -1,5 +1,5 @@
--- What the bytes of a message come to, phase by phase. A phase is a function of its place and of the bytes that begin
--- there, and gives what all of them come to: it knows the phases after it.
+-- The reading of the bytes of a message, phase by phase. A phase is a function of its place and of the bytes that begin
+-- there, and gives the reading of all of them: it knows the phases after it.
 use Rattle.std.specs.Prelude.{ℕ, ◌+◌, ◌-◌, max, Bool, true, false, List, length, take, drop, Option, Some, None, Result, Ok, Err, nat_lt, if◌then◌else◌}
 use Rattle.cose_head.specs.declared.head.Head.{Head}
 use Rattle.cose_head.specs.declared.head.HeadStep.{HeadStep}
@@ -16,8 +16,8 @@ use Rattle.cose_map.specs.Map.Pairs.{Pair}
 use Rattle.cose_msg.specs.Answer.{Answer, refused}
 
 -- What is known of a message so far: the pairs of each header bucket, once it was found good, and the bytes of the
--- payload as far as they came. Where the bytes end in the unprotected bucket, how many of its arrays, maps and tags are
--- open there: their head has come, and their end hasn't.
+-- payload that are there. Where the bytes end in the unprotected bucket, how many of its arrays, maps and tags are open
+-- there: their head was taken, and their end wasn't.
 pub record Told : Type 0 where
   pub protected : Option (List Pair)
   pub unprotected : Option (List Pair)
@@ -58,14 +58,14 @@ past_head told next place bytes (Fault reason) = stop told reason place
 unfoldable pub with_head : Told → Next Head → Phase
 with_head told next place bytes = past_head told next place bytes (bare_head bytes)
 
--- A string of n bytes. What is known goes by those of them that are there, and those that are left are wanted.
+-- A string of n bytes. What is known depends on those of them that are there, and those that are left are wanted.
 unfoldable pub with_string : (List ℕ → Told) → ℕ → Next (List ℕ) → Phase
 with_string told n next place bytes =
     if nat_lt (length bytes) n then cut (told bytes) (n - length bytes) (place + length bytes) else
     next place (take n bytes) (place + n) (drop n bytes)
 
--- What of an item is open after these bytes of it: how many of its arrays, maps and tags; and how many bytes are wanted, which is
--- what is left of a string of it where they end in one, and one else.
+-- What of an item is open after these bytes of it: how many of its arrays, maps and tags; and how many bytes are
+-- wanted: what is left of a string of it where they end in one, and otherwise one.
 abbrev pub open_after : ℕ → ℕ → List ℕ → Open
 open_after room nesting bytes = open_in nesting (left_of bytes room 0)
 
@@ -75,7 +75,8 @@ open_items_after room nesting bytes = (open_after room nesting bytes).items
 abbrev pub wanted_after : ℕ → ℕ → List ℕ → ℕ
 wanted_after room nesting bytes = max 1 (open_after room nesting bytes).content
 
--- An item within a room and a nesting allowance. What is known, and what is wanted, goes by what of it is open where the bytes end.
+-- An item within a room and a nesting allowance. What is known, and what is wanted, depends on what of it is open where
+-- the bytes end.
 abbrev pub is_truncated : Reason → Bool
 is_truncated Truncated = true
 is_truncated _ = false
@@ -91,7 +92,7 @@ unfoldable pub with_item : (ℕ → Told) → ℕ → ℕ → Next (List ℕ) �
 with_item told room nesting next place bytes =
     past_item told (open_after room nesting bytes) next place bytes (read nesting (left_of bytes room 0))
 
--- A test, which needs no byte: a fault, or on.
+-- A test, which needs no byte: a fault, or the next phase.
 abbrev pub unless : Told → Option Refusal → Phase → Phase
 unless told (Some refusal) next place bytes = stop told refusal.reason refusal.place
 unless told None next place bytes = next place bytes

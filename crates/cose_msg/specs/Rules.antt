@@ -9,7 +9,7 @@ pub record Rules : Type 0 where
   -- the most bytes of a header bucket, and the nesting allowance of its items
   pub room : ℕ
   pub nesting : ℕ
-  -- the kinds of messages, and whether the CWT tag may stand before the message's own
+  -- the kinds of messages, and whether the CWT tag may precede the message's own
   pub wanted : Wanted
   pub cwt : Bool
   -- the labels that the application understands, and the most bytes of a payload
@@ -19,5 +19,5 @@ pub record Rules : Type 0 where
   pub choice : Headers → Result (Option Chosen) Reason
   -- whether a tag or signature under that key may have so many bytes
   pub auth_fits : Option Chosen → ℕ → Bool
-  -- what a message comes to when all its bytes are there
+  -- the answer for a message when all its bytes are there
   pub finish : Whole → Answer

@@ -38,45 +38,46 @@ stops_for_intake result = is_intake_stop (stop_in result)
 abbrev pub stops_for_sink : {A : Type 0} → Result A Stop → Bool
 stops_for_sink result = is_sink_stop (stop_in result)
 
--- The intake's bytes are taken in their order, each once. Only an intake that failed may tell nothing more.
+-- The intake's bytes are taken in their order, each once. The bytes to come may be unknown to the contract only after a
+-- failure of the intake.
 abbrev pub TakesUntilStop : Option (List ℕ) → Option (List ℕ) → Option Stop → List ℕ → Type 0
 TakesUntilStop old new (Some stops.Intake) taken = TakesInAll old new taken
 TakesUntilStop old new (Some stops.Sink) taken = Consumes old new taken
 TakesUntilStop old new (Some stops.Again) taken = Consumes old new taken
 TakesUntilStop old new None taken = Consumes old new taken
 
--- The sink grows by the payload among the bytes taken, or by a front of it where the sink failed.
+-- The sink grows by the payload among the bytes taken, or by a prefix of it where the sink failed.
 abbrev pub Grows : Option (List ℕ) → Option (List ℕ) → Option Stop → List ℕ → Type 0
 Grows old new (Some stops.Sink) payload = AppendsFront old new payload
 Grows old new (Some stops.Intake) payload = Appends old new payload
 Grows old new (Some stops.Again) payload = Appends old new payload
 Grows old new None payload = Appends old new payload
 
--- What is answered for a shape that is inspected, or for a refusal.
+-- The answer for a shape that is inspected, or for a refusal.
 abbrev pub inspection : Inspected → Answer
 inspection (inspected.Shape kind payload auth taken) = shaped kind payload auth taken
 inspection (inspected.Refused refusal) = decided (Refused refusal)
 
--- An authentic message says the number of its bytes, and so does a shape.
+-- An authentic message gives the number of its bytes, and so does a shape.
 abbrev pub SaysCount : Answer → ℕ → Type 0
 SaysCount (decided verdict) n = Counts verdict n
 SaysCount (shaped kind payload auth taken) n = taken ≡ n
 SaysCount (complete whole) n = ⊤
 
--- They have settled it, but where the intake has ended and gives no further byte.
+-- The bytes taken have settled the message, unless the intake has ended and gives no further byte.
 pub record Ends (taken : ℕ) (ended : Bool) (come_after : Option (List ℕ)) (reading : Reading) : Type 0 where
   pub unsettled : reading.settled ≡ false → (ended ≡ true) × IsAtEnd come_after
   pub settled : reading.settled ≡ true → 0 < taken → ended ≡ false
 
--- An answer after so many bytes of the message, some of which were taken in this call.
+-- An answer after this many bytes of the message, some of which were taken in this call.
 pub record IsAnswer (count taken : ℕ) (said : Answer) (ended : Bool) (come_after : Option (List ℕ)) (reading : Reading) : Type 0 where
-  -- It is what these bytes come to, and says their number, where it says one. A refusal names no place after them.
+  -- It is the answer for these bytes, and gives their number, where it gives one. A refusal's place is not after them.
   pub answer : reading.answer ≡ said
   pub counted : SaysCount said count
   pub placed : StandsBy count reading.answer
   pub ends : Ends taken ended come_after reading
 
--- Where there is no answer, the bytes taken haven't settled it.
+-- Where there is no answer, the bytes taken haven't settled the message.
 abbrev pub Answers : {A : Type 0} → (A → Answer) → ℕ → ℕ → Result A Stop → Bool → Option (List ℕ) → Reading → Type 0
 Answers answer_of count taken (Ok answer) ended come_after reading = IsAnswer count taken (answer_of answer) ended come_after reading
 Answers answer_of count taken (Err stop) ended come_after reading = reading.settled ≡ false
@@ -95,8 +96,8 @@ abbrev pub Stands : {H D : ℕ} {S : Type 0} {K : _} → Task → List ℕ → L
 Stands {H} {D} task s B taken None ended come_after v = HasTaken task s B v × Ends taken ended come_after (message (rules_of H D task) s)
 Stands {H} {D} task s B taken (Some stop) ended come_after v = (message (rules_of H D task) s).settled ≡ false
 
--- A verifier that had taken the bytes s, the payload B among them, has taken bytes until none was wanted or the intake had ended,
--- or until one of both failed.
+-- A verifier that had taken the bytes s, the payload B among them, has taken bytes until none was wanted or the intake
+-- had ended, or until the intake or the sink failed.
 pub record Drive {H D : ℕ} {S : Type 0} {K : _} (task : Task) (s B : List ℕ) (come come_after : Option (List ℕ)) (ended : Bool) (contents contents_after : Option (List ℕ)) (stop : Option Stop) (v : Verifier H D S K) : Type 0 where
   pub taken : List ℕ
   pub part : List ℕ

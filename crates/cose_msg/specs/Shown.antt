@@ -1,4 +1,4 @@
--- What a verifier tells of a message besides what comes of it.
+-- What a verifier gives of a message in addition to the result.
 use Rattle.std.specs.Prelude.{◌≡◌, ℕ, ◌+◌, List, length, Option, Some, None, Ok, Err, option_map, if◌then◌else◌}
 use Rattle.std.specs.Borrow.{Bor}
 use Rattle.cose_head.specs.declared.kind.Kind.{Kind}
@@ -42,7 +42,7 @@ pub record Shown : Type 0 where
 abbrev pub signed_with : List ℕ → Whole → Chosen → SignInput
 signed_with aad whole found = record { key = found.key; digest = digest_signed aad found whole; signature = whole.auth }
 
--- Where tags are compared, what is complete and not decided is a message with a signature.
+-- Where tags are compared, a message that is complete and not decided is one with a signature.
 abbrev pub sign_input_in : List ℕ → Answer → Option SignInput
 sign_input_in aad (complete whole) = option_map (signed_with aad whole) whole.chosen
 sign_input_in aad (decided verdict) = None
@@ -122,7 +122,7 @@ sign_input_of v = sign_input_by v.reader
 abbrev pub shown_of : {H D : ℕ} {S : Type 0} {K : _} → Verifier H D S K → Shown
 shown_of v = shown_by v.reader
 
--- The verifier tells what these bytes of a message tell.
+-- The verifier gives what the reading of these bytes of a message gives.
 abbrev pub Tells : {H D : ℕ} {S : Type 0} {K : _} → Task → List ℕ → Verifier H D S K → Type 0
 Tells {H} {D} task s v = shown_of v ≡ shown_in task.setting (message (rules_of H D task) s)
 
@@ -130,6 +130,6 @@ Tells {H} {D} task s v = shown_of v ≡ shown_in task.setting (message (rules_of
 abbrev pub held : {H D : ℕ} {S : Type 0} {K : _} → Verifier H D S K → ℕ
 held v = held_by v.reader
 
--- What the code hands out, without where it lies in memory.
+-- What the code returns, without where it is in memory.
 abbrev pub input_value : Key × Bor (List ℕ) × Bor (List ℕ) → SignInput
 input_value input = record { key = key_value input.0; digest = contents input.1; signature = contents input.2 }

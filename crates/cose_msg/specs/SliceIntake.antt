@@ -1,4 +1,4 @@
--- What is seen of an intake of a slice besides what each intake tells.
+-- What a contract sees of an intake of a slice in addition to what it sees of every intake.
 use Rattle.std.specs.Prelude.{ℕ}
 use Rattle.cose_msg.specs.declared.intake.SliceIntake.{SliceIntake}
 

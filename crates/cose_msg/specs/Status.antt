@@ -1,4 +1,4 @@
--- Where a message stands that is fed to a verifier.
+-- The status of a message that is fed to a verifier.
 use Rattle.std.specs.Prelude.{ℕ, Bool, true, false, Result, Ok, Err, if◌then◌else◌}
 use Rattle.cose_msg.specs.declared.phase.Phase.{Phase}
 use Rattle.cose_msg.specs.declared.phase.Phase.TheVariants as phases
@@ -19,7 +19,8 @@ abbrev pub status_of_verdict : Verdict → Status
 status_of_verdict (Authentic kind alg payload taken) = Complete
 status_of_verdict (Refused refusal) = statuses.Refused refusal
 
--- What is complete, where tags are compared, is a message with a signature. A shape is that of a whole message.
+-- Where tags are compared, a message that is complete and not decided is one with a signature. A shape is that of a
+-- whole message.
 abbrev pub status_of_answer : Answer → Status
 status_of_answer (decided verdict) = status_of_verdict verdict
 status_of_answer (complete whole) = Complete
@@ -37,8 +38,8 @@ abbrev pub is_complete : Status → Bool
 is_complete Complete = true
 is_complete _ = false
 
--- After a run over an intake: what the bytes taken come to, which is Truncated where they haven't settled the message. A verifier
--- that stopped is Stopped.
+-- After a run over an intake: the status of the answer for the bytes taken, which is Truncated where they haven't
+-- settled the message. A verifier that stopped is Stopped.
 abbrev pub status_left : {A : Type 0} → Result A Stop → Reading → Status
 status_left (Ok answer) reading = status_of_answer reading.answer
 status_left (Err stop) reading = Stopped

@@ -26,7 +26,7 @@ choice_for false setting = key_choice_of setting.keys
 abbrev pub keys_for : Task → Option (List KeyValue)
 keys_for task = if task.inspects then None else Some task.setting.keys
 
--- What is chosen of the keys that are there, if any are.
+-- What is chosen of the keys that are passed, if any are.
 abbrev pub choice_among : Option (List KeyValue) → Headers → Result (Option Chosen) Reason
 choice_among None headers = Ok None
 choice_among (Some keys) headers = key_choice_of keys headers
@@ -35,7 +35,7 @@ abbrev pub finish_for : Bool → Setting → Whole → Answer
 finish_for true setting = shape_of
 finish_for false setting = λ whole. compared setting.aad whole.chosen whole
 
--- A verifier compares tags, and leaves signatures until it is handed whoever verifies them.
+-- A verifier compares tags, and leaves signatures until it is passed an `EcVerifier`.
 abbrev pub rules_of : ℕ → ℕ → Task → Rules
 rules_of room nesting task =
     rules_with room nesting task.setting (choice_for task.inspects task.setting) (finish_for task.inspects task.setting)

@@ -1,4 +1,4 @@
--- What holds of bytes that aren't refused: they begin with a message by the grammar, and come to what its parts do.
+-- Laws of bytes that aren't refused: they begin with a message by the grammar, and the result is that of its parts.
 use Rattle.std.specs.Prelude.{◌≡◌, ◌↔◌, ℕ, ◌≤◌, List, length, take, ⊤}
 use Rattle.cose_head.specs.declared.kind.Kind.{Kind}
 use Rattle.cose_msg.specs.declared.verdict.Verdict.TheVariants.{Authentic, Refused}
@@ -18,7 +18,7 @@ pub record BeginsWithMessage (rules : Rules) (bytes : List ℕ) (whole : Whole) 
   pub within : whole.taken ≤ length bytes
   pub message : IsMessage rules (take whole.taken bytes) whole
 
--- Then there is one that they begin with, and they come to what the rules make of it.
+-- Then there is a message that they begin with, and the answer for them is what the rules make of it.
 abbrev pub UnrefusedIsMessage : Type 0
 UnrefusedIsMessage = (rules : Rules) (bytes : List ℕ) → IsUnrefused (message rules bytes).answer →
     (whole : Whole) × BeginsWithMessage rules bytes whole × ((message rules bytes).answer ≡ rules.finish whole)
@@ -27,7 +27,7 @@ UnrefusedIsMessage = (rules : Rules) (bytes : List ℕ) → IsUnrefused (message
 abbrev pub OneMessage : Type 0
 OneMessage = (rules : Rules) (bytes : List ℕ) (one other : Whole) → BeginsWithMessage rules bytes one → BeginsWithMessage rules bytes other → one ≡ other
 
--- So they are read as a whole message, which nobody has decided on, exactly where they begin with one that has these parts.
+-- So they are read as a whole message that is not decided, exactly where they begin with one that has these parts.
 abbrev pub WholeIsMessage : Type 0
 WholeIsMessage = (rules : Rules) → ((whole : Whole) → rules.finish whole ≡ complete whole) → (bytes : List ℕ) (whole : Whole) →
     ((message rules bytes).answer ≡ complete whole) ↔ BeginsWithMessage rules bytes whole

@@ -8,7 +8,7 @@ use Rattle.cose_msg.specs.Message.{Setting}
 use Rattle.cose_msg.specs.Reader.{opened_by, setting_with}
 use Rattle.cose_msg.specs.Task.{Task}
 
--- A context of the code, without where it lies in memory, by what its keys mean.
+-- A context of the code, without where it is in memory, by what its keys mean.
 abbrev pub setting_of : {S : Type 0} → (S → List KeyValue) → Context S → Setting
 setting_of usable context = record {
   keys = usable context.keys;
@@ -19,7 +19,7 @@ setting_of usable context = record {
   payload_limit = context.payload_limit;
 }
 
--- What the verifier reads a message under.
+-- The setting that the verifier reads a message under.
 abbrev pub setting_in : {H D : ℕ} {S : Type 0} {K : _} → Verifier H D S K → Setting
 setting_in {K = K} v = setting_with (K.usable v.keys) v.reader.terms
 

@@ -29,7 +29,7 @@ abbrev pub Puts : Seen → Seen → Result ℕ MakeFault → List ℕ → Type 0
 Puts old new (Ok n) bytes = Appends old.contents new.contents bytes
 Puts old new (Err fault) bytes = AppendsFront old.contents new.contents bytes × (fault ≡ faults.Sink)
 
--- Bytes were put, and as many are answered; or a front of them, and then the sink failed.
+-- Bytes were put, and their number is returned; or a prefix of them, and then the sink failed.
 pub record Writes (old new : Seen) (result : Result ℕ MakeFault) (bytes : List ℕ) : Type 0 where
   pub put : Puts old new result bytes
   pub count : IfOk result (λ n. n ≡ length bytes)
@@ -37,7 +37,7 @@ pub record Writes (old new : Seen) (result : Result ℕ MakeFault) (bytes : List
   pub promised : length bytes ≤ old.sure → IsOk result
   pub promise : OnOk result (old.sure ≤ new.sure + length bytes)
 
--- What stands before the payload's content.
+-- What precedes the payload's content.
 abbrev pub front_of : List ℕ → Option (List ℕ) → ℕ → List ℕ
 front_of protected kid payload_length =
     shortest_head 6 (tag_number Mac0)
@@ -46,7 +46,7 @@ front_of protected kid payload_length =
     ++ (shortest (unprotected_made kid)
     ++ shortest_head 2 payload_length)))
 
--- All bytes that were taken were put, but where the sink failed.
+-- All bytes that were taken were put, unless the sink failed.
 abbrev pub PutsTaken : Option (List ℕ) → Option (List ℕ) → Result ℕ MakeFault → List ℕ → Type 0
 PutsTaken old new (Ok n) taken = Appends old new taken
 PutsTaken old new (Err faults.ShortPayload) taken = Appends old new taken

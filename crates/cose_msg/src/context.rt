@@ -23,9 +23,10 @@ pub struct Context<'k, S = KeySet<'k>> {
     pub aad: &'k [u8],
     /// The kinds of messages that are wanted.
     pub wanted: Wanted,
-    /// Whether the CWT tag may stand before the message's own (RFC 8392 section 6).
+    /// Whether the CWT tag may precede the message's own (RFC 8392 section 6).
     pub cwt: bool,
-    /// The labels, besides those that RFC 9052 section 3.1 defines, that the application understands where crit lists them.
+    /// The labels, in addition to those that RFC 9052 section 3.1 defines, that the application understands where crit
+    /// lists them.
     pub understood: &'k [Label<'k>],
     /// The most bytes that a payload may have.
     pub payload_limit: u64,
@@ -38,7 +39,7 @@ pub(crate) struct Terms<'k> {
     pub(crate) aad: &'k [u8],
     /// The kinds of messages that are wanted.
     pub(crate) wanted: Wanted,
-    /// Whether the CWT tag may stand before the message's own.
+    /// Whether the CWT tag may precede the message's own.
     pub(crate) cwt: bool,
     /// The labels that the application understands.
     pub(crate) understood: &'k [Label<'k>],

@@ -4,7 +4,7 @@ use arrayvec::ArrayVec;
 use cose_mac::{Alg, Kind, Running, structure_front};
 use std::mem;
 
-/// The MAC or the digest of a message's structure: none yet, one that is being fed, or the finished one in its place.
+/// The MAC or the digest of a message's structure: none yet, one that is being fed, or the finished one.
 #[derive(Drop)]
 pub(crate) enum Hashing {
     /// No key is chosen yet.
@@ -23,7 +23,7 @@ impl Hashing {
     ghost use Rattle.cose_msg.specs.Hashing.{Hashes, authenticator, result_of};
     ghost use Rattle.cose_msg.specs.Message.{secret_of};
 
-    /// The MAC or the digest of the empty message, as the algorithm wants.
+    /// The MAC or the digest of the empty message, as the algorithm requires.
     pub(crate) fn begin(alg: Alg, secret: &[u8]) -> Hashing
         ensures { (found : Found) → found.alg ≡ alg → secret_of found.key.material ≡ secret.now → Hashes result found [] }
     {
@@ -43,7 +43,7 @@ impl Hashing {
         }
     }
 
-    /// Appends what stands before the payload's content in the structure.
+    /// Appends what precedes the payload's content in the structure.
     pub(crate) fn front(&mut self, kind: Kind, protected: &[u8], aad: &[u8], payload_length: u64)
         ensures appended { (found : Found) (message : List ℕ) → Hashes self.old found message
             → Hashes self.new found (message ++ structure_front kind protected.now aad.now payload_length) }
@@ -63,7 +63,7 @@ impl Hashing {
         }
     }
 
-    /// Puts the MAC or the digest in the place of what was fed.
+    /// Replaces what was fed by its MAC or digest.
     pub(crate) fn finish(&mut self)
         ensures { (found : Found) (message : List ℕ) → Hashes self.old found message → result_of self.new ≡ authenticator found message }
     {
@@ -80,7 +80,7 @@ impl Hashing {
         }
     }
 
-    /// The finished bytes, none before.
+    /// The finished bytes, and none before they are finished.
     pub(crate) fn result(&self) -> &[u8]
         ensures { result.now ≡ result_of self.now }
     {

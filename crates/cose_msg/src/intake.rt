@@ -11,8 +11,8 @@ pub struct IntakeFault;
 
 /// Where bytes come from, in pieces of any length.
 ///
-/// A contract sees the bytes to come, where the intake tells them, whether it has failed, and whether its last
-/// answer was the end.
+/// A contract sees the bytes to come, where the intake makes them known to it, whether the intake has failed, and
+/// whether its last answer was the end.
 pub trait Intake {
     ghost to_come: { Self → Option (List ℕ) };
 
@@ -95,7 +95,7 @@ pub struct ReadIntake<R: Read> {
 }
 
 impl<R: Read> ReadIntake<R> {
-    /// An intake of what the reader gives.
+    /// An intake of the bytes that the reader gives.
     pub fn new(reader: R) -> Self
         ensures told { ⟦<ReadIntake<R> as Intake>⟧.to_come result ≡ R.remaining reader }
         ensures not_failed { ⟦<ReadIntake<R> as Intake>⟧.has_failed result ≡ false }

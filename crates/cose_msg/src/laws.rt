@@ -1,4 +1,5 @@
-//! Laws of the definitions that the contracts cite. A law is a function that does nothing, and whose contract is the law.
+//! Laws of the definitions that the contracts cite. A law is a function with no run-time effect, whose contract is the
+//! law.
 
 ghost use Rattle.cose_msg.specs.Feed.{CutsDontMatter, PiecesJoin};
 ghost use Rattle.cose_msg.specs.GrammarLaws.{ArrayOfFourIsMessage, AuthenticIsMessage, MessageIsArrayOfFour, MessageIsRead, OneArrayOfFour};
@@ -14,22 +15,23 @@ use cose_head::laws::{
 use cose_mac::laws::mac_has_its_length;
 use cose_map::laws::{chosen_key_fits, refusals_are_not_truncated, refusals_stand_inside};
 
-/// What the bytes of a message come to stays when bytes follow, once it is settled, whether the message is verified or
-/// inspected. Before that it is Truncated at the number of bytes.
+/// The reading of the bytes of a message stays when bytes follow, once it is settled, whether the message is verified or
+/// inspected. Before that its answer is Truncated at the number of bytes.
 pub fn settled_stays()
     ensures message { MessageStays }
     ensures truncated { MessageEndsTruncated }
     ensures earlier { OpenEarlier }
     ensures verdict { VerdictStays }
 {
-    // What these three say of heads and items is all that the proof rests on.
+    // Laws of heads and items that the proof cites.
     bare_head_is_spelling();
     read_stays();
     read_steps();
 }
 
-/// Once it is settled, what the bytes of a message come to is not Truncated: so it isn't settled exactly where it is Truncated
-/// at the number of bytes. No refusal stands after the bytes, and no message ends after them.
+/// Once the reading of a message's bytes is settled, its answer is not Truncated: so the reading isn't settled exactly
+/// where its answer is Truncated at the number of bytes. No refusal's place is after the bytes, and no message ends after
+/// them.
 pub fn nothing_stands_after_the_bytes()
     ensures fair { AllAreFair }
     ensures definite { MessageIsDefinite }
@@ -51,8 +53,8 @@ pub fn messages_are_bounded()
     ensures verified { MessageIsVerifiedWithin }
     ensures inspected { MessageIsInspectedWithin }
 {
-    // That a head has nine bytes at most, and that an item uses no more bytes than it has room for, and is cut short only
-    // where it has room for one more.
+    // Laws that the proof cites: a head has nine bytes at most, an item uses no more bytes than it has room for, and it
+    // is cut short only where it has room for one more.
     bare_head_is_spelling();
     read_steps();
 }
@@ -65,38 +67,39 @@ pub fn deciding_goes_last()
     ensures verifying { VerifyingGoesLast }
 {}
 
-/// Bytes that aren't refused begin with a message by the grammar (RFC 9052 sections 2, 3, 4.2 and 6.2), and with one alone: each
-/// part that was read is spelled, and within its limits, and the bytes come to what the parts do. So they are read as a whole
-/// message exactly where they begin with it, and have a shape exactly where they begin with one of that kind and of these lengths.
+/// Bytes that aren't refused begin with a message by the grammar (RFC 9052 sections 2, 3, 4.2 and 6.2), and with one
+/// alone: each part that was read is spelled, and within its limits, and the result for the bytes is that of the parts.
+/// So they are read as a whole message exactly where they begin with it, and have a shape exactly where they begin with
+/// one of that kind and of these lengths.
 pub fn unrefused_is_message()
     ensures any { UnrefusedIsMessage }
     ensures one { OneMessage }
     ensures whole { WholeIsMessage }
     ensures shaped { ShapedIsMessage }
 {
-    // That what is read as a head or an item is spelled, and what is spelled is read, is all that the proof rests on.
+    // Laws that the proof cites: what is read as a head or an item is spelled, and what is spelled is read.
     bare_head_is_spelling();
     read_is_spelling();
 }
 
-/// A message that the grammar spells is read as what it is, whatever bytes follow it: its parts are those that are spelled (RFC
-/// 9052 sections 2, 3, 4.2 and 6.2). It is one item: an array of four elements, perhaps in the message's tag, and that perhaps in
-/// the tag of a CWT (RFC 8392 section 6). The other way, each such array in tags that are allowed is a message, where its elements
-/// are good and within their limits. No bytes are two such arrays.
+/// A message that the grammar spells is read as what it is, whatever bytes follow it: its parts are those that are
+/// spelled (RFC 9052 sections 2, 3, 4.2 and 6.2). It is one item: an array of four elements, perhaps in the message's
+/// tag, and that perhaps in the tag of a CWT (RFC 8392 section 6). Conversely, each such array in tags that are allowed
+/// is a message, where its elements are good and within their limits. No bytes are two such arrays.
 pub fn spelled_is_read()
     ensures read { MessageIsRead }
     ensures one_item { MessageIsArrayOfFour }
     ensures any_array { ArrayOfFourIsMessage }
     ensures one_array { OneArrayOfFour }
 {
-    // That what spells a head or an item is read as one is all that the proof rests on.
+    // Laws that the proof cites: what spells a head or an item is read as one.
     bare_head_is_spelling();
     read_is_spelling();
 }
 
-/// Bytes are authentic exactly where they begin with a message by the grammar, with the one key that fits, whose authentication
-/// holds: its tag is the MAC of its structure (RFC 9052 section 6.3), or whoever verifies signatures says that its signature is
-/// good for the digest of its structure (section 4.4).
+/// Bytes are authentic exactly where they begin with a message by the grammar, with the one key that fits, whose
+/// authentication holds: its tag is the MAC of its structure (RFC 9052 section 6.3), or the `EcVerifier` answers that
+/// its signature is good for the digest of its structure (section 4.4).
 pub fn authentication_decides()
     ensures authentic { AuthenticIsMessage }
 {
@@ -104,13 +107,14 @@ pub fn authentication_decides()
     read_is_spelling();
 }
 
-/// What is made is authentic, whatever bytes follow it: for whoever wants a COSE_Mac0 (RFC 9052 section 6.2) or any tagged message,
-/// allows a nesting of at least 1, and has the same external data, one key that fits, with the same secret, and room for the
-/// unprotected header and the payload.
+/// What is made is authentic, whatever bytes follow it, in each setting that accepts COSE_Mac0 (RFC 9052 section 6.2)
+/// or any tagged message, allows a nesting of at least 1, and has the same external data, one key that fits, with the
+/// same secret, and room for the unprotected header and the payload.
 pub fn made_is_authentic()
     ensures authentic { MadeIsAuthentic }
 {
-    // That the shortest spelling of an item is read as the item, and that a MAC has its algorithm's length.
+    // Laws that the proof cites: the shortest spelling of an item is read as the item, and a MAC has its algorithm's
+    // length.
     bare_head_is_spelling();
     read_is_spelling();
     shortest_is_spelling();
@@ -119,18 +123,18 @@ pub fn made_is_authentic()
     mac_has_its_length();
 }
 
-/// What is complete where tags are compared, and not decided, is a COSE_Sign1 all of whose bytes are there, and no other message: the
-/// key that is chosen has an algorithm of the message's kind.
+/// Where tags are compared and signatures are left, a message that is complete and not decided is a COSE_Sign1 all of
+/// whose bytes are there: the chosen key has an algorithm of the message's kind.
 pub fn signatures_are_of_sign1()
     ensures { SignaturesAreOfSign1 }
 {
-    // What these say of the choice of a key and of the comparison is all that the proof rests on.
+    // Laws of the choice of a key and of the comparison that the proof cites.
     chosen_key_fits();
     deciding_goes_last();
 }
 
-/// Where pieces of a message are fed one behind the other, the bytes used are those that are used of all pieces joined: so they, and the
-/// status that they come to, are the same however the bytes were cut.
+/// Where pieces of a message are fed one after the other, the bytes used are those that are used of all pieces joined.
+/// So the bytes used, and the status after them, are the same however the bytes were cut.
 pub fn cuts_dont_matter()
     ensures joined { PiecesJoin }
     ensures same { CutsDontMatter }

@@ -1,5 +1,5 @@
-//! COSE_Mac0 and COSE_Sign1 messages (RFC 9052 sections 6.2 and 4.2), verified over any intake in bounded memory, and COSE_Mac0
-//! made so.
+//! COSE_Mac0 and COSE_Sign1 messages (RFC 9052 sections 6.2 and 4.2), verified over any intake in bounded memory, and
+//! COSE_Mac0 messages made in the same way.
 //!
 //! A [`Verifier`] holds the header buckets of one message, of at most `H` bytes each, and never the payload. [`verify`] takes
 //! the message from an [`Intake`] in pieces of at most `C` bytes, puts the payload into a [`Sink`] as it comes, and gives one
@@ -24,20 +24,20 @@
 //! let verdict = verify::<512, 1024, 8, _, _, _, _>(&mut verifier, &mut intake, &mut payload, &Never);
 //! ```
 //!
-//! A COSE_Sign1 is authentic where the [`EcVerifier`] that is handed in says so, asked with the key, the digest of the
-//! structure that is signed and the signature; [`Never`] refuses all. Until [`Verifier::reset`] a verdict is answered again, and
-//! after a [`Stop`] for a failure of the intake or the sink [`Stop::Again`].
+//! A COSE_Sign1 is authentic where the [`EcVerifier`] that the caller passes answers so, asked with the key, the digest
+//! of the structure that is signed and the signature; [`Never`] refuses all. Until [`Verifier::reset`] a verdict is
+//! answered again, and after a [`Stop`] for a failure of the intake or the sink [`Stop::Again`].
 //!
 //! A [`SliceIntake`] gives the bytes of a slice, a [`ReadIntake`] those of a reader. A [`Store`] holds the payload until
 //! [`Store::clear`], [`Nothing`] keeps none of it. An intake that fails says so by [`IntakeFault`], and a sink by [`SinkFault`].
 //!
-//! [`inspect`] reads a message with a verifier that [`Verifier::inspecting`] made, and gives its shape ([`Inspected`]): no key is
-//! chosen, and nothing is authenticated. What was read of the header buckets a verifier tells after either call, and after [`verify`]
-//! what a signature is verified with.
+//! [`inspect`] reads a message with a verifier that [`Verifier::inspecting`] made, and gives its shape ([`Inspected`]):
+//! no key is chosen, and nothing is authenticated. After either call a verifier gives what was read of the header
+//! buckets, and after [`verify`] also what a signature is verified with.
 //!
-//! Where the bytes come by themselves, [`Verifier::feed`] takes them in pieces of any length, says which of them are of the payload
-//! ([`Fed`]), and gives the [`Status`] of the message. [`Verifier::end`] says that no byte follows, and [`Verifier::verdict`] decides
-//! once the message is complete. `verify` goes on where a verifier was fed before.
+//! Where the bytes arrive on their own, [`Verifier::feed`] takes them in pieces of any length, says which of them are
+//! of the payload ([`Fed`]), and gives the [`Status`] of the message. [`Verifier::end`] says that no byte follows, and
+//! [`Verifier::verdict`] decides once the message is complete. `verify` continues where a verifier was fed before.
 //!
 //! ```rust
 //! let fed = verifier.feed(piece);
@@ -47,7 +47,8 @@
 //! }
 //! ```
 //!
-//! [`make_mac0`] makes a COSE_Mac0 of a payload whose length is known, in pieces too, or says by a [`MakeFault`] why not:
+//! [`make_mac0`] makes a COSE_Mac0 of a payload whose length is known, also in pieces, or gives a [`MakeFault`] that
+//! says why not:
 //!
 //! ```rust
 //! use cose_msg::{Alg, Key, SliceIntake, Store, make_mac0};

@@ -23,8 +23,8 @@ use cose_map::{Key, Label, Material};
 pub enum MakeFault {
     /// The intake ended before the payload's length.
     ShortPayload,
-    /// The algorithm makes no MACs, or the key isn't one that makes MACs by it: it is no symmetric key, it is for another
-    /// algorithm, or it lists operations and 9, which makes MACs, isn't among them (RFC 9052 section 7.1).
+    /// The algorithm makes no MACs, or the key isn't one that makes MACs by it: it is no symmetric key, it is for
+    /// another algorithm, or it lists operations without 9, which makes MACs (RFC 9052 section 7.1).
     WrongKey,
     /// The intake failed.
     Intake,
@@ -53,7 +53,7 @@ const KID: u64 = 4;
 /// The operation that makes MACs (RFC 9052 section 7.1).
 const MAC_CREATE: i128 = 9;
 
-/// Whether the key lists no algorithm and no operations but such as allow to make MACs by this algorithm.
+/// Whether the key names no other algorithm than this one, and lists no operations or 9 among them.
 fn allows_making(key: &Key, alg: Alg) -> bool
     ensures { result ≡ allows_making_by (key_value key.now) alg }
 {
@@ -87,7 +87,7 @@ fn protected_header(alg: Alg) -> [u8; 3]
     [0xa1, 1, alg.number() as u8]
 }
 
-/// Puts some bytes, perhaps none. It answers how many they are, as what follows does.
+/// Puts some bytes, perhaps none. It returns their number, as do the functions below.
 fn put_bytes<S: Sink>(sink: &mut S, bytes: &[u8]) -> Result<u64, MakeFault>
     ensures written { Writes (seen (S.contents sink.old) (S.has_failed sink.old) (S.sure sink.old)) (seen (S.contents sink.new) (S.has_failed sink.new) (S.sure sink.new)) result bytes.now }
 {
@@ -134,7 +134,7 @@ fn put_unprotected<S: Sink>(sink: &mut S, kid: Option<&[u8]>) -> Result<u64, Mak
     }
 }
 
-/// Puts all that stands before the payload's content.
+/// Puts all that precedes the payload's content.
 fn put_front<S: Sink>(
     sink: &mut S,
     protected: &[u8],
@@ -154,7 +154,7 @@ fn put_front<S: Sink>(
     Ok(tag + array + protected + unprotected + payload)
 }
 
-/// Takes the payload from the intake, hashes it and puts it. It answers the payload's length.
+/// Takes the payload from the intake, hashes it and puts it into the sink. It returns the payload's length.
 fn put_payload<const C: usize, I: Intake, S: Sink>(
     intake: &mut I,
     length: u64,
@@ -192,12 +192,12 @@ fn put_payload<const C: usize, I: Intake, S: Sink>(
 }
 
 /// Makes a COSE_Mac0 under its tag (RFC 9052 section 6.2), in its shortest spelling: the protected header {1: alg}, the
-/// unprotected one {4: kid} or {}, a payload of so many bytes, which the intake gives, and the MAC of the protected header,
-/// the externally supplied data and the payload, under the key. It goes to the sink as it is made, and its number of bytes
-/// is answered.
+/// unprotected one {4: kid} or {}, a payload of `length` bytes, which the intake gives, and the MAC of the protected
+/// header, the externally supplied data and the payload, under the key. It puts the message into the sink as it is
+/// made, and returns its number of bytes.
 ///
-/// `WrongKey`, and then `TooLong`, come before anything is taken or put. After the other faults the sink holds a front of
-/// the message: drop it. It takes no byte after the payload, and of the payload it holds `C` bytes at most.
+/// `WrongKey`, and then `TooLong`, are answered before anything is taken or put. After the other faults the sink holds
+/// a prefix of the message: drop it. It takes no byte after the payload, and of the payload it holds `C` bytes at most.
 pub fn make_mac0<const C: usize, I: Intake, S: Sink>(
     alg: Alg,
     key: &Key,
@@ -212,10 +212,10 @@ pub fn make_mac0<const C: usize, I: Intake, S: Sink>(
     // A fault of the arguments is answered before anything is taken or put.
     ensures fault { argument_fault result ≡ make_fault alg (key_value key.now) (option_map contents kid.entry) aad.now length }
     ensures untouched { is_some (argument_fault result) ≡ true → (intake.new ≡ intake.old) × (sink.new ≡ sink.old) }
-    // Else: what was taken, what the sink got, and what is answered.
+    // Otherwise: what was taken, what the sink got, and what is answered.
     ensures makes { argument_fault result ≡ None → (taken : List ℕ) × Makes (made_under alg (key_value key.now) (option_map contents kid.entry) aad.now)
         length (I.to_come intake.old) (I.to_come intake.new) (I.ended intake.new) (S.contents sink.old) (S.contents sink.new) result taken }
-    // Where the intake tells its bytes, and neither it nor the sink fails.
+    // Where the bytes to come are known to the contract, and neither the intake nor the sink fails.
     ensures answer { (bytes : List ℕ) → argument_fault result ≡ None → I.to_come intake.old ≡ Some bytes
         → stops_for_intake result ≡ false → stops_for_sink result ≡ false
         → result ≡ answer_over (made_under alg (key_value key.now) (option_map contents kid.entry) aad.now) length bytes }
@@ -227,7 +227,7 @@ pub fn make_mac0<const C: usize, I: Intake, S: Sink>(
     ensures sure { (payload : List ℕ) → length_of payload ≡ length → length_of (made_under alg (key_value key.now) (option_map contents kid.entry) aad.now payload) ≤ S.sure sink.old
         → stops_for_sink result ≡ false }
 {
-    // What `sure` rests on.
+    // The law that the proof of `sure` cites.
     mac_has_its_length();
     let Some(secret) = secret_for(key, alg) else {
         return Err(MakeFault::WrongKey);

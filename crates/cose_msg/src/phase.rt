@@ -1,4 +1,4 @@
-//! Where a message stands: the phase that the next byte is in, by counts and places alone.
+//! The state of a reading: the phase that the next byte is in, by counts and places alone.
 
 ghost use Rattle.std.specs.Prelude.{◌<◌, ◌≤◌, ◌+◌, ◌^◌};
 
@@ -7,7 +7,7 @@ use crate::verdict::Verdict;
 use cose_head::Kind;
 use cose_mac::Alg;
 
-/// A head behind the CWT tag.
+/// A head after the CWT tag.
 #[derive(Clone, Copy)]
 pub(crate) struct TagHead {
     /// Its place.
@@ -178,9 +178,9 @@ pub(crate) struct Shape {
 pub(crate) enum Phase {
     /// The first head: a tag, or that of the array.
     FirstHead,
-    /// The head of the tag behind the CWT tag.
+    /// The head of the tag after the CWT tag.
     TagHead(TagHead),
-    /// The head of the array behind a COSE tag.
+    /// The head of the array after a COSE tag.
     ArrayHead(ArrayHead),
     /// The head of the protected bucket.
     ProtectedHead(ProtectedHead),
@@ -237,7 +237,7 @@ impl Phase {
         }
     }
 
-    /// Where the message stands. Deciding on a signature, either way, leaves it complete.
+    /// The status of the message. Deciding on a signature, either way, leaves it complete.
     pub(crate) fn status(&self) -> Status
         ensures { result ≡ status_at self.now }
     {

@@ -1,4 +1,4 @@
-//! A reader of one message, changed in place: its stores are fields, and where the message stands is counts alone.
+//! A reader of one message, changed in place: its stores are fields, and its progress is counts alone.
 
 ghost use Rattle.std.specs.Prelude.{◌<◌, ◌≤◌, ◌^◌};
 ghost use Rattle.arrayvec.specs.ArrayVec.{array_vec_len};
@@ -30,7 +30,7 @@ pub(crate) struct Chosen<'k> {
     pub(crate) alg: Alg,
 }
 
-/// Where the content of a header bucket begins, which was found good.
+/// Where the content of a header bucket that was found good begins.
 #[derive(Clone, Copy)]
 pub(crate) struct Place {
     /// The place of its first byte.
@@ -38,8 +38,8 @@ pub(crate) struct Place {
     ghost early: { at < 2 ^ 17 },
 }
 
-/// A reader of one message at a time, of header buckets of at most `H` bytes each, nested at most `D` deep: what a verifier knows of
-/// the message itself. It counts no bytes, and the keys are handed in.
+/// A reader of one message at a time, of header buckets of at most `H` bytes each, nested at most `D` deep: what a
+/// verifier knows of the message itself. It counts no bytes, and is passed the keys.
 #[derive(Drop)]
 pub(crate) struct Reader<'k, const H: usize, const D: usize> {
     pub(crate) phase: Phase,
@@ -96,7 +96,7 @@ impl<'k, const H: usize, const D: usize> Reader<'k, H, D> {
         }
     }
 
-    /// Makes the reader as it was made, under the same terms.
+    /// Resets the reader, under the same terms.
     pub(crate) fn reset(&mut self)
         ensures untouched { IsUntouched self.new }
         ensures shown { (task : Task)
@@ -151,7 +151,7 @@ impl<'k, const H: usize, const D: usize> Reader<'k, H, D> {
         self.phase.wanted()
     }
 
-    /// Takes the next byte of a head. Where none is wanted, nothing changes.
+    /// Takes the next byte of a head. In any other phase nothing changes.
     fn take_byte(&mut self, byte: u8)
         requires { takes_bytes self.old.phase ≡ true }
         ensures { (task : Task) (B : List ℕ) (n : ℕ) (reading : List ℕ → Reading)
@@ -169,8 +169,9 @@ impl<'k, const H: usize, const D: usize> Reader<'k, H, D> {
         }
     }
 
-    /// Takes the next bytes, all of one phase, and says how many. A string takes all that it has left, or the whole piece. The key
-    /// is chosen of those that are handed in, once both header buckets are there; there are none where the message is only inspected.
+    /// Takes the next bytes, all of one phase, and returns their number. A string takes all that it has left, or the
+    /// whole piece. The key is chosen from those that are passed, once both header buckets are there; none are passed
+    /// where the message is only inspected.
     pub(crate) fn advance<K: Keys<'k>>(&mut self, piece: &[u8], keys: Option<&K>) -> usize
         requires some { 0 < length piece.now }
         ensures fits { result ≤ length piece.now }

@@ -23,8 +23,8 @@ use crate::verdict::{Inspected, Stop, Verdict};
 use crate::verifier::Verifier;
 use cose_map::Keys;
 
-/// Takes pieces of a message until no further byte is wanted, or the intake has ended. It takes none after the message, and hands
-/// the payload to the sink as it comes.
+/// Takes pieces of a message until no further byte is wanted, or the intake has ended. It takes none after the message,
+/// and puts the payload into the sink as it comes.
 fn take_message<
     'k,
     const C: usize,
@@ -53,7 +53,7 @@ fn take_message<
     ensures sure { (task : Task) (s B : List ℕ) → HasTaken task s B verifier.old → task.setting.payload_limit ≤ S.sure sink.old →
         stops_for_sink result ≡ false }
 {
-    // What this says of messages is all that the proof rests on.
+    // The law of messages that the proof cites.
     messages_are_bounded();
     let mut chunk = [0u8; C];
     'pieces: loop {
@@ -83,12 +83,12 @@ fn take_message<
     }
 }
 
-/// Verifies one message: it takes bytes from the intake, and none after the message, hands the payload to the sink as it comes,
-/// and asks `ec` about the signature of a COSE_Sign1 (RFC 9052 section 4.4), once.
+/// Verifies one message: it takes bytes from the intake, and none after the message, puts the payload into the sink as
+/// it comes, and asks `ec` about the signature of a COSE_Sign1 (RFC 9052 section 4.4), once.
 ///
-/// The sink has the payload before the verdict is known: drop what it holds after a refusal or a stop. A verifier that was fed
-/// goes on from there. A verdict is kept and answered again until `reset`; after a stop every call answers [`Stop::Again`].
-/// Of message bytes it holds `C` at most besides what the verifier holds ([`Verifier::held`]).
+/// The sink has the payload before the verdict is known: drop what it holds after a refusal or a stop. A verifier that
+/// was fed continues from there. A verdict is kept and answered again until `reset`; after a stop every call answers
+/// [`Stop::Again`]. Of message bytes it holds `C` at most in addition to what the verifier holds ([`Verifier::held`]).
 ///
 /// The verifier isn't one that [`Verifier::inspecting`] made.
 pub fn verify<
@@ -109,7 +109,7 @@ pub fn verify<
     requires some { 1 ≤ C }
     requires limit { C ≤ 65536 }
     requires verifies { is_inspecting verifier.old ≡ false }
-    // What was taken, what came of it, what the sink got, what the verifier tells, and where the message stands.
+    // What was taken, the result, what the sink got, what the verifier gives, and the status of the message.
     ensures run { (setting : Setting) (s B : List ℕ) → HasTaken (to_verify setting) s B verifier.old →
         (taken : List ℕ) × Run (verifying H D setting (E.decides ec.now)) decided s B (I.to_come intake.old) (I.to_come intake.new) (I.ended intake.new)
         (S.contents sink.old) (S.contents sink.new) result taken
@@ -117,7 +117,7 @@ pub fn verify<
         × (status_in verifier.new ≡ status_left result (message (rules_of H D (to_verify setting)) (s ++ taken))) }
     // (The payload so far, before the call, is that of the bytes so far.)
     ensures before { (setting : Setting) (s B : List ℕ) → HasTaken (to_verify setting) s B verifier.old → (message (rules_of H D (to_verify setting)) s).told.payload ≡ B }
-    // Where the intake tells its bytes, the verdict is that of all of them.
+    // Where the bytes to come are known to the contract, the verdict is that of all of them.
     ensures answer { (setting : Setting) (s B bytes : List ℕ) → HasTaken (to_verify setting) s B verifier.old → I.to_come intake.old ≡ Some bytes →
         IfOk result (λ verdict. verdict_of H D setting (E.decides ec.now) (s ++ bytes) ≡ decided verdict) }
 
@@ -128,7 +128,8 @@ pub fn verify<
     ensures stopped { (result ≡ Err Stop.Again) ↔ (is_stopped verifier.old ≡ true) }
     ensures inspects { is_inspecting verifier.new ≡ false }
     ensures context { (setting : Setting) (s B : List ℕ) → HasTaken (to_verify setting) s B verifier.old → setting_in verifier.new ≡ setting }
-    // What it holds of the message is within a bound, besides the `C` bytes of the call, and so is what is open of it.
+    // What it holds of the message is within a bound, in addition to the `C` bytes of the call, and so is what is open
+    // of it.
     ensures held { held verifier.new ≤ 2 * H + 512 }
     ensures opened { opened verifier.new ≤ D }
 
@@ -139,7 +140,7 @@ pub fn verify<
     ensures sure { (setting : Setting) (s B : List ℕ) → HasTaken (to_verify setting) s B verifier.old → setting.payload_limit ≤ S.sure sink.old →
         stops_for_sink result ≡ false }
 {
-    // What these say of messages is all that the proof rests on.
+    // Laws of messages that the proof cites.
     settled_stays();
     nothing_stands_after_the_bytes();
     deciding_goes_last();
@@ -154,10 +155,11 @@ pub fn verify<
     }
 }
 
-/// Inspects one message: as [`verify`], but no key is chosen and nothing is compared, so that nothing is authenticated. The tag or
-/// signature may have 65,535 bytes, and is passed over.
+/// Inspects one message: as [`verify`], but no key is chosen and nothing is compared, so that nothing is authenticated.
+/// The tag or signature may have 65,535 bytes, and is skipped.
 ///
-/// The answer is kept, and what stops it is told, as by [`verify`]. The verifier is one that [`Verifier::inspecting`] made.
+/// The answer is kept, and a [`Stop`] says what failed, as with [`verify`]. The verifier is one that
+/// [`Verifier::inspecting`] made.
 pub fn inspect<'k, const C: usize, const H: usize, const D: usize, K: Keys<'k>, I: Intake, S: Sink>(
     verifier: &mut Verifier<'k, H, D, K>,
     intake: &mut I,
@@ -166,7 +168,7 @@ pub fn inspect<'k, const C: usize, const H: usize, const D: usize, K: Keys<'k>, 
     requires some { 1 ≤ C }
     requires limit { C ≤ 65536 }
     requires inspects { is_inspecting verifier.old ≡ true }
-    // What was taken, what came of it, what the sink got, what the verifier tells, and where the message stands.
+    // What was taken, the result, what the sink got, what the verifier gives, and the status of the message.
     ensures run { (setting : Setting) (s B : List ℕ) → HasTaken (to_inspect setting) s B verifier.old →
         (taken : List ℕ) × Run (inspecting H D setting) inspection s B (I.to_come intake.old) (I.to_come intake.new) (I.ended intake.new)
         (S.contents sink.old) (S.contents sink.new) result taken
@@ -174,7 +176,7 @@ pub fn inspect<'k, const C: usize, const H: usize, const D: usize, K: Keys<'k>, 
         × (status_in verifier.new ≡ status_left result (message (rules_of H D (to_inspect setting)) (s ++ taken))) }
     // (The payload so far, before the call, is that of the bytes so far.)
     ensures before { (setting : Setting) (s B : List ℕ) → HasTaken (to_inspect setting) s B verifier.old → (message (rules_of H D (to_inspect setting)) s).told.payload ≡ B }
-    // Where the intake tells its bytes, the answer is that of all of them.
+    // Where the bytes to come are known to the contract, the answer is that of all of them.
     ensures answer { (setting : Setting) (s B bytes : List ℕ) → HasTaken (to_inspect setting) s B verifier.old → I.to_come intake.old ≡ Some bytes →
         IfOk result (λ inspected. (message (inspecting H D setting) (s ++ bytes)).answer ≡ inspection inspected) }
 
@@ -185,7 +187,8 @@ pub fn inspect<'k, const C: usize, const H: usize, const D: usize, K: Keys<'k>, 
     ensures stopped { (result ≡ Err Stop.Again) ↔ (is_stopped verifier.old ≡ true) }
     ensures inspects { is_inspecting verifier.new ≡ true }
     ensures context { (setting : Setting) (s B : List ℕ) → HasTaken (to_inspect setting) s B verifier.old → setting_in verifier.new ≡ setting }
-    // What it holds of the message is within a bound, besides the `C` bytes of the call, and so is what is open of it.
+    // What it holds of the message is within a bound, in addition to the `C` bytes of the call, and so is what is open
+    // of it.
     ensures held { held verifier.new ≤ 2 * H + 512 }
     ensures opened { opened verifier.new ≤ D }
 
@@ -196,7 +199,7 @@ pub fn inspect<'k, const C: usize, const H: usize, const D: usize, K: Keys<'k>, 
     ensures sure { (setting : Setting) (s B : List ℕ) → HasTaken (to_inspect setting) s B verifier.old → setting.payload_limit ≤ S.sure sink.old →
         stops_for_sink result ≡ false }
 {
-    // What these say of messages is all that the proof rests on.
+    // Laws of messages that the proof cites.
     settled_stays();
     nothing_stands_after_the_bytes();
     verifier.reader.waits();

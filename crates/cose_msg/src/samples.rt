@@ -1,4 +1,4 @@
-//! Messages, keys, contexts, a reader, an intake and a sink that several modules of tests take.
+//! Messages, keys, contexts, a reader, an intake and a sink that several modules of tests use.
 
 ghost use Rattle.std.specs.Prelude.{◌≡◌, ◌≤◌, IfSome, None, false, length};
 ghost use Rattle.cose_msg.specs.Kept.{is_inspecting};
@@ -42,14 +42,14 @@ pub(crate) const SIGN1: &[u8] = &[
     0, 0, 0, 0, 0, 0, 0, 0, 0, 0, 0, 0, 0, 0, 0, 0, 0, 0, 0, 0,
 ];
 
-/// The COSE_Mac0, and a byte behind it.
+/// The COSE_Mac0, and a byte after it.
 pub(crate) fn mac0_and_more() -> [u8; 45] {
     let mut bytes = [0xff; 45];
     bytes[..44].copy_from_slice(MAC0);
     bytes
 }
 
-/// The same with the key identifier `abcde` in the unprotected header, which the tag isn't of.
+/// The same with the key identifier `abcde` in the unprotected header, which the tag doesn't cover.
 pub(crate) fn mac0_with_kid() -> [u8; 51] {
     let mut bytes = [0; 51];
     let (front, rest) = MAC0.split_at(6);
@@ -59,7 +59,7 @@ pub(crate) fn mac0_with_kid() -> [u8; 51] {
     bytes
 }
 
-/// What is wanted under these keys, of a payload of at most so many bytes.
+/// The context of these keys, for a payload of at most this many bytes.
 pub(crate) fn context_of(keys: &'static [u8], payload_limit: u64) -> Option<Context<'static>>
     ensures { IfSome result (λ context. length context.aad.now ≤ 65535) }
 {
@@ -117,7 +117,7 @@ impl Read for FailingReader<'_> {
     }
 }
 
-/// The bytes of a slice. It keeps how many were asked for at most, and the number of its calls.
+/// The bytes of a slice. It records the most bytes that a call asked for, and the number of its calls.
 #[derive(Drop)]
 pub(crate) struct WatchedIntake<'a> {
     bytes: &'a [u8],
@@ -157,7 +157,7 @@ impl Intake for WatchedIntake<'_> {
     }
 }
 
-/// A store of `L` bytes. It keeps how many were put at most, and how many in all.
+/// A store of `L` bytes. It records the length of the longest piece, and the number of bytes of all pieces.
 #[derive(Drop)]
 pub(crate) struct WatchedSink<const L: usize> {
     store: Store<L>,

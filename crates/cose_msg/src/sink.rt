@@ -4,14 +4,14 @@ ghost use Rattle.std.specs.Prelude.{◌≡◌, ◌≤◌, ◌<◌, ◌+◌, ◌^
 ghost use Rattle.cose_msg.specs.Intake.{marks};
 ghost use Rattle.cose_msg.specs.Sink.{Puts};
 
-/// A sink has failed. It may have kept a front of the piece.
+/// A sink has failed. It may have kept a prefix of the piece.
 #[derive(Clone, Copy, Debug, PartialEq, Eq)]
 pub struct SinkFault;
 
 /// Where the payload goes, piece by piece, before the verdict is known.
 ///
-/// A contract sees what the sink holds, where it tells that, whether it has failed, and how many bytes it is sure
-/// to take.
+/// A contract sees what the sink holds, where the sink makes that known to it, whether the sink has failed, and how
+/// many bytes it is sure to take.
 pub trait Sink {
     ghost contents: { Self → Option (List ℕ) };
 
@@ -19,7 +19,7 @@ pub trait Sink {
 
     ghost sure: { Self → ℕ };
 
-    /// Appends the piece; after an `Err` a front of it.
+    /// Appends the piece; on an `Err` a prefix of it.
     fn put(&mut self, piece: &[u8]) -> Result<(), SinkFault>
         requires { 0 < length piece.now }
         ensures bytes { Puts (contents self.old) (contents self.new) result piece.now }
@@ -28,7 +28,7 @@ pub trait Sink {
         ensures promise { OnOk result (sure self.old ≤ sure self.new + length piece.now) };
 }
 
-/// Takes all, keeps nothing and never fails.
+/// Takes all bytes, keeps none and never fails.
 #[derive(Clone, Copy, Debug, PartialEq, Eq)]
 pub struct Nothing;
 

@@ -1,22 +1,22 @@
-//! Where a message stands that is fed to a verifier.
+//! The status of a message that is fed to a verifier.
 
 use cose_head::Refusal;
 
-/// Where a message stands after the bytes so far.
+/// The status of a message after the bytes so far.
 #[derive(Clone, Copy, Debug, PartialEq, Eq)]
 pub enum Status {
     /// Further bytes are wanted.
     More,
-    /// The message is refused. The place counts from the message's first byte.
+    /// The message is refused. The place is relative to the message's first byte.
     Refused(Refusal),
-    /// All bytes of the message are there. A COSE_Mac0 is authentic then; the signature of a COSE_Sign1 is still to be decided
-    /// on, or was decided on. Of a message that is only inspected it says no more than that.
+    /// All bytes of the message are there. A COSE_Mac0 is authentic then; the signature of a COSE_Sign1 is still to be
+    /// decided on, or was decided on. For a message that is only inspected it says no more than that.
     Complete,
     /// The verifier had stopped, since an intake or a sink had failed.
     Stopped,
 }
 
-/// What became of a piece that was fed.
+/// The result of feeding a piece.
 #[derive(Clone, Copy, Debug, PartialEq, Eq)]
 pub struct Fed {
     /// How many bytes of the piece were used, from its first one on.
@@ -25,6 +25,6 @@ pub struct Fed {
     pub payload_from: usize,
     /// Where they end: they are `piece[payload_from..payload_to]`. Both are 0 where the piece has none.
     pub payload_to: usize,
-    /// Where the message stands.
+    /// The status of the message.
     pub status: Status,
 }

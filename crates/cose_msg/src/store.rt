@@ -29,7 +29,7 @@ impl<const L: usize> Store<L> {
         }
     }
 
-    /// Makes the store as new: it holds nothing and hasn't failed.
+    /// Resets the store: it holds nothing and hasn't failed.
     pub fn clear(&mut self)
         ensures empty { ⟦<Store<L> as Sink>⟧.contents self.new ≡ Some [] }
         ensures not_failed { ⟦<Store<L> as Sink>⟧.has_failed self.new ≡ false }

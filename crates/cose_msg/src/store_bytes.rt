@@ -1,4 +1,4 @@
-//! Stores that are filled in place, and fronts of pieces.
+//! Stores that are filled in place, and prefixes of pieces.
 
 ghost use Rattle.std.specs.Prelude.{◌≡◌, ◌<◌, ◌≤◌, ◌+◌, ◌++◌, length, take};
 
@@ -11,7 +11,7 @@ pub(crate) fn append<const N: usize>(store: &mut ArrayVec<u8, N>, piece: &[u8])
     let _ = store.try_extend_from_slice(piece);
 }
 
-/// The front of a piece that isn't empty: at most so many bytes.
+/// A prefix of a piece that isn't empty: at most this many bytes.
 pub(crate) fn front_of(piece: &[u8], most: u64) -> &[u8]
     requires some { 0 < length piece.now }
     requires most { 0 < most }

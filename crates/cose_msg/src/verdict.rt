@@ -1,9 +1,9 @@
-//! What comes of a message.
+//! The results of a message.
 
 use cose_head::{Kind, Refusal};
 use cose_mac::Alg;
 
-/// What a message comes to.
+/// The verdict on a message.
 #[derive(Clone, Copy, Debug, PartialEq, Eq)]
 pub enum Verdict {
     /// The message is authentic under the chosen key.
@@ -17,11 +17,11 @@ pub enum Verdict {
         /// The number of bytes of the message.
         taken: u64,
     },
-    /// The message is refused. The place counts from the message's first byte.
+    /// The message is refused. The place is relative to the message's first byte.
     Refused(Refusal),
 }
 
-/// What a message that is only inspected comes to: nothing is authenticated.
+/// The result for a message that is only inspected: nothing is authenticated.
 #[derive(Clone, Copy, Debug, PartialEq, Eq)]
 pub enum Inspected {
     /// The message is well formed, and this is its shape.
@@ -35,17 +35,17 @@ pub enum Inspected {
         /// The number of bytes of the message.
         taken: u64,
     },
-    /// The message is refused. The place counts from the message's first byte.
+    /// The message is refused. The place is relative to the message's first byte.
     Refused(Refusal),
 }
 
-/// Why a verifier stopped before it came to a verdict.
+/// Why a verifier stopped before it had a verdict.
 #[derive(Clone, Copy, Debug, PartialEq, Eq)]
 pub enum Stop {
     /// The intake failed.
     Intake,
     /// The sink failed.
     Sink,
-    /// The verifier had stopped before; `reset` makes it as new.
+    /// The verifier had stopped before. `reset` ends that.
     Again,
 }

@@ -11,8 +11,8 @@ mod decide;
 mod feed;
 mod shown;
 
-/// A verifier of one message at a time, of header buckets of at most `H` bytes each, nested at most `D` deep, under keys of the type
-/// `S`.
+/// A verifier of one message at a time, of header buckets of at most `H` bytes each, nested at most `D` deep, under
+/// keys of the type `S`.
 #[derive(Drop)]
 pub struct Verifier<'k, const H: usize, const D: usize, S: Keys<'k> = KeySet<'k>> {
     taken: u64,
@@ -36,7 +36,7 @@ impl<'k, const H: usize, const D: usize, S: Keys<'k>> Verifier<'k, H, D, S> {
     ghost use Rattle.cose_msg.specs.Task.{to_inspect, to_verify};
     ghost use Rattle.cose_msg.specs.Verifier.{setting_in, setting_of, task_of};
 
-    /// A verifier for one of both purposes.
+    /// A verifier for either purpose.
     fn made(context: Context<'k, S>, inspecting: bool) -> Self
         requires some_room { 16 ≤ H }
         requires limit { H ≤ 65535 }
@@ -115,7 +115,7 @@ impl<'k, const H: usize, const D: usize, S: Keys<'k>> Verifier<'k, H, D, S> {
         self.inspecting
     }
 
-    /// Makes the verifier as it was made, in the same context and for the same purpose.
+    /// Resets the verifier, in the same context and for the same purpose.
     pub fn reset(&mut self)
         ensures none_taken { HasTaken (task_of self.old) [] [] self.new }
         ensures tells { Tells (task_of self.old) [] self.new }
@@ -154,7 +154,8 @@ impl<'k, const H: usize, const D: usize, S: Keys<'k>> Verifier<'k, H, D, S> {
     /// The number of bytes of the message that were taken.
     pub fn taken(&self) -> u64
         ensures value { result ≡ bytes_taken self.now }
-        // Where none were, the verifier is as it was made, or it has stopped, or the message was said to end there.
+        // Where none were, the verifier is as it was made, or it has stopped, or the end of the message was reported
+        // there.
         ensures anew { result ≡ 0 → kept_answer self.now ≡ None
             → HasTaken (task_of self.now) [] [] self.now }
         ensures kept { (verdict : Verdict) → result ≡ 0 → kept_answer self.now ≡ Some (Ok verdict)

@@ -4,7 +4,8 @@ use crate::samples::FailingReader;
 use crate::{Intake, IntakeFault, ReadIntake};
 use std::process::Abort;
 
-/// The next call takes this piece by the read of this number, and the intake has ended where the piece is empty.
+/// The next call takes this piece, and the reader has been read this many times by then. The intake has ended where the
+/// piece is empty.
 fn takes(rt: &impl Abort, intake: &mut ReadIntake<FailingReader>, reads: usize, piece: &[u8]) {
     let count = piece.len();
     let mut into = [0; 8];
@@ -42,7 +43,8 @@ fn takes_no_more_than_fit(rt: HostRuntime) {
     assert_eq!(rt; intake.reader.reads, 5);
 }
 
-/// The next call answers so, and then this is known of the intake: whether it has failed, and whether it has ended.
+/// The next call gives this answer, and afterwards the intake has this state: whether it has failed, and whether it has
+/// ended.
 fn answers(
     rt: &impl Abort,
     intake: &mut ReadIntake<FailingReader>,

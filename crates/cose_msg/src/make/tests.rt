@@ -1,4 +1,4 @@
-//! Messages made under the key `Jefe`, against an independent HMAC, and what stops the making.
+//! Messages made under the key `Jefe`, against an independent HMAC, and what stops `make_mac0`.
 
 ghost use Rattle.std.specs.Prelude.{◌≤◌, None};
 
@@ -262,7 +262,7 @@ fn says_that_the_intake_failed(rt: HostRuntime) {
     assert_eq!(rt; sink.bytes(), &MAC0[..9]);
 }
 
-/// Keeps so many bytes, also a front of a piece, and fails at the next.
+/// Keeps this many bytes, also a prefix of a piece, and fails at the next.
 #[derive(Drop)]
 struct FrontSink {
     held: ArrayVec<u8, 64>,

@@ -41,7 +41,7 @@ fn fault_of_auth(head: &Head, alg: Option<Alg>) -> Option<Reason>
     None
 }
 
-/// Holds a piece of a tag or signature where there is a key. Else nothing is compared with it, and it is passed over.
+/// Holds a piece of a tag or signature where there is a key. Otherwise nothing is compared with it, and it is skipped.
 fn hold(store: &mut ArrayVec<u8, 132>, has_key: bool, piece: &[u8])
     ensures held { has_key ≡ true → length store.old.items + length piece.now ≤ 132
         → store.new.items ≡ store.old.items ++ piece.now }
@@ -71,7 +71,7 @@ impl<'k, const H: usize, const D: usize> Reader<'k, H, D> {
         }
     }
 
-    /// The head of the tag or signature begins here, behind a payload of so many bytes.
+    /// The head of the tag or signature begins here, after a payload of this length.
     pub(crate) fn begin_auth_head(&mut self, kind: Kind, at: u64, payload: u64)
         requires early { at < 2 ^ 57 }
         ensures stands { (task : Task) (known : Known) → Shows task (headers_told known.headers known.payload) self.old
@@ -181,7 +181,7 @@ impl<'k, const H: usize, const D: usize> Reader<'k, H, D> {
         }
     }
 
-    /// All bytes are there, and a key was chosen: a tag is compared, and a signature is left to whoever verifies it.
+    /// All bytes are there, and a key was chosen: a tag is compared, and a signature is left to the `EcVerifier`.
     fn compare(&mut self, whole: Whole, alg: Alg)
         ensures stands { (task : Task) (known : Known) (found : Found) (at : ℕ) → Shows task (headers_told known.headers known.payload) self.old
             → HoldsKey task known self.old whole.kind → known.chosen ≡ Some found → found.alg ≡ alg → length known.payload ≡ whole.payload

@@ -101,7 +101,7 @@ impl<'k, const H: usize, const D: usize> Reader<'k, H, D> {
     ghost use Rattle.cose_msg.specs.Reader.{Shows, StandsFor, task_in};
     ghost use Rattle.cose_msg.specs.Task.{Task, keys_for, rules_of};
 
-    /// The result of both buckets, whose contents stand at these places and were found good.
+    /// The result of both buckets, whose contents are at these places and were found good.
     fn choose<K: Keys<'k>>(
         &self,
         keys: Option<&K>,
@@ -142,7 +142,7 @@ impl<'k, const H: usize, const D: usize> Reader<'k, H, D> {
         }
     }
 
-    /// What follows both buckets, whose contents stand at these places: their check together, and the choice of the key.
+    /// What follows both buckets, whose contents are at these places: their check together, and the choice of the key.
     pub(crate) fn past_buckets<K: Keys<'k>>(
         &mut self,
         keys: Option<&K>,

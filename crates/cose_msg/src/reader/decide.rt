@@ -51,7 +51,7 @@ impl<'k, const H: usize, const D: usize> Reader<'k, H, D> {
         }
     }
 
-    /// Fewer bytes than are wanted don't settle the message. This does nothing.
+    /// Fewer bytes than are wanted don't settle the message. Proof only; no run-time effect.
     pub(crate) fn waits(&self)
         ensures open { (task : Task) (B : List ℕ) (n : ℕ) (reading : List ℕ → Reading)
             (more : List ℕ)
@@ -69,7 +69,7 @@ impl<'k, const H: usize, const D: usize> Reader<'k, H, D> {
         ensures truncated { (task : Task) (B : List ℕ) (n : ℕ) (reading : List ℕ → Reading)
             → StandsFor task B n self.now reading
             → is_settled self.now.phase ≡ false → (reading []).answer ≡ refused Reason.Truncated n }
-        // What it shows so far is what these bytes tell.
+        // What it shows so far is what the reading of these bytes shows.
         ensures shows { (task : Task) (B : List ℕ) (n : ℕ) (reading : List ℕ → Reading)
             → StandsFor task B n self.now reading
             → shown_by self.now ≡ shown_in task.setting (reading []) }
@@ -80,7 +80,7 @@ impl<'k, const H: usize, const D: usize> Reader<'k, H, D> {
         ensures status { (task : Task) (B : List ℕ) (n : ℕ) (reading : List ℕ → Reading)
             → StandsFor task B n self.now reading
             → status_at self.now.phase ≡ status_of (reading []) }
-        // In the payload further bytes are its own, as many as are left of it; behind it none are.
+        // In the payload the next bytes are the payload's, as many as are left of it; after it none are.
         ensures grows { (task : Task) (B : List ℕ) (n : ℕ) (reading : List ℕ → Reading)
             (more : List ℕ)
             → StandsFor task B n self.now reading
@@ -90,14 +90,14 @@ impl<'k, const H: usize, const D: usize> Reader<'k, H, D> {
             (more : List ℕ)
             → StandsFor task B n self.now reading
             → in_payload self.now.phase ≡ false → 0 < length B → (reading more).told.payload ≡ B }
-        // A payload doesn't settle it either: a tag or signature follows.
+        // The last byte of a payload doesn't settle it either: a tag or signature follows.
         ensures open_payload { (task : Task) (B : List ℕ) (n : ℕ) (reading : List ℕ → Reading)
             (more : List ℕ)
             → StandsFor task B n self.now reading
             → in_payload self.now.phase ≡ true → length more ≤ want_of self.now.phase
             → (reading more).settled ≡ false }
     {
-        // What these say of the item that is being read and of the stores is all that the proof rests on.
+        // What these calls ensure, of the item that is being read and of the stores, is what the proof cites.
         let _wanted = self.walker.want();
         let _held = self.held();
         let _opened = self.open_items();
@@ -176,7 +176,7 @@ impl<'k, const H: usize, const D: usize> Reader<'k, H, D> {
         ensures status { (setting : Setting) (B : List ℕ) (reading : List ℕ → Reading)
             → StandsFor (to_verify setting) B taken self.old reading
             → status_at self.new.phase ≡ status_of_answer (reading []).answer }
-        // Where no byte was taken, the end is all that can come of the message.
+        // Where no byte was taken, the only change is that the message is Truncated at 0.
         ensures untouched { taken ≡ 0 → IsUntouched self.old → IsUntouched self.new }
     {
         self.waits();

@@ -43,7 +43,7 @@ fn wanted_kind(wanted: Wanted, kind: Kind) -> Result<Kind, Reason>
     }
 }
 
-/// The kind of message that a tag stands before (RFC 9052 section 2, table 1).
+/// The kind of message that a tag identifies (RFC 9052 section 2, table 1).
 fn kind_of_tag(wanted: Wanted, number: u64) -> Result<Kind, Reason>
     ensures { result ≡ spec.kind_of_tag wanted number }
 {
@@ -56,7 +56,7 @@ fn kind_of_tag(wanted: Wanted, number: u64) -> Result<Kind, Reason>
     }
 }
 
-/// The kind that a head behind the CWT tag says.
+/// The kind that a head after the CWT tag gives.
 fn cose_tag(wanted: Wanted, head: &Head) -> Result<Kind, Reason>
     ensures { result ≡ spec.tag_behind_cwt wanted head.now }
 {
@@ -141,7 +141,7 @@ impl<'k, const H: usize, const D: usize> Reader<'k, H, D> {
         self.phase = Phase::TagHead(TagHead { at });
     }
 
-    /// Takes the next byte of the head behind the CWT tag.
+    /// Takes the next byte of the head after the CWT tag.
     pub(crate) fn tag_head(&mut self, tag_head: TagHead, byte: u8)
         requires phase { self.old.phase ≡ Phase.TagHead tag_head }
         ensures stands { (task : Task) (B : List ℕ) (n : ℕ) (reading : List ℕ → Reading) → StandsFor task B n self.old reading
@@ -158,7 +158,7 @@ impl<'k, const H: usize, const D: usize> Reader<'k, H, D> {
         }
     }
 
-    /// What follows a tag, which says this kind or why it is refused.
+    /// What follows a tag, given its kind or why it is refused.
     fn past_tag(&mut self, kind: Result<Kind, Reason>, tag_at: u64, at: u64)
         requires early { at ≤ 18 }
         ensures stands { (task : Task) → Shows task nothing_told self.old

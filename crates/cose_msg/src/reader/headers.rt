@@ -25,7 +25,7 @@ fn refusal_of(bytes: &[u8], at: u64, depth: usize) -> Option<Refusal>
     Bucket::read(bytes, at, depth).err()
 }
 
-/// Puts a piece of no more bytes than the walker wants, and says where its item stands.
+/// Puts a piece of no more bytes than the walker wants, and returns the walker's step after it.
 fn walk_on<const D: usize>(walker: &mut Walker<D>, piece: &[u8]) -> Step
     requires some { 0 < length piece.now }
     ensures answer { (room : ℕ) (bytes : List ℕ) → HasPut room bytes walker.old → length piece.now ≤ wanted_after room D bytes
@@ -132,7 +132,7 @@ impl<'k, const H: usize, const D: usize> Reader<'k, H, D> {
         }
     }
 
-    /// What follows the protected bucket, whose content stands at this place.
+    /// What follows the protected bucket, whose content is at this place.
     fn past_protected(&mut self, kind: Kind, at: u64)
         requires early { at ≤ 36 }
         ensures stands { (task : Task) → Shows task nothing_told self.old
@@ -154,7 +154,7 @@ impl<'k, const H: usize, const D: usize> Reader<'k, H, D> {
             → bucket_of D (placed_at protected_at self.old.protected.items) ≡ Ok pairs
             → StandsFor task [] at self.new (λ z. unprotected (rules_of H D task) kind self.old.protected.items pairs at z) }
     {
-        // What this says of walkers is all that the proof rests on.
+        // The law of walkers that the proof cites.
         walker_is_reading();
         self.protected_at = Some(Place { at: protected_at });
         self.unprotected.clear();
@@ -208,7 +208,7 @@ impl<'k, const H: usize, const D: usize> Reader<'k, H, D> {
             → StandsFor task B n self.old reading
             → StandsFor task B (n + length piece.now) self.new (λ z. reading (piece.now ++ z)) }
     {
-        // What these say of reading and of walkers is all that the proof rests on.
+        // Laws of reading and of walkers that the proof cites.
         read_stays();
         walker_is_reading();
         let _wanted = self.walker.want();

@@ -8,7 +8,7 @@ use crate::phase::{Payload, PayloadHead, Phase};
 use crate::reader::Reader;
 use cose_head::{Head, HeadStep, Kind, Reason};
 
-/// Whether a head is nil, which stands for a detached payload (RFC 9052 sections 4.2 and 6.2).
+/// Whether a head is nil, which marks a detached payload (RFC 9052 sections 4.2 and 6.2).
 fn is_nil(head: &Head) -> bool
     ensures { result ≡ is_nil_head head.now }
 {
@@ -90,7 +90,8 @@ impl<'k, const H: usize, const D: usize> Reader<'k, H, D> {
         match fault_of_payload(&head, self.terms.payload_limit) {
             Some(reason) => self.refuse(reason, payload_head.at),
             None => {
-                // The protected header goes in as it was received, or empty where the bucket has no pair.
+                // The protected header is hashed as it was received, or as an empty string where the bucket has no
+                // pair.
                 let protected = empty_if(payload_head.is_bare, self.protected.as_slice());
                 let aad = self.terms.aad;
                 self.hashing

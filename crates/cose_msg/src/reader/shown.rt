@@ -1,4 +1,4 @@
-//! What a reader tells of a message besides what comes of it, and what it holds.
+//! What a reader gives of a message in addition to the result, and what it holds.
 
 ghost use Rattle.std.specs.Prelude.{◌≡◌, ◌<◌, ◌≤◌, ◌+◌, ◌*◌, ◌^◌, length, option_map};
 ghost use Rattle.cose_map.specs.Bucket.View.{bucket_pairs};
@@ -10,7 +10,7 @@ use crate::phase::Phase;
 use crate::reader::{Place, Reader};
 use cose_map::{Bucket, Key};
 
-/// The running hash counts as so many bytes.
+/// The number of bytes that the running hash counts as.
 const HASH: usize = 256;
 
 /// The bucket of these bytes, where one was found good at this place.

@@ -1,4 +1,4 @@
-//! What a verifier tells besides its answer, and messages that are only inspected.
+//! What a verifier gives in addition to its answer, and messages that are only inspected.
 
 ghost use Rattle.std.specs.Prelude.{◌≡◌, false, true};
 ghost use Rattle.cose_msg.specs.Kept.{is_inspecting};

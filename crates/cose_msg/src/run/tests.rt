@@ -52,7 +52,7 @@ fn context() -> Option<Context<'static>>
     })
 }
 
-/// Verifies the token in pieces of at most so many bytes, with a byte behind it that isn't taken.
+/// Verifies the token in pieces of at most this many bytes, with a byte after it that isn't taken.
 fn verifies_in_pieces(rt: &impl Abort, cut: usize)
     requires { 0 < cut }
 {

@@ -1,4 +1,4 @@
-//! A store alone: its capacity, a piece that doesn't fit, and what comes after a failure.
+//! A store alone: its capacity, a piece that doesn't fit, and what happens after a failure.
 
 use crate::{Sink, SinkFault, Store};
 

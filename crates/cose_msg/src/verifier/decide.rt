@@ -13,7 +13,7 @@ use cose_map::Keys;
 /// No message has so many bytes: its payload has fewer than 2^56.
 const MESSAGE_LIMIT: u64 = 1 << 57;
 
-/// The answer that is kept: that the verifier has stopped, or what came of the message, once it is known.
+/// The answer that is kept: that the verifier has stopped, or the result of the message, once it is known.
 fn kept<A: Copy>(stopped: bool, answer: Option<A>) -> Option<Result<A, Stop>>
     ensures { result ≡ answer_kept stopped answer }
 {

@@ -12,7 +12,7 @@ use cose_map::Keys;
 /// The most bytes that are taken in one step. (Any number would do; it keeps the counts small.)
 const STEP: usize = 65_536;
 
-/// The payload's bytes of a piece: from the first one to behind the last one. Both are 0 where there is none.
+/// The payload's bytes of a piece: from the first one to after the last one. Both are 0 where there is none.
 #[derive(Clone, Copy)]
 struct Part {
     from: usize,
@@ -20,7 +20,7 @@ struct Part {
 }
 
 impl Part {
-    /// With so many bytes more, which begin here.
+    /// This part and the next `count` bytes, which begin at `begin`.
     fn extended(self, begin: usize, count: usize) -> Part
         requires { begin + count < 2 ^ 64 }
         ensures from { result.from ≡ (if self.to == 0 then begin else self.from) }
@@ -45,7 +45,7 @@ impl<'k, const H: usize, const D: usize, S: Keys<'k>> Verifier<'k, H, D, S> {
     ghost use Rattle.cose_msg.specs.Task.{Task, rules_of, to_verify};
     ghost use Rattle.cose_msg.specs.Verifier.{opened, setting_in};
 
-    /// Where the message stands after the bytes so far.
+    /// The status of the message after the bytes so far.
     pub fn status(&self) -> Status
         ensures value { result ≡ status_in self.now }
         // It is that of the bytes so far, by definition.
@@ -58,7 +58,7 @@ impl<'k, const H: usize, const D: usize, S: Keys<'k>> Verifier<'k, H, D, S> {
         self.reader.phase.status()
     }
 
-    /// Whether all bytes of the message are there, and none of them refused it: [`Verifier::verdict`] may be asked.
+    /// Whether all bytes of the message are there, and none of them refused it: [`Verifier::verdict`] may be called.
     pub fn is_complete(&self) -> bool
         ensures { result ≡ is_complete (status_in self.now) }
     {
@@ -102,8 +102,9 @@ impl<'k, const H: usize, const D: usize, S: Keys<'k>> Verifier<'k, H, D, S> {
     /// Takes the next bytes of the message: the fewest that settle it, or the whole piece. It says how many it used, and which of
     /// them are of the payload; these are hashed, and not kept.
     ///
-    /// Hand the payload's bytes on as they come, and drop them all where the message is refused, or ends too early
-    /// ([`Verifier::end`]). A message that is settled, or a verifier that has stopped, uses no byte, and the status stays.
+    /// Pass the payload's bytes on as they come, and drop them all where the message is refused, or ends too early
+    /// ([`Verifier::end`]). A message that is settled, or a verifier that has stopped, uses no byte, and the status
+    /// stays.
     pub fn feed(&mut self, piece: &[u8]) -> Fed
         // Of the bytes so far, whatever cuts they came in, and the piece:
         ensures uses { (task : Task) (s B : List ℕ) → HasTaken task s B self.old → Uses (rules_of H D task) s piece.now result.used }
@@ -129,7 +130,7 @@ impl<'k, const H: usize, const D: usize, S: Keys<'k>> Verifier<'k, H, D, S> {
         ensures held { held self.new ≤ 2 * H + 512 }
         ensures opened { opened self.new ≤ D }
     {
-        // What this says of messages is all that the proof rests on.
+        // The law of messages that the proof cites.
         messages_are_bounded();
         self.reader.waits();
         let mut used = 0;
@@ -184,8 +185,9 @@ impl<'k, const H: usize, const D: usize, S: Keys<'k>> Verifier<'k, H, D, S> {
         }
     }
 
-    /// The verdict on a message that is complete: it asks `ec` about the signature of a COSE_Sign1 (RFC 9052 section 4.4), once.
-    /// The verdict is kept, and answered again whoever is handed in later. The status stays [`Status::Complete`].
+    /// The verdict on a message that is complete: it asks `ec` about the signature of a COSE_Sign1 (RFC 9052 section
+    /// 4.4), once. The verdict is kept, and answered again whichever `ec` is passed later. The status stays
+    /// [`Status::Complete`].
     ///
     /// The verifier isn't one that [`Verifier::inspecting`] made.
     pub fn verdict<E: EcVerifier>(&mut self, ec: &E) -> Verdict
@@ -204,7 +206,7 @@ impl<'k, const H: usize, const D: usize, S: Keys<'k>> Verifier<'k, H, D, S> {
         ensures held { held self.new ≤ 2 * H + 512 }
         ensures opened { opened self.new ≤ D }
     {
-        // What this says of messages is all that the proof rests on.
+        // The law of messages that the proof cites.
         deciding_goes_last();
         self.reader.waits();
         match self.reader.known_verdict() {

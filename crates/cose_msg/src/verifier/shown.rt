@@ -1,4 +1,4 @@
-//! What a verifier tells of a message besides what comes of it, and what it holds.
+//! What a verifier gives of a message in addition to the result, and what it holds.
 
 ghost use Rattle.std.specs.Prelude.{◌≡◌, ◌≤◌, ◌+◌, ◌*◌, option_map};
 ghost use Rattle.cose_map.specs.Bucket.View.{bucket_pairs};

@@ -1,4 +1,4 @@
-//! Pieces of messages that are fed, and what they come to.
+//! Pieces of messages that are fed, and the results.
 
 ghost use Rattle.std.specs.Prelude.{◌≡◌, ◌≤◌, false};
 ghost use Rattle.cose_msg.specs.Kept.{is_inspecting};
@@ -31,7 +31,7 @@ const fn more(used: usize) -> Fed {
     }
 }
 
-/// A piece of which so many bytes were used, none of them of the payload, and the message is complete.
+/// A piece of which this many bytes were used, none of them of the payload, and the message is complete.
 const fn complete(used: usize) -> Fed {
     Fed {
         used,
@@ -249,7 +249,7 @@ fn stays_stopped(rt: HostRuntime) {
     );
 }
 
-/// Says the same of every signature.
+/// Gives the same answer for every signature.
 #[derive(Drop)]
 struct Says {
     holds: bool,
@@ -295,7 +295,7 @@ fn decides_on_a_signature_once(rt: HostRuntime) {
         if !verifier.is_complete() {
             return;
         }
-        // Whoever is asked now, the verdict is kept.
+        // Whichever `EcVerifier` is passed now, the verdict is kept.
         let verdict = verifier.verdict(&Says { holds: !holds });
         assert_eq!(rt; verdict, decision(holds));
         let fed = verifier.feed(SIGN1);
