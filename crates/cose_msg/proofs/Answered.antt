@@ -1,4 +1,4 @@
--- What comes of a run, by the rules that its answer goes by.
+-- The result of a run, by the rules that its answer goes by.
 use Rattle.std.proofs.Common.{◌≡◌, ℕ, Bool, true, false, List, [], ◌++◌, length, Option, None, Some, Ok, Err, refl, sym, ap, subst, ◌∙◌, append_assoc, arith}
 use Rattle.std.specs.Prelude.{Result, IfOk}
 use Rattle.std.proofs.KnownBytes.{Consumes-nil}
@@ -20,7 +20,7 @@ use Rattle.cose_msg.specs.Reader.{Counts}
 use Rattle.cose_msg.proofs.Decisions.{stands_inspected, stands_with_verdict}
 use Rattle.cose_msg.proofs.Runs.{Along, IsKept, at_start, concluded, counted_stands, kept_by, without_more}
 
--- Readings of the same bytes that differ in their answers alone.
+-- Readings of the same bytes that differ only in their answers.
 pub record Alike (rules other : Rules) : Type 0 where
   pub settled : (bytes : List ℕ) → (message rules bytes).settled ≡ (message other bytes).settled
   pub told : (bytes : List ℕ) → (message rules bytes).told.payload ≡ (message other bytes).told.payload
@@ -129,7 +129,7 @@ kept_inspection_settles {H} {D} {S} {K} {setting} {s} {B} {v} result h kept =
     let k : IsKept (inspected_in v.reader.phase) result = kept_by (inspected_in v.reader.phase) result going in
     (stands_inspected k.answer (counted_stands h) k.kept_is).1
 
--- ---- all bytes of an intake that tells them
+-- ---- all bytes of an intake whose bytes to come are known to the contract
 
 abbrev pub StaysSettled : Rules → Type 0
 StaysSettled rules = (bytes more : List ℕ) → (message rules bytes).settled ≡ true → message rules (bytes ++ more) ≡ message rules bytes

@@ -14,7 +14,7 @@ append_assoc_back a b c = sym (append_assoc a b c)
 abbrev elements_of : Whole → Item → Item
 elements_of whole bucket = four_elements whole.headers.protected bucket whole.payload whole.auth
 
--- The four elements behind the array's head, whatever stands before that head.
+-- The four elements after the array's head, whatever precedes that head.
 record Four (bytes : List ℕ) (whole : Whole) (bucket : Item) : Type 0 where
   head : List ℕ
   protected : List ℕ

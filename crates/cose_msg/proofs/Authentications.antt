@@ -22,7 +22,7 @@ either_judged true true aad decides found whole = refl
 either_judged true false aad decides found whole = refl
 either_judged false holds aad decides found whole = refl
 
--- It is judged by whether the authentication holds.
+-- Its verdict is whether the authentication holds.
 judged_by : (aad : List ℕ) (decides : Decides) (found : Chosen) (whole : Whole) → verified aad decides (Some found) (compared aad (Some found) whole) ≡ judged (authentication_holds aad decides found whole) found whole
 judged_by aad decides found whole = either_judged (is_mac_of found.alg) (bytes_eq whole.auth (tag_of aad found whole)) aad decides found whole
 

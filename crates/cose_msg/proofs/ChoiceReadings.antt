@@ -1,4 +1,4 @@
--- What follows both buckets, by what they come to together.
+-- What follows both buckets, by their result together.
 use Rattle.std.proofs.Common.{◌≡◌, ℕ, Bool, true, false, cond, List, [], length, Option, Some, None, Result, Ok, Err, refl, sym, ap}
 use Rattle.std.specs.Prelude.{◌==◌, is_none, option_map}
 use Rattle.cose_head.specs.declared.reason.Reason.{Reason}
@@ -89,7 +89,7 @@ key_among task headers place (Some refusal) chosen f is = absurd (let both = rw 
 pub chooses_if_verified : (task : Task) (headers : Headers) (place : ℕ) (chosen : Option Chosen) → choice_of task headers place ≡ Ok chosen → is_none chosen ≡ task.inspects
 chooses_if_verified task headers place chosen is = key_among task headers place (pair_fault headers.protected_pairs headers.unprotected_pairs task.setting.understood place) chosen refl is
 
--- What the code's choice says of the definition's.
+-- What the code's choice ensures of the definition's.
 pub record IsFound (pairs : List Pair) (choice : code.Choice) (answer : Read (Option Chosen)) : Type 0 where
   pub is : answer ≡ Ok (option_map chosen_value choice.chosen)
   pub bare_is : choice.is_bare ≡ (length pairs == 0)

@@ -1,4 +1,4 @@
--- What the key that was chosen says of a tag or signature.
+-- What the key that was chosen determines of a tag or signature.
 use Rattle.std.proofs.Common.{◌≡◌, ℕ, ◌≤◌, Bool, true, false, List, [], ◌++◌, Option, None, Some, refl, sym, ap, subst, ◌∙◌, arith}
 use Rattle.std.specs.Prelude.{is_none, is_some, option_map}
 use Rattle.std.proofs.lemmas.Bool.{eqb-true}
@@ -31,7 +31,7 @@ pub has_key : (chosen : Option code.Chosen) (known : Option Chosen) → option_m
 has_key (Some one) known same e = refl
 has_key None known same e = let clash : true ≡ false = ap is_none same ∙ e in absurd cc
 
--- The key that was chosen, in the code's words.
+-- The key that was chosen, in the terms of the code.
 pub record IsKey (chosen : Option code.Chosen) (known : Option Chosen) (alg : Alg) : Type 0 where
   pub found : Chosen
   pub chosen_is : known ≡ Some found

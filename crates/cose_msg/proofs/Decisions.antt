@@ -1,4 +1,4 @@
--- The answer of a verifier: what is decided on a signature, and Truncated where the message isn't settled.
+-- The answer of a verifier: the decision on a signature, and Truncated where the message isn't settled.
 use Rattle.std.proofs.Common.{◌≡◌, ℕ, Bool, true, false, List, [], length, Option, None, Some, refl, sym, ap, subst, ◌∙◌}
 use Rattle.std.specs.Prelude.{option_map, if◌then◌else◌}
 use Rattle.cose_head.specs.declared.reason.Reason.TheVariants.{BadAuth}
@@ -44,7 +44,7 @@ no_mac found alg message held same no_tag e =
 some_is : (chosen : Option code.Chosen) (one : code.Chosen) (found : Chosen) → chosen ≡ Some one → option_map chosen_value chosen ≡ Some found → chosen_value one ≡ found
 some_is chosen one found e is = let there : option_map chosen_value (Some one) ≡ Some found = subst (λ (c : Option code.Chosen). option_map chosen_value c ≡ Some found) e is in cc
 
--- The answer on a message that is whole, in the code's words.
+-- The answer on a message that is whole, in the terms of the code.
 abbrev pub decision : Signed → Bool → Answer
 decision p holds = if holds then decided (Authentic p.kind p.alg p.payload p.taken) else refused BadAuth p.head_at
 
@@ -115,7 +115,7 @@ module _ {H D : ℕ} (task : Task) (known : Known) (told : Told) (n : ℕ) (v : 
   refusal_read (Refused refusal) shown e = let same : inspected.Refused refusal ≡ shown = cc in rw (← same) (refl, tt)
   refusal_read (Authentic kind alg payload taken) shown e = absurd cc
 
-  -- What an inspection came to.
+  -- The result of an inspection.
   inspected_read : (phase : Phase) (shown : Inspected) → HoldsIn task known told n v phase → inspected_in phase ≡ Some shown → ((left phase).answer ≡ inspection shown) × ((left phase).settled ≡ true) × SaysCount (inspection shown) n
   unfolding left
   inspected_read (phases.Settled verdict) shown h e = let r = refusal_read verdict shown e in (r.0, refl, r.1)

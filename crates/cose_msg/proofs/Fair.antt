@@ -1,4 +1,5 @@
--- The rules of verifying and of inspecting are fair: what they answer themselves is not Truncated, and stands within the message.
+-- The rules of verifying and of inspecting are fair: what they answer themselves is not Truncated, and its place is
+-- within the message.
 use Rattle.std.proofs.Common.{◌≡◌, ℕ, ℤ, ◌≤◌, Bool, true, false, cond, List, Option, Some, None, Result, Ok, Err, refl, arith}
 use Rattle.std.specs.Prelude.{◌≢◌, IfErr}
 use Rattle.std.specs.Str.{bytes_eq}
@@ -13,7 +14,7 @@ use Rattle.cose_msg.specs.Answer.{Answer, complete, Chosen, Headers, Whole}
 use Rattle.cose_msg.specs.Laws.{IsDefinite, StandsBy, AreFair, AllAreFair}
 use Rattle.cose_msg.specs.Message.{Setting, Decides, rules_with, question_of, with_algorithm, past_chosen, found_key, as_choice, key_choice_of, tag_of, digest_signed, judged, compare_tag, compared, verified, shape_of}
 
--- What comes of a whole message.
+-- The result for a whole message.
 pub record IsFairOf (whole : Whole) (answer : Answer) : Type 0 where
   pub definite : IsDefinite answer
   pub inside : whole.auth_at ≤ whole.taken → StandsBy whole.taken answer

@@ -1,4 +1,4 @@
--- What a head that has no fault says of its argument.
+-- What a head that has no fault ensures of its argument.
 use Rattle.std.proofs.Common.{◌≡◌, ℕ, ◌<◌, ◌≤◌, ◌^◌, Bool, true, false, cond, Option, Some, None, refl, arith}
 use Rattle.std.specs.Prelude.{nat_lt, nat_le, ◌||◌}
 use Rattle.std.proofs.lemmas.Bool.{ltb-false, leb-false}
@@ -32,6 +32,6 @@ auth_cases true false a b e = absurd cc
 pub auth_fits : (fits : ℕ → Bool) (head : Head) → auth_fault_where fits head ≡ None → fits head.arg ≡ true
 auth_fits fits head e = auth_cases (is_bytes_head head) (fits head.arg) _ _ e
 
--- The fault goes by the lengths that fit.
+-- The fault depends on the lengths that fit.
 pub auth_fault_same : (fits other : ℕ → Bool) → ((n : ℕ) → fits n ≡ other n) → (head : Head) → auth_fault_where fits head ≡ auth_fault_where other head
 auth_fault_same fits other same head = rw (same head.arg) refl

@@ -18,7 +18,7 @@ use Rattle.cose_msg.proofs.Runs.{Bounded, grown_by, settled_if_none_asked, witho
 
 -- ---- parts of a piece
 
--- The next bytes of a piece, behind those that were used.
+-- The next bytes of a piece, after those that were used.
 pub used_then : (piece : List ℕ) (used count : ℕ) → take (used + count) piece ≡ take used piece ++ take count (drop used piece)
 used_then piece used count = take-add used count piece
 
@@ -31,7 +31,7 @@ part_then piece from to count le =
 pub part_from : (piece : List ℕ) (used count : ℕ) → part_of piece used (used + count) ≡ take count (drop used piece)
 part_from piece used count = let e : (used + count) - used ≡ count = omega arith in ap (λ (n : ℕ). take n (drop used piece)) e
 
--- The code's word for the next bytes.
+-- The next bytes in the terms of the code.
 abbrev pub next_of : List ℕ → ℕ → ℕ → List ℕ
 next_of piece used count = take count (take (length piece - used) (drop used piece))
 
@@ -53,7 +53,7 @@ in_order from to le none some = elim (cases_lt from to) [
   | inr ge ↦ (let nothing : to ≡ 0 = none (omega (arith, le, ge)) in absurd (omega (arith, nothing, some)))
 ]
 
--- The payload's part with a step more, which begins it or goes on where it was.
+-- The payload's part with one step more, which begins it or continues where it was.
 pub part_extended : (piece : List ℕ) (from to used count : ℕ) → from ≤ to → (0 < to → to ≡ used) → part_of piece (cond (to == 0) used from) (used + count) ≡ part_of piece from to ++ take count (drop used piece)
 part_extended piece from to used count le there = elim (cases_lt 0 to) [
   | inl some ↦ (
@@ -72,13 +72,14 @@ part_extended piece from to used count le there = elim (cases_lt 0 to) [
 unsettled_is_more : (reading : Reading) → reading.settled ≡ false → status_of reading ≡ More
 unsettled_is_more reading unsettled = rw unsettled refl
 
--- So many bytes of the piece were used, and those between two places are the payload's. A payload that ended before is known.
+-- This many bytes of the piece were used, and those between two places are the payload's. A payload that ended before
+-- is known.
 pub record Along {H D : ℕ} {S : Type 0} {K : _} (task : Task) (s B piece : List ℕ) (used from to : ℕ) (v : Verifier H D S K) : Type 0 where
   pub stands : HasTaken task (s ++ take used piece) (B ++ part_of piece from to) v
   pub none_earlier : (n : ℕ) → n < used → (message (rules_of H D task) (s ++ take n piece)).settled ≡ false
   pub over : 0 < to → to < used → (more : List ℕ) → (message (rules_of H D task) ((s ++ take used piece) ++ more)).told.payload ≡ B ++ part_of piece from to
 
--- Nothing is used of a piece where the message is no more than it was, unless it wants more.
+-- Nothing is used of a piece where no byte was added to the message, unless the message wants more.
 pub uses_none : {H D : ℕ} (task : Task) (s piece : List ℕ) → (status_of (message (rules_of H D task) s) ≡ More → ⊥) → Uses (rules_of H D task) s piece 0
 uses_none {H} {D} task s piece wants_none = record {
   within = omega arith;
@@ -145,7 +146,7 @@ module _ {H D : ℕ} {S : Type 0} {K : _} {task : Task} {s B piece : List ℕ} {
     | inr not_before ↦ omega (arith, among, not_before)
   ]
 
-  -- A step in the payload: it goes on where it was, or begins.
+  -- A step in the payload: it continues where it was, or begins.
   pub goes_on : (from_next : ℕ) → in_payload v.reader.phase ≡ true → part_of piece from_next (used + count) ≡ part_of piece from to ++ take count (drop used piece) →
       ((more : List ℕ) → length more < count → (message (rules_of H D task) ((s ++ take used piece) ++ more)).settled ≡ false) →
       HasTaken task ((s ++ take used piece) ++ take count (drop used piece)) (grown v.reader.phase (B ++ part_of piece from to) (take count (drop used piece))) next →
@@ -159,7 +160,7 @@ module _ {H D : ℕ} {S : Type 0} {K : _} {task : Task} {s B piece : List ℕ} {
         over = λ some lt. absurd (omega (arith, lt));
       }
 
--- ---- what comes of a piece
+-- ---- the result for a piece
 
 module _ {H D : ℕ} {S : Type 0} {K : _} {task : Task} {s B piece : List ℕ} {used from to : ℕ} {v : Verifier H D S K} (a : Along task s B piece used from to v) where
   -- No byte of it is left, or the message is settled.

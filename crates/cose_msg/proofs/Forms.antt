@@ -24,7 +24,7 @@ pub record Lawful (phase : Phase) : Type 0 where
   pub stays : Stays phase
   pub ends : EndsTruncated phase
 
--- The laws of heads and items that these rest on.
+-- The laws of heads and items that these proofs cite.
 abbrev pub HeadIsDefinite : Type 0
 HeadIsDefinite = (bytes : List ℕ) (reason : Reason) → bare_head bytes ≡ Fault reason → reason ≢ Truncated
 
@@ -172,7 +172,7 @@ unless-lawful : (told : Told) (fault : Option Refusal) (phase : Phase) → Lawfu
 unless-lawful told (Some refusal) phase h = settled-lawful (λ place. stop told refusal.reason refusal.place) (λ place. refl)
 unless-lawful told None phase h = h
 
--- A test that looks at the place.
+-- A test that depends on the place.
 pub unless_at-lawful : (told : Told) (fault : ℕ → Option Refusal) (phase : Phase) → Lawful phase → Lawful (λ place. unless told (fault place) phase place)
 unless_at-lawful told fault phase h = record {
   stays = λ more place bytes done. (unless-lawful told (fault place) phase h).stays more place bytes done;

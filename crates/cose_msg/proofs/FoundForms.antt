@@ -19,7 +19,7 @@ use Rattle.cose_msg.specs.Answer.{Answer, refused}
 use Rattle.cose_msg.specs.Reading.{Told, Reading, Phase, Next, stop, cut, past_head, with_head, with_string, is_truncated, past_item, with_item, unless, unless_fault, with_value, open_after}
 use Rattle.cose_msg.proofs.Spelled.{SpellingLaws}
 
--- What a phase at a place comes to.
+-- The answer of a phase at a place.
 abbrev pub Comes : Phase → ℕ → List ℕ → Answer → Type 0
 Comes phase place bytes answer = (phase place bytes).answer ≡ answer
 
@@ -39,7 +39,7 @@ content_at next place begun begins ended ends content rest answer p q comes =
 
 -- ---- what is found
 
--- A head, at the front of the bytes, and what comes after it.
+-- A head, at the beginning of the bytes, and what comes after it.
 pub record HeadFound (next : Next Head) (place : ℕ) (bytes : List ℕ) (answer : Answer) : Type 0 where
   pub head : Head
   pub part : List ℕ
@@ -48,7 +48,7 @@ pub record HeadFound (next : Next Head) (place : ℕ) (bytes : List ℕ) (answer
   pub is_head : IsHead part head.major head.arg
   pub comes : Comes (next place head) (place + length part) rest answer
 
--- So many bytes.
+-- This many bytes.
 record BytesFound (n : ℕ) (next : Next (List ℕ)) (place : ℕ) (bytes : List ℕ) (answer : Answer) : Type 0 where
   content : List ℕ
   rest : List ℕ
@@ -90,7 +90,7 @@ spelled_string head content is = record { head = head; rest = content; whole = r
 -- ---- the forms
 
 module _ (answer : Answer) (unrefused : NotRefused answer) where
-  -- Of two ways of which the first is refused, the other is taken; and one of them can't be refused.
+  -- Of two readings of which the first is refused, the other is taken; and one of them can't be refused.
   past_refusal : (b : Bool) (x y : Reading) → (x.answer ≡ answer → ⊥) → (cond b x y).answer ≡ answer → (b ≡ false) × (y.answer ≡ answer)
   past_refusal true x y h comes = absurd (h comes)
   past_refusal false x y h comes = (refl, comes)

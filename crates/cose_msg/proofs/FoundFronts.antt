@@ -1,4 +1,4 @@
--- The front of a message that isn't refused, its tags and the head of its array, is one that the rules want.
+-- The front of a message that isn't refused, its tags and the head of its array, is one that the rules allow.
 use Rattle.std.proofs.Common.{◌≡◌, ℕ, ◌+◌, ◌⊎◌, inl, inr, Bool, true, false, cond, List, ◌++◌, length, Some, None, Result, Ok, Err, refl, sym, ap, subst, ◌∙◌, append_assoc, arith, length-append, zero-add}
 use Rattle.std.specs.Prelude.{◌==◌, ◌&&◌, ◌||◌}
 use Rattle.std.proofs.lemmas.Bool.{eqb-true}
@@ -20,7 +20,7 @@ use Rattle.cose_msg.proofs.Found.{first_test, passes, ProtectedFound, protected_
 use Rattle.cose_msg.proofs.FoundForms.{Comes, NotRefused, ValueFound, comes_at, unless_fault_found, head_found}
 use Rattle.cose_msg.proofs.Spelled.{SpellingLaws}
 
--- A part of the front, at the front of the bytes; the protected bucket comes after it.
+-- A part of the front, at the beginning of the bytes; the protected bucket comes after it.
 record PartFound (IsPart : List ℕ → Type 0) (rules : Rules) (kind : Kind) (place : ℕ) (bytes : List ℕ) (answer : Answer) : Type 0 where
   part : List ℕ
   rest : List ℕ
@@ -37,7 +37,7 @@ record TagFound (rules : Rules) (place : ℕ) (bytes : List ℕ) (answer : Answe
   wanted : wants_kind rules.wanted kind ≡ true
   found : PartFound (IsTagged kind) rules kind place bytes answer
 
--- The head of an array of four, that was found to be it.
+-- The head that was found to be that of an array of four.
 record FourFound (rules : Rules) (kind : Kind) (head : Head) (place : ℕ) (bytes : List ℕ) (answer : Answer) : Type 0 where
   major : head.major ≡ 4
   four : head.arg ≡ 4
@@ -124,7 +124,7 @@ module _ (answer : Answer) (unrefused : NotRefused answer) (laws : SpellingLaws)
   past_tag_found at (Ok kind) place bytes comes = record { found = kind; is = refl; comes = comes }
   past_tag_found at (Err reason) place bytes comes = absurd (unrefused reason at comes)
 
-  -- What begins with a tag, behind which a part was found.
+  -- What begins with a tag, after which a part was found.
   behind_tag : (IsPart : List ℕ → Type 0) (kind : Kind) (place number : ℕ) (bytes tag rest : List ℕ) → bytes ≡ tag ++ rest → IsHead tag 6 number → PartFound IsPart rules kind (place + length tag) rest answer
       → PartFound (λ part. Begins part 6 number IsPart) rules kind place bytes answer
   behind_tag IsPart kind place number bytes tag rest is is_head p =

@@ -95,7 +95,7 @@ unrefused_is_message laws rules bytes unrefused =
     let m = message_found laws rules bytes (message rules bytes).answer (unrefused_so (message rules bytes).answer unrefused) refl in
     (m.whole, m.begins, sym m.comes)
 
--- A message at the front of the bytes is read, whatever follows it.
+-- A message at the beginning of the bytes is read, whatever follows it.
 pub begins_read : SpellingLaws → (rules : Rules) (bytes : List ℕ) (whole : Whole) → BeginsWithMessage rules bytes whole → (message rules bytes).answer ≡ rules.finish whole
 begins_read laws rules bytes whole b =
     let parts : take whole.taken bytes ++ drop whole.taken bytes ≡ bytes = take-append-drop whole.taken bytes in
@@ -103,14 +103,14 @@ begins_read laws rules bytes whole b =
     sym (ap (message rules) parts) ∙ message_read laws rules (take whole.taken bytes) (drop whole.taken bytes) whole b.message in
     ap (λ (reading : Reading). reading.answer) read
 
--- ---- what a message is, whatever it comes to
+-- ---- what a message is, whatever its answer
 
 front_finished : (rules : Rules) (finish : Whole → Answer) (kind : Kind) (front : List ℕ) → IsFront rules kind front → IsFront (record rules { finish = finish }) kind front
 front_finished rules finish kind front (untagged wanted is) = untagged wanted is
 front_finished rules finish kind front (tagged wanted begins) = tagged wanted begins
 front_finished rules finish kind front (in_cwt admitted wanted begins) = in_cwt admitted wanted begins
 
--- Two rules that differ in what a whole message comes to alone have the same messages.
+-- Two rules that differ only in the answer for a whole message have the same messages.
 pub finished : (rules : Rules) (finish : Whole → Answer) (bytes : List ℕ) (whole : Whole) → IsMessage rules bytes whole → IsMessage (record rules { finish = finish }) bytes whole
 finished rules finish bytes whole m = record {
   spelled = m.spelled;

@@ -26,7 +26,7 @@ kept_sink true answer result e = let is : Err stops.Again ≡ result = cc in sub
 kept_sink false (Some answer) result e = let is : Ok answer ≡ result = cc in subst (λ r. stops_for_sink r ≡ false) is refl
 kept_sink false None result e = absurd cc
 
--- What stops for nothing fails nothing.
+-- A call that stops for nothing adds no failure.
 pub unfailed : (failed stops : Bool) → stops ≡ false → failed ≡ (failed || stops)
 unfailed true stops e = refl
 unfailed false stops e = sym e

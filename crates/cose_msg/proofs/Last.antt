@@ -1,4 +1,4 @@
--- Rules that differ in what a whole message comes to alone: the answers differ in that alone, phase by phase.
+-- Rules that differ only in the answer for a whole message: the readings differ only in that answer, phase by phase.
 use Rattle.std.proofs.Common.{◌≡◌, ℕ, ◌+◌, Bool, true, false, cond, List, [], length, take, drop, Option, Some, None, Result, Ok, Err, refl, sym, ap}
 use Rattle.std.specs.Prelude.{max, ◌-◌, nat_lt}
 use Rattle.std.specs.Str.{bytes_eq}

@@ -42,7 +42,7 @@ numbered Hmac384 = refl
 numbered Hmac512 = refl
 numbered Es256 = refl
 
--- An algorithm of signatures doesn't answer the question.
+-- No key is chosen for the question of a message that is made by an algorithm of signatures.
 pub chosen_is_mac : (alg : Alg) (kid : Option (List ℕ)) (keys : List KeyValue) (found : KeyValue × ℤ) → chosen (question_made alg kid) keys ≡ Ok found → is_mac_of alg ≡ true
 unfolding chosen
 chosen_is_mac Hmac64 kid keys found e = refl
@@ -60,7 +60,7 @@ integer_label : (n : ℤ) → label_of_tree (integer_item n) ≡ Some (number n)
 integer_label (pos n) = refl
 integer_label (negsuc n) = refl
 
--- It has three bytes.
+-- The protected header has three bytes.
 pub protected_length : (alg : Alg) → length (protected_made alg) ≡ 3
 unfolding shortest shortest_all shortest_head
 protected_length Hmac64 = refl
@@ -69,7 +69,7 @@ protected_length Hmac384 = refl
 protected_length Hmac512 = refl
 protected_length Es256 = refl
 
--- A map that holds the kid has no fewer bytes.
+-- A map that holds the kid has at least as many bytes as the kid.
 inside : (front label head kid : List ℕ) → length kid ≤ length (front ++ (label ++ ((head ++ kid) ++ [])))
 inside front label head kid = omega (arith, length-append front (label ++ ((head ++ kid) ++ [])), length-append label ((head ++ kid) ++ []), length-append (head ++ kid) [], length-append head kid)
 
@@ -94,7 +94,7 @@ abbrev pub KidIsShort : Option (List ℕ) → Type 0
 KidIsShort None = Unit {0}
 KidIsShort (Some kid) = length kid < 2 ^ 64
 
--- The labels of the two buckets differ, and ask nothing else of one another.
+-- The labels of the two buckets differ, and the pair of buckets has no other fault.
 pub good_together : (alg : Alg) (kid : Option (List ℕ)) (place other after : ℕ) (understood : List LabelValue) → pair_fault (protected_pairs place alg) (unprotected_pairs other kid) understood after ≡ None
 unfolding pair_faults
 good_together alg None place other after understood = refl

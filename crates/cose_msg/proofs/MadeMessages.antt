@@ -26,7 +26,7 @@ use Rattle.cose_msg.proofs.MadeHeaders.{numbered, chosen_is_mac, protected_lengt
 use Rattle.cose_msg.proofs.Spelled.{one_byte_head}
 use Rattle.cose_msg.proofs.SpelledBuckets.{ShortestLaws}
 
--- The laws of spellings and of MACs that these rest on.
+-- The laws of spellings and of MACs that these proofs cite.
 pub record MadeLaws : Type 0 where
   pub shortest : ShortestLaws
   pub mac : MacHasItsLength
@@ -140,7 +140,7 @@ module _ (laws : MadeLaws) (room nesting : ℕ) (setting : Setting) (alg : Alg) 
     ends = refl;
   }
 
-  -- The tag that was made is the one that is compared with.
+  -- The tag that was made is the one that the tag is compared with.
   tag_is : auth_made alg secret setting.aad payload ≡ tag_of setting.aad found whole
   unfolding structure
   tag_is = ap (λ (secret : List ℕ). auth_made alg secret setting.aad payload) (sym h.secret_is)

@@ -1,4 +1,4 @@
--- What a call of `make_mac0` did, from what its parts did.
+-- The result of a call of `make_mac0`, from the results of its parts.
 use Rattle.std.proofs.Common.{◌≡◌, ℕ, ◌+◌, ◌≤◌, Bool, true, false, List, [], ◌++◌, length, take, Option, None, Some, Ok, Err, refl, sym, ap, subst, ◌∙◌, append_assoc, append-nil, arith, length-append, IsTrue}
 use Rattle.std.specs.Prelude.{Result, IsOk, if◌then◌else◌}
 use Rattle.std.specs.Io.KnownBytes.{Appends}
@@ -25,14 +25,14 @@ use Rattle.cose_msg.proofs.Making.{in_parts}
 use Rattle.cose_msg.proofs.Puts.{front_of_more}
 use Rattle.cose_msg.proofs.Runs.{AppendsFront-then}
 
--- The message of each payload of this length is this front, the payload, and what stands behind it.
+-- The message of each payload of this length is this prefix, the payload, and what follows it.
 abbrev pub IsInParts : (List ℕ → List ℕ) → ℕ → List ℕ → (List ℕ → List ℕ) → Type 0
 IsInParts message payload_length front tail = (payload : List ℕ) → length payload ≡ payload_length → message payload ≡ front ++ (payload ++ tail payload)
 
 all_appended : (old new : Option (List ℕ)) (bytes : List ℕ) → Appends old new bytes → AppendsFront old new bytes
 all_appended old new bytes p = (bytes, ([], sym (append-nil bytes)), p)
 
--- Where a front of what was taken went to the sink, it is a front of the message of every payload that begins so.
+-- Where a prefix of what was taken went to the sink, it is a prefix of the message of every payload that begins so.
 front_of_each : (message : List ℕ → List ℕ) (n : ℕ) (front : List ℕ) (tail : List ℕ → List ℕ) (taken : List ℕ) (old new : Option (List ℕ)) → IsInParts message n front tail → AppendsFront old new (front ++ taken) →
     (payload : List ℕ) → length payload ≡ n → IsFront payload taken → AppendsFront old new (message payload)
 front_of_each message n front tail taken old new parts p payload count (rest, whole) =
@@ -40,14 +40,14 @@ front_of_each message n front tail taken old new parts p payload count (rest, wh
     parts payload count ∙ ap (λ (t : List ℕ). front ++ (t ++ tail payload)) whole ∙ ap (λ (t : List ℕ). front ++ t) (append_assoc taken rest (tail payload)) ∙ sym (append_assoc front taken (rest ++ tail payload)) in
     subst (λ (t : List ℕ). AppendsFront old new t) (sym regrouped) (front_of_more old new (front ++ taken) (rest ++ tail payload) p)
 
--- A payload that begins with as many bytes as it has is these.
+-- A payload that begins with these bytes, and has as many, is these bytes.
 same_payload : (n : ℕ) (payload taken : List ℕ) → length payload ≡ n → length taken ≡ n → IsFront payload taken → payload ≡ taken
 same_payload n payload taken count all (rest, whole) =
     let none : rest ≡ [] = nil_from_length rest (omega (arith, count, all, ap length whole, length-append taken rest)) in
     whole ∙ ap (λ (t : List ℕ). taken ++ t) none ∙ append-nil taken
 
 module _ (message : List ℕ → List ℕ) (n : ℕ) (front : List ℕ) (tail : List ℕ → List ℕ) (parts : IsInParts message n front tail) where
-  -- The sink failed at the front.
+  -- The sink failed before the payload.
   pub front_failed : {old new : Seen} {fault : MakeFault} (come : Option (List ℕ)) (ended : Bool) → Writes old new (Err fault) front → Makes message n come come ended old.contents new.contents (Err fault) []
   front_failed {old} {new} {fault} come ended p =
       subst (λ (f : MakeFault). Makes message n come come ended old.contents new.contents (Err f) []) (sym p.put.1) (record {
@@ -56,7 +56,7 @@ module _ (message : List ℕ → List ℕ) (n : ℕ) (front : List ℕ) (tail : 
         grows = front_of_each message n front tail [] old.contents new.contents parts (front_of_more old.contents new.contents front [] p.put.0);
       })
 
-  -- The payload ended early, or the intake or the sink failed at it.
+  -- The payload ended early, or the intake or the sink failed in it.
   pub payload_failed : {old now new : Seen} {k : ℕ} {come come_after : Option (List ℕ)} {ended : Bool} {before after : Running} (taken : List ℕ) (fault : MakeFault) → Writes old now (Ok k) front →
       Streams n come come_after ended now new before after (Err fault) taken → Makes message n come come_after ended old.contents new.contents (Err fault) taken
   payload_failed {old} {now} {new} {k} {come} {come_after} {ended} {before} {after} taken faults.ShortPayload p q = record {
@@ -147,7 +147,7 @@ same_length law alg is_mac secret aad one other =
     length-append (shortest_head 2 (length (auth_made alg secret aad one))) (auth_made alg secret aad one) ∙ ap (λ (k : ℕ). length (shortest_head 2 k) + k) same
     ∙ sym (length-append (shortest_head 2 (length (auth_made alg secret aad other))) (auth_made alg secret aad other))
 
--- ---- where the intake tells its bytes
+-- ---- where the bytes to come are known to the contract
 
 pub answered : {message : List ℕ → List ℕ} {n m : ℕ} {come contents contents_after : Option (List ℕ)} {ended : Bool} (come_after : Option (List ℕ)) (taken bytes : List ℕ) → Makes message n come come_after ended contents contents_after (Ok m) taken → come ≡ Some bytes →
     Ok m ≡ answer_over message n bytes

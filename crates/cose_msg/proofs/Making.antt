@@ -27,7 +27,7 @@ protected_bytes Hmac384 is_mac = refl
 protected_bytes Hmac512 is_mac = refl
 protected_bytes Es256 is_mac = cc
 
--- What stands before the payload's content, the payload, and the tag.
+-- What precedes the payload's content, the payload, and the tag.
 pub in_parts : (alg : Alg) (secret : List ℕ) (kid : Option (List ℕ)) (aad payload : List ℕ) →
     made alg secret kid aad payload ≡ front_of (protected_made alg) kid (length payload) ++ (payload ++ encoded_string 2 (auth_made alg secret aad payload))
 unfolding made shortest shortest_all

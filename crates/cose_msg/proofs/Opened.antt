@@ -1,4 +1,4 @@
--- The hash over a structure, from its front to the whole.
+-- The hash over a structure, from what precedes the payload to the whole.
 use Rattle.std.proofs.Common.{◌≡◌, ℕ, Bool, true, List, [], ◌++◌, length, Option, None, Some, refl, sym, ap, subst, ◌∙◌, append_assoc, append-nil}
 use Rattle.std.specs.Str.{bytes_eq}
 use Rattle.cose_head.specs.declared.kind.Kind.{Kind}
@@ -18,7 +18,7 @@ abbrev pub with_auth : Known → List ℕ → Known
 with_auth known auth = record { headers = known.headers; chosen = known.chosen; payload = known.payload; auth = auth }
 
 module _ (aad : List ℕ) (headers : Headers) (payload : List ℕ) (n : ℕ) where
-  -- Of a payload that is there whole, the whole structure was fed.
+  -- Where the whole payload is there, the whole structure was fed.
   pub opened_whole : (chosen : Option Chosen) (hashing : Hashing) → OpenedFor chosen hashing aad headers payload n → length payload ≡ n → HashesFor hashing chosen (structure aad headers payload)
   opened_whole (Some found) hashing opened whole = subst (λ (message : List ℕ). Hashes hashing found message) (opened.completes payload whole) opened.fed
   opened_whole None hashing opened whole = tt
@@ -33,7 +33,8 @@ module _ (aad : List ℕ) (headers : Headers) (payload : List ℕ) (n : ℕ) whe
   }
   opened_more None old new piece grows opened = tt
 
-  -- The front of the structure is fed, where the protected header goes in as received, or empty where the bucket is.
+  -- What precedes the payload in the structure is fed: the protected header as received, or an empty string where the
+  -- bucket is empty.
   pub opened_first : (chosen : Option Chosen) (old new : Hashing) (P : List ℕ) (kind : Kind)
       → ((found : Chosen) (message : List ℕ) → Hashes old found message → Hashes new found (message ++ structure_front kind P aad n))
       → ((found : Chosen) (message all : List ℕ) → Hashes old found message → length all ≡ n → structure_front kind P aad n ++ all ≡ structure_of kind P aad all)

@@ -1,4 +1,4 @@
--- How much of a payload is known: in its phase as many bytes as came of it, and behind it no more.
+-- How much of a payload is known: in its phase as many bytes as were taken of it, and after it no more.
 use Rattle.std.proofs.Common.{◌≡◌, ℕ, ◌+◌, ◌<◌, true, false, List, [], ◌++◌, length, take, drop, Option, refl, sym, ap, subst, ◌∙◌, arith, inl, inr, length-append}
 use Rattle.std.proofs.lemmas.Bool.{cases_lt}
 use Rattle.std.proofs.lemmas.List.{length-take, take-append-drop, take_all}
@@ -17,7 +17,7 @@ use Rattle.cose_msg.proofs.Steps.{string_whole}
 use Rattle.cose_msg.proofs.ToldForms.{Tells, unless_fault-tells, with_head-tells, with_string-tells}
 use Rattle.cose_msg.proofs.Waits.{fewer, string_waits}
 
--- ---- behind the payload
+-- ---- after the payload
 
 abbrev Is : List ℕ → Told → Type 0
 Is B told = told.payload ≡ B
@@ -37,7 +37,7 @@ none_known told other e none some =
     absurd (omega (arith, empty, some))
 
 module _ {H D : ℕ} (task : Task) (known : Known) (told : Told) (n : ℕ) (v : Reader H D) where
-  -- Where the payload isn't the phase that the next byte is in, nothing is added to it.
+  -- Where the phase isn't the payload, nothing is added to the payload.
   fixed_in : (phase : Phase) → HoldsIn task known told n v phase → in_payload phase ≡ false → known.payload ≡ told.payload → 0 < length told.payload → (more : List ℕ) →
       (left_in (rules_of H D task) known told v phase more).told.payload ≡ told.payload
   fixed_in phases.FirstHead h e same some more = none_known told _ h.0 refl some
@@ -55,7 +55,7 @@ module _ {H D : ℕ} (task : Task) (known : Known) (told : Told) (n : ℕ) (v : 
   fixed_in (phases.Settled verdict) h e same some more = refl
   fixed_in (phases.Shaped p) h e same some more = refl
 
-  -- In the payload further bytes are added to it, as many as are left.
+  -- In the payload the next bytes are added to it, as many as are left.
   grows_at : (p : Payload) → HoldsIn task known told n v (phases.Payload p) → (more : List ℕ) →
       (left_in (rules_of H D task) known told v (phases.Payload p) more).told.payload ≡ known.payload ++ take p.left more
   grows_at p h more = elim (cases_lt (length more) p.left) [

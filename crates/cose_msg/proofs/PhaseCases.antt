@@ -1,4 +1,4 @@
--- What is known of a phase that is none of some.
+-- What is known of a phase that is none of certain phases.
 use Rattle.std.proofs.Common.{◌≡◌, true, false, Option, Some, None, refl}
 use Rattle.cose_msg.specs.declared.phase.Auth.{Auth}
 use Rattle.cose_msg.specs.declared.phase.Payload.{Payload}
@@ -15,7 +15,7 @@ use Rattle.cose_msg.specs.Phase.{awaits_decision, is_settled, takes_bytes}
 use Rattle.cose_msg.specs.Shown.{SignInput, input_in}
 use Rattle.cose_msg.specs.Status.{status_at}
 
--- In what isn't settled and no string a byte is taken alone.
+-- In a phase that isn't settled and is no string, one byte is taken at a time.
 pub takes_byte : (phase : Phase) → ((p : Protected) → phase ≡ phases.Protected p → ⊥) → ((p : Unprotected) → phase ≡ phases.Unprotected p → ⊥) →
     ((p : Payload) → phase ≡ phases.Payload p → ⊥) → ((p : Auth) → phase ≡ phases.Auth p → ⊥) → is_settled phase ≡ false → takes_bytes phase ≡ true
 takes_byte phases.FirstHead a b c d e = refl
@@ -49,7 +49,7 @@ unsigned_is_undecided (phases.Decided verdict) none = refl
 unsigned_is_undecided (phases.Settled verdict) none = refl
 unsigned_is_undecided (phases.Shaped p) none = refl
 
--- What has a verdict awaits no decision.
+-- A phase that has a verdict awaits no decision.
 pub known_is_decided : (phase : Phase) (verdict : Verdict) → verdict_in phase ≡ Some verdict → awaits_decision phase ≡ true → ⊥
 known_is_decided (phases.Signed p) verdict known awaits = cc
 known_is_decided (phases.Decided other) verdict known awaits = cc
@@ -66,7 +66,7 @@ known_is_decided (phases.AuthHead p) verdict known awaits = cc
 known_is_decided (phases.Auth p) verdict known awaits = cc
 known_is_decided (phases.Shaped p) verdict known awaits = cc
 
--- What awaits no decision and has no verdict tells no signature.
+-- A phase that awaits no decision and has no verdict gives no signature.
 pub tells_no_input : (phase : Phase) (held : Option SignInput) → awaits_decision phase ≡ false → verdict_in phase ≡ None → input_in phase held ≡ None
 tells_no_input phases.FirstHead held undecided none = refl
 tells_no_input (phases.TagHead p) held undecided none = refl

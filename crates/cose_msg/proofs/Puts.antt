@@ -6,7 +6,7 @@ use Rattle.cose_msg.specs.Writes.{Seen, Writes}
 use Rattle.cose_msg.specs.Sink.{AppendsFront}
 use Rattle.cose_msg.proofs.Runs.{AppendsFront-then}
 
--- A front of the bytes is a front of more.
+-- A prefix of the bytes is a prefix of more.
 pub front_of_more : (old new : Option (List ℕ)) (x y : List ℕ) → AppendsFront old new x → AppendsFront old new (x ++ y)
 front_of_more old new x y (front, (rest, whole), grown) =
     (front, (rest ++ y, ap (λ (t : List ℕ). t ++ y) whole ∙ append_assoc front rest y), grown)

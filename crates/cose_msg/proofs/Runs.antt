@@ -66,7 +66,7 @@ at_start {H} {D} {S} {K} {task} {s} {B} {v} come contents ended sure stands = re
   promise = omega arith;
 }
 
--- What a piece is of the array that the intake wrote into.
+-- The part of the array that the intake wrote a piece into.
 pub first_of : (old new : Option (List ℕ)) (n : ℕ) (into rest : List ℕ) → n ≤ length into → Consumes old new (take n into) → Consumes old new (take n (into ++ rest))
 first_of old new n into rest le h = subst (λ (t : List ℕ). Consumes old new t) (sym (take-append-le n into rest le)) h
 
@@ -80,7 +80,7 @@ not_stopped true answer e = absurd cc
 not_stopped false (Some answer) e = refl
 not_stopped false None e = refl
 
--- An answer that is kept by a verifier that goes on.
+-- An answer that is kept by a verifier that hasn't stopped.
 pub record IsKept {A : Type 0} (kept : Option A) (result : Result A Stop) : Type 0 where
   pub answer : A
   pub kept_is : kept ≡ Some answer
@@ -100,7 +100,7 @@ without_more H D task bytes = ap (message (rules_of H D task)) (append-nil bytes
 pub told_before : (H D : ℕ) (task : Task) (bytes B : List ℕ) → (message (rules_of H D task) (bytes ++ [])).told.payload ≡ B → (message (rules_of H D task) bytes).told.payload ≡ B
 told_before H D task bytes B told = ap (λ (r : Reading). r.told.payload) (sym (without_more H D task bytes)) ∙ told
 
--- ---- what a phase says of a step
+-- ---- what a phase ensures of a step
 
 pub wanted_is_open : (phase : Phase) → 0 < want_of phase → is_settled phase ≡ false
 wanted_is_open phases.FirstHead lt = refl
@@ -174,7 +174,7 @@ goes_on {H} {D} {S} {K} {task} {s} {B} {come} {come_now} {come_after} {contents}
 
 -- ---- exits
 
--- What the bytes tell that were taken in all.
+-- What the reading of the bytes gives that were taken in all.
 told_of_all : {H D : ℕ} {S : Type 0} {K : _} (task : Task) (v : Verifier H D S K) (bytes all : List ℕ) → bytes ≡ all → shown_of v ≡ shown_in task.setting (message (rules_of H D task) (bytes ++ [])) → Tells task all v
 told_of_all {H} {D} task v bytes all same h = subst (λ (b : List ℕ). Tells task b v) same (h ∙ ap (shown_in task.setting) (without_more H D task bytes))
 
@@ -240,7 +240,7 @@ stopped_by_sink {H} {D} {S} {K} {task} {s} {B} {come} {come_now} {come_after} {c
       grows = AppendsFront-then contents contents_now contents_after a.part piece a.payload front;
     }
 
--- ---- what a failed put says
+-- ---- what a failed put ensures
 
 pub put_failed : (old new : Option (List ℕ)) (piece : List ℕ) (result : Result (Unit {0}) SinkFault) → is_err result ≡ true → Puts old new result piece → AppendsFront old new piece
 put_failed old new piece (Ok u) e p = absurd cc
@@ -287,7 +287,7 @@ asked_for_more asked taken some none (inr late) = late
 within_limit : (room limit n : ℕ) → room ≤ 65535 → 2 ^ 57 ≤ n → (2 * room + 186 + payload_at_most limit ≤ n) × (2 * room + 65589 + payload_at_most limit ≤ n)
 within_limit room limit n le late = let short : min limit (2 ^ 56 - 1) ≤ 2 ^ 56 - 1 = min-le_right limit (2 ^ 56 - 1) in (omega arith, omega arith)
 
--- So many bytes settle any message.
+-- This many bytes settle any message.
 pub record Bounded : Type 0 where
   pub compared : VerifiedWithin comparing
   pub inspected : MessageIsInspectedWithin

@@ -1,4 +1,4 @@
--- So many bytes settle a message, phase by phase, whatever they are.
+-- This many bytes settle a message, phase by phase, whatever they are.
 use Rattle.std.proofs.Common.{◌≡◌, ℕ, ◌+◌, ◌^◌, ◌≤◌, Bool, true, false, cond, List, [], length, take, drop, Option, Some, None, Result, Ok, Err, refl, ap, arith, length-drop}
 use Rattle.std.specs.Prelude.{nat_lt, nat_le, ◌||◌}
 use Rattle.std.proofs.lemmas.Bool.{le-ltb, ltb-false, leb-false}
@@ -29,7 +29,7 @@ use Rattle.cose_msg.specs.Phases.{nothing_told, protected_told, unprotected_told
 use Rattle.cose_msg.specs.Reading.{Told, Reading, Phase, Next, past_head, with_head, with_string, is_truncated, past_item, with_item, unless, unless_fault, with_value, open_after}
 use Rattle.cose_msg.specs.Rules.{Rules}
 
--- The laws of heads and items that these rest on.
+-- The laws of heads and items that these proofs cite.
 pub record BoundLaws : Type 0 where
   pub short : HalfIsShort
   pub fits : HeadFits

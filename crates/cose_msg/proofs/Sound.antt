@@ -1,4 +1,5 @@
--- Every phase of a message is sound: no refusal of a settled reading is Truncated, and nothing of a reading stands after the bytes.
+-- Every phase of a message is sound: no refusal of a settled reading is Truncated, and no place of a reading is after
+-- the bytes.
 use Rattle.std.proofs.Common.{◌≡◌, ℕ, ◌+◌, ◌≤◌, ◌⊎◌, inl, inr, Bool, true, false, cond, List, [], ◌∷◌, length, Option, Some, None, Result, Ok, Err, refl, subst, arith}
 use Rattle.std.specs.Prelude.{◌≢◌, ◌==◌, ◌||◌, max, nat_lt, IfErr, IfSome}
 use Rattle.cose_head.specs.declared.head.Head.{Head}
@@ -25,7 +26,7 @@ use Rattle.cose_msg.proofs.Forms.{HeadLaws}
 use Rattle.cose_msg.proofs.Lawful.{message_ends_truncated}
 use Rattle.cose_msg.proofs.SoundForms.{Sound, stands_later, stop-sound, with_head-sound, with_string-sound, with_item-sound, unless_fault-sound, unless_at-sound, with_value-sound, choose-sound}
 
--- The laws of buckets and keys that these rest on.
+-- The laws of buckets and keys that these proofs cite.
 pub record MapLaws : Type 0 where
   pub bucket_inside : BucketIsRefusedInside
   pub bucket_ends : BucketEndsInside

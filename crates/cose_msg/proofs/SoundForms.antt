@@ -1,4 +1,5 @@
--- The forms of a phase, once more: no refusal of a settled reading is Truncated, and nothing of a reading stands after the bytes.
+-- The forms of a phase, once more: no refusal of a settled reading is Truncated, and no place of a reading is after the
+-- bytes.
 use Rattle.std.proofs.Common.{◌≡◌, ℕ, ◌+◌, ◌≤◌, inl, inr, Bool, true, false, cond, List, length, take, drop, Option, Some, None, Result, Ok, Err, refl, subst, arith, length-drop}
 use Rattle.std.specs.Prelude.{max, ◌-◌, ◌≢◌, IfErr, IfSome}
 use Rattle.std.proofs.lemmas.Bool.{cases_lt, le-ltb, lt-ltb}
@@ -21,12 +22,12 @@ use Rattle.cose_msg.specs.Laws.{IsDefinite, StandsBy}
 use Rattle.cose_msg.specs.Reading.{Told, Reading, Phase, Next, stop, cut, past_head, with_head, with_string, is_truncated, past_item, with_item, unless, unless_fault, with_value, open_after}
 use Rattle.cose_msg.proofs.Forms.{HeadLaws, head_there, item_there, not_truncated}
 
--- Of a reading where so many bytes are there.
+-- The property of a reading of this many bytes.
 pub record IsSound (end : ℕ) (reading : Reading) : Type 0 where
   pub inside : StandsBy end reading.answer
   pub definite : reading.settled ≡ true → IsDefinite reading.answer
 
--- Of a phase, at any place from this one on.
+-- The property of a phase, at any place from this one on.
 abbrev pub Sound : ℕ → Phase → Type 0
 Sound from phase = (place : ℕ) (bytes : List ℕ) → from ≤ place → IsSound (place + length bytes) (phase place bytes)
 
@@ -98,7 +99,7 @@ pub unless_fault-sound : (told : Told) (at from : ℕ) (fault : Option Reason) (
 unless_fault-sound told at from (Some reason) phase before definite h place bytes le = stop-sound told reason at (place + length bytes) (omega arith) definite
 unless_fault-sound told at from None phase before definite h place bytes le = h place bytes le
 
--- A test that looks at the place.
+-- A test that depends on the place.
 unless-sound : (told : Told) (fault : Option Refusal) (phase : Phase) (place : ℕ) (bytes : List ℕ) → IfSome fault (λ refusal. refusal.place ≤ place) → IfSome fault (λ refusal. refusal.reason ≢ Truncated) → IsSound (place + length bytes) (phase place bytes) → IsSound (place + length bytes) (unless told fault phase place bytes)
 unless-sound told (Some refusal) phase place bytes inside definite h = stop-sound told refusal.reason refusal.place (place + length bytes) (omega arith) definite
 unless-sound told None phase place bytes inside definite h = h

@@ -13,7 +13,7 @@ use Rattle.cose_head.specs.Measured.{left_of}
 use Rattle.cose_head.specs.Reading.{Left, read}
 use Rattle.cose_msg.specs.Reading.{Told, Next, with_head, with_string, with_item, unless_fault}
 
--- The laws of heads and items that these rest on.
+-- The laws of heads and items that these proofs cite.
 pub record SpellingLaws : Type 0 where
   pub head : HeadIsSpelled
   pub item : ReadIsSpelled
@@ -21,7 +21,7 @@ pub record SpellingLaws : Type 0 where
 abbrev pub head_of_width : ℕ → ℕ → ℕ → Head
 head_of_width major argument width = record { major = major; arg = argument; width = width }
 
--- A head whose argument stands in its initial byte.
+-- A head whose argument is in its initial byte.
 pub one_byte_head : (major argument : ℕ) → major < 8 → argument < 24 → IsHead ((32 * major + argument) ∷ []) major argument
 one_byte_head major argument is_major is_low =
     let initial : ℕ = 32 * major + argument in

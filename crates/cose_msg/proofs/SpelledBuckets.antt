@@ -19,7 +19,7 @@ use Rattle.cose_msg.specs.Phases.{placed_at}
 use Rattle.cose_msg.proofs.Spelled.{SpellingLaws, head_found, one_byte_head}
 use Rattle.cose_msg.proofs.SpelledItems.{ItemLaws, whole_spelled, look_spelled, first_spelled}
 
--- The laws of spellings that these rest on.
+-- The laws of spellings that these proofs cite.
 pub record ShortestLaws : Type 0 where
   pub spelling : SpellingLaws
   pub items : ItemLaws

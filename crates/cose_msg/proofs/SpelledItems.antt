@@ -1,4 +1,4 @@
--- Items that are spelled, and what is said of them above the grammar.
+-- Items that are spelled, and what is said of them in addition to the grammar.
 use Rattle.std.proofs.Common.{◌≡◌, ℕ, suc, ◌+◌, ◌≤◌, List, [], ◌∷◌, ◌++◌, length, refl, sym, arith, length-append, zero-add}
 use Rattle.std.specs.Prelude.{Ok}
 use Rattle.std.proofs.lemmas.List.{append-nil, take_at, drop_at}
@@ -11,7 +11,7 @@ use Rattle.cose_head.specs.Reading.{read}
 use Rattle.cose_head.specs.Whole.{whole}
 use Rattle.cose_msg.specs.Phases.{placed_at}
 
--- The laws of items that these rest on.
+-- The laws of items that these proofs cite.
 pub record ItemLaws : Type 0 where
   pub read : ReadIsSpelled
   pub whole : ItemIsWhole

@@ -1,4 +1,4 @@
--- What a reader stands for goes by the reading alone.
+-- The meaning of a reader depends on the reading alone.
 use Rattle.std.proofs.Common.{◌≡◌, ℕ, Bool, ◌+◌, List, [], ◌∷◌, ◌++◌, length, take, None, refl, sym, ap, subst, ◌∙◌, arith, append_assoc, length-append}
 use Rattle.std.proofs.Math.Seq.{take-length}
 use Rattle.cose_head.specs.declared.kind.Kind.TheVariants.{Mac0}
@@ -11,7 +11,7 @@ use Rattle.cose_head.specs.Head.{IsMore, bare_head}
 use Rattle.cose_msg.specs.Task.{Task}
 use Rattle.cose_msg.specs.Reader.{HoldsIn, Known, Shows, StandsFor, setting_with}
 
--- Where nothing is known yet, anything will do.
+-- Where nothing is known yet, any value will do.
 abbrev pub unknown : List ℕ → Known
 unknown B = record {
   headers = record { kind = Mac0; protected = []; protected_pairs = []; unprotected_pairs = [] };
@@ -52,7 +52,7 @@ moved {H} {D} {task} {B} {B'} {n} {n'} v new old same_payload same_count same h 
   left = λ z. same z ∙ h.left z;
 }
 
--- What is told may be said in other words.
+-- What is known may be given by an equal value.
 pub shows_as : {H D : ℕ} (task : Task) (v : Reader H D) (told other : Told) → told ≡ other → Shows task told v → Shows task other v
 shows_as task v told other same h = subst (λ (t : Told). Shows task t v) same h
 
@@ -62,11 +62,11 @@ holds_more at n byte held now count kept half =
     let more : n + 1 ≡ at + length (held ++ byte ∷ []) = omega (arith, count, length-append held (byte ∷ [])) in
     rw kept (half, more)
 
--- A payload that is told is the one so far.
+-- A payload that is known is the one so far.
 pub told_payload : (told other : Told) (B : List ℕ) → told ≡ other → told.payload ≡ B → other.payload ≡ B
 told_payload told other B same is = sym (ap (λ (t : Told). t.payload) same) ∙ is
 
--- A task that is a reader's, with the keys and for the purpose that it says.
+-- A task that is a reader's, with these keys and for this purpose.
 pub whole_task : (task : Task) (keys : List KeyValue) (terms : Terms) (inspects : Bool) → keys ≡ task.setting.keys → inspects ≡ task.inspects
     → record { setting = setting_with task.setting.keys terms; inspects = task.inspects } ≡ task → record { setting = setting_with keys terms; inspects = inspects } ≡ task
 whole_task task keys terms inspects same purpose e = rw (same, purpose) e

@@ -1,4 +1,4 @@
--- The status of a verifier is that of the bytes it stands for.
+-- The status of a verifier is that of the bytes that it has taken.
 use Rattle.std.proofs.Common.{◌≡◌, ℕ, Bool, true, false, cond, List, [], ◌++◌, Option, Some, Result, Ok, refl, sym, ap, ◌∙◌}
 use Rattle.cose_msg.specs.declared.phase.Phase.{Phase}
 use Rattle.cose_msg.specs.declared.phase.Phase.TheVariants as phases
@@ -39,11 +39,11 @@ module _ {H D : ℕ} (task : Task) (known : Known) (told : Told) (n : ℕ) (v : 
 pub stands_status : {H D : ℕ} {task : Task} {B : List ℕ} {n : ℕ} {v : Reader H D} {reading : List ℕ → Reading} → StandsFor task B n v reading → (reading []).settled ≡ is_settled v.phase → status_at v.phase ≡ status_of (reading [])
 stands_status {H} {D} {task} {B} {n} {v} {reading} h same = status_here task h.known h.told n v v.phase (reading []) h.holds (h.left []) same
 
--- The phase says the status of all bytes that were taken.
+-- The status of the phase is that of all bytes that were taken.
 pub status_reads : {H D : ℕ} {S : Type 0} {K : _} {task : Task} {s B : List ℕ} {v : Verifier H D S K} {said : Status} → HasTaken task s B v → status_at v.reader.phase ≡ status_of (message (rules_of H D task) (s ++ [])) → status_at v.reader.phase ≡ said → said ≡ status_of (message (rules_of H D task) s)
 status_reads {H} {D} {S} {K} {task} {s} {B} {v} {said} h same is = sym is ∙ same ∙ ap status_of (without_more H D task s)
 
--- What wants bytes hasn't stopped.
+-- A verifier that wants bytes hasn't stopped.
 pub wants_and_goes_on : (stopped : Bool) (wanted said : ℕ) → said ≡ cond stopped 0 wanted → (said ≡ 0 → ⊥) → stopped ≡ false
 wants_and_goes_on true wanted said e some = absurd (some e)
 wants_and_goes_on false wanted said e some = refl
@@ -66,14 +66,14 @@ pub complete_stays : (stopped : Bool) (said : Status) → stopped ≡ false → 
 complete_stays true said goes_on e = absurd cc
 complete_stays false said goes_on e = complete_is said e
 
--- Of a settled message it is that of its answer.
+-- The status of a settled message is that of its answer.
 pub settled_status : (reading : Reading) (said : Status) → said ≡ status_of reading → reading.settled ≡ true → said ≡ status_of_answer reading.answer
 settled_status reading said e done = e ∙ rw done refl
 
 pub status_going : {H D : ℕ} {S : Type 0} {K : _} (v : Verifier H D S K) (said : Status) → v.stopped ≡ false → status_at v.reader.phase ≡ said → status_in v ≡ said
 status_going v said goes_on e = rw goes_on e
 
--- ---- what a run leaves
+-- ---- the status after a run
 
 pub left_by_kept : {A : Type 0} {H D : ℕ} {S : Type 0} {K : _} {task : Task} {s B : List ℕ} {v : Verifier H D S K} (answer : Option A) (result : Result A Stop) → HasTaken task s B v → status_at v.reader.phase ≡ status_of (message (rules_of H D task) (s ++ [])) → (message (rules_of H D task) (s ++ [])).settled ≡ true →
     answer_kept v.stopped answer ≡ Some result → status_in v ≡ status_left result (message (rules_of H D task) s)

@@ -1,4 +1,4 @@
--- What a phase comes to when more of its bytes are there: those that are held, and those of a piece.
+-- The reading of a phase when more of its bytes are there: those that are held, and those of a piece.
 use Rattle.std.proofs.Common.{◌≡◌, ℕ, ◌+◌, ◌-◌, ◌<◌, true, false, List, [], ◌∷◌, ◌++◌, length, take, drop, Some, None, Ok, Err, refl, sym, ap, slice_index, ◌∙◌, append_assoc, add-zero, arith, length-append}
 use Rattle.std.specs.Prelude.{nat_lt, min, max, ◌≤◌}
 use Rattle.std.proofs.lemmas.Bool.{le-ltb}
@@ -96,7 +96,8 @@ single [] some one = absurd (omega (arith, some))
 single (byte ∷ []) some one = refl
 single (byte ∷ other ∷ bytes) some one = absurd (omega (arith, one))
 
--- A piece of no more bytes than an item wants: one, where no string of it is open, and else all of it is of that string.
+-- A piece of no more bytes than an item wants: one byte, where no string of it is open, and otherwise bytes of that
+-- string alone.
 pub one_wanted : (content n : ℕ) → min content n ≡ 0 → 0 < n → n ≤ max 1 content → n ≤ 1
 one_wanted content n none some fits = omega (arith, none, some, fits)
 

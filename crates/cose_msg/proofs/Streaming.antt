@@ -17,7 +17,7 @@ pub feeds_both : (a b c : Running) (x y : List ℕ) → Feeds a b x → Feeds b 
 feeds_both a b c x y p q = λ alg key message fed.
     subst (λ (t : List ℕ). FedMac c alg key t) (append_assoc message x y) (q alg key (message ++ x) (p alg key message fed))
 
--- So many bytes of the payload's length are left.
+-- This many bytes of the payload's length are left.
 pub record Along (payload_length left : ℕ) (come come_now : Option (List ℕ)) (old now : Seen) (before fed : Running) : Type 0 where
   pub taken : List ℕ
   pub bytes : Consumes come come_now taken
@@ -41,7 +41,7 @@ goes_on {payload_length} {left} {come} {come_now} {come_after} {old} {now} {next
   promise = omega (arith, a.promise, promise, length-append a.taken piece);
 }
 
--- What a put that failed marks, and how many bytes of a chunk were taken.
+-- A put that failed marks the sink as failed; and how many bytes of a chunk were taken.
 pub marks_failure : (was : Bool) (result : Result (Unit {0}) SinkFault) → is_err result ≡ true → marks was result ≡ true
 marks_failure was (Ok u) e = absurd cc
 marks_failure was (Err fault) e = refl

@@ -1,4 +1,5 @@
--- What is told of a message has a property, where what each phase tells has it: a lemma for each form of a phase.
+-- What is known of a message has a property, where what is known in each phase has it: a lemma for each form of a
+-- phase.
 use Rattle.std.proofs.Common.{◌≡◌, ℕ, ◌+◌, ◌<◌, ◌≤◌, Bool, true, false, cond, List, length, take, drop, Option, Some, None, Result, Ok, Err, refl, arith}
 use Rattle.std.specs.Prelude.{max, ◌-◌, nat_lt}
 use Rattle.std.proofs.lemmas.Bool.{ltb-true}
@@ -16,7 +17,7 @@ use Rattle.cose_head.specs.Reading.{Outcome, read}
 use Rattle.cose_msg.specs.Reading.{Told, Reading, Phase, Next, stop, cut, is_truncated, past_head, with_head, with_string, past_item, with_item, unless, unless_fault, with_value, open_after}
 
 module _ (Holds : Told → Type 0) where
-  -- It holds of what a phase tells, of whatever bytes.
+  -- The property holds of what is known in a phase, whatever the bytes.
   abbrev pub Tells : Phase → Type 0
   Tells phase = (place : ℕ) (bytes : List ℕ) → Holds (phase place bytes).told
 

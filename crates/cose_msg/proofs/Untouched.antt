@@ -18,7 +18,7 @@ use Rattle.cose_msg.specs.Task.{Task}
 use Rattle.cose_msg.specs.Verifier.{task_of}
 use Rattle.cose_msg.proofs.Standing.{unknown}
 
--- Such a reader is at the start of every message under its terms, unless the end was said.
+-- Such a reader is at the start of every message under its terms, unless the end was reported.
 pub starts_message : {H D : ℕ} (task : Task) (v : Reader H D) → IsUntouched v → v.phase ≡ phases.FirstHead → task_in task v ≡ task → SoFar task [] [] v
 unfolding message bare_head
 starts_message task v (_, head, no_protected, no_unprotected, closed) first same = record {

@@ -58,7 +58,7 @@ fewer held more n left count lt = omega (arith, length-append held more)
 
 -- ---- the phases
 
--- What the walker of the unprotected bucket says: of fewer further bytes than it wants, that they end in its item.
+-- What the walker of the unprotected bucket ensures: fewer further bytes than it wants end in its item.
 abbrev pub ItemWaits : {H D : ℕ} → Reader H D → Type 0
 ItemWaits {H} {D} v = HasPut H v.unprotected.items v.walker → (more : List ℕ) → length more < wanted_after H D v.unprotected.items →
     read D (left_of (v.unprotected.items ++ more) H 0) ≡ refuse Truncated (length (v.unprotected.items ++ more))
@@ -68,7 +68,7 @@ module _ {H D : ℕ} (task : Task) (known : Known) (told : Told) (n : ℕ) (v : 
   unfoldable pub here : Phase → List ℕ → Reading
   here phase z = left_in (rules_of H D task) known told v phase z
 
-  -- What it comes to, settled or not.
+  -- Its reading, settled or not.
   abbrev pub EndsAs : Phase → Bool → Type 0
   EndsAs phase done = here phase [] ≡ record { answer = (here phase []).answer; settled = done; wanted = want_of phase; told = told }
 
@@ -137,7 +137,8 @@ module _ {H D : ℕ} (task : Task) (known : Known) (told : Told) (n : ℕ) (v : 
       let is_cut : IsCut phase = cut_in phase h e in
       is_cut ∙ ap (λ (answer : Answer). let reading : Reading = record { answer = answer; settled = false; wanted = want_of phase; told = told } in reading) (sym (ap (λ (r : Reading). r.answer) is_cut))
 
-  -- Without a further byte it is settled or not as the phase is, wants what the phase wants, and tells what is told so far.
+  -- Without a further byte it is settled or not as the phase is, wants what the phase wants, and gives what is known so
+  -- far.
   pub ends_in : (phase : Phase) → HoldsIn task known told n v phase → EndsAs phase (is_settled phase)
   ends_in phase h = ends_if phase h (is_settled phase) refl
 
@@ -173,7 +174,7 @@ module _ {H D : ℕ} (task : Task) (known : Known) (told : Told) (n : ℕ) (v : 
   open_in (phases.Settled verdict) h = λ more lt. absurd (omega (arith, lt))
   open_in (phases.Shaped p) h = λ more lt. absurd (omega (arith, lt))
 
-  -- Behind a payload comes a head, of which no byte is there.
+  -- After a payload comes a head, of which no byte is there.
   payload_ends_open : (p : Payload) → (more : List ℕ) → length (known.payload ++ more) ≡ p.length → (here (phases.Payload p) more).settled ≡ false
   unfolding here bare_head
   payload_ends_open p more whole =

@@ -1,4 +1,4 @@
--- Whose key set admits a message that is made, on examples: one key alone, without a kid and with one.
+-- Which key sets accept a message that is made, on examples: one key alone, without a kid and with one.
 use Rattle.std.specs.Prelude.{ℕ, ◌^◌, ◌<◌, List, [], ◌∷◌, length, Some, None, pos, refl}
 use Rattle.std.proofs.Common.{arith}
 use Rattle.cose_head.specs.Head.{shortest_head}

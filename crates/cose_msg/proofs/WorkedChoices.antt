@@ -6,7 +6,7 @@ use Rattle.cose_msg.specs.declared.context.Wanted.TheVariants as wants
 use Rattle.cose_msg.specs.Answer.{refused}
 use Rattle.cose_msg.proofs.WorkedMessages.{hex, Gives, reading, verdict, verdict_in, under, secret, plain, for_five, point}
 
--- Without a key. The fault stands where the payload's head does, and goes before every fault of that head.
+-- Without a key. The fault is at the place of the payload's head, and precedes every fault of that head.
 without_keys : Gives (verdict []) (
     (hex "d18443a10105a0", refused NoKey 7) ∷
     (hex "d18443a10105a0 5f", refused NoKey 7) ∷
@@ -34,7 +34,7 @@ under_five : Gives (verdict for_five) (
 unfolding reading
 under_five = refl
 
--- An algorithm that isn't known, or that a text names, goes before what the keys say, in the unprotected bucket too.
+-- An algorithm that isn't known, or that a text names, precedes what the keys say, in the unprotected bucket too.
 unknown_algorithms : Gives (verdict for_five) (
     (hex "d18441a0a10126", refused UnknownAlg 7) ∷
     (hex "d18441a0a1016135", refused UnknownAlg 8) ∷

@@ -1,5 +1,5 @@
--- Messages all of whose bytes are there, on examples, by computing (RFC 9052 sections 4.4 and 6.3). The MAC, and the digest
--- of what is signed, stand as they are defined.
+-- Messages all of whose bytes are there, on examples, by computing (RFC 9052 sections 4.4 and 6.3). The MAC, and the
+-- digest of what is signed, are left as they are defined.
 use Rattle.std.specs.Prelude.{◌≡◌, ℕ, Bool, true, false, List, [], ◌∷◌, ◌++◌, None, Some, refl, if◌then◌else◌}
 use Prim.Native.String.{String}
 use Rattle.std.specs.Str.{bytes_eq}
@@ -28,7 +28,7 @@ if_mac_of to_mac alg tag auth_at taken =
 abbrev if_hmac_of : String → List ℕ → ℕ → ℕ → Answer
 if_hmac_of to_mac tag auth_at taken = if_mac_of to_mac Hmac256 tag auth_at taken
 
--- What all bytes come to where tags are compared.
+-- The answer for all bytes where tags are compared.
 abbrev comparison : Setting → List ℕ → Answer
 comparison setting bytes = (reading (comparing 1024 4 setting) bytes).answer
 
@@ -39,7 +39,7 @@ mac0 : (byte : ℕ → ℕ) → Gives (λ after. comparison (under plain) (hex "
 unfolding reading structure mac_structure shortest shortest_all shortest_head
 mac0 byte = refl
 
--- Whoever verifies signatures is not asked.
+-- The `EcVerifier` is not asked.
 kept : (decides : Decides) (aad : List ℕ) (found : Chosen) (holds : Bool) (one other : Verdict) →
     verified aad decides (Some found) (if holds then decided one else decided other) ≡ (if holds then decided one else decided other)
 kept decides aad found true one other = refl
@@ -70,7 +70,7 @@ untagged_mac0 : (byte : ℕ → ℕ) →
 unfolding reading structure mac_structure shortest shortest_all shortest_head
 untagged_mac0 byte = refl
 
--- An empty protected bucket is no byte in what is authenticated, also where it came as an empty map.
+-- An empty protected bucket is an empty string in what is authenticated, also where it was received as an empty map.
 empty_protected : (byte : ℕ → ℕ) → Gives (λ front. comparison (under for_five) (front ++ any byte 32)) (
     (hex "d18440a0 426869 5820", if_hmac_of "84644d4143304040426869" (any byte 32) 7 41) ∷
     (hex "d18441a0a10105 426869 5820", if_hmac_of "84644d4143304040426869" (any byte 32) 10 44) ∷
@@ -78,7 +78,7 @@ empty_protected : (byte : ℕ → ℕ) → Gives (λ front. comparison (under fo
 unfolding reading structure mac_structure shortest shortest_all shortest_head
 empty_protected byte = refl
 
--- Else it is authenticated as it came.
+-- Otherwise it is authenticated as it was received.
 as_received : (byte : ℕ → ℕ) →
     comparison (under plain) (hex "d18444a1180105a0 426869 5820" ++ any byte 32) ≡ if_hmac_of "84644d41433044a118010540426869" (any byte 32) 11 45
 unfolding reading structure mac_structure shortest shortest_all shortest_head
@@ -122,7 +122,7 @@ no_payload : (byte : ℕ → ℕ) →
 unfolding reading structure mac_structure shortest shortest_all shortest_head
 no_payload byte = refl
 
--- A signature: whoever verifies is asked, with the key, the digest of the structure and the 64 bytes.
+-- A signature: the `EcVerifier` is asked, with the key, the digest of the structure and the 64 bytes.
 sign1 : (decides : Decides) (byte : ℕ → ℕ) →
     (reading (verifying 1024 4 (under (point None ∷ [])) decides) (hex "d28443a10126a0 40 5840" ++ any byte 64)).answer ≡
     (if decides (point None) (digest_of Es256 (hex "846a5369676e61747572653143a101264040")) (any byte 64)
@@ -130,7 +130,7 @@ sign1 : (decides : Decides) (byte : ℕ → ℕ) →
 unfolding reading structure sig_structure shortest shortest_all shortest_head
 sign1 decides byte = refl
 
--- The signature is of the external data and the payload too.
+-- The signature covers the external data and the payload too.
 sign1_with_data : (decides : Decides) (byte : ℕ → ℕ) →
     (reading (verifying 1024 4 (record (under (point None ∷ [])) { aad = hex "2a" }) decides) (hex "d28443a10126a0 426869 5840" ++ any byte 64)).answer ≡
     (if decides (point None) (digest_of Es256 (hex "846a5369676e61747572653143a10126412a426869")) (any byte 64)
@@ -138,7 +138,8 @@ sign1_with_data : (decides : Decides) (byte : ℕ → ℕ) →
 unfolding reading structure sig_structure shortest shortest_all shortest_head
 sign1_with_data decides byte = refl
 
--- Nobody is asked where tags alone are compared: all bytes of the signature are there, and that is all.
+-- Where only tags are compared, the `EcVerifier` is not asked: all bytes of the signature are there, and the message is
+-- complete.
 signature_left : (byte : ℕ → ℕ) →
     (reading (comparing 1024 4 (under (point None ∷ []))) (hex "d28443a10126a0 40 5840" ++ any byte 64)).answer ≡
     complete (record {
@@ -152,7 +153,7 @@ signature_left : (byte : ℕ → ℕ) →
 unfolding reading
 signature_left byte = refl
 
--- Where nothing is compared, so it is of a tag.
+-- Where nothing is compared, the same holds of a tag.
 tag_left : (byte : ℕ → ℕ) →
     (reading (uncompared 1024 4 (under plain)) (hex "d18443a10105a0 426869 5820" ++ any byte 32)).answer ≡
     complete (record {

@@ -1,4 +1,5 @@
--- Where a message stands that is fed, how many bytes are wanted, and how many of a piece are used, on examples, by computing.
+-- The status of a message that is fed, how many bytes are wanted, and how many of a piece are used, on examples, by
+-- computing.
 use Rattle.std.proofs.Common.{◌≡◌, ℕ, zero, suc, ◌<◌, Bool, true, false, inl, inr, List, [], ◌∷◌, ◌++◌, length, take, None, sym, ◌∙◌, arith, refl}
 use Rattle.std.specs.Prelude.{if◌then◌else◌, not, ◌&&◌, ◌||◌, ◌==◌, nat_le}
 use Rattle.std.proofs.lemmas.Bool.{cases_lt, and_parts, or_cases, not-true, leb-true, eqb-true}
@@ -157,7 +158,7 @@ open_below rules so_far piece (suc used) e n lt = elim (cases_lt n used) [
 not_both : (b : Bool) → b ≡ true → b ≡ false → ⊥
 not_both b is not = let never : true ≡ false = sym is ∙ not in cc
 
--- It says of this piece behind these bytes how many are used.
+-- How many bytes of this piece are used after these bytes.
 abbrev is_used : Rules → List ℕ → List ℕ → ℕ → Bool
 is_used rules so_far piece used =
     nat_le used (length piece) && (is_open_below rules so_far piece used && (is_settled rules (so_far ++ take used piece) || used == length piece))
@@ -175,7 +176,7 @@ uses_so_many rules so_far piece used e =
       ];
     }
 
--- The whole piece, where the message is still open behind it.
+-- The whole piece, where the message is still open after it.
 by_the_front : Uses mac_rules [] (hex "d18443a1") 4
 unfolding reading
 by_the_front = uses_so_many mac_rules [] (hex "d18443a1") 4 refl
@@ -184,7 +185,7 @@ by_the_middle : Uses mac_rules (hex "d18443a1") (hex "0105a042686958") 7
 unfolding reading
 by_the_middle = uses_so_many mac_rules (hex "d18443a1") (hex "0105a042686958") 7 refl
 
--- Else the fewest bytes of it that settle the message, by its tag or by a refusal.
+-- Otherwise the fewest bytes of it that settle the message, by its tag or by a refusal.
 by_the_end : (byte : ℕ → ℕ) → Uses mac_rules (hex "d18443a10105a042686958") (hex "20" ++ (any byte 32 ++ hex "ff")) 33
 unfolding reading
 by_the_end byte = uses_so_many mac_rules (hex "d18443a10105a042686958") (hex "20" ++ (any byte 32 ++ hex "ff")) 33 refl
@@ -193,7 +194,7 @@ by_a_refusal : Uses mac_rules (hex "d1") (hex "83ff") 1
 unfolding reading
 by_a_refusal = uses_so_many mac_rules (hex "d1") (hex "83ff") 1 refl
 
--- None behind a message.
+-- None after a message.
 by_what_follows : Uses mac_rules (hex "d183") (hex "ff") 0
 unfolding reading
 by_what_follows = uses_so_many mac_rules (hex "d183") (hex "ff") 0 refl

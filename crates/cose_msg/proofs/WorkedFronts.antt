@@ -6,14 +6,15 @@ use Rattle.cose_msg.specs.declared.context.Wanted.TheVariants as wants
 use Rattle.cose_msg.specs.Answer.{Answer, refused}
 use Rattle.cose_msg.proofs.WorkedMessages.{hex, Gives, reading, verdict, verdict_in, under, plain}
 
--- Where one kind is wanted, and where no CWT tag may stand before the message's own.
+-- Where one kind is wanted, and where no CWT tag may precede the message's own.
 abbrev wanting : Wanted → List ℕ → Answer
 wanting wanted bytes = verdict_in (record (under plain) { wanted = wanted }) bytes
 
 abbrev without_cwt : List ℕ → Answer
 without_cwt bytes = verdict_in (record (under plain) { cwt = false }) bytes
 
--- The first head: a tag of another kind of message, of none, and no tag. What can't be a head is that first.
+-- The first head: a tag of another kind of message, of none, and no tag. Bytes that can't be a head are refused for
+-- that first.
 first_heads : Gives (verdict plain) (
     (hex "", refused Truncated 0) ∷
     (hex "d8", refused Truncated 1) ∷
@@ -44,7 +45,7 @@ untagged : Gives (verdict plain) ((hex "84", refused WrongTag 0) ∷ (hex "83", 
 unfolding reading
 untagged = refl
 
--- Behind a tag comes an array of four: first its type is looked at, then its count.
+-- After a tag comes an array of four: first its type is looked at, then its count.
 behind_a_tag : Gives (verdict plain) (
     (hex "d1", refused Truncated 1) ∷
     (hex "d2", refused Truncated 1) ∷
@@ -62,7 +63,8 @@ behind_a_tag : Gives (verdict plain) (
 unfolding reading
 behind_a_tag = refl
 
--- Where COSE_Mac0 is wanted, and where COSE_Sign1 is: its own tag, or the array alone. The tags of other kinds are told as such.
+-- Where COSE_Mac0 is wanted, and where COSE_Sign1 is: its own tag, or the array alone. The tags of other kinds are
+-- refused as such.
 wanting_mac0 : Gives (wanting wants.Mac0) (
     (hex "d1", refused Truncated 1) ∷
     (hex "d2", refused WrongTag 0) ∷
@@ -92,7 +94,7 @@ wanting_sign1 : Gives (wanting wants.Sign1) (
 unfolding reading
 wanting_sign1 = refl
 
--- Behind the tag of a CWT the array alone doesn't do, also where the one kind that is wanted may stand without its tag.
+-- After the tag of a CWT the array alone is refused, also where the one kind that is wanted may come without its tag.
 behind_the_cwt_tag_wanting_mac0 : Gives (wanting wants.Mac0) (
     (hex "d83dd1", refused Truncated 3) ∷
     (hex "d83d84", refused CwtTagAlone 2) ∷
@@ -123,7 +125,7 @@ numbers_of_no_tags : Gives (verdict plain) (
 unfolding reading
 numbers_of_no_tags = refl
 
--- Behind the tag of a CWT comes a COSE tag, and no second one of a CWT.
+-- After the tag of a CWT comes a COSE tag, and no second one of a CWT.
 behind_the_cwt_tag : Gives (verdict plain) (
     (hex "d83d", refused Truncated 2) ∷
     (hex "d83d84", refused CwtTagAlone 2) ∷

@@ -22,7 +22,8 @@ protected_heads : Gives (verdict plain) (
 unfolding reading
 protected_heads = refl
 
--- The protected bucket. Its fault is told with its last byte, before a byte of the unprotected one. An empty string is an empty bucket.
+-- The protected bucket. Its fault is answered with its last byte, before a byte of the unprotected one. An empty string
+-- is an empty bucket.
 protected_buckets : Gives (verdict plain) (
     (hex "d184 43a101", refused Truncated 5) ∷
     (hex "d184 40", refused Truncated 3) ∷
@@ -74,7 +75,7 @@ no_maps : Gives (verdict plain) (
 unfolding reading
 no_maps = refl
 
--- What crit lists is looked at with both buckets, so behind every fault of the unprotected one, though it stands before it.
+-- What crit lists is looked at with both buckets, so after every fault of the unprotected one, though crit precedes it.
 crit_behind_the_unprotected : Gives (verdict plain) (
     (hex "d18447a201050281182a", refused Truncated 10) ∷
     (hex "d18447a201050281182a a1", refused Truncated 11) ∷
@@ -97,7 +98,7 @@ both_buckets : Gives (verdict plain) (
 unfolding reading
 both_buckets = refl
 
--- Where the application understands label 42, and where there is no key at all: the buckets go first.
+-- Where the application understands label 42, and where there is no key at all: the faults of the buckets come first.
 understanding_42 : Gives (verdict_in (record (under plain) { understood = number (pos 42) ∷ [] })) (
     (hex "d1844aa301050281182a182a00 a0", refused Truncated 14) ∷
     (hex "d18447a201050281182a a0", refused CritAbsent 8) ∷ [])

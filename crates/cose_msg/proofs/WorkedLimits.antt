@@ -13,7 +13,7 @@ use Rattle.cose_msg.specs.Answer.{Answer, decided, refused}
 use Rattle.cose_msg.specs.Message.{structure, comparing}
 use Rattle.cose_msg.proofs.WorkedMessages.{hex, any, Gives, reading, under, jefe, plain}
 
--- What all bytes come to within a room and a nesting.
+-- The answer for all bytes within a room and a nesting.
 abbrev within : ℕ → ℕ → List ℕ → Answer
 within room nesting bytes = (reading (comparing room nesting (under plain)) bytes).answer
 

@@ -1,5 +1,5 @@
--- The COSE_Mac0 that is made, and the faults of the arguments, on examples, by computing (RFC 9052 section 6.2, RFC 9053 section
--- 3.1). The MAC stands as it is defined.
+-- The COSE_Mac0 that is made, and the faults of the arguments, on examples, by computing (RFC 9052 section 6.2, RFC
+-- 9053 section 3.1). The MAC is left as it is defined.
 use Rattle.std.specs.Prelude.{◌≡◌, ℕ, ◌^◌, ◌-◌, pos, List, [], ◌∷◌, ◌++◌, map, Option, None, Some, refl}
 use Rattle.std.proofs.Common.{ap, ◌∙◌}
 use Prim.Native.String.{String}
@@ -22,7 +22,7 @@ use Rattle.cose_msg.proofs.WorkedMessages.{any, hex, jefe, point, secret}
 abbrev message : Alg → Option (List ℕ) → List ℕ → List ℕ → List ℕ
 message alg kid aad payload = made alg jefe kid aad payload
 
--- What stands before the payload, its head, the payload, and the MAC of what is authenticated: what stands before the payload
+-- What precedes the payload, its head, the payload, and the MAC of what is authenticated: what precedes the payload
 -- there, and the same head and payload.
 abbrev spelled : Alg → List ℕ → String → String → List ℕ → List ℕ
 spelled alg front authenticated head payload =
@@ -69,7 +69,7 @@ identifiers byte =
     and_rows (in_parts Hmac256 jefe (Some (any byte 255)) [] (hex "6869")) (
     and_rows (in_parts Hmac256 jefe (Some (any byte 256)) [] (hex "6869")) refl))))
 
--- External data are authenticated, and don't stand in the message.
+-- External data are authenticated, and aren't in the message.
 external_data : message Hmac256 None (hex "0102") (hex "6869") ≡
     spelled Hmac256 (hex "d184 43a10105 a0") "84644d414330 43a10105 420102" "42" (hex "6869")
 unfolding mac_structure shortest shortest_all shortest_head
@@ -84,7 +84,7 @@ tags length bytes = rw (length Hmac64 jefe bytes refl, length Hmac256 jefe bytes
 
 -- ---- faults of the arguments
 
--- The fault under a key, for a payload of two bytes without more.
+-- The fault under a key, for a payload of two bytes without identifier and external data.
 abbrev under_key : Alg → KeyValue → Option MakeFault
 under_key alg key = make_fault alg key None [] 2
 

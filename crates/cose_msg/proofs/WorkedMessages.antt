@@ -21,7 +21,7 @@ use Rattle.cose_msg.specs.Reading.{Reading, with_head, with_string, with_item}
 use Rattle.cose_msg.specs.Message.{Setting, Decides, message, verifying}
 use Rattle.cose_msg.specs.Rules.{Rules}
 
--- Bytes in hexadecimal. Spaces are left out.
+-- Bytes in hexadecimal. Spaces are skipped.
 abbrev digit : ℕ → ℕ
 digit code = if nat_lt code 0x61 then code - 0x30 else code - 0x57
 
@@ -33,21 +33,21 @@ bytes_of (high ∷ low ∷ others) = (16 * digit high + digit low) ∷ bytes_of 
 abbrev pub hex : String → List ℕ
 hex text = bytes_of (filter (λ code. not (code == 0x20)) (codes text))
 
--- So many bytes, whatever they are.
+-- This many bytes, whatever they are.
 abbrev pub any : (ℕ → ℕ) → ℕ → List ℕ
 any byte zero = []
 any byte (suc n) = byte n ∷ any byte n
 
--- A table: bytes, and what they come to.
+-- A table: bytes, and the answer for them.
 abbrev pub Gives : {A : Type 0} → (List ℕ → A) → List (List ℕ × A) → Type 0
 Gives f rows = map (λ row. f row.0) rows ≡ map (λ row. row.1) rows
 
--- What all bytes of a message come to.
+-- The answer for all bytes of a message.
 unfoldable pub reading : Rules → List ℕ → Reading
 unfolding message with_head with_string with_item bucket_of bucket_table check_pairs pair_faults chosen children_of items_from look head_of_item bare_head read head open_in depth_of is_utf8 chars lib.Utf8.encode
 reading rules bytes = message rules bytes
 
--- Nobody verifies signatures, no external data are supplied, and nothing further is understood.
+-- The `EcVerifier` refuses every signature, no external data are supplied, and no further label is understood.
 abbrev pub never : Decides
 never key digest signature = false
 
@@ -79,7 +79,7 @@ for_five = secret None (Some (number (pos 5))) None ∷ []
 abbrev pub point : Option (List ℤ) → KeyValue
 point operations = record { kid = None; alg = None; operations = operations; material = elliptic 1 (replicate 32 7) (coordinate (replicate 32 8)) }
 
--- The pair of an algorithm: its label stands at this place, and its value behind that.
+-- The pair of an algorithm: its label is at this place, and its value after that.
 abbrev pub algorithm_at : ℕ → ℕ → Pair
 algorithm_at place value = record {
   name = number (pos 1);

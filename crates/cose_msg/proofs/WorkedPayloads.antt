@@ -4,7 +4,7 @@ use Rattle.cose_head.specs.declared.reason.Reason.TheVariants.{Truncated, Reserv
 use Rattle.cose_msg.specs.Answer.{Answer, refused}
 use Rattle.cose_msg.proofs.WorkedMessages.{hex, Gives, reading, verdict, verdict_in, under, secret, plain, point}
 
--- The head of the payload: a byte string of less than 2^56 bytes. nil stands for a payload that is elsewhere, in one byte alone.
+-- The head of the payload: a byte string of less than 2^56 bytes. nil marks a detached payload, in one byte alone.
 payload_heads : Gives (verdict plain) (
     (hex "d18443a10105a0", refused Truncated 7) ∷
     (hex "d18443a10105a0 1c", refused Reserved 7) ∷
@@ -27,7 +27,7 @@ payload_heads : Gives (verdict plain) (
 unfolding reading
 payload_heads = refl
 
--- The application may take less, and never more.
+-- The application may allow less, and never more.
 abbrev limited : ℕ → List ℕ → Answer
 limited limit bytes = verdict_in (record (under plain) { payload_limit = limit }) bytes
 

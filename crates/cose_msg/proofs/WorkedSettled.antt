@@ -1,4 +1,4 @@
--- With which byte a message is settled, on examples, by computing: no byte is asked for behind it.
+-- With which byte a message is settled, on examples, by computing: no byte is asked for after it.
 use Rattle.std.specs.Prelude.{ℕ, Bool, true, false, List, [], ◌∷◌, ◌++◌, refl}
 use Rattle.cose_msg.specs.Message.{comparing}
 use Rattle.cose_msg.proofs.WorkedMessages.{hex, any, Gives, reading, under, plain}
@@ -26,7 +26,7 @@ by_a_head : Gives is_settled (
 unfolding reading
 by_a_head = refl
 
--- Also one of another type than has to stand there: its argument bytes are waited for.
+-- Also a head of another type than is required there: its argument bytes are waited for.
 by_a_head_of_another_type : Gives is_settled (
     (hex "18", false) ∷
     (hex "1800", true) ∷
@@ -45,7 +45,7 @@ by_a_head_of_another_type : Gives is_settled (
 unfolding reading
 by_a_head_of_another_type = refl
 
--- A bucket, both buckets and the choice of the key need no byte behind the bucket.
+-- A bucket, both buckets and the choice of the key need no byte after the bucket.
 by_a_bucket : Gives is_settled (
     (hex "d18441", false) ∷
     (hex "d1844180", true) ∷
@@ -63,7 +63,7 @@ by_a_bucket : Gives is_settled (
 unfolding reading
 by_a_bucket = refl
 
--- The comparison needs the last byte of the tag, and none behind it.
+-- The comparison needs the last byte of the tag, and none after it.
 by_the_tag : (byte : ℕ → ℕ) → Gives (λ tag. is_settled (hex "d18443a10105a0 426869 5820" ++ tag)) (
     (any byte 31, false) ∷
     (any byte 32, true) ∷

@@ -11,7 +11,7 @@ use Rattle.cose_msg.proofs.WorkedMessages.{hex, any, algorithm, algorithm_at, Gi
 abbrev shape : List ℕ → Answer
 shape bytes = (reading (inspecting 1024 4 (under [])) bytes).answer
 
--- All that is asked besides a key, the algorithm's length and the comparison.
+-- All that is required, except a key, the algorithm's length and the comparison.
 shapes : (byte : ℕ → ℕ) → Gives shape (
     (hex "d18443a10105a0 426869 5820" ++ any byte 32, shaped Mac0 2 32 44) ∷
     (hex "d28443a10126a0 40 5840" ++ any byte 64, shaped Sign1 0 64 74) ∷
@@ -27,7 +27,7 @@ shapes : (byte : ℕ → ℕ) → Gives shape (
 unfolding reading
 shapes byte = refl
 
--- The pairs of each bucket are known once it was read without a fault, and the payload as far as it came.
+-- The pairs of each bucket are known once it was read without a fault, and the payload as far as it was received.
 abbrev known : List ℕ → Told
 known bytes = (reading (comparing 1024 4 (under plain)) bytes).told
 

@@ -33,7 +33,7 @@ returns-in-More-clause-again g c = λ settled.
 pub returns-in-More-clause-context : goal.returns-in-More-clause-context
 returns-in-More-clause-context g c = rw c.truncate.ensures.terms refl
 
--- A message that wants more tells no signature.
+-- A message that wants more gives no signature.
 pub returns-in-More-clause-shown : goal.returns-in-More-clause-shown
 returns-in-More-clause-shown g c =
     let now = c.args.self.now in
