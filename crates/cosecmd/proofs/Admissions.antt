@@ -1,4 +1,4 @@
--- A reply that says what a whole input comes to as a token.
+-- A reply with the outcome for a whole input as a token.
 use Rattle.std.proofs.Common.{◌≡◌, ◌∙◌, ℕ, ◌<◌, ◌≤◌, Bool, true, false, List, [], ◌∷◌, ◌++◌, length, Option, Some, None, Ok, Err, refl, sym, ap, subst, arith, append-nil, append_assoc, length-append}
 use Rattle.std.specs.Prelude.{IfOk, Result}
 use Rattle.std.proofs.lemmas.Bool.{lt-ltb, le-ltb}
@@ -25,7 +25,7 @@ use Rattle.cosecmd.specs.Admitted.{input_token, token_told, unless_trailed}
 use Rattle.cosecmd.specs.Printed.{Says, admitted_under, trailing_refusal, outcome_said, token_setting}
 use Rattle.cosecmd.specs.Vouch.{vouching}
 
--- The lines of a part behind those so far, by what was told of it.
+-- The lines of a part after those so far, by the values that the code gave for it.
 pub first_lines : {A : Type 0} (lines : A → List ℕ) (told wanted : A) (before all : List ℕ) → told ≡ wanted → all ≡ before ++ lines told → all ≡ before ++ lines wanted
 first_lines {A} lines told wanted before all same part = part ∙ ap (λ (x : A). before ++ lines x) same
 
@@ -34,7 +34,7 @@ pub then_lines : {A : Type 0} (lines : A → List ℕ) (told wanted : A) (before
 then_lines {A} lines told wanted before so_far after all earlier same part =
     part ∙ ap (λ (x : A). after ++ lines x) same ∙ ap (λ (t : List ℕ). t ++ lines wanted) earlier ∙ append_assoc before so_far (lines wanted)
 
--- Behind a token that isn't admitted nothing is looked for.
+-- After a token that isn't admitted no byte is looked for.
 refused_token : (verdict : Verdict) (n : ℕ) (policy : PolicyValue) (payload : List ℕ) (answer : Answer) (outcome : Outcome) (stop : CwtStop) → answer ≡ decided verdict →
     outcome ≡ token_of 8 policy (Ok verdict) payload → outcome ≡ Err stop → outcome ≡ token_told n policy payload answer
 refused_token (Refused refusal) n policy payload answer outcome stop judged comes e = comes ∙ sym (ap (token_told n policy payload) judged)
@@ -51,7 +51,7 @@ unless_admitted setting decides policy bytes (Err (stops.Message refusal)) stop 
 unless_admitted setting decides policy bytes (Err (stops.Claims refusal)) stop e token =
     refused_token token.verdict (length bytes) policy (read_as 1024 8 setting decides bytes).told.payload (read_as 1024 8 setting decides bytes).answer (Err (stops.Claims refusal)) stop token.judged token.comes e
 
--- A byte behind a token that is admitted refuses it.
+-- A byte after a token that is admitted refuses it.
 abbrev pub or_trailing : Option Refusal → ClaimsValue → Outcome
 or_trailing None claims = Ok claims
 or_trailing (Some refusal) claims = Err (stops.Message refusal)
@@ -82,7 +82,7 @@ same_verdict stays setting decides taken rest true is ends = stays 1024 8 settin
 same_verdict stays setting decides taken rest false is ends =
     ap (verdict_of 1024 8 setting decides) (ap (λ (more : List ℕ). taken ++ more) (ends is) ∙ append-nil taken)
 
--- What is left of the input, and what the whole comes to by it.
+-- What is left of the input, and the outcome for the whole by it.
 abbrev IsLeft : Setting → Decides → PolicyValue → List ℕ → Option (List ℕ) → ℕ → ClaimsValue → Type 0
 IsLeft setting decides policy bytes come_after count claims =
     (rest : List ℕ) × (come_after ≡ Some rest) × (input_token setting decides policy bytes ≡ or_trailing (trailing_refusal rest count) claims)
@@ -126,7 +126,7 @@ pub is_followed : (setting : Setting) (decides : Decides) (policy : PolicyValue)
 is_followed setting decides policy bytes come_after count claims refusal left h =
     sym (left.2 ∙ ap (λ (r : Option Refusal). or_trailing r claims) (sym (h left.0 left.1)))
 
--- A reply that says what a token comes to, where nothing stopped it.
+-- A reply with the outcome for a token, where nothing stopped it.
 says_unless : {F : Type 0} (outcome whole : Outcome) (reply : Result Reply F) → UnlessStopped outcome (outcome ≡ whole) → IfOk reply (Says (outcome_said outcome)) → IfOk reply (λ _. stop_in outcome ≡ None) →
     IfOk reply (Says (outcome_said whole))
 says_unless outcome whole (Err fault) is says unstopped = tt

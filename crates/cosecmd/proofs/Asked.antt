@@ -1,4 +1,4 @@
--- The job of some words prints what they ask for.
+-- The job of some arguments prints what they ask for.
 use Rattle.std.proofs.Common.{◌≡◌, ℕ, ℤ, List, Option, Bor, option_map, refl, subst}
 use Rattle.cose_map.specs.Key.View.{contents}
 use Rattle.cose_msg.specs.declared.context.Wanted.{Wanted}
@@ -12,7 +12,7 @@ use Rattle.cosecmd.specs.declared.words.Verify.{Verify as VerifyWords}
 use Rattle.cosecmd.specs.Printed.{EndsWith, Output, printed}
 use Rattle.cosecmd.specs.Words.{admitted_for, asked_for, digested_for, made_for, verified_for}
 
--- What ends with one output ends with the same one under another name.
+-- A run that ends with one output ends with an equal one.
 pub ends_with : {said asked : Output} (old new : Option (List ℕ)) (status : ℕ) → said ≡ asked → EndsWith said old new status → EndsWith asked old new status
 ends_with old new status e ends = subst (λ (output : Output). EndsWith output old new status) e ends
 

@@ -1,4 +1,4 @@
--- A reply that tells what the signature of an input is verified with.
+-- A reply that prints what the signature of an input is verified with.
 use Rattle.std.proofs.Common.{◌≡◌, ℕ, ◌<◌, ◌≤◌, Bool, true, false, List, [], ◌++◌, length, take, Option, Some, None, Result, Ok, refl, sym, ap, subst, ◌∙◌, arith, append-nil}
 use Rattle.std.specs.Prelude.{IfOk, nat_lt, option_map}
 use Rattle.std.specs.Str.{bytes_eq}
@@ -32,7 +32,7 @@ keyless : (aad : List ℕ) (decides : Decides) (chosen : Option Chosen) (whole :
 keyless aad decides None whole verdict none e = e
 keyless aad decides (Some found) whole verdict none e = absurd cc
 
--- Whoever decides on signatures isn't asked about it.
+-- The `EcVerifier` isn't asked about it.
 undecided : (aad : List ℕ) (decides : Decides) (answer : Answer) (verdict : Verdict) → None ≡ sign_input_in aad answer →
     then_verified aad decides answer ≡ decided verdict → answer ≡ decided verdict
 undecided aad decides (decided other) verdict none e = e
@@ -64,7 +64,7 @@ module _ (stays : MessageStays) (rules : Rules) where
   by_settled taken rest true s ends = stays rules taken rest s
   by_settled taken rest false s ends = ap (λ (r : List ℕ). message rules (taken ++ r)) (ends s) ∙ ap (message rules) (append-nil taken)
 
-  -- What the bytes taken come to all bytes do, where no byte was left unless they settled it.
+  -- The reading of the bytes taken is that of all bytes, where no byte was left unless the bytes taken settled it.
   all_come_to : (bytes taken rest : List ℕ) → bytes ≡ taken ++ rest → ((message rules taken).settled ≡ false → rest ≡ []) → message rules bytes ≡ message rules taken
   all_come_to bytes taken rest whole ends = ap (message rules) whole ∙ by_settled taken rest (message rules taken).settled refl ends
 
@@ -101,7 +101,7 @@ module _ {F : Type 0} (set : Read (List KeyValue)) (keys : List KeyValue) (good 
       let whole : output ≡ digested_under set aad bytes = sym e ∙ same ∙ ap (λ (t : Read (List KeyValue)). digested_under t aad bytes) (sym good) in
       subst (λ (o : Output). IfOk reply (Says o)) whole s
 
-  -- A run over the input, whoever decides on signatures in it.
+  -- A run over the input, whatever decides on signatures in it.
   module _ (stays : MessageStays) (last : VerifyingGoesLast) (decides : Decides) (come come_after : Option (List ℕ)) (taken : List ℕ) (told : come ≡ Some bytes) (consumes : Consumes come come_after taken)
       (ended : (message (verifying 1024 8 setting decides) taken).settled ≡ false → IsAtEnd come_after) where
     verified_after : (s : List ℕ) → message (verifying 1024 8 setting decides) s ≡ answered (then_verified setting.aad decides) (message rules s)

@@ -1,4 +1,4 @@
--- A reply that says the verdict of an input.
+-- A reply with the verdict of an input.
 use Rattle.std.proofs.Common.{◌≡◌, ℕ, ◌<◌, List, Option, Result, Ok, sym, ap, subst, ◌∙◌, arith}
 use Rattle.std.specs.Prelude.{IfOk}
 use Rattle.std.specs.Io.KnownBytes.{Appends}
@@ -20,7 +20,7 @@ says_verified set keys aad wanted vouch bytes verdict reply d b s =
     let e : verified_under set aad wanted vouch bytes ≡ said_of verdict = ap (λ (t : Read (List KeyValue)). verified_under t aad wanted vouch bytes) d ∙ ap output_of b in
     subst (λ (o : Output). IfOk reply (Says o)) (sym e) s
 
--- But for a fault a run ends as is said of it.
+-- Unless there is a fault, a run ends with the output's status.
 pub ends_so : (old new : Option (List ℕ)) (output : Output) (status : Status) → Prints output old new status → code_of status < 2 →
     (code_of status ≡ code_of output.status) × Appends old new output.text
 ends_so old new output statuses.Done prints well = let done = prints (λ e. absurd cc) in (ap code_of done.0, done.1)

@@ -1,4 +1,4 @@
--- A reply that says what is shown of an input.
+-- A reply that prints what is shown of an input.
 use Rattle.std.proofs.Common.{◌≡◌, ℕ, List, ◌∷◌, ◌++◌, length, Option, Some, None, Result, refl, sym, ap, subst, ◌∙◌, append_assoc}
 use Rattle.std.specs.Prelude.{IfOk}
 use Rattle.std.specs.Io.KnownBytes.{Consumes}
@@ -16,7 +16,7 @@ use Rattle.cosecmd.specs.Printed.{Output, Says, trailing_refusal, bucket_lines, 
 use Rattle.cosecmd.proofs.Trailing.{all_taken, kept_at_end, left_of_input, refused_past}
 
 module _ {F : Type 0} (setting : Setting) (keys : List KeyValue) (aad : List ℕ) (wanted : Wanted) (under : setting ≡ program_setting keys aad wanted) (bytes : List ℕ) (reply : Result Reply F) where
-  -- Who only inspects looks at no key and at no external data.
+  -- Inspecting looks at no key and at no external data.
   rules : Rules
   rules = inspecting 1024 8 setting
 

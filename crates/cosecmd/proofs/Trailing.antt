@@ -1,4 +1,4 @@
--- What stands behind a message in an input.
+-- What follows a message in an input.
 use Rattle.std.proofs.Common.{◌≡◌, ℕ, ◌<◌, ◌≤◌, List, [], ◌∷◌, ◌++◌, length, Option, Some, None, Result, Ok, Err, refl, ap, ◌∙◌, arith, length-append, append-nil}
 use Rattle.std.specs.Prelude.{IfOk}
 use Rattle.std.specs.Io.KnownBytes.{Consumes}
@@ -12,7 +12,7 @@ use Rattle.cose_msg.specs.Answer.{Answer, decided}
 use Rattle.cose_msg.specs.Reader.{Counts}
 use Rattle.cosecmd.specs.Printed.{trailing_refusal, message_length, trailed, unless_longer, followed_by}
 
--- What a further byte behind the bytes taken makes of an answer, where it ends with them.
+-- The answer that a further byte after the bytes taken results in, where the message ends with them.
 pub refused_past : (bytes taken rest : List ℕ) (answer : Answer) (count : ℕ) (refusal : Refusal) → message_length answer ≡ Some count → bytes ≡ taken ++ rest → count ≡ length taken →
     Some refusal ≡ trailing_refusal rest count → trailed (length bytes) answer ≡ decided (Refused refusal)
 refused_past bytes taken [] answer count refusal ends whole counted e = absurd cc
@@ -20,7 +20,7 @@ refused_past bytes taken (byte ∷ rest) answer count refusal ends whole counted
     let long : count < length bytes = rw (whole, counted) (omega (arith, length-append taken (byte ∷ rest))) in
     ap (λ (end : Option ℕ). unless_longer (length bytes) end answer) ends ∙ rw (lt-ltb count (length bytes) long) cc
 
--- And where no byte is behind them.
+-- And where no byte is after them.
 pub kept_at_end : (bytes taken : List ℕ) (answer : Answer) (count : ℕ) → message_length answer ≡ Some count → bytes ≡ taken → count ≡ length taken →
     trailed (length bytes) answer ≡ answer
 kept_at_end bytes taken answer count ends whole counted =

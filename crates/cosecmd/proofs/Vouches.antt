@@ -1,4 +1,4 @@
--- A word that is compared piece by piece.
+-- An argument of `--vouch` that is compared piece by piece.
 use Rattle.std.proofs.Common.{◌≡◌, ℕ, List, ◌++◌, Option, Some, None, option_map, Bor, sym, ap, ◌∙◌}
 use Rattle.std.specs.Prelude.{◌≢◌, MatchOption}
 use Rattle.std.specs.Str.{bytes_eq}
@@ -9,7 +9,7 @@ use Rattle.std.proofs.lemmas.Slice.Eq.{bytes_eq-Decides}
 use Rattle.cose_map.specs.Key.View.{contents}
 use Rattle.cosecmd.specs.Vouch.{is_then}
 
--- A word is a piece and the rest exactly where it begins with the piece and what is left is the rest.
+-- An argument is a piece and the rest exactly where it begins with the piece and what is left is the rest.
 pub same_behind : (word piece rest : List ℕ) (left : Option (Bor (List ℕ))) → MatchOption left ((rest : List ℕ) → word ≢ piece ++ rest) (λ x. word ≡ piece ++ x.now)
     → bytes_eq word (piece ++ rest) ≡ is_then (option_map contents left) rest
 same_behind word piece rest None m = false_from_ne_true _ (λ e. m rest ((bytes_eq-Decides word (piece ++ rest)).0 e))

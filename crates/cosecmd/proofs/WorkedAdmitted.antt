@@ -1,4 +1,4 @@
--- What the program prints of tokens, on examples, by computing. The MAC stands as it is defined.
+-- What the program prints for tokens, on examples, by computing. The MAC is left as it is defined.
 use Rattle.std.specs.Prelude.{◌≡◌, ℕ, pos, Bool, true, false, if◌then◌else◌, List, [], ◌∷◌, ◌++◌, replicate, codes, Option, Some, None, option_map, refl}
 use Prim.Native.String.{String}
 use Rattle.std.specs.Fmt.{digits}
@@ -43,12 +43,13 @@ use Rattle.cosecmd.proofs.WorkedPrinted.{hex, any, line, word, Prints, plain, je
 use Rattle.cosecmd.proofs.WorkedShown.{lines}
 use Rattle.hex.specs.Hex.{encode_with}
 
--- What is said of the claims of an authentic message, at a moment, with a leeway, and for whoever a text stands for.
+-- What is printed for the claims of an authentic message, at a current time, with a leeway, and for the audience that a
+-- text names.
 unfoldable said : ℕ → ℕ → Option String → List ℕ → Output
 unfolding admitted claims_of claims_table members_table confirmation_of texts_from key_of key_table material_of check_pairs children_of items_from look head_of_item bare_head read head depth_of is_utf8 chars lib.Utf8.encode digits encode_with
 said now leeway aud payload = outcome_said (of_claims (admitted_claims 8 (program_policy (pos now) leeway (option_map codes aud)) payload))
 
--- The claims of RFC 8392 appendix A.1: exp is 1444064944 at 59, nbf 1443944944 at 65, and the audience stands at 32.
+-- The claims of RFC 8392 appendix A.1: exp is 1444064944 at 59, nbf 1443944944 at 65, and the audience is at 32.
 abbrev example : String
 example = "a70175636f61703a2f2f61732e6578616d706c652e636f6d02656572696b77037818636f61703a2f2f6c696768742e6578616d706c652e636f6d041a5612aeb0051a5610d9f0061a5610d9f007420b71"
 
@@ -84,7 +85,7 @@ for_others : said 1444064943 0 (Some "other") (hex example) ≡ line "refused cl
 unfolding said
 for_others = refl
 
--- At the last moment there is, 2^63 - 1: exp and nbf at it, and a second later.
+-- At the greatest time, 2^63 - 1: exp and nbf at it, and a second later.
 at_the_last_moment : Prints (said 9223372036854775807 0 None) (
     ("a1041b7fffffffffffffff", line "refused claims Expired at 2" statuses.Refused) ∷
     ("a1041b8000000000000000", lines ("admitted" ∷ "exp 9223372036854775808" ∷ [])) ∷
@@ -120,7 +121,7 @@ said_of_few : Prints (said 0 0 (Some "b")) (
 unfolding said
 said_of_few = refl
 
--- In the order of their labels, whatever that of the payload is; the key goes before its identifier.
+-- In the order of their labels, whatever their order in the payload; the key is before its identifier.
 order_of_labels : Prints (said 1 0 None) (
     ("a3 0602 026161 016162", lines ("admitted" ∷ "iss 62" ∷ "sub 61" ∷ "iat 2" ∷ [])) ∷
     ("a2 074101 08a1034131", lines ("admitted" ∷ "cti 01" ∷ "cnf kid 31" ∷ [])) ∷
@@ -141,7 +142,7 @@ confirmed_sign : said 0 0 None (hex "a108a101a401022001215820" ++ (replicate 32 
 unfolding said
 confirmed_sign = refl
 
--- To admit a token of either kind under a key set, at a moment, whatever its audience.
+-- To admit a token of either kind under a key set, at a current time, whatever its audience.
 abbrev admitting : List ℕ → ℕ → Job
 admitting keys now = Cwt (word keys) (word []) wants.Tagged None (pos now) 0 None
 
@@ -166,7 +167,7 @@ refused_messages : Prints (prints plain 0) (
 unfolding prints
 refused_messages = refl
 
--- The limits of its headers are those of `verify`, and no label is understood besides the standard's.
+-- The limits of its headers are those of `verify`, and no label is understood in addition to the standard's.
 at_the_limits : Prints (prints plain 0) (
     ("d184590400", line "refused message Truncated at 5" statuses.Refused) ∷
     ("d184590401", line "refused message PastRoom at 2" statuses.Refused) ∷
@@ -180,7 +181,7 @@ at_the_limits : Prints (prints plain 0) (
 unfolding prints
 at_the_limits = refl
 
--- What is said of a token with the claims of the example, behind which no byte stands, and one.
+-- What is printed for a token with the claims of the example, after which no byte follows, and one.
 abbrev found : Chosen
 found = record { key = record { kid = None; alg = None; operations = None; material = symmetric jefe }; alg = Hmac256 }
 
@@ -189,7 +190,7 @@ unfolding said
 said_behind now n holds = outcome_said (token_told n (program_policy (pos now) 0 None) (hex example)
     (verified [] (vouching None) (Some found) (if holds then decided (Authentic Mac0 Hmac256 80 123) else refused BadAuth 89)))
 
--- Of an authentic message with this payload; its claims nest at most 8 deep.
+-- For an authentic message with this payload; its claims nest at most 8 deep.
 unfoldable said_of_payload : List ℕ → Output
 unfolding said
 said_of_payload payload = outcome_said (token_told 0 (program_policy (pos 0) 0 None) payload (decided (Authentic Mac0 Hmac256 0 0)))
@@ -213,7 +214,7 @@ unfolding said_behind
 followed true = refl
 followed false = refl
 
--- Behind claims that are refused nothing is looked for.
+-- After claims that are refused no byte is looked for.
 followed_late : (holds : Bool) → said_behind 1444064944 124 holds ≡ either holds (line "refused claims Expired at 59" statuses.Refused)
 unfolding said_behind
 followed_late true = refl

@@ -1,4 +1,5 @@
--- What the program tells that signatures are verified with, on examples, by computing. The digest stands as it is defined.
+-- What the program prints that signatures are verified with, on examples, by computing. The digest is left as it is
+-- defined.
 use Rattle.std.specs.Prelude.{◌≡◌, ℕ, true, false, List, [], ◌∷◌, ◌++◌, map, replicate, refl}
 use Rattle.std.specs.Fmt.{digits}
 use Rattle.std.specs.Str.{is_utf8, chars}
@@ -32,7 +33,7 @@ unfoldable digests : List ℕ → List ℕ → List ℕ → Output
 unfolding printed keys_of key_of key_table material_of message with_head with_string with_item bucket_of bucket_table check_pairs pair_faults chosen children_of items_from look head_of_item bare_head read head depth_of is_utf8 chars lib.Utf8.encode digits
 digests keys aad input = printed (Digest (word keys) (word aad)) input
 
--- The digest of the structure, the signature, and the point; the message may stand behind its tag or without it.
+-- The digest of the structure, the signature, and the point; the message may come after its tag or without it.
 abbrev told : (ℕ → ℕ) → Output
 told byte = vouched (word_for 1 (replicate 32 7) (coordinate (replicate 32 8)) (digest_of Es256 (hex "846a5369676e61747572653143a101264040")) (any byte 64))
 
@@ -48,12 +49,12 @@ in_cwt : (byte : ℕ → ℕ) → digests point [] (hex "d83dd28443a10126a0 40 5
 unfolding digests structure sig_structure shortest shortest_all shortest_head
 in_cwt byte = refl
 
--- A word: the curve in one byte, the digest, the signature, x and y, or one byte for the sign of y.
+-- An argument of `--vouch`: the curve in one byte, the digest, the signature, x and y, or one byte for the sign of y.
 words_for : map (λ y. word_for 1 (hex "aa") y (hex "dd") (hex "5555")) (coordinate (hex "bb") ∷ sign true ∷ sign false ∷ []) ≡
     hex "01 dd 5555 aa bb" ∷ hex "01 dd 5555 aa 01" ∷ hex "01 dd 5555 aa 00" ∷ []
 words_for = refl
 
--- External data stands in the structure; a coordinate y that is a sign alone is told in one byte.
+-- External data are in the structure; a coordinate y that is a sign alone is printed as one byte.
 abbrev signed_point : List ℕ
 signed_point = hex "a401022001215820" ++ (replicate 32 7 ++ hex "22f5")
 
@@ -62,7 +63,7 @@ with_data : (byte : ℕ → ℕ) → digests signed_point (hex "01") (hex "d2844
 unfolding digests structure sig_structure shortest shortest_all shortest_head
 with_data byte = refl
 
--- A byte behind the message, and one too few.
+-- A byte after the message, and one too few.
 longer : (byte : ℕ → ℕ) → digests point [] (hex "d28443a10126a0 40 5840" ++ (any byte 64 ++ hex "00")) ≡ line "refused Trailing at 74" statuses.Refused
 unfolding digests structure sig_structure shortest shortest_all shortest_head
 longer byte = refl
@@ -80,7 +81,7 @@ refused_messages : Prints (digests point []) (
 unfolding digests
 refused_messages = refl
 
--- The limits are those of `verify`, and no label is understood besides the standard's.
+-- The limits are those of `verify`, and no label is understood in addition to the standard's.
 at_the_limits : Prints (digests point []) (
     ("d284590400", line "refused Truncated at 5" statuses.Refused) ∷
     ("d284590401", line "refused PastRoom at 2" statuses.Refused) ∷

@@ -1,4 +1,5 @@
--- What the program prints, on examples, by computing. The MAC, and the digest of what is signed, stand as they are defined.
+-- What the program prints, on examples, by computing. The MAC, and the digest of what is signed, are left as they are
+-- defined.
 use Rattle.std.specs.Prelude.{◌≡◌, ℕ, zero, suc, ◌+◌, ◌-◌, ◌*◌, Bool, true, false, not, ◌==◌, nat_lt, if◌then◌else◌, List, [], ◌∷◌, ◌++◌, map, filter, replicate, codes, Option, Some, None, option_map, refl}
 use Prim.Native.String.{String}
 use Rattle.std.specs.Borrow.{Bor}
@@ -37,7 +38,7 @@ use Rattle.cosecmd.specs.declared.reply.Status.TheVariants as statuses
 use Rattle.cosecmd.specs.Printed.{Output, code_of, output_of, printed, trailed}
 use Rattle.cosecmd.specs.Vouch.{vouching, word_for}
 
--- Bytes in hexadecimal. Spaces are left out.
+-- Bytes in hexadecimal. Spaces are skipped.
 abbrev digit : ℕ → ℕ
 digit code = if nat_lt code 0x61 then code - 0x30 else code - 0x57
 
@@ -49,7 +50,7 @@ bytes_of (high ∷ low ∷ others) = (16 * digit high + digit low) ∷ bytes_of 
 abbrev pub hex : String → List ℕ
 hex text = bytes_of (filter (λ code. not (code == 0x20)) (codes text))
 
--- So many bytes, whatever they are.
+-- This many bytes, whatever they are.
 abbrev pub any : (ℕ → ℕ) → ℕ → List ℕ
 any byte zero = []
 any byte (suc n) = byte n ∷ any byte n
@@ -62,8 +63,8 @@ line text status = record { text = codes text ++ codes "\n"; status = status }
 abbrev pub Prints : (List ℕ → Output) → List (String × Output) → Type 0
 Prints f rows = map (λ row. f (hex row.0)) rows ≡ map (λ row. row.1) rows
 
--- To verify a message of either kind under a key set, with the word that vouches, where there is one. Where these bytes lie
--- in memory says nothing.
+-- To verify a message of either kind under a key set, with the argument of `--vouch`, where there is one. Where these
+-- bytes are in memory doesn't matter.
 abbrev pub word : List ℕ → Bor (List ℕ)
 word bytes = record { ref_ptr = (0, 0); now = bytes }
 
@@ -91,7 +92,7 @@ refused_keys : (input : List ℕ) → Prints (λ keys. prints keys None input) (
 unfolding prints digits
 refused_keys input = refl
 
--- A message that is refused; nothing behind it is looked at.
+-- A message that is refused; no byte after it is looked at.
 refused_messages : Prints (prints plain None) (
     ("", line "refused Truncated at 0" statuses.Refused) ∷
     ("d18443a10105a04268", line "refused Truncated at 9" statuses.Refused) ∷
@@ -134,7 +135,7 @@ is_mac_of byte to_mac = bytes_eq (any byte 32) (mac Hmac256 jefe (hex to_mac))
 abbrev either : Bool → String → String → Output
 either holds authentic other = if holds then line authentic statuses.Done else line other statuses.Refused
 
--- What is said of a message behind which no byte stands, and one. Nobody is asked about a signature.
+-- What is printed for a message after which no byte follows, and one. The `EcVerifier` is not asked about a signature.
 abbrev found : Chosen
 found = record { key = record { kid = None; alg = None; operations = None; material = symmetric jefe }; alg = Hmac256 }
 
@@ -162,7 +163,8 @@ trailing : (byte : ℕ → ℕ) → prints plain None (hex "d18443a10105a0 42686
 unfolding prints structure mac_structure shortest shortest_all shortest_head
 trailing byte = followed (is_mac_of byte "84644d41433043a1010540426869")
 
--- A point of P-256, any one; a signature that nobody vouches for, and one for which somebody vouches with a word.
+-- A point of P-256, any one; a signature that is not vouched for, and one that is vouched for with an argument of
+-- `--vouch`.
 abbrev pub point : List ℕ
 point = hex "a401022001215820" ++ (replicate 32 7 ++ (hex "225820" ++ replicate 32 8))
 

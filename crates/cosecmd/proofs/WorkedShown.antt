@@ -1,4 +1,4 @@
--- What the program prints of messages that it shows, on examples, by computing.
+-- What the program prints for messages that it shows, on examples, by computing.
 use Rattle.std.specs.Prelude.{◌≡◌, ℕ, List, [], ◌∷◌, ◌++◌, replicate, codes, refl}
 use Prim.Native.String.{String}
 use Rattle.std.specs.Fmt.{digits}
@@ -25,7 +25,7 @@ unfoldable prints : Job → List ℕ → Output
 unfolding printed message with_head with_string with_item bucket_of bucket_table check_pairs pair_faults children_of items_from look head_of_item bare_head read head depth_of is_utf8 chars lib.Utf8.encode digits encode_with
 prints job input = printed job input
 
--- Lines that end well.
+-- Lines of a run that ends with status `Done`.
 abbrev pub lines : List String → Output
 lines texts = record { text = all texts; status = statuses.Done }
   where
@@ -50,17 +50,17 @@ nested_value : prints (Show wants.Tagged) (after "d18443a10105a10a81818100 42686
 unfolding prints
 nested_value = refl
 
--- In the order of the message, the bytes as they came; no key is asked for, and no length of the tag.
+-- In the order of the message, the bytes as they were received; no key is required, and no length of the tag.
 order_of_message : prints (Show wants.Mac0) (hex "8447a2180a61780105a0 40 40") ≡ lines ("shape mac0 payload 0 auth 0 taken 12" ∷ "protected 180a 6178" ∷ "protected 01 05" ∷ [])
 unfolding prints
 order_of_message = refl
 
--- The tag of a CWT may stand in front.
+-- The tag of a CWT may come first.
 in_cwt : prints (Show wants.Tagged) (hex "d83dd18443a10105a0 40 40") ≡ lines ("shape mac0 payload 0 auth 0 taken 11" ∷ "protected 01 05" ∷ [])
 unfolding prints
 in_cwt = refl
 
--- The limits are those of `verify`, and no label is understood besides the standard's.
+-- The limits are those of `verify`, and no label is understood in addition to the standard's.
 at_the_limits : Prints (prints (Show wants.Tagged)) (
     ("d184590400", line "refused Truncated at 5" statuses.Refused) ∷
     ("d184590401", line "refused PastRoom at 2" statuses.Refused) ∷

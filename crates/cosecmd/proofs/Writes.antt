@@ -5,7 +5,7 @@ use Rattle.std.proofs.KnownBytes.{Appends-nil, Appends-trans}
 use Rattle.cose_msg.specs.Sink.{AppendsFront}
 use Rattle.cosecmd.specs.WriteSink.{held_through}
 
--- Of the piece all is written but the rest.
+-- Of the piece all but the rest is written.
 pub record Written (piece : List ℕ) (old now : Option (List ℕ)) (rest : List ℕ) : Type 0 where
   pub front : List ℕ
   pub whole : piece ≡ front ++ rest
@@ -48,7 +48,7 @@ rest_of : List ℕ → List ℕ
 rest_of [] = []
 rest_of (n ∷ ns) = ns
 
--- And whoever lent the writer finds in it what the sink got.
+-- And the caller that lent the writer finds in it what the sink got.
 pub lent : (old new given : Option (List ℕ)) (bytes : List ℕ) (old_name name : ℕ) → (name ≡ old_name → given ≡ new) → Appends (held_through old_name old) (held_through name new) bytes → Appends old given bytes
 unfolding first_of rest_of
 lent None new given bytes old_name name found grown = tt

@@ -20,21 +20,23 @@ use Rattle.cosecmd.specs.declared.reply.Status.{Status}
 use Rattle.cosecmd.specs.declared.reply.Status.TheVariants as statuses
 use Rattle.hex.specs.Hex.{encode_lower}
 
--- What a token has to meet: it is for whoever the one text stands for, or the audience is left to who reads the lines.
+-- What a token has to meet: where there is one text, the token is for the audience that it names; otherwise the
+-- audience is left to the reader of the lines.
 abbrev pub program_policy : ℤ → ℕ → Option (List ℕ) → PolicyValue
 program_policy now leeway aud = record { now = now; leeway = leeway; mine = option_map (λ text. text ∷ []) aud }
 
--- Nothing may stand behind a token whose claims are admitted: here the whole input has n bytes, and the token so many.
+-- No byte may follow a token whose claims are admitted: here the whole input has n bytes, and the token `taken` bytes.
 abbrev pub unless_trailed : ℕ → ℕ → Outcome → Outcome
 unless_trailed n taken (Ok claims) =
     if nat_lt taken n then Err (stops.Message (record { reason = Trailing; place = taken })) else Ok claims
 unless_trailed n taken (Err stop) = Err stop
 
--- An answer that verifying doesn't come to.
+-- An outcome that verifying doesn't have.
 abbrev pub none_told : Outcome
 none_told = Err (stops.Stopped causes.Again)
 
--- What an input of n bytes comes to as a token, by the payload and the answer of its message. Claims nest at most 8 deep.
+-- The outcome for an input of n bytes as a token, by the payload and the answer of its message. Claims nest at most 8
+-- deep.
 abbrev pub token_told : ℕ → PolicyValue → List ℕ → Answer → Outcome
 token_told n policy payload (decided (Authentic kind alg size taken)) = unless_trailed n taken (of_claims (admitted_claims 8 policy payload))
 token_told n policy payload (decided (Refused refusal)) = Err (stops.Message refusal)
@@ -48,7 +50,7 @@ token_read n policy reading = token_told n policy reading.told.payload reading.a
 abbrev pub input_token : Setting → Decides → PolicyValue → List ℕ → Outcome
 input_token setting decides policy bytes = token_read (length bytes) policy (read_as 1024 8 setting decides bytes)
 
--- A line for what is there, and none for what isn't.
+-- A line for a value, where there is one, and otherwise none.
 abbrev pub where_present : {A : Type 0} → (A → List ℕ) → Option A → List ℕ
 where_present line None = []
 where_present line (Some value) = line value
@@ -89,7 +91,7 @@ claims_lines claims =
     ++ where_present (bytes_line (codes "cti")) (cti_of claims)
     ++ where_present confirmation_lines claims.confirmation
 
--- A refusal says whether it is of the message or of its claims, since their places count from different bytes.
+-- A refusal says whether it is of the message or of its claims, since their places are relative to different bytes.
 abbrev pub refused_line : List ℕ → Refusal → List ℕ
 refused_line part refusal = codes "refused " ++ part ++ codes " " ++ refusal_text refusal ++ codes "\n"
 

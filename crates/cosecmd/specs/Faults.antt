@@ -9,7 +9,7 @@ use Rattle.cose_msg.specs.Make.{make_fault}
 use Rattle.cosecmd.specs.declared.fault.Fault.{Fault}
 use Rattle.cosecmd.specs.declared.fault.Fault.TheVariants as faults
 
--- Whether it says that the input failed.
+-- Whether the fault says that the input failed.
 abbrev pub is_of_input : Fault → Bool
 is_of_input faults.Input = true
 is_of_input _ = false
@@ -22,7 +22,7 @@ abbrev pub fault_in : {A : Type 0} → Result A Fault → Option Fault
 fault_in (Ok answer) = None
 fault_in (Err fault) = Some fault
 
--- What the key or the other arguments have wrong where a message is to be made. A short input has no fault of its own.
+-- The fault of the key or of the other arguments where a message is to be made. A short input has no fault of its own.
 abbrev pub fault_of_arguments : Option MakeFault → Option Fault
 fault_of_arguments (Some makes.WrongKey) = Some faults.WrongKey
 fault_of_arguments (Some makes.TooLong) = Some faults.TooLong

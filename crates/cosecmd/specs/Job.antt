@@ -1,4 +1,4 @@
--- What a job says.
+-- The externally supplied data of a job.
 use Rattle.std.specs.Prelude.{ℕ, List, []}
 use Rattle.cosecmd.specs.declared.job.Job.{Job}
 use Rattle.cosecmd.specs.declared.job.Job.TheVariants.{Show, Verify, Cwt, Digest, Make}

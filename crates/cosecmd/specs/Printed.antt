@@ -78,7 +78,8 @@ program_keys bytes = table_of 16 (keys_of bytes)
 abbrev pub fault_of_keys : Refusal → Output
 fault_of_keys refusal = record { text = codes "fault keys " ++ refusal_text refusal ++ codes "\n"; status = statuses.Fault }
 
--- What the program verifies a message under: it knows the CWT tag, understands no label further, and has no payload limit of its own.
+-- The setting that the program verifies a message under: it knows the CWT tag, understands no label in addition to the
+-- standard's, and has no payload limit of its own.
 abbrev pub program_setting : List KeyValue → List ℕ → Wanted → Setting
 program_setting keys aad wanted = record {
   keys = keys;
@@ -89,14 +90,14 @@ program_setting keys aad wanted = record {
   payload_limit = 2 ^ 56 - 1;
 }
 
--- How many bytes a message has that nothing refuses.
+-- The number of bytes of a message that isn't refused.
 abbrev pub message_length : Answer → Option ℕ
 message_length (decided (Authentic kind alg payload taken)) = Some taken
 message_length (decided (Refused refusal)) = None
 message_length (complete whole) = Some whole.taken
 message_length (shaped kind payload auth taken) = Some taken
 
--- Nothing may stand behind it: here the whole input has n bytes.
+-- No byte may follow it: here the whole input has n bytes.
 abbrev pub unless_longer : ℕ → Option ℕ → Answer → Answer
 unless_longer n (Some taken) answer = if nat_lt taken n then refused Trailing taken else answer
 unless_longer n None answer = answer
@@ -104,12 +105,12 @@ unless_longer n None answer = answer
 abbrev pub trailed : ℕ → Answer → Answer
 trailed n answer = unless_longer n (message_length answer) answer
 
--- What the first of these bytes behind a message is refused for, where there is one.
+-- The refusal of the first of these bytes after a message, where there is one.
 abbrev pub trailing_refusal : List ℕ → ℕ → Option Refusal
 trailing_refusal [] taken = None
 trailing_refusal (byte ∷ bytes) taken = Some (record { reason = Trailing; place = taken })
 
--- The same, where these bytes are left of the input behind the message.
+-- The same, where these bytes are left of the input after the message.
 abbrev pub followed_by : List ℕ → Verdict → Verdict
 followed_by (byte ∷ bytes) (Authentic kind alg payload taken) = Refused (record { reason = Trailing; place = taken })
 followed_by rest verdict = verdict
@@ -118,11 +119,11 @@ followed_by rest verdict = verdict
 abbrev pub input_answer : Setting → Decides → List ℕ → Answer
 input_answer setting decides bytes = trailed (length bytes) (verdict_of 1024 8 setting decides bytes)
 
--- An answer that a command doesn't come to.
+-- The output for an answer that a command doesn't have.
 abbrev pub none_said : Output
 none_said = record { text = []; status = statuses.Fault }
 
--- Where a message is verified it comes to a verdict.
+-- Where a message is verified its answer is a verdict.
 abbrev pub output_of : Answer → Output
 output_of (decided verdict) = said_of verdict
 output_of (complete whole) = none_said
@@ -148,7 +149,8 @@ abbrev pub shape_line : Kind → ℕ → ℕ → ℕ → List ℕ
 shape_line kind payload auth taken =
     codes "shape " ++ word_of_kind kind ++ codes " payload " ++ decimal payload ++ codes " auth " ++ decimal auth ++ codes " taken " ++ decimal taken ++ codes "\n"
 
--- A line for each pair of a bucket, in the order of the message: the bytes of its label and of its value as they came.
+-- A line for each pair of a bucket, in the order of the message: the bytes of its label and of its value as they were
+-- received.
 abbrev pub pair_line : List ℕ → Pair → List ℕ
 pair_line bucket pair = bucket ++ codes " " ++ encode_lower pair.label.bytes ++ codes " " ++ encode_lower pair.value.bytes ++ codes "\n"
 
@@ -175,11 +177,11 @@ shown_of n reading = shown_as reading.told (trailed n reading.answer)
 abbrev pub shown : Wanted → List ℕ → Output
 shown wanted bytes = shown_of (length bytes) (message (inspecting 1024 8 (program_setting [] [] wanted)) bytes)
 
--- The word that vouches for a signature, by which `verify` finds it good.
+-- The line that prints the argument of `--vouch`, with which a signature passes `verify`.
 abbrev pub vouched : List ℕ → Output
 vouched word = record { text = codes "vouch " ++ encode_lower word ++ codes "\n"; status = statuses.Done }
 
--- Where there is a signature to verify, it is told what it is verified with; else what the message comes to.
+-- Where there is a signature to verify, what it is verified with is printed; otherwise the output for the answer.
 abbrev pub digested : Option SignInput → Answer → Output
 digested (Some input) answer = vouched (vouch_word input)
 digested None answer = output_of answer
@@ -187,7 +189,7 @@ digested None answer = output_of answer
 abbrev pub digested_as : List ℕ → Answer → Output
 digested_as aad answer = digested (sign_input_in aad answer) answer
 
--- A COSE_Sign1, tagged or not, all of whose bytes are there, before anybody decides on its signature.
+-- A COSE_Sign1, tagged or not, all of whose bytes are there, before its signature is decided on.
 abbrev pub input_compared : Setting → List ℕ → Answer
 input_compared setting bytes = trailed (length bytes) (message (comparing 1024 8 setting) bytes).answer
 
@@ -207,8 +209,8 @@ making_line makes.ShortPayload = []
 making_line makes.Intake = []
 making_line makes.Sink = []
 
--- The message of the first bytes of the input. Where these are fewer than the payload's length, they are written with what
--- stands before them.
+-- The message of the first bytes of the input. Where these are fewer than the payload's length, they are written with
+-- what precedes them.
 abbrev pub message_made : KeyValue → Alg → ℕ → Option (List ℕ) → List ℕ → List ℕ → Output
 message_made key alg payload_length kid aad bytes =
     if nat_lt (length bytes) payload_length
@@ -224,8 +226,8 @@ made_under (Ok key) alg payload_length kid aad bytes =
     unless_faulty (make_fault alg key kid aad payload_length) (message_made key alg payload_length kid aad bytes)
 made_under (Err refusal) alg payload_length kid aad bytes = fault_of_key refusal
 
--- What is printed for a job, where the input is these bytes. A text of status Fault is what the program's documents say; no clause
--- asks a run that ends so to print it.
+-- What is printed for a job, where the input is these bytes. A text of status Fault is what the program's documents
+-- say; no clause requires a run that ends so to print it.
 unfoldable pub printed : Job → List ℕ → Output
 printed (Show wanted) bytes = shown wanted bytes
 printed (Verify keys aad wanted vouch) bytes = verified_under (program_keys keys.now) aad.now wanted (option_map contents vouch) bytes
@@ -235,15 +237,15 @@ printed (Digest keys aad) bytes = digested_under (program_keys keys.now) aad.now
 printed (Make alg key payload_length kid aad) bytes =
     made_under (key_of (record { bytes = key.now; place = 0 })) alg payload_length (option_map contents kid) aad.now bytes
 
--- A reply that says this.
+-- A reply with this output.
 pub record Says (output : Output) (reply : Reply) : Type 0 where
   pub text : string_bytes reply.text ≡ output.text
   pub status : reply.status ≡ output.status
 
--- What a run wrote and how it ended is this, but for a fault.
+-- Unless there is a fault, a run wrote this output and ended with its status.
 abbrev pub Prints : Output → Option (List ℕ) → Option (List ℕ) → Status → Type 0
 Prints output old new status = status ≢ statuses.Fault → (status ≡ output.status) × Appends old new output.text
 
--- A run that ends with this exit status: but for a fault it wrote this output, and ended so.
+-- A run that ends with this exit status: unless there is a fault, it wrote this output, and ended with its status.
 abbrev pub EndsWith : Output → Option (List ℕ) → Option (List ℕ) → ℕ → Type 0
 EndsWith output old new status = status < 2 → (status ≡ code_of output.status) × Appends old new output.text

@@ -14,11 +14,12 @@ abbrev pub vouched_y : YValue → List ℕ
 vouched_y (coordinate y) = y
 vouched_y (sign s) = sign_byte s ∷ []
 
--- The word that vouches for a signature: the curve of the key, the digest, the signature, x and y.
+-- The argument of `--vouch` for a signature: the curve of the key, the digest, the signature, x and y.
 abbrev pub word_for : ℕ → List ℕ → YValue → List ℕ → List ℕ → List ℕ
 word_for curve x y digest signature = (curve ∷ []) ++ digest ++ signature ++ x ++ vouched_y y
 
--- A word vouches for the signature whose word it is, and for no other; no word vouches for none.
+-- An argument of `--vouch` vouches for the signature whose argument it is, and for no other; without one none is
+-- vouched for.
 abbrev pub vouches : List ℕ → MaterialValue → List ℕ → List ℕ → Bool
 vouches word (symmetric secret) digest signature = false
 vouches word (elliptic curve x y) digest signature = bytes_eq word (word_for curve x y digest signature)
@@ -27,7 +28,8 @@ abbrev pub vouching : Option (List ℕ) → Decides
 vouching None key digest signature = false
 vouching (Some word) key digest signature = vouches word key.material digest signature
 
--- The word that vouches for what a signature is verified with, whoever looked at it. No signature is verified with a symmetric key.
+-- The argument of `--vouch` for what a signature is verified with, no matter who verified it. No signature is verified
+-- with a symmetric key.
 abbrev pub word_under : MaterialValue → List ℕ → List ℕ → List ℕ
 word_under (symmetric secret) digest signature = []
 word_under (elliptic curve x y) digest signature = word_for curve x y digest signature
@@ -35,7 +37,7 @@ word_under (elliptic curve x y) digest signature = word_for curve x y digest sig
 abbrev pub vouch_word : SignInput → List ℕ
 vouch_word input = word_under input.key.material input.digest input.signature
 
--- Whether what was left of a word is this.
+-- Whether what was left of an argument is this.
 abbrev pub is_then : Option (List ℕ) → List ℕ → Bool
 is_then (Some left) rest = bytes_eq left rest
 is_then None rest = false

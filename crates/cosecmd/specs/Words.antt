@@ -1,4 +1,4 @@
--- What is printed for the words of a command, and how it ends: the output of the job that these words ask for.
+-- What is printed for the arguments of a command, and how it ends: the output of the job that these arguments ask for.
 use Rattle.std.specs.Prelude.{ℕ, List, Option, option_map, string_bytes}
 use Rattle.cose_cwt.specs.Claims.Audience.{text_value}
 use Rattle.cose_map.specs.Key.{key_of}

@@ -1,7 +1,7 @@
 -- What a sink holds that writes through a borrowed writer.
 use Rattle.std.specs.Prelude.{ℕ, List, ◌∷◌, Option, option_map}
 
--- The name of the reference, and then the bytes that the writer behind it holds: whoever lent the writer finds in it what the sink
--- got, since the sink has the same reference still.
+-- The name of the reference, and then the bytes that its writer holds: the caller that lent the writer finds in it what
+-- the sink got, since the sink has the same reference still.
 abbrev pub held_through : ℕ → Option (List ℕ) → Option (List ℕ)
 held_through name contents = option_map (λ bytes. name ∷ bytes) contents

@@ -83,7 +83,8 @@ fn status_of<R: Read, W: Write>(alloc: Global, job: &Job, input: &mut R, output:
 pub fn answer<R: Read, W: Write>(alloc: Global, job: &Job, input: &mut R, output: &mut W) -> u8
     requires external { length_of (aad_of job.now) ≤ 65535 }
     ensures status { result ≤ 2 }
-    // But for a fault it prints what the job and all that the reader gives come to, and ends so.
+    // Unless there is a fault, it prints the output for the job and all that the reader gives, and ends with its
+    // status.
     ensures printed { (bytes : List ℕ) → R.remaining input.old ≡ Some bytes →
         EndsWith (printed job.now bytes) (W.contents output.old) (W.contents output.new) result }
 {

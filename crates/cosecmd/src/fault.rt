@@ -14,19 +14,19 @@ pub enum Fault {
     /// A request for memory was refused.
     #[error("fault memory")]
     Memory,
-    /// The word that follows this option isn't hexadecimal, or is too long.
+    /// The argument of this option isn't hexadecimal, or is too long.
     #[error("fault line {0}")]
     Line(&'static str),
-    /// The key set is refused. The place is in bytes from the first of the set.
+    /// The key set is refused. The place is relative to the first byte of the set.
     #[error("fault keys {0}")]
     Keys(Refusal),
-    /// The key that is to make a message is refused. The place is in bytes from the first of the key.
+    /// The key that is to make a message is refused. The place is relative to the first byte of the key.
     #[error("fault key {0}")]
     Key(Refusal),
     /// The key doesn't make MACs by the algorithm (RFC 9052 section 7.1).
     #[error("fault make WrongKey")]
     WrongKey,
-    /// The identifier of the key has more than 255 bytes, or what else goes into a message is too long.
+    /// The identifier of the key has more than 255 bytes, or another input of the message is too long.
     #[error("fault make TooLong")]
     TooLong,
     /// The input failed.
@@ -45,7 +45,7 @@ impl From<AllocError> for Fault {
 }
 
 impl Fault {
-    /// The word of an option that couldn't be read as hexadecimal.
+    /// The fault of an option whose argument couldn't be read as hexadecimal.
     pub fn hexadecimal(option: &'static str, error: FromHexError) -> Fault
         ensures memory { error ≡ FromHexError.OutOfMemory → result ≡ Fault.Memory }
         ensures line { error ≢ FromHexError.OutOfMemory → result ≡ Fault.Line option.entry }

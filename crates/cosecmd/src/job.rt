@@ -2,7 +2,7 @@
 
 use cose_msg::{Alg, Wanted};
 
-/// What a run is asked to do, as its words say it.
+/// What a run is asked to do, as its arguments say it.
 #[derive(Clone, Copy)]
 pub enum Job<'j> {
     /// To show what the message on the input has in its headers, under no key.
@@ -18,7 +18,7 @@ pub enum Job<'j> {
         aad: &'j [u8],
         /// The kinds of messages that are wanted.
         wanted: Wanted,
-        /// The bytes that a signature is vouched for by, where there are any.
+        /// The argument of `--vouch`, where there is one.
         vouch: Option<&'j [u8]>,
     },
     /// To admit the token on the input, and to show its claims.
@@ -29,16 +29,16 @@ pub enum Job<'j> {
         aad: &'j [u8],
         /// The kinds of messages that are wanted.
         wanted: Wanted,
-        /// The bytes that a signature is vouched for by, where there are any.
+        /// The argument of `--vouch`, where there is one.
         vouch: Option<&'j [u8]>,
-        /// The moment, in seconds since 1970.
+        /// The current time, in seconds since 1970.
         now: i64,
         /// By how many seconds the clocks of the issuer and of this machine may differ.
         leeway: u32,
-        /// The text that stands for the audience, where the token has to be for it.
+        /// The text that names the audience, where the token has to be for it.
         aud: Option<&'j str>,
     },
-    /// To tell what the signature of the message on the input, a COSE_Sign1, is verified with.
+    /// To print what the signature of the message on the input, a COSE_Sign1, is verified with.
     Digest {
         /// The bytes of the key set (RFC 9052 section 7).
         keys: &'j [u8],

@@ -23,7 +23,7 @@ use std::process::ExitCode;
 use std::rt::Env;
 use std::{env, io};
 
-/// The words of the command line, each of them text.
+/// The arguments of the command line, each of them UTF-8.
 fn owned_words(rt: &(impl Env + Alloc<A = Global>)) -> io::Result<Vec<String>> {
     let args = env::args(rt)?;
     let mut words = Vec::with_capacity(rt.alloc(), args.len())?;
@@ -33,7 +33,7 @@ fn owned_words(rt: &(impl Env + Alloc<A = Global>)) -> io::Result<Vec<String>> {
     Ok(words)
 }
 
-/// The words as `run` takes them.
+/// The arguments as `run` takes them.
 fn borrowed_words(alloc: Global, owned: &[String]) -> Result<Vec<&str>, AllocError> {
     let mut words = Vec::with_capacity(alloc, owned.len())?;
     for word in owned {
@@ -42,7 +42,7 @@ fn borrowed_words(alloc: Global, owned: &[String]) -> Result<Vec<&str>, AllocErr
     Ok(words)
 }
 
-/// Writes what is wrong with the words themselves.
+/// Writes what is wrong with the arguments before they are parsed.
 fn complain<W: Write>(output: &mut W, text: &str) -> ExitCode
     ensures { exit_status result ≡ 2 }
 {

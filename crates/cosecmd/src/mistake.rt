@@ -1,4 +1,5 @@
-//! What is said of arguments that are refused. None of them is repeated: an argument may be a key that lacks its option.
+//! The texts for arguments that are refused. None of the arguments is repeated: an argument may be a key that lacks its
+//! option.
 
 use clap::error::ErrorKind;
 use std::alloc::{AllocError, Global};
@@ -6,10 +7,10 @@ use std::alloc::{AllocError, Global};
 /// How the text begins that says of an option that its value is missing. It repeats no argument.
 const NO_VALUE: &str = "error: a value is required for '";
 
-/// What stands in a text between a value and its option.
+/// The part of a text between a value and its option.
 const FOR: &str = "' for '";
 
-/// What stands in a text between what is wrong and how the command is used.
+/// The part of a text between what is wrong and how the command is used.
 const USAGE: &str = "\n\nUsage: ";
 
 /// The option that a text names last, with the possible values where it has some.

@@ -9,7 +9,8 @@ use crate::reply::{Reply, Status};
 use std::alloc::Global;
 use std::io::Write;
 
-/// Writes a text whole, and says how the run ends: as it says itself, or with a fault where the writer failed.
+/// Writes a text whole, and returns how the run ends: with the status of the text, or with a fault where the writer
+/// failed.
 pub fn print<W: Write>(output: &mut W, text: &str, status: Status) -> Status
     ensures status { result ≢ Status.Fault → result ≡ status }
     ensures written { result ≢ Status.Fault → Appends (W.contents output.old) (W.contents output.new) text.now }
@@ -20,7 +21,7 @@ pub fn print<W: Write>(output: &mut W, text: &str, status: Status) -> Status
     }
 }
 
-/// Writes the line of a fault. Where there is no memory for it, that is the fault.
+/// Writes the line of a fault. Where there is no memory for the line, the fault is that.
 pub fn print_fault<W: Write>(alloc: Global, fault: Fault, output: &mut W) -> Status
     ensures { result ≡ Status.Fault }
 {

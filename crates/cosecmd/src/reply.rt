@@ -6,7 +6,8 @@ ghost use Rattle.cosecmd.specs.Printed.{code_of};
 /// How a run ends.
 #[derive(Clone, Copy, Debug, PartialEq, Eq)]
 pub enum Status {
-    /// The message is authentic, shown or made, or its digest is told, a token is admitted, or help or the version was asked for.
+    /// The message is authentic, shown or made, or its digest is printed, a token is admitted, or help or the version
+    /// was asked for.
     Done,
     /// The message or the token is refused.
     Refused,

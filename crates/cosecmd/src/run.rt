@@ -1,4 +1,4 @@
-//! A run of the program: its words, and then its job.
+//! A run of the program: its arguments, and then its job.
 
 ghost use Rattle.std.specs.Prelude.{◌≡◌, ◌≤◌, ℕ, List, Some, option_map};
 ghost use Rattle.cose_map.specs.Key.View.{contents};
@@ -13,7 +13,7 @@ use crate::words::{Cwt, Digest, Make, Request, Verify, request_of};
 use std::alloc::Global;
 use std::io::{Read, Write};
 
-/// The bytes of a word, where it is there.
+/// The bytes of an argument, where there is one.
 fn slice_of(word: &Option<Vec<u8>>) -> Option<&[u8]>
     ensures { option_map contents result ≡ option_map (λ word. word.items) word.now }
 {
@@ -97,7 +97,7 @@ fn answer_make<R: Read, W: Write>(alloc: Global, words: &Make, input: &mut R, ou
     answer(alloc, &job, input, output)
 }
 
-/// Does what the words ask for, and says how the run ends.
+/// Does what the arguments ask for, and returns how the run ends.
 fn answer_request<R: Read, W: Write>(
     alloc: Global,
     request: &Request,
@@ -105,7 +105,8 @@ fn answer_request<R: Read, W: Write>(
     output: &mut W,
 ) -> u8
     ensures status { result ≤ 2 }
-    // But for a fault it prints what these words and all that the reader gives result in, and ends so.
+    // Unless there is a fault, it prints the output for these arguments and all that the reader gives, and ends with
+    // its status.
     ensures printed { (bytes : List ℕ) → R.remaining input.old ≡ Some bytes →
         EndsWith (asked_for request.entry.now bytes) (W.contents output.old) (W.contents output.new) result }
 {
@@ -119,12 +120,14 @@ fn answer_request<R: Read, W: Write>(
     }
 }
 
-/// Runs the program: `words` are those of the command line, the first of them its name. The message, or the payload of
-/// which one is made, comes from `input`; every line goes to `output`, a fault's too, and so does a message that is made.
+/// Runs the program: `words` are the arguments of the command line, the first of them the program's name. The message,
+/// or the payload of which one is made, comes from `input`; every line goes to `output`, a fault's too, and so does a
+/// message that is made.
 ///
-/// The exit status is 0 for a message that is authentic, shown or made, or whose digest is told, and for a token that is admitted
-/// (and for help and the version), 1 for a message or a token that is refused, and 2 where there is no answer and no whole message:
-/// the command line is wrong, the keys are refused, a request for memory is refused, or the input or the output fails.
+/// The exit status is 0 for a message that is authentic, shown or made, or whose digest is printed, and for a token
+/// that is admitted (and for help and the version), 1 for a message or a token that is refused, and 2 where there is no
+/// answer and no whole message: the command line is wrong, the keys are refused, a request for memory is refused, or
+/// the input or the output fails.
 pub fn run<'a, R: Read, W: Write>(
     alloc: Global,
     words: &'a [&'a str],

@@ -56,7 +56,7 @@ const STRUCTURE: &[u8] = &[
     0x84, 0x64, 0x4d, 0x41, 0x43, 0x30, 0x43, 0xa1, 0x01, 0x05, 0x40, 0x42, 0x68, 0x69,
 ];
 
-/// The front of a COSE_Sign1 without payload, up to the signature.
+/// The beginning of a COSE_Sign1 of an empty payload, up to the signature.
 const SIGNED: &str = "d28443a10126a0405840";
 
 /// The Sig_structure of it (RFC 9052 section 4.4).
@@ -95,7 +95,7 @@ fn hmac(key: &[u8], text: &[u8]) -> [u8; 32] {
     sealed(key, inner)
 }
 
-/// Bytes that differ from those beside them.
+/// Bytes that differ from their neighbors.
 fn counted<const N: usize>() -> [u8; N] {
     let mut bytes = [0; N];
     for i in 0..N {
@@ -114,7 +114,7 @@ fn key_set() -> Option<KeySet<'static>> {
     KeySet::read(KEY_SET).ok()
 }
 
-/// What messages are verified under: these keys, and nothing that is known besides the CWT tag.
+/// The context of these keys: nothing is known in addition to the CWT tag.
 fn context<'k, S: Keys<'k>>(keys: S) -> Context<'k, S>
     ensures { length result.aad.now ≤ 65535 }
 {
@@ -138,7 +138,7 @@ fn verifier(keys: KeySet, wanted: Wanted) -> Verifier<1024, 4>
     })
 }
 
-/// What `verify` answers for bytes that come in pieces of at most so many. The payload goes into the store.
+/// What `verify` answers for bytes that come in pieces of at most this many. The payload goes into the store.
 fn verified_in_pieces(
     verifier: &mut Verifier<1024, 4>,
     bytes: &[u8],
@@ -205,20 +205,20 @@ fn point_set(alloc: Global) -> Result<Vec<u8>, Fail> {
     Ok(hex::decode(alloc, point(alloc, MEMBER_Y)?.as_str()).or(Err("no hexadecimal"))?)
 }
 
-/// A COSE_Sign1 of this front and this signature.
+/// A COSE_Sign1 of this beginning and this signature.
 fn signed(alloc: Global, front: &str, signature: &[u8]) -> Result<Vec<u8>, Fail> {
     let mut bytes = hex::decode(alloc, front).or(Err("no hexadecimal"))?;
     bytes.extend_from_slice(signature)?;
     Ok(bytes)
 }
 
-/// The digest that the signature of the COSE_Sign1 without payload is of.
+/// The digest that the signature of the COSE_Sign1 of an empty payload is of.
 fn signed_digest(alloc: Global) -> Result<[u8; 32], Fail> {
     let structure = hex::decode(alloc, SIGNED_STRUCTURE).or(Err("no hexadecimal"))?;
     Ok(Sha256::digest(structure.as_slice()))
 }
 
-/// The verdict on a COSE_Mac0 of the payload `hi` by HMAC 256/256, which took so many bytes.
+/// The verdict on a COSE_Mac0 of the payload `hi` by HMAC 256/256, which took this many bytes.
 const fn authentic(taken: u64) -> Verdict {
     Verdict::Authentic {
         kind: Kind::Mac0,
@@ -233,7 +233,7 @@ const fn refused(reason: Reason, place: u64) -> Verdict {
     Verdict::Refused(Refusal { reason, place })
 }
 
-/// The verdict on the COSE_Sign1 without payload, where its signature holds and where it doesn't.
+/// The verdict on the COSE_Sign1 of an empty payload, where its signature holds and where it doesn't.
 const fn decision(holds: bool) -> Verdict {
     if holds {
         return Verdict::Authentic {

@@ -1,4 +1,4 @@
-//! The elliptic verifier of the program: somebody else has looked at the signature, and vouches for it.
+//! The `EcVerifier` of the program: somebody else has verified the signature, and vouches for it with `--vouch`.
 
 ghost use Rattle.std.specs.Prelude.{◌≡◌, ℕ, List, ◌++◌, IfOk, option_map};
 ghost use Rattle.std.specs.Str.{bytes_eq};
@@ -9,15 +9,15 @@ use cose_map::{Material, Y};
 use cose_msg::{EcVerifier, Key};
 use std::alloc::{AllocError, Global};
 
-/// Vouches for one signature: the word is its key's curve in one byte, the digest, the signature, and the key's x and y (where y
-/// is a sign alone, the byte 00 or 01). Without a word nothing is vouched for.
+/// Vouches for one signature: the argument of `--vouch` is its key's curve in one byte, the digest, the signature, and
+/// the key's x and y (where y is a sign alone, the byte 00 or 01). Without an argument nothing is vouched for.
 #[derive(Clone, Copy)]
 pub struct Vouch<'v> {
-    /// The word, where there is one.
+    /// The argument of `--vouch`, where there is one.
     pub word: Option<&'v [u8]>,
 }
 
-/// What of a word stands behind a piece that it begins with.
+/// What follows a piece in an argument that begins with it.
 fn behind<'w>(word: &'w [u8], piece: &[u8]) -> Option<&'w [u8]>
     ensures { (rest : List ℕ) → bytes_eq word.entry.now (piece.now ++ rest) ≡ is_then (option_map contents result) rest }
 {
@@ -31,7 +31,7 @@ fn byte_of(sign: bool) -> u8
     if sign { 1 } else { 0 }
 }
 
-/// Whether what is left of a word is the coordinate y.
+/// Whether what is left of an argument is the coordinate y.
 fn is_y(word: &[u8], y: Y) -> bool
     ensures { result ≡ bytes_eq word.now (vouched_y (y_value y.entry)) }
 {
@@ -41,7 +41,7 @@ fn is_y(word: &[u8], y: Y) -> bool
     }
 }
 
-/// The word that vouches for the signature of this digest with this key, whoever looked at it.
+/// The argument of `--vouch` for the signature of this digest with this key, no matter who verified it.
 pub fn word_for(
     alloc: Global,
     key: &Key<'_>,

@@ -1,4 +1,4 @@
-//! The words of the command line.
+//! The arguments of the command line.
 
 ghost use Rattle.std.specs.Prelude.{◌≤◌, IfOk, length as length_of};
 
@@ -43,10 +43,10 @@ It prints `admitted`, and then a line for each registered claim and for each tex
 hexadecimal, dates in seconds since 1970; of a confirmation the key (curve, x, y) and its identifier.
 Exit status: 0 admitted, 1 refused, 2 no answer (command line, keys, memory, input or output).";
 
-/// The words for the kinds of messages that are wanted.
+/// The values of `--kind`, the kinds of messages that are wanted.
 const KINDS: &[&str] = &["mac0", "sign1", "tagged"];
 
-/// The words for the algorithms that make MACs (RFC 9053 section 3.1).
+/// The values of `--alg`, the algorithms that make MACs (RFC 9053 section 3.1).
 const ALGORITHMS: &[&str] = &["4", "5", "6", "7"];
 
 /// A payload has fewer bytes.
@@ -55,7 +55,7 @@ const PAYLOAD: i64 = 1 << 56;
 /// The most bytes of the externally supplied data.
 const EXTERNAL: usize = 65_535;
 
-/// The words of `verify`.
+/// The arguments of `verify`.
 #[derive(Drop)]
 pub struct Verify {
     /// The bytes of the key set.
@@ -64,25 +64,25 @@ pub struct Verify {
     pub aad: Vec<u8>,
     /// The kinds of messages that are wanted.
     pub wanted: Wanted,
-    /// The bytes that a signature is vouched for by, where there are any.
+    /// The argument of `--vouch`, where there is one.
     pub vouch: Option<Vec<u8>>,
     ghost external: { length_of aad.items ≤ 65535 },
 }
 
-/// The words of `cwt`.
+/// The arguments of `cwt`.
 #[derive(Drop)]
 pub struct Cwt<'w> {
     /// Those that `verify` has too.
     pub verify: Verify,
-    /// The moment, in seconds since 1970.
+    /// The current time, in seconds since 1970.
     pub now: i64,
     /// By how many seconds clocks may differ.
     pub leeway: u32,
-    /// The text that stands for the audience, where there is one.
+    /// The text that names the audience, where there is one.
     pub aud: Option<&'w str>,
 }
 
-/// The words of `digest`.
+/// The arguments of `digest`.
 #[derive(Drop)]
 pub struct Digest {
     /// The bytes of the key set.
@@ -92,7 +92,7 @@ pub struct Digest {
     ghost external: { length_of aad.items ≤ 65535 },
 }
 
-/// The words of `make`.
+/// The arguments of `make`.
 #[derive(Drop)]
 pub struct Make {
     /// The algorithm of the MAC.
@@ -108,7 +108,7 @@ pub struct Make {
     ghost external: { length_of aad.items ≤ 65535 },
 }
 
-/// What the words ask for.
+/// What the arguments ask for.
 #[derive(Drop)]
 pub enum Request<'w> {
     /// To show a message of these kinds.
@@ -117,7 +117,7 @@ pub enum Request<'w> {
     Verify(Verify),
     /// To admit a token.
     Cwt(Cwt<'w>),
-    /// To tell what a signature is verified with.
+    /// To print what a signature is verified with.
     Digest(Digest),
     /// To make a message.
     Make(Make),
@@ -151,7 +151,7 @@ fn kind_option<'a>(alloc: Global) -> Arg<'a> {
         .help("The kind of message: one of both, or as its tag says")
 }
 
-/// The option of the word that vouches.
+/// The option `--vouch`.
 fn vouch_option<'a>(alloc: Global) -> Arg<'a> {
     Arg::new(alloc, "vouch")
         .long("vouch")
@@ -311,7 +311,7 @@ fn refused_line(alloc: Global, error: clap::Error) -> Result<Reply, Fault> {
     Ok(Reply { status, text })
 }
 
-/// The bytes that the word of an option spells in hexadecimal.
+/// The bytes of an option's argument in hexadecimal.
 fn bytes_of(alloc: Global, matches: &ArgMatches, option: &'static str) -> Result<Vec<u8>, Fault> {
     let word = matches.get_str(option).unwrap_or("");
     match hex::decode(alloc, word) {
@@ -320,7 +320,7 @@ fn bytes_of(alloc: Global, matches: &ArgMatches, option: &'static str) -> Result
     }
 }
 
-/// The bytes that the word of an option spells, where the option is there.
+/// The bytes of an option's argument in hexadecimal, where the option is there.
 fn optional_bytes_of(
     alloc: Global,
     matches: &ArgMatches,
@@ -332,7 +332,7 @@ fn optional_bytes_of(
     Ok(None)
 }
 
-/// The kinds of messages that a word wants.
+/// The kinds of messages for a value of `--kind`.
 fn wanted_of(word: &str) -> Wanted {
     match word {
         "mac0" => Wanted::Mac0,
@@ -352,7 +352,7 @@ fn external_of(alloc: Global, matches: &ArgMatches) -> Result<Vec<u8>, Fault>
     Ok(aad)
 }
 
-/// The algorithm that a word names.
+/// The algorithm for a value of `--alg`.
 fn alg_of(word: &str) -> Option<Alg> {
     match word {
         "4" => Some(Alg::Hmac64),
@@ -363,12 +363,12 @@ fn alg_of(word: &str) -> Option<Alg> {
     }
 }
 
-/// The kinds of messages that the words want.
+/// The kinds of messages that the arguments name.
 fn kind_of(matches: &ArgMatches) -> Wanted {
     wanted_of(matches.get_str("kind").unwrap_or("tagged"))
 }
 
-/// The words of `verify`, in the order in which help lists them.
+/// The arguments of `verify`, in the order in which help lists them.
 fn verify_of(alloc: Global, matches: &ArgMatches) -> Result<Verify, Fault> {
     let keys = bytes_of(alloc, matches, "keys")?;
     let aad = external_of(alloc, matches)?;
@@ -382,7 +382,8 @@ fn verify_of(alloc: Global, matches: &ArgMatches) -> Result<Verify, Fault> {
     })
 }
 
-/// The words of `cwt`, in the order in which help lists them. The line has a moment and a leeway that are in range.
+/// The arguments of `cwt`, in the order in which help lists them. The line has a current time and a leeway that are in
+/// range.
 fn cwt_of<'a>(alloc: Global, matches: &ArgMatches<'a>) -> Result<Cwt<'a>, Fault> {
     let verify = verify_of(alloc, matches)?;
     let Some(now) = matches.get_one::<i64>("now") else {
@@ -400,14 +401,15 @@ fn cwt_of<'a>(alloc: Global, matches: &ArgMatches<'a>) -> Result<Cwt<'a>, Fault>
     })
 }
 
-/// The words of `digest`, in the order in which help lists them.
+/// The arguments of `digest`, in the order in which help lists them.
 fn digest_of(alloc: Global, matches: &ArgMatches) -> Result<Digest, Fault> {
     let keys = bytes_of(alloc, matches, "keys")?;
     let aad = external_of(alloc, matches)?;
     Ok(Digest { keys, aad })
 }
 
-/// The words of `make`, in the order in which help lists them. The line has an algorithm and a length that are in range.
+/// The arguments of `make`, in the order in which help lists them. The line has an algorithm and a length that are in
+/// range.
 fn make_of(alloc: Global, matches: &ArgMatches) -> Result<Make, Fault> {
     let Some(alg) = alg_of(matches.get_str("alg").unwrap_or("")) else {
         return Err(Fault::Line("alg"));
@@ -427,7 +429,7 @@ fn make_of(alloc: Global, matches: &ArgMatches) -> Result<Make, Fault> {
     })
 }
 
-/// Reads the words, the first of which is the program's name.
+/// Reads the arguments, the first of which is the program's name.
 pub fn request_of<'a>(alloc: Global, words: &'a [&'a str]) -> Result<Request<'a>, Fault> {
     let matches = match line(alloc)?.try_get_matches_from(words) {
         Ok(matches) => matches,

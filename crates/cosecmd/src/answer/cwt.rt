@@ -35,7 +35,7 @@ use std::slice;
 /// The most bytes of the claims of a token.
 const CLAIMS: usize = 4_096;
 
-/// What a token has to meet: it is for whoever the text stands for, where there is one.
+/// What a token has to meet: where there is a text, the token is for the audience that the text names.
 pub fn policy_of<'j>(now: i64, leeway: u32, aud: &'j Option<&'j str>) -> Policy<'j>
     ensures { policy_value result ≡ program_policy now leeway (option_map text_value aud.entry.now) }
 {
@@ -50,7 +50,7 @@ pub fn policy_of<'j>(now: i64, leeway: u32, aud: &'j Option<&'j str>) -> Policy<
     }
 }
 
-/// Appends a line of a text or of bytes, where they are there, in hexadecimal.
+/// Appends a line of a text or of bytes in hexadecimal, where there is one.
 fn push_bytes(
     alloc: Global,
     lines: &mut String,
@@ -69,7 +69,7 @@ fn push_bytes(
     Ok(())
 }
 
-/// The bytes of a text, where it is there.
+/// The bytes of a text, where there is one.
 fn bytes_of(text: Option<&str>) -> Option<&[u8]>
     ensures { option_map contents result ≡ option_map text_value text.entry }
 {
@@ -90,7 +90,7 @@ fn push_audience(alloc: Global, lines: &mut String, texts: Auds) -> Result<(), F
     Ok(())
 }
 
-/// Appends the line of a date, where it is there.
+/// Appends the line of a date, where there is one.
 fn push_date(alloc: Global, lines: &mut String, name: &str, date: Option<i128>) -> Result<(), Fault>
     ensures lines { IfOk result (λ _. string_bytes lines.new ≡ string_bytes lines.old ++ where_present (date_line name.now) date) }
     ensures fault { IfErr result (λ fault. fault ≡ Fault.Memory) }
@@ -103,7 +103,7 @@ fn push_date(alloc: Global, lines: &mut String, name: &str, date: Option<i128>) 
     Ok(())
 }
 
-/// Appends the line of a public key, where it is there: its curve, x, and y or the sign of y.
+/// Appends the line of a public key, where there is one: its curve, x, and y or the sign of y.
 fn push_key(alloc: Global, lines: &mut String, key: Option<Key>) -> Result<(), Fault>
     ensures lines { IfOk result (λ _. string_bytes lines.new ≡ string_bytes lines.old ++ where_present key_line (option_map key_value key.entry)) }
     ensures fault { IfErr result (λ fault. fault ≡ Fault.Memory) }
@@ -126,7 +126,7 @@ fn push_key(alloc: Global, lines: &mut String, key: Option<Key>) -> Result<(), F
     Ok(())
 }
 
-/// Appends the lines of a confirmation, where it is there: those of the key and of its identifier.
+/// Appends the lines of a confirmation, where there is one: those of the key and of its identifier.
 fn push_confirmation(alloc: Global, lines: &mut String, cnf: Option<Cnf>) -> Result<(), Fault>
     ensures lines { IfOk result (λ _. string_bytes lines.new ≡ string_bytes lines.old ++ where_present confirmation_lines (option_map cnf_value cnf.entry)) }
     ensures fault { IfErr result (λ fault. fault ≡ Fault.Memory) }
@@ -186,7 +186,7 @@ fn token_reply(alloc: Global, token: Result<Claims, CwtStop>) -> Result<Reply, F
     }
 }
 
-/// What a token is verified under: what a message is, with a payload that the store holds.
+/// The context of a token: that of a message, with a payload that the store holds.
 fn token_context<'j, S: Keys<'j>>(keys: S, aad: &'j [u8], wanted: Wanted) -> Context<'j, S>
     ensures setting { setting_of S.usable result
         ≡ token_setting (S.usable keys) aad.entry.now wanted }
@@ -198,7 +198,7 @@ fn token_context<'j, S: Keys<'j>>(keys: S, aad: &'j [u8], wanted: Wanted) -> Con
     }
 }
 
-/// The token that the whole input is: behind one whose claims are admitted, a further byte makes it `Trailing`.
+/// The token that the whole input is: after one whose claims are admitted, a further byte makes it `Trailing`.
 fn whole_token<'a, 'j, I: Intake>(
     verifier: &mut Verifier<'j, HEADER, NESTING, KeyTable<'j, KEYS>>,
     intake: &mut I,
@@ -212,11 +212,11 @@ fn whole_token<'a, 'j, I: Intake>(
     requires payload_limit { (setting_in verifier.old).payload_limit ≤ 4096 }
     ensures whole { (setting : Setting) (bytes : List ℕ) → HasTaken (to_verify setting) [] [] verifier.old → I.to_come intake.old ≡ Some bytes →
         UnlessStopped (claims_seen result) (claims_seen result ≡ input_token setting (vouching (option_map contents vouch.now.word)) (policy_value policy.entry.now) bytes) }
-    // It stops where the intake failed in this call, and nowhere else.
+    // It stops exactly where the intake failed in this call.
     ensures failure { (setting : Setting) → HasTaken (to_verify setting) [] [] verifier.old →
         I.has_failed intake.new ≡ (I.has_failed intake.old || is_some (stop_in (claims_seen result))) }
 {
-    // That a verdict stays when bytes follow is what the place of a further byte rests on.
+    // The law that the proof cites for the place of a further byte: a verdict stays when bytes follow.
     settled_stays();
     let claims = verify_cwt::<CHUNK, HEADER, NESTING, CLAIMS, _, _, _>(
         verifier, intake, store, vouch, policy,
@@ -244,7 +244,7 @@ fn admitted_reply<I: Intake>(
         (option_map contents vouch.entry) (policy_value policy.entry.now) bytes)) }
     ensures keys { (refusal : Refusal)
         → program_keys keys.now ≡ Err refusal ↔ result ≡ Err (Fault.Keys refusal) }
-    // Its fault is that the input failed where the intake failed in this call, and nowhere else.
+    // Its fault is that the input failed exactly where the intake failed in this call.
     ensures input { I.has_failed intake.new ≡ (I.has_failed intake.old || fails_by_input result) }
 {
     let keys = match KeyTable::<KEYS>::read(keys) {

@@ -16,7 +16,7 @@ use cose_msg::{Intake, KeyTable, Never, Nothing, ReadIntake, Verdict, Verifier, 
 use std::alloc::Global;
 use std::io::Read;
 
-/// The line that tells a word.
+/// The line that prints the argument of `--vouch`.
 fn word_reply(alloc: Global, word: &[u8]) -> Result<Reply, Fault>
     ensures says { IfOk result (Says (vouched word.now)) }
     ensures fault { IfErr result (λ fault. fault ≡ Fault.Memory) }
@@ -27,7 +27,7 @@ fn word_reply(alloc: Global, word: &[u8]) -> Result<Reply, Fault>
     Ok(Reply { status, text })
 }
 
-/// The reply to the message of an intake: nothing may stand after a message whose signature is there.
+/// The reply to the message of an intake: no byte may follow a message whose signature is there.
 fn digested_reply<I: Intake>(
     alloc: Global,
     keys: &[u8],
@@ -39,10 +39,10 @@ fn digested_reply<I: Intake>(
         IfOk result (Says (digested_under (program_keys keys.now) aad.now bytes)) }
     ensures keys { (refusal : Refusal)
         → program_keys keys.now ≡ Err refusal ↔ result ≡ Err (Fault.Keys refusal) }
-    // Its fault is that the input failed where the intake failed in this call, and nowhere else.
+    // Its fault is that the input failed exactly where the intake failed in this call.
     ensures input { I.has_failed intake.new ≡ (I.has_failed intake.old || fails_by_input result) }
 {
-    // The proof rests on these laws of messages.
+    // Laws of messages that the proof cites.
     settled_stays();
     deciding_goes_last();
     spelled_is_read();
@@ -63,7 +63,7 @@ fn digested_reply<I: Intake>(
         &Never,
     ) {
         Ok(verdict) => verdict,
-        // The sink that is nothing never fails, and a new verifier hasn't stopped.
+        // The sink `Nothing` never fails, and a new verifier hasn't stopped.
         Err(_) => return Err(Fault::Input),
     };
     let Some((key, digest, signature)) = verifier.sign_input() else {

@@ -15,10 +15,10 @@ use std::io::{Read, Write};
 /// The most bytes of a payload that are taken at once.
 const CHUNK: usize = 4_096;
 
-/// Makes a message of the first `length` bytes of the input, and writes it. What stands behind them is left unread.
+/// Makes a message of the first `length` bytes of the input, and writes it. What follows them is left unread.
 ///
-/// A fault is found before anything is read or written, and its line is still to be printed. Where the input or the output
-/// fails later, or the input is too short, the run ends with a fault, and no line stands behind what was written.
+/// A fault is found before anything is read or written, and its line is still to be printed. Where the input or the
+/// output fails later, or the input is too short, the run ends with a fault, and no line follows what was written.
 pub fn make_message<R: Read, W: Write>(
     alg: Alg,
     key: &[u8],
@@ -41,7 +41,8 @@ pub fn make_message<R: Read, W: Write>(
     let mut intake = ReadIntake::new(input);
     let mut sink = WriteSink::new(output);
     let made = make_mac0::<CHUNK, _, _>(alg, &key, kid, aad, &mut intake, length, &mut sink);
-    // What the output holds in the end is what the sink's writer holds: the proof reads it from this use, which does nothing.
+    // The output holds in the end what the sink's writer holds. The proof reads it from this use, which has no run-time
+    // effect.
     let writer = sink.into_writer();
     let _ = &*writer;
     match made {

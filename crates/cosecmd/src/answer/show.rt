@@ -1,4 +1,4 @@
-//! The lines of the job `show`: the shape of a message, and what stands in its headers.
+//! The lines of the job `show`: the shape of a message, and what is in its headers.
 
 ghost use Rattle.std.specs.Prelude.{◌≡◌, ◌++◌, ◌||◌, ℕ, List, Some, IfErr, IfOk, option_map, string_bytes};
 ghost use Rattle.cose_map.specs.Bucket.View.{bucket_pairs};
@@ -17,7 +17,7 @@ use cose_msg::{
 use std::alloc::Global;
 use std::io::Read;
 
-/// The set of no keys: who looks at a message needs none.
+/// The empty key set: inspecting a message needs no key.
 const NO_KEYS: &[u8] = &[0xa0];
 
 /// The shape of a message.
@@ -74,11 +74,11 @@ fn shape_reply(
     Ok(Reply { status, text })
 }
 
-/// The reply to the message of an intake: nothing may stand after a message that has a shape.
+/// The reply to the message of an intake: no byte may follow a message that has a shape.
 fn shown_reply<I: Intake>(alloc: Global, wanted: Wanted, intake: &mut I) -> Result<Reply, Fault>
     ensures says { (bytes : List ℕ) → I.to_come intake.old ≡ Some bytes →
         IfOk result (Says (shown wanted bytes)) }
-    // Its fault is that the input failed where the intake failed in this call, and nowhere else.
+    // Its fault is that the input failed exactly where the intake failed in this call.
     ensures input { I.has_failed intake.new ≡ (I.has_failed intake.old || fails_by_input result) }
 {
     let keys = match KeySet::read(NO_KEYS) {
@@ -107,7 +107,7 @@ fn shown_reply<I: Intake>(alloc: Global, wanted: Wanted, intake: &mut I) -> Resu
             }
         },
         Ok(Inspected::Refused(refusal)) => reply_of(alloc, Verdict::Refused(refusal)),
-        // The sink that is nothing never fails, and a new verifier hasn't stopped.
+        // The sink `Nothing` never fails, and a new verifier hasn't stopped.
         Err(_) => Err(Fault::Input),
     }
 }

@@ -1,4 +1,4 @@
-//! The verdict of the job `verify`, and the reply that says it.
+//! The verdict of the job `verify`, and the reply that prints it.
 
 ghost use Rattle.std.specs.Prelude.{◌≡◌, ◌≤◌, ◌↔◌, ◌||◌, ℕ, List, Some, Ok, Err, IfErr, IfOk, is_err, length, option_map};
 ghost use Rattle.cose_head.specs.declared.refusal.Refusal.{Refusal};
@@ -51,7 +51,7 @@ pub fn reply_of(alloc: Global, verdict: Verdict) -> Result<Reply, Fault>
     Ok(Reply { status, text })
 }
 
-/// What a byte behind a message of so many bytes is refused for, where there is one.
+/// The refusal of a byte after a message of this many bytes, where there is one.
 pub fn trailing_at<I: Intake>(taken: u64, intake: &mut I) -> Result<Option<Refusal>, Fault>
     ensures whole { (rest : List ℕ) → I.to_come intake.old ≡ Some rest →
         IfOk result (λ refusal. refusal ≡ trailing_refusal rest taken) }
@@ -68,7 +68,8 @@ pub fn trailing_at<I: Intake>(taken: u64, intake: &mut I) -> Result<Option<Refus
     }
 }
 
-/// What a message is verified or inspected under: the CWT tag is known, and no label is understood besides the standard's.
+/// The context of a message that is verified or inspected: the CWT tag is known, and no label is understood in addition
+/// to the standard's.
 pub fn program_context<'j, S: Keys<'j>>(keys: S, aad: &'j [u8], wanted: Wanted) -> Context<'j, S>
     ensures setting { setting_of S.usable result
         ≡ program_setting (S.usable keys) aad.entry.now wanted }
@@ -84,13 +85,13 @@ pub fn program_context<'j, S: Keys<'j>>(keys: S, aad: &'j [u8], wanted: Wanted) 
     }
 }
 
-/// The verdict of the whole input: behind an authentic message, a further byte makes it `Trailing`.
+/// The verdict of the whole input: after an authentic message, a further byte makes it `Trailing`.
 pub fn whole_verdict<I: Intake>(verdict: Verdict, intake: &mut I) -> Result<Verdict, Fault>
-    // Behind a refused message nothing is looked for.
+    // After a refused message no byte is looked for.
     ensures refused { (refusal : Refusal) → verdict ≡ Verdict.Refused refusal → result ≡ Ok verdict }
     ensures unread { (refusal : Refusal) → verdict ≡ Verdict.Refused refusal → intake.new ≡ intake.old }
 
-    // Behind an authentic one nothing may stand.
+    // After an authentic one no byte may follow.
     ensures whole { (rest : List ℕ) → I.to_come intake.old ≡ Some rest →
         IfOk result (λ whole. whole ≡ followed_by rest verdict) }
     ensures fault { IfErr result (λ fault. fault ≡ Fault.Input) }
@@ -127,7 +128,7 @@ fn input_verdict<'j, I: Intake>(
     );
     match verdict {
         Ok(verdict) => whole_verdict(verdict, intake),
-        // The sink that is nothing never fails, and a new verifier hasn't stopped.
+        // The sink `Nothing` never fails, and a new verifier hasn't stopped.
         Err(_) => Err(Fault::Input),
     }
 }
@@ -147,7 +148,7 @@ fn verified_reply<I: Intake>(
         (option_map contents vouch.entry) bytes)) }
     ensures keys { (refusal : Refusal)
         → program_keys keys.now ≡ Err refusal ↔ result ≡ Err (Fault.Keys refusal) }
-    // Its fault is that the input failed where the intake failed in this call, and nowhere else.
+    // Its fault is that the input failed exactly where the intake failed in this call.
     ensures input { I.has_failed intake.new ≡ (I.has_failed intake.old || fails_by_input result) }
 {
     let keys = match KeyTable::<KEYS>::read(keys) {

@@ -1,4 +1,4 @@
-//! How many bytes `verify` asks of an intake, and hands to a sink, at once.
+//! How many bytes `verify` asks of an intake, and puts into a sink, at once.
 
 ghost use Rattle.std.specs.Prelude.{◌≤◌};
 
@@ -8,8 +8,8 @@ use cose_msg::{KeySet, Never, Status, Wanted, verify};
 use std::process::Abort;
 use std::test::Fail;
 
-/// In chunks of `C` bytes, each call asks for as many bytes as a verifier wants that was fed those before, but for `C` at most. The
-/// sink gets no longer pieces.
+/// In chunks of `C` bytes, each call asks for as many bytes as a verifier wants that was fed the bytes before, and for
+/// at most `C`. The sink gets no longer pieces.
 fn asks_within<const C: usize>(rt: &impl Abort, keys: KeySet, bytes: &[u8])
     requires some { 1 ≤ C }
     requires limit { C ≤ 65536 }

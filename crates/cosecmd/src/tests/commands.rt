@@ -48,7 +48,7 @@ fn admits_a_kind(rt: HostRuntime) -> Result<(), Fail> {
         let arguments = ["cwt", "--keys", KEYS, "--now", "0", "--kind", kind];
         prints(&rt, arguments.as_slice(), token, text, status)?;
     }
-    // Without the option the kind is the one that the tag names.
+    // Without the option the kind is the one that the tag gives.
     let arguments = ["cwt", "--keys", KEYS, "--now", "0"];
     prints(&rt, arguments.as_slice(), untagged, wrong_tag.0, 1)?;
     Ok(())

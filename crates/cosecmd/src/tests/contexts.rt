@@ -6,10 +6,10 @@ use cose_msg::{Context, KeySet, Label, Reason, Status, Verdict, Verifier, Wanted
 use std::process::Abort;
 use std::test::Fail;
 
-/// A front whose protected header is {1: 5, 2: [42], 42: 0}.
+/// The beginning of a message whose protected header is {1: 5, 2: [42], 42: 0}.
 const CRITICAL: &str = "d1844aa301050281182a182a00a0";
 
-/// What messages are verified under by who understands these labels.
+/// A context whose application understands these labels.
 fn knowing<'k>(keys: KeySet<'k>, understood: &'k [Label<'k>]) -> Context<'k> {
     Context {
         keys,
@@ -21,14 +21,14 @@ fn knowing<'k>(keys: KeySet<'k>, understood: &'k [Label<'k>]) -> Context<'k> {
     }
 }
 
-/// Or where no CWT tag may stand in front.
+/// A context in which no CWT tag may come first.
 fn without_cwt<'k>(keys: KeySet<'k>) -> Context<'k> {
     let mut context = context(keys);
     context.cwt = false;
     context
 }
 
-/// Or for payloads of at most so many bytes.
+/// A context for payloads of at most this many bytes.
 fn limited<'k>(keys: KeySet<'k>, payload_limit: u64) -> Context<'k> {
     let mut context = context(keys);
     context.payload_limit = payload_limit;
@@ -43,7 +43,7 @@ const fn status_of(verdict: Verdict) -> Status {
     }
 }
 
-/// In this context the bytes come to this verdict in every cut, after so many of them.
+/// In this context the bytes have this verdict in every cut, after this many of them.
 fn comes_to(rt: &impl Abort, context: Context, bytes: &[u8], verdict: Verdict, taken: u64) {
     assert!(rt; context.aad.len() <= 65_535);
     for cut in [1usize, 2, 7, 64] {

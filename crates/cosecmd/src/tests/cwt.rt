@@ -6,12 +6,12 @@ use std::alloc::{AllocError, Global};
 use std::process::Abort;
 use std::test::Fail;
 
-/// The claims of RFC 8392 appendix A.1. The values of exp and nbf stand at 59 and 65, that of aud at 32.
+/// The claims of RFC 8392 appendix A.1. The values of exp and nbf are at 59 and 65, that of aud at 32.
 const CLAIMS: &str =
     "a70175636f61703a2f2f61732e6578616d706c652e636f6d02656572696b77037818636f61703a2f2f6c\
     696768742e6578616d706c652e636f6d041a5612aeb0051a5610d9f0061a5610d9f007420b71";
 
-/// What is printed of them.
+/// The lines that are printed for them.
 const LINES: &str = "admitted
 iss 636f61703a2f2f61732e6578616d706c652e636f6d
 sub 6572696b77
@@ -66,14 +66,14 @@ pub fn example(alloc: Global) -> Result<Vec<u8>, Fail> {
     token_of(alloc, CLAIMS)
 }
 
-/// The token behind the CWT tag (RFC 8392 section 6).
+/// The token after the CWT tag (RFC 8392 section 6).
 fn with_cwt_tag(alloc: Global, token: &[u8]) -> Result<Vec<u8>, Fail> {
     let mut tagged = bytes_of(alloc, "d83d")?;
     tagged.extend_from_slice(token)?;
     Ok(tagged)
 }
 
-/// A run with these arguments refuses the token so.
+/// A run with these arguments gives this refusal of the token.
 fn refuses(
     rt: &(impl Abort + Alloc<A = Global>),
     arguments: &[&str],
@@ -85,7 +85,7 @@ fn refuses(
     prints(rt, arguments, token, text.as_str(), 1)
 }
 
-/// A run with these arguments admits the token of these claims, and prints these lines of them.
+/// A run with these arguments admits the token of these claims, and prints these lines for them.
 fn admits(
     rt: &(impl Abort + Alloc<A = Global>),
     arguments: &[&str],
@@ -199,7 +199,7 @@ fn prints_what_claims_say(rt: HostRuntime) -> Result<(), Fail> {
         ("a10740", "cti \n"),
         ("a1041bffffffffffffffff", "exp 18446744073709551615\n"),
         ("a1053bffffffffffffffff", "nbf -18446744073709551616\n"),
-        // In the order of their labels, whatever that of the payload is.
+        // In the order of their labels, whatever their order in the payload.
         (
             "a4062007420b71026161016162",
             "iss 62\nsub 61\niat -1\ncti 0b71\n",
@@ -223,7 +223,7 @@ fn prints_what_claims_say(rt: HostRuntime) -> Result<(), Fail> {
     Ok(())
 }
 
-/// Of the token that confirms the key with this member y, after these bytes, this y is printed, and then this line.
+/// For the token that confirms the key with this member y, after these bytes, this y is printed, and then this line.
 fn prints_the_key(
     rt: &(impl Abort + Alloc<A = Global>),
     front: &str,
@@ -253,7 +253,7 @@ fn prints_a_confirmed_key(rt: HostRuntime) -> Result<(), Fail> {
     Ok(())
 }
 
-/// Claims with an issuer of so many letters `a`, at least 256.
+/// Claims with an issuer of this many letters `a`, at least 256.
 fn issued(alloc: Global, letters: u16) -> Result<Vec<u8>, AllocError> {
     let mut claims = Vec::new(alloc);
     claims.extend_from_slice(b"\xa1\x01\x79")?;
@@ -301,7 +301,7 @@ fn refuses_messages(rt: HostRuntime) -> Result<(), Fail> {
         (&[LAST, "--aad", "00"], &token, "message BadAuth at 89"),
         (&[LAST, "--kind", "sign1"], &token, "message WrongTag at 0"),
         (&[LAST], &longer, "message Trailing at 123"),
-        // Behind claims that are refused nothing is looked for.
+        // After claims that are refused no byte is looked for.
         (&[late], &longer, "claims Expired at 59"),
         (
             &[LAST, "--aud", "other"],
@@ -338,7 +338,7 @@ const SIGNED_TOKEN: &str = "d28443a10126a041a05840";
 /// The Sig_structure of it (RFC 9052 section 4.4).
 const TOKEN_STRUCTURE: &str = "846a5369676e61747572653143a101264041a0";
 
-/// The word that vouches for its signature under the key whose y is odd.
+/// The argument of `--vouch` for its signature under the key whose y is odd.
 fn vouching(alloc: Global) -> Result<String, Fail> {
     let asked = digest_and_signature(alloc, TOKEN_STRUCTURE)?;
     Ok(format!(in alloc; "01{asked}{X}01")?)

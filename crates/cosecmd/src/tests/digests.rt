@@ -1,4 +1,4 @@
-//! What the program tells that a signature is verified with.
+//! What the program prints that a signature is verified with.
 
 use crate::tests::{KEYS, MEMBER_Y, SIGNED, SIGNED_STRUCTURE, X, Y, point, prints, signed};
 use sha2::{Digest, Sha256};
@@ -6,7 +6,7 @@ use std::alloc::Global;
 use std::process::Abort;
 use std::test::Fail;
 
-/// The same message without its tag, and behind the tag of a CWT too, up to the signature.
+/// The same message without its tag, and after the tag of a CWT too, up to the signature.
 const UNTAGGED: &str = "8443a10126a0405840";
 
 const IN_CWT: &str = "d83dd28443a10126a0405840";
@@ -26,8 +26,8 @@ pub fn digest_and_signature(alloc: Global, structure: &str) -> Result<String, Fa
     Ok(hex::encode(alloc, bytes.as_slice())?)
 }
 
-/// Of the message with this front, under the key with this member y, it is told that this structure is signed, and this y. With
-/// the word that is told `verify` finds the signature good.
+/// For the message with this beginning, under the key with this member y, the program prints the digest of this structure
+/// and this y. With the printed argument of `--vouch` the signature passes `verify`.
 fn tells(
     rt: &(impl Abort + Alloc<A = Global>),
     front: &'static str,

@@ -72,7 +72,8 @@ fn says_that_the_input_failed(rt: HostRuntime) -> Result<(), Fail> {
     says_at_each_read(&rt, cwt.as_slice(), token.as_slice())
 }
 
-/// A run with these words prints this text, and ends with this status, after so many reads; the next one would fail.
+/// A run with these arguments prints this text, and ends with this status, after this many reads; the next one would
+/// fail.
 fn reads_no_more(
     rt: &(impl Abort + Alloc<A = Global>),
     words: &[&str],
@@ -163,7 +164,7 @@ fn reads_once_more_behind_admitted_claims_alone(rt: HostRuntime) -> Result<(), F
 fn writes_no_line_where_the_payload_failed(rt: HostRuntime) -> Result<(), Fail> {
     let alloc = rt.alloc();
     let bytes = message(alloc)?;
-    // At the second byte of the payload the message is one byte longer.
+    // With the second byte of the payload the output is one byte longer.
     for fails_at in 1..=2 {
         let mut reader = FailingReader {
             bytes: b"hi",
@@ -176,7 +177,7 @@ fn writes_no_line_where_the_payload_failed(rt: HostRuntime) -> Result<(), Fail> 
         assert_eq!(rt; output.as_slice(), front, "at read {fails_at}");
         assert_eq!(rt; (status, reader.reads), (2, fails_at), "at read {fails_at}");
     }
-    // Behind the payload nothing is read.
+    // After the payload nothing is read.
     let mut reader = FailingReader {
         bytes: b"hi",
         reads: 0,
@@ -189,8 +190,8 @@ fn writes_no_line_where_the_payload_failed(rt: HostRuntime) -> Result<(), Fail> 
     Ok(())
 }
 
-/// A run whose write of this number fails, or takes none, writes a part of what it would write, and ends with 2. Whether it
-/// makes so many writes is answered.
+/// A run whose write of this number fails, or takes none, writes a part of what it would write, and ends with 2. It
+/// returns whether the run makes this many writes.
 fn stops_at_write(
     rt: &(impl Abort + Alloc<A = Global>),
     words: &[&str],
@@ -227,7 +228,7 @@ fn stops_at_write(
     true
 }
 
-/// The same for each of its writes, of which there are fewer than 400.
+/// The same for each of the run's writes, of which there are fewer than 400.
 fn stops_at_each_write(
     rt: &(impl Abort + Alloc<A = Global>),
     arguments: &[&str],

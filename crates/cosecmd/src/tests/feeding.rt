@@ -1,4 +1,4 @@
-//! Messages that are fed in pieces, and what they come to.
+//! Messages that are fed in pieces, and the results.
 
 use crate::tests::long::{FRONT, auth_of};
 use crate::tests::{KEY, STRUCTURE, counted, hmac, joined, key_set, message, verifier};
@@ -6,7 +6,8 @@ use cose_msg::{Fed, KeySet, Sink, Status, Store, Verifier, Wanted};
 use std::process::Abort;
 use std::test::Fail;
 
-/// Feeds these bytes in pieces of at most so many, and gives the status that they come to. The payload goes into the store.
+/// Feeds these bytes in pieces of at most `cut` bytes, and returns the status after them. The payload goes into the
+/// store.
 pub fn feed_all(
     rt: &impl Abort,
     verifier: &mut Verifier<1024, 4>,
@@ -28,7 +29,7 @@ pub fn feed_all(
     verifier.status()
 }
 
-/// Feeds a piece that is used whole. No more is held than twice the room of a header bucket, and 512 bytes.
+/// Feeds a piece that is used whole. At most twice the room of a header bucket and 512 bytes are held.
 fn feed_whole(rt: &impl Abort, verifier: &mut Verifier<1024, 4>, piece: &[u8]) -> Fed {
     let fed = verifier.feed(piece);
     assert_eq!(rt; fed.used, piece.len());
@@ -36,7 +37,8 @@ fn feed_whole(rt: &impl Abort, verifier: &mut Verifier<1024, 4>, piece: &[u8]) -
     fed
 }
 
-/// Feeds these bytes in pieces of at most so many, each of which is used whole, and gives how many of them are of the payload.
+/// Feeds these bytes in pieces of at most `cut` bytes, each of which is used whole, and returns how many of them are of
+/// the payload.
 fn feed_pieces(
     rt: &impl Abort,
     verifier: &mut Verifier<1024, 4>,
@@ -58,7 +60,7 @@ fn feed_pieces(
     payload
 }
 
-/// The message of 10,000,000 bytes is complete in pieces of at most so many bytes.
+/// The message of 10,000,000 bytes is complete in pieces of at most this many bytes.
 fn completes_in_pieces(
     rt: &impl Abort,
     keys: KeySet,
@@ -101,13 +103,13 @@ fn completes_a_long_payload_in_short_pieces(rt: HostRuntime) -> Result<(), Fail>
     Ok(())
 }
 
-/// The next piece is taken so.
+/// Feeding the next piece gives this result.
 fn takes(rt: &impl Abort, verifier: &mut Verifier<1024, 4>, piece: &[u8], wanted: Fed) {
     let fed = verifier.feed(piece);
     assert_eq!(rt; fed, wanted, "{piece:?}");
 }
 
-/// So many bytes of a piece are used, none of them of the payload.
+/// This many bytes of a piece are used, none of them of the payload.
 const fn used(used: usize, status: Status) -> Fed {
     Fed {
         used,

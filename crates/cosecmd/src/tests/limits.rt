@@ -24,7 +24,7 @@ fn message_with<'m>(
     )
 }
 
-/// The protected header {1: 5, 10: bytes}, with so many bytes in its string.
+/// The protected header {1: 5, 10: bytes}, with this many bytes in its string.
 fn protected(alloc: Global, count: u16) -> Result<Vec<u8>, AllocError> {
     let mut bytes = Vec::new(alloc);
     bytes.extend_from_slice(b"\xa2\x01\x05\x0a\x59")?;
@@ -35,7 +35,7 @@ fn protected(alloc: Global, count: u16) -> Result<Vec<u8>, AllocError> {
     Ok(bytes)
 }
 
-/// A map of one label whose value is so many arrays, one in the other, and 0 in the last.
+/// A map of one label whose value is this many arrays, one in the other, and 0 in the last.
 fn nested(alloc: Global, label: &[u8], arrays: usize) -> Result<Vec<u8>, AllocError> {
     let mut bytes = joined(alloc, &[b"\xa1", label])?;
     for _i in 0..arrays {
@@ -116,7 +116,7 @@ fn limits_the_nesting_of_claims(rt: HostRuntime) -> Result<(), Fail> {
     Ok(())
 }
 
-/// So many bytes in hexadecimal, each of them 0.
+/// This many bytes in hexadecimal, each of them 0.
 fn zeros(alloc: Global, count: usize) -> Result<String, AllocError> {
     let mut digits = format!(in alloc; "")?;
     for _i in 0..count {

@@ -1,4 +1,5 @@
-//! Messages that the program makes: their bytes, what the words and the input have wrong, and what `verify` says of them.
+//! Messages that the program makes: their bytes, what the arguments and the input have wrong, and what `verify` prints
+//! for them.
 
 use crate::tests::runs::verifies;
 use crate::tests::{KEYS, message, ran};
@@ -29,7 +30,7 @@ fn makes_the_message(rt: HostRuntime) -> Result<(), Fail> {
     let (output, status, left) = ran(rt.alloc(), make.as_slice(), b"hi")?;
     assert_eq!(rt; output.as_slice(), whole.as_slice());
     assert_eq!(rt; (status, left.len()), (0, 0));
-    // What stands behind the payload stays.
+    // What follows the payload is left unread.
     let (output, status, left) = ran(rt.alloc(), make.as_slice(), b"hi there")?;
     assert_eq!(rt; output.as_slice(), whole.as_slice());
     assert_eq!(rt; (status, left), (0, b" there".as_slice()));
@@ -92,7 +93,7 @@ fn says_which_argument_is_at_fault(rt: HostRuntime) -> Result<(), Fail> {
     Ok(())
 }
 
-/// What is written for the message `hi` under this key and an identifier of so many digits, and how it ends.
+/// What is written for the message `hi` under this key and an identifier of this many digits, and how the run ends.
 fn identified(alloc: Global, key: &str, digits: usize) -> Result<(Vec<u8>, u8), Fail> {
     let mut word = Vec::new(alloc);
     for _i in 0..digits {
@@ -114,7 +115,7 @@ fn limits_the_identifier(rt: HostRuntime) -> Result<(), Fail> {
     let (output, status) = identified(rt.alloc(), KEYS, longer)?;
     assert_eq!(rt; output.as_slice(), b"fault make TooLong\n".as_slice());
     assert_eq!(rt; status, 2);
-    // The key goes first.
+    // The key is looked at first.
     let (output, status) = identified(rt.alloc(), "a30104030420444a656665", longer)?;
     assert_eq!(rt; output.as_slice(), b"fault make WrongKey\n".as_slice());
     assert_eq!(rt; status, 2);
@@ -214,7 +215,7 @@ fn made(
     Ok(made)
 }
 
-/// The message that is made so is authentic, and has so many bytes besides the payload.
+/// The message that is made so is authentic, and has this many bytes in addition to the payload.
 fn goes_round(
     rt: &(impl Abort + Alloc<A = Global>),
     alg: &str,

@@ -35,7 +35,7 @@ fn takes_the_message_in_any_pieces(rt: HostRuntime) -> Result<(), Fail> {
     Ok(())
 }
 
-/// `verify` gives this verdict on bytes from a reader under these keys, and takes so many of them.
+/// `verify` gives this verdict on bytes from a reader under these keys, and takes this many of them.
 pub fn answers_read(rt: &impl Abort, keys: KeySet, bytes: &[u8], verdict: Verdict, taken: usize) {
     let mut reader = bytes;
     let mut store = Store::<16>::new();
@@ -48,7 +48,7 @@ pub fn answers_read(rt: &impl Abort, keys: KeySet, bytes: &[u8], verdict: Verdic
     );
 }
 
-/// The message with these bytes behind its front gets this verdict, and this number of its bytes is taken.
+/// The message with these bytes after its headers gets this verdict, and this number of its bytes is taken.
 fn answers(
     rt: &(impl Abort + Alloc<A = Global>),
     payload: &[u8],
@@ -62,8 +62,8 @@ fn answers(
     Ok(())
 }
 
-/// The message is refused for this reason at this place, after so many of its bytes, also where they are fed in pieces and then
-/// end.
+/// The message is refused for this reason at this place, after this many of its bytes, also where they are fed in
+/// pieces and then end.
 fn refuses(
     rt: &(impl Abort + Alloc<A = Global>),
     payload: &[u8],
@@ -151,7 +151,7 @@ fn stops_where_the_store_is_full(rt: HostRuntime) -> Result<(), Fail> {
     let answer = verdict_of(keys, &mut intake, &mut store);
     assert_eq!(rt; answer, Err(Stop::Sink));
     assert_eq!(rt; store.bytes(), b"h".as_slice());
-    // Once it failed it takes nothing, not even a piece that would fit.
+    // After a failure it takes nothing, not even a piece that would fit.
     assert!(rt; Store::<4>::new().put(b"four").is_ok());
     assert!(rt; store.put(b"i").is_err());
     assert_eq!(rt; store.bytes(), b"h".as_slice());

@@ -7,7 +7,7 @@ use std::test::Fail;
 /// A key set of the key `Jefe`.
 const KEYS: &str = "a2010420444a656665";
 
-/// What is printed of an argument that no option takes, behind `verify`.
+/// What is printed for an argument that no option takes, after `verify`.
 const NO_OPTION: &str = "error: unexpected argument found\n\n\
     Usage: cosecmd verify [OPTIONS] --keys <HEX>\n\n\
     For more information, try '--help'.\n";

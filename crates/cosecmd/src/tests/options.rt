@@ -1,4 +1,4 @@
-//! The options of `verify`: external data, the kind, and the word that vouches for a signature.
+//! The options of `verify`: external data, the kind, and `--vouch`.
 
 use crate::tests::{
     FRONT, KEY, KEYS, MEMBER_Y, PAYLOAD, SIGNED, X, Y, hmac, joined, message, point, prints,
@@ -27,7 +27,7 @@ fn authenticates_external_data(rt: HostRuntime) -> Result<(), Fail> {
     Ok(())
 }
 
-/// With so many bytes of external data and no input a run prints this.
+/// With this many bytes of external data and no input a run prints this.
 fn prints_with(
     rt: &(impl Abort + Alloc<A = Global>),
     count: usize,
@@ -88,7 +88,7 @@ const AUTHENTIC: (&str, u8) = ("authentic sign1 alg -7 payload 0 taken 74\n", 0)
 
 const REFUSED: (&str, u8) = ("refused BadAuth at 8\n", 1);
 
-/// A word that vouches: the curve, digest and signature in this order or the other one, x, and what follows it.
+/// An argument of `--vouch`: the curve, digest and signature in this order or the other one, x, and what follows it.
 #[derive(Clone, Copy)]
 struct Word<'w> {
     curve: &'w str,
@@ -97,7 +97,7 @@ struct Word<'w> {
     more: &'w str,
 }
 
-/// What is printed for the signed message under the point with this member y, where this word vouches.
+/// What is printed for the signed message under the point with this member y and this argument of `--vouch`.
 fn vouches(
     rt: &(impl Abort + Alloc<A = Global>),
     member: &str,

@@ -7,7 +7,7 @@ use cose_msg::{KeySet, Never, Nothing, SliceIntake, Stop, Verdict, Wanted, verif
 use std::process::Abort;
 use std::test::Fail;
 
-/// What `verify` answers for bytes that come in pieces of at most so many, and how many it takes.
+/// What `verify` answers for bytes that come in pieces of at most this many, and how many it takes.
 fn outcome(keys: KeySet, bytes: &[u8; 44], cut: usize) -> (Result<Verdict, Stop>, u64) {
     let mut verifier = verifier(keys, Wanted::Tagged);
     let mut intake = SliceIntake::new(bytes, cut.max(1));

@@ -29,7 +29,7 @@ const WITH_KID: &str = "d18443a10105a10441314268695820";
 /// Two keys with that identifier, the secrets of which are `a` and `b`.
 const BOTH_FIT: &str = "82a30104024131204161a30104024131204162";
 
-/// `verify` gives this verdict on bytes that come in pieces of at most so many, and takes so many of them.
+/// `verify` gives this verdict on bytes that come in pieces of at most `cut` bytes, and takes this many of them.
 pub fn answers_in_pieces(
     rt: &impl Abort,
     verifier: &mut Verifier<1024, 4>,
@@ -46,7 +46,8 @@ pub fn answers_in_pieces(
     assert_eq!(rt; verifier.taken(), taken, "{bytes:?} in pieces of {cut}");
 }
 
-/// Bytes that are fed in pieces of at most so many, and then end, result in this status, and so many of them are taken.
+/// Bytes that are fed in pieces of at most `cut` bytes, and then end, result in this status, and this many of them are
+/// taken.
 pub fn ends_in_pieces(
     rt: &impl Abort,
     verifier: &mut Verifier<1024, 4>,
@@ -61,7 +62,7 @@ pub fn ends_in_pieces(
     assert_eq!(rt; verifier.taken(), taken, "{bytes:?} in pieces of {cut}");
 }
 
-/// These bytes are refused under these keys for this reason at this place, after so many of them.
+/// These bytes are refused under these keys for this reason at this place, after this many of them.
 fn refuses(
     rt: &(impl Abort + Alloc<A = Global>),
     keys: &str,
@@ -231,7 +232,7 @@ fn completes_in_pieces(rt: &impl Abort, keys: &KeySet, row: &Row, message: &[u8]
     );
 }
 
-/// The message up to its tag, and then so many bytes of the MAC of this structure under this secret.
+/// The message up to its tag, and then this many bytes of the MAC of this structure under this secret.
 fn with_tag(
     alloc: Global,
     front: &str,
@@ -250,7 +251,7 @@ fn with_tag(
 fn authenticates(rt: &(impl Abort + Alloc<A = Global>), row: Row) -> Result<(), Fail> {
     let set = hex::decode(rt.alloc(), row.keys).or(Err("no hexadecimal"))?;
     let mut message = with_tag(rt.alloc(), row.front, row.structure, row.secret, row.tag)?;
-    // A byte behind the message isn't taken.
+    // A byte after the message isn't taken.
     message.push(0xff)?;
     let keys = KeySet::read(set.as_slice()).or(Err("no key set"))?;
     for cut in [1, 2, 3, 4, 5, 6, 7, 8, 9, 64] {
@@ -260,7 +261,7 @@ fn authenticates(rt: &(impl Abort + Alloc<A = Global>), row: Row) -> Result<(), 
     Ok(())
 }
 
-/// Each front of the message that is shorter is Truncated where it ends.
+/// Each shorter prefix of the message is Truncated where it ends.
 fn ends_early(rt: &impl Abort, keys: &KeySet, row: &Row, message: &[u8]) {
     for count in 0..row.taken {
         let front = message.get(..count as usize).unwrap_or(&[]);
@@ -339,7 +340,7 @@ fn authenticates_by_the_headers(rt: HostRuntime) -> Result<(), Fail> {
 
 #[test]
 fn authenticates_under_the_one_key_that_fits(rt: HostRuntime) -> Result<(), Fail> {
-    // The second key isn't for verifying, of another type, or no key since a label stands twice in it.
+    // The second key isn't for verifying, of another type, or no key since it has a label twice.
     for keys in [
         "82a30104024131204161a40104024131048109204162",
         "82a30104024131204161a201012006",

@@ -4,7 +4,7 @@ use crate::tests::{KEYS, prints, ran};
 use std::alloc::Global;
 use std::test::Fail;
 
-/// The bytes of a message that ends with so many zeros.
+/// The bytes of a message that ends with this many zeros.
 fn with_zeros(alloc: Global, front: &str, zeros: usize) -> Result<Vec<u8>, Fail> {
     let mut bytes = hex::decode(alloc, front).or(Err("no hexadecimal"))?;
     for _i in 0..zeros {
@@ -34,7 +34,7 @@ fn shows_the_headers(rt: HostRuntime) -> Result<(), Fail> {
             32,
             "shape mac0 payload 2 auth 32 taken 49\nprotected 01 05\nunprotected 0a 81818100\n",
         ),
-        // The bytes as they came, in the order of the message.
+        // The bytes as they were received, in the order of the message.
         (
             "mac0",
             "8447a2180a61780105a2044131180b41004040",

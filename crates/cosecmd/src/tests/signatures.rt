@@ -1,4 +1,4 @@
-//! What the verifier of signatures is asked, and what comes of its answer.
+//! What the `EcVerifier` is asked, and the result of its answer.
 
 use crate::tests::feeding::feed_all;
 use crate::tests::streams::Asked;
@@ -18,7 +18,7 @@ fn decides(rt: &impl Abort, verifier: &mut Verifier<1024, 4>, asked: &Asked, hol
     assert_eq!(rt; verifier.status(), Status::Complete);
 }
 
-/// The same, where the message is fed in pieces. Once it is decided, nobody is asked again.
+/// The same, where the message is fed in pieces. Once it is decided, no `EcVerifier` is asked again.
 fn decides_fed(rt: &impl Abort, keys: KeySet, bytes: &[u8], cut: usize, asked: &Asked) {
     let mut verifier = verifier(keys, Wanted::Tagged);
     let mut store = Store::<16>::new();
@@ -40,10 +40,10 @@ fn asks_about_the_signature(rt: HostRuntime) -> Result<(), Fail> {
     let digest = signed_digest(alloc)?;
     let signature: [u8; 64] = counted();
     let mut bytes = signed(alloc, SIGNED, &signature)?;
-    // A byte behind the message isn't taken.
+    // A byte after the message isn't taken.
     bytes.push(0xff)?;
     for says in [true, false] {
-        // Asked about anything else it would say the contrary.
+        // Asked about anything else it would answer the contrary.
         let asked = Asked {
             digest: &digest,
             signature: &signature,

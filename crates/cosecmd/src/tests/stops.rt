@@ -47,7 +47,7 @@ struct Case<'a, E> {
     payload_at: u64,
 }
 
-/// What a verifier says of its message and of itself.
+/// What a verifier gives of its message and of itself.
 fn said<const H: usize>(verifier: &Verifier<H, 4>) -> (Status, [u64; 4], [bool; 5]) {
     (
         verifier.status(),
@@ -67,7 +67,7 @@ fn said<const H: usize>(verifier: &Verifier<H, 4>) -> (Status, [u64; 4], [bool; 
     )
 }
 
-/// A verifier that has stopped after so many bytes uses no byte, wants none, and ends as stopped.
+/// A verifier that has stopped after this many bytes uses no byte, wants none, and ends as stopped.
 fn stays_stopped<const H: usize>(
     rt: &impl Abort,
     verifier: &mut Verifier<H, 4>,
@@ -89,7 +89,7 @@ fn stays_stopped<const H: usize>(
 }
 
 impl<E: EcVerifier> Case<'_, E> {
-    /// After `reset` a verifier is as a new one, and the message is authentic.
+    /// After `reset` a verifier gives what a new one gives, and the message is authentic.
     fn authenticates_anew<const H: usize>(&self, rt: &impl Abort, verifier: &mut Verifier<H, 4>)
         requires some_room { 16 ≤ H }
         requires limit { H ≤ 65535 }
@@ -128,7 +128,7 @@ impl<E: EcVerifier> Case<'_, E> {
         }
     }
 
-    /// So many bytes of the message are Truncated where they end, whether they are verified or fed.
+    /// This many bytes of the message are Truncated where they end, whether they are verified or fed.
     fn ends_early<const H: usize>(&self, rt: &impl Abort, count: usize)
         requires some_room { 16 ≤ H }
         requires limit { H ≤ 65535 }
@@ -302,7 +302,7 @@ fn stops_a_message_whose_headers_fill_their_room(rt: HostRuntime) -> Result<(), 
     Ok(())
 }
 
-/// How many items are open where the intake fails at the call of this number, a byte having come at each call before.
+/// How many items are open where the intake fails at the call of this number, each call before having given a byte.
 #[test]
 fn tells_what_is_open_where_the_intake_fails(rt: HostRuntime) -> Result<(), Fail> {
     let keys = key_set().ok_or("no keys")?;

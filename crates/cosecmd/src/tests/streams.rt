@@ -1,4 +1,4 @@
-//! What stands in tests for a network, a disk and a verifier of signatures.
+//! The tests' substitutes for a network, a disk and a verifier of signatures.
 
 ghost use Rattle.std.specs.Prelude.{◌&&◌, not, None, false, if◌then◌else◌};
 ghost use Rattle.std.specs.Str.{bytes_eq};
@@ -168,7 +168,7 @@ impl Write for KeepingWriter {
     }
 }
 
-/// The bytes of a slice, as many as each call asks for. It notes how many that are, of 64 calls at most.
+/// The bytes of a slice, as many as each call asks for. It records how many each of the first 64 calls asked for.
 #[derive(Drop)]
 pub struct NotingIntake<'a> {
     bytes: &'a [u8],
@@ -215,7 +215,7 @@ impl Intake for NotingIntake<'_> {
     }
 }
 
-/// Takes every piece, and notes the length of the longest.
+/// Takes every piece, and records the length of the longest.
 #[derive(Drop)]
 pub struct NotingSink {
     longest: usize,
@@ -257,7 +257,7 @@ pub struct LongIntake<'a> {
 }
 
 impl<'a> LongIntake<'a> {
-    /// The message of these bytes before the payload, the block so many times, and these bytes behind the payload.
+    /// The message of these bytes before the payload, the block this many times, and these bytes after the payload.
     pub fn new(front: &'a [u8], block: &'a [u8], blocks: usize, rest: &'a [u8]) -> Self {
         LongIntake {
             part: front,
@@ -300,14 +300,14 @@ impl Intake for LongIntake<'_> {
     }
 }
 
-/// Knows one digest and one signature. Asked about these it says what is fixed, and about all others the contrary.
+/// Knows one digest and one signature. Asked about these it gives a fixed answer, and about all others the contrary.
 #[derive(Clone, Copy)]
 pub struct Asked<'a> {
     /// The digest.
     pub digest: &'a [u8],
     /// The signature.
     pub signature: &'a [u8],
-    /// What it says of both.
+    /// The answer about both.
     pub says: bool,
 }
 

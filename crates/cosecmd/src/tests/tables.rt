@@ -22,7 +22,7 @@ pub fn answers_under_table(rt: &impl Abort, set: &[u8], bytes: &[u8], verdict: V
     assert_eq!(rt; answer, Ok(verdict), "{bytes:?}");
 }
 
-/// A key set in hexadecimal: this head, so many keys whose secret is `a`, and another one.
+/// A key set in hexadecimal: this head, this many keys whose secret is `a`, and another one.
 fn set_of(alloc: Global, head: &str, count: usize, last: &str) -> Result<String, Fail> {
     let mut set = format!(in alloc; "{head}")?;
     for _i in 0..count {

@@ -167,7 +167,7 @@ fn begins_again_after_a_stop(rt: HostRuntime) -> Result<(), Fail> {
     Ok(())
 }
 
-/// What tokens are verified under: the CWT tag may stand in front, and the payload fits into a store of 4,096 bytes.
+/// What tokens are verified under: the CWT tag may come first, and the payload fits into a store of 4,096 bytes.
 fn token_context(keys: KeySet) -> Context
     ensures external { length result.aad.now ≤ 65535 }
     ensures cwt { result.cwt ≡ true }
@@ -183,7 +183,7 @@ fn token_context(keys: KeySet) -> Context
     }
 }
 
-/// The claims of a token that is admitted at this moment, give or take a minute, and is for the light.
+/// The claims of a token that is admitted at this time, give or take a minute, and is for the light.
 fn claims_of<'p>(
     keys: KeySet,
     token: &[u8],
