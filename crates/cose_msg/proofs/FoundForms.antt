@@ -177,7 +177,7 @@ module _ (answer : Answer) (unrefused : NotRefused answer) where
 
     -- ---- a byte string
 
-    -- The form of the three phases that have one: its head, which is tested, and then so many bytes.
+    -- The form of the three phases that have one: its head, which is tested, and then the bytes that it announces.
     abbrev pub string_form : Told → (List ℕ → Told) → (Head → Option Reason) → (ℕ → Next (List ℕ)) → Phase
     string_form told along fault next = with_head told (λ at head. unless_fault told at (fault head) (with_string along head.arg (next at)))
 

@@ -115,7 +115,7 @@ long_tags : (byte : ℕ → ℕ) →
 unfolding reading structure mac_structure shortest shortest_all shortest_head
 long_tags byte = refl
 
--- No byte of payload.
+-- An empty payload.
 no_payload : (byte : ℕ → ℕ) →
     comparison (under plain) (hex "d18443a10105a0 40 5820" ++ any byte 32) ≡
     (if bytes_eq (any byte 32) (mac Hmac256 jefe (hex "84644d41433043a101054040")) then decided (Authentic Mac0 Hmac256 0 42) else refused BadAuth 8)

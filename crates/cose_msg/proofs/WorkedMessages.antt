@@ -1,4 +1,4 @@
--- What the worked examples of messages share: keys, contexts, and the front of a message.
+-- What the worked examples of messages share: keys, contexts, and the beginning of a message.
 use Rattle.std.specs.Prelude.{◌≡◌, ℕ, zero, suc, ◌+◌, ◌-◌, ◌*◌, ℤ, pos, not, ◌==◌, nat_lt, if◌then◌else◌, List, [], ◌∷◌, map, filter, replicate, codes, true, false, Option, None, Some}
 use Prim.Native.String.{String}
 use Rattle.std.specs.Str.{is_utf8, chars}

@@ -68,8 +68,8 @@ Shows {H} {D} task told v = (task_in task v ≡ task)
     × HoldsBucket D told.protected v.protected_at v.protected.items × HoldsBucket D told.unprotected v.unprotected_at v.unprotected.items
     × (opened_by v ≡ told.open_items)
 
--- What a reader stands for in addition to what a reading gives as known: the headers, the key, and the bytes so far of
--- the payload, and of the tag or signature. No key is chosen where the message is only inspected.
+-- What is known to a reader in addition to what its reading gives as known: the headers, the key, and the bytes so far
+-- of the payload, and of the tag or signature. No key is chosen where the message is only inspected.
 pub record Known : Type 0 where
   pub headers : Headers
   pub chosen : Option Chosen
@@ -208,8 +208,8 @@ pub record StandsFor {H D : ℕ} (task : Task) (B : List ℕ) (n : ℕ) (v : Rea
 abbrev pub SoFar : {H D : ℕ} → Task → List ℕ → List ℕ → Reader H D → Type 0
 SoFar {H} {D} task s B v = StandsFor task B (length s) v (λ z. message (rules_of H D task) (s ++ z))
 
--- The phase of a message of which nothing was taken: its first head, or, once its end was reported, that it is Truncated at
--- 0.
+-- The phase of a message of which nothing was taken: its first head, or, once its end was reported, that it is
+-- Truncated at 0.
 abbrev pub first_phase : Bool → Phase
 first_phase false = phases.FirstHead
 first_phase true = phases.Settled (Refused (record { reason = Truncated; place = 0 }))

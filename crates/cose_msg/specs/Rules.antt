@@ -17,7 +17,7 @@ pub record Rules : Type 0 where
   pub payload_limit : ℕ
   -- the key, if one is to be chosen, or the reason why none is
   pub choice : Headers → Result (Option Chosen) Reason
-  -- whether a tag or signature under that key may have so many bytes
+  -- whether a tag or signature under that key may have this length
   pub auth_fits : Option Chosen → ℕ → Bool
   -- the answer for a message when all its bytes are there
   pub finish : Whole → Answer

@@ -15,8 +15,8 @@ use cose_head::laws::{
 use cose_mac::laws::mac_has_its_length;
 use cose_map::laws::{chosen_key_fits, refusals_are_not_truncated, refusals_stand_inside};
 
-/// The reading of the bytes of a message stays when bytes follow, once it is settled, whether the message is verified or
-/// inspected. Before that its answer is Truncated at the number of bytes.
+/// The reading of the bytes of a message stays when bytes follow, once it is settled, whether the message is verified
+/// or inspected. Before that its answer is Truncated at the number of bytes.
 pub fn settled_stays()
     ensures message { MessageStays }
     ensures truncated { MessageEndsTruncated }
@@ -30,8 +30,8 @@ pub fn settled_stays()
 }
 
 /// Once the reading of a message's bytes is settled, its answer is not Truncated: so the reading isn't settled exactly
-/// where its answer is Truncated at the number of bytes. No refusal's place is after the bytes, and no message ends after
-/// them.
+/// where its answer is Truncated at the number of bytes. No refusal's place is after the bytes, and no message ends
+/// after them.
 pub fn nothing_stands_after_the_bytes()
     ensures fair { AllAreFair }
     ensures definite { MessageIsDefinite }

@@ -35,7 +35,7 @@ pub(crate) const AUTHENTIC: Verdict = Verdict::Authentic {
     taken: 44,
 };
 
-/// A COSE_Sign1 of no payload, whose signature of 64 bytes is zeros.
+/// A COSE_Sign1 of an empty payload, whose signature of 64 bytes is zeros.
 pub(crate) const SIGN1: &[u8] = &[
     0xd2, 0x84, 0x43, 0xa1, 0x01, 0x26, 0xa0, 0x40, 0x58, 0x40, 0, 0, 0, 0, 0, 0, 0, 0, 0, 0, 0, 0,
     0, 0, 0, 0, 0, 0, 0, 0, 0, 0, 0, 0, 0, 0, 0, 0, 0, 0, 0, 0, 0, 0, 0, 0, 0, 0, 0, 0, 0, 0, 0, 0,

@@ -43,7 +43,7 @@ impl<const L: usize> Store<L> {
     pub fn bytes(&self) -> &[u8]
         ensures held { ⟦<Store<L> as Sink>⟧.contents self.now ≡ Some result.now }
         ensures limit { length result.now ≤ L }
-        // So many bytes more are sure to fit.
+        // This many bytes more are sure to fit.
         ensures sure { ⟦<Store<L> as Sink>⟧.sure self.now ≡ room_left L (⟦<Store<L> as Sink>⟧.has_failed self.now) (length result.now) }
     {
         self.held.as_slice()

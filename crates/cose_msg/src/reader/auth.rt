@@ -16,7 +16,7 @@ use cose_mac::{Alg, same_bytes};
 /// The most bytes of a tag or signature of a message that is only inspected.
 const INSPECTED_LIMIT: u64 = 65_535;
 
-/// Whether a tag or signature may have so many bytes: as many as its algorithm says, where there is one.
+/// Whether a tag or signature may have this length: that of its algorithm, where there is one.
 fn has_auth_length(alg: Option<Alg>, length: u64) -> bool
     ensures value { result ≡ has_length_of alg length }
     ensures limit { result ≡ true → length ≤ 65535 }

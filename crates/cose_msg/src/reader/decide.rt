@@ -157,8 +157,8 @@ impl<'k, const H: usize, const D: usize> Reader<'k, H, D> {
         })
     }
 
-    /// The verdict of so many bytes, which is kept: the message is Truncated where it isn't settled, and a signature is decided on,
-    /// once.
+    /// The verdict after `taken` bytes, which is kept: the message is Truncated where it isn't settled, and a signature
+    /// is decided on, once.
     pub(crate) fn conclude<E: EcVerifier>(&mut self, taken: u64, ec: &E) -> Verdict
         ensures kept { verdict_in self.new.phase ≡ Some result }
         ensures terms { self.new.terms ≡ self.old.terms }
@@ -193,7 +193,8 @@ impl<'k, const H: usize, const D: usize> Reader<'k, H, D> {
         }
     }
 
-    /// The answer for so many bytes of a message that is only inspected, which is kept: Truncated where it isn't settled.
+    /// The answer after `taken` bytes of a message that is only inspected, which is kept: Truncated where it isn't
+    /// settled.
     pub(crate) fn conclude_inspection(&mut self, taken: u64) -> Inspected
         ensures kept { inspected_in self.new.phase ≡ Some result }
         ensures terms { self.new.terms ≡ self.old.terms }

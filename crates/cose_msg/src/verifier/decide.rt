@@ -65,8 +65,8 @@ impl<'k, const H: usize, const D: usize, S: Keys<'k>> Verifier<'k, H, D, S> {
         kept(self.stopped, self.reader.inspected())
     }
 
-    /// How many bytes to ask for next: at most so many, no more than are to come for certain, and none once the message is
-    /// settled.
+    /// How many bytes to ask for next: at most `most`, no more than are to come for certain, and none once the message
+    /// is settled.
     pub(crate) fn request(&self, most: usize) -> usize
         requires { 0 < most }
         ensures most { result ≤ most }

@@ -73,7 +73,7 @@ fn takes_pieces_as_they_come(rt: HostRuntime) {
 
 #[test]
 fn wants_what_is_left_of_a_string(rt: HostRuntime) {
-    // After so many bytes: heads and the unprotected bucket want one, strings what is left of them.
+    // After this many bytes: heads and the unprotected bucket want one, strings what is left of them.
     let rows: [(usize, u64); 11] = [
         (0, 1),
         (2, 1),
