@@ -35,7 +35,7 @@ pub enum Job<'j> {
         now: i64,
         /// By how many seconds the clocks of the issuer and of this machine may differ.
         leeway: u32,
-        /// The text that names the audience, where the token has to be for it.
+        /// The text of the audience, where a token that names an audience has to be for it.
         aud: Option<&'j str>,
     },
     /// To print what the signature of the message on the input, a COSE_Sign1, is verified with.

@@ -78,7 +78,7 @@ pub struct Cwt<'w> {
     pub now: i64,
     /// By how many seconds clocks may differ.
     pub leeway: u32,
-    /// The text that names the audience, where there is one.
+    /// The text of the audience, where there is one.
     pub aud: Option<&'w str>,
 }
 

@@ -35,7 +35,7 @@ use std::slice;
 /// The most bytes of the claims of a token.
 const CLAIMS: usize = 4_096;
 
-/// What a token has to meet: where there is a text, the token is for the audience that the text names.
+/// What a token has to meet: where there is a text and the token names an audience, the token is for that text.
 pub fn policy_of<'j>(now: i64, leeway: u32, aud: &'j Option<&'j str>) -> Policy<'j>
     ensures { policy_value result ≡ program_policy now leeway (option_map text_value aud.entry.now) }
 {
