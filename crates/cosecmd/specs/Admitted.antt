@@ -20,8 +20,8 @@ use Rattle.cosecmd.specs.declared.reply.Status.{Status}
 use Rattle.cosecmd.specs.declared.reply.Status.TheVariants as statuses
 use Rattle.hex.specs.Hex.{encode_lower}
 
--- What a token has to meet: where there is a text and the token names an audience, the token is for that text. Without a
--- text the audience is left to the reader of the lines.
+-- What a token has to meet: where there is a text and the token names an audience, the token is for that text. Without
+-- a text the audience is left to the reader of the lines.
 abbrev pub program_policy : ℤ → ℕ → Option (List ℕ) → PolicyValue
 program_policy now leeway aud = record { now = now; leeway = leeway; mine = option_map (λ text. text ∷ []) aud }
 
