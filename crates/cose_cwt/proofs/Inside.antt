@@ -1,4 +1,4 @@
--- No refusal of claims, of a confirmation or of admission stands after the bytes.
+-- No place of a refusal of claims, of a confirmation or of admission is after the bytes.
 use Rattle.std.proofs.Common.{◌≡◌, ℕ, ◌≤◌, Bool, true, false, List, length, Option, Some, None, Ok, Err, refl, sym, subst, if◌then◌else◌, arith}
 use Rattle.std.specs.Prelude.{⊤, Result, IfErr, IfSome, option_map}
 use Rattle.cose_head.specs.declared.reason.Reason.{Reason}
@@ -46,7 +46,7 @@ then_by : {A B : Type 0} (end : ℕ) (P : A → Type 0) (Q : B → Type 0) (answ
 then_by end P Q (Ok a) next s each = each a s
 then_by end P Q (Err refusal) next s each = s
 
--- What pairs have under each label ends by a place.
+-- The pair that pairs have for a label ends by a place, for each label.
 abbrev FoundBy : ℕ → List Pair → Type 0
 FoundBy end pairs = (name : LabelValue) → IfSome (pair_of name pairs) (PairEndsBy end)
 
@@ -97,13 +97,13 @@ module _ (end : ℕ) where
       (λ t u. then_by end (λ t. ⊤) (λ t. ⊤) (not_early policy claims) _ (rule_by NotYet _ (value_of nbf claims.pairs) (value_of_by end claims.pairs found nbf))
       (λ t u. rule_by WrongAudience _ (value_of aud claims.pairs) (value_of_by end claims.pairs found aud)))
 
--- a refusal that is seen is that of the code
+-- a refusal in a view of the result is that of the code
 pub seen_inside : {X Y : Type 0} (view : X → Y) (result : Result X Refusal) (end : ℕ) (answer : Read Y) → seen_by view result ≡ answer → RefusedBy end answer →
     IfErr result (λ refusal. refusal.place ≤ end)
 seen_inside view (Ok x) end answer e s = tt
 seen_inside view (Err refusal) end answer e s = rw (← e) at s
 
--- with what is known of reading and of maps
+-- given the laws of reading and of maps
 module _ (wholes : WholeIsItem) (inside : WholeIsRefusedInside) (maps : MapIsRefusedInside) (found : FoundEndsInside) where
   map_by : (table : Table) (p : Placed) (answer : Read (List Pair)) → check_map table p ≡ answer → AnswersBy (end_of p) (FoundBy (end_of p)) answer
   map_by table p (Ok pairs) e = λ name. found table p pairs name e

@@ -1,4 +1,4 @@
--- What a run of the verifier says of a token.
+-- From a run of the verifier to the result for a token.
 use Rattle.std.proofs.Common.{◌≡◌, ◌∙◌, ℕ, ◌≤◌, Bool, true, false, List, [], ◌++◌, length, Option, Some, None, Ok, Err, refl, sym, ap, subst}
 use Rattle.std.specs.Prelude.{Result}
 use Rattle.std.proofs.lemmas.List.{append-nil}
@@ -21,7 +21,7 @@ use Rattle.cose_cwt.specs.Admission.{PolicyValue, admitted_claims}
 use Rattle.cose_cwt.specs.Claims.{ClaimsValue}
 use Rattle.cose_cwt.specs.Token.{IsToken, Outcome, UnlessStopped, is_for_intake, is_for_store, of_claims, read_as, stop_in, token_of}
 
--- what a store held before, and what it holds
+-- the contents of a store before and after, where they are known
 pub with_contents : (rules : Rules) (come come_after contents contents_after : Option (List ℕ)) (ended : Bool) (verdict : Result Verdict Stop) (taken payload : List ℕ) →
     contents ≡ Some [] → contents_after ≡ Some payload →
     Run rules decided [] [] come come_after ended contents contents_after verdict taken →
@@ -30,7 +30,7 @@ with_contents rules come come_after contents contents_after ended verdict taken 
     subst (λ (old : Option (List ℕ)). Run rules decided [] [] come come_after ended old (Some payload) verdict taken) before
     (subst (λ (new : Option (List ℕ)). Run rules decided [] [] come come_after ended contents new verdict taken) after run)
 
--- The bytes taken come to the same as all.
+-- The reading of the bytes taken is that of all bytes.
 same_reading : MessageStays → (H D : ℕ) (setting : Setting) (decides : Decides) (taken rest : List ℕ) (settled : Bool) → (read_as H D setting decides taken).settled ≡ settled →
     ((read_as H D setting decides taken).settled ≡ false → rest ≡ []) → read_as H D setting decides (taken ++ rest) ≡ read_as H D setting decides taken
 same_reading stays H D setting decides taken rest true is ends = stays (verifying H D setting decides) taken rest is
@@ -69,7 +69,7 @@ token_of_run stays H D setting decides policy come come_after ended (Ok verdict)
 token_of_run stays H D setting decides policy come come_after ended (Err stop) taken payload bytes outcome run comes e =
     subst (λ (o : Outcome). UnlessStopped o (IsToken H D setting decides policy bytes outcome)) (sym comes) tt
 
--- A place of the claims is in the payload.
+-- The place of a refusal of the claims is in the payload, or at its end.
 claims_placed : (read : Read ClaimsValue) (end : ℕ) (refusal : Refusal) → of_claims read ≡ Err (stops.Claims refusal) → RefusedBy end read → refusal.place ≤ end
 claims_placed (Ok claims) end refusal e s = absurd cc
 claims_placed (Err other) end refusal e s = let same : other ≡ refusal = cc in subst (λ (r : Refusal). r.place ≤ end) same s
@@ -81,7 +81,7 @@ token_placed depth policy (Ok (Authentic kind alg n taken)) payload outcome refu
 token_placed depth policy (Ok (Refused other)) payload outcome refusal comes e s = let clash : Err (stops.Message other) ≡ Err (stops.Claims refusal) = sym comes ∙ e in absurd cc
 token_placed depth policy (Err stop) payload outcome refusal comes e s = let clash : Err (stops.Stopped stop) ≡ Err (stops.Claims refusal) = sym comes ∙ e in absurd cc
 
--- The store stops no token where it doesn't stop the verifier.
+-- Where the verifier doesn't stop for the store, the token doesn't either.
 no_stop : (read : Read ClaimsValue) → stop_in (of_claims read) ≡ None
 no_stop (Ok claims) = refl
 no_stop (Err refusal) = refl
@@ -99,7 +99,7 @@ pub none_or_some : {A P : Type 0} (option : Option A) → (option ≡ None → P
 none_or_some None none some = none refl
 none_or_some (Some value) none some = some value refl
 
--- A kept answer is a verdict, or that the verifier had stopped: no failure of this call.
+-- A kept answer is a verdict, or says that the verifier had stopped: it isn't a failure in this call.
 no_failure : (depth : ℕ) (policy : PolicyValue) (payload : List ℕ) (stopped : Bool) (verdict : Option Verdict) (answer : Result Verdict Stop) → answer_kept stopped verdict ≡ Some answer →
     (is_for_intake (stop_in (token_of depth policy answer payload)) ≡ false) × (is_for_store (stop_in (token_of depth policy answer payload)) ≡ false)
 no_failure depth policy payload true verdict (Ok other) kept = absurd cc

@@ -25,14 +25,14 @@ admission policy bytes = done (admitted_claims 4 policy bytes)
 abbrev pub refused : Reason → ℕ → Read (Unit {0})
 refused reason place = Err (record { reason = reason; place = place })
 
--- At a moment, with a leeway, and with the audience left to the caller.
+-- At a current time, with a leeway, and with the audience left to the caller.
 abbrev at : ℕ → ℕ → PolicyValue
 at now leeway = record { now = pos now; leeway = leeway; mine = None }
 
 abbrev for : List (List ℕ) → ℕ → PolicyValue
 for mine now = record { now = pos now; leeway = 0; mine = Some mine }
 
--- The claims of RFC 8392 appendix A.1: exp is 1444064944 at 59, nbf 1443944944 at 65, and the audience stands at 32.
+-- The claims of RFC 8392 appendix A.1: exp is 1444064944 at 59, nbf is 1443944944 at 65, and the audience is at 32.
 abbrev example : List ℕ
 example =
     0xa7 ∷ 1 ∷ 0x75 ∷ 0x63 ∷ 0x6f ∷ 0x61 ∷ 0x70 ∷ 0x3a ∷ 0x2f ∷ 0x2f ∷ 0x61 ∷ 0x73 ∷ 0x2e ∷ 0x65 ∷ 0x78 ∷ 0x61 ∷ 0x6d ∷ 0x70 ∷ 0x6c ∷ 0x65 ∷ 0x2e ∷ 0x63 ∷ 0x6f ∷ 0x6d ∷ 2 ∷ 0x65 ∷ 0x65 ∷ 0x72 ∷ 0x69 ∷ 0x6b ∷ 0x77 ∷ 3 ∷ 0x78 ∷ 0x18 ∷ 0x63 ∷ 0x6f ∷ 0x61 ∷ 0x70 ∷ 0x3a ∷ 0x2f ∷
@@ -74,7 +74,7 @@ for_others : admission (for ((0x6f ∷ 0x74 ∷ 0x68 ∷ 0x65 ∷ 0x72 ∷ []) �
 unfolding admission
 for_others = refl
 
--- Of several texts one is enough, on either side.
+-- Of several text strings one is enough, on either side.
 abbrev two_audiences : List ℕ
 two_audiences = 0xa1 ∷ 3 ∷ 0x82 ∷ 0x61 ∷ 0x61 ∷ 0x61 ∷ 0x62 ∷ []
 
@@ -94,7 +94,7 @@ for_nobody : admission (for [] 0) two_audiences ≡ refused reasons.WrongAudienc
 unfolding admission
 for_nobody = refl
 
--- An absent claim passes.
+-- A claim that is absent isn't refused.
 without_claims : admission (for [] 0) (0xa0 ∷ []) ≡ Ok tt
 unfolding admission
 without_claims = refl

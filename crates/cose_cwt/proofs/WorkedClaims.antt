@@ -16,7 +16,7 @@ use Rattle.cose_cwt.specs.Claims.{ClaimsValue, claims_of, texts_from, iss_of, su
 use Rattle.cose_cwt.specs.Claims.Form.{claims_table}
 use Rattle.cose_cwt.specs.Confirmation.{ConfirmationValue, confirmation_of, members_table}
 
--- What claims say.
+-- The values of the claims.
 pub record Said : Type 0 where
   pub iss : Option (List ℕ)
   pub sub : Option (List ℕ)
@@ -40,7 +40,7 @@ said_of (Ok claims) = Ok (record {
 })
 said_of (Err refusal) = Err refusal
 
--- The claims of a payload, nested at most 4 deep.
+-- The claims of a payload, of a nesting of at most 4.
 unfoldable pub said : List ℕ → Read Said
 unfolding claims_of claims_table members_table confirmation_of texts_from key_of key_table material_of check_pairs children_of items_from look head_of_item bare_head read head depth_of is_utf8 chars lib.Utf8.encode
 said bytes = said_of (claims_of 4 (record { bytes = bytes; place = 0 }))
@@ -63,7 +63,7 @@ another_tag : said (0xc1 ∷ 0xa0 ∷ []) ≡ refused reasons.NotMap 0
 unfolding said
 another_tag = refl
 
--- A token in a token is refused as such, once it is known that nothing stands behind it.
+-- A token in a token is refused as such, where no byte follows it.
 nested : said (0xd8 ∷ 0x3d ∷ 0 ∷ []) ≡ refused reasons.NestedCwt 0
 unfolding said
 nested = refl
@@ -149,7 +149,7 @@ earliest_date : said (0xa1 ∷ 5 ∷ 0x3b ∷ 0xff ∷ 0xff ∷ 0xff ∷ 0xff �
 unfolding said
 earliest_date = refl
 
--- The set of RFC 8392 appendix A.1.
+-- The claims of RFC 8392 appendix A.1.
 examples : said (
     0xa7 ∷ 1 ∷ 0x75 ∷ 0x63 ∷ 0x6f ∷ 0x61 ∷ 0x70 ∷ 0x3a ∷ 0x2f ∷ 0x2f ∷ 0x61 ∷ 0x73 ∷ 0x2e ∷ 0x65 ∷ 0x78 ∷ 0x61 ∷ 0x6d ∷ 0x70 ∷ 0x6c ∷ 0x65 ∷ 0x2e ∷ 0x63 ∷ 0x6f ∷ 0x6d ∷ 2 ∷ 0x65 ∷ 0x65 ∷ 0x72 ∷ 0x69 ∷ 0x6b ∷ 0x77 ∷ 3 ∷ 0x78 ∷ 0x18 ∷ 0x63 ∷ 0x6f ∷ 0x61 ∷ 0x70 ∷ 0x3a ∷ 0x2f ∷
     0x2f ∷ 0x6c ∷ 0x69 ∷ 0x67 ∷ 0x68 ∷ 0x74 ∷ 0x2e ∷ 0x65 ∷ 0x78 ∷ 0x61 ∷ 0x6d ∷ 0x70 ∷ 0x6c ∷ 0x65 ∷ 0x2e ∷ 0x63 ∷ 0x6f ∷ 0x6d ∷ 4 ∷ 0x1a ∷ 0x56 ∷ 0x12 ∷ 0xae ∷ 0xb0 ∷ 5 ∷ 0x1a ∷ 0x56 ∷ 0x10 ∷ 0xd9 ∷ 0xf0 ∷ 6 ∷ 0x1a ∷ 0x56 ∷ 0x10 ∷ 0xd9 ∷ 0xf0 ∷ 7 ∷ 0x42 ∷ 0xb ∷ 0x71 ∷ []) ≡ Ok (record {
@@ -198,7 +198,7 @@ key_of_another_type : said (0xa1 ∷ 8 ∷ 0xa1 ∷ 1 ∷ 0xa1 ∷ 1 ∷ 1 ∷ [
 unfolding said
 key_of_another_type = refl
 
--- All labels of the confirmation go before the values.
+-- All labels of the confirmation have precedence over the values.
 member_twice : said (0xa1 ∷ 8 ∷ 0xa2 ∷ 3 ∷ 0 ∷ 3 ∷ 0 ∷ []) ≡ refused reasons.DuplicateLabel 5
 unfolding said
 member_twice = refl
@@ -207,7 +207,7 @@ member_of_no_label : said (0xa1 ∷ 8 ∷ 0xa2 ∷ 3 ∷ 0 ∷ 0x40 ∷ 0 ∷ []
 unfolding said
 member_of_no_label = refl
 
--- All claims go before the confirmation, wherever it stands.
+-- All claims have precedence over the confirmation, wherever it is in the map.
 issuer_after_confirmation : said (0xa2 ∷ 8 ∷ 0xa1 ∷ 1 ∷ 0xa2 ∷ 1 ∷ 4 ∷ 0x20 ∷ 0x41 ∷ 0x61 ∷ 1 ∷ 0 ∷ []) ≡ refused reasons.BadValue 11
 unfolding said
 issuer_after_confirmation = refl

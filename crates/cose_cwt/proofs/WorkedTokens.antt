@@ -9,7 +9,7 @@ use Rattle.cose_cwt.proofs.WorkedAdmission.{admission}
 use Rattle.cose_cwt.proofs.WorkedAdmission as admissions
 use Rattle.cose_cwt.proofs.WorkedClaims.{Said, said, silent, refused}
 
--- Bytes in hexadecimal. Spaces are left out.
+-- Bytes in hexadecimal. Spaces are ignored.
 abbrev digit : ℕ → ℕ
 digit code = if nat_lt code 0x61 then code - 0x30 else code - 0x57
 
@@ -21,7 +21,7 @@ bytes_of (high ∷ low ∷ others) = (16 * digit high + digit low) ∷ bytes_of 
 abbrev hex : String → List ℕ
 hex text = bytes_of (filter (λ code. not (code == 0x20)) (codes text))
 
--- A table: a payload, and what its claims say.
+-- A table: a payload, and the values of its claims.
 abbrev Says : List (String × Read Said) → Type 0
 Says rows = map (λ row. said (hex row.0)) rows ≡ map (λ row. row.1) rows
 
@@ -29,8 +29,8 @@ Says rows = map (λ row. said (hex row.0)) rows ≡ map (λ row. row.1) rows
 abbrev neither : Said
 neither = record silent { cnf = Some (record { key = None; kid = None }) }
 
--- The payload is one item, of room for its bytes and of the nesting. What is wrong in it goes before its tag, and a byte after it
--- before what the item is.
+-- The payload is one item, within the room of its bytes and within the nesting. A fault in it has precedence over its
+-- tag, and a byte after it over what the item is.
 whole_items : Says (
     ("a101", refused reasons.PastRoom 0) ∷
     ("a1 01 61", refused reasons.PastRoom 2) ∷
@@ -44,8 +44,8 @@ whole_items : Says (
 unfolding said
 whole_items = refl
 
--- Seven tags are those of a token, however wide their heads are and whatever their content is. Tags next to them are no maps, and
--- a token in a claim is the application's.
+-- Seven tags are those of a token, however wide their heads are and whatever their content is. Items with the tags next
+-- to them aren't maps, and a token in a claim is left to the application.
 tokens : Says (
     ("d000", refused reasons.NestedCwt 0) ∷
     ("d100", refused reasons.NestedCwt 0) ∷
@@ -70,7 +70,7 @@ tokens : Says (
 unfolding said
 tokens = refl
 
--- A pair goes before the next, and a label before its value. Labels are compared by value.
+-- A pair has precedence over the next, and a label over its value. Labels are compared by value.
 pairs : Says (
     ("a2 0100 4000", refused reasons.BadValue 2) ∷
     ("a2 4000 0100", refused reasons.BadLabel 1) ∷
@@ -82,7 +82,7 @@ pairs : Says (
 unfolding said
 pairs = refl
 
--- Other claims have any value: the labels next to those of the claims, their negatives, and texts.
+-- Other claims have any value: the labels next to those of the claims, their negatives, and text strings.
 others : Says (
     ("a1 0060", Ok silent) ∷
     ("a1 0960", Ok silent) ∷
@@ -93,7 +93,7 @@ others : Says (
 unfolding said
 others = refl
 
--- iss and sub are texts; aud is one, or an array of one or more.
+-- iss and sub are text strings; aud is one, or an array of one or more.
 texts : Says (
     ("a1 0100", refused reasons.BadValue 2) ∷
     ("a1 0140", refused reasons.BadValue 2) ∷
@@ -118,7 +118,7 @@ texts : Says (
 unfolding said
 texts = refl
 
--- A date is no float, whatever its width.
+-- A float isn't a date, whatever its width.
 floats : Says (
     ("a1 04 f93c00", refused reasons.FloatDate 2) ∷
     ("a1 04 fa3f800000", refused reasons.FloatDate 2) ∷
@@ -145,7 +145,8 @@ tagged : Says (
 unfolding said
 tagged = refl
 
--- Other values are wrong: texts, bytes, arrays, maps, truth values, nil and a simple value. Integers have either sign.
+-- Other values are refused: text strings, byte strings, arrays, maps, Boolean values, nil and a simple value. Integers
+-- have either sign.
 other_dates : Says (
     ("a1 04 60", refused reasons.BadValue 2) ∷
     ("a1 05 60", refused reasons.BadValue 2) ∷
@@ -165,7 +166,7 @@ other_dates : Says (
 unfolding said
 other_dates = refl
 
--- cti is bytes.
+-- cti is a byte string.
 identifiers : Says (
     ("a1 0700", refused reasons.BadValue 2) ∷
     ("a1 0760", refused reasons.BadValue 2) ∷
@@ -189,7 +190,7 @@ confirmations : Says (
 unfolding said
 confirmations = refl
 
--- Every claim goes before every fault of the confirmation.
+-- Every claim has precedence over every fault of the confirmation.
 claims_before_confirmation : Says (
     ("a2 08a10280 0100", refused reasons.BadValue 6) ∷
     ("a2 08a10280 4000", refused reasons.BadLabel 5) ∷
@@ -198,7 +199,7 @@ claims_before_confirmation : Says (
 unfolding said
 claims_before_confirmation = refl
 
--- The labels of a confirmation go before its values, in their order.
+-- The labels of a confirmation have precedence over its values, in their order.
 labels_of_members : Says (
     ("a1 08 a3 0300 0300 4000", refused reasons.DuplicateLabel 5) ∷
     ("a1 08 a3 0300 4000 0300", refused reasons.BadLabel 5) ∷
@@ -211,7 +212,8 @@ labels_of_members : Says (
 unfolding said
 labels_of_members = refl
 
--- Two keys go before either of them, and an encrypted key before the identifier. It has any value, and its label any head.
+-- A key next to an encrypted key has precedence over either of them, and an encrypted key over the identifier. The
+-- encrypted key may have any value, and its label any head.
 encrypted_keys : Says (
     ("a1 08 a2 01a20104204161 0280", refused reasons.BadConfirmation 2) ∷
     ("a1 08 a2 0280 01a0", refused reasons.BadConfirmation 2) ∷
@@ -223,7 +225,7 @@ encrypted_keys : Says (
 unfolding said
 encrypted_keys = refl
 
--- That a key is one goes before that it is symmetric, and both before the identifier.
+-- A fault of the key has precedence over the key being symmetric, and both have precedence over the identifier.
 plain_keys : Says (
     ("a1 08 a10100", refused reasons.BadConfirmation 4) ∷
     ("a1 08 a10180", refused reasons.BadConfirmation 4) ∷
@@ -240,7 +242,7 @@ plain_keys : Says (
 unfolding said
 plain_keys = refl
 
--- The current time, the leeway, the texts of the policy, a payload, and whether its claims are admitted.
+-- The current time, the leeway, the text strings of the policy, a payload, and whether its claims are admitted.
 record Row : Type 0 where
   now : ℤ
   leeway : ℕ
@@ -257,8 +259,8 @@ Admits rows = map (λ row. admission (policy_of row) (hex row.payload)) rows ≡
 abbrev row : ℤ → ℕ → Option (List String) → String → Read (Unit {0}) → Row
 row now leeway mine payload outcome = record { now = now; leeway = leeway; mine = mine; payload = payload; outcome = outcome }
 
--- Every claim and the confirmation go before admission; there exp goes before nbf, and both before the audience, whatever their
--- places are. iat has no rule.
+-- Every claim and the confirmation have precedence over admission; there exp has precedence over nbf, and both over the
+-- audience, whatever their places are. iat has no rule.
 orders : Admits (
     row (pos 0) 0 (Some ("b" ∷ [])) "a2 0400 0100" (admissions.refused reasons.BadValue 4) ∷
     row (pos 0) 0 (Some ("b" ∷ [])) "a2 036161 0100" (admissions.refused reasons.BadValue 5) ∷
@@ -324,7 +326,8 @@ bounds : Admits (
 unfolding admission
 bounds = refl
 
--- A text of the audience equals one of the policy's in all bytes. Without such texts the audience is left to the caller.
+-- A text string of the audience equals one of the policy's in all bytes. Without such text strings the audience is left
+-- to the caller.
 audiences : Admits (
     row (pos 0) 0 None "a1 036161" (Ok tt) ∷
     row (pos 0) 0 (Some ("a" ∷ [])) "a1 036161" (Ok tt) ∷

@@ -11,8 +11,8 @@ use Rattle.cose_map.specs.Map.Read.{Read, refuse, ◌>>=◌}
 use Rattle.cose_cwt.specs.Claims.{ClaimsValue, claims_of, texts_of}
 use Rattle.cose_cwt.specs.Claims.Labels.{aud, exp, nbf}
 
--- The moment, in seconds since 1970, the seconds by which clocks may differ, and the texts that stand for whoever admits.
--- Without them the audience is left to the caller.
+-- The current time, in seconds since 1970, the seconds by which clocks may differ, and the text strings that name the
+-- caller in an audience. Without them the audience is left to the caller.
 pub record PolicyValue : Type 0 where
   pub now : ℤ
   pub leeway : ℕ
@@ -24,7 +24,7 @@ has_expired policy exp = int_le (exp +ℤ pos policy.leeway) policy.now
 abbrev pub is_early : PolicyValue → ℤ → Bool
 is_early policy nbf = int_lt (policy.now +ℤ pos policy.leeway) nbf
 
--- One of the texts is one of mine; and none is, where mine are known.
+-- Whether one of the text strings is one of the policy's; and whether none is, where the policy has a list.
 abbrev pub is_one_of : List (List ℕ) → List ℕ → Bool
 is_one_of mine text = list_any (bytes_eq text) mine
 
@@ -42,7 +42,7 @@ abbrev pub date_breaks : (ℤ → Bool) → Option ℤ → Bool
 date_breaks breaks None = false
 date_breaks breaks (Some date) = breaks date
 
--- A rule, at its place. A claim that is absent passes.
+-- A rule. The place of its refusal is the claim's value, and a claim that is absent isn't refused.
 abbrev pub unless : Reason → (Placed → Bool) → Option Placed → Read (Unit {0})
 unless reason breaks None = Ok tt
 unless reason breaks (Some value) = if breaks value then refuse reason value else Ok tt
@@ -62,7 +62,7 @@ admitted policy claims = do
   begun ← not_early policy claims
   not_for_others policy claims
 
--- The claims of a payload, where they are admitted.
+-- The claims of a payload, if they are admitted.
 abbrev pub admitted_claims : ℕ → PolicyValue → List ℕ → Read ClaimsValue
 admitted_claims depth policy payload = do
   claims ← claims_of depth (record { bytes = payload; place = 0 })

@@ -16,7 +16,7 @@ use Rattle.cose_cwt.specs.Claims.Form.{claims_table}
 use Rattle.cose_cwt.specs.Claims.Labels.{iss, sub, aud, exp, nbf, iat, cti, cnf}
 use Rattle.cose_cwt.specs.Confirmation.{ConfirmationValue, confirmation_of}
 
--- The pairs of the claims, of which each known one has its form, and the confirmation.
+-- The pairs of the claims, each known one in its form, and the confirmation.
 pub record ClaimsValue : Type 0 where
   pub pairs : List Pair
   pub confirmation : Option ConfirmationValue
@@ -42,7 +42,8 @@ confirmation_at (Some value) = confirmation_of value >>= some_confirmation
 abbrev pub claims_with : List Pair → Option ConfirmationValue → ClaimsValue
 claims_with pairs confirmation = record { pairs = pairs; confirmation = confirmation }
 
--- The claims of an item: it is no token, it is a map, its pairs are right, and last the confirmation is.
+-- The claims of an item: it must not be a token, it must be a map, then its pairs must have no fault, and last its
+-- confirmation.
 abbrev pub claims_at : Placed → Read ClaimsValue
 claims_at item = do
   claims ← not_nested item
@@ -56,7 +57,7 @@ claims_of depth payload = do
   item ← whole depth payload
   claims_at item
 
--- What the claims say (RFC 8392 section 3.1).
+-- The getters of the claims (RFC 8392 section 3.1).
 abbrev pub text_under : LabelValue → ClaimsValue → Option (List ℕ)
 text_under name claims = option_and_then (λ value. text_in (look value)) (value_of name claims.pairs)
 
@@ -78,15 +79,15 @@ nbf_of claims = integer_under nbf claims
 abbrev pub iat_of : ClaimsValue → Option ℤ
 iat_of claims = integer_under iat claims
 
--- The key that is confirmed (RFC 8747 section 3.2).
+-- The confirmation key (RFC 8747 section 3.2).
 abbrev pub confirmed_key_of : ClaimsValue → Option KeyValue
 confirmed_key_of claims = option_and_then (λ confirmation. confirmation.key) claims.confirmation
 
 abbrev pub cti_of : ClaimsValue → Option (List ℕ)
 cti_of claims = option_and_then (λ value. bytes_in (look value)) (value_of cti claims.pairs)
 
--- The texts of an audience: the one that it is, or the elements. They end before an element that is no text, which an
--- audience that was read doesn't have.
+-- The text strings of an audience: the one that it is, or the elements. They end before an element that isn't a text
+-- string, which an audience that was read doesn't have.
 abbrev pub text_before : List (List ℕ) → Option (List ℕ) → List (List ℕ)
 text_before others None = []
 text_before others (Some text) = text ∷ others

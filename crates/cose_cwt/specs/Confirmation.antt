@@ -1,4 +1,4 @@
--- The key that a token confirms: the claim cnf (RFC 8747 section 3).
+-- The confirmation of a token: the claim cnf (RFC 8747 section 3).
 pub mod View
 use Rattle.std.specs.Prelude.{ℕ, pos, Bool, true, false, List, Option, Some, None, Ok, Err, if◌then◌else◌}
 use Rattle.cose_head.specs.declared.reason.Reason.{Reason}
@@ -21,16 +21,16 @@ encrypted_cose_key = number (pos 2)
 abbrev pub kid : LabelValue
 kid = number (pos 3)
 
--- The key, and its identifier, where they are there.
+-- The key and its identifier, each if present.
 pub record ConfirmationValue : Type 0 where
   pub key : Option KeyValue
   pub kid : Option (List ℕ)
 
--- Its labels are read first: the members are judged once all of them are known.
+-- The table accepts any value: the members are checked after all labels are read.
 unfoldable pub members_table : Table
 members_table name value = None
 
--- A symmetric key may stand in a token that is encrypted alone (RFC 8747 section 3.3).
+-- A symmetric key may be only in a token that is encrypted (RFC 8747 section 3.2).
 abbrev pub is_symmetric : MaterialValue → Bool
 is_symmetric (symmetric secret) = true
 is_symmetric (elliptic curve x y) = false
@@ -44,7 +44,7 @@ one_public_key value = do
   key ← public_key value (key_of value)
   Ok (Some key)
 
--- There is a key or an encrypted one, and not both (RFC 8747 section 3.1); an encrypted one can't be read here.
+-- At most one of a key and an encrypted key is present (RFC 8747 section 3.1). An encrypted key is refused here.
 abbrev pub confirmed_key : Placed → Option Pair → Option Placed → Read (Option KeyValue)
 confirmed_key cnf (Some encrypted) (Some value) = refuse BadConfirmation cnf
 confirmed_key cnf (Some encrypted) None = refuse EncryptedKey encrypted.label

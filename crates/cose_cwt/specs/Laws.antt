@@ -1,4 +1,4 @@
--- Where the faults of claims stand, never after the payload's bytes, and the tree that claims are of.
+-- The places of the faults of claims, never after the payload's bytes, and the tree of claims.
 use Rattle.std.specs.Prelude.{◌≡◌, ◌≤◌, ℕ, List, length, Ok}
 use Rattle.cose_head.specs.Placed.{Placed}
 use Rattle.cose_head.specs.PlacedLaws.{end_of}
@@ -14,7 +14,7 @@ ConfirmationIsRefusedInside = (p : Placed) → RefusedBy (end_of p) (confirmatio
 abbrev pub ClaimsAreRefusedInside : Type 0
 ClaimsAreRefusedInside = (depth : ℕ) (p : Placed) → RefusedBy (end_of p) (claims_of depth p)
 
--- Those of admission too.
+-- The same of admission.
 abbrev pub AdmissionIsRefusedInside : Type 0
 AdmissionIsRefusedInside = (depth : ℕ) (policy : PolicyValue) (payload : List ℕ) → RefusedBy (length payload) (admitted_claims depth policy payload)
 

@@ -1,4 +1,4 @@
--- What a token comes to (RFC 8392 section 7.2): the verdict on the message, and then the claims of its payload.
+-- The result for a token (RFC 8392 section 7.2): the verdict on the message, and then the claims of its payload.
 use Rattle.std.specs.Prelude.{◌≡◌, ◌≤◌, ℕ, Bool, List, [], length, Option, Some, None, Result, Ok, Err, ⊤}
 use Rattle.cose_head.specs.declared.refusal.Refusal.{Refusal}
 use Rattle.cose_map.specs.Map.Read.{Read}
@@ -33,7 +33,7 @@ abbrev pub of_claims : Read ClaimsValue → Outcome
 of_claims (Ok claims) = Ok claims
 of_claims (Err refusal) = Err (stops.Claims refusal)
 
--- The claims of an authentic message, where they are admitted.
+-- The claims of an authentic message, if they are admitted.
 abbrev pub token_of : ℕ → PolicyValue → Result Verdict Stop → List ℕ → Outcome
 token_of depth policy (Ok (Authentic kind alg length taken)) payload = of_claims (admitted_claims depth policy payload)
 token_of depth policy (Ok (Refused refusal)) payload = Err (stops.Message refusal)
@@ -42,21 +42,22 @@ token_of depth policy (Err stop) payload = Err (stops.Stopped stop)
 abbrev pub read_as : ℕ → ℕ → Setting → Decides → List ℕ → Reading
 read_as room nesting setting decides bytes = message (verifying room nesting setting decides) bytes
 
--- What the token that all these bytes are comes to.
+-- The outcome is the result for the token that all these bytes are.
 pub record IsToken (room nesting : ℕ) (setting : Setting) (decides : Decides) (policy : PolicyValue) (bytes : List ℕ) (outcome : Outcome) : Type 0 where
   pub verdict : Verdict
   pub judged : verdict_of room nesting setting decides bytes ≡ decided verdict
   pub comes : outcome ≡ token_of nesting policy (Ok verdict) (read_as room nesting setting decides bytes).told.payload
 
--- The same, but where the verifier stopped.
+-- The same, unless the verifier stopped.
 abbrev pub UnlessStopped : Outcome → Type 0 → Type 0
 UnlessStopped (Ok claims) says = says
 UnlessStopped (Err (stops.Stopped stop)) says = ⊤
 UnlessStopped (Err (stops.Message refusal)) says = says
 UnlessStopped (Err (stops.Claims refusal)) says = says
 
--- What a call did: a verifier that had taken nothing has taken these bytes, tells what they tell, stands where they leave the message
--- and keeps its verdict, the store has the payload among them, and the outcome is what the token comes to. A place of the claims is in the payload, or at its end.
+-- The effect of a call. A verifier that had taken nothing has taken these bytes. Its getters give what these bytes
+-- give, its status is the one after these bytes, and it keeps its verdict. The store holds the payload among them. The
+-- outcome is the result for the token. The place of a refusal of the claims is in the payload, or at its end.
 pub record IsRun {H D : ℕ} {S : Type 0} {K : _} (setting : Setting) (decides : Decides) (policy : PolicyValue) (come come_after : Option (List ℕ)) (ended : Bool) (v : Verifier H D S K) (outcome : Outcome) : Type 0 where
   pub taken : List ℕ
   pub payload : List ℕ

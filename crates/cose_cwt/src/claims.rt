@@ -21,9 +21,9 @@ use crate::confirmation::{Cnf, Confirmation};
 use crate::laws::claims_refusals_stand_inside;
 use cose_map::{ItemRef, KeySet, Pairs, Reason, Refusal, check_map, refused};
 
-/// The claims of a token, each known one of its form. They borrow the bytes that they were read from.
+/// The claims of a token, each known one in its form. They borrow the bytes that they were read from.
 ///
-/// `Debug` prints how many bytes there are, and none of the claims, among which a key may be.
+/// `Debug` prints how many bytes there are, and none of the claims, which may contain a key.
 #[derive(Clone, Copy, Debug)]
 pub struct Claims<'a> {
     pub(crate) pairs: Pairs<'a>,
@@ -37,7 +37,7 @@ fn is_token_tag(number: u64) -> bool
     matches!(number, 16 | 17 | 18 | 61 | 96 | 97 | 98)
 }
 
-/// An item that is no token itself.
+/// The item, if it isn't itself a token.
 fn not_nested<'a>(item: ItemRef<'a>) -> Result<ItemRef<'a>, Refusal>
     ensures { seen_by placed result ≡ spec.not_nested (placed item.entry) }
 {
@@ -47,7 +47,7 @@ fn not_nested<'a>(item: ItemRef<'a>) -> Result<ItemRef<'a>, Refusal>
     }
 }
 
-/// The confirmation, where there is one.
+/// The confirmation, if present.
 fn confirmation_at<'a>(value: Option<ItemRef<'a>>) -> Result<Option<Confirmation<'a>>, Refusal>
     ensures { seen_by (option_map confirmation_value) result ≡ spec.confirmation_at (option_map placed value.entry) }
 {
@@ -75,40 +75,40 @@ impl<'a> Claims<'a> {
         })
     }
 
-    /// Reads the claims of a payload, of a nesting of at most `depth`. Nothing vouches for them: [`verify_cwt`](crate::verify_cwt)
-    /// reads those of an authentic message, and admits them.
+    /// Reads the claims of a payload, of a nesting of at most `depth`. They are not authenticated:
+    /// [`verify_cwt`](crate::verify_cwt) reads those of an authentic message, and admits them.
     ///
-    /// The refusal is the first fault of the reading, with [`Reason::PastRoom`] where the bytes end early; then
+    /// The refusal is the first fault of the item, with [`Reason::PastRoom`] where the bytes end early; then
     /// [`Reason::Trailing`], [`Reason::NestedCwt`] and [`Reason::NotMap`]; then of the claims in their order
-    /// [`Reason::BadLabel`], [`Reason::DuplicateLabel`], [`Reason::BadValue`], [`Reason::FloatDate`] and [`Reason::TaggedDate`];
-    /// and last those of the confirmation: of its labels, [`Reason::BadConfirmation`], [`Reason::EncryptedKey`],
-    /// [`Reason::PlainKey`] and [`Reason::BadValue`].
+    /// [`Reason::BadLabel`], [`Reason::DuplicateLabel`], [`Reason::BadValue`], [`Reason::FloatDate`] and
+    /// [`Reason::TaggedDate`]; and last those of the confirmation: the faults of its labels, then
+    /// [`Reason::BadConfirmation`], [`Reason::EncryptedKey`], [`Reason::PlainKey`] and [`Reason::BadValue`].
     #[tactic(auto, using(crate::proofs::Inside::seen_inside))]
     pub fn read(bytes: &'a [u8], depth: usize) -> Result<Claims<'a>, Refusal>
         requires { depth ≤ 32 }
         ensures exact { seen_by claims_value result ≡ spec.claims_of depth (record { bytes = bytes.now; place = 0 }) }
         ensures within { IfErr result (λ refusal. refusal.place ≤ length bytes.now) }
     {
-        // The law that `within` rests on.
+        // The law that the proof of `within` cites.
         claims_refusals_stand_inside();
         Claims::of_payload(bytes, depth)
     }
 
-    /// Who issued the token (iss, RFC 8392 section 3.1.1).
+    /// The issuer of the token (iss, RFC 8392 section 3.1.1).
     pub fn iss(&self) -> Option<&'a str>
         ensures { option_map text_value result ≡ spec.iss_of (claims_value self.now) }
     {
         self.pairs.get(&labels::ISS)?.as_text()
     }
 
-    /// Whom the token is about (sub, RFC 8392 section 3.1.2).
+    /// The subject of the token (sub, RFC 8392 section 3.1.2).
     pub fn sub(&self) -> Option<&'a str>
         ensures { option_map text_value result ≡ spec.sub_of (claims_value self.now) }
     {
         self.pairs.get(&labels::SUB)?.as_text()
     }
 
-    /// Whom the token is for (aud, RFC 8392 section 3.1.3): one text or several, none where the token names nobody.
+    /// The audience of the token (aud, RFC 8392 section 3.1.3): one text string or several, none where aud is absent.
     pub fn auds(&self) -> Auds<'a>
         ensures { texts_left result ≡ spec.auds_of (claims_value self.now) }
     {
@@ -118,7 +118,7 @@ impl<'a> Claims<'a> {
         }
     }
 
-    /// Whether the token is for whoever this text stands for.
+    /// Whether `name` is one of the text strings of the audience.
     pub fn aud_has(&self, name: &str) -> bool
         ensures { result ≡ list_any (bytes_eq name.now) (spec.auds_of (claims_value self.now)) }
     {
@@ -130,21 +130,21 @@ impl<'a> Claims<'a> {
         false
     }
 
-    /// The second since 1970 from which on the token isn't valid any more (exp, RFC 8392 section 3.1.4).
+    /// The expiration time, in seconds since 1970: from then on the token isn't valid (exp, RFC 8392 section 3.1.4).
     pub fn exp(&self) -> Option<i128>
         ensures { result ≡ spec.exp_of (claims_value self.now) }
     {
         self.pairs.get(&labels::EXP)?.as_int()
     }
 
-    /// The second since 1970 from which on the token is valid (nbf, RFC 8392 section 3.1.5).
+    /// The time, in seconds since 1970, from which on the token is valid (nbf, RFC 8392 section 3.1.5).
     pub fn nbf(&self) -> Option<i128>
         ensures { result ≡ spec.nbf_of (claims_value self.now) }
     {
         self.pairs.get(&labels::NBF)?.as_int()
     }
 
-    /// The second since 1970 at which the token was issued (iat, RFC 8392 section 3.1.6).
+    /// The time, in seconds since 1970, at which the token was issued (iat, RFC 8392 section 3.1.6).
     pub fn iat(&self) -> Option<i128>
         ensures { result ≡ spec.iat_of (claims_value self.now) }
     {
@@ -158,15 +158,15 @@ impl<'a> Claims<'a> {
         self.pairs.get(&labels::CTI)?.as_bytes()
     }
 
-    /// The key that the presenter of the token holds (cnf, RFC 8747 section 3.1).
+    /// The confirmation: the key that the presenter of the token holds (cnf, RFC 8747 section 3.1).
     pub fn cnf(&self) -> Option<Cnf<'a>>
         ensures { option_map cnf_value result ≡ (claims_value self.now).confirmation }
     {
         Some(self.confirmation?.cnf())
     }
 
-    /// The key that the presenter of the token holds, as a set of this one: the keys of a context for messages that he
-    /// authenticates. None where the token has no such key.
+    /// The key that the presenter of the token holds, as a set of this one key. A context takes it as the keys for
+    /// messages that the presenter authenticates. `None` where the token has no such key.
     pub fn cnf_set(&self) -> Option<KeySet<'a>>
         ensures { option_map keys result ≡ option_map (λ key. key ∷ []) (spec.confirmed_key_of (claims_value self.now)) }
     {

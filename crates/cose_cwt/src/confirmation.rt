@@ -1,4 +1,4 @@
-//! The key that a token confirms: the claim cnf (RFC 8747 section 3).
+//! The confirmation of a token: the claim cnf (RFC 8747 section 3).
 
 ghost use Rattle.std.specs.Prelude.{◌≡◌, Option, option_map, option_and_then};
 ghost use Rattle.cose_head.specs.ItemRef.{placed};
@@ -21,7 +21,7 @@ const ENCRYPTED_COSE_KEY: Label<'static> = Label::Int(2);
 /// The identifier of the key.
 const KID: Label<'static> = Label::Int(3);
 
-/// The key that the presenter of a token holds, as far as the token says it: the key itself, its identifier, both or neither.
+/// What the token says of the key that its presenter holds: the key itself, its identifier, both or neither.
 #[derive(Clone, Copy, Debug)]
 pub struct Cnf<'a> {
     /// The public key (RFC 8747 section 3.2).
@@ -39,7 +39,7 @@ pub(crate) struct Confirmation<'a> {
     pub(crate) kid: Option<&'a [u8]>,
 }
 
-/// The members of a confirmation have any value, until all their labels are read.
+/// The table of the members of a confirmation accepts any value. The members are checked after all labels are read.
 struct MembersForm;
 
 impl Form for MembersForm {
@@ -64,7 +64,7 @@ fn public_key<'a>(item: &ItemRef<'a>) -> Result<Key<'a>, Refusal>
     }
 }
 
-/// The item of the one key, which is public and not encrypted.
+/// The item of the key, if present. It must be public, and must not be encrypted.
 fn confirmed_key<'a>(
     cnf: &ItemRef<'a>,
     encrypted: Option<(Label<'a>, ItemRef<'a>, ItemRef<'a>)>,
@@ -83,7 +83,7 @@ fn confirmed_key<'a>(
     }
 }
 
-/// The identifier of the key.
+/// The identifier of the key, if present.
 fn confirmed_kid<'a>(value: Option<ItemRef<'a>>) -> Result<Option<&'a [u8]>, Refusal>
     ensures { seen_by (option_map contents) result ≡ spec.confirmed_kid (option_map placed value.entry) }
 {
@@ -97,7 +97,7 @@ fn confirmed_kid<'a>(value: Option<ItemRef<'a>>) -> Result<Option<&'a [u8]>, Ref
 }
 
 impl<'a> Confirmation<'a> {
-    /// Reads the confirmation that an item is.
+    /// Reads the confirmation from its item.
     #[tactic(auto, unfolding(crate::specs::Confirmation::confirmation_of))]
     pub(crate) fn read(cnf: &ItemRef<'a>) -> Result<Confirmation<'a>, Refusal>
         ensures { seen_by confirmation_value result ≡ spec.confirmation_of (placed cnf.now) }

@@ -1,15 +1,16 @@
-//! Laws of the definitions that the contracts cite. A law is a function that does nothing, and whose contract is the law.
+//! Laws of the definitions that the contracts cite. A law is a function with no run-time effect, whose contract is the
+//! law.
 
 ghost use Rattle.cose_cwt.specs.Laws.{AdmissionIsRefusedInside, ClaimsAreOfTree, ClaimsAreRefusedInside, ConfirmationIsRefusedInside};
 
-/// A refusal of claims (RFC 8392 section 3), of a confirmation (RFC 8747 section 3) or of their admission stands among the bytes
-/// or at their end.
+/// The place of a refusal of claims (RFC 8392 section 3), of a confirmation (RFC 8747 section 3) or of their admission
+/// is within the bytes or at their end.
 pub fn claims_refusals_stand_inside()
     ensures confirmation { ConfirmationIsRefusedInside }
     ensures claims { ClaimsAreRefusedInside }
     ensures admission { AdmissionIsRefusedInside }
 {
-    // What these two say of reading and of maps is all that the proof rests on.
+    // Laws that the proof cites: of reading, and of maps.
     cose_head::laws::whole_is_one_item();
     cose_map::laws::refusals_stand_inside();
 }
@@ -19,6 +20,6 @@ pub fn claims_refusals_stand_inside()
 pub fn claims_are_of_a_tree()
     ensures { ClaimsAreOfTree }
 {
-    // What this says of maps is all that the proof rests on.
+    // A law that the proof cites, of maps.
     cose_map::laws::maps_are_of_trees();
 }

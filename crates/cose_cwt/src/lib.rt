@@ -1,8 +1,8 @@
-//! CBOR Web Tokens (RFC 8392), and the keys that they confirm (RFC 8747).
+//! CBOR Web Tokens (RFC 8392), and their confirmation keys (RFC 8747).
 //!
-//! [`verify_cwt`] verifies a token over any intake, and gives its [`Claims`] where the message is authentic and a [`Policy`]
-//! admits them. The claims borrow the store that got the payload. No memory is allocated. Here `keys` is a [`KeySet`], and `token`
-//! the bytes of a token:
+//! [`verify_cwt`] verifies a token over any intake, and returns its [`Claims`] where the message is authentic and a
+//! [`Policy`] admits them. The claims borrow the store that holds the payload. No memory is allocated. Here `keys` is a
+//! [`KeySet`], and `token` the bytes of a token:
 //!
 //! ```rust
 //! use cose_cwt::{
@@ -38,9 +38,9 @@
 //! }
 //! ```
 //!
-//! [`Claims::auds`] gives the texts of the audience ([`Auds`]), [`Claims::cnf`] what the token confirms ([`Cnf`]). The key that a
-//! token confirms, as a set of one ([`Claims::cnf_set`]), serves as the keys of a context for the messages that the token's
-//! presenter authenticates.
+//! [`Claims::auds`] gives the text strings of the audience ([`Auds`]), [`Claims::cnf`] the confirmation ([`Cnf`]). The
+//! confirmation key as a set of one ([`Claims::cnf_set`]) can be the keys of a context for the messages that the
+//! token's presenter authenticates.
 #![tactic(auto)]
 
 mod claims;

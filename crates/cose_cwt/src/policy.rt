@@ -1,4 +1,4 @@
-//! What a token has to meet to be admitted (RFC 8392 sections 3.1.3 to 3.1.5).
+//! The admission of claims under a policy (RFC 8392 sections 3.1.3 to 3.1.5).
 
 ghost use Rattle.std.specs.Prelude.{◌≡◌, List, Option, Some, map, option_map};
 ghost use Rattle.std.specs.List.{list_any};
@@ -12,27 +12,27 @@ use crate::claims::audience::Auds;
 use crate::claims::{Claims, labels};
 use cose_map::{Reason, Refusal, refused};
 
-/// For whom a token has to be.
+/// The audience that a token must have.
 #[derive(Clone, Copy, Debug)]
 pub enum Audience<'p> {
-    /// For one of those that these texts stand for, where the token names an audience.
+    /// Where the token names an audience, one of its text strings must be one of these.
     Mine(&'p [&'p str]),
-    /// For anyone: the caller looks at the audience.
+    /// Any audience: the caller checks it.
     LeftToCaller,
 }
 
-/// What a token has to meet to be admitted.
+/// The conditions under which claims are admitted.
 #[derive(Clone, Copy, Debug)]
 pub struct Policy<'p> {
-    /// The moment, in seconds since 1970. Where it comes from is the caller's: nothing here reads a clock.
+    /// The current time, in seconds since 1970. The caller chooses its source: nothing here reads a clock.
     pub now: i64,
-    /// By how many seconds the clocks of issuer and caller may differ.
+    /// The number of seconds by which the clocks of issuer and caller may differ.
     pub leeway: u32,
-    /// For whom the token has to be.
+    /// The audience that the token must have.
     pub audience: Audience<'p>,
 }
 
-/// Whether a text is one of mine.
+/// Whether a text string is one of the policy's.
 fn is_mine(text: &str, mine: &[&str]) -> bool
     ensures { result ≡ spec.is_one_of (map text_value mine.now) text.now }
 {
@@ -44,7 +44,7 @@ fn is_mine(text: &str, mine: &[&str]) -> bool
     false
 }
 
-/// Whether one of the texts is one of mine.
+/// Whether one of the text strings is one of the policy's.
 fn names_one(texts: Auds<'_>, mine: &[&str]) -> bool
     ensures { result ≡ spec.names_one (map text_value mine.now) (texts_left texts.entry) }
 {
@@ -57,21 +57,21 @@ fn names_one(texts: Auds<'_>, mine: &[&str]) -> bool
 }
 
 impl Policy<'_> {
-    /// Whether the moment is this one or after it, with the leeway.
+    /// Whether the current time is `exp` plus the leeway, or later.
     fn has_expired(&self, exp: i128) -> bool
         ensures { result ≡ spec.has_expired (policy_value self.entry.now) exp }
     {
         i128::from(self.now) - i128::from(self.leeway) >= exp
     }
 
-    /// Whether the moment is before this one, with the leeway.
+    /// Whether the current time plus the leeway is before `nbf`.
     fn is_early(&self, nbf: i128) -> bool
         ensures { result ≡ spec.is_early (policy_value self.entry.now) nbf }
     {
         i128::from(self.now) + i128::from(self.leeway) < nbf
     }
 
-    /// Whether texts name an audience of which the caller is none.
+    /// Whether the policy has a list of text strings, and none of those of the audience is in it.
     fn is_for_others(&self, texts: Auds<'_>) -> bool
         ensures { result ≡ spec.is_for_others (policy_value self.entry.now) (texts_left texts.entry) }
     {
@@ -121,11 +121,12 @@ impl Claims<'_> {
         }
     }
 
-    /// Whether the claims meet a policy. A claim that is absent does.
+    /// Checks whether a policy admits the claims. A rule for a claim that is absent isn't checked.
     ///
-    /// The refusal is [`Reason::Expired`] where exp and the leeway aren't after now; then [`Reason::NotYet`] where nbf is after
-    /// now and the leeway; then [`Reason::WrongAudience`] where the policy names texts, the token names an audience and has
-    /// none of them. Each stands at the claim's value. The sums are over whole numbers.
+    /// The refusal is [`Reason::Expired`] where exp plus the leeway isn't after now; then [`Reason::NotYet`] where nbf
+    /// is after now plus the leeway; then [`Reason::WrongAudience`] where the policy's audience is [`Audience::Mine`],
+    /// and the token names an audience and has none of its text strings. The place of each is the claim's value. The
+    /// sums don't overflow.
     #[tactic(auto, unfolding(crate::specs::Admission::admitted))]
     pub fn admit(&self, policy: &Policy<'_>) -> Result<(), Refusal>
         ensures { result ≡ spec.admitted (policy_value policy.entry.now) (claims_value self.now) }

@@ -22,18 +22,18 @@ use cose_map::{Keys, Refusal};
 use cose_msg::laws::settled_stays;
 use cose_msg::{EcVerifier, Intake, Stop, Store, Verdict, Verifier, verify};
 
-/// Why a token has no claims for the caller.
+/// Why [`verify_cwt`] returns no claims.
 #[derive(Clone, Copy, Debug, PartialEq, Eq)]
 pub enum CwtStop {
-    /// The verifier stopped before it came to a verdict.
+    /// The verifier stopped before a verdict.
     Stopped(Stop),
-    /// The message is refused. The place counts from its first byte.
+    /// The message is refused. The place is relative to its first byte.
     Message(Refusal),
-    /// The message is authentic, and its claims are refused. The place counts from the payload's first byte.
+    /// The message is authentic, and its claims are refused. The place is relative to the payload's first byte.
     Claims(Refusal),
 }
 
-/// The claims of a payload, where they are admitted.
+/// The claims of a payload, if they are admitted.
 fn admitted_claims<'a>(
     payload: &'a [u8],
     depth: usize,
@@ -47,7 +47,7 @@ fn admitted_claims<'a>(
     Ok(claims)
 }
 
-/// What a token comes to, by the verdict on the message and its payload.
+/// The result for a token, by the verdict on the message and its payload.
 fn claims_after<'a>(
     verdict: Result<Verdict, Stop>,
     payload: &'a [u8],
@@ -66,13 +66,15 @@ fn claims_after<'a>(
     }
 }
 
-/// Verifies one token, and gives its claims where the message is authentic and the claims are admitted.
+/// Verifies one token, and returns its claims where the message is authentic and the claims are admitted.
 ///
-/// The payload goes into the store, which is made as new first, and which the claims borrow: they are read once the message is
-/// known to be authentic, so no claim of another message is ever handed out. After a refusal or a stop the store may hold the
-/// payload of the refused message, or a part of it: [`Store::clear`] drops it.
+/// The call resets the store, and the payload goes into it. The claims borrow the store, and are read only after the
+/// message is known to be authentic, so no claim of another message is ever returned. After a refusal or a stop the
+/// store may hold the payload of the refused message, or a part of it: [`Store::clear`] drops it.
 ///
-/// The verifier isn't inspecting and has taken nothing yet, and its context allows the CWT tag and no payload that the store can't
+/// The verifier must not be inspecting, and must have taken nothing yet. Its context must allow the CWT tag, and no
+/// payload that the store can't hold. After a verdict or a stop the verifier answers as after [`verify`], until
+/// `reset`.
 /// hold. After a verdict or a stop the verifier answers as after [`verify`], until `reset`.
 pub fn verify_cwt<
     'a,
@@ -100,34 +102,36 @@ pub fn verify_cwt<
     requires none_taken { bytes_taken verifier.old ≡ 0 }
     requires cwt { (setting_in verifier.old).cwt ≡ true }
     requires payload_limit { (setting_in verifier.old).payload_limit ≤ L }
-    // What was taken, what the verifier tells of it, the verdict that is kept, the payload that the store got, and what the token
-    // comes to by these.
+    // The bytes that were taken, what the verifier's getters give of them, the verdict that is kept, the payload that
+    // the store holds, and the result for the token by these.
     ensures run { (setting : Setting) → HasTaken (to_verify setting) [] [] verifier.old →
         IsRun setting (E.decides ec.now) (policy_value policy.entry.now) (I.to_come intake.old) (I.to_come intake.new) (I.ended intake.new) verifier.new (claims_seen result) }
-    // Where the intake tells its bytes, it is what all of them come to.
+    // Where the intake's bytes are known to the contract, the result is that of all of them.
     ensures token { (setting : Setting) (bytes : List ℕ) → HasTaken (to_verify setting) [] [] verifier.old → I.to_come intake.old ≡ Some bytes →
         UnlessStopped (claims_seen result) (IsToken H D setting (E.decides ec.now) (policy_value policy.entry.now) bytes (claims_seen result)) }
-    // A kept verdict or stop is answered again.
+    // A verdict or stop that was kept is answered again.
     ensures again { (answer : Result Verdict Stop) → kept_answer verifier.old ≡ Some answer →
         (claims_seen result ≡ token_of D (policy_value policy.entry.now) answer []) × (verifier.new ≡ verifier.old) × (intake.new ≡ intake.old) }
     ensures stopped { (claims_seen result ≡ Err (CwtStop.Stopped Stop.Again)) ↔ (is_stopped verifier.old ≡ true) }
     ensures inspects { is_inspecting verifier.new ≡ false }
     ensures context { (setting : Setting) → HasTaken (to_verify setting) [] [] verifier.old → setting_in verifier.new ≡ setting }
 
-    // A place of the claims is within the store's length, whatever the verifier. In a run it is in the payload, or at its end.
+    // The place of a refusal of the claims is within the store's length, for any verifier. In a run it is in the
+    // payload, or at its end.
     ensures within { (refusal : Refusal) → claims_seen result ≡ Err (CwtStop.Claims refusal) → refusal.place ≤ L }
 
-    // It stops only for a failure of the intake in this call, and never for the store.
+    // The intake has failed exactly where it had failed before, or where this call stops for it. The call never stops
+    // for the store.
     ensures intake_failure { I.has_failed intake.new ≡ (I.has_failed intake.old || is_for_intake (stop_in (claims_seen result))) }
     ensures store_suffices { is_for_store (stop_in (claims_seen result)) ≡ false }
-    // A kept answer is no failure of the intake.
+    // Where an answer was kept, the call doesn't stop for the intake.
     ensures again_unfailed { (answer : Result Verdict Stop) → kept_answer verifier.old ≡ Some answer →
         is_for_intake (stop_in (claims_seen result)) ≡ false }
 {
-    // That a verdict stays when bytes follow, and where claims are refused.
+    // Laws that the proof cites: a verdict is the same when bytes follow, and the places of refusals of claims.
     settled_stays();
     claims_refusals_stand_inside();
-    // What this says of a verifier that has taken nothing is what the proof needs.
+    // The proof cites what this ensures of a verifier that has taken nothing.
     let _none = verifier.taken();
     store.clear();
     let verdict = verify::<C, H, D, K, I, Store<L>, E>(verifier, intake, store, ec);

@@ -1,4 +1,5 @@
--- Bare heads: their answers stay, and they are read exactly where they are spelled.
+-- Heads outside an item: their answers are the same when bytes follow, and they are read exactly where bytes spell
+-- them.
 use Rattle.std.proofs.Common.{◌≡◌, ℕ, suc, ◌+◌, ◌-◌, ◌<◌, ◌≤◌, Bool, true, false, List, [], ◌∷◌, ◌++◌, length, take, drop, Option, Some, None, if◌then◌else◌, refl, sym, ap, ◌∙◌, arith, ⊎_elim}
 use Rattle.std.proofs.lemmas.Bool.{cond_both, ltb-false, lt-ltb, le-ltb, cases_lt}
 use Rattle.std.proofs.lemmas.List.{length-append, take-append-le, take-append-drop}
@@ -15,7 +16,7 @@ use Rattle.cose_head.specs.Laws.{SpellsHead}
 use Rattle.cose_head.proofs.HeadCases.{low_cases}
 use Rattle.cose_head.proofs.Sound.{head_part}
 
--- what isn't More stays
+-- an answer other than More is the same when bytes follow
 pub checked_whole : (h : Head) → IsWhole (simple_checked h)
 checked_whole h = cond_both (is_bad_simple h) (Fault BadSimple) (Got h h.width) IsWhole (λ e. tt) (λ e. tt)
 
@@ -41,7 +42,7 @@ unfolding bare_head
 bare_stays [] more s = absurd s
 bare_stays (initial ∷ rest) more s = past_stays (low_fault (major_of initial) (low_of initial)) (argument_length (low_of initial)) initial rest more s
 
--- fewer bytes than More says don't complete it
+-- with fewer bytes than More says the head is incomplete
 past_wants : (fault : Option Reason) (wanted initial : ℕ) (rest more : List ℕ) (missing : ℕ) →
     after_initial fault wanted initial rest ≡ More missing → length more < missing →
     IsMore (after_initial fault wanted initial (rest ++ more))
@@ -66,7 +67,7 @@ bare_wants [] (b ∷ more) missing e short = let m : 1 ≡ missing = cc in absur
 bare_wants (initial ∷ rest) more missing e short = past_wants (low_fault (major_of initial) (low_of initial))
     (argument_length (low_of initial)) initial rest more missing e short
 
--- a head that is there is spelled
+-- a head that is read is spelled
 checked_sound : (bytes : List ℕ) (initial : ℕ) (rest : List ℕ) (h : Head) →
     h ≡ head_of initial (take (argument_length (low_of initial)) rest) → bytes ≡ initial ∷ rest → low_of initial < 28 →
     argument_length (low_of initial) ≤ length rest → IfGot (simple_checked h) (SpellsHead bytes)
@@ -110,7 +111,7 @@ bare_got (initial ∷ rest) =
 pub bare_sound : (bytes : List ℕ) (h : Head) (used : ℕ) → bare_head bytes ≡ Got h used → SpellsHead bytes h used
 bare_sound bytes h used e = rw e at (bare_got bytes)
 
--- a head that is spelled is there
+-- a head that is spelled is read
 bare_spelled : (initial : ℕ) (argument rest : List ℕ) → low_of initial < 28 → length argument ≡ argument_length (low_of initial) →
     is_bad_simple (head_of initial argument) ≡ false →
     bare_head (initial ∷ (argument ++ rest)) ≡ Got (head_of initial argument) (1 + length argument)
@@ -140,7 +141,7 @@ bare_complete bytes h used s =
     let g : is_bad_simple (record { major = h.major; arg = h.arg; width = length s.part }) ≡ false = rw s.wide s.good in
     ap bare_head s.whole ∙ head_complete s.part s.rest h.major h.arg s.is_head g ∙ rw (s.wide, s.ends) refl
 
--- a head of a longer list that ends in this one is one of it
+-- a head that a longer list begins with and that ends within this list is one that this list begins with
 ends_here : (bytes more : List ℕ) (h : Head) (used : ℕ) → SpellsHead (bytes ++ more) h used → used ≤ length bytes → bare_head bytes ≡ Got h used
 ends_here bytes more h used s short =
     let w = s.wide in

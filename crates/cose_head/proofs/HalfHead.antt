@@ -1,4 +1,4 @@
--- Heads whose bytes come one by one.
+-- Heads that are read a byte at a time.
 use Rattle.std.proofs.Common.{◌≡◌, ℕ, ◌+◌, ◌-◌, ◌<◌, ◌≤◌, ⊎_elim, true, false, List, [], ◌∷◌, ◌++◌, length, take, drop, Option, Some, None, Err, refl, sym, ap, ◌∙◌, arith, append_assoc, append-nil, one-add}
 use Rattle.std.proofs.lemmas.Bool.{cases_lt, lt-ltb, le-ltb, ltb-true, cond_both}
 use Rattle.std.proofs.lemmas.Bool.Decides.{nat_tests}
@@ -69,7 +69,7 @@ short_half bytes half = go (bare_head bytes) refl half
     go (Got h used) e s = absurd s
     go (Fault reason) e s = absurd s
 
--- the length of a head that is there
+-- the length of a head that is complete
 pub head_fits : (bytes : List ℕ) (h : Head) (used : ℕ) → bare_head bytes ≡ Got h used → (0 < used) × (used ≤ 9) × (used ≤ length bytes)
 head_fits bytes h used e =
     let s = bare_sound bytes h used e in
@@ -81,13 +81,13 @@ head_fits bytes h used e =
     let width = s.wide in
     (omega arith, omega arith, omega arith)
 
--- all bytes are seen where the room holds them
+-- the head is that of all bytes where the room holds them
 seen : (first : List ℕ) (room place : ℕ) (step : HeadStep) → bare_head first ≡ step → length first ≤ room
     → head (left_of first room place) ≡ of_seen (left_of first room place) step
 seen first room place step e fits = head_as_seen first room place
     ∙ ap (of_seen (left_of first room place)) (ap bare_head (take_all room first fits) ∙ e)
 
--- and a refusal at the head's place stays
+-- and a refusal at the head's place is the same when bytes follow
 stays : (first : List ℕ) (room place : ℕ) (reason : Reason) → (reason ≡ Truncated → ⊥)
     → head (left_of first room place) ≡ refuse reason place
     → (bytes : List ℕ) → head (left_of (first ++ bytes) room place) ≡ refuse reason place
@@ -95,7 +95,7 @@ stays first room place reason final e bytes =
     let settled : IsSettled (head (left_of first room place)) = rw e final in
     head_same bytes (left_of first room place) settled ∙ ap (more_after bytes) e
 
--- the head is whole
+-- the head is complete
 pub head-got : (first : List ℕ) (room : ℕ) (h : Head) (used : ℕ) → bare_head first ≡ Got h used → used ≡ length first
     → length first ≤ room
     → (length first ≡ h.width) × ((place : ℕ) → IsHeadAt first room place h)
@@ -110,7 +110,7 @@ head-got first room h used e all fits =
           head_same bytes l settled ∙ ap (more_after bytes) here ∙ rw past refl,
     )
 
--- bytes are missing, and the room holds them
+-- bytes are missing, and the room has space for them
 pub head-more : (first : List ℕ) (room n : ℕ) → bare_head first ≡ More n → length first + n ≤ room
     → (place : ℕ) → head (left_of first room place) ≡ refuse Truncated (place + length first)
 head-more first room n e fits place =
@@ -118,7 +118,7 @@ head-more first room n e fits place =
     let roomy : nat_lt (room - length first) n ≡ false = le-ltb _ _ (omega arith) in
     seen first room place (More n) e (omega arith) ∙ rw (all, roomy) refl
 
--- or it doesn't hold them
+-- or the room doesn't have space for them
 pub head-past_room : (first : List ℕ) (room n : ℕ) → bare_head first ≡ More n → length first ≤ room
     → room - length first < n
     → (place : ℕ) (bytes : List ℕ) → head (left_of (first ++ bytes) room place) ≡ refuse PastRoom place

@@ -1,4 +1,4 @@
--- The cases of a head: refused at its place, cut short, or there.
+-- The cases of a head: refused at its place, cut short, or complete.
 use Rattle.std.proofs.Common.{◌≡◌, ℕ, ◌-◌, ◌<◌, ◌≤◌, false, List, [], ◌∷◌, length, take, Option, Some, None, Ok, if◌then◌else◌, refl, arith}
 use Rattle.std.proofs.lemmas.Bool.{cond_both, ltb-true, ltb-false, eqb-false}
 use Rattle.std.specs.Prelude.{nat_lt, ◌==◌, ◌||◌}
@@ -15,7 +15,7 @@ low_cases major low P definite reserved indefinite =
     (λ e. definite (ltb-true low 28 e))
     (λ e. cond_both (nat_lt low 31 || (nat_lt major 2 || major == 6)) (Some Reserved) (Some Indefinite) P (λ f. reserved) (λ f. indefinite))
 
--- a head that is there whole
+-- a head that is complete
 pub record HasHead (bytes : List ℕ) (room : ℕ) (h : Head) : Type 0 where
   pub initial : ℕ
   pub rest : List ℕ

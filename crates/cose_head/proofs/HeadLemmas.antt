@@ -1,4 +1,4 @@
--- What arguments and heads are.
+-- Arguments and heads.
 use Rattle.std.proofs.Common.{◌≡◌, ℕ, false, List, [], ◌∷◌, length, get_or, sym, ap, ◌∙◌, arith, rules}
 use Rattle.std.proofs.lemmas.Slice.Eq.{text_from_reads}
 use Rattle.std.proofs.lemmas.Bool.Decides.{nat_tests}

@@ -1,4 +1,4 @@
--- The head of an item is the bare head of the bytes that are in the room.
+-- The head of an item is what `bare_head` gives of the bytes that are in the room.
 use Rattle.std.proofs.Common.{◌≡◌, ℕ, zero, suc, ◌+◌, ◌-◌, ◌<◌, ◌≤◌, true, false, List, [], ◌∷◌, ⊎_elim, length, take, min, Option, Some, None, Ok, if◌then◌else◌, refl, sym, ap, ◌∙◌, arith, length-take}
 use Rattle.std.proofs.lemmas.List.{take-take, take_min}
 use Rattle.std.proofs.lemmas.Bool.{cases_lt, lt-ltb, le-ltb}
@@ -13,7 +13,7 @@ use Rattle.cose_head.specs.Head.{bare_head, after_initial, simple_checked, head_
 use Rattle.cose_head.specs.Reading.{Left, Outcome, after, refuse, truncated, checked, past_initial, head}
 use Rattle.cose_head.specs.Measured.{left_of}
 
--- the outcome that a bare head of the bytes in the room stands for
+-- the outcome for the bare head of the bytes in the room
 abbrev pub of_seen : Left → HeadStep → Outcome Head
 of_seen l (Got h used) = Ok (h, after h.width l)
 of_seen l (More wanted) = if nat_lt (l.room - length (take l.room l.bytes)) wanted then refuse PastRoom l.place else truncated l
@@ -75,14 +75,14 @@ head_as_seen (initial ∷ rest) (suc room) place =
     let a : suc room == 0 ≡ false = grind (arith, nat_tests) in
     rw a (past_as_seen (low_fault (major_of initial) (low_of initial)) (argument_length (low_of initial)) initial rest room place)
 
--- the same, where the bytes that are seen are as many as the room and the bytes allow
+-- the same, where the number of these bytes is the lesser of the room and the length
 head_is_seen : (bytes : List ℕ) (room place seen : ℕ) (step : HeadStep) → seen ≡ min room (length bytes) → step ≡ bare_head (take seen bytes) →
     of_seen (left_of bytes room place) step ≡ head (left_of bytes room place)
 head_is_seen bytes room place seen step e s =
     let t : take seen bytes ≡ take room bytes = ap (λ n. take n bytes) e ∙ take_min room bytes in
     ap (of_seen (left_of bytes room place)) (s ∙ ap bare_head t) ∙ sym (head_as_seen bytes room place)
 
--- and for each step that is seen
+-- and for each step
 pub head_got : (bytes : List ℕ) (room place seen : ℕ) (h : Head) (used : ℕ) → seen ≡ min room (length bytes) →
     Got h used ≡ bare_head (take seen bytes) →
     Ok (h, after h.width (left_of bytes room place)) ≡ head (left_of bytes room place)

@@ -1,4 +1,4 @@
--- Children lie in the bytes of their item, whatever these are.
+-- Children are within the bytes of their item, also where these are not an item.
 use Rattle.std.proofs.Common.{◌≡◌, ℕ, zero, suc, ◌+◌, ◌≤◌, true, List, [], length, drop, Result, Ok, Err, IfOk, refl, ap, arith}
 use Rattle.std.specs.List.{AllByRecursion}
 use Rattle.std.proofs.lemmas.Bool.{cond_both}
@@ -17,7 +17,7 @@ use Rattle.cose_head.specs.PlacedLaws.{end_of, EndsBy}
 use Rattle.cose_head.proofs.BareHeads.{bare_sound}
 use Rattle.cose_head.proofs.Steps.{read_steps}
 
--- an item at the front of the bytes is no longer than they
+-- an item that the bytes begin with is no longer than they are
 found_inside : (bytes : List ℕ) (found : Outcome Item) → Steps 1 (left_of bytes (length bytes) 0) found →
     IfOk (span_of found) (λ span. span.length ≤ length bytes)
 found_inside bytes (Ok found) s =
@@ -44,7 +44,7 @@ unfolding items_from
 items_inside end zero p inside = tt
 items_inside end (suc n) p inside = first_inside end (items_from n) (items_inside end n) p inside (span_at p.bytes) (span_inside p.bytes)
 
--- a head with children is there
+-- a head with children is complete
 head_inside : (bytes : List ℕ) (step : HeadStep) → bare_head bytes ≡ step → has_children (head_or_undefined step) ≡ true →
     (head_or_undefined step).width ≤ length bytes
 head_inside bytes (Got h used) e some =

@@ -67,7 +67,7 @@ module _ (depth : ℕ) (bytes : List ℕ) (room place : ℕ) (h : Head) (width :
       (ap deeper (ap f (sym past) ∙ i ∙ ap (λ l. nesting_all (read_all (read (depth - 1)) count l)) past)
       ∙ sym (item_parent depth count (left_of bytes room place) h found (sym s) (sym p) (sym (rw w at c))))
 
--- the loop over the items: after one more, and at its end
+-- the loop over the items: after one more item, and after the last
 pub items_next : (depth : ℕ) (bytes : List ℕ) (room place most index count length nested n more : ℕ) (all : Outcome ℕ) → index < count →
     more ≡ max most nested →
     Ok (nested, after n (cut length bytes room place)) ≡ nesting (read depth (cut length bytes room place)) →

@@ -60,12 +60,12 @@ string_whole place h l fits there =
     let b : nat_lt (length l.bytes) h.arg ≡ false = le-ltb _ _ there in
     rw (a, b, flat_string h (take h.arg l.bytes)) refl
 
--- one nesting more
+-- the nesting is greater by one
 abbrev pub deeper : Outcome ℕ → Outcome ℕ
 deeper (Ok found) = Ok (1 + found.0, found.1)
 deeper (Err refusal) = Err refusal
 
--- the deepest of so many and of those found
+-- the deeper of a number and of the items found
 abbrev pub raised : ℕ → Outcome ℕ → Outcome ℕ
 raised depth (Ok found) = Ok (max depth found.0, found.1)
 raised depth (Err refusal) = Err refusal
@@ -187,7 +187,7 @@ raised-zero : (found : Outcome ℕ) → raised 0 found ≡ found
 raised-zero (Ok found) = let e : max 0 found.0 ≡ found.0 = omega arith in rw e refl
 raised-zero (Err refusal) = refl
 
--- what the items that are left give, with the deepest and the length so far
+-- the result for the items that are left, with the nesting and the length so far
 abbrev pub onward : Reader Item → ℕ → ℕ → ℕ → Left → Outcome ℕ
 onward one most count length l = raised most (nesting_all (read_all one count (after length l)))
 

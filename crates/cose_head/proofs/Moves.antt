@@ -1,4 +1,4 @@
--- The same bytes are read as the same at another place, each place so much greater.
+-- At another place the same bytes are read as the same, each place greater by the difference.
 use Rattle.std.proofs.Common.{◌≡◌, ℕ, zero, suc, ◌+◌, ◌-◌, Bool, true, false, List, [], ◌∷◌, length, take, Option, Some, None, Ok, Err, if◌then◌else◌, refl, ap, add_assoc}
 use Rattle.std.specs.Prelude.{nat_lt, ◌==◌, ⊤}
 use Rattle.cose_head.specs.declared.head.Head.{Head}

@@ -1,4 +1,4 @@
--- What items say of the trees that their bytes spell.
+-- Laws of items and the trees that their bytes spell.
 use Rattle.std.proofs.Common.{◌≡◌, ℕ, suc, ◌+◌, ◌-◌, ◌*◌, ◌<◌, ◌≤◌, ◌⊎◌, inl, inr, Bool, true, false, List, [], ◌∷◌, ◌++◌, length, take, drop, Option, Some, None, Ok, if◌then◌else◌, refl, sym, ap, subst, ◌∙◌, arith, append-nil, one-add}
 use Rattle.std.proofs.lemmas.List.{take_all}
 use Rattle.std.proofs.Math.Seq.{take-append_seam, drop-append_seam}
@@ -205,7 +205,7 @@ tag_of_head tree p s six =
     let major : (head_of_item p).major ≡ h.major = ap (λ g. g.major) (head_found p h.head h.rest h.major h.argument h.whole h.is_head h.good) in
     sym h.encloses ∙ ap (λ m. m == 6) (sym major ∙ six)
 
--- what is found in a tag is behind its head
+-- what is found in a tag is after its head
 abbrev behind : Placed → Option (ℕ × Placed)
 behind p = Some ((head_of_item p).arg, past_head (head_of_item p) p)
 

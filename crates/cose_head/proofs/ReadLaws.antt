@@ -48,7 +48,7 @@ truncated_has_room depth l refusal e short =
     let s : IsRefusal l refusal = rw e at (read_steps depth l) in
     s.ended short
 
--- an item at the front of a list, in all of it
+-- an item that a list begins with, in all of the list
 pub whole_list : (part rest : List ℕ) (content : Item) → Spells part content →
     IsSpelled (depth_of content) (left_of (part ++ rest) (length (part ++ rest)) 0) content (left_of rest (length rest) (length part))
 whole_list part rest content s =

@@ -17,7 +17,7 @@ two_cells a b = omega arith
 four_cells : (a b c d : ℕ) → from_be_bytes w32 (a ∷ b ∷ c ∷ d ∷ []) ≡ big_endian (a ∷ b ∷ c ∷ d ∷ [])
 four_cells a b c d = omega arith
 
--- a head with so many argument bytes, announced by 24 to 27
+-- a head with argument bytes, announced by 24 to 27
 wide_head : (major low n : ℕ) (bytes : List ℕ) → major < 8 → low < 28 → length bytes ≡ argument_length low → argument_of low bytes ≡ n →
     IsHead ((32 * major + low) ∷ bytes) major n
 wide_head major low n bytes small definite wide spelled =

@@ -33,7 +33,7 @@ short_length major n most one two three five nine =
     (λ g. cond_both (nat_lt n (2 ^ 32)) ((32 * major + 26) ∷ to_be_bytes w32 n) ((32 * major + 27) ∷ to_be_bytes w64 n) P
     (λ k. five (ltb-false n (2 ^ 16) g)) (λ k. nine (ltb-false n (2 ^ 32) k)))))
 
--- so many bytes spell no greater number
+-- as many bytes spell no greater number
 one_small : (bytes : List ℕ) → AreBytes bytes → length bytes ≡ 1 → big_endian bytes < 2 ^ 8
 one_small [] are n = absurd (omega arith)
 one_small (a ∷ []) are n = let x : a < 256 = are 0 in omega arith

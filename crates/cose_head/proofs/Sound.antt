@@ -43,7 +43,7 @@ on_between l middle rest P Q R join p q =
       is_part = join p.part q.part p.is_part q.is_part;
     }
 
--- some bytes that are there and in the room
+-- bytes that are among those to read and in the room
 taken : (l : Left) (n : ℕ) (P : List ℕ → Type 0) → n ≤ l.room → n ≤ length l.bytes → P (take n l.bytes) → Between l (after n l) P
 taken l n P fits there p =
     let t = length-take-le n l.bytes there in

@@ -1,4 +1,4 @@
--- An answer that isn't Truncated stays when bytes follow.
+-- An answer other than Truncated is the same when bytes follow.
 use Rattle.std.proofs.Common.{◌≡◌, ℕ, zero, suc, ◌-◌, ◌≤◌, Bool, true, false, List, [], ◌∷◌, ◌++◌, length, take, Option, Some, None, Ok, Err, if◌then◌else◌, refl, ap, arith}
 use Rattle.std.proofs.lemmas.Bool.{ltb-false, le-ltb}
 use Rattle.std.proofs.lemmas.List.{length-append, take-append-le, drop-append-le, length-take}
@@ -12,7 +12,7 @@ use Rattle.cose_head.specs.Reading.{Left, Outcome, Reader, ◌>>=◌, after, ref
 use Rattle.cose_head.specs.Measured.{left_of}
 use Rattle.cose_head.specs.Laws.{more, more_after, IsSettled}
 
--- a reader whose answers stay
+-- a reader whose answers are the same when bytes follow
 abbrev pub Stays : {A : Type 0} → Reader A → Type 0
 Stays one = (bytes : List ℕ) (l : Left) → IsSettled (one l) → one (more bytes l) ≡ more_after bytes (one l)
 

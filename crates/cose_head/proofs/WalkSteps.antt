@@ -1,4 +1,4 @@
--- What is left after a byte, one lemma for each way in which a byte leads on.
+-- The rest of the reading after a byte, one lemma for each case of a byte.
 use Rattle.std.proofs.Common.{◌≡◌, ℕ, zero, suc, ◌+◌, ◌-◌, ◌<◌, ◌≤◌, List, [], ◌∷◌, ◌++◌, length, Err, refl, sym, ap, ◌∙◌, arith, append_assoc, append-nil}
 use Rattle.std.proofs.lemmas.Bool.{lt-ltb, le-ltb}
 use Rattle.std.proofs.lemmas.Bool.Decides.{nat_tests}
@@ -26,14 +26,14 @@ pub head-no_bytes : (room place : ℕ) → (room ≡ 0 → ⊥)
 unfolding head
 head-no_bytes room place some = let e : (room == 0) ≡ false = grind (arith, nat_tests) in rw e refl
 
--- a refused head refuses all
+-- a refused head refuses the items around it
 pub refused_head : (depth inner : ℕ) (counts : List ℕ) (l : Left) (refusal : Refusal) → head l ≡ Err refusal
     → (finish depth counts (walk inner l)).end ≡ Err refusal
 refused_head depth inner counts l refusal e =
     ap (λ child. (finish depth counts child).end) (walk-refused inner l refusal e)
     ∙ finish-refused depth counts refusal nothing_open
 
--- an item of which no byte is there
+-- an item of which no byte was read
 pub go_on-begins : (depth : ℕ) (counts half : List ℕ) (string : ℕ) (l : Left) → string ≡ 0 → length half ≡ 0
     → go_on depth counts half string l ≡ finish depth counts (walk (depth - length counts) l)
 go_on-begins depth counts [] string l none no_half = rw none refl
@@ -80,7 +80,7 @@ waits-content depth counts half n room place some no_half =
     ∙ refused_child depth counts (walk_content n l) _ (content_short n room place some)
     ∙ ap (λ n. refused Truncated (place + n)) (sym no_half)
 
--- a head that is whole, by what follows it
+-- a head that is complete, by what follows it
 pub head-leaf : (depth : ℕ) (counts first : List ℕ) (room place : ℕ) (h : Head) → IsHeadAt first room place h
     → is_string h ≡ false → is_parent h ≡ false
     → (bytes : List ℕ) → go_on depth counts first 0 (left_of bytes room place)

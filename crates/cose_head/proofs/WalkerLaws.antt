@@ -1,4 +1,4 @@
--- What holds of a walker, by the bytes that it was put.
+-- Laws of a walker, by the bytes that it was put.
 use Rattle.std.proofs.Common.{◌≡◌, ℕ, ◌-◌, ◌<◌, List, [], length, Ok, subst, ◌∙◌, arith, append-nil}
 use Rattle.cose_head.specs.declared.walker.Walker.{Walker}
 use Rattle.cose_head.specs.declared.walker.Step.TheVariants.{Going, Done}

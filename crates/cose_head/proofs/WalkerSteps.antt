@@ -1,4 +1,4 @@
--- What a walker answers, by what it was put.
+-- The answers of a walker, by the bytes that it was put.
 use Rattle.std.proofs.Common.{◌≡◌, ℕ, ◌+◌, ◌-◌, ◌<◌, List, [], ◌∷◌, ◌++◌, length, Ok, Err, Result, OnOk, refl, sym, ap, ◌∙◌, arith, append_assoc, append-nil}
 use Rattle.std.proofs.lemmas.List.{length-append}
 use Rattle.cose_head.specs.declared.reason.Reason.{Reason}
@@ -17,25 +17,25 @@ use Rattle.cose_head.specs.Walker.{last_step, step_after, open_now, open_while, 
 use Rattle.cose_head.proofs.Walking.{finish-none}
 use Rattle.cose_head.proofs.WalkSteps.{go_on-open, go_on-short}
 
--- what is equal leads the same way
+-- Leads is the same of equal functions
 pub leads_same : {D : ℕ} (before other : List ℕ → Walk) (answer : Result Progress Reason) (w : Walker D)
     → ((bytes : List ℕ) → before bytes ≡ other bytes) → Leads other answer w → Leads before answer w
 leads_same before other (Ok Open) w same leads = (λ bytes. same bytes ∙ leads.0 bytes, leads.1)
 leads_same before other (Ok Whole) w same leads = (leads.0, λ bytes. ap (λ (k : Walk). k.end) (same bytes) ∙ leads.1 bytes)
 leads_same before other (Err reason) w same leads = (leads.0, λ bytes. ap (λ (k : Walk). k.end) (same bytes) ∙ leads.1 bytes)
 
--- what is said of the counts and of what is left stays under other names
+-- a property of the counts and of what is left, with the fields replaced by equal ones
 pub passed : {D : ℕ} (of : List ℕ → Left → Walk) (old new : Walker D) (count : ℕ) → Passes old new count
     → (bytes : List ℕ)
     → of old.counts.items (left_of bytes (old.room - count) (old.place + count)) ≡ of new.counts.items (left_at new bytes)
 passed of old new count p bytes = rw (p.counts, p.room, p.place) refl
 
--- what holds anyway holds where it goes on
+-- what holds in any case holds where the answer is Ok
 pub on_ok : {P : Type 0} (progress : Result Progress Reason) → P → OnOk progress P
 on_ok (Ok progress) p = p
 on_ok (Err reason) p = tt
 
--- reading by where it ends
+-- the result of reading, from where it ends
 pub read_refused : {A : Type 0} (r : Outcome A) (refusal : Refusal) → walk_end r ≡ Err refusal → r ≡ Err refusal
 read_refused (Ok found) refusal e = (let q : Ok found.1 ≡ Err refusal = e in cc)
 read_refused (Err other) refusal e = (let q : Err other ≡ Err refusal = e in let same : other ≡ refusal = cc in ap (λ r. Err r) same)
@@ -48,7 +48,7 @@ end_of_walk : (depth : ℕ) (l : Left) → (walk depth l).end ≡ walk_end (read
 unfolding walk
 end_of_walk depth l = refl
 
--- a walker whose answer alone is another
+-- a walker that differs in the answer alone
 pub record Alike {D : ℕ} (w other : Walker D) : Type 0 where
   pub counts : other.counts ≡ w.counts
   pub half : other.half ≡ w.half
@@ -142,7 +142,7 @@ new_rest depth room counts half no_counts no_half bytes =
     let all : depth ≡ depth - 0 = omega arith in
     rw (no_counts, no_half) (ap (λ d. walk d (left_of bytes room 0)) all ∙ sym (finish-none depth (walk (depth - 0) (left_of bytes room 0))))
 
--- a walker that is going, seen by what it was put
+-- a walker that is Going, by the bytes that it was put
 module _ {D : ℕ} (w : Walker D) (room : ℕ) (put : List ℕ) (has : HasPut room put w) where
   opened_so_far : open_in D (left_of put room 0) ≡ (resume w []).opened
   unfolding walk

@@ -1,4 +1,4 @@
--- What is left of open items.
+-- The rest of open items.
 use Rattle.std.proofs.Common.{◌≡◌, ℕ, suc, ◌+◌, ◌-◌, ◌<◌, List, [], ◌∷◌, ◌++◌, length, Ok, Err, refl, sym, ap, ◌∙◌, arith}
 use Rattle.std.proofs.lemmas.List.{length-append}
 use Rattle.cose_head.specs.declared.refusal.Refusal.{Refusal}
@@ -7,7 +7,7 @@ use Rattle.cose_head.specs.Reading.{Left, Outcome, Reader, read, read_all, ◌>>
 use Rattle.cose_head.specs.Open.{Open, open_child, open_all, open_in}
 use Rattle.cose_head.specs.Walking.{Walk, walk_end, ends, walk, walk_all, past_child, within, finish}
 
--- what is made of a value doesn't change where it ends
+-- a function of the value doesn't change where reading ends
 pub end_of-made : {A B : Type 0} (r : Outcome A) (make : A → B) → walk_end (r >>= λ x. Ok (make x.0, x.1)) ≡ walk_end r
 end_of-made (Ok x) make = refl
 end_of-made (Err refusal) make = refl
@@ -54,7 +54,7 @@ finish-opened depth counts n l =
     ap (finish depth counts) (walk_all-more (inner - 1) n l ∙ sym (finish-one inner n (walk (inner - 1) l)))
     ∙ sym (finish-append depth counts (n ∷ []) (walk (inner - 1) l))
 
--- an item without a child left ends with its last child
+-- an item without a child left ends where its last child ends
 pub finish-last : (depth : ℕ) (counts : List ℕ) (l : Left)
     → finish depth (counts ++ 0 ∷ []) (ends l) ≡ finish depth counts (ends l)
 finish-last depth counts l =
@@ -109,7 +109,7 @@ finish-parent depth counts n l =
     finish-append depth counts (n ∷ []) (ends l)
     ∙ ap (finish depth counts) (finish-one (depth - length counts) n (ends l))
 
--- the open items around a child that isn't whole
+-- the open items around a child that is incomplete
 pub finish-open : (depth : ℕ) (counts : List ℕ) (refusal : Refusal) (opened : Open)
     → (finish depth counts (record { end = Err refusal; opened = opened })).opened ≡ record { items = length counts + opened.items; content = opened.content }
 unfolding finish

@@ -59,7 +59,7 @@ module _ (depth : ℕ) (p : Placed) where
 abbrev trailing_at : ℕ → Result Placed Refusal
 trailing_at place = Err (record { reason = Trailing; place = place })
 
--- what is read whole is the item of a tree, and the other way round
+-- bytes accepted as exactly one item are the item of a tree, and conversely
 found_tree : (p q : Placed) (found : Outcome Item) → nothing_after p found ≡ Ok q → (tree : Item) × (rest : Left) × (found ≡ Ok (tree, rest))
     × (rest.bytes ≡ []) × (q ≡ p)
 found_tree p q (Ok found) e = let s = go (length found.1.bytes == 0) refl e in (found.0, found.1, refl, s.0, s.1)
@@ -84,7 +84,7 @@ whole_is_deeper depth deeper p q deep e =
     let shallow = t.1 in
     item_is_whole deeper p s.0 (spelled_item deeper p s.0 t.0 (omega arith)) ∙ ap {B = Result Placed Refusal} Ok (sym s.2)
 
--- where the refusals stand
+-- the places of the refusals
 found_inside : (p : Placed) (found : Outcome Item) → Steps 1 (here p) found → IfErr (nothing_after p found) (λ refusal. StandsIn p refusal.place)
 found_inside p (Ok found) s = cond_both (length found.1.bytes == 0) (Ok p) (trailing_at found.1.place) (λ answer. IfErr answer (λ refusal. StandsIn p refusal.place))
     (λ none. tt)
@@ -97,7 +97,7 @@ found_inside p (Err refusal) s = (s.from, s.upto)
 pub refused_inside : (depth : ℕ) (p : Placed) → IfErr (whole depth p) (λ refusal. StandsIn p refusal.place)
 refused_inside depth p = found_inside p (read depth (here p)) (read_steps depth (here p))
 
--- wherever the bytes stand
+-- at any place of the bytes
 pub spelled_is_one_item : (bytes : List ℕ) (tree : Item) → Spells bytes tree → depth_of tree ≤ 32 → is_one_item bytes ≡ true
 unfolding is_one_item
 spelled_is_one_item bytes tree s shallow =
@@ -124,7 +124,7 @@ whole_is_one_item depth p q shallow e =
     let deep = t.1 in
     spelled_is_one_item p.bytes s.0 t.0 (omega arith)
 
--- an item has a head, and its bytes are no fewer
+-- an item has a head, and its bytes are at least as many as the head's
 pub one_item_has_head : (bytes : List ℕ) → is_one_item bytes ≡ true → (h : Head) × (bare_head bytes ≡ Got h h.width) × (h.width ≤ length bytes)
 one_item_has_head bytes e =
     let s = one_item_is_spelled bytes e in
@@ -166,7 +166,7 @@ enclosed_is_one_item p h e found six =
     let t = spelled_item 32 p s.0 s.1 s.2 in
     rw found (enclosed_found s.0 p t (tag_of_head s.0 p t (rw found at six)))
 
--- an item that the reader of spans found at the front of the bytes
+-- an item that the reader of spans found, and that the bytes begin with
 pub span_is_one_item : (bytes : List ℕ) (result : Result Span Refusal) (span : Span) → IfOk result (SpansItem bytes) →
     IfOk result (λ found. found.depth ≤ 32) → result_ok result ≡ Some span → is_one_item (take span.length bytes) ≡ true
 span_is_one_item bytes (Ok found) span spelled nested e =

@@ -21,7 +21,7 @@ by_number : map algorithm_numbered (pos 4 ∷ pos 5 ∷ pos 6 ∷ pos 7 ∷ negs
     Some Hmac64 ∷ Some Hmac256 ∷ Some Hmac384 ∷ Some Hmac512 ∷ Some Es256 ∷ []
 by_number = refl
 
--- the numbers next to these, the same with the other sign, EdDSA (-8), and ES384 and ES512 (-35 and -36)
+-- the numbers next to these, the same numbers with the other sign, EdDSA (-8), and ES384 and ES512 (-35 and -36)
 by_no_other_number : map algorithm_numbered (pos 3 ∷ pos 8 ∷ negsuc 5 ∷ negsuc 4 ∷ negsuc 7 ∷ negsuc 34 ∷ negsuc 35 ∷ []) ≡
     None ∷ None ∷ None ∷ None ∷ None ∷ None ∷ None ∷ []
 by_no_other_number = refl

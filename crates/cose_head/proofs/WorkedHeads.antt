@@ -1,4 +1,4 @@
--- Bare heads and shortest heads on examples, by computing.
+-- Heads outside an item and shortest heads on examples, by computing.
 use Rattle.std.proofs.Common.{◌≡◌, ℕ, [], ◌∷◌, map, replicate, refl}
 use Rattle.cose_head.specs.declared.head.Head.{Head}
 use Rattle.cose_head.specs.declared.head.HeadStep.TheVariants.{Got, More, Fault}
@@ -44,17 +44,17 @@ any_width : map bare_head (
 unfolding bare_head
 any_width = refl
 
--- of each width all argument bytes are wanted
+-- all argument bytes of each width are missing
 missing_arguments : map bare_head ((0x18 ∷ []) ∷ (0x19 ∷ []) ∷ (0x1a ∷ []) ∷ (0x1b ∷ []) ∷ []) ≡ More 1 ∷ More 2 ∷ More 4 ∷ More 8 ∷ []
 unfolding bare_head
 missing_arguments = refl
 
--- bytes that follow stay out
+-- bytes that follow are not of the head
 followed : bare_head (0x84 ∷ 0x40 ∷ []) ≡ Got (head 4 4 1) 1
 unfolding bare_head
 followed = refl
 
--- the low bits go before the missing bytes, and the missing bytes before the value
+-- a fault of the low bits has precedence over missing bytes, and missing bytes have precedence over the value
 reserved : bare_head (0x1c ∷ []) ≡ Fault Reserved
 unfolding bare_head
 reserved = refl
@@ -88,7 +88,7 @@ good_simple : bare_head (0xf8 ∷ 0x20 ∷ 0 ∷ []) ≡ Got (head 7 32 2) 2
 unfolding bare_head
 good_simple = refl
 
--- below 32 in two bytes is wrong of a simple value alone, and of it down to 0
+-- below 32 in two bytes is a fault of a simple value alone, down to 0
 below_32_in_two_bytes : map bare_head (
     (0x18 ∷ 31 ∷ []) ∷ (0x38 ∷ 31 ∷ []) ∷ (0x58 ∷ 31 ∷ []) ∷ (0x78 ∷ 31 ∷ []) ∷ (0x98 ∷ 31 ∷ []) ∷ (0xb8 ∷ 31 ∷ []) ∷ (0xd8 ∷ 31 ∷ []) ∷
     (0xf8 ∷ 0 ∷ []) ∷ (0xf9 ∷ 0 ∷ 31 ∷ []) ∷ [])
@@ -101,7 +101,7 @@ half_argument : bare_head (0x1b ∷ 0 ∷ 0 ∷ []) ≡ More 6
 unfolding bare_head
 half_argument = refl
 
--- of a number that is no byte the low eight bits count
+-- of a number that isn't a byte the low eight bits are taken
 no_byte : bare_head (0x141 ∷ []) ≡ Got (head 2 1 1) 1
 unfolding bare_head
 no_byte = refl

@@ -24,7 +24,7 @@ no_room : answer [] 0 0 ≡ fault PastRoom 0
 unfolding answer
 no_room = refl
 
--- no room goes before what the byte is
+-- the lack of room has precedence over what the byte is
 no_room_for_a_number : answer (0 ∷ []) 0 0 ≡ fault PastRoom 0
 unfolding answer
 no_room_for_a_number = refl
@@ -45,7 +45,7 @@ wide_argument : answer (0x18 ∷ 0 ∷ []) 2 0 ≡ whole 2 0
 unfolding answer
 wide_argument = refl
 
--- a text is read whether it is UTF-8 or not, and a label of a map may come twice
+-- a text string is read whether it is UTF-8 or not, and a label of a map may occur twice
 text_of_no_utf8 : answer (0x61 ∷ 0xff ∷ []) 2 0 ≡ whole 2 0
 unfolding answer
 text_of_no_utf8 = refl
@@ -157,7 +157,8 @@ longest_string : answer (0x5b ∷ replicate 8 0xff) 65535 0 ≡ fault PastRoom 0
 unfolding answer
 longest_string = refl
 
--- low bits 30 are reserved in every major type, 31 in majors 0, 1 and 6; and that goes before the room and the missing bytes
+-- low bits 30 are reserved in every major type, 31 in the major types 0, 1 and 6; and that has precedence over the room
+-- and the missing bytes
 reserved_in_strings : answer (0x5e ∷ []) 1 0 ≡ fault Reserved 0
 unfolding answer
 reserved_in_strings = refl
@@ -174,7 +175,8 @@ endless_map : answer (0xbf ∷ []) 1 1 ≡ fault Indefinite 0
 unfolding answer
 endless_map = refl
 
--- the argument bytes: first the room, then that they are there, and only then their value
+-- the argument bytes: first they must fit into the room, then they must not be missing, and only then is their value
+-- checked
 simple_past_room : answer (0xf8 ∷ []) 1 0 ≡ fault PastRoom 0
 unfolding answer
 simple_past_room = refl
@@ -195,7 +197,7 @@ float_of_no_bits : answer (0xf9 ∷ 0 ∷ 0 ∷ []) 3 0 ≡ whole 3 0
 unfolding answer
 float_of_no_bits = refl
 
--- all of the head goes before the nesting: its low bits, the room of its argument bytes, and these
+-- a fault in the head has precedence over the nesting: its low bits, the room of its argument bytes, and these
 array_reserved_and_too_deep : each (λ initial. answer (initial ∷ []) 1 0) (0x9c ∷ 0xbe ∷ 0xdc ∷ []) ≡ replicate 3 (fault Reserved 0)
 unfolding answer
 array_reserved_and_too_deep = refl
@@ -212,7 +214,7 @@ half_head_too_deep : each (λ initial. answer (initial ∷ []) 2 0) (0x98 ∷ 0x
 unfolding answer
 half_head_too_deep = refl
 
--- the nesting goes before the room of the children
+-- the nesting has precedence over the room of the children
 array_too_deep_and_past_room : answer (0x82 ∷ []) 1 0 ≡ fault TooDeep 0
 unfolding answer
 array_too_deep_and_past_room = refl
@@ -263,7 +265,7 @@ tag_five : answer (0xc5 ∷ 0 ∷ []) 2 1 ≡ whole 2 1
 unfolding answer
 tag_five = refl
 
--- the children in their order, each in the room then left and one nesting less
+-- the children in their order, each within the room left and a nesting of one less
 first_fault : answer (0x82 ∷ 0x1c ∷ 0x5f ∷ []) 3 1 ≡ fault Reserved 1
 unfolding answer
 first_fault = refl

@@ -47,7 +47,7 @@ open_tag : answer (0xc1 ∷ []) 2 1 ≡ told 1 0
 unfolding answer
 open_tag = refl
 
--- what is refused where its head stands isn't open
+-- what is refused at its head isn't open
 too_deep : answer (0x81 ∷ 0x81 ∷ []) 3 1 ≡ told 1 0
 unfolding answer
 too_deep = refl

@@ -85,7 +85,7 @@ nil : seen (0xf6 ∷ []) ≡ other
 unfolding seen
 nil = refl
 
--- the simple values next to the truth values
+-- the simple values next to false and true
 simple_19 : seen (0xf3 ∷ []) ≡ other
 unfolding seen
 simple_19 = refl
@@ -103,7 +103,7 @@ bytes_and_more : seen (0x41 ∷ 1 ∷ 2 ∷ []) ≡ byte_content (1 ∷ [])
 unfolding seen
 bytes_and_more = refl
 
--- a width of two bytes is no float, and a float's bits are no truth value
+-- a width of two bytes isn't a float, and a float's bits aren't a Boolean value
 simple_32 : seen (0xf8 ∷ 0x20 ∷ []) ≡ other
 unfolding seen
 simple_32 = refl
@@ -116,7 +116,7 @@ half_head : seen (0x19 ∷ 1 ∷ []) ≡ other
 unfolding seen
 half_head = refl
 
--- a tag's number and what it encloses, behind a head of any width
+-- a tag's number and what it encloses, after a head of any width
 enclosed : inside 3 (0xd8 ∷ 0x20 ∷ 0x61 ∷ 0x61 ∷ []) ≡ Some (32, at 5 (0x61 ∷ 0x61 ∷ []))
 unfolding inside
 enclosed = refl
@@ -141,7 +141,7 @@ not_a_parent : children 0 (0xc1 ∷ 0 ∷ []) ≡ []
 unfolding children
 not_a_parent = refl
 
--- none from where no item is
+-- none from the first that isn't an item
 cut_elements : children 0 (0x83 ∷ 0 ∷ 0x1c ∷ 0 ∷ []) ≡ at 1 (0 ∷ []) ∷ []
 unfolding children
 cut_elements = refl

@@ -10,6 +10,6 @@ of_heads = refl
 of_items : map number_of item_reasons ≡ 1 ∷ 2 ∷ 3 ∷ 4 ∷ 5 ∷ 6 ∷ []
 of_items = refl
 
--- bytes that have to be one item aren't missing, since the room ends where they do; there can be too many
+-- no byte is missing of bytes that should be one item, since the room ends where they do; there can be too many
 of_bytes_that_are_one_item : map number_of whole_reasons ≡ 2 ∷ 3 ∷ 4 ∷ 5 ∷ 6 ∷ 42 ∷ []
 of_bytes_that_are_one_item = refl

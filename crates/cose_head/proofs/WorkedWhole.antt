@@ -30,7 +30,7 @@ trailing : answer 1 (at 9 (0xa1 ∷ 1 ∷ 5 ∷ 0 ∷ 0 ∷ [])) ≡ fault Trail
 unfolding answer
 trailing = refl
 
--- a fault of the item goes before a byte after it
+-- a fault of the item has precedence over a byte after it
 fault_and_more : answer 0 (at 9 (0x1c ∷ 0 ∷ [])) ≡ fault Reserved 9
 unfolding answer
 fault_and_more = refl
@@ -39,7 +39,7 @@ too_deep : answer 1 (at 9 (0x81 ∷ 0x80 ∷ 0 ∷ [])) ≡ fault TooDeep 10
 unfolding answer
 too_deep = refl
 
--- the room is the number of the bytes, so an item that is cut short passes it
+-- the room is the number of the bytes, so an item that is cut short doesn't fit into it
 cut_short : answer 0 (at 9 (0x44 ∷ 1 ∷ [])) ≡ fault PastRoom 9
 unfolding answer
 cut_short = refl

@@ -1,4 +1,4 @@
--- Heads whose bytes come one by one.
+-- Heads that are read a byte at a time.
 use Rattle.std.specs.Prelude.{◌≡◌, ℕ, ◌+◌, ◌-◌, ◌<◌, ◌≤◌, Bool, true, false, List, [], ◌++◌, length, Option, Some, None, Result, Ok, Err}
 use Rattle.cose_head.specs.declared.head.Head.{Head}
 use Rattle.cose_head.specs.declared.head.HeadStep.{HeadStep}
@@ -9,7 +9,7 @@ use Rattle.cose_head.specs.Head.{bare_head}
 use Rattle.cose_head.specs.Reading.{refuse, head}
 use Rattle.cose_head.specs.Measured.{left_of}
 
--- No byte of a head is there, or some and not all.
+-- Whether a head is incomplete: it has no byte yet, or some and not all.
 abbrev pub is_more : HeadStep → Bool
 is_more (Got h used) = false
 is_more (More wanted) = true
@@ -23,7 +23,7 @@ abbrev pub IsHeadAt : List ℕ → ℕ → ℕ → Head → Type 0
 IsHeadAt first room place h = (bytes : List ℕ)
     → head (left_of (first ++ bytes) room place) ≡ Ok (h, left_of bytes (room - h.width) (place + h.width))
 
--- What the first bytes of an item come to, whatever follows them: its head, nothing yet, or a fault.
+-- The result for the first bytes of an item, whatever follows them: its head, nothing yet, or a fault.
 abbrev pub HeadSoFar : List ℕ → ℕ → Result (Option Head) Reason → Type 0
 HeadSoFar first room (Ok (Some h)) = (length first ≡ h.width) × (h.width ≤ room) × ((place : ℕ) → IsHeadAt first room place h)
 HeadSoFar first room (Ok None) = (is_half first ≡ true) × (length first < room)
@@ -31,7 +31,7 @@ HeadSoFar first room (Ok None) = (is_half first ≡ true) × (length first < roo
 HeadSoFar first room (Err reason) = (reason ≡ Truncated → ⊥)
     × ((place : ℕ) (bytes : List ℕ) → head (left_of (first ++ bytes) room place) ≡ refuse reason place)
 
--- The bytes are kept until the head is whole.
+-- The bytes are kept until the head is complete.
 abbrev pub kept_of : Result (Option Head) Reason → List ℕ → List ℕ
 kept_of (Ok None) first = first
 kept_of (Ok (Some h)) first = []

@@ -8,15 +8,15 @@ use Rattle.cose_head.specs.declared.head.HeadStep.{HeadStep}
 use Rattle.cose_head.specs.declared.head.HeadStep.TheVariants.{Got, More, Fault}
 
 -- The high three bits of an initial byte are the major type, the low five are the additional information.
--- Of a number that is no byte its low eight bits count.
+-- Of a number that isn't a byte, the low eight bits are taken.
 abbrev pub major_of : ℕ → ℕ
 major_of initial = initial / 32 % 8
 
 abbrev pub low_of : ℕ → ℕ
 low_of initial = initial % 32
 
--- 28 to 30 are reserved. 31 is an indefinite length of a string, an array or a map, or the break:
--- majors 0, 1 and 6 have none.
+-- 28 to 30 are reserved. 31 is an indefinite length of a string, an array or a map, or the break: the major types 0, 1
+-- and 6 have none.
 abbrev pub low_fault : ℕ → ℕ → Option Reason
 low_fault major low =
     if nat_lt low 28 then None else
@@ -49,19 +49,19 @@ is_bad_simple head = head.major == 7 && (head.width == 2 && nat_lt head.arg 32)
 abbrev pub simple_checked : Head → HeadStep
 simple_checked head = if is_bad_simple head then Fault BadSimple else Got head head.width
 
--- The rest of a head after its initial byte. Where argument bytes are missing, it says how many.
+-- The rest of a head after its initial byte. Where argument bytes are missing, the result has their number.
 abbrev pub after_initial : Option Reason → ℕ → ℕ → List ℕ → HeadStep
 after_initial (Some reason) wanted initial rest = Fault reason
 after_initial None wanted initial rest =
     if nat_lt (length rest) wanted then More (wanted - length rest) else simple_checked (head_of initial (take wanted rest))
 
--- The head at the front of the bytes, of any width that holds its argument, and how many bytes it has.
+-- The head that the bytes begin with, of any width that holds its argument, and its number of bytes.
 unfoldable pub bare_head : List ℕ → HeadStep
 bare_head [] = More 1
 bare_head (initial ∷ rest) =
     after_initial (low_fault (major_of initial) (low_of initial)) (argument_length (low_of initial)) initial rest
 
--- Which step it is.
+-- Whether the step is More, and whether it is another.
 abbrev pub IsMore : HeadStep → Type 0
 IsMore (More wanted) = ⊤
 IsMore _ = ⊥
@@ -70,7 +70,7 @@ abbrev pub IsWhole : HeadStep → Type 0
 IsWhole (More wanted) = ⊥
 IsWhole _ = ⊤
 
--- A fact of the number of bytes that are still wanted, or of the head and its length.
+-- A fact of the number of bytes that are missing, or of the head and its length.
 abbrev pub IfMore : HeadStep → (ℕ → Type 0) → Type 0
 IfMore (More wanted) P = P wanted
 IfMore _ P = ⊤

@@ -24,7 +24,8 @@ abbrev pub count_of : Items → ℕ
 count_of no_items = 0
 count_of (item first others) = 1 + count_of others
 
--- The nesting: 0 for an item that is no array, map or tag; else 1 more than its deepest child, and 1 for an empty array or map.
+-- The nesting: 0 for an item that isn't an array, map or tag; else 1 more than its deepest child, and 1 for an empty
+-- array or map.
 unfoldable mutual
   pub depth_of : Item → ℕ
   depth_of (unsigned n) = 0
@@ -51,7 +52,7 @@ pub record IsHead (bytes : List ℕ) (major argument : ℕ) : Type 0 where
   pub has_width : length argument_bytes ≡ argument_length (low_of initial)
   pub has_argument : argument_of (low_of initial) argument_bytes ≡ argument
 
--- A head, and after it what the rest has to be.
+-- A head, and a property of the bytes after it.
 pub record Begins (bytes : List ℕ) (major argument : ℕ) (IsRest : List ℕ → Type 0) : Type 0 where
   pub head : List ℕ
   pub rest : List ℕ

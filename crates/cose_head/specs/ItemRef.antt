@@ -1,4 +1,4 @@
--- An item of the code, without where it lies in memory.
+-- An item of the code, without where it is in memory.
 use Rattle.std.specs.Prelude.{ℕ, Result, Ok, Err}
 use Rattle.cose_head.specs.declared.item_ref.ItemRef.{ItemRef}
 use Rattle.cose_head.specs.declared.refusal.Refusal.{Refusal}

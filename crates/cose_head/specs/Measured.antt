@@ -1,4 +1,4 @@
--- What a reader of spans tells of the items that `read` gives: their nesting, and where they end.
+-- What the reader of spans gives of the items that `read` gives: their nesting, and where they end.
 use Rattle.std.specs.Prelude.{◌≡◌, ℕ, List, take, Result, Ok, Err, nat_lt, ◌==◌, if◌then◌else◌}
 use Rattle.cose_head.specs.declared.head.Head.{Head}
 use Rattle.cose_head.specs.declared.item.Span.{Span}
@@ -29,14 +29,14 @@ abbrev pub nesting_all : Outcome Items → Outcome ℕ
 nesting_all (Ok found) = Ok (deepest found.0, found.1)
 nesting_all (Err refusal) = Err refusal
 
--- The number of children, where nesting and room are left for them.
+-- The number of children, where the nesting and the room allow that many.
 abbrev pub children_allowed : Head → ℕ → ℕ → ℕ → Result ℕ Refusal
 children_allowed h room depth place =
     if depth == 0 then Err (record { reason = TooDeep; place = place }) else
     if nat_lt room (child_count h) then Err (record { reason = PastRoom; place = place }) else
     Ok (child_count h)
 
--- The front of the bytes spells an item of this length and nesting.
+-- The bytes begin with an item of this length and nesting.
 pub record SpansItem (bytes : List ℕ) (span : Span) : Type 0 where
   pub content : Item
   pub spelled : Spells (take span.length bytes) content

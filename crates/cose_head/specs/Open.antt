@@ -4,8 +4,8 @@ use Rattle.cose_head.specs.declared.head.Head.{Head}
 use Rattle.cose_head.specs.Item.{Item}
 use Rattle.cose_head.specs.Reading.{Left, Outcome, Reader, head, is_string, is_parent, child_count, read}
 
--- How many arrays, maps and tags have their head there and not their end, and how many bytes are to come of a string
--- whose head is there.
+-- The number of arrays, maps and tags whose head was read and whose end wasn't, and the number of bytes missing of a
+-- string whose head was read.
 pub record Open : Type 0 where
   pub items : ℕ
   pub content : ℕ
@@ -16,7 +16,7 @@ nothing_open = record { items = 0; content = 0 }
 abbrev pub in_parent : Open → Open
 in_parent o = record { items = 1 + o.items; content = o.content }
 
--- Of the children of an open item those that are whole are past. The first that isn't says what is open in it.
+-- The complete children of an open item aren't open. The first one that isn't complete says what is open in it.
 abbrev pub open_child : Outcome Item → Open → (Left → Open) → Open
 open_child (Ok found) inside next = next found.1
 open_child (Err refusal) inside next = in_parent inside

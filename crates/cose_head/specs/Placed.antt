@@ -1,5 +1,5 @@
--- Items above the grammar (RFC 8949 section 3): an item is its bytes and their place. What it is comes from its head,
--- and its children from the bytes after the head. Each word answers for every list of bytes.
+-- Items as bytes and their place (RFC 8949 section 3). The head gives what the item is, and the bytes after the head
+-- give its children. Each definition has an answer for every list of bytes.
 use Rattle.std.specs.Prelude.{ℕ, zero, suc, ◌+◌, ℤ, pos, negsuc, Bool, true, false, List, [], ◌∷◌, length, take, drop, Option, Some, None, Result, Ok, Err, nat_lt, ◌==◌, ◌||◌, if◌then◌else◌}
 use Rattle.std.specs.Str.{is_utf8}
 use Rattle.cose_head.specs.declared.head.Head.{Head}
@@ -15,7 +15,7 @@ pub record Placed : Type 0 where
   pub bytes : List ℕ
   pub place : ℕ
 
--- The head of an item. Bytes that begin with none count as the simple value undefined (section 3.3).
+-- The head of an item. Where the bytes don't begin with a head, it is that of the simple value undefined (section 3.3).
 abbrev pub undefined : Head
 undefined = record { major = 7; arg = 23; width = 1 }
 
@@ -26,8 +26,8 @@ head_or_undefined _ = undefined
 unfoldable pub head_of_item : Placed → Head
 head_of_item p = head_or_undefined (bare_head p.bytes)
 
--- What an item is: an integer, the content of a string, an array, a map, a tag with its number, a truth value, a float,
--- or another simple value. The argument n of major 1 is the number -1 - n.
+-- What an item is: an integer, the content of a string, an array, a map, a tag with its number, a Boolean value, a
+-- float, or another simple value. The argument n of major type 1 is the number -1 - n.
 pub data Look : Type 0 where
   integer : ℤ → Look
   byte_content : List ℕ → Look
@@ -62,7 +62,8 @@ past_head h p = record { bytes = drop h.width p.bytes; place = p.place + h.width
 unfoldable pub look : Placed → Look
 look p = look_with (head_of_item p) (past_head (head_of_item p) p).bytes
 
--- The integer that an item is, the content of a byte string, and the content of a text that is UTF-8 (section 3.1).
+-- The integer that an item is, the content of a byte string, and the content of a text string that is UTF-8 (section
+-- 3.1).
 abbrev pub integer_in : Look → Option ℤ
 integer_in (integer z) = Some z
 integer_in _ = None
@@ -78,17 +79,17 @@ abbrev pub text_in : Look → Option (List ℕ)
 text_in (text_content content) = if_utf8 content
 text_in _ = None
 
--- A text, UTF-8 or not.
+-- Whether it is a text string, UTF-8 or not.
 abbrev pub is_a_text : Look → Bool
 is_a_text (text_content content) = true
 is_a_text _ = false
 
--- The truth value that an item is: the simple values 20 and 21 are false and true (section 3.3).
+-- The Boolean value that an item is: the simple values 20 and 21 are false and true (section 3.3).
 abbrev pub truth_in : Look → Option Bool
 truth_in (truth b) = Some b
 truth_in _ = None
 
--- The number of a tag and the item that it encloses, which is behind the tag's head (section 3.4).
+-- The number of a tag and the item that it encloses, which follows the tag's head (section 3.4).
 abbrev pub tag_with : Head → Placed → Option (ℕ × Placed)
 tag_with h p = if h.major == 6 then Some (h.arg, past_head h p) else None
 
@@ -107,11 +108,11 @@ abbrev pub is_a_float : Look → Bool
 is_a_float a_float = true
 is_a_float _ = false
 
--- The item at the front of the bytes, of any nesting that the library reads.
+-- The item that the bytes begin with, of a nesting of at most 32.
 abbrev pub span_at : List ℕ → Result Span Refusal
 span_at bytes = span_of (read 32 (left_of bytes (length bytes) 0))
 
--- So many items, one after another, and none from where no item is.
+-- The given number of items, one after another, ended by the first that isn't an item.
 abbrev pub first_of : (Placed → List Placed) → Placed → Result Span Refusal → List Placed
 first_of others p (Ok span) =
     record { bytes = take span.length p.bytes; place = p.place } ∷
@@ -122,7 +123,7 @@ unfoldable pub items_from : ℕ → Placed → List Placed
 items_from zero p = []
 items_from (suc n) p = first_of (items_from n) p (span_at p.bytes)
 
--- The direct children of an array or a map, in their order. A map's are label, value, label, value.
+-- The direct children of an array or a map, in their order. Those of a map are label, value, label, value.
 abbrev pub has_children : Head → Bool
 has_children h = h.major == 4 || h.major == 5
 

@@ -1,4 +1,4 @@
--- What items above the grammar say of its trees (RFC 8949 section 3): what an item is, and which children it has.
+-- Laws of items and their trees (RFC 8949 section 3): what an item is, and which children it has.
 use Rattle.std.specs.Prelude.{◌≡◌, ◌↔◌, ℕ, ◌+◌, ◌-◌, ◌*◌, ◌≤◌, pos, negsuc, Bool, true, false, List, [], ◌∷◌, ◌++◌, length, Some, None, Ok, Err, IfErr, ◌==◌, if◌then◌else◌, ⊤}
 use Rattle.std.specs.List.{AllByRecursion, Contains}
 use Rattle.cose_head.specs.declared.refusal.Refusal.{Refusal}
@@ -10,39 +10,40 @@ use Rattle.cose_head.specs.Laws.{SpellsHead}
 use Rattle.cose_head.specs.Placed.{Placed, head_of_item, Look, integer, byte_content, text_content, an_array, a_map, a_tag, truth, a_float, other, look, tag_in, children_of, children_if_any}
 use Rattle.cose_head.specs.Whole.{whole, is_one_item}
 
--- The bytes of an item, read alone and within a nesting allowance, are this tree, and nothing is left.
+-- The bytes of an item, read alone and within a nesting allowance, are this tree, with no byte left.
 pub record IsItem (depth : ℕ) (p : Placed) (tree : Item) : Type 0 where
   pub rest : Left
   pub is_read : read depth (left_of p.bytes (length p.bytes) p.place) ≡ Ok (tree, rest)
   pub nothing_left : rest.bytes ≡ []
 
--- What is read whole is the item of one tree, and the bytes of the item of a tree are read whole.
+-- Bytes that are accepted as exactly one item are the item of one tree, and the bytes of the item of a tree are
+-- accepted.
 abbrev pub WholeIsItem : Type 0
 WholeIsItem = (depth : ℕ) (p q : Placed) → whole depth p ≡ Ok q → (tree : Item) × IsItem depth p tree × (q ≡ p)
 
 abbrev pub ItemIsWhole : Type 0
 ItemIsWhole = (depth : ℕ) (p : Placed) (tree : Item) → IsItem depth p tree → whole depth p ≡ Ok p
 
--- The same bytes are read whole with more nesting allowed.
+-- The same bytes are accepted with more nesting allowed.
 abbrev pub WholeIsDeeper : Type 0
 WholeIsDeeper = (depth deeper : ℕ) (p q : Placed) → depth ≤ deeper → whole depth p ≡ Ok q → whole deeper p ≡ Ok q
 
--- The test for one item says what is read whole, wherever the bytes stand.
+-- The test for one item is whether the bytes are accepted, at any place.
 abbrev pub OneItemIsWhole : Type 0
 OneItemIsWhole = (p : Placed) → (is_one_item p.bytes ≡ true) ↔ (whole 32 p ≡ Ok p)
 
--- Where an item ends; and that a place is among its bytes or at their end.
+-- Where an item ends; and that a place is within its bytes or at their end.
 abbrev pub end_of : Placed → ℕ
 end_of p = p.place + length p.bytes
 
 abbrev pub StandsIn : Placed → ℕ → Type 0
 StandsIn p place = (p.place ≤ place) × (place ≤ end_of p)
 
--- What is refused is refused inside.
+-- The place of a refusal is within the bytes or at their end.
 abbrev pub WholeIsRefusedInside : Type 0
 WholeIsRefusedInside = (depth : ℕ) (p : Placed) → IfErr (whole depth p) (λ refusal. StandsIn p refusal.place)
 
--- For one of these reasons: never Truncated, since the room is the number of the bytes.
+-- The reasons: never Truncated, since the room is the number of the bytes.
 abbrev pub WholeReasons : Type 0
 WholeReasons = (depth : ℕ) (p : Placed) (refusal : Refusal) → whole depth p ≡ Err refusal → Contains whole_reasons refusal.reason
 
@@ -69,7 +70,7 @@ abbrev pub bytes_of_all : List Placed → List ℕ
 bytes_of_all [] = []
 bytes_of_all (first ∷ others) = first.bytes ++ bytes_of_all others
 
--- The first item stands at the place, and each other one where the one before it ends.
+-- The first item is at the place, and each other one where the one before it ends.
 abbrev pub StandFrom : ℕ → List Placed → Type 0
 StandFrom place [] = ⊤
 StandFrom place (first ∷ others) = (first.place ≡ place) × StandFrom (place + length first.bytes) others
@@ -95,7 +96,7 @@ abbrev pub MapHasItsPairs : Type 0
 MapHasItsPairs = (depth : ℕ) (p : Placed) (trees : Items) → depth ≤ 32 → IsItem depth p (map trees) →
     (pairs : ℕ) × (2 * pairs ≡ count_of trees) × HasChildren (depth - 1) p 5 pairs trees
 
--- Other items have none: the item that a tag encloses is no child here.
+-- Other items have no children: the item that a tag encloses isn't one.
 abbrev pub is_list : Item → Bool
 is_list (array trees) = true
 is_list (map trees) = true
@@ -123,7 +124,7 @@ abbrev pub is_tag : Item → Bool
 is_tag (tag number content) = true
 is_tag _ = false
 
--- Other items are no tags.
+-- Other items aren't tags.
 abbrev pub OthersEncloseNone : Type 0
 OthersEncloseNone = (depth : ℕ) (p : Placed) (tree : Item) → IsItem depth p tree → is_tag tree ≡ false → tag_in p ≡ None
 

@@ -1,5 +1,5 @@
--- Reading an item from the front of a list of bytes (RFC 8949 section 3), within a room, the number of bytes that
--- it may use, and a nesting allowance. The first fault from the left is the answer.
+-- Reading the item that a list of bytes begins with (RFC 8949 section 3), within a room, the number of bytes that it
+-- may use, and a nesting allowance. The first fault from the left is the answer.
 use Rattle.std.specs.Prelude.{ℕ, zero, suc, ◌+◌, ◌-◌, ◌*◌, Bool, List, [], ◌∷◌, length, take, drop, Option, Some, None, Result, Ok, Err, nat_lt, ◌==◌, ◌||◌, if◌then◌else◌}
 use Rattle.cose_head.specs.declared.head.Head.{Head}
 use Rattle.cose_head.specs.declared.item.Span.{Span}
@@ -37,7 +37,7 @@ truncated l = refuse Truncated (l.place + length l.bytes)
 abbrev pub after : ℕ → Left → Left
 after n l = record { bytes = drop n l.bytes; room = l.room - n; place = l.place + n }
 
--- The head: it has to fit in the room, and then to be there.
+-- The head: first it must fit in the room, and then its bytes must not be missing.
 abbrev pub checked : Head → Reader Head
 checked head l = if is_bad_simple head then refuse BadSimple l.place else Ok (head, after head.width l)
 
@@ -55,8 +55,8 @@ at_initial (initial ∷ rest) l = past_initial (low_fault (major_of initial) (lo
 unfoldable pub head : Reader Head
 head l = if l.room == 0 then refuse PastRoom l.place else at_initial l.bytes l
 
--- What follows a head: n bytes of a string, n children of an array, 2n of a map, one of a tag, and else nothing.
--- A fault of it stands at the head, where no bytes are missing.
+-- What follows a head: n bytes of a string, n children of an array, 2n of a map, one of a tag, and else nothing. The
+-- place of a fault of it is the head, where no bytes are missing.
 abbrev pub is_string : Head → Bool
 is_string h = h.major == 2 || h.major == 3
 
@@ -96,7 +96,7 @@ children one h l =
       items ← read_all one (child_count h) l
       Ok (list_item h items.0, items.1))
 
--- No reader of children is given where no nesting is left.
+-- Where no nesting is left, there is no reader of children.
 abbrev pub parent : Option (Reader Item) → ℕ → Head → Reader Item
 parent None place h l = refuse TooDeep place
 parent (Some one) place h l = if nat_lt l.room (child_count h) then refuse PastRoom place else children one h l

@@ -1,4 +1,4 @@
--- The numbers and names of the reasons, and which of them reading answers.
+-- The numbers and names of the reasons, and the reasons that reading answers.
 use Rattle.std.specs.Prelude.{ℕ, List, [], ◌∷◌, ◌++◌, codes}
 use Rattle.cose_head.specs.declared.reason.Reason.{Reason}
 use Rattle.cose_head.specs.declared.reason.Reason.TheVariants.{Truncated, Reserved, Indefinite, BadSimple, TooDeep, PastRoom, WrongTag, Encrypted, SeveralParties, NotFour, WrongType, NotMap, BadLabel, DuplicateLabel, BothBuckets, BadValue, CritUnprotected, CritAbsent, CritUnknown, BothIvs, NoAlg, UnknownAlg, AlgUnprotected, NoKey, AmbiguousKey, Detached, BadAuthLength, BadAuth, PayloadTooLong, CwtTagAlone, BadKeySet, UnknownKey, FloatDate, TaggedDate, Expired, NotYet, WrongAudience, EncryptedKey, PlainKey, BadConfirmation, NestedCwt, Trailing}
@@ -91,8 +91,8 @@ name_of BadConfirmation = codes "BadConfirmation"
 name_of NestedCwt = codes "NestedCwt"
 name_of Trailing = codes "Trailing"
 
--- The reasons for which a head outside an item is refused; those for which an item is; and those for which bytes that
--- should be exactly one item are, whose room is their number.
+-- The reasons for which a head outside an item is refused; those for which an item is refused; and those for which
+-- bytes that should be exactly one item are refused, whose room is their number.
 abbrev pub head_reasons : List Reason
 head_reasons = Reserved ∷ Indefinite ∷ BadSimple ∷ []
 

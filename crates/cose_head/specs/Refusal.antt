@@ -1,4 +1,4 @@
--- What is written of a refusal.
+-- The text of a refusal.
 use Rattle.std.specs.Prelude.{ℕ, List, ◌++◌, codes}
 use Rattle.std.specs.Fmt.{decimal}
 use Rattle.cose_head.specs.declared.refusal.Refusal.{Refusal}

@@ -43,6 +43,6 @@ ShortestIsSpelled = (content : Item) → HasShortest content → Spells (shortes
 abbrev pub AreBytes : List ℕ → Type 0
 AreBytes bytes = (i : ℕ) → get_or bytes i 0 < 2 ^ 8
 
--- And no bytes that spell it are fewer.
+-- And no bytes that spell the item are fewer.
 abbrev pub ShortestIsLeast : Type 0
 ShortestIsLeast = (content : Item) (bytes : List ℕ) → AreBytes bytes → Spells bytes content → length (shortest content) ≤ length bytes

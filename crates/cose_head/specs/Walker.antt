@@ -1,4 +1,4 @@
--- What a walker stands for.
+-- The meaning of a walker.
 use Rattle.std.specs.Prelude.{◌≡◌, ℕ, ◌+◌, ◌-◌, ◌<◌, ◌≤◌, List, [], ◌++◌, length, Result, Ok, Err}
 use Rattle.cose_head.specs.declared.reason.Reason.{Reason}
 use Rattle.cose_head.specs.declared.reason.Reason.TheVariants.{Truncated}
@@ -16,7 +16,7 @@ use Rattle.cose_head.specs.Walking.{Walk, refused, walk, finish, rest_of_item}
 abbrev pub last_step : {D : ℕ} → Walker D → Step
 last_step w = w.step
 
--- The answer, by how far the item is. A fault stands at this place.
+-- The answer, by how far the item is. A fault has this place.
 abbrev pub step_after : Result Progress Reason → ℕ → Step
 step_after (Ok Open) place = Going
 step_after (Ok Whole) place = Done
@@ -31,7 +31,7 @@ open_while (Fault refusal) n = 0
 abbrev pub open_now : {D : ℕ} → Walker D → ℕ
 open_now w = open_while (last_step w) (length w.counts.items)
 
--- What is left of reading, by the bytes to come.
+-- The rest of the reading, as a function of the bytes to come.
 abbrev pub go_on : ℕ → List ℕ → List ℕ → ℕ → Left → Walk
 go_on depth counts half string l = finish depth counts (rest_of_item (depth - length counts) half string l)
 
@@ -45,7 +45,7 @@ resume {D} w bytes = go_on D w.counts.items w.half.items w.string (left_at w byt
 abbrev pub Waits : {D : ℕ} → Walker D → Type 0
 Waits w = ((resume w []).end ≡ refused Truncated (w.place + length w.half.items)) × (length w.half.items < w.room)
 
--- Some bytes were passed over, and nothing else has changed.
+-- Some bytes were counted as used, and nothing else has changed.
 pub record Passes {D : ℕ} (old new : Walker D) (count : ℕ) : Type 0 where
   pub counts : new.counts ≡ old.counts
   pub half : new.half ≡ old.half
@@ -53,24 +53,26 @@ pub record Passes {D : ℕ} (old new : Walker D) (count : ℕ) : Type 0 where
   pub room : new.room ≡ old.room - count
   pub place : new.place ≡ old.place + count
 
--- No byte of a head is there, and so much room is left at this place.
+-- The half head is empty, and this is the room left and the place.
 pub record Stands {D : ℕ} (rest at : ℕ) (w : Walker D) : Type 0 where
   pub half : length w.half.items ≡ 0
   pub room : w.room ≡ rest
   pub place : w.place ≡ at
 
--- What is left before a byte is put is what the walker stands for after it.
+-- The rest of the reading before a byte is put is the rest that the walker has after it.
 abbrev pub Leads : {D : ℕ} → (List ℕ → Walk) → Result Progress Reason → Walker D → Type 0
 Leads before (Ok Open) w = ((bytes : List ℕ) → before bytes ≡ resume w bytes) × Waits w
 Leads before (Ok Whole) w = (length w.half.items ≡ 0) × ((bytes : List ℕ) → (before bytes).end ≡ Ok (left_at w bytes))
 Leads before (Err reason) w = (reason ≡ Truncated → ⊥) × ((bytes : List ℕ) → (before bytes).end ≡ refused reason w.place)
 
--- The walker was put these bytes, and goes on: with whatever bytes follow, reading them all is what is left after them.
+-- The walker was put these bytes, and is Going: whatever bytes follow, reading them all is the rest of the reading
+-- after them.
 --
--- It is met by the calls `new`, `put` and `pass` alone: `new` gives it of no bytes, each `put` that answers Going of one byte
--- more, and each `pass` after which it goes on of the bytes that it took. The fields that it speaks of are the walker's own, so a caller has it of a walker that it made and put the bytes,
--- and carries it along with the list of these bytes; of a walker that came from elsewhere it knows nothing until whoever
--- hands it over says it. After Done or a fault it doesn't hold any more, and no call brings it back.
+-- Only the calls `new`, `put` and `pass` ensure it: `new` of no bytes, each `put` that answers Going of one byte more,
+-- and each `pass` after which the walker is Going of the bytes that it took. It speaks of the walker's private fields.
+-- So the caller has it of a walker that it made and put the bytes, and keeps it together with the list of these bytes.
+-- Of any other walker the caller knows it only where a contract says it. After Done or a fault it doesn't hold any
+-- more, and no call brings it back.
 pub record HasPut (room : ℕ) (put : List ℕ) {D : ℕ} (w : Walker D) : Type 0 where
   pub rest : (bytes : List ℕ) → walk D (left_of (put ++ bytes) room 0) ≡ resume w bytes
   pub taken : w.place + length w.half.items ≡ length put
@@ -78,13 +80,13 @@ pub record HasPut (room : ℕ) (put : List ℕ) {D : ℕ} (w : Walker D) : Type 
   pub waits : 0 < room → Waits w
   pub going : last_step w ≡ Going
 
--- Which answer of reading a step tells.
+-- The answer of reading that a step says.
 abbrev pub Answers : ℕ → List ℕ → Step → Outcome Item → Type 0
 Answers room bytes Going read = read ≡ refuse Truncated (length bytes)
 Answers room bytes Done read = (found : Item) × (read ≡ Ok (found, left_of [] (room - length bytes) (length bytes)))
 Answers room bytes (Fault refusal) read = (read ≡ Err refusal) × (refusal.reason ≡ Truncated → ⊥)
 
--- A place stands among the bytes, a whole item has fitted in the room, and there is room for more where more is wanted.
+-- A place is within the bytes, a complete item has fitted in the room, and where more is wanted there is room for more.
 abbrev pub StandsAmong : ℕ → List ℕ → Step → Type 0
 StandsAmong room bytes Going = length bytes < room
 StandsAmong room bytes Done = length bytes ≤ room

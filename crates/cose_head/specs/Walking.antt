@@ -1,4 +1,4 @@
--- What is left to be read of an item of which some bytes were read.
+-- The rest of the reading of an item of which some bytes were read.
 use Rattle.std.specs.Prelude.{◌≡◌, ℕ, zero, suc, ◌+◌, ◌-◌, true, false, List, [], ◌∷◌, ◌++◌, length, Result, Ok, Err, nat_lt, if◌then◌else◌}
 use Rattle.cose_head.specs.declared.head.Head.{Head}
 use Rattle.cose_head.specs.declared.reason.Reason.{Reason}
@@ -31,14 +31,14 @@ walk depth l = record { end = walk_end (read depth l); opened = open_in depth l 
 unfoldable pub walk_all : ℕ → ℕ → Left → Walk
 walk_all depth n l = record { end = walk_end (read_all (read depth) n l); opened = open_all (read depth) (open_in depth) n l }
 
--- A string of which n bytes are to come.
+-- A string of which n bytes were not read yet.
 abbrev pub walk_content : ℕ → Left → Walk
 walk_content n l = record {
   end = if nat_lt (length l.bytes) n then refused Truncated (l.place + length l.bytes) else Ok (after n l);
   opened = record { items = 0; content = n - length l.bytes };
 }
 
--- What is left of an open item: of the child that is being read, and then of the children after it.
+-- The rest of an open item: of the child that is being read, and then of the children after it.
 abbrev pub past_child : Result Left Refusal → Open → (Left → Walk) → Walk
 past_child (Ok l) opened next = next l
 past_child (Err refusal) opened next = record { end = Err refusal; opened = in_parent opened }
@@ -46,13 +46,13 @@ past_child (Err refusal) opened next = record { end = Err refusal; opened = in_p
 abbrev pub within : Walk → (Left → Walk) → Walk
 within child next = past_child child.end child.opened next
 
--- What is left of the open items after the child that is being read in the innermost. The counts are the numbers of
+-- The rest of the open items after the child that is being read in the innermost. The counts are the numbers of
 -- children that haven't begun, the outermost item first.
 unfoldable pub finish : ℕ → List ℕ → Walk → Walk
 finish depth [] child = child
 finish depth (n ∷ counts) child = within (finish (depth - 1) counts child) (walk_all (depth - 1) n)
 
--- What is left of the item that is being read: of its string, or of its head, of which some bytes are there.
+-- The rest of the item that is being read: of its string, or of its head, of which some bytes were read.
 abbrev pub rest_of_item : ℕ → List ℕ → ℕ → Left → Walk
 rest_of_item depth half zero l = walk depth (left_of (half ++ l.bytes) l.room l.place)
 rest_of_item depth half (suc n) l = walk_content (suc n) l

@@ -18,6 +18,6 @@ nothing_after p (Err refusal) = Err refusal
 abbrev pub whole : ℕ → Placed → Result Placed Refusal
 whole depth p = nothing_after p (read depth (left_of p.bytes (length p.bytes) p.place))
 
--- Whether the bytes are exactly one item, of any nesting that the library reads.
+-- Whether the bytes are exactly one item, of a nesting of at most 32.
 unfoldable pub is_one_item : List ℕ → Bool
 is_one_item bytes = is_ok (whole 32 (record { bytes = bytes; place = 0 }))

@@ -16,7 +16,7 @@ pub enum Alg {
     Hmac384,
     /// HMAC 512/512: HMAC with SHA-512.
     Hmac512,
-    /// ES256: ECDSA with SHA-256, here on P-256 alone.
+    /// ES256: ECDSA with SHA-256, here on the curve P-256 alone.
     Es256,
 }
 
@@ -40,7 +40,7 @@ pub enum KeyType {
     Elliptic(u8),
 }
 
-/// What the table says of one algorithm.
+/// The row of the table for one algorithm.
 #[derive(Clone, Copy)]
 struct Row {
     number: i128,

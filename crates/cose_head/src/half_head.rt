@@ -1,4 +1,4 @@
-//! Heads whose bytes come one by one.
+//! Heads that are read a byte at a time.
 
 ghost use Rattle.std.specs.Prelude.{◌≡◌, ◌≤◌, ℕ, length, List, [], ◌∷◌, ◌++◌, true};
 ghost use Rattle.cose_head.specs.HalfHead.{is_half, HeadSoFar, kept_of};
@@ -7,7 +7,7 @@ use crate::head::{Head, HeadStep, parse_head};
 use crate::reason::Reason;
 use arrayvec::ArrayVec;
 
-/// The head that these first bytes of an item are, or nothing where it isn't whole yet.
+/// The head that these first bytes of an item are, or `None` where it is incomplete.
 fn head_so_far(first: &[u8], room: usize) -> Result<Option<Head>, Reason>
     requires { (half : List ℕ) × (byte : ℕ) × (first.now ≡ half ++ byte ∷ []) × (is_half half ≡ true) × (length half ≤ room) }
     ensures { HeadSoFar first.now room result }
@@ -27,7 +27,7 @@ fn head_so_far(first: &[u8], room: usize) -> Result<Option<Head>, Reason>
     }
 }
 
-/// Takes the next byte of an item's head, and gives the head if it is whole.
+/// Takes the next byte of an item's head, and returns the head if it is complete.
 #[tactic(auto, using(crate::proofs::HalfHead::half_is_short))]
 pub(crate) fn take_head_byte(
     half: &mut ArrayVec<u8, 9>,

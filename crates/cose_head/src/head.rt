@@ -31,14 +31,14 @@ impl Head {
     }
 }
 
-/// What stands at the front of some bytes, read as a head.
+/// The result of reading the head that some bytes begin with.
 #[derive(Clone, Copy, Debug, PartialEq, Eq)]
 pub enum HeadStep {
     /// A head, and the number of bytes that it has.
     Got(Head, usize),
     /// The bytes end inside the head; at least this many bytes are missing.
     More(usize),
-    /// No head begins so: [`Reason::Reserved`], [`Reason::Indefinite`] or [`Reason::BadSimple`].
+    /// No head begins with these bytes: [`Reason::Reserved`], [`Reason::Indefinite`] or [`Reason::BadSimple`].
     Fault(Reason),
 }
 
@@ -83,14 +83,14 @@ fn argument(low: u8, bytes: &[u8]) -> u64
     }
 }
 
-/// The head at the front of `bytes`, of any width (RFC 8949 section 3).
+/// The head that `bytes` begin with, of any width (RFC 8949 section 3).
 ///
-/// `More` is 1 on no bytes, and else the number of argument bytes that are missing.
+/// `More` is 1 where there are no bytes, and else the number of argument bytes that are missing.
 #[tactic(auto, unfolding(crate::specs::Head::bare_head))]
 pub fn parse_head(bytes: &[u8]) -> HeadStep
     ensures answer { result ≡ bare_head bytes.now }
 
-    // What isn't `More` stays when bytes follow.
+    // An answer other than `More` is the same when bytes follow.
     ensures stays { IsWhole result → (more : List ℕ) → bare_head (bytes.now ++ more) ≡ result }
     // `More` asks for at least one byte, and for no more than a head has.
     ensures some_wanted { IfMore result (λ n. 0 < n) }
@@ -108,7 +108,7 @@ pub fn parse_head(bytes: &[u8]) -> HeadStep
     let major = *initial / 32;
     let low = *initial % 32;
     if low < 24 {
-        // The argument stands in the initial byte, as in most heads, and none of these is at fault.
+        // The argument is in the initial byte, as in most heads, and none of these has a fault.
         let arg = u64::from(low);
         return HeadStep::Got(
             Head {

@@ -1,8 +1,8 @@
-//! What a log shows in place of bytes that may be a key's.
+//! What `Debug` prints in place of bytes that may be a key's.
 
 use std::fmt;
 
-/// Bytes that no log may show: `Debug` prints how many they are.
+/// Bytes that no log may show: `Debug` prints how many there are.
 #[derive(Clone, Copy)]
 pub struct Hidden<'a>(pub &'a [u8]);
 

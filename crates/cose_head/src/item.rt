@@ -1,4 +1,4 @@
-//! Whole data items (RFC 8949 section 3).
+//! Complete data items (RFC 8949 section 3).
 
 ghost use Rattle.std.specs.Prelude.{◌≡◌, ℕ, ◌+◌, ◌<◌, ◌≤◌, ◌^◌, length, take, IfOk, IfErr};
 ghost use Rattle.cose_head.specs.Item.{Item, Spells, depth_of};
@@ -9,12 +9,12 @@ use crate::head::{Head, HeadStep, parse_head};
 use crate::reason::Reason;
 use crate::refusal::Refusal;
 
-/// How far an item reaches, and how deep its nesting is.
+/// The length of an item, and the depth of its nesting.
 #[derive(Clone, Copy, Debug, PartialEq, Eq)]
 pub struct Span {
     /// The number of bytes of the item, from its head to its end.
     pub length: usize,
-    /// The nesting of the item: 0 for an item that is no array, map or CBOR tag; else 1 more than its deepest child,
+    /// The nesting of the item: 0 for an item that isn't an array, map or CBOR tag; else 1 more than its deepest child,
     /// and 1 for an empty array or map.
     pub depth: usize,
 }
@@ -26,7 +26,7 @@ fn refused(reason: Reason, place: u64) -> Refusal
     Refusal { reason, place }
 }
 
-/// The head at the front of `bytes`, which stand at `place`, within `room` bytes.
+/// The head that `bytes` begin with, within `room` bytes. The first of `bytes` is at `place`.
 fn head_at(bytes: &[u8], room: usize, place: u64) -> Result<Head, Refusal>
     requires { place + length bytes.now < 2 ^ 64 }
     ensures exact { let l = left_of bytes.now room place in head_found l result ≡ head l }
@@ -60,7 +60,7 @@ fn is_parent(head: Head) -> bool
     head.major == 4 || head.major == 5 || head.major == 6
 }
 
-/// The string that a head at `start` announces, at the front of `bytes`.
+/// The string that a head at `start` announces. Its content begins `bytes`.
 fn string_at(
     announced: Head,
     start: u64,
@@ -86,7 +86,7 @@ fn string_at(
     })
 }
 
-/// The number of children that a head at `start` announces, where room and nesting are left for them.
+/// The number of children that a head at `start` announces, where the room and the nesting allow that many.
 fn allowed_children(
     announced: Head,
     start: u64,
@@ -135,7 +135,7 @@ fn items_at(
     })
 }
 
-/// The item at the front of `bytes`, which stand at `place`.
+/// The item that `bytes` begin with. The first of `bytes` is at `place`.
 #[cycle(item)]
 pub(crate) fn item_at(bytes: &[u8], room: usize, place: u64, depth: usize) -> Result<Span, Refusal>
     requires in_range { place + length bytes.now < 2 ^ 64 }
@@ -171,8 +171,8 @@ pub(crate) fn item_at(bytes: &[u8], room: usize, place: u64, depth: usize) -> Re
     })
 }
 
-/// Reads the item at the front of `bytes`, of at most `room` bytes and a nesting of at most `depth`
-/// (RFC 8949 section 3). Bytes may follow it.
+/// Reads the item that `bytes` begin with, of at most `room` bytes and a nesting of at most `depth` (RFC 8949 section
+/// 3). Bytes may follow it.
 ///
 /// The refusal is the first fault from the left: [`Reason::PastRoom`], [`Reason::Truncated`], [`Reason::Reserved`],
 /// [`Reason::Indefinite`], [`Reason::BadSimple`] or [`Reason::TooDeep`], with its place in `bytes`. No memory is allocated.

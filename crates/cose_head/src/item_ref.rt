@@ -13,8 +13,8 @@ use std::fmt;
 
 /// A data item: its bytes, and the place of the first.
 ///
-/// The type keeps that the bytes are exactly one item, of a nesting of at most 32. [`ItemRef::read`] makes one of bytes,
-/// and [`Items`](crate::Items) gives those of children. What the methods say rests on that, and on the bytes alone.
+/// The type guarantees that the bytes are exactly one item, of a nesting of at most 32. [`ItemRef::read`] makes one
+/// from bytes, and [`Items`](crate::Items) gives those of children. What the methods return depends on the bytes alone.
 ///
 /// `Debug` prints how many bytes there are, and none of them: the item may be a key.
 #[derive(Clone, Copy)]
@@ -29,7 +29,7 @@ pub struct ItemRef<'a> {
     pub ghost in_range: { place + length bytes.now < 2 ^ 64 },
 }
 
-/// What is after the first `width` bytes; nothing if there are fewer.
+/// The bytes after the first `width` bytes; none if there are fewer.
 fn bytes_after(bytes: &[u8], width: u8) -> &[u8]
     ensures { result.now ≡ drop width bytes.now }
 {
@@ -47,7 +47,7 @@ fn bytes_before(bytes: &[u8], count: u64) -> &[u8]
     bytes
 }
 
-/// The bytes as a text, if they are UTF-8.
+/// The bytes as a `str`, if they are UTF-8.
 fn utf8(bytes: &[u8]) -> Option<&str>
     ensures { option_map (λ text. text.now) result ≡ if_utf8 bytes.now }
 {
@@ -58,10 +58,10 @@ impl<'a> ItemRef<'a> {
     ghost use Rattle.cose_head.specs.ItemRef.{placed, placed_read, placed_in_tag};
     ghost use Rattle.cose_head.specs.Placed.{head_of_item, look, tag_in, integer_in, bytes_in, text_in, truth_in, is_a_text, is_an_array, is_a_map, is_a_float};
 
-    /// Reads bytes that are exactly one item, of a nesting of at most `depth`, whose first byte stands at `at`.
+    /// Reads bytes that are exactly one item, of a nesting of at most `depth`. The first byte is at place `at`.
     ///
-    /// The refusal is the first fault of the reading, as of [`read_item`](crate::read_item), with
-    /// [`Reason::PastRoom`] where the bytes end early; then [`Reason::Trailing`] at the first byte after the item.
+    /// The refusal is the first fault, as of [`read_item`](crate::read_item), with [`Reason::PastRoom`] where the bytes
+    /// end early; then [`Reason::Trailing`] at the first byte after the item.
     pub fn read(bytes: &'a [u8], at: u64, depth: usize) -> Result<ItemRef<'a>, Refusal>
         requires shallow { depth ≤ 32 }
         requires in_range { at + length bytes.now < 2 ^ 64 }
@@ -99,7 +99,7 @@ impl<'a> ItemRef<'a> {
         bytes_before(bytes_after(self.bytes, head.width), head.arg)
     }
 
-    /// The integer that the item is, if it is one.
+    /// The integer, if the item is one.
     #[tactic(auto, unfolding(crate::specs::Placed::look), using(crate::proofs::Placed::unsigned_found, crate::proofs::Placed::negative_found, crate::proofs::Placed::no_integer))]
     pub fn as_int(&self) -> Option<i128>
         ensures { result ≡ integer_in (look (placed self.now)) }
@@ -112,7 +112,7 @@ impl<'a> ItemRef<'a> {
         }
     }
 
-    /// The content of a byte string.
+    /// The content of the byte string, if the item is one.
     #[tactic(auto, unfolding(crate::specs::Placed::look), using(crate::proofs::Placed::bytes_found, crate::proofs::Placed::no_bytes))]
     pub fn as_bytes(&self) -> Option<&'a [u8]>
         ensures { option_map (λ bytes. bytes.now) result ≡ bytes_in (look (placed self.now)) }
@@ -124,7 +124,7 @@ impl<'a> ItemRef<'a> {
         Some(self.content(head))
     }
 
-    /// The content of a text, if it is UTF-8.
+    /// The content of the text string, if the item is one and it is UTF-8.
     #[tactic(auto, unfolding(crate::specs::Placed::look), using(crate::proofs::Placed::text_found, crate::proofs::Placed::no_text))]
     pub fn as_text(&self) -> Option<&'a str>
         ensures { option_map (λ text. text.now) result ≡ text_in (look (placed self.now)) }
@@ -136,7 +136,7 @@ impl<'a> ItemRef<'a> {
         utf8(self.content(head))
     }
 
-    /// The truth value that the item is.
+    /// The Boolean value, if the item is false or true.
     #[tactic(auto, unfolding(crate::specs::Placed::look), using(crate::proofs::Placed::truth_found, crate::proofs::Placed::no_truth))]
     pub fn as_bool(&self) -> Option<bool>
         ensures { result ≡ truth_in (look (placed self.now)) }
@@ -152,7 +152,7 @@ impl<'a> ItemRef<'a> {
         }
     }
 
-    /// The number of a CBOR tag, and the item that it encloses (RFC 8949 section 3.4), which stands behind the tag's head.
+    /// The number of the CBOR tag, and the item that it encloses (RFC 8949 section 3.4), which follows the tag's head.
     pub fn as_tag(&self) -> Option<(u64, ItemRef<'a>)>
         ensures { option_map placed_in_tag result ≡ tag_in (placed self.now) }
     {
@@ -167,7 +167,7 @@ impl<'a> ItemRef<'a> {
         Some((head.arg, item))
     }
 
-    /// Whether the item is a text, UTF-8 or not.
+    /// Whether the item is a text string, UTF-8 or not.
     #[tactic(auto, unfolding(crate::specs::Placed::look), using(crate::proofs::Placed::any_text_found))]
     pub fn is_text(&self) -> bool
         ensures { result ≡ is_a_text (look (placed self.now)) }

@@ -11,9 +11,9 @@ use crate::item::read_item;
 use crate::item_ref::ItemRef;
 use std::fmt;
 
-/// The direct children of an array or a map, in their order. A map's are label, value, label, value.
+/// The direct children of an array or a map, in their order. Those of a map are label, value, label, value.
 ///
-/// They are read one by one from the bytes, as the iterator comes to them, each of a nesting of at most 32.
+/// The iterator reads them from the bytes one at a time, each of a nesting of at most 32.
 ///
 /// `Debug` prints how many bytes and children are left, and none of the bytes: they may be a key's.
 #[derive(Clone, Copy)]
@@ -43,10 +43,10 @@ impl<'a> Items<'a> {
     ghost use Rattle.cose_head.specs.Items.{items_left};
     ghost use Rattle.cose_head.specs.Placed.{children_if_any, children_of};
 
-    /// The children of the one item that these bytes are, whose first byte stands at `at`. None where it is neither an
-    /// array nor a map.
+    /// The children of the one item that these bytes are, whose first byte is at place `at`. `None` where it is neither
+    /// an array nor a map.
     ///
-    /// [`ItemRef::read`] tells whether bytes are one item, and [`Items::of`] gives the children of what it reads.
+    /// [`ItemRef::read`] checks that bytes are one item, and [`Items::of`] gives the children of what it reads.
     #[tactic(auto, unfolding(crate::specs::Placed::head_of_item, crate::specs::Placed::children_of), using(crate::proofs::Heads::got_width, crate::proofs::Placed::few_items, crate::proofs::Whole::one_item_is_no_half, crate::proofs::Whole::one_item_is_no_fault))]
     pub fn new(bytes: &'a [u8], at: u64) -> Option<Items<'a>>
         requires one_item { is_one_item bytes.now ≡ true }

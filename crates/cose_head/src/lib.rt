@@ -1,10 +1,11 @@
 //! Heads and items of CBOR (RFC 8949), and the reasons for which COSE messages are refused.
 //!
-//! [`ItemRef::read`] reads bytes that are exactly one item, whose first byte stands at a place of the caller's. Its getters,
-//! as [`ItemRef::as_int`] and [`ItemRef::is_map`], say what the item is. [`Items`] gives the children of an array or a map,
-//! [`ItemRef::as_tag`] what a CBOR tag encloses. [`read_item`] finds the length and nesting of the item that bytes begin with
-//! (a [`Span`]). [`Walker`] reads an item whose bytes come one by one, and answers by a [`Step`]. [`parse_head`], by a
-//! [`HeadStep`], and [`write_head`] are for a [`Head`] that stands outside an item. No memory is allocated.
+//! [`ItemRef::read`] reads bytes that are exactly one item; the caller passes the place of the first byte. Its getters,
+//! such as [`ItemRef::as_int`] and [`ItemRef::is_map`], say what the item is. [`Items`] gives the children of an array
+//! or a map, [`ItemRef::as_tag`] what a CBOR tag encloses. [`read_item`] finds the length and nesting of the item that
+//! bytes begin with (a [`Span`]). [`Walker`] reads an item a byte at a time, and answers with a [`Step`].
+//! [`parse_head`], which answers with a [`HeadStep`], and [`write_head`] are for a [`Head`] outside an item. No memory
+//! is allocated.
 //!
 //! [`Alg`] is the table of algorithms: the [`Kind`] of message of each, its [`Hash`], and the [`KeyType`] of its keys.
 //!

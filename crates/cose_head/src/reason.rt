@@ -9,17 +9,17 @@ use std::fmt;
 /// Why something is refused. Each reason has a number and a name, which never change.
 #[derive(Clone, Copy, Debug, PartialEq, Eq)]
 pub enum Reason {
-    /// The bytes end before the whole is there.
+    /// The bytes end before the message or the item is complete.
     Truncated = 1,
-    /// The low five bits of an initial byte are 28 to 30, or 31 where no indefinite length is (RFC 8949 section 3).
+    /// The low five bits of an initial byte are 28 to 30, or 31 in the major types 0, 1 and 6 (RFC 8949 section 3).
     Reserved = 2,
     /// An indefinite length or a break, which this profile refuses (RFC 8949 section 3.2).
     Indefinite = 3,
     /// A simple value below 32 in two bytes (RFC 8949 section 3.3).
     BadSimple = 4,
-    /// An array, map or CBOR tag with no nesting left.
+    /// An array, map or CBOR tag where no nesting is left.
     TooDeep = 5,
-    /// A head, a string or the children pass the room.
+    /// A head, a string or the children don't fit into the room.
     PastRoom = 6,
     /// A CBOR tag that isn't wanted here (RFC 9052 section 2).
     WrongTag = 7,
@@ -27,19 +27,19 @@ pub enum Reason {
     Encrypted = 8,
     /// COSE_Mac or COSE_Sign (RFC 9052 sections 6.1 and 4.1), which this profile leaves out.
     SeveralParties = 9,
-    /// The array of the message hasn't four elements (RFC 9052 sections 4.2 and 6.2).
+    /// The array of the message doesn't have four elements (RFC 9052 sections 4.2 and 6.2).
     NotFour = 10,
-    /// Another major type than the one that must stand here.
+    /// A head has another major type than the one required.
     WrongType = 11,
-    /// A header bucket, key or claims set that is no map.
+    /// A header bucket, key or claims set that isn't a map.
     NotMap = 12,
-    /// A label that is neither an integer nor a text (RFC 9052 section 1.5).
+    /// A label that is neither an integer nor a text string (RFC 9052 section 1.5).
     BadLabel = 13,
     /// A label that equals an earlier one of its map (RFC 9052 section 3).
     DuplicateLabel = 14,
-    /// A label that stands in both header buckets (RFC 9052 section 3).
+    /// A label that is in both header buckets (RFC 9052 section 3).
     BothBuckets = 15,
-    /// A value that hasn't the form that its label wants.
+    /// A value that doesn't have the form that its label requires.
     BadValue = 16,
     /// A crit parameter in the unprotected bucket (RFC 9052 section 3.1).
     CritUnprotected = 17,
@@ -53,7 +53,7 @@ pub enum Reason {
     NoAlg = 21,
     /// The message names an algorithm that isn't one of its kind.
     UnknownAlg = 22,
-    /// Only the unprotected bucket names an algorithm, and no key that confirms it fits.
+    /// Only the unprotected bucket names an algorithm, and no key with that algorithm as its own fits.
     AlgUnprotected = 23,
     /// The protected bucket names an algorithm, and no key fits.
     NoKey = 24,
@@ -61,11 +61,11 @@ pub enum Reason {
     AmbiguousKey = 25,
     /// The payload is nil (RFC 9052 sections 4.1 and 6.1).
     Detached = 26,
-    /// The authentication tag or the signature hasn't the length of its algorithm.
+    /// The authentication tag or the signature doesn't have the length of its algorithm.
     BadAuthLength = 27,
-    /// The authentication tag or the signature doesn't hold.
+    /// The authentication tag or the signature isn't valid.
     BadAuth = 28,
-    /// The payload passes its limit.
+    /// The payload is longer than its limit.
     PayloadTooLong = 29,
     /// The CBOR tag of a CWT without that of a COSE message (RFC 8392 section 6).
     CwtTagAlone = 30,
@@ -85,9 +85,9 @@ pub enum Reason {
     WrongAudience = 37,
     /// A confirmation key that is encrypted (RFC 8747 section 3.3).
     EncryptedKey = 38,
-    /// A symmetric confirmation key in the plain (RFC 8747 section 3.2).
+    /// A symmetric confirmation key that isn't encrypted (RFC 8747 section 3.2).
     PlainKey = 39,
-    /// A confirmation that is no key, or names both a key and an encrypted one (RFC 8747 section 3).
+    /// A confirmation whose key is refused, or that has both a key and an encrypted one (RFC 8747 section 3).
     BadConfirmation = 40,
     /// Claims that are themselves a COSE message or a CWT (RFC 8392 section 7).
     NestedCwt = 41,

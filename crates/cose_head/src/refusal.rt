@@ -1,4 +1,4 @@
-//! A reason with the place where it stands.
+//! A reason with its place.
 
 ghost use Rattle.std.specs.Prelude.{Some};
 
@@ -8,13 +8,13 @@ use std::fmt;
 
 /// Why bytes are refused, and where: the answer to a fault, which is what is wrong in them.
 ///
-/// It is written as the reason's name and the place, for example `BadAuth at 10`.
+/// `Display` writes the reason's name and the place, for example `BadAuth at 10`.
 #[derive(Clone, Copy, Debug, PartialEq, Eq)]
 pub struct Refusal {
     /// The reason.
     pub reason: Reason,
-    /// The place, in bytes from where the caller's places begin: the first byte for `read_item`, and on from the given
-    /// place for items that stand in others. [`Reason::Truncated`] stands after the last byte.
+    /// The place, a number of bytes. For `read_item` it is relative to the first byte. A call that takes the place of
+    /// its first byte adds it. For [`Reason::Truncated`] it is after the last byte.
     pub place: u64,
 }
 

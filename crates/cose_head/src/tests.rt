@@ -1,4 +1,4 @@
-//! Tables of examples: values that the contracts can't show to be the ones that were meant.
+//! Tables of examples: values of which the contracts can't show that they are the intended ones.
 
 use super::*;
 use rows::{refused, rows, whole};
@@ -17,13 +17,13 @@ fn reads_items_within_room_and_nesting(rt: HostRuntime) {
             "of {bytes:?} within {room}, {depth}"
         );
     }
-    // No room goes before no byte.
+    // A room of 0 has precedence over missing bytes.
     assert_eq!(rt; read_item(b"", 0, 0), refused(Reason::PastRoom, 0));
     assert_eq!(rt; read_item(b"", 1, 0), refused(Reason::Truncated, 0));
 }
 
-/// What an item is, in the terms of the standard's table. A tag has its number, and a simple value that is no truth
-/// value has its own (RFC 8949 section 3.3: 22 is null, 23 undefined).
+/// What an item is, in the terms of RFC 8949. A tag has its number, and a simple value that isn't a Boolean has its own
+/// (RFC 8949 section 3.3: 22 is null, 23 undefined).
 #[derive(Clone, Copy)]
 enum Meaning {
     Int(i128),
@@ -65,7 +65,7 @@ fn bool_of(meaning: Meaning) -> Option<bool> {
     }
 }
 
-/// Each getter says what the item of these bytes is, or that it isn't that.
+/// Each getter returns what the item of these bytes is, or that it isn't that.
 fn expect_meaning(rt: &impl Abort, bytes: &[u8], want: Meaning) {
     let item = ItemRef::read(bytes, 0, 2).expect(rt, "one item");
     assert_eq!(rt; item.as_int(), int_of(want), "of {bytes:?}");

@@ -1,4 +1,5 @@
-//! One data item, a byte at a time (RFC 8949 section 3), with nothing held but a count for each open item.
+//! One data item, read a byte at a time (RFC 8949 section 3). It holds a count for each open item, and the bytes of at
+//! most one head.
 
 ghost use Rattle.std.specs.Prelude.{◌≡◌, ◌<◌, ◌≤◌, ◌+◌, ◌-◌, ◌*◌, ◌^◌, ℕ, List, [], ◌∷◌, ◌++◌, length, take, true, if◌then◌else◌, min, max, OnOk};
 ghost use Rattle.cose_head.specs.HalfHead.{is_half, IsHeadAt};
@@ -13,10 +14,10 @@ use crate::reason::Reason;
 use crate::refusal::Refusal;
 use arrayvec::ArrayVec;
 
-/// How far a [`Walker`] has come.
+/// The answer of a [`Walker`].
 #[derive(Clone, Copy, Debug, PartialEq, Eq)]
 pub enum Step {
-    /// The item isn't whole yet, and nothing of it is wrong.
+    /// The item is incomplete, and has no fault so far.
     Going,
     /// The last byte was the item's last.
     Done,
@@ -24,7 +25,7 @@ pub enum Step {
     Fault(Refusal),
 }
 
-/// How far the item is after a byte that nothing is wrong with.
+/// How far the item is after a byte without a fault.
 #[derive(Clone, Copy)]
 enum Progress {
     Open,
@@ -50,8 +51,8 @@ fn follows_head(head: Head) -> Follows
     }
 }
 
-/// Goes on, where an item has ended, to the next child of the innermost open item that has one, and closes the
-/// open items that have none. It says whether there is such a child.
+/// Where an item has ended, continues with the next child of the innermost open item that has one, and closes the open
+/// items that have none. Returns whether there is such a child.
 fn next_child<const D: usize>(counts: &mut ArrayVec<usize, D>) -> bool
     ensures { (l : Left) → finish D counts.old.items (ends l) ≡
         (if result then finish D counts.new.items (walk (D - length counts.new.items) l) else ends l) }
@@ -69,17 +70,17 @@ fn next_child<const D: usize>(counts: &mut ArrayVec<usize, D>) -> bool
 
 /// One data item, walked a byte at a time: at most `D` arrays, maps and tags are open at once.
 ///
-/// What its calls say stands under the relation `HasPut` (specs/Walker.antt), which [`Walker::new`], [`Walker::put`] and
-/// [`Walker::pass`] alone give: that the walker was put these bytes and goes on.
+/// The contracts of its methods rest on the relation `HasPut` (specs/Walker.antt), which says that the walker was put
+/// these bytes and is `Going`. Only [`Walker::new`], [`Walker::put`] and [`Walker::pass`] ensure it.
 #[derive(Drop)]
 pub struct Walker<const D: usize> {
-    /// The bytes that are there of a head that isn't whole.
+    /// The bytes so far of a head that is incomplete.
     half: ArrayVec<u8, 9>,
-    /// How many bytes are to come of the open string.
+    /// The number of bytes of the open string that weren't put yet.
     string: usize,
     /// How many bytes may be used from `place` on.
     room: usize,
-    /// How many bytes stand before the head, or before the rest of the string.
+    /// The number of bytes before the head, or before the rest of the string.
     place: usize,
     /// The last answer.
     step: Step,
@@ -124,11 +125,11 @@ impl<const D: usize> Walker<D> {
         }
     }
 
-    /// How many bytes are left of the open string, 1 where none is open, and 0 once the item is whole or refused.
+    /// The number of bytes left of the open string, 1 where none is open, and 0 once the item is complete or refused.
     pub fn want(&self) -> usize
         ensures content { (room : ℕ) (bytes : List ℕ) → HasPut room bytes self.now
             → result ≡ max 1 (open_in D (left_of bytes room 0)).content }
-        // Fewer further bytes neither end the item nor refuse it.
+        // Fewer bytes than that neither end the item nor refuse it.
         ensures early { (room : ℕ) (bytes more : List ℕ) → HasPut room bytes self.now
             → 0 < room → length more < result
             → Answers room (bytes ++ more) Step.Going (read D (left_of (bytes ++ more) room 0)) }
@@ -157,8 +158,8 @@ impl<const D: usize> Walker<D> {
 
     /// Takes the next byte of the item.
     ///
-    /// The answer is that of reading all bytes that were put. Once the item is whole or refused, it is the same
-    /// again, and nothing changes.
+    /// The answer is that of reading all bytes that were put. Once the item is complete or refused, the answer stays
+    /// the same, and nothing changes.
     pub fn put(&mut self, byte: u8) -> Step
         ensures answer { (room : ℕ) (bytes : List ℕ) → HasPut room bytes self.old
             → Answers room (bytes ++ byte ∷ []) result (read D (left_of (bytes ++ byte ∷ []) room 0)) }
@@ -179,10 +180,11 @@ impl<const D: usize> Walker<D> {
         }
     }
 
-    /// Takes the next bytes of the open string, and says how many: as many as it has left, or the whole piece. Where no
-    /// string is open it takes none.
+    /// Takes the next bytes of the open string, and returns how many: as many as it has left, or the whole piece. Where
+    /// no string is open it takes none.
     ///
-    /// It is the same as to [`put`](Walker::put) them one by one. [`Walker::step`] is the answer to the last of them.
+    /// It has the same effect as [`put`](Walker::put) of each of them in turn. [`Walker::step`] is the answer to the
+    /// last of them.
     pub fn pass(&mut self, piece: &[u8]) -> usize
         ensures used { (room : ℕ) (bytes : List ℕ) → HasPut room bytes self.old
             → result ≡ min (open_in D (left_of bytes room 0)).content (length piece.now) }
@@ -209,7 +211,7 @@ impl<const D: usize> Walker<D> {
         }
     }
 
-    /// The answer to a byte that led to this.
+    /// The answer to a byte with this progress.
     fn step_after(&self, progress: Result<Progress, Reason>) -> Step
         ensures { result ≡ step_after progress self.now.place }
     {
@@ -239,7 +241,7 @@ impl<const D: usize> Walker<D> {
         }
     }
 
-    /// Takes so many bytes of the open string.
+    /// Takes `count` bytes of the open string.
     fn advance_content(&mut self, count: usize) -> Result<Progress, Reason>
         requires some { 0 < count }
         requires fits { count ≤ self.old.string }
@@ -254,7 +256,7 @@ impl<const D: usize> Walker<D> {
         self.end_item()
     }
 
-    /// Begins the item of a head that is whole.
+    /// Begins the item of a complete head.
     fn begin(&mut self, head: Head) -> Result<Progress, Reason>
         requires string { self.old.string ≡ 0 }
         requires half { length self.old.half.items ≡ 0 }
@@ -335,7 +337,7 @@ impl<const D: usize> Walker<D> {
         Err(Reason::PastRoom)
     }
 
-    /// Passes over bytes that were used.
+    /// Counts bytes that were used.
     fn pass_over(&mut self, count: usize)
         requires { length self.old.half.items + self.old.string + count ≤ self.old.room }
         ensures { Passes self.old self.new count }

@@ -1,4 +1,4 @@
--- Pieces that are appended one after another.
+-- Pieces that are appended in turn.
 use Rattle.std.proofs.Common.{List, ℕ, ◌++◌, ◌∙◌, append_assoc}
 use Rattle.cose_mac.specs.Running.{Appends}
 use Rattle.cose_mac.specs.declared.running.Running.{Running}

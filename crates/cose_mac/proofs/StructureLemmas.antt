@@ -1,4 +1,4 @@
--- The front of a structure, and the whole.
+-- The bytes of a structure before its payload, and the whole structure.
 use Rattle.std.proofs.Common.{◌≡◌, List, ℕ, ◌++◌, length, append_assoc, append-nil}
 use Rattle.cose_head.specs.Shortest.{shortest, shortest_all}
 use Rattle.cose_head.specs.declared.kind.Kind.{Kind}

@@ -93,7 +93,7 @@ mac_by_sha512 : (text : List ℕ) → mac Hmac512 jefe text
 unfolding mac hmac key_block xor_pad
 mac_by_sha512 text = refl
 
--- A key of a byte less than a block gets one zero.
+-- A key that is one byte shorter than a block gets one zero.
 key_below_a_block : key_block (function_of Sha256) (replicate 63 0xaa) ≡ replicate 63 0xaa ++ 0 ∷ []
 unfolding key_block
 key_below_a_block = refl
@@ -102,7 +102,7 @@ key_below_a_block_of_sha512 : key_block (function_of Sha512) (replicate 127 0xaa
 unfolding key_block
 key_below_a_block_of_sha512 = refl
 
--- A key as long as a block stays as it is.
+-- A key as long as a block is unchanged.
 key_of_a_block : key_block (function_of Sha256) (replicate 64 0xaa) ≡ replicate 64 0xaa
 unfolding key_block
 key_of_a_block = refl
@@ -115,7 +115,7 @@ key_of_a_block_of_sha512 : key_block (function_of Sha512) (replicate 128 0xaa) �
 unfolding key_block
 key_of_a_block_of_sha512 = refl
 
--- A key of a byte more is hashed, and its digest gets zeros.
+-- A key that is one byte longer is hashed, and zeros are appended to its digest.
 key_above_a_block : key_block (function_of Sha256) (replicate 65 0xaa) ≡ sha256 (replicate 65 0xaa) ++ replicate 32 0
 unfolding key_block
 key_above_a_block = rw (length_digest Sha256 (replicate 65 0xaa)) refl

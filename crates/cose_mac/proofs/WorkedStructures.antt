@@ -22,7 +22,7 @@ signature1 = 0x84 ∷ 0x6a ∷ 0x53 ∷ 0x69 ∷ 0x67 ∷ 0x6e ∷ 0x61 ∷ 0x74
 abbrev hmac_256 : List ℕ
 hmac_256 = 0xa1 ∷ 1 ∷ 5 ∷ []
 
--- An empty protected header is the byte string of no bytes, as empty external data and an empty payload are.
+-- An empty protected header is the byte string of length zero, as empty external data and an empty payload are.
 mac_of_nothing : structure Mac0 [] [] [] ≡ mac0 ++ 0x40 ∷ 0x40 ∷ 0x40 ∷ []
 unfolding structure
 mac_of_nothing = refl
@@ -39,7 +39,7 @@ signature_of_one_byte : structure Sign1 hmac_256 [] (0xff ∷ []) ≡ signature1
 unfolding structure
 signature_of_one_byte = refl
 
--- The external data stand between the protected header and the payload.
+-- The external data are between the protected header and the payload.
 mac_with_external_data : structure Mac0 hmac_256 (0x2a ∷ []) (7 ∷ 8 ∷ []) ≡ mac0 ++ 0x43 ∷ 0xa1 ∷ 1 ∷ 5 ∷ 0x41 ∷ 0x2a ∷ 0x42 ∷ 7 ∷ 8 ∷ []
 unfolding structure
 mac_with_external_data = refl
@@ -53,7 +53,7 @@ mac_of_24_bytes : structure Mac0 hmac_256 [] (replicate 24 7) ≡ mac0 ++ 0x43 �
 unfolding structure
 mac_of_24_bytes = refl
 
--- What stands before the content of a payload of this length.
+-- The bytes before the content of a payload of this length.
 front_of_mac : structure_front Mac0 hmac_256 [] 0x10000 ≡ mac0 ++ 0x43 ∷ 0xa1 ∷ 1 ∷ 5 ∷ 0x40 ∷ 0x5a ∷ 0 ∷ 1 ∷ 0 ∷ 0 ∷ []
 unfolding structure_front shortest_head
 front_of_mac = refl

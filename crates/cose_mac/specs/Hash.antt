@@ -7,7 +7,7 @@ use Rattle.cose_head.specs.declared.algorithm.Alg.{Alg}
 use Rattle.cose_head.specs.declared.algorithm.Hash.{Hash}
 use Rattle.cose_head.specs.declared.algorithm.Hash.TheVariants.{Sha256, Sha384, Sha512}
 
--- What HMAC needs to know of a hash function: H, B and L of RFC 2104 section 2, the lengths in bytes.
+-- What HMAC uses of a hash function: H, B and L of RFC 2104 section 2, the lengths in bytes.
 pub record HashFunction : Type 0 where
   pub digest : List ℕ → List ℕ
   pub block_length : ℕ

@@ -1,4 +1,4 @@
--- What a hasher holds.
+-- The contents of a hasher.
 use Rattle.std.specs.Prelude.{ℕ, List}
 use Rattle.sha2.specs.Hashers.{Holds256, Holds384, Holds512}
 use Rattle.cose_head.specs.declared.algorithm.Hash.{Hash}

@@ -15,16 +15,16 @@ MacHasItsLength = (alg : Alg) (key message : List ℕ) → IsTrue (is_mac_of alg
 abbrev pub IsLongKey : Alg → List ℕ → Type 0
 IsLongKey alg key = (function_of_algorithm alg).block_length < length key
 
--- A key longer than a block makes the MACs that its digest makes as a key (RFC 2104 section 2).
+-- The MACs under a key longer than a block are those under its digest (RFC 2104 section 2).
 abbrev pub MacsOfLongKey : Type 0
 MacsOfLongKey = (alg : Alg) (key message : List ℕ) → IsLongKey alg key → mac alg (digest_of alg key) message ≡ mac alg key message
 
--- What runs under such a key runs under its digest.
+-- A running MAC under such a key is also one under its digest.
 abbrev pub RunningOfLongKey : Type 0
 RunningOfLongKey = (alg : Alg) (key message : List ℕ) → IsLongKey alg key
     → (running : Running) → FedMac running alg key message ↔ FedMac running alg (digest_of alg key) message
 
--- Two that were fed one message, one under such a key and one under its digest, end with the same MAC.
+-- Two that were fed the same message, one under such a key and one under its digest, end with the same MAC.
 abbrev pub EndsOfLongKey : Type 0
 EndsOfLongKey = (alg : Alg) (key message : List ℕ) → IsLongKey alg key
     → (one other : Running) → FedMac one alg key message → FedMac other alg (digest_of alg key) message

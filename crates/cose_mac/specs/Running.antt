@@ -7,7 +7,7 @@ use Rattle.cose_mac.specs.Hasher.{Holds}
 use Rattle.cose_mac.specs.Hmac.{key_block, xor_pad, ipad, opad, mac}
 use Rattle.cose_mac.specs.declared.running.Running.{Running}
 
--- whether it makes a MAC, and not a digest
+-- Whether it makes a MAC, and not a digest.
 abbrev pub makes_mac : Running → Bool
 makes_mac running = is_some running.outer
 
@@ -33,7 +33,7 @@ pub record FedDigest (running : Running) (alg : Alg) (message : List ℕ) : Type
   pub is_digest : IsFalse (makes_mac running)
   pub held : Holds (hash_of alg) running.hasher message
 
--- A piece was appended to whatever message was fed before.
+-- A piece was appended to the message that was fed before.
 pub record Appends (old new : Running) (piece : List ℕ) : Type 0 where
   pub purpose : makes_mac new ≡ makes_mac old
   pub fed_mac : (alg : Alg) (key message : List ℕ) → FedMac old alg key message → FedMac new alg key (message ++ piece)

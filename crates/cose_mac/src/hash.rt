@@ -1,4 +1,4 @@
-//! What HMAC needs of the hash functions: the length of their blocks, and digests (FIPS 180-4).
+//! What HMAC uses of the hash functions: the length of their blocks, and digests (FIPS 180-4).
 
 ghost use Rattle.std.specs.Prelude.{◌≡◌, ◌≤◌};
 ghost use Rattle.cose_mac.specs.Hash.{function_of};
@@ -7,7 +7,7 @@ use crate::hasher::Hasher;
 use arrayvec::ArrayVec;
 use cose_head::Hash;
 
-/// The number of bytes of the blocks that the function works on.
+/// The number of bytes of a block of the function.
 pub(crate) fn block_length(hash: Hash) -> usize
     ensures value { result ≡ (function_of hash).block_length }
     ensures at_least { 64 ≤ result }

@@ -17,14 +17,14 @@ pub(crate) const IPAD: u8 = 0x36;
 /// The byte that is repeated over the outer block.
 pub(crate) const OPAD: u8 = 0x5c;
 
-/// The key as a block: a key longer than a block is hashed, and then it is filled up with zeros.
+/// The key as a block: a key longer than a block is hashed, and then zeros are appended to it.
 #[tactic(auto, unfolding(crate::specs::Hmac::key_block))]
 pub(crate) fn key_block(hash: Hash, key: &[u8]) -> Block
     ensures { result.items ≡ spec.key_block (function_of hash) key.now }
 {
     let length = block_length(hash);
     let mut block = Block::new();
-    // What is at most as long as a block fits into it.
+    // What is at most as long as a block fits into a `Block`.
     let _ = if length < key.len() {
         block.try_extend_from_slice(&digest(hash, key))
     } else {

@@ -1,8 +1,9 @@
 //! The authentication of COSE messages (RFC 9052 sections 4.4 and 6.3): running MACs and digests of the bytes that are
-//! authenticated, and the structures that these bytes make.
+//! authenticated, and the structures of these bytes.
 //!
-//! The MAC of a COSE_Mac0 is that of its MAC_structure: what stands before the payload goes in by [`structure_front`],
-//! and then the payload in pieces of any length. Here the protected header is {1: 4}, which names HMAC 256/64:
+//! The MAC of a COSE_Mac0 is that of its MAC_structure: [`structure_front`] appends the bytes before the payload, and
+//! then the caller appends the payload in pieces of any length. Here the protected header is {1: 4}, which names HMAC
+//! 256/64:
 //!
 //! ```rust
 //! use cose_mac::{Alg, Kind, Running, structure_front};
@@ -16,9 +17,9 @@
 //! assert_eq!(rt; mac.as_slice(), b"\x7a\x06\x73\x54\x1f\xac\xc3\xd1".as_slice());
 //! ```
 //!
-//! A signature is made of a digest: [`Running::digest`] in the place of [`Running::hmac`], [`Kind::Sign1`], and at the
-//! end [`Running::finish_digest`]. Which of both an algorithm takes says [`Alg::is_mac`], and the length of its MACs or
-//! signatures [`Alg::auth_length`].
+//! For a signature, a digest is made: [`Running::digest`] instead of [`Running::hmac`], [`Kind::Sign1`], and at the end
+//! [`Running::finish_digest`]. [`Alg::is_mac`] says which of the two an algorithm needs, and [`Alg::auth_length`] is
+//! the length of its MACs or signatures.
 #![tactic(auto)]
 
 mod comparison;

@@ -1,4 +1,4 @@
-//! MACs and digests of messages that come in pieces (RFC 9053 sections 2.1 and 3.1).
+//! MACs and digests of messages that are fed in pieces (RFC 9053 sections 2.1 and 3.1).
 
 ghost use Rattle.std.specs.Prelude.{◌≡◌, ℕ, List, [], ◌++◌, IsTrue, IsFalse};
 ghost use Rattle.arrayvec.specs.ArrayVec.{array_vec_len};
@@ -10,7 +10,7 @@ use crate::hmac::{Block, IPAD, OPAD, key_block, xor_pad};
 use arrayvec::ArrayVec;
 use cose_head::Alg;
 
-/// A MAC or a digest of a message that comes in pieces.
+/// A MAC or a digest of a message that is fed in pieces.
 ///
 /// It has no `Debug`, so that no log shows what is derived from the key.
 #[derive(Drop)]
@@ -26,7 +26,7 @@ impl Running {
 
     /// The MAC of the empty message under a key of any length (RFC 2104).
     ///
-    /// The algorithm must be one of MACs: [`Alg::is_mac`] says so.
+    /// The algorithm must be one for MACs: [`Alg::is_mac`] is true.
     pub fn hmac(alg: Alg, key: &[u8]) -> Running
         requires { IsTrue (is_mac_of alg) }
         ensures { FedMac result alg key.now [] }
@@ -44,7 +44,7 @@ impl Running {
 
     /// The digest of the empty message, for a signature.
     ///
-    /// The algorithm must be one of signatures: [`Alg::is_mac`] is false.
+    /// The algorithm must be one for signatures: [`Alg::is_mac`] is false.
     pub fn digest(alg: Alg) -> Running
         requires { IsFalse (is_mac_of alg) }
         ensures { FedDigest result alg [] }
@@ -56,7 +56,7 @@ impl Running {
         }
     }
 
-    /// Whether [`Running::hmac`] made it, so that [`Running::finish_mac`] ends it.
+    /// Whether it was made by [`Running::hmac`], so that [`Running::finish_mac`] ends it.
     pub fn is_mac(&self) -> bool
         ensures { result ≡ makes_mac self.now }
     {

@@ -42,11 +42,11 @@ fn update_string(into: &mut Running, major: u8, content: &[u8])
     into.update(content);
 }
 
-/// Appends all bytes of the MAC_structure or Sig_structure that stand before the payload's content
-/// (RFC 9052 sections 6.3 and 4.4), up to and with the payload's head. All heads are shortest.
+/// Appends all bytes of the MAC_structure or Sig_structure before the payload's content (RFC 9052 sections 6.3 and
+/// 4.4), including the payload's head. All heads are the shortest.
 ///
-/// `protected` is the content of the protected bucket as received, or empty where the bucket has no
-/// parameters; `aad` is the externally supplied data; `payload_length` counts bytes.
+/// `protected` is the content of the protected bucket as received, or empty where the bucket has no parameters; `aad`
+/// is the externally supplied data; `payload_length` is the number of bytes of the payload.
 #[tactic(auto, using(crate::proofs::StructureLemmas::front_with_payload))]
 pub fn structure_front(
     kind: Kind,
@@ -57,7 +57,7 @@ pub fn structure_front(
 )
     ensures appended { Appends into.old into.new (spec.structure_front kind protected.now aad.now payload_length) }
 
-    // Followed by any payload of that length, this is the structure.
+    // With any payload of that length after it, this is the structure.
     ensures front { (payload : List ℕ) → length payload ≡ payload_length
         → spec.structure_front kind protected.now aad.now payload_length ++ payload
         ≡ spec.structure_of kind protected.now aad.now payload }

@@ -1,4 +1,4 @@
-//! Vectors of the standards, and bytes that the standards' rules give.
+//! Test vectors of the standards, and bytes that follow from the rules of the standards.
 ghost use Rattle.std.specs.Prelude.{◌<◌};
 
 use crate::{Alg, Kind, Running, structure_front};
@@ -31,7 +31,7 @@ fn mac_in_pieces(
     running.finish_mac()
 }
 
-/// HMAC of a whole message (RFC 2104 section 2), under a key that was made one block.
+/// HMAC of a whole message (RFC 2104 section 2), under a key that was made into a block.
 fn hmac_of_block<D: Digest>(block: &[u8], message: &[u8]) -> D::Output
 where
     D::Output: AsSlice<u8> + Drop,

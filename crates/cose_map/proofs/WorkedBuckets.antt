@@ -54,7 +54,7 @@ no_utf8 : bucket 0 (0xa1 ∷ 0x61 ∷ 0xff ∷ 0 ∷ []) ≡ refused BadLabel 1
 unfolding bucket
 no_utf8 = refl
 
--- Neither an integer nor a text: bytes, an array, a map, a tag, a truth value, nil and a float.
+-- Neither an integer nor a text string: bytes, an array, a map, a tag, a Boolean value, nil and a float.
 other_labels : map (bucket 0) (
     (0xa1 ∷ 0x40 ∷ 0 ∷ []) ∷
     (0xa1 ∷ 0x80 ∷ 0 ∷ []) ∷
@@ -68,8 +68,9 @@ other_labels : map (bucket 0) (
 unfolding bucket
 other_labels = refl
 
--- What a label's value may be. Of these: an unsigned integer, a negative one, bytes, a text, and one that is no UTF-8; arrays: the
--- empty one, of a number, of a text, of bytes, of such a text, and of a number and bytes; a map; a tag of bytes; false, nil, a float.
+-- The values that a label may have. Of these: an unsigned integer, a negative one, bytes, a text string, and one that
+-- isn't UTF-8; arrays: the empty one, of a number, of a text string, of bytes, of a text string that isn't UTF-8, and
+-- of a number and bytes; a map; a tag of bytes; false, nil, a float.
 abbrev pub values : List (List ℕ)
 values =
     (0 ∷ []) ∷ (0x20 ∷ []) ∷ (0x40 ∷ []) ∷ (0x61 ∷ 0x61 ∷ []) ∷ (0x61 ∷ 0xff ∷ []) ∷
@@ -111,7 +112,7 @@ other_values : map refused_for (0 ∷ 7 ∷ 0x20 ∷ []) ≡ replicate 3 (replic
 unfolding refused_for
 other_values = refl
 
--- "b", "a" and "b": the third is the first again.
+-- "b", "a" and "b": the third equals the first.
 words_twice : bucket 0 (0xa3 ∷ 0x61 ∷ 0x62 ∷ 0 ∷ 0x61 ∷ 0x61 ∷ 0 ∷ 0x61 ∷ 0x62 ∷ 0 ∷ []) ≡ refused DuplicateLabel 7
 unfolding bucket
 words_twice = refl
@@ -121,7 +122,7 @@ same_words_twice : bucket 0 (0xa2 ∷ 0x61 ∷ 0x31 ∷ 0 ∷ 0x78 ∷ 1 ∷ 0x3
 unfolding bucket
 same_words_twice = refl
 
--- A label goes before its value, and a pair before the next one.
+-- A label has precedence over its value, and a pair over the next one.
 label_before_value : bucket 0 (0xa2 ∷ 4 ∷ 0x41 ∷ 0 ∷ 4 ∷ 0 ∷ []) ≡ refused DuplicateLabel 4
 unfolding bucket
 label_before_value = refl
@@ -177,7 +178,7 @@ no_map : bucket 3 (0x80 ∷ []) ≡ refused NotMap 3
 unfolding bucket
 no_map = refl
 
--- Neither an integer nor a string is a map, nor is a tag of a map, nil or a float.
+-- An integer or a string isn't a map, nor is a tag of a map, nil or a float.
 no_maps : map (bucket 3) ((0 ∷ []) ∷ (0x20 ∷ []) ∷ (0x40 ∷ []) ∷ (0x60 ∷ []) ∷ (0xc1 ∷ 0xa0 ∷ []) ∷ (0xf6 ∷ []) ∷ (0xf9 ∷ 0 ∷ 0 ∷ []) ∷ []) ≡
     replicate 7 (refused NotMap 3)
 unfolding bucket
@@ -200,7 +201,7 @@ abbrev pairs_in : Read (List Pair) → List Pair
 pairs_in (Ok pairs) = pairs
 pairs_in (Err refusal) = []
 
--- An empty identifier is one, and an algorithm may be named by a text.
+-- An empty identifier is an identifier, and an algorithm may be named by a text string.
 empty_kid : kid_of (pairs_in (bucket 0 (0xa1 ∷ 4 ∷ 0x40 ∷ []))) ≡ Some []
 unfolding bucket look head_of_item bare_head
 empty_kid = refl
@@ -240,7 +241,7 @@ critical_understood : both (0xa3 ∷ 1 ∷ 5 ∷ 2 ∷ 0x81 ∷ 0x18 ∷ 0x2a �
 unfolding both
 critical_understood = refl
 
--- The application may understand several labels, and texts; a number is no text.
+-- The application may understand several labels, and text strings; a number isn't a text string.
 critical_understood_too : both (0xa3 ∷ 1 ∷ 5 ∷ 2 ∷ 0x81 ∷ 0x18 ∷ 0x2a ∷ 0x18 ∷ 0x2a ∷ 0 ∷ []) 13 (0xa0 ∷ []) (words (0x31 ∷ []) ∷ number (pos 42) ∷ []) 14 ≡ None
 unfolding both
 critical_understood_too = refl
@@ -286,7 +287,7 @@ wider_in_crit : both (0xa2 ∷ 1 ∷ 5 ∷ 2 ∷ 0x81 ∷ 0x18 ∷ 1 ∷ []) 10 
 unfolding both
 wider_in_crit = refl
 
--- Both are in one bucket, or the other way round.
+-- Both are in one bucket, or in the other order.
 both_in_the_protected : both (0xa2 ∷ 5 ∷ 0x41 ∷ 0 ∷ 6 ∷ 0x41 ∷ 0 ∷ []) 10 (0xa0 ∷ []) [] 11 ≡ wrong BothIvs 11
 unfolding both
 both_in_the_protected = refl
@@ -303,7 +304,8 @@ one_iv : both (0xa1 ∷ 5 ∷ 0x41 ∷ 0 ∷ []) 7 (0xa1 ∷ 4 ∷ 0x41 ∷ 0 �
 unfolding both
 one_iv = refl
 
--- A label that every reader knows has to be there all the same, and in the protected bucket; and so has a later element.
+-- A label that every implementation knows must also be present, and in the protected bucket; the same holds for a later
+-- element.
 known_and_absent : both (0xa2 ∷ 1 ∷ 5 ∷ 2 ∷ 0x81 ∷ 4 ∷ []) 9 (0xa1 ∷ 4 ∷ 0x41 ∷ 7 ∷ []) [] 13 ≡ wrong CritAbsent 8
 unfolding both
 known_and_absent = refl
@@ -312,7 +314,7 @@ second_is_absent : both (0xa2 ∷ 1 ∷ 5 ∷ 2 ∷ 0x82 ∷ 1 ∷ 0x18 ∷ 0x2a
 unfolding both
 second_is_absent = refl
 
--- The labels 1 to 6 are known, and those next to them and texts are not.
+-- The labels 1 to 6 are known, and those next to them and text strings are not.
 seven_is_unknown : both (0xa3 ∷ 1 ∷ 5 ∷ 2 ∷ 0x81 ∷ 7 ∷ 7 ∷ 0 ∷ []) 11 (0xa0 ∷ []) [] 12 ≡ wrong CritUnknown 8
 unfolding both
 seven_is_unknown = refl
@@ -333,7 +335,7 @@ six_is_known : both (0xa2 ∷ 2 ∷ 0x81 ∷ 6 ∷ 6 ∷ 0x40 ∷ []) 9 (0xa0 �
 unfolding both
 six_is_known = refl
 
--- Each of them that may be there with another, 5 and 6 apart: 3 alone, crit itself, and 1 to 5.
+-- Each of them that may be together with another, all but 5 and 6: 3 alone, crit itself, and 1 to 5.
 three_is_known : both (0xa2 ∷ 2 ∷ 0x81 ∷ 3 ∷ 3 ∷ 0 ∷ []) 9 (0xa0 ∷ []) [] 10 ≡ None
 unfolding both
 three_is_known = refl
@@ -346,7 +348,7 @@ one_to_five_are_known : both (0xa5 ∷ 1 ∷ 5 ∷ 2 ∷ 0x85 ∷ 1 ∷ 2 ∷ 3 
 unfolding both
 one_to_five_are_known = refl
 
--- Of the elements of crit the first at fault is told, whatever its fault is.
+-- Of the elements of crit the first one with a fault is the answer, whatever its fault is.
 first_of_two_absent : both (0xa2 ∷ 1 ∷ 5 ∷ 2 ∷ 0x82 ∷ 0x18 ∷ 0x2a ∷ 0x18 ∷ 0x2b ∷ []) 12 (0xa0 ∷ []) [] 13 ≡ wrong CritAbsent 8
 unfolding both
 first_of_two_absent = refl
@@ -356,8 +358,8 @@ unknown_before_a_later_absent : both (0xa3 ∷ 1 ∷ 5 ∷ 2 ∷ 0x82 ∷ 0x18 �
 unfolding both
 unknown_before_a_later_absent = refl
 
--- The places decide and not the order of the buckets: here the unprotected one stands first, or its label where the
--- element of crit does.
+-- The places decide and not the order of the buckets: here the unprotected one is at a lower place, or its label is at
+-- the place of the element of crit.
 least_place_in_the_unprotected : both (0xa2 ∷ 1 ∷ 5 ∷ 2 ∷ 0x81 ∷ 4 ∷ []) 0 (0xa1 ∷ 1 ∷ 5 ∷ []) [] 12 ≡ wrong BothBuckets 1
 unfolding both
 least_place_in_the_unprotected = refl

@@ -47,7 +47,7 @@ no_algorithm : answer None None None (plain ∷ []) ≡ Err NoAlg
 unfolding answer
 no_algorithm = refl
 
--- A signature's algorithm, and a text.
+-- A signature's algorithm, and a text string.
 other_kind : answer (Some (number (negsuc 6))) None None (for_five ∷ []) ≡ Err UnknownAlg
 unfolding answer
 other_kind = refl
@@ -87,7 +87,8 @@ no_macs : map (λ n. answer (Some (number n)) None None (plain ∷ [])) (pos 3 �
 unfolding answer
 no_macs = refl
 
--- A point on P-256, which is curve 1, is for ES256 (-7); a point on another curve, or a secret, isn't, and a point makes no MAC.
+-- A point on P-256, which is curve 1, is for ES256 (-7); a point on another curve, or a secret, isn't, and a point
+-- isn't for a MAC.
 abbrev point : ℕ → KeyValue
 point curve = record { kid = None; alg = None; operations = None; material = elliptic curve (7 ∷ []) (sign true) }
 
@@ -130,7 +131,7 @@ own_algorithm_of_other_kind : answer None None None (secret None (Some (number (
 unfolding answer
 own_algorithm_of_other_kind = refl
 
--- A key's own algorithm is one of the kind, also where it is for the key's own type and curve.
+-- A key's own algorithm must be for messages of the kind, also where it is for the key's own type and curve.
 abbrev for_es256 : KeyValue
 for_es256 = record (point 1) { alg = es256 }
 
@@ -146,7 +147,7 @@ own_signature : signed None (for_es256 ∷ []) ≡ Ok (for_es256, negsuc 6)
 unfolding signed
 own_signature = refl
 
--- A key for an algorithm that a text names.
+-- A key for an algorithm that a text string names.
 abbrev for_words : KeyValue
 for_words = secret None (Some (words (0x35 ∷ []))) None (0x61 ∷ [])
 
@@ -162,7 +163,7 @@ same_named_algorithm : answer None (Some (words (0x35 ∷ []))) None (for_words 
 unfolding answer
 same_named_algorithm = refl
 
--- The protected bucket's algorithm counts, whatever the unprotected one's is.
+-- The protected bucket's algorithm is used, whatever the unprotected one's is.
 protected_first : answer five (Some (number (pos 99))) None (plain ∷ []) ≡ Ok (plain, pos 5)
 unfolding answer
 protected_first = refl
@@ -183,7 +184,7 @@ unprotected_differs : answer None (Some (number (pos 4))) None (for_five ∷ [])
 unfolding answer
 unprotected_differs = refl
 
--- An unknown algorithm goes before everything that the keys decide.
+-- An unknown algorithm has precedence over everything that the keys decide.
 unknown_without_keys : answer (Some (number (pos 99))) None None [] ≡ Err UnknownAlg
 unfolding answer
 unknown_without_keys = refl
@@ -228,7 +229,7 @@ longer_kid : answer five None (Some (0x31 ∷ 0x32 ∷ [])) (named ∷ []) ≡ E
 unfolding answer
 longer_kid = refl
 
--- An empty identifier is one, of a key as of a message.
+-- An empty identifier is an identifier, of a key and of a message.
 abbrev with_empty_kid : KeyValue
 with_empty_kid = secret (Some []) None None (0x61 ∷ [])
 
@@ -244,7 +245,7 @@ same_empty_kid : answer five None (Some []) (with_empty_kid ∷ []) ≡ Ok (with
 unfolding answer
 same_empty_kid = refl
 
--- Whatever made no key fit, the algorithm's absence goes first.
+-- The absence of the algorithm has precedence, for whatever reason no key fits.
 other_kid_unprotected : answer None five (Some two) (named ∷ []) ≡ Err AlgUnprotected
 unfolding answer
 other_kid_unprotected = refl

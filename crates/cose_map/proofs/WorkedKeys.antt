@@ -56,7 +56,7 @@ a_number : keys (0 ∷ []) ≡ refused BadKeySet 0
 unfolding keys
 a_number = refl
 
--- Only an array and a map are key sets, and bytes after an item go before what it is.
+-- Only an array and a map are key sets, and bytes after an item have precedence over what it is.
 no_sets : map keys ((0 ∷ []) ∷ (0x20 ∷ []) ∷ (0x40 ∷ []) ∷ (0x60 ∷ []) ∷ (0xc1 ∷ 0xa0 ∷ []) ∷ (0xf6 ∷ []) ∷ (0xf9 ∷ 0 ∷ 0 ∷ []) ∷ []) ≡ replicate 7 (refused BadKeySet 0)
 unfolding keys
 no_sets = refl
@@ -81,12 +81,13 @@ byte_missing : keys (0xa2 ∷ 1 ∷ 4 ∷ 0x20 ∷ 0x44 ∷ 0x4a ∷ 0x65 ∷ 0x
 unfolding keys
 byte_missing = refl
 
--- A key of an unknown type is passed over.
+-- A key of an unknown type is skipped.
 unknown_type : keys (0x82 ∷ 0xa2 ∷ 1 ∷ 1 ∷ 0x20 ∷ 6 ∷ 0xa2 ∷ 1 ∷ 4 ∷ 0x20 ∷ 0x44 ∷ jefe) ≡ Ok (secret None ∷ [])
 unfolding keys
 unknown_type = refl
 
--- And so is what is no key for another reason: no map, a bad label, a label twice, a bad value, a member that is missing.
+-- The same holds for what isn't a key for another reason: not a map, a bad label, a label twice, a bad value, a missing
+-- member.
 other_refused_keys : keys (0x86 ∷ 0x80 ∷ 0xa1 ∷ 0x40 ∷ 0 ∷ 0xa2 ∷ 1 ∷ 4 ∷ 1 ∷ 4 ∷ 0xa1 ∷ 1 ∷ 0x40 ∷ 0xa1 ∷ 1 ∷ 4 ∷ 0xa2 ∷ 1 ∷ 4 ∷ 0x20 ∷ 0x44 ∷ jefe) ≡ Ok (secret None ∷ [])
 unfolding keys
 other_refused_keys = refl
@@ -95,7 +96,7 @@ single_refused_key : keys (0xa1 ∷ 1 ∷ 4 ∷ []) ≡ Ok []
 unfolding keys
 single_refused_key = refl
 
--- A set nests at most 8 deep, the array that holds its keys counted, and so does a key alone.
+-- A set has a nesting of at most 8, with the array that holds its keys, and so does a single key.
 abbrev deep : ℕ → List ℕ
 deep n = 0xa3 ∷ 1 ∷ 4 ∷ 0x20 ∷ 0x44 ∷ jefe ++ 0x0a ∷ replicate n 0x81 ++ 0 ∷ []
 
@@ -120,14 +121,14 @@ keys_in_order : keys (0x82 ∷ 0xa2 ∷ 1 ∷ 4 ∷ 0x20 ∷ 0x41 ∷ 0x61 ∷ 0
 unfolding keys
 keys_in_order = refl
 
--- A key is read as a bucket is, but for no bytes, which are none.
+-- A key is read as a bucket is, except that zero bytes are not a key.
 not_read : map key ([] ∷ (0x80 ∷ []) ∷ (0xa0 ∷ 0 ∷ []) ∷ (0xa1 ∷ 0x40 ∷ 0 ∷ []) ∷ (0xa2 ∷ 1 ∷ 4 ∷ 0x18 ∷ 1 ∷ 4 ∷ []) ∷ []) ≡
     refused PastRoom 0 ∷ refused NotMap 0 ∷ refused Trailing 1 ∷ refused BadLabel 1 ∷ refused DuplicateLabel 3 ∷ []
 unfolding key
 not_read = refl
 
--- What a member of keys of every type may be, of the values in the examples of buckets: a bad one is refused at its place, and with a
--- good one the type is missing, or is unknown.
+-- The values that a member of keys of every type may have, of the values in the examples of buckets: a bad one is
+-- refused at its place, and with a good one the type is missing, or is unknown.
 abbrev bad : Option Refusal
 bad = Some (record { reason = BadValue; place = 2 })
 
@@ -156,7 +157,7 @@ alg_values : refused_for 3 ≡
 unfolding refused_for
 alg_values = refl
 
--- An operation may be any text.
+-- An operation may be any text string.
 operations_values : refused_for 4 ≡
     bad ∷ bad ∷ bad ∷ bad ∷ bad ∷ bad ∷ missing ∷ missing ∷ bad ∷ missing ∷ bad ∷ bad ∷ bad ∷ bad ∷ bad ∷ bad ∷ []
 unfolding refused_for
@@ -195,7 +196,7 @@ no_operation : key (0xa3 ∷ 1 ∷ 4 ∷ 4 ∷ 0x80 ∷ 0x20 ∷ 0x41 ∷ 0x61 �
 unfolding key
 no_operation = refl
 
--- An operation that is a text counts for nothing, also where it is no UTF-8.
+-- An operation that is a text string has no effect, also where it isn't UTF-8.
 operations : key (0xa3 ∷ 1 ∷ 4 ∷ 4 ∷ 0x82 ∷ 0x0a ∷ 0x61 ∷ 0xff ∷ 0x20 ∷ 0x41 ∷ 0x61 ∷ [])
     ≡ Ok (record { kid = None; alg = None; operations = Some (pos 10 ∷ []); material = symmetric (0x61 ∷ []) })
 unfolding key
@@ -206,7 +207,7 @@ all_operations : key (0xa3 ∷ 1 ∷ 4 ∷ 4 ∷ 0x83 ∷ 9 ∷ 0x61 ∷ 0x61 �
 unfolding key
 all_operations = refl
 
--- An algorithm may be named by a text, and an empty identifier is one.
+-- An algorithm may be named by a text string, and an empty identifier is an identifier.
 kid_and_named_algorithm : key (0xa4 ∷ 1 ∷ 4 ∷ 2 ∷ 0x41 ∷ 0x31 ∷ 3 ∷ 0x61 ∷ 0x35 ∷ 0x20 ∷ 0x41 ∷ 0x61 ∷ [])
     ≡ Ok (record { kid = Some (0x31 ∷ []); alg = Some (words (0x35 ∷ [])); operations = None; material = symmetric (0x61 ∷ []) })
 unfolding key
@@ -244,7 +245,7 @@ leading_zeros : key (0xa4 ∷ 1 ∷ 2 ∷ 0x20 ∷ 1 ∷ 0x21 ∷ 0x58 ∷ 32 �
 unfolding key
 leading_zeros = refl
 
--- A coordinate without its leading zero, and one that has a zero too many.
+-- A coordinate without its leading zero, and one with an additional zero.
 short_y : key (0xa4 ∷ 1 ∷ 2 ∷ 0x20 ∷ 1 ∷ 0x21 ∷ 0x58 ∷ 32 ∷ point ++ 0x22 ∷ 0x58 ∷ 31 ∷ replicate 31 7) ≡ refused BadValue 41
 unfolding key
 short_y = refl
@@ -253,7 +254,7 @@ long_y : key (0xa4 ∷ 1 ∷ 2 ∷ 0x20 ∷ 1 ∷ 0x21 ∷ 0x58 ∷ 32 ∷ point
 unfolding key
 long_y = refl
 
--- A curve that a text names isn't known, also where the text is no UTF-8.
+-- A curve that a text string names isn't known, also where the text string isn't UTF-8.
 named_curve : key (0xa2 ∷ 1 ∷ 2 ∷ 0x20 ∷ 0x61 ∷ 0xff ∷ []) ≡ refused UnknownKey 0
 unfolding key
 named_curve = refl
@@ -310,7 +311,7 @@ number_for_d : key (0xa5 ∷ 1 ∷ 2 ∷ 0x20 ∷ 1 ∷ 0x21 ∷ 0x58 ∷ 32 ∷
 unfolding key
 number_for_d = refl
 
--- The members in their order, wherever they stand in the map: x before y, and y before d, each missing one too.
+-- The members in their order, wherever they are in the map: x before y, and y before d, also where they are missing.
 x_before_y : key (0xa4 ∷ 1 ∷ 2 ∷ 0x20 ∷ 1 ∷ 0x22 ∷ 0 ∷ 0x21 ∷ 0x41 ∷ 7 ∷ []) ≡ refused BadValue 8
 unfolding key
 x_before_y = refl
@@ -327,7 +328,7 @@ missing_y_before_d : key (0xa4 ∷ 1 ∷ 2 ∷ 0x20 ∷ 1 ∷ 0x23 ∷ 0 ∷ 0x2
 unfolding key
 missing_y_before_d = refl
 
--- The members of every type go before those of one.
+-- The members of every type have precedence over those of one.
 kid_before_type : key (0xa2 ∷ 1 ∷ 1 ∷ 2 ∷ 0 ∷ []) ≡ refused BadValue 4
 unfolding key
 kid_before_type = refl

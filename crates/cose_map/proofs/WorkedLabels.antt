@@ -15,7 +15,7 @@ negative_and_text = refl
 shorter_text : precedes (words (0x7a ∷ [])) (words (0x61 ∷ 0x61 ∷ [])) ≡ true
 shorter_text = refl
 
--- Of one kind: -1 (20) and -2 (21), "a" (61 61) and "b" (61 62), and nothing goes before itself.
+-- Of the same kind: -1 (20) and -2 (21), "a" (61 61) and "b" (61 62), and no label precedes itself.
 negatives : precedes (number (negsuc 0)) (number (negsuc 1)) ≡ true
 negatives = refl
 

@@ -1,14 +1,14 @@
--- For which reasons maps, keys, key sets, two buckets together and the choice of the key are refused, by their numbers,
--- by computing.
+-- The reasons for which maps, keys, key sets, two buckets together and the choice of the key are refused, by their
+-- numbers, by computing.
 use Rattle.std.proofs.Common.{◌≡◌, [], ◌∷◌, map, refl}
 use Rattle.cose_head.specs.Reason.{number_of}
 use Rattle.cose_map.specs.Laws.Reasons.{map_reasons, bucket_reasons, key_reasons, key_set_reasons, pair_reasons, choice_reasons}
 
--- no map, a bad label, and a label twice
+-- not a map, a bad label, and a label twice
 of_maps : map number_of map_reasons ≡ 12 ∷ 13 ∷ 14 ∷ []
 of_maps = refl
 
--- what bytes that have to be one item are refused for, what maps are, and a bad value
+-- the reasons of bytes that should be one item, those of maps, and a bad value
 of_buckets : map number_of bucket_reasons ≡ 2 ∷ 3 ∷ 4 ∷ 5 ∷ 6 ∷ 42 ∷ 12 ∷ 13 ∷ 14 ∷ 16 ∷ []
 of_buckets = refl
 

@@ -25,14 +25,14 @@ table room bytes = table_of room (keys_of bytes)
 abbrev refused : {A : Type 0} → Reason → ℕ → Read A
 refused reason place = Err (record { reason = reason; place = place })
 
--- A symmetric key of one byte, and what it says.
+-- A symmetric key of one byte, and its value.
 abbrev secret : ℕ → List ℕ
 secret byte = 0xa2 ∷ 1 ∷ 4 ∷ 0x20 ∷ 0x41 ∷ byte ∷ []
 
 abbrev key : ℕ → KeyValue
 key byte = record { kid = None; alg = None; operations = None; material = symmetric (byte ∷ []) }
 
--- A key of a type that is not known.
+-- A key of an unknown type.
 abbrev unusable : List ℕ
 unusable = 0xa2 ∷ 1 ∷ 1 ∷ 0x20 ∷ 6 ∷ []
 
@@ -52,7 +52,7 @@ third_key : table 2 (0x83 ∷ secret 0x61 ++ secret 0x62 ++ secret 0x63) ≡ ref
 unfolding table
 third_key = refl
 
--- A key that is not usable takes no room, wherever it stands.
+-- A key that is not usable takes no room, wherever it is in the set.
 unusable_last : table 2 (0x83 ∷ secret 0x61 ++ secret 0x62 ++ unusable) ≡ Ok (key 0x61 ∷ key 0x62 ∷ [])
 unfolding table
 unusable_last = refl
@@ -65,7 +65,7 @@ no_key : table 1 (0x81 ∷ unusable) ≡ Ok []
 unfolding table
 no_key = refl
 
--- The set's own fault goes first.
+-- The set's own fault has precedence.
 byte_after : table 2 (0x83 ∷ secret 0x61 ++ secret 0x62 ++ secret 0x63 ++ 0 ∷ []) ≡ refused Trailing 19
 unfolding table
 byte_after = refl
@@ -74,7 +74,7 @@ key_missing : table 2 (0x84 ∷ secret 0x61 ++ secret 0x62 ++ secret 0x63) ≡ r
 unfolding table
 key_missing = refl
 
--- What is found for a MAC by HMAC 256/256.
+-- The query of a MAC by HMAC 256/256.
 abbrev asked : Question
 asked = record { kind = Mac0; operation = pos 10; protected_alg = Some (number (pos 5)); unprotected_alg = None; kid = None }
 

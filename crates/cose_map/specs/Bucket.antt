@@ -11,17 +11,17 @@ use Rattle.cose_map.specs.Label.{LabelValue, label_of}
 use Rattle.cose_map.specs.Map.Pairs.{Pair, value_of}
 use Rattle.cose_map.specs.Map.Read.{Read, read_map}
 
--- The pairs of a bucket, or its first fault. No bytes are the empty bucket (RFC 9052 section 3).
+-- The pairs of a bucket, or its first fault. Zero bytes are the empty bucket (RFC 9052 section 3).
 unfoldable pub bucket_of : ℕ → Placed → Read (List Pair)
 bucket_of depth p = if length p.bytes == 0 then Ok [] else read_map bucket_table depth p
 
--- What a bucket says, from its pairs.
+-- The parameters of a bucket, from its pairs.
 abbrev pub alg_of : List Pair → Option LabelValue
 alg_of pairs = option_and_then label_of (value_of alg pairs)
 
 abbrev pub kid_of : List Pair → Option (List ℕ)
 kid_of pairs = option_and_then (λ value. bytes_in (look value)) (value_of kid pairs)
 
--- The elements of crit, if it is there.
+-- The elements of crit, if it is present.
 abbrev pub crit_of : List Pair → Option (List Placed)
 crit_of pairs = option_map children_of (value_of crit pairs)

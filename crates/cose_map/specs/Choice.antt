@@ -19,7 +19,8 @@ abbrev pub ◌>>=◌ : {A B : Type 0} → Option A → (A → Option B) → Opti
 (Some x) >>= f = f x
 None >>= f = None
 
--- What a message asks: its kind, the operation that verifies it, the algorithm that each bucket names, and the key's identifier.
+-- What a message requires: its kind, the operation that verifies it, the algorithm that each bucket names, and the
+-- key's identifier.
 pub record Question : Type 0 where
   pub kind : Kind
   pub operation : ℤ
@@ -31,14 +32,15 @@ abbrev pub is_this_label : Option LabelValue → LabelValue → Bool
 is_this_label None alg = false
 is_this_label (Some own) alg = same_label own alg
 
--- The algorithm that a key is used with: the protected one; without it the unprotected one, only where the key's own
--- is present and equal; without both the key's own. The algorithms are those of the protected bucket, of the unprotected and of the key.
+-- The algorithm that a key is used with: the protected one; without it the unprotected one, only where the key's own is
+-- present and equal; without both the key's own. The arguments are the algorithms of the protected bucket, of the
+-- unprotected bucket and of the key.
 abbrev pub algorithm_used : Option LabelValue → Option LabelValue → Option LabelValue → Option LabelValue
 algorithm_used (Some protected) unprotected own = Some protected
 algorithm_used None (Some unprotected) own = if is_this_label own unprotected then Some unprotected else None
 algorithm_used None None own = own
 
--- What a key leaves out, it doesn't forbid.
+-- A key that names no algorithm, operations or identifier allows any.
 abbrev pub allows_algorithm : Option LabelValue → LabelValue → Bool
 allows_algorithm None alg = true
 allows_algorithm (Some own) alg = same_label own alg
@@ -56,8 +58,8 @@ abbrev pub is_for : MaterialValue → Option Alg → Bool
 is_for material None = false
 is_for material (Some alg) = has_type material (key_type_of alg)
 
--- Whether a key fits: the algorithm is one of the kind and for the key's type and curve, the key's own is the same, its
--- operations hold the one that is asked, and the identifiers are equal.
+-- Whether a key fits: the algorithm is one for messages of the kind and for the key's type and curve, the key's own is
+-- the same, its operations contain the one that is required, and the identifiers are equal.
 abbrev pub fits : Question → KeyValue → ℤ → Bool
 fits q key algorithm =
     is_for key.material (algorithm_of q.kind algorithm)
@@ -65,7 +67,7 @@ fits q key algorithm =
     && allows_operation key.operations q.operation
     && allows_kid key.kid q.kid
 
--- An algorithm that a text names is none of those that are known here.
+-- A text string names none of the algorithms that are known here.
 abbrev pub integer_in_label : LabelValue → Option ℤ
 integer_in_label (number n) = Some n
 integer_in_label (words name) = None
@@ -77,7 +79,7 @@ fitting q key = do
   n ← integer_in_label alg
   if fits q key n then Some (key, n) else None
 
--- Why no key fits.
+-- The reason where no key fits.
 abbrev pub none_fits : Option LabelValue → Option LabelValue → Reason
 none_fits (Some protected) unprotected = NoKey
 none_fits None (Some unprotected) = AlgUnprotected
@@ -92,13 +94,14 @@ abbrev pub is_known : Kind → LabelValue → Bool
 is_known kind (number n) = is_some (algorithm_of kind n)
 is_known kind (words name) = false
 
--- The message's algorithm is that of the protected bucket, else of the unprotected. Where it is there, it is one of the kind.
+-- The message's algorithm is that of the protected bucket, else of the unprotected. Where it is present, it must be one
+-- for messages of the kind.
 abbrev pub is_answerable : Kind → Option LabelValue → Option LabelValue → Bool
 is_answerable kind (Some protected) unprotected = is_known kind protected
 is_answerable kind None (Some unprotected) = is_known kind unprotected
 is_answerable kind None None = true
 
--- Of all keys exactly one has to fit.
+-- Of all keys exactly one must fit.
 unfoldable pub chosen : Question → List KeyValue → Result (KeyValue × ℤ) Reason
 chosen q keys =
     if is_answerable q.kind q.protected_alg q.unprotected_alg then only_one q (filter_map (fitting q) keys) else Err UnknownAlg

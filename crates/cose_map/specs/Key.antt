@@ -1,4 +1,4 @@
--- One key (RFC 9052 section 7): a map, and then the members that its type wants.
+-- One key (RFC 9052 section 7): a map, and then the members that its type requires.
 pub mod Labels
 pub mod Form
 pub mod Curve
@@ -15,11 +15,11 @@ use Rattle.cose_map.specs.Label.{LabelValue, label_of}
 use Rattle.cose_map.specs.Map.Read.{Read, read_map, ◌>>=◌}
 use Rattle.cose_map.specs.Key.Material.{material_of}
 
--- The operations that it lists by their numbers. One that a text names is none of those that are asked for.
+-- The operations that it lists by their numbers. One that is a text string is none of those that a query requires.
 abbrev pub integers_of : List Placed → List ℤ
 integers_of elements = filter_map (λ element. integer_in (look element)) elements
 
--- The members that a key need not have.
+-- The members that a key may have.
 abbrev pub bytes_under : LabelValue → List Pair → Option (List ℕ)
 bytes_under name pairs = option_and_then (λ value. bytes_in (look value)) (value_of name pairs)
 

@@ -1,5 +1,5 @@
--- Several keys (RFC 9052 section 7): an array of keys, of which those that are no keys, or of an unknown type, are
--- passed over. A single key is a set of one.
+-- Several keys (RFC 9052 section 7): an array of keys, of which those that aren't keys, or are of an unknown type, are
+-- skipped. A single key is a set of one.
 pub mod Items
 pub mod View
 use Rattle.std.specs.Prelude.{ℕ, List, [], ◌∷◌, length, Option, Some, None, Ok, Err, nat_lt, ◌==◌, if◌then◌else◌, filter_map}
@@ -29,7 +29,7 @@ items_in set = items_like set (look set)
 abbrev pub usable_keys : Placed → List KeyValue
 usable_keys set = filter_map usable (items_in set)
 
--- A set with no such item is none.
+-- Where there is no such item, it isn't a set.
 abbrev pub keys_at : Placed → Read (List KeyValue)
 keys_at p = do
   set ← whole 8 p

@@ -1,4 +1,4 @@
--- Labels of maps (RFC 9052 section 1.5): integers and texts, which are equal by value, whatever their spelling.
+-- Labels of maps (RFC 9052 section 1.5): integers and text strings, which are equal by value, however they are encoded.
 pub mod Order
 pub mod View
 use Rattle.std.specs.Prelude.{ℕ, ℤ, Bool, false, List, Option, Some, None, bytes_eq, if◌then◌else◌}
@@ -15,7 +15,7 @@ same_label (number a) (number b) = int_eq a b
 same_label (words a) (words b) = bytes_eq a b
 same_label _ _ = false
 
--- A text is UTF-8 (RFC 8949 section 3.1).
+-- A text string is UTF-8 (RFC 8949 section 3.1).
 abbrev pub words_of : List ℕ → Option LabelValue
 words_of content = if is_utf8 content then Some (words content) else None
 

@@ -1,4 +1,4 @@
--- What the laws say.
+-- The statements of the laws.
 pub mod Inside
 pub mod Least
 pub mod Reasons

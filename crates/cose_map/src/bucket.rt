@@ -26,10 +26,11 @@ pub struct Bucket<'a> {
 }
 
 impl<'a> Bucket<'a> {
-    /// Reads a bucket whose first byte stands at `at`, of a nesting of at most `depth`. No bytes are the empty bucket.
+    /// Reads a bucket of a nesting of at most `depth`, whose first byte is at place `at`. Zero bytes are the empty
+    /// bucket.
     ///
-    /// The refusal is the first fault of the reading, with [`cose_head::Reason::PastRoom`] where the bytes end early,
-    /// then `Trailing`, `NotMap`, and then in the order of the pairs `BadLabel`, `DuplicateLabel` and `BadValue`.
+    /// The refusal is the first fault of the item, with [`cose_head::Reason::PastRoom`] where the bytes end early, then
+    /// `Trailing`, `NotMap`, and then in the order of the pairs `BadLabel`, `DuplicateLabel` and `BadValue`.
     #[tactic(auto, unfolding(crate::specs::Bucket::bucket_of, crate::specs::Map::Pairs::pairs_of))]
     pub fn read(bytes: &'a [u8], at: u64, depth: usize) -> Result<Bucket<'a>, Refusal>
         requires shallow { depth ≤ 32 }
@@ -54,7 +55,7 @@ impl<'a> Bucket<'a> {
         self.pairs.get(label)
     }
 
-    /// Whether a label stands in the bucket.
+    /// Whether a label is in the bucket.
     pub fn has(&self, label: &Label<'_>) -> bool
         ensures { result ≡ has_label (label_value label.now) (bucket_pairs self.now) }
     {
@@ -77,7 +78,7 @@ impl<'a> Bucket<'a> {
         value.as_bytes()
     }
 
-    /// The labels of the parameters that a reader has to understand.
+    /// The labels of the parameters that a recipient must understand.
     pub fn crit(&self) -> Option<Items<'a>>
         ensures { option_map items_left result ≡ crit_of (bucket_pairs self.now) }
     {

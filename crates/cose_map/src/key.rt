@@ -19,7 +19,7 @@ use cose_head::{ItemRef, Refusal};
 /// The nesting of a key or a key set.
 pub(crate) const NESTING: usize = 8;
 
-/// A key, as far as it is used: what it is for, where it says so, and what it consists of.
+/// A key, as far as it is used: the restrictions that it names, and its material.
 ///
 /// `Debug` prints how many bytes its material has, and none of them.
 #[derive(Clone, Copy, Debug)]
@@ -30,7 +30,7 @@ pub struct Key<'a> {
     pub alg: Option<Label<'a>>,
     /// The only operations that it is for.
     pub ops: Option<Ops<'a>>,
-    /// What it consists of.
+    /// The key material.
     pub material: Material<'a>,
 }
 
@@ -40,7 +40,7 @@ impl<'a> Key<'a> {
     ghost use Rattle.cose_map.specs.Key.View.{key_value};
     ghost use Rattle.cose_map.specs.Map.View.{seen_by};
 
-    /// The key that a map is, read from these bytes.
+    /// The key that a map is.
     #[tactic(auto, unfolding(crate::specs::Key::key_of))]
     fn of_map(bytes: &'a [u8], at: u64) -> Result<Key<'a>, Refusal>
         requires { at + length bytes.now < 2 ^ 64 }
@@ -58,17 +58,17 @@ impl<'a> Key<'a> {
         })
     }
 
-    /// Reads one key, whose first byte stands at `at`.
+    /// Reads one key, whose first byte is at place `at`.
     ///
-    /// The refusal is the first fault of the reading, then of the map's pairs in their order, then of the members that
-    /// the key's type wants.
+    /// The refusal is the first fault of the item, then of the map's pairs in their order, then of the members that the
+    /// key's type requires.
     #[tactic(auto, using(crate::proofs::lemmas::Laws::Inside::seen_inside))]
     pub fn read(bytes: &'a [u8], at: u64) -> Result<Key<'a>, Refusal>
         requires { at + length bytes.now < 2 ^ 64 }
         ensures exact { seen_by key_value result ≡ key_of (record { bytes = bytes.now; place = at }) }
         ensures within { IfErr result (λ refusal. refusal.place ≤ at + length bytes.now) }
     {
-        // The law that `within` rests on.
+        // The law that the proof of `within` cites.
         refusals_stand_inside();
         Key::of_map(bytes, at)
     }

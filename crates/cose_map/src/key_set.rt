@@ -16,11 +16,11 @@ use crate::map::read::refused;
 use cose_head::{Hidden, ItemRef, Reason, Refusal};
 use std::fmt;
 
-/// A key set has at most so many bytes.
+/// The greatest number of bytes of a key set.
 const MOST_BYTES: usize = 65_535;
 
-/// A set of keys: one key, or an array of keys, of which only the usable ones count. `Debug` prints how many bytes
-/// it has, and none of them.
+/// A set of keys: one key, or an array of keys, of which only the usable ones count. `Debug` prints how many bytes it
+/// has, and none of them.
 #[derive(Clone, Copy)]
 pub struct KeySet<'a> {
     set: ItemRef<'a>,
@@ -44,8 +44,8 @@ impl<'a> KeySet<'a> {
 
     /// Reads a key set of at most 65,535 bytes: one map, or an array of one or more items.
     ///
-    /// A key that is refused is passed over. The refusal is [`Reason::BadKeySet`] where there are too many bytes, then
-    /// the first fault of the reading, then [`Reason::Trailing`], then [`Reason::BadKeySet`] for another item.
+    /// A key that is refused is skipped. The refusal is [`Reason::BadKeySet`] where there are too many bytes, then the
+    /// first fault of the item, then [`Reason::Trailing`], then [`Reason::BadKeySet`] where the item is anything else.
     #[tactic(auto, unfolding(crate::specs::KeySet::keys_of))]
     pub fn read(bytes: &'a [u8]) -> Result<KeySet<'a>, Refusal>
         ensures exact { seen_by keys result ≡ keys_of bytes.now }
@@ -65,8 +65,8 @@ impl<'a> KeySet<'a> {
         Ok(KeySet { set })
     }
 
-    /// The set of the one key that an item is, as the key that a token confirms (RFC 8747 section 3.2). None where the item
-    /// is no usable key.
+    /// The set of the one key that an item is, such as the confirmation key of a token (RFC 8747 section 3.2). `None`
+    /// where the item isn't a usable key.
     #[tactic(auto, using(crate::proofs::lemmas::KeySet::key_alone))]
     pub fn of_key(item: ItemRef<'a>) -> Option<KeySet<'a>>
         ensures { option_map keys result ≡ option_map (λ key. key ∷ []) (usable_key (placed item.entry)) }
@@ -95,13 +95,13 @@ impl<'a> KeySet<'a> {
         count
     }
 
-    /// The one key that fits what a message asks, and the number of the algorithm that it is used with.
+    /// The one key that fits the query of a message, and the number of the algorithm that it is used with.
     ///
-    /// The reason is [`Reason::UnknownAlg`] where the message names an algorithm that is none of its kind (the protected
-    /// bucket's counts before the unprotected one's), whatever the keys are; then [`Reason::AmbiguousKey`] where more
-    /// than one key fits. Where no key fits it is [`Reason::NoAlg`] if the message names no algorithm,
-    /// [`Reason::AlgUnprotected`] if only its unprotected bucket names one, and [`Reason::NoKey`] if its protected
-    /// bucket does.
+    /// The reason is [`Reason::UnknownAlg`] where the message names an algorithm that isn't for messages of its kind
+    /// (the protected bucket's has precedence over the unprotected one's), whatever the keys are; then
+    /// [`Reason::AmbiguousKey`] where more than one key fits. Where no key fits it is [`Reason::NoAlg`] if the message
+    /// names no algorithm, [`Reason::AlgUnprotected`] if only its unprotected bucket names one, and [`Reason::NoKey`]
+    /// if its protected bucket does.
     #[tactic(auto, unfolding(crate::specs::Choice::chosen))]
     pub fn find(&self, query: &Query) -> Result<(Key<'a>, i128), Reason>
         ensures { found_value result ≡ chosen (question query.now) (keys self.now) }

@@ -57,7 +57,7 @@ impl<'a, const N: usize> KeyTable<'a, N> {
                 slots.push(Slot { key });
             }
         }
-        // What this ensures of the length is what the proof rests on.
+        // The proof cites what this ensures of the length.
         let _count = slots.len();
         Ok(KeyTable { slots })
     }
@@ -69,8 +69,8 @@ impl<'a, const N: usize> KeyTable<'a, N> {
         self.slots.len()
     }
 
-    /// The one key that fits what a message asks, and the number of the algorithm that it is used with. The reasons are
-    /// those of [`KeySet::find`].
+    /// The one key that fits the query of a message, and the number of the algorithm that it is used with. The reasons
+    /// are those of [`KeySet::find`].
     #[tactic(auto, unfolding(crate::specs::Choice::chosen))]
     pub fn find(&self, query: &Query) -> Result<(Key<'a>, i128), Reason>
         ensures { found_value result ≡ chosen (question query.now) (keys self.now) }

@@ -8,17 +8,17 @@ ghost use Rattle.cose_map.specs.Label.View.{label_value};
 
 use cose_head::ItemRef;
 
-/// A label of a map: an integer or a text. Labels are equal by value, whatever their spelling.
+/// A label of a map: an integer or a text string. Labels are equal by value, however they are encoded.
 #[derive(Clone, Copy, Debug, PartialEq, Eq)]
 pub enum Label<'a> {
     /// An integer.
     Int(i128),
-    /// A text.
+    /// A text string.
     Text(&'a str),
 }
 
 impl<'a> Label<'a> {
-    /// The label that an item is, if it is an integer, or a text that is UTF-8.
+    /// The label that an item is, if it is an integer, or a text string that is UTF-8.
     #[tactic(auto, using(crate::proofs::lemmas::Label::integer_label, crate::proofs::lemmas::Label::text_label, crate::proofs::lemmas::Label::no_label))]
     pub fn of(item: &ItemRef<'a>) -> Option<Label<'a>>
         ensures { option_map label_value result ≡ label_of (placed item.now) }
@@ -61,7 +61,7 @@ impl<'a> Label<'a> {
         }
     }
 
-    /// Whether deterministic encoding puts this label before the other (RFC 8949 section 4.2.1).
+    /// Whether deterministic encoding has this label before the other (RFC 8949 section 4.2.1).
     pub(crate) fn precedes(&self, other: &Label<'_>) -> bool
         ensures { result ≡ order.precedes (label_value self.now) (label_value other.now) }
     {

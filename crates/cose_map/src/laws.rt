@@ -1,4 +1,5 @@
-//! Laws of the definitions that the contracts cite. A law is a function that does nothing, and whose contract is the law.
+//! Laws of the definitions that the contracts cite. A law is a function with no run-time effect, whose contract is the
+//! law.
 
 ghost use Rattle.cose_map.specs.Laws.Inside.{MapIsRefusedInside, ReadIsRefusedInside, BucketIsRefusedInside, KeyIsRefusedInside, FoundEndsInside, BucketEndsInside, PairIsRefusedInside};
 ghost use Rattle.cose_map.specs.Laws.Chosen.{ChosenIsAmong, ChosenFits, ChosenIsOfKind, ChosenIsOfType, NoOtherFits};
@@ -8,9 +9,9 @@ ghost use Rattle.cose_map.specs.Laws.Tree.{ItemIsTree, MapIsOfTree, BucketIsOfTr
 
 use cose_head::laws::{children_are_of_tree, look_is_of_tree, read_is_spelling, whole_is_one_item};
 
-/// A refusal of a map, of a bucket or of a key stands among its bytes or at their end, and one of two buckets together
-/// no later than the later of their ends, or at the place after both (RFC 9052 sections 3 and 7). What a map has under a
-/// label is among its bytes.
+/// The place of a refusal of a map, of a bucket or of a key is within its bytes or at their end. That of two buckets
+/// together is no later than the later of their ends, or it is the place after both (RFC 9052 sections 3 and 7). The
+/// pair that a map has for a label ends within the map's bytes.
 pub fn refusals_stand_inside()
     ensures map { MapIsRefusedInside }
     ensures read { ReadIsRefusedInside }
@@ -20,21 +21,22 @@ pub fn refusals_stand_inside()
     ensures pairs { BucketEndsInside }
     ensures two_buckets { PairIsRefusedInside }
 {
-    // What these two say of reading and of children is all that the proof rests on.
+    // Laws that the proof cites: of reading, and of children.
     whole_is_one_item();
     children_are_of_tree();
 }
 
-/// The least of several faults is there where a fault is. It is one of them, and none of them goes before it: none stands
-/// at a lower place, and at its place none has a smaller number.
+/// There is a least of several faults exactly where there is a fault. It is one of them, and none of them has
+/// precedence over it: none has a lower place, or the same place and a smaller number.
 pub fn least_fault_is_least()
     ensures none { NoLeastOfNone }
     ensures among { LeastIsAmong }
     ensures least { NoneBeforeLeast }
 {}
 
-/// For which reasons each call refuses: a map or bytes that are read with a table (the table's own are besides), a bucket
-/// (RFC 9052 section 3), a key and a key set (section 7), two buckets together (section 3.1), and the choice of the key.
+/// The reasons for which each call refuses: a map, or bytes that are read with a table (in addition to the table's own
+/// reasons), a bucket (RFC 9052 section 3), a key and a key set (section 7), two buckets together (section 3.1), and
+/// the choice of the key.
 pub fn refusals_have_their_reasons()
     ensures map { MapIsRefusedFor }
     ensures read { ReadIsRefusedFor }
@@ -44,12 +46,12 @@ pub fn refusals_have_their_reasons()
     ensures two_buckets { PairIsRefusedFor }
     ensures choice { ChoiceIsRefusedFor }
 {
-    // What this says of bytes that have to be one item is all that the proof rests on.
+    // A law that the proof cites, of bytes that should be one item.
     whole_is_one_item();
 }
 
-/// No refusal of a bucket, a key, a key set, two buckets or the choice is `Truncated`: bytes that end too early for what stands
-/// in them are `PastRoom`.
+/// No refusal of a bucket, a key, a key set, two buckets or the choice is `Truncated`: where the bytes end too early
+/// for the item that they begin with, the reason is `PastRoom`.
 pub fn refusals_are_not_truncated()
     ensures bucket { BucketIsNotTruncated }
     ensures key { KeyIsNotTruncated }
@@ -57,7 +59,7 @@ pub fn refusals_are_not_truncated()
     ensures two_buckets { PairIsNotTruncated }
     ensures choice { ChoiceIsNotTruncated }
 {
-    // What this says of bytes that have to be one item is all that the proof rests on.
+    // A law that the proof cites, of bytes that should be one item.
     whole_is_one_item();
 }
 
@@ -70,15 +72,15 @@ pub fn maps_are_of_trees()
     ensures bucket { BucketIsOfTree }
     ensures key { KeyIsOfTree }
 {
-    // What these say of reading, of looks and of children is all that the proof rests on.
+    // Laws that the proof cites: of reading, of what items are, and of children.
     read_is_spelling();
     whole_is_one_item();
     look_is_of_tree();
     children_are_of_tree();
 }
 
-/// The key that is chosen is one of those that were there, and fits. The number that comes with it is that of an algorithm
-/// of the message's kind, and the key is of its type and on its curve. No other of the keys fits.
+/// The key that is chosen is one of the keys passed, and fits. The number that is returned with it is that of an
+/// algorithm for the message's kind, and the key is of its type and on its curve. No other of the keys fits.
 pub fn chosen_key_fits()
     ensures among { ChosenIsAmong }
     ensures fits { ChosenFits }

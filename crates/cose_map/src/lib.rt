@@ -1,8 +1,8 @@
 //! Maps of labels and values in COSE (RFC 9052): header buckets, keys and key sets.
 //!
 //! From the bytes of a message's two header buckets and of a key set to the key that authenticates the message. The
-//! protected bucket is {1: 5}, which names HMAC 256/256, and the unprotected one is {4: h'31'}, the key's identifier. They
-//! stand at 3 and 6 of the message, and what comes after both at 10:
+//! protected bucket is {1: 5}, which names HMAC 256/256, and the unprotected one is {4: h'31'}, the key's identifier.
+//! Their places in the message are 3 and 6, and the place after both is 10:
 //!
 //! ```rust
 //! use cose_map::{Bucket, KeySet, KeyTable, Kind, Material, Query, check_pair};
@@ -38,11 +38,12 @@
 //!
 //! Code that takes either is generic over [`Keys`].
 //!
-//! The labels that RFC 9052 section 3.1 defines stand in [`header`]. [`read_map`] and [`check_map`] read any map with a table of
-//! value forms, a [`Form`], into its [`Pairs`]. [`KeySet::of_key`] is the set of one key that stands in another item.
+//! The labels that RFC 9052 section 3.1 defines are in [`header`]. [`read_map`] and [`check_map`] read any map with a
+//! table of value forms, a [`Form`], into its [`Pairs`]. [`KeySet::of_key`] is the set of one key that is within
+//! another item.
 //!
-//! A fault is what is wrong with some bytes, at a place. A refusal is how a call answers: it names one fault, the first
-//! or the least, by its reason and place.
+//! A fault is what is wrong with some bytes, at a place. A refusal is the answer of a call: it names one fault, the
+//! first or the least, by its reason and place.
 #![tactic(auto)]
 
 mod bucket;

@@ -1,4 +1,4 @@
--- A policy of the code, without where its texts lie in memory.
+-- A policy of the code, without where its text strings are in memory.
 use Rattle.std.specs.Prelude.{ℕ, List, Option, Some, None, map}
 use Rattle.cose_cwt.specs.declared.policy.Audience.{Audience}
 use Rattle.cose_cwt.specs.declared.policy.Audience.TheVariants.{Mine, LeftToCaller}

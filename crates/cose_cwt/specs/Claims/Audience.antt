@@ -1,4 +1,4 @@
--- The texts that an iterator over an audience still gives.
+-- The text strings that an iterator over an audience still gives.
 use Rattle.std.specs.Prelude.{ℕ, List, [], ◌∷◌}
 use Rattle.std.specs.Borrow.{Bor}
 use Rattle.cose_head.specs.Items.{items_left}

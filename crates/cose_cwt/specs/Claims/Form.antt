@@ -8,15 +8,15 @@ use Rattle.cose_map.specs.Label.{same_label}
 use Rattle.cose_map.specs.Map.Form.{Table, is_bytes}
 use Rattle.cose_cwt.specs.Claims.Labels.{iss, sub, aud, exp, nbf, iat, cti, cnf}
 
--- A text that is UTF-8.
+-- A text string that is UTF-8.
 abbrev pub is_text : Placed → Bool
 is_text p = is_some (text_in (look p))
 
--- One or more texts.
+-- One or more text strings.
 abbrev pub are_texts : List Placed → Bool
 are_texts elements = not (length elements == 0) && list_all is_text elements
 
--- A text, or an array of one or more texts.
+-- A text string, or an array of one or more text strings.
 abbrev pub is_audience : Placed → Bool
 is_audience p = is_text p || (is_an_array (look p) && are_texts (children_of p))
 
@@ -28,7 +28,7 @@ is_epoch_tag (Some found) = found.0 == 1
 abbrev pub is_tagged_date : Placed → Bool
 is_tagged_date p = is_epoch_tag (tag_in p)
 
--- A date is an integer, the seconds since 1970, without their tag (RFC 8392 section 2). Floats aren't taken here.
+-- A date is an integer, the seconds since 1970, without their tag (RFC 8392 section 2). Floats are refused here.
 abbrev pub date_fault : Placed → Option Reason
 date_fault p =
     if is_some (integer_in (look p)) then None else

@@ -1,4 +1,4 @@
--- Claims of the code, without where they lie in memory.
+-- Claims of the code, without where they are in memory.
 use Rattle.std.specs.Prelude.{option_map}
 use Rattle.cose_map.specs.Map.View.{pairs_left}
 use Rattle.cose_cwt.specs.declared.claims.Claims.{Claims}

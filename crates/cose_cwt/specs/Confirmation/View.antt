@@ -1,4 +1,4 @@
--- A confirmation of the code, without where it lies in memory.
+-- A confirmation of the code, without where it is in memory.
 use Rattle.std.specs.Prelude.{Option, option_map, option_and_then}
 use Rattle.cose_head.specs.declared.item_ref.ItemRef.{ItemRef}
 use Rattle.cose_head.specs.ItemRef.{placed}

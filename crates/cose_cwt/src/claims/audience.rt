@@ -7,25 +7,25 @@ ghost use Rattle.cose_cwt.specs.Claims.Audience.{texts_left};
 
 use cose_map::{ItemRef, Items};
 
-/// The texts that are still to come.
+/// The text strings that the iterator hasn't given yet.
 #[derive(Clone, Copy, Debug)]
 enum Texts<'a> {
-    /// No text.
+    /// No text string.
     Nothing,
-    /// The one text that the audience is.
+    /// The one text string that the audience is.
     One(&'a str),
     /// The elements of an array.
     Several(Items<'a>),
 }
 
-/// The texts of an audience, in their order. There are none where the token names no audience.
+/// The text strings of an audience, in their order. There are none where the token names no audience.
 #[derive(Clone, Copy, Debug)]
 pub struct Auds<'a> {
     texts: Texts<'a>,
 }
 
 impl<'a> Auds<'a> {
-    /// The texts of no audience.
+    /// The audience without a text string.
     pub(crate) fn none() -> Auds<'a>
         ensures { texts_left result ≡ [] }
     {
@@ -34,7 +34,7 @@ impl<'a> Auds<'a> {
         }
     }
 
-    /// The texts of the audience that an item is.
+    /// The text strings of the audience that an item is.
     pub(crate) fn of(item: &ItemRef<'a>) -> Auds<'a>
         ensures { texts_left result ≡ texts_of (placed item.now) }
     {

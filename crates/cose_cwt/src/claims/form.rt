@@ -8,17 +8,17 @@ ghost use Rattle.cose_cwt.specs.Claims.Form as spec;
 use crate::claims::labels;
 use cose_map::{Form, ItemRef, Items, Label, Reason};
 
-/// The tag of a date in seconds since 1970 (RFC 8949 section 3.4.2), which dates in claims are without.
+/// The tag of a date in seconds since 1970 (RFC 8949 section 3.4.2), which dates in claims must not have.
 const EPOCH: u64 = 1;
 
-/// Whether an item is a text that is UTF-8.
+/// Whether an item is a text string that is UTF-8.
 fn is_text(item: &ItemRef<'_>) -> bool
     ensures { result ≡ spec.is_text (placed item.now) }
 {
     item.as_text().is_some()
 }
 
-/// Whether items are one or more texts.
+/// Whether items are one or more text strings.
 fn are_texts(items: Items<'_>) -> bool
     ensures { result ≡ spec.are_texts (items_left items.entry) }
 {
@@ -32,7 +32,7 @@ fn are_texts(items: Items<'_>) -> bool
     any
 }
 
-/// Whether an item is a text, or an array of one or more texts.
+/// Whether an item is a text string, or an array of one or more text strings.
 fn is_audience(item: &ItemRef<'_>) -> bool
     ensures { result ≡ spec.is_audience (placed item.now) }
 {
@@ -49,7 +49,7 @@ fn is_tagged_date(item: &ItemRef<'_>) -> bool
     }
 }
 
-/// What is wrong with a date, if something is.
+/// The fault of a date, if it has one.
 fn date_fault(item: &ItemRef<'_>) -> Option<Reason>
     ensures { result ≡ spec.date_fault (placed item.now) }
 {
@@ -65,7 +65,7 @@ fn date_fault(item: &ItemRef<'_>) -> Option<Reason>
     Some(Reason::BadValue)
 }
 
-/// What is wrong with a value that should have a form.
+/// The fault of a value that doesn't have its form.
 fn fault_unless(is_right: bool) -> Option<Reason>
     ensures { result ≡ spec.fault_unless is_right }
 {

@@ -2,22 +2,22 @@
 
 use cose_map::Label;
 
-/// Who issued the token.
+/// The issuer of the token.
 pub(crate) const ISS: Label<'static> = Label::Int(1);
 
-/// Whom the token is about.
+/// The subject of the token.
 pub(crate) const SUB: Label<'static> = Label::Int(2);
 
-/// Whom the token is for.
+/// The audience of the token.
 pub(crate) const AUD: Label<'static> = Label::Int(3);
 
-/// The moment from which on it isn't valid any more.
+/// The expiration time: from then on the token isn't valid.
 pub(crate) const EXP: Label<'static> = Label::Int(4);
 
-/// The moment from which on it is valid.
+/// The time from which on the token is valid.
 pub(crate) const NBF: Label<'static> = Label::Int(5);
 
-/// The moment at which it was issued.
+/// The time at which the token was issued.
 pub(crate) const IAT: Label<'static> = Label::Int(6);
 
 /// The identifier of the token.

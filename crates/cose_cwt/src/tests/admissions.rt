@@ -5,7 +5,7 @@ use crate::{Audience, Claims, Policy};
 use cose_map::{Reason, Refusal};
 use std::process::Abort;
 
-/// Whether the claims are admitted, or why not.
+/// The refusal, where the claims aren't admitted.
 fn refused(bytes: &[u8], policy: &Policy<'_>) -> Option<Refusal> {
     match Claims::read(bytes, 4) {
         Ok(claims) => claims.admit(policy).err(),
@@ -13,7 +13,7 @@ fn refused(bytes: &[u8], policy: &Policy<'_>) -> Option<Refusal> {
     }
 }
 
-/// A policy without leeway that names these texts.
+/// A policy without leeway that has these text strings.
 fn mine<'p>(texts: &'p [&'p str], now: i64) -> Policy<'p> {
     Policy {
         now,
@@ -22,7 +22,8 @@ fn mine<'p>(texts: &'p [&'p str], now: i64) -> Policy<'p> {
     }
 }
 
-/// Every claim and the confirmation go before admission; there exp goes before nbf, and both before the audience.
+/// Every claim and the confirmation have precedence over admission; there exp has precedence over nbf, and both over
+/// the audience.
 #[test]
 fn judges_in_order(rt: HostRuntime) {
     let rows: [(i64, &[u8], Reason, u64); 12] = [
@@ -208,12 +209,12 @@ fn adds_beyond_64_bits(rt: HostRuntime) {
     }
 }
 
-/// Admits these claims, or refuses them, under a policy that names these texts.
+/// Checks that these claims are admitted, or refused with `want`, under a policy that has these text strings.
 fn admits(rt: &impl Abort, texts: &[&str], bytes: &[u8], want: Option<Refusal>) {
     assert_eq!(rt; refused(bytes, &mine(texts, 0)), want, "of {bytes:?}");
 }
 
-/// A text of the audience equals one of the policy's in all bytes; the subject is no audience.
+/// A text string of the audience equals one of the policy's in all bytes; the subject isn't an audience.
 #[test]
 fn compares_whole_texts(rt: HostRuntime) {
     let others = Some(refusal(Reason::WrongAudience, 2));

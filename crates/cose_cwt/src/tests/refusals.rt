@@ -5,8 +5,8 @@ use crate::tests::refusal;
 use cose_map::Reason;
 use std::test::Fail;
 
-/// The payload is one item, with room for its bytes and with the nesting; a fault in it goes before its tag, and a byte after it
-/// before what the item is.
+/// The payload is one item, with room for its bytes and with the nesting; a fault in it has precedence over its tag,
+/// and a byte after it over what the item is.
 #[test]
 fn reads_one_whole_item(rt: HostRuntime) {
     let rows: [(&[u8], Reason, u64); 8] = [
@@ -25,7 +25,8 @@ fn reads_one_whole_item(rt: HostRuntime) {
     }
 }
 
-/// Seven tags are those of a token, however wide their heads are and whatever their content is; tags next to them are no maps.
+/// Seven tags are those of a token, however wide their heads are and whatever their content is; items with the tags
+/// next to them aren't maps.
 #[test]
 fn refuses_tokens_in_tokens(rt: HostRuntime) {
     let rows: [(&[u8], Reason, u64); 19] = [
@@ -55,7 +56,7 @@ fn refuses_tokens_in_tokens(rt: HostRuntime) {
     }
 }
 
-/// A pair goes before the next, and a label before its value.
+/// A pair has precedence over the next, and a label over its value.
 #[test]
 fn reads_pairs_in_order(rt: HostRuntime) {
     let rows: [(&[u8], Reason, u64); 7] = [
@@ -98,7 +99,7 @@ fn wants_texts(rt: HostRuntime) {
     }
 }
 
-/// A date is no float, whatever its width.
+/// A float isn't a date, whatever its width.
 #[test]
 fn wants_no_floats(rt: HostRuntime) {
     let rows: [(&[u8], Reason, u64); 9] = [
@@ -194,7 +195,7 @@ fn wants_a_map(rt: HostRuntime) {
     }
 }
 
-/// Every claim goes before every fault of the confirmation.
+/// Every claim has precedence over every fault of the confirmation.
 #[test]
 fn reads_claims_before_the_confirmation(rt: HostRuntime) {
     let rows: [(&[u8], Reason, u64); 4] = [
@@ -209,7 +210,7 @@ fn reads_claims_before_the_confirmation(rt: HostRuntime) {
     }
 }
 
-/// The labels of a confirmation go before its values, in their order.
+/// The labels of a confirmation have precedence over its values, in their order.
 #[test]
 fn reads_labels_of_members_first(rt: HostRuntime) {
     let rows: [(&[u8], Reason, u64); 8] = [
@@ -240,7 +241,7 @@ fn reads_labels_of_members_first(rt: HostRuntime) {
     }
 }
 
-/// Two keys go before either of them, and an encrypted key before the identifier.
+/// A key next to an encrypted key has precedence over either of them, and an encrypted key over the identifier.
 #[test]
 fn refuses_encrypted_keys(rt: HostRuntime) {
     let rows: [(&[u8], Reason, u64); 7] = [
@@ -266,7 +267,7 @@ fn refuses_encrypted_keys(rt: HostRuntime) {
     }
 }
 
-/// That a key is one goes before that it is symmetric, and both before the identifier.
+/// A fault of the key has precedence over the key being symmetric, and both have precedence over the identifier.
 #[test]
 fn refuses_plain_keys(rt: HostRuntime) {
     let rows: [(&[u8], Reason, u64); 12] = [
@@ -313,7 +314,7 @@ fn refuses_plain_keys(rt: HostRuntime) {
     }
 }
 
-/// Other claims and members are ignored, those of labels next to the known ones among them.
+/// Other claims and members are ignored, also those whose labels are next to the known ones.
 #[test]
 fn ignores_others(rt: HostRuntime) {
     let rows: [&[u8]; 13] = [
@@ -336,7 +337,7 @@ fn ignores_others(rt: HostRuntime) {
     }
 }
 
-/// Texts and bytes may be empty, and dates have a sign.
+/// Text strings and byte strings may be empty, and dates have a sign.
 #[test]
 fn gives_the_least_values(rt: HostRuntime) -> Result<(), Fail> {
     assert_eq!(rt; Claims::read(b"\xa1\x01\x60", 4)?.iss(), Some(""));
@@ -359,7 +360,7 @@ fn gives_the_least_values(rt: HostRuntime) -> Result<(), Fail> {
     Ok(())
 }
 
-/// The identifier of the token, and the identifier of the key that it confirms.
+/// The identifier of the token, and the identifier of its confirmation key.
 #[test]
 fn gives_both_identifiers(rt: HostRuntime) -> Result<(), Fail> {
     let claims = Claims::read(b"\xa2\x07\x41\x01\x08\xa1\x03\x41\x31", 4)?;

@@ -20,7 +20,7 @@ fn refuses_claims(rt: HostRuntime) {
             b"\xa1\x18\x64\x81\x81\x81\x81\x00",
             refusal(Reason::TooDeep, 6),
         ),
-        // What stands behind the item goes first.
+        // A byte after the item has precedence.
         (b"\xd8\x3d\x00\x00", refusal(Reason::Trailing, 3)),
         (b"\xd8\x3d\x00", refusal(Reason::NestedCwt, 0)),
         (b"\xd1\x00", refusal(Reason::NestedCwt, 0)),
@@ -56,7 +56,7 @@ fn refuses_claims(rt: HostRuntime) {
             refusal(Reason::DuplicateLabel, 5),
         ),
         (b"\xa1\x08\x00", refusal(Reason::BadValue, 2)),
-        // The claims go before the confirmation, wherever it stands.
+        // The claims have precedence over the confirmation, wherever it is in the map.
         (
             b"\xa2\x08\xa1\x01\xa2\x01\x04\x20\x41\x61\x01\x00",
             refusal(Reason::BadValue, 11),
@@ -67,7 +67,7 @@ fn refuses_claims(rt: HostRuntime) {
     }
 }
 
-/// Whether the claims are admitted, or why not.
+/// The refusal, where the claims aren't admitted.
 fn admission(bytes: &[u8], policy: &Policy<'_>) -> Result<(), Refusal> {
     Claims::read(bytes, 4)?.admit(policy)
 }
@@ -108,7 +108,7 @@ fn adds_without_limit(rt: HostRuntime) {
     );
 }
 
-/// Whether two audiences, `a` and `b`, are admitted by whoever these texts stand for.
+/// Checks whether two audiences, `a` and `b`, are admitted under a policy that has these text strings.
 fn admits_two(rt: &impl Abort, mine: &[&str], want: Result<(), Refusal>) {
     let policy = Policy {
         now: 0,
@@ -204,7 +204,7 @@ fn gives_the_confirmation(rt: HostRuntime) -> Result<(), Fail> {
 
 #[test]
 fn shows_no_bytes_of_claims(rt: HostRuntime) -> Result<(), Fail> {
-    // The key of cnf has its private part d (label -4), which no getter gives.
+    // The key of cnf has the private key d (label -4), which no getter gives.
     let bytes = b"\xa1\x08\xa1\x01\xa5\x01\x02\x20\x01\x21\x58\x20\
         01234567890123456789012345678901\x22\xf5\x23\x58\x20\
         dddddddddddddddddddddddddddddddd";

@@ -1,4 +1,4 @@
-//! Intakes that fail, kept verdicts, and a store that failed before.
+//! Intakes that fail, verdicts that are kept, and a store that failed before.
 
 use crate::tests::{CLAIMS, KEY_SET, TOKEN, at, context, refusal};
 use crate::{CwtStop, verify_cwt};

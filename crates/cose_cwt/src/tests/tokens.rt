@@ -32,7 +32,7 @@ const RFC_KEY: &[u8] = &[
     0x63, 0x32, 0x35, 0x36, 0x03, 0x04,
 ];
 
-/// Verifies a token in pieces of at most 7 bytes: the moment at which it expires, or why it has no claims.
+/// Verifies a token in pieces of at most 7 bytes, and returns its expiration time, or why it has no claims.
 fn expiry(key_set: &[u8], token: &[u8], policy: &Policy<'_>) -> Result<Option<i128>, CwtStop> {
     let keys = KeySet::read(key_set).map_err(CwtStop::Message)?;
     let mut verifier: Verifier<64, 4> = Verifier::new(context(keys));
@@ -128,7 +128,7 @@ fn refuses_a_token_that_is_cut(rt: HostRuntime) {
     }
 }
 
-/// Says yes to every signature.
+/// Accepts every signature.
 struct Always;
 
 impl EcVerifier for Always {
@@ -141,7 +141,7 @@ impl EcVerifier for Always {
     }
 }
 
-/// Verifies a message with a signature under the keys, and who says yes to it.
+/// Verifies a message with a signature under the keys, with a verifier that accepts it.
 fn verifies_signed(rt: &impl Abort, keys: KeySet<'_>) {
     let mut signed = [0u8; 74];
     signed[..10].copy_from_slice(b"\xd2\x84\x43\xa1\x01\x26\xa0\x40\x58\x40");

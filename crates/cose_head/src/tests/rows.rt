@@ -4,7 +4,8 @@ use crate::item::Span;
 use crate::reason::Reason;
 use crate::refusal::Refusal;
 
-/// The bytes, the room, the nesting, after how many of the bytes a walker goes on, and what reading them all gives.
+/// The bytes, the room, the nesting, after how many of the bytes a walker is `Going`, and the result of reading them
+/// all.
 pub(crate) type Row = (&'static [u8], usize, usize, usize, Result<Span, Refusal>);
 
 /// An item of this length and nesting was read.

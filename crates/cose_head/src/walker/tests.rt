@@ -4,7 +4,7 @@ use super::*;
 use crate::item::Span;
 use crate::tests::rows::rows;
 
-/// Puts the bytes, and counts those after which the item goes on.
+/// Puts the bytes, and counts those after which the answer is `Going`.
 fn count_going<const D: usize>(walker: &mut Walker<D>, bytes: &[u8]) -> usize {
     let mut going: usize = 0;
     for byte in bytes {
@@ -15,13 +15,13 @@ fn count_going<const D: usize>(walker: &mut Walker<D>, bytes: &[u8]) -> usize {
     going
 }
 
-/// A new walker is put the bytes: after how many of them it goes on, and its last answer.
+/// A new walker is put the bytes: after how many of them it is `Going`, and its last answer.
 fn walked<const D: usize>(walker: &mut Walker<D>, bytes: &[u8]) -> (usize, Step) {
     let going = count_going(walker, bytes);
     (going, walker.step())
 }
 
-/// Passes what is of an open string, or puts one byte, and says how many were taken.
+/// Passes bytes of an open string, or puts one byte, and returns how many were taken.
 fn take_some<const D: usize>(walker: &mut Walker<D>, piece: &[u8]) -> usize
     ensures { result ≤ length piece.now }
 {
@@ -49,7 +49,7 @@ fn passed<const D: usize>(walker: &mut Walker<D>, bytes: &[u8]) -> Step {
     walker.step()
 }
 
-/// What a walker says of bytes of which reading gives this.
+/// The answer of a walker for bytes that are read with this result.
 fn step_of(answer: Result<Span, Refusal>) -> Step {
     match answer {
         Ok(_) => Step::Done,
@@ -105,14 +105,14 @@ fn passes_bytes_of_the_open_string(rt: HostRuntime) {
         (b"", 5, b"\x01\x02", 0, Step::Going, 1, 0),
         (b"\x81", 5, b"\x01\x02", 0, Step::Going, 1, 1),
         (b"\x58", 5, b"\x01\x02", 0, Step::Going, 1, 0),
-        // No bytes, some, all of the string, and bytes behind it.
+        // No bytes, some, all of the string, and bytes after it.
         (b"\x43", 5, b"", 0, Step::Going, 3, 0),
         (b"\x43", 5, b"\x01\x02", 2, Step::Going, 1, 0),
         (b"\x43\x01", 5, b"\x02\x03", 2, Step::Done, 0, 0),
         (b"\x82\x62", 5, b"ab\x00", 2, Step::Going, 1, 1),
         // The room ends with the string, and a child is still wanted.
         (b"\x82\x62", 4, b"ab\x00", 2, past_room, 0, 0),
-        // It is whole already.
+        // It is complete already.
         (b"\x00", 5, b"\x01", 0, Step::Done, 0, 0),
     ];
     for (put, room, piece, used, step, want, open_items) in table {

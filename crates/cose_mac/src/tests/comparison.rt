@@ -4,7 +4,7 @@ use crate::same_bytes;
 
 const COMPUTED: [u8; 64] = [0x5a; 64];
 
-/// Each of them has one bit that is set.
+/// Each of them has one bit set.
 const BITS: [u8; 8] = [0x01, 0x02, 0x04, 0x08, 0x10, 0x20, 0x40, 0x80];
 
 #[test]

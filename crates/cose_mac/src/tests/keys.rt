@@ -1,5 +1,5 @@
-//! Keys about as long as a block: one of a byte less is filled up with a zero, one of a block stays as it is, and one
-//! of a byte more is hashed (RFC 2104 section 2).
+//! Keys about as long as a block: to one that is a byte shorter a zero is appended, one of a block is unchanged, and
+//! one that is a byte longer is hashed (RFC 2104 section 2).
 
 use super::{hmac_of_block, mac_in_pieces};
 use crate::Alg;

@@ -1,4 +1,4 @@
-//! The fronts of structures, as bytes.
+//! The bytes of structures before the payload.
 
 use super::hmac_of_block;
 use crate::{Alg, Kind, Running, structure_front};

@@ -1,4 +1,4 @@
--- What can be wrong with the two buckets of a message together (RFC 9052 sections 3 and 3.1).
+-- The faults of the two buckets of a message together (RFC 9052 sections 3 and 3.1).
 use Rattle.std.specs.Prelude.{ℕ, pos, Bool, false, not, List, [], ◌∷◌, ◌++◌, Option, Some, None, nat_lt, int_lt, ◌==◌, ◌&&◌, ◌||◌, if◌then◌else◌, flat_map, fold}
 use Rattle.std.specs.List.{list_any}
 use Rattle.cose_head.specs.declared.reason.Reason.{Reason}
@@ -15,7 +15,7 @@ use Rattle.cose_map.specs.Bucket.{crit_of}
 abbrev pub fault_if : Bool → Reason → ℕ → List Refusal
 fault_if wrong reason place = if wrong then record { reason = reason; place = place } ∷ [] else []
 
--- The labels 1 to 6, those of the parameters that RFC 9052 section 3.1 defines, are known to every reader.
+-- The labels 1 to 6, those of the parameters that RFC 9052 section 3.1 defines, are known to every implementation.
 abbrev pub is_common : LabelValue → Bool
 is_common (number n) = int_lt (pos 0) n && int_lt n (pos 7)
 is_common (words name) = false
@@ -23,7 +23,7 @@ is_common (words name) = false
 abbrev pub is_understood : List LabelValue → LabelValue → Bool
 is_understood understood name = is_common name || list_any (same_label name) understood
 
--- An element of the protected crit: its label has to be in the protected bucket, and has to be understood.
+-- An element of the protected crit: its label must be in the protected bucket, and must be understood.
 abbrev pub critical_faults : List Pair → List LabelValue → Placed → Option LabelValue → List Refusal
 critical_faults protected understood element None = []
 critical_faults protected understood element (Some name) =
@@ -40,7 +40,7 @@ all_element_faults protected understood (Some elements) = flat_map (element_faul
 abbrev pub crit_faults : List Pair → List LabelValue → List Refusal
 crit_faults protected understood = all_element_faults protected understood (crit_of protected)
 
--- A pair of the unprotected bucket: its label isn't in the protected one too, and it isn't crit.
+-- A pair of the unprotected bucket: its label must not be in the protected one too, and must not be crit.
 abbrev pub label_faults : List Pair → LabelValue → ℕ → List Refusal
 label_faults protected name place =
     fault_if (has_label name protected) BothBuckets place ++
@@ -62,7 +62,8 @@ pair_faults protected unprotected understood after =
     (flat_map (unprotected_faults protected) unprotected ++
     fault_if (both_ivs protected unprotected) BothIvs after)
 
--- The least of several: the least place, and at one place the smaller number. (Laws/Least.antt says what it is.)
+-- The least of several: the least place, and at the same place the smaller number. (Laws/Least.antt has its
+-- properties.)
 abbrev pub goes_before : Refusal → Refusal → Bool
 goes_before a b = nat_lt a.place b.place || (a.place == b.place && nat_lt (number_of a.reason) (number_of b.reason))
 

@@ -12,7 +12,7 @@ is_unsigned (Some (pos n)) = true
 is_unsigned (Some (negsuc n)) = false
 is_unsigned None = false
 
--- An unsigned integer, or a text.
+-- An unsigned integer, or a text string.
 abbrev pub is_content_type : Placed → Bool
 is_content_type p = is_unsigned (integer_in (look p)) || is_some (text_in (look p))
 

@@ -17,7 +17,7 @@ same_kind Sign1 Mac0 = false
 abbrev pub if_of_kind : Kind → Alg → Option Alg
 if_of_kind kind alg = if same_kind (kind_of alg) kind then Some alg else None
 
--- The algorithm of a number, where it is one of the kind.
+-- The algorithm of a number, if it is for messages of the kind.
 abbrev pub algorithm_of : Kind → ℤ → Option Alg
 algorithm_of kind n = option_and_then (if_of_kind kind) (algorithm_numbered n)
 

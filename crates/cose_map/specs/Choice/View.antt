@@ -1,4 +1,4 @@
--- What a query asks and what is found, without where they lie in memory.
+-- What a query requires and what is found, without where they are in memory.
 use Rattle.std.specs.Prelude.{ℤ, List, [], ◌∷◌, Result, Ok, Err, option_map}
 use Rattle.cose_head.specs.declared.reason.Reason.{Reason}
 use Rattle.cose_head.specs.declared.reason.Reason.TheVariants.{AmbiguousKey}
@@ -18,8 +18,8 @@ abbrev pub found_value : Result (Key × ℤ) Reason → Result (KeyValue × ℤ)
 found_value (Ok found) = Ok (key_value found.0, found.1)
 found_value (Err reason) = Err reason
 
--- What the choice comes to where the code has met some of the keys that fit, and these are the others. Of those that were
--- met it keeps none, the one, or that they are several: which ones doesn't matter then.
+-- The choice where the code has checked some of the keys, and these are the others that fit. Of those that were checked
+-- and fit it keeps none, the one, or that there are several: which ones doesn't matter then.
 abbrev pub with_rest : Question → Fitting → List (KeyValue × ℤ) → Result (KeyValue × ℤ) Reason
 with_rest q Nothing rest = only_one q rest
 with_rest q (One key n) [] = Ok (key_value key, n)

@@ -3,7 +3,7 @@ use Rattle.std.specs.Prelude.{ℤ, pos, List, [], ◌∷◌, Option, find}
 use Rattle.std.specs.Ordering.{int_eq}
 use Rattle.cose_map.specs.declared.key.curve.Curve.{Curve}
 
--- The usable curves: the number of each, and the bytes of a coordinate. 1 is P-256.
+-- The usable curves: the number of each, and the number of bytes of a coordinate. 1 is P-256.
 abbrev pub curves : List Curve
 curves = record { number = 1; coordinate_length = 32 } ∷ []
 

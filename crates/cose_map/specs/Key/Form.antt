@@ -7,7 +7,7 @@ use Rattle.cose_map.specs.Key.Labels.{kty, key_kid, key_alg, key_ops, base_iv}
 use Rattle.cose_map.specs.Map.Form.{Table, is_label, is_bytes}
 use Rattle.cose_map.specs.Label.{LabelValue, same_label}
 
--- An integer or any text.
+-- An integer or any text string.
 abbrev pub is_number_or_text : Placed → Bool
 is_number_or_text p = is_some (integer_in (look p)) || is_a_text (look p)
 

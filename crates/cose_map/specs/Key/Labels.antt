@@ -2,7 +2,7 @@
 use Rattle.std.specs.Prelude.{pos, negsuc}
 use Rattle.cose_map.specs.Label.{LabelValue, number}
 
--- Those of keys of every type (RFC 9052 section 7.1).
+-- The labels of keys of every type (RFC 9052 section 7.1).
 abbrev pub kty : LabelValue
 kty = number (pos 1)
 
@@ -18,11 +18,11 @@ key_ops = number (pos 4)
 abbrev pub base_iv : LabelValue
 base_iv = number (pos 5)
 
--- That of symmetric keys (RFC 9053 section 7.3).
+-- The label of symmetric keys (RFC 9053 section 7.3).
 abbrev pub k : LabelValue
 k = number (negsuc 0)
 
--- Those of keys on a curve (RFC 9053 section 7.1.1).
+-- The labels of keys on a curve (RFC 9053 section 7.1.1).
 abbrev pub crv : LabelValue
 crv = number (negsuc 0)
 

@@ -1,4 +1,4 @@
--- What a key consists of, by its type (RFC 9053 section 7).
+-- The material of a key, by its type (RFC 9053 section 7).
 use Rattle.std.specs.Prelude.{ℕ, ℤ, pos, Bool, List, length, Option, Some, None, Ok, ◌==◌, if◌then◌else◌}
 use Rattle.std.specs.Ordering.{int_eq}
 use Rattle.cose_head.specs.declared.reason.Reason.TheVariants.{BadValue, UnknownKey}
@@ -12,7 +12,8 @@ use Rattle.cose_map.specs.Key.Value.{MaterialValue, symmetric, elliptic, YValue,
 use Rattle.cose_map.specs.Label.{LabelValue}
 use Rattle.cose_map.specs.Map.Read.{Read, refuse, ◌>>=◌}
 
--- The members of one type of keys: one that is missing is a fault at the key's head, and one of the wrong form at its value.
+-- The members of one type of keys: the place of a missing one is the key's head, and that of one of the wrong form is
+-- its value.
 abbrev pub present : Placed → Option Placed → Read Placed
 present key None = refuse BadValue key
 present key (Some value) = Ok value
@@ -39,7 +40,7 @@ abbrev pub curve_in : Placed → Placed → Option ℤ → Read Curve
 curve_in key value (Some z) = usable_curve key (curve_of z)
 curve_in key value None = if is_a_text (look value) then refuse UnknownKey key else refuse BadValue value
 
--- A coordinate has all its bytes, leading zeros too. In place of y its sign may stand.
+-- A coordinate has its full length, with leading zeros. In place of y there may be its sign.
 abbrev pub coordinate_of : ℕ → Placed → List ℕ → Read (List ℕ)
 coordinate_of size value content = if length content == size then Ok content else refuse BadValue value
 
@@ -61,7 +62,7 @@ abbrev pub private_part : Option Placed → Read (Unit {0})
 private_part None = Ok tt
 private_part (Some value) = if is_bytes value then Ok tt else refuse BadValue value
 
--- A key on a curve has crv, x, y and perhaps the private d (RFC 9053 section 7.1.1).
+-- A key on a curve has crv, x and y, and may have the private key d (RFC 9053 section 7.1.1).
 abbrev pub elliptic_key : Placed → List Pair → Read MaterialValue
 elliptic_key key pairs = do
   curve_value ← member key pairs crv

@@ -1,4 +1,4 @@
--- A key of the code, without where it lies in memory.
+-- A key of the code, without where it is in memory.
 use Rattle.std.specs.Prelude.{ℕ, ℤ, List, option_map}
 use Rattle.std.specs.Borrow.{Bor}
 use Rattle.cose_head.specs.Items.{items_left}

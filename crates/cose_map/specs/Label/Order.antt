@@ -1,6 +1,6 @@
--- The order in which deterministic encoding puts labels (RFC 8949 section 4.2.1): the unsigned integers, the negative
--- ones from -1 down, then the texts, shorter ones first, and those of one length by their bytes. (The integers of CBOR
--- are below 2 ^ 64.) A label that comes after the greatest so far is new.
+-- The order of labels in deterministic encoding (RFC 8949 section 4.2.1): the unsigned integers, the negative ones from
+-- -1 down, then the text strings, shorter ones first, and those of one length by their bytes. (The integers of CBOR are
+-- below 2 ^ 64.) A label that comes after the greatest so far is new.
 use Rattle.std.specs.Prelude.{ℕ, ◌+◌, ◌^◌, pos, negsuc, Bool, true, not, List, [], length, Option, Some, None, nat_lt, ◌==◌, ◌&&◌, ◌||◌, if◌then◌else◌}
 use Rattle.std.specs.Ordering.{nat_cmp, is_lt}
 use Rattle.std.specs.Cmp.Lexicographic.{slice_cmp}

@@ -1,4 +1,4 @@
--- A label of the code, without where it lies in memory.
+-- A label of the code, without where it is in memory.
 use Rattle.cose_map.specs.declared.label.Label.{Label}
 use Rattle.cose_map.specs.declared.label.Label.TheVariants.{Int, Text}
 use Rattle.cose_map.specs.Label.{LabelValue, number, words}

@@ -1,4 +1,4 @@
--- What is chosen: a key of the list that fits, and no other one does.
+-- The key that is chosen is one of the list and fits, and no other one fits.
 use Rattle.std.specs.Prelude.{◌≡◌, ℤ, true, List, ◌∷◌, ◌++◌, None, Ok, IsSomeAnd}
 use Rattle.std.specs.List.{AllByRecursion, Contains}
 use Rattle.cose_head.specs.Algorithm.{kind_of, key_type_of, algorithm_numbered}
@@ -12,7 +12,7 @@ ChosenIsAmong = (q : Question) (keys : List KeyValue) (key : KeyValue) (n : ℤ)
 abbrev pub ChosenFits : Type 0
 ChosenFits = (q : Question) (keys : List KeyValue) (key : KeyValue) (n : ℤ) → chosen q keys ≡ Ok (key, n) → fits q key n ≡ true
 
--- The number is that of an algorithm of the kind.
+-- The number is that of an algorithm for messages of the kind.
 abbrev pub ChosenIsOfKind : Type 0
 ChosenIsOfKind = (q : Question) (keys : List KeyValue) (key : KeyValue) (n : ℤ) → chosen q keys ≡ Ok (key, n) →
     IsSomeAnd (algorithm_numbered n) (λ alg. kind_of alg ≡ q.kind)

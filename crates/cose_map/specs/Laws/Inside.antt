@@ -1,4 +1,4 @@
--- Where the faults of maps, buckets and keys stand: never after the bytes that were read.
+-- The places of the faults of maps, buckets and keys: never after the bytes that were read.
 use Rattle.std.specs.Prelude.{◌≡◌, ◌⊎◌, ℕ, ◌≤◌, max, List, Ok, IfErr, IfSome}
 use Rattle.std.specs.List.{AllByRecursion}
 use Rattle.cose_head.specs.Placed.{Placed}
@@ -11,7 +11,7 @@ use Rattle.cose_map.specs.Map.Form.{Table}
 use Rattle.cose_map.specs.Map.Pairs.{Pair, pair_of}
 use Rattle.cose_map.specs.Bucket.Both.{pair_fault}
 
--- A refusal stands no later than a place.
+-- A refusal's place is no later than a place.
 abbrev pub RefusedBy : {A : Type 0} → ℕ → Read A → Type 0
 RefusedBy end answer = IfErr answer (λ refusal. refusal.place ≤ end)
 
@@ -34,16 +34,16 @@ PairEndsBy end pair = EndsBy end pair.label × EndsBy end pair.value
 abbrev pub PairsEndBy : ℕ → List Pair → Type 0
 PairsEndBy end pairs = AllByRecursion (PairEndsBy end) pairs
 
--- What a map that was read has under a label is among its bytes.
+-- The pair that a map that was read has for a label ends within the map's bytes.
 abbrev pub FoundEndsInside : Type 0
 FoundEndsInside = (table : Table) (p : Placed) (pairs : List Pair) (name : LabelValue) → check_map table p ≡ Ok pairs →
     IfSome (pair_of name pairs) (PairEndsBy (end_of p))
 
--- The pairs of a bucket are among its bytes.
+-- The pairs of a bucket are within its bytes.
 abbrev pub BucketEndsInside : Type 0
 BucketEndsInside = (depth : ℕ) (p : Placed) (pairs : List Pair) → bucket_of depth p ≡ Ok pairs → PairsEndBy (end_of p) pairs
 
--- A fault of two buckets together stands no later than the later of their ends, or at the place that comes after both.
+-- The place of a fault of two buckets together is no later than the later of their ends, or it is the place after both.
 abbrev pub PairIsRefusedInside : Type 0
 PairIsRefusedInside = (protected unprotected : List Pair) (understood : List LabelValue) (protected_end unprotected_end after : ℕ) →
     PairsEndBy protected_end protected → PairsEndBy unprotected_end unprotected →

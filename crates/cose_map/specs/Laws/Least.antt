@@ -1,4 +1,4 @@
--- What the least of several faults is, by the order in which one goes before another.
+-- The properties of the least of several faults, by the order of precedence.
 use Rattle.std.specs.Prelude.{◌≡◌, ◌↔◌, false, List, [], Some, None}
 use Rattle.std.specs.List.{AllByRecursion, Contains}
 use Rattle.cose_head.specs.declared.refusal.Refusal.{Refusal}
@@ -12,7 +12,7 @@ NoLeastOfNone = (faults : List Refusal) → least faults ≡ None ↔ faults ≡
 abbrev pub LeastIsAmong : Type 0
 LeastIsAmong = (faults : List Refusal) (fault : Refusal) → least faults ≡ Some fault → Contains faults fault
 
--- None of them goes before it.
+-- None of them has precedence over it.
 abbrev pub NoneBeforeLeast : Type 0
 NoneBeforeLeast = (faults : List Refusal) (fault : Refusal) → least faults ≡ Some fault →
     AllByRecursion (λ other. goes_before other fault ≡ false) faults

@@ -1,4 +1,4 @@
--- For which reasons maps, buckets, keys, key sets, two buckets together and the choice of the key are refused.
+-- The reasons for which maps, buckets, keys, key sets, two buckets together and the choice of the key are refused.
 use Rattle.std.specs.Prelude.{◌≢◌, ℕ, List, [], ◌∷◌, ◌++◌, IfErr, IfSome}
 use Rattle.std.specs.List.{Contains}
 use Rattle.cose_head.specs.declared.reason.Reason.{Reason}
@@ -16,7 +16,7 @@ use Rattle.cose_map.specs.Map.Form.{Table}
 use Rattle.cose_map.specs.Map.Pairs.{Pair}
 use Rattle.cose_map.specs.Bucket.Both.{pair_fault}
 
--- An item that has to be a map of labels, none twice (RFC 9052 section 3). The table of the values has its own besides.
+-- An item that must be a map of labels, none twice (RFC 9052 section 3). The table of the values adds its own.
 abbrev pub map_reasons : List Reason
 map_reasons = NotMap ∷ BadLabel ∷ DuplicateLabel ∷ []
 
@@ -44,7 +44,7 @@ choice_reasons = NoAlg ∷ UnknownAlg ∷ AlgUnprotected ∷ NoKey ∷ Ambiguous
 abbrev pub RefusedFor : {A : Type 0} → List Reason → Read A → Type 0
 RefusedFor reasons answer = IfErr answer (λ refusal. Contains reasons refusal.reason)
 
--- What a table finds wrong with a value is one of these reasons.
+-- The fault that a table finds in a value has one of these reasons.
 abbrev pub FindsFaults : List Reason → Table → Type 0
 FindsFaults reasons table = (name : LabelValue) (value : Placed) → IfSome (table name value) (Contains reasons)
 
@@ -72,7 +72,7 @@ PairIsRefusedFor = (protected unprotected : List Pair) (understood : List LabelV
 abbrev pub ChoiceIsRefusedFor : Type 0
 ChoiceIsRefusedFor = (q : Question) (keys : List KeyValue) → IfErr (chosen q keys) (Contains choice_reasons)
 
--- So none of these refusals says that bytes are missing.
+-- So none of these refusals is Truncated.
 abbrev pub BucketIsNotTruncated : Type 0
 BucketIsNotTruncated = (depth : ℕ) (p : Placed) → IfErr (bucket_of depth p) (λ refusal. refusal.reason ≢ Truncated)
 

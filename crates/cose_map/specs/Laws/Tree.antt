@@ -18,15 +18,15 @@ pub record IsTree (depth : ℕ) (p : Placed) (tree : Item) : Type 0 where
   pub spelled : Spells p.bytes tree
   pub nested : depth_of tree ≤ depth
 
--- What is accepted as one item is what spells one.
+-- Bytes are accepted as one item exactly where they spell one.
 abbrev pub ItemIsTree : Type 0
 ItemIsTree = (depth : ℕ) (p : Placed) → (whole depth p ≡ Ok p) ↔ ((tree : Item) × IsTree depth p tree)
 
--- The label that a tree is, if it is one: an integer, or a text that is UTF-8 (RFC 9052 section 1.5).
+-- The label that a tree is, if it is one: an integer, or a text string that is UTF-8 (RFC 9052 section 1.5).
 abbrev pub label_of_tree : Item → Option LabelValue
 label_of_tree tree = label_like (look_of_tree tree)
 
--- A pair is a label and a value of the tree: its name is the label, and its items are spelled as these two are.
+-- A pair has a label and a value of the tree: its name is the label, and its items are spelled as these two are.
 pub record IsPair (pair : Pair) (label value : Item) : Type 0 where
   pub named : label_of_tree label ≡ Some pair.name
   pub label_spelled : Spells pair.label.bytes label
@@ -59,7 +59,7 @@ abbrev pub BucketIsOfTree : Type 0
 BucketIsOfTree = (depth : ℕ) (p : Placed) (pairs : List Pair) → depth ≤ 32 → bucket_of depth p ≡ Ok pairs →
     ((p.bytes ≡ []) × (pairs ≡ [])) ⊎ HasPairs depth p pairs
 
--- A key is a map whose pairs its members are taken from.
+-- The members of a key are taken from the pairs of its map.
 abbrev pub KeyIsOfTree : Type 0
 KeyIsOfTree = (p : Placed) (key : KeyValue) → key_of p ≡ Ok key →
     (pairs : List Pair) × HasPairs 8 p pairs × (material_of p pairs ≡ Ok key.material) × (key ≡ key_with pairs key.material)

@@ -1,4 +1,4 @@
--- The pairs of a map before the one that is looked at.
+-- The pairs of a map before the current one.
 use Rattle.std.specs.Prelude.{List, take}
 use Rattle.cose_map.specs.declared.map.earlier.Earlier.{Earlier}
 use Rattle.cose_map.specs.Map.Pairs.{Pair}

@@ -4,7 +4,7 @@ use Rattle.cose_head.specs.declared.reason.Reason.{Reason}
 use Rattle.cose_head.specs.Placed.{Placed, look, bytes_in}
 use Rattle.cose_map.specs.Label.{LabelValue, label_of}
 
--- What is wrong with a label's value, if something is.
+-- The fault of a label's value, if it has one.
 abbrev pub Table : Type 0
 Table = LabelValue → Placed → Option Reason
 

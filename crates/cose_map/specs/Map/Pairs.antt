@@ -24,8 +24,8 @@ pair_of name pairs = find (is_named name) pairs
 abbrev pub value_of : LabelValue → List Pair → Option Placed
 value_of name pairs = option_map (λ pair. pair.value) (pair_of name pairs)
 
--- The children of a map as pairs: two by two, each first one a label. They end before a child that should be a label and
--- is none, which the children of a map that was read don't have.
+-- The children of a map as pairs: two by two, each first one a label. They end before a child that should be a label
+-- and isn't one, which the children of a map that was read don't have.
 abbrev pub pairs_from : Option LabelValue → Placed → Placed → List Pair → List Pair
 pairs_from None label value others = []
 pairs_from (Some name) label value others = record { name = name; label = label; value = value } ∷ others

@@ -22,7 +22,8 @@ abbrev pub ◌>>=◌ : {A B : Type 0} → Read A → (A → Read B) → Read B
 abbrev pub refuse : {A : Type 0} → Reason → Placed → Read A
 refuse reason p = Err (record { reason = reason; place = p.place })
 
--- One pair after earlier ones (RFC 9052 section 3): the label is one, it isn't an earlier one, and the value has its form.
+-- One pair after earlier ones (RFC 9052 section 3): its label must be a label and not an earlier one, and the value
+-- must have its form.
 abbrev pub name_at : Placed → Option LabelValue → Read LabelValue
 name_at label None = refuse BadLabel label
 name_at label (Some name) = Ok name
@@ -52,7 +53,7 @@ check_pairs table earlier (label ∷ value ∷ others) = do
   pair ← pair_after table earlier label value
   check_pairs table (earlier ++ pair ∷ []) others
 
--- An item that was read already: it is a map, and its pairs are right.
+-- An item: it must be a map, and its pairs must have no fault.
 abbrev pub check_map : Table → Placed → Read (List Pair)
 check_map table p = if is_a_map (look p) then check_pairs table [] (children_of p) else refuse NotMap p
 

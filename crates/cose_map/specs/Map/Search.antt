@@ -1,10 +1,10 @@
--- Labels that are looked for among the pairs of a map, where both come in increasing order (RFC 8949 section 4.2.1).
+-- Searching labels among the pairs of a map, where both are in increasing order (RFC 8949 section 4.2.1).
 use Rattle.std.specs.Prelude.{◌≡◌, Bool, true, false, List, [], ◌∷◌, Option, Some, ◌&&◌, ◌||◌, if◌then◌else◌}
 use Rattle.cose_map.specs.Label.{LabelValue, same_label}
 use Rattle.cose_map.specs.Label.Order.{precedes, passes}
 use Rattle.cose_map.specs.Map.Pairs.{Pair, has_label}
 
--- A label that comes after the last stands among these pairs, if it stands among all.
+-- A label that comes after the last is among these pairs, if it is among all.
 abbrev pub IsAhead : Option LabelValue → List Pair → List Pair → Type 0
 IsAhead last ahead all = (name : LabelValue) → passes last name ≡ true → has_label name ahead ≡ has_label name all
 
@@ -13,7 +13,7 @@ abbrev pub rise_after : Option LabelValue → List Pair → Bool
 rise_after before [] = true
 rise_after before (pair ∷ others) = passes before pair.name && rise_after (Some pair.name) others
 
--- The pairs from the first one on whose label is the name or comes after it.
+-- The pairs from the first one whose label is the name or comes after it.
 abbrev pub from : LabelValue → List Pair → List Pair
 from name [] = []
 from name (pair ∷ others) = if same_label name pair.name || precedes name pair.name then pair ∷ others else from name others

@@ -1,4 +1,4 @@
--- Pairs and answers of the code, without where they lie in memory.
+-- Pairs and answers of the code, without where they are in memory.
 use Rattle.std.specs.Prelude.{List, Option, Some, None, Result, Ok, Err}
 use Rattle.cose_head.specs.declared.item_ref.ItemRef.{ItemRef}
 use Rattle.cose_head.specs.declared.refusal.Refusal.{Refusal}
@@ -17,7 +17,7 @@ pair_value found = record { name = label_value found.0; label = placed found.1; 
 abbrev pub pairs_left : Pairs → List Pair
 pairs_left pairs = pairs_of (items_left pairs.items)
 
--- What was read, seen by a view.
+-- The result of the code, with a view of its value.
 abbrev pub seen_by : {X Y : Type 0} → (X → Y) → Result X Refusal → Read Y
 seen_by view (Ok x) = Ok (view x)
 seen_by view (Err refusal) = Err refusal

@@ -1,4 +1,4 @@
-//! What can be wrong with the two buckets of a message together (RFC 9052 sections 3 and 3.1).
+//! The faults of the two buckets of a message together (RFC 9052 sections 3 and 3.1).
 
 ghost use Rattle.std.specs.Prelude.{◌≡◌, ℕ, List, Option, None, map, fold, flat_map};
 ghost use Rattle.cose_head.specs.ItemRef.{placed};
@@ -13,7 +13,7 @@ use crate::label::Label;
 use crate::map::search::Search;
 use cose_head::{ItemRef, Items, Reason, Refusal};
 
-/// Whether one fault goes before another: by its place, and at one place by its number.
+/// Whether a fault has precedence over another: by its place, and at the same place by its number.
 fn goes_before(fault: Refusal, other: Refusal) -> bool
     ensures { result ≡ spec.goes_before fault other }
 {
@@ -36,7 +36,7 @@ fn lesser(least: Option<Refusal>, fault: Refusal) -> Option<Refusal>
     }
 }
 
-/// The least fault so far, with one more if something is wrong.
+/// The least fault so far, with one more where `is_wrong`.
 fn with_fault(least: Option<Refusal>, is_wrong: bool, reason: Reason, place: u64) -> Option<Refusal>
     ensures { result ≡ fold spec.lesser least (spec.fault_if is_wrong reason place) }
 {
@@ -46,7 +46,7 @@ fn with_fault(least: Option<Refusal>, is_wrong: bool, reason: Reason, place: u64
     least
 }
 
-/// Whether every reader knows the label: those of [`header`], from alg to Partial IV, are the numbers 1 to 6.
+/// Whether every implementation knows the label: those of [`header`], from alg to Partial IV, are the numbers 1 to 6.
 fn is_common(label: &Label<'_>) -> bool
     ensures { result ≡ spec.is_common (label_value label.now) }
 {
@@ -149,7 +149,7 @@ fn with_unprotected(
     least
 }
 
-/// Whether IV and Partial IV are both there, in whichever buckets.
+/// Whether IV and Partial IV are both present, in whichever buckets.
 fn has_both_ivs(protected: &Bucket<'_>, unprotected: &Bucket<'_>) -> bool
     ensures { result ≡ spec.both_ivs (bucket_pairs protected.now) (bucket_pairs unprotected.now) }
 {
@@ -159,10 +159,11 @@ fn has_both_ivs(protected: &Bucket<'_>, unprotected: &Bucket<'_>) -> bool
 
 /// Checks the two buckets of a message together (RFC 9052 sections 3 and 3.1).
 ///
-/// Of all faults the one with the least place is the refusal, and at one place that with the smaller number:
-/// [`Reason::CritAbsent`] and [`Reason::CritUnknown`] at an element of the protected crit, [`Reason::BothBuckets`] and
-/// [`Reason::CritUnprotected`] at a label of the unprotected bucket, and [`Reason::BothIvs`] at `after`, the place after
-/// both. The labels 1 to 6 are known, and the caller names those that it understands besides.
+/// Of all faults the one with the least place is the refusal, and of those at the same place the one with the smaller
+/// number: [`Reason::CritAbsent`] and [`Reason::CritUnknown`] at an element of the protected crit,
+/// [`Reason::BothBuckets`] and [`Reason::CritUnprotected`] at a label of the unprotected bucket, and
+/// [`Reason::BothIvs`] at `after`, the place after both. The labels 1 to 6 are understood, and also those that the
+/// caller passes in `understood`.
 #[tactic(auto, unfolding(crate::specs::Bucket::Both::pair_faults), using(crate::proofs::lemmas::Bucket::Both::fold_more))]
 pub fn check_pair(
     protected: &Bucket<'_>,

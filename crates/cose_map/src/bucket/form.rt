@@ -10,14 +10,14 @@ use crate::label::Label;
 use crate::map::form::{Form, is_bytes, is_label};
 use cose_head::{ItemRef, Items, Reason};
 
-/// Whether a number is there and isn't negative.
+/// Whether there is a number that isn't negative.
 fn is_unsigned(number: Option<i128>) -> bool
     ensures { result ≡ spec.is_unsigned number }
 {
     number.is_some_and(|number| number >= 0)
 }
 
-/// Whether an item is an unsigned integer or a text.
+/// Whether an item is an unsigned integer or a text string.
 fn is_content_type(item: &ItemRef<'_>) -> bool
     ensures { result ≡ spec.is_content_type (placed item.now) }
 {
@@ -45,7 +45,7 @@ fn is_crit(item: &ItemRef<'_>) -> bool
     item.is_array() && are_labels(Items::of(item))
 }
 
-/// The forms of the header parameters that every reader knows.
+/// The forms of the header parameters that every implementation knows.
 pub(crate) struct HeaderForm;
 
 impl Form for HeaderForm {

@@ -1,4 +1,4 @@
-//! Tables of examples: values that the contracts can't show to be the ones that were meant.
+//! Tables of examples: values of which the contracts can't show that they are the intended ones.
 
 ghost use Rattle.std.specs.Prelude.{◌+◌, ◌<◌, ◌^◌, length};
 
@@ -14,7 +14,7 @@ fn refusal(reason: Reason, place: u64) -> Refusal {
 #[test]
 fn refuses_labels(rt: HostRuntime) {
     let rows: [(&[u8], u64, Refusal); 12] = [
-        // Labels that are none: texts that are no UTF-8, and what is neither an integer nor a text.
+        // Not labels: text strings that aren't UTF-8, and what is neither an integer nor a text string.
         (b"\xa1\x61\xff\x00", 0, refusal(Reason::BadLabel, 1)),
         (b"\xa1\x40\x00", 6, refusal(Reason::BadLabel, 7)),
         (b"\xa1\x80\x00", 0, refusal(Reason::BadLabel, 1)),
@@ -23,7 +23,7 @@ fn refuses_labels(rt: HostRuntime) {
         (b"\xa1\xf4\x00", 0, refusal(Reason::BadLabel, 1)),
         (b"\xa1\xf6\x00", 0, refusal(Reason::BadLabel, 1)),
         (b"\xa1\xf9\x00\x00\x00", 0, refusal(Reason::BadLabel, 1)),
-        // Labels twice, by value.
+        // A label twice, by value.
         (
             b"\xa2\x20\x00\x38\x00\x00",
             0,
@@ -103,7 +103,7 @@ fn refuses_in_order(rt: HostRuntime) {
         (b"\xbf\xff", 3, refusal(Reason::Indefinite, 3)),
         (b"\xa1\x01\x1c", 0, refusal(Reason::Reserved, 2)),
         (b"\xa1\x01\xf8\x10", 0, refusal(Reason::BadSimple, 2)),
-        // Then come bytes after it, and then what is no map.
+        // Then bytes after it are refused, and then what isn't a map.
         (b"\xa1\x01\x05\x00", 3, refusal(Reason::Trailing, 6)),
         (b"\x80\x00", 3, refusal(Reason::Trailing, 4)),
         (b"\xa1\x04\x00\x00", 0, refusal(Reason::Trailing, 3)),
@@ -151,7 +151,7 @@ fn reads_buckets(rt: HostRuntime) {
         // Labels that are not equal.
         (b"\xa2\x61\x61\x00\x62\x61\x62\x00", 2),
         (b"\xa2\x61\x31\x00\x01\x05", 2),
-        // A text of UTF-8, and wider heads.
+        // A text string in UTF-8, and wider heads.
         (b"\xa1\x62\xc3\xa9\x00", 1),
         (b"\xa2\x20\x00\x00\x00", 2),
         (b"\xb8\x01\x01\x05", 1),
@@ -234,7 +234,7 @@ fn gives_a_text_for_alg(rt: HostRuntime) {
 #[test]
 fn finds_labels_in_both(rt: HostRuntime) {
     let rows: [(&[u8], &[u8], u64, Refusal); 6] = [
-        // A label in both buckets; where it is that of crit too, the smaller number goes first.
+        // A label in both buckets; where it is also that of crit, the smaller number has precedence.
         (
             b"\xa2\x01\x05\x02\x81\x01",
             b"\xa1\x02\x81\x01",
@@ -254,7 +254,7 @@ fn finds_labels_in_both(rt: HostRuntime) {
             10,
             refusal(Reason::CritUnprotected, 7),
         ),
-        // Of several faults that at the least place.
+        // Of several faults the one at the least place.
         (
             b"\xa2\x01\x05\x02\x81\x04",
             b"\xa1\x01\x05",
@@ -322,7 +322,7 @@ fn finds_labels_of_crit_that_are_absent(rt: HostRuntime) {
 #[test]
 fn finds_labels_of_crit_that_nobody_knows(rt: HostRuntime) {
     let rows: [(&[u8], &[u8], u64, Refusal); 5] = [
-        // 1 to 6 are known, and 7, 0, -1 and texts are not.
+        // 1 to 6 are understood, and 7, 0, -1 and text strings are not.
         (
             b"\xa3\x01\x05\x02\x81\x18\x2a\x18\x2a\x00",
             b"\xa0",
@@ -408,7 +408,7 @@ fn finds_both_ivs(rt: HostRuntime) {
 fn finds_no_fault_of_both(rt: HostRuntime) {
     let rows: [(&[u8], &[u8]); 4] = [
         (b"", b""),
-        // Each of the labels 1 to 6 is known.
+        // Each of the labels 1 to 6 is understood.
         (
             b"\xa5\x01\x05\x02\x85\x01\x02\x03\x04\x05\x03\x00\x04\x40\x05\x40",
             b"\xa0",

@@ -7,14 +7,14 @@ ghost use Rattle.cose_map.specs.Key.View.{material_value};
 use crate::key::material::Material;
 use cose_head::{Alg, KeyType, Kind};
 
-/// Whether two kinds are one.
+/// Whether two kinds are equal.
 fn is_same_kind(kind: Kind, other: Kind) -> bool
     ensures { result ≡ spec.same_kind kind other }
 {
     kind == other
 }
 
-/// The algorithm of this number, where it is one of the kind.
+/// The algorithm of this number, if it is for messages of the kind.
 pub(crate) fn algorithm_of(kind: Kind, number: i128) -> Option<Alg>
     ensures { result ≡ spec.algorithm_of kind number }
 {

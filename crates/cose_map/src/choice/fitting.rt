@@ -11,7 +11,7 @@ use crate::choice::query::Query;
 use crate::key::Key;
 use cose_head::Reason;
 
-/// The keys that fit, of those that were met.
+/// The keys that fit, of those that were checked so far.
 #[derive(Clone, Copy)]
 pub(crate) enum Fitting<'k> {
     /// None so far.
@@ -35,7 +35,7 @@ impl<'k> Fitting<'k> {
         }
     }
 
-    /// The one key that fits, where all keys were met.
+    /// The one key that fits, once all keys were checked.
     pub(crate) fn answer(self, query: &Query) -> Result<(Key<'k>, i128), Reason>
         ensures { found_value result ≡ with_rest (question query.now) self.entry [] }
     {

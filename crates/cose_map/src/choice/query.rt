@@ -1,4 +1,4 @@
-//! What a message asks of its key, and whether a key fits (RFC 9052 section 7.1).
+//! What a message requires of its key, and whether a key fits (RFC 9052 section 7.1).
 
 ghost use Rattle.std.specs.Prelude.{◌≡◌, option_map, option_and_then};
 ghost use Rattle.cose_map.specs.Choice.{fitting as fitting_key, none_fits, fits as fits_key, is_known, is_answerable as is_answerable_query, algorithm_used, integer_in_label, allows_kid, allows_algorithm, allows_operation, is_for as is_for_algorithm};
@@ -14,22 +14,22 @@ use crate::key::operations::Ops;
 use crate::label::Label;
 use cose_head::{Alg, Kind, Reason};
 
-/// What a message asks of its key.
+/// What a message requires of its key.
 #[derive(Clone, Copy, Debug)]
 pub struct Query<'q> {
     /// The kind of the message.
     pub kind: Kind,
-    /// The operation that the key has to allow, if it lists operations: 10 verifies a MAC, and 2 a signature.
+    /// The operation that the key must allow, if it lists operations: 10 verifies a MAC, and 2 a signature.
     pub operation: i128,
     /// The algorithm that the protected bucket names.
     pub protected_alg: Option<Label<'q>>,
-    /// The algorithm that the unprotected bucket names. It counts only where the key's own is the same.
+    /// The algorithm that the unprotected bucket names. It is used only where the key's own is the same.
     pub unprotected_alg: Option<Label<'q>>,
     /// The key identifier of either bucket.
     pub kid: Option<&'q [u8]>,
 }
 
-/// Whether a label names an algorithm of the kind.
+/// Whether a label names an algorithm for messages of the kind.
 fn is_known_algorithm(kind: Kind, label: Label) -> bool
     ensures { result ≡ is_known kind (label_value label.entry) }
 {
@@ -39,7 +39,7 @@ fn is_known_algorithm(kind: Kind, label: Label) -> bool
     }
 }
 
-/// Whether the material is what the algorithm wants, if there is one.
+/// Whether the material is of the type that the algorithm requires, if there is an algorithm.
 fn is_for(material: &Material, algorithm: Option<Alg>) -> bool
     ensures { result ≡ is_for_algorithm (material_value material.now) algorithm }
 {
@@ -49,21 +49,21 @@ fn is_for(material: &Material, algorithm: Option<Alg>) -> bool
     }
 }
 
-/// Whether a key's own algorithm, if it names one, is this.
+/// Whether this is the key's own algorithm, if it names one.
 fn is_allowed_algorithm(own: Option<Label>, algorithm: i128) -> bool
     ensures { result ≡ allows_algorithm (option_map label_value own.entry) (number algorithm) }
 {
     own.is_none_or(|own| own.is_same(&Label::Int(algorithm)))
 }
 
-/// Whether a key's operations, if it lists them, hold this one.
+/// Whether a key's operations, if it lists them, contain this one.
 fn is_allowed_operation(own: Option<Ops>, operation: i128) -> bool
     ensures { result ≡ allows_operation (option_map operations_of own.entry) operation }
 {
     own.is_none_or(|own| own.holds(operation))
 }
 
-/// Whether two identifiers are equal, where there are two.
+/// Whether two identifiers are equal, where both are present.
 fn is_allowed_kid(own: Option<&[u8]>, asked: Option<&[u8]>) -> bool
     ensures { result ≡ allows_kid (option_map contents own.entry) (option_map contents asked.entry) }
 {
@@ -73,7 +73,7 @@ fn is_allowed_kid(own: Option<&[u8]>, asked: Option<&[u8]>) -> bool
     }
 }
 
-/// The number that a label is, if it is one.
+/// The number of the label, if it is an integer.
 fn number_of(label: Label) -> Option<i128>
     ensures { result ≡ integer_in_label (label_value label.entry) }
 {
@@ -83,7 +83,7 @@ fn number_of(label: Label) -> Option<i128>
     }
 }
 
-/// The algorithm that the unprotected bucket names, where the key's own is equal.
+/// The algorithm that the unprotected bucket names, if the key's own is equal.
 fn confirmed(own: Option<Label>, unprotected: Label) -> Option<i128>
     ensures { result ≡ option_and_then integer_in_label (algorithm_used None (Some (label_value unprotected.entry)) (option_map label_value own.entry)) }
 {
@@ -94,7 +94,7 @@ fn confirmed(own: Option<Label>, unprotected: Label) -> Option<i128>
 }
 
 impl<'q> Query<'q> {
-    /// Whether the message names no algorithm, or one of its kind.
+    /// Whether the message names no algorithm, or one for messages of its kind.
     pub(crate) fn is_answerable(&self) -> bool
         ensures { let q = question self.now in result ≡ is_answerable_query q.kind q.protected_alg q.unprotected_alg }
     {

@@ -13,14 +13,14 @@ use cose_head::{ItemRef, Items, Reason};
 /// The form of the members of keys.
 pub(crate) struct KeyForm;
 
-/// Whether the item is an integer or a text.
+/// Whether the item is an integer or a text string.
 fn is_number_or_text(item: &ItemRef) -> bool
     ensures { result ≡ is_number_or_text_value (placed item.now) }
 {
     item.as_int().is_some() || item.is_text()
 }
 
-/// Whether items are one or more integers or texts.
+/// Whether items are one or more integers or text strings.
 fn are_operations(items: Items) -> bool
     ensures { result ≡ are_operation_values (items_left items.entry) }
 {
@@ -34,7 +34,7 @@ fn are_operations(items: Items) -> bool
     any
 }
 
-/// Whether an item is an array of one or more integers or texts.
+/// Whether an item is an array of one or more integers or text strings.
 fn is_key_ops(item: &ItemRef) -> bool
     ensures { result ≡ is_key_ops_value (placed item.now) }
 {

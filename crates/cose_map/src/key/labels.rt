@@ -15,7 +15,7 @@ pub(crate) const ALG: Label<'static> = Label::Int(3);
 /// The only operations that the key is for.
 pub(crate) const KEY_OPS: Label<'static> = Label::Int(4);
 
-/// The initialization vector that a message's partial one completes.
+/// The initialization vector that a message's Partial IV is combined with.
 pub(crate) const BASE_IV: Label<'static> = Label::Int(5);
 
 /// The secret of a symmetric key (RFC 9053 section 7.3).
@@ -30,5 +30,5 @@ pub(crate) const X: Label<'static> = Label::Int(-2);
 /// The coordinate y of a point (RFC 9053 section 7.1.1).
 pub(crate) const Y: Label<'static> = Label::Int(-3);
 
-/// The private part of a point (RFC 9053 section 7.1.1).
+/// The private key of a point (RFC 9053 section 7.1.1).
 pub(crate) const D: Label<'static> = Label::Int(-4);

@@ -1,4 +1,4 @@
-//! What keys consist of (RFC 9053 section 7).
+//! Key material (RFC 9053 section 7).
 
 ghost use Rattle.std.specs.Prelude.{◌≡◌, ℕ, Err, length, option_map, is_some, if◌then◌else◌, Ok};
 ghost use Rattle.cose_head.specs.ItemRef.{placed};
@@ -14,17 +14,17 @@ use crate::map::read::refused;
 use cose_head::{Hidden, ItemRef, Reason, Refusal};
 use std::fmt;
 
-/// The coordinate y of a point: its bytes, or its sign alone (RFC 9053 section 7.1.1). `Debug` prints how many
-/// bytes there are, and none of them.
+/// The coordinate y of a point: its bytes, or its sign alone (RFC 9053 section 7.1.1). `Debug` prints how many bytes
+/// there are, and none of them.
 #[derive(Clone, Copy)]
 pub enum Y<'a> {
-    /// The bytes, leading zeros too.
+    /// The bytes, with leading zeros.
     Bytes(&'a [u8]),
     /// The sign.
     Sign(bool),
 }
 
-/// What a key consists of. `Debug` prints how many bytes it has, and none of them.
+/// The material of a key. `Debug` prints how many bytes it has, and none of them.
 #[derive(Clone, Copy)]
 pub enum Material<'a> {
     /// A secret of one or more bytes.
@@ -33,7 +33,7 @@ pub enum Material<'a> {
     Ec {
         /// The number of the curve (RFC 9053 section 7.1).
         crv: u8,
-        /// The bytes of the coordinate x, leading zeros too.
+        /// The bytes of the coordinate x, with leading zeros.
         x: &'a [u8],
         /// The coordinate y.
         y: Y<'a>,
@@ -86,7 +86,7 @@ pub(crate) fn curve_at(key: &ItemRef, value: &ItemRef) -> Result<Curve, Refusal>
     }
 }
 
-/// A coordinate, which has all its bytes.
+/// A coordinate, in its full length.
 fn whole_coordinate<'a>(
     value: &ItemRef,
     bytes: &'a [u8],
@@ -100,7 +100,7 @@ fn whole_coordinate<'a>(
     Ok(bytes)
 }
 
-/// The coordinate that a member of the key is.
+/// The coordinate that is the value of a member of the key.
 pub(crate) fn coordinate<'a>(value: &ItemRef<'a>, length: usize) -> Result<&'a [u8], Refusal>
     ensures { let v = placed value.now in seen_by contents result ≡ coordinate_in length v (bytes_in (look v)) }
 {
@@ -121,7 +121,7 @@ pub(crate) fn y_at<'a>(value: &ItemRef<'a>, length: usize) -> Result<Y<'a>, Refu
     }
 }
 
-/// The private part, where there is one.
+/// The private key, if present.
 pub(crate) fn private_part(value: Option<ItemRef>) -> Result<(), Refusal>
     ensures { result ≡ private_part_of (option_map placed value.entry) }
 {

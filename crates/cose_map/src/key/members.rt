@@ -17,7 +17,7 @@ use crate::map::pairs::Pairs;
 use crate::map::read::refused;
 use cose_head::{ItemRef, Items, Reason, Refusal};
 
-/// The type of keys on a curve that have x and y (RFC 9053 section 7).
+/// The type of keys on an elliptic curve with x and y coordinates (RFC 9053 section 7).
 const EC2: i128 = 2;
 
 /// The type of symmetric keys (RFC 9053 section 7).
@@ -26,21 +26,21 @@ const SYMMETRIC: i128 = 4;
 /// A key's item, and the pairs that were read from it.
 #[derive(Clone, Copy)]
 pub(crate) struct Members<'a> {
-    /// The key's item, at whose head a missing member is refused.
+    /// The key's item. The refusal of a missing member has the place of its head.
     pub(crate) key: ItemRef<'a>,
     /// Its pairs.
     pub(crate) pairs: Pairs<'a>,
 }
 
 impl<'a> Members<'a> {
-    /// The value of a label, where the key has it.
+    /// The value of a label, if the key has it.
     pub(crate) fn get(&self, label: &Label<'_>) -> Option<ItemRef<'a>>
         ensures { option_map placed result ≡ value_of (label_value label.now) (pairs_left self.now.pairs) }
     {
         self.pairs.get(label)
     }
 
-    /// The value of a label that the key has to have.
+    /// The value of a label that the key must have.
     fn wanted(&self, label: &Label<'_>) -> Result<ItemRef<'a>, Refusal>
         ensures { seen_by placed result ≡ member (placed self.now.key) (pairs_left self.now.pairs) (label_value label.now) }
     {
@@ -54,7 +54,7 @@ impl<'a> Members<'a> {
         self.get(label)?.as_bytes()
     }
 
-    /// An integer, or a text that is UTF-8.
+    /// An integer, or a text string that is UTF-8.
     pub(crate) fn label(&self, label: &Label<'_>) -> Option<Label<'a>>
         ensures { option_map label_value result ≡ label_under (label_value label.now) (pairs_left self.now.pairs) }
     {
@@ -93,7 +93,7 @@ impl<'a> Members<'a> {
         })
     }
 
-    /// What the key consists of, by its type.
+    /// The material of the key, by its type.
     #[tactic(auto, unfolding(crate::specs::Key::Material::material_of))]
     pub(crate) fn material(&self) -> Result<Material<'a>, Refusal>
         ensures { seen_by material_value result ≡ material_of (placed self.now.key) (pairs_left self.now.pairs) }

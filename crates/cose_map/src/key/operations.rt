@@ -1,12 +1,12 @@
-//! The operations that a key is for (RFC 9052 section 7.1).
+//! The operations that a key is restricted to (RFC 9052 section 7.1).
 
 use cose_head::Items;
 use std::fmt;
 
-/// The operations that a key lists. `Debug` prints how many they are.
+/// The operations that a key lists. `Debug` prints how many there are.
 #[derive(Clone, Copy)]
 pub struct Ops<'a> {
-    /// The elements of key_ops, integers and texts.
+    /// The elements of key_ops, integers and text strings.
     pub(crate) elements: Items<'a>,
 }
 

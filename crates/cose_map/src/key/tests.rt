@@ -1,4 +1,4 @@
-//! Tables of examples: values that the contracts can't show to be the ones that were meant.
+//! Tables of examples: values of which the contracts can't show that they are the intended ones.
 
 use super::*;
 use crate::key::material::Y;
@@ -9,7 +9,7 @@ use std::test::Fail;
 #[test]
 fn refuses_at_the_first_fault(rt: HostRuntime) {
     let rows: [(&[u8], Reason, u64); 21] = [
-        // The item is read first, of a nesting of 8, and is a map.
+        // First it must be an item of a nesting of at most 8, and a map.
         (b"", Reason::PastRoom, 7),
         (b"\x80", Reason::NotMap, 7),
         (b"\x80\x00", Reason::Trailing, 8),
@@ -39,7 +39,7 @@ fn refuses_at_the_first_fault(rt: HostRuntime) {
             Reason::DuplicateLabel,
             10,
         ),
-        // Then what the type asks for.
+        // Then what the type requires.
         (b"\xa2\x01\x01\x04\x80", Reason::BadValue, 11),
         (b"\xa0", Reason::BadValue, 7),
         (b"\xa1\x01\x03", Reason::UnknownKey, 7),
@@ -155,7 +155,7 @@ fn reads_keys(rt: HostRuntime) {
     let rows: [&[u8]; 13] = [
         b"\xa2\x01\x04\x20\x41\x61",
         b"\xa2\x01\x18\x04\x20\x41\x61",
-        // Any alg that is a number or a text, any operations, any Base IV.
+        // Any alg that is an integer or a text string, any operations, any Base IV.
         b"\xa3\x01\x04\x03\x20\x20\x41\x61",
         b"\xa3\x01\x04\x03\x61\x35\x20\x41\x61",
         b"\xa3\x01\x04\x04\x82\x01\x61\xff\x20\x41\x61",
@@ -178,7 +178,7 @@ fn reads_keys(rt: HostRuntime) {
     }
 }
 
-/// The sign of y, where that is all that a point has of it.
+/// The sign of y, where the point has only the sign of it.
 fn sign_of(material: Material) -> Option<bool> {
     match material {
         Material::Ec {
@@ -205,7 +205,7 @@ fn reads_what_a_key_says(rt: HostRuntime) {
     assert_eq!(rt; key.ok().and_then(|key| sign_of(key.material)), Some(true));
 }
 
-/// What a log would show of a key.
+/// What `Debug` prints of a key.
 fn shown(alloc: Global, bytes: &[u8]) -> Result<String, Fail> {
     let Ok(key) = Key::read(bytes, 0) else {
         return Err("no key".into());

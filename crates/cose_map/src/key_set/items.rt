@@ -2,7 +2,7 @@
 
 use cose_head::{ItemRef, Items};
 
-/// The items that should be keys and are still to come.
+/// The items that should be keys and that the iterator hasn't given yet.
 #[derive(Clone, Copy)]
 pub(crate) enum KeyItems<'a> {
     /// No item.

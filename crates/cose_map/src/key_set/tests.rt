@@ -1,4 +1,4 @@
-//! Tables of examples: values that the contracts can't show to be the ones that were meant.
+//! Tables of examples: values of which the contracts can't show that they are the intended ones.
 
 ghost use Rattle.std.specs.Prelude.{◌≤◌, length};
 
@@ -35,7 +35,8 @@ fn reads_key_sets(rt: HostRuntime) {
             b"\x81\xa3\x01\x04\x20\x41a\x0a\x81\x81\x81\x81\x81\x81\x00",
             Ok(1),
         ),
-        // A label twice, an unknown type, bytes that are no map, and an operation that is a text of no UTF-8.
+        // A label twice, an unknown type, bytes that aren't a map, and an operation that is a text string that isn't
+        // UTF-8.
         (b"\xa3\x01\x04\x01\x04\x20\x41c", Ok(0)),
         (b"\x82\xa2\x01\x01\x20\x06\xa2\x01\x04\x20\x41a", Ok(1)),
         (b"\x82\x81\x00\xa2\x01\x04\x20\x41a", Ok(1)),
@@ -62,7 +63,7 @@ fn refuses_key_sets(rt: HostRuntime) {
             b"\xa2\x01\x04\x20\x44Jefe\x00",
             refusal(Reason::Trailing, 9),
         ),
-        // Bytes after the item go first, and then what is no set.
+        // Bytes after the item have precedence over an item that isn't a set.
         (b"\x00\x00", refusal(Reason::Trailing, 1)),
         (b"\x80\x00", refusal(Reason::Trailing, 1)),
         (b"\x80", refusal(Reason::BadKeySet, 0)),
@@ -76,7 +77,7 @@ fn refuses_key_sets(rt: HostRuntime) {
     }
 }
 
-/// The front of a set of one key: all before the secret, whose length these two bytes are.
+/// The bytes of a set of one key before its secret, whose length is in these two bytes.
 fn begin_set(bytes: &mut [u8], size: [u8; 2])
     requires { 7 ≤ length bytes.old }
 {
@@ -95,7 +96,7 @@ fn reads_at_most_65535_bytes(rt: HostRuntime) {
     begin_set(&mut most, [0xff, 0xf8]);
     assert_eq!(rt; counted(&most), Ok(1));
     let mut more = [0; 65_536];
-    // The number of bytes goes before what they are.
+    // The number of bytes has precedence over what they are.
     assert_eq!(rt; counted(&more), refusal(Reason::BadKeySet, 0));
     begin_set(&mut more, [0xff, 0xf9]);
     assert_eq!(rt; counted(&more), refusal(Reason::BadKeySet, 0));

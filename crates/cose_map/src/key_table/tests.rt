@@ -1,4 +1,4 @@
-//! Tables of examples: values that the contracts can't show to be the ones that were meant.
+//! Tables of examples: values of which the contracts can't show that they are the intended ones.
 
 ghost use Rattle.std.specs.Prelude.{◌≤◌};
 
@@ -15,10 +15,10 @@ const SECRET: &[u8] = b"\xa2\x01\x04\x20\x41a";
 /// A key of the type OKP (RFC 9053 section 7.2), which is not usable.
 const UNUSABLE: &[u8] = b"\xa2\x01\x01\x20\x06";
 
-/// What is found for a MAC by HMAC 256/256: the secret of the one key that fits, and the algorithm.
+/// The result of `find` for a MAC by HMAC 256/256: the secret of the one key that fits, and the algorithm.
 type Found<'k> = Result<(&'k [u8], i128), Reason>;
 
-/// Asks any keys for the one that a MAC by HMAC 256/256 is verified with.
+/// Finds the key that a MAC by HMAC 256/256 is verified with.
 fn found<'k, K: Keys<'k>>(keys: &K) -> Found<'k> {
     let query = Query {
         kind: Kind::Mac0,
@@ -34,7 +34,7 @@ fn found<'k, K: Keys<'k>>(keys: &K) -> Found<'k> {
     }
 }
 
-/// How many keys a table of `N` keeps of a set, and what is found in it.
+/// How many keys of a set a table of `N` holds, and what is found in it.
 fn found_in<const N: usize>(bytes: &[u8]) -> Result<(usize, Found<'_>), Refusal>
     requires some { 1 ≤ N }
     requires limit { N ≤ 256 }
@@ -82,7 +82,7 @@ fn finds_as_the_set_does(rt: HostRuntime) -> Result<(), Fail> {
     Ok(())
 }
 
-/// A key set: the head of an array, a secret key so many times, and what comes after them.
+/// A key set: the head of an array, `count` times a secret key, and then other bytes.
 fn set_of(alloc: Global, head: &[u8], count: usize, rest: &[u8]) -> Result<Vec<u8>, AllocError> {
     let mut set = Vec::new(alloc);
     set.extend_from_slice(head)?;
@@ -101,7 +101,7 @@ fn has_room_for_sixteen_usable_keys(rt: HostRuntime) -> Result<(), Fail> {
         (b"\x91", 17, b"", refusal(Reason::BadKeySet, 0)),
         (b"\x91", 16, UNUSABLE, several),
         (b"\x81", 1, b"", Ok((1, Ok((b"a", 5))))),
-        // The refusal of the set goes first: a byte after it, and an eighteenth key that isn't there.
+        // The refusal of the set has precedence: a byte after it, and an eighteenth key that is missing.
         (b"\x91", 17, b"\x00", refusal(Reason::Trailing, 103)),
         (b"\x92", 17, b"", refusal(Reason::PastRoom, 103)),
     ];

@@ -1,4 +1,4 @@
-//! The pairs of a map before the one that is looked at, among which its label must not be (RFC 9052 section 3).
+//! The pairs of a map before the current one, among which its label must not be (RFC 9052 section 3).
 
 ghost use Rattle.std.specs.Prelude.{◌≡◌, ◌+◌, ◌<◌, ◌^◌, [], take, true, option_map};
 ghost use Rattle.cose_head.specs.ItemRef.{placed};
@@ -14,7 +14,7 @@ use crate::map::pairs::Pairs;
 use crate::map::read::refused;
 use cose_head::{ItemRef, Reason, Refusal};
 
-/// The first pairs of a map, and the greatest of their labels: one that comes after it is new.
+/// The first pairs of a map, and the greatest of their labels: a label that follows it in the order is new.
 #[derive(Clone, Copy)]
 pub(crate) struct Earlier<'a> {
     /// All pairs of the map.
@@ -22,11 +22,11 @@ pub(crate) struct Earlier<'a> {
     /// How many of them are earlier ones.
     pub(crate) count: u128,
     greatest: Option<Label<'a>>,
-    /// No earlier label comes after the greatest.
+    /// No earlier label follows the greatest in the order.
     pub ghost greatest_of_them: { order.is_greatest (option_map label_value greatest) (take count (pairs_left pairs)) ≡ true },
 }
 
-/// Whether a label comes after the greatest so far.
+/// Whether a label follows the greatest so far in the order.
 pub(crate) fn passes(greatest: Option<Label<'_>>, name: &Label<'_>) -> bool
     ensures { result ≡ order.passes (option_map label_value greatest.entry) (label_value name.now) }
 {
@@ -61,7 +61,7 @@ impl<'a> Earlier<'a> {
         }
     }
 
-    /// Whether a label stands among them, looked up one by one.
+    /// Whether a label is among them, by comparing it with each.
     fn is_taken(&self, name: &Label<'_>) -> bool
         ensures { result ≡ has_label (label_value name.now) (earlier_pairs self.now) }
     {
@@ -78,7 +78,7 @@ impl<'a> Earlier<'a> {
         false
     }
 
-    /// Whether a label stands among them. One that comes after the greatest doesn't.
+    /// Whether a label is among them. One that follows the greatest isn't.
     #[tactic(auto, using(crate::proofs::lemmas::Label::Order::none_passed))]
     fn has(&self, name: &Label<'_>) -> bool
         ensures { result ≡ has_label (label_value name.now) (earlier_pairs self.now) }
@@ -89,7 +89,7 @@ impl<'a> Earlier<'a> {
         self.is_taken(name)
     }
 
-    /// The label at an item, if it is none of theirs.
+    /// The label that an item is, if it is one and isn't among theirs.
     fn new_label<'b>(&self, item: &ItemRef<'b>) -> Result<Label<'b>, Refusal>
         ensures { seen_by label_value result ≡ label_after (earlier_pairs self.now) (placed item.now) }
     {
@@ -102,7 +102,7 @@ impl<'a> Earlier<'a> {
         Ok(name)
     }
 
-    /// The label of a pair, if it is none of theirs, and the value has its form.
+    /// The label of a pair, if it isn't among theirs and the value has its form.
     pub(crate) fn check<F: Form>(
         &self,
         form: &F,

@@ -12,7 +12,7 @@ use cose_head::{ItemRef, Reason};
 pub trait Form {
     ghost table: { Self → form.Table };
 
-    /// What is wrong with a label's value, if something is.
+    /// The fault of a label's value, if it has one.
     fn fault(&self, label: &Label<'_>, value: &ItemRef<'_>) -> Option<Reason>
         ensures { result ≡ table self.now (label_value label.now) (placed value.now) };
 }

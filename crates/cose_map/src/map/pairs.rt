@@ -57,7 +57,7 @@ impl<'a> Pairs<'a> {
         Some(value)
     }
 
-    /// Whether a label stands among the pairs.
+    /// Whether a label is among the pairs.
     pub(crate) fn has(&self, label: &Label<'_>) -> bool
         ensures { result ≡ has_label (label_value label.now) (pairs_left self.now) }
     {

@@ -33,7 +33,7 @@ fn next_two<'a>(items: &mut Items<'a>) -> Option<(ItemRef<'a>, ItemRef<'a>)>
     Some((first, second))
 }
 
-/// The pairs of a map's children, each of which has a new label and a value of its form.
+/// The pairs of a map from its children, each with a new label and a value of its form.
 fn check_items<'a, F: Form>(form: &F, items: Items<'a>) -> Result<Pairs<'a>, Refusal>
     ensures { seen_by pairs_left result ≡ check_pairs (F.table form.now) [] (items_left items.entry) }
 {
@@ -46,7 +46,7 @@ fn check_items<'a, F: Form>(form: &F, items: Items<'a>) -> Result<Pairs<'a>, Ref
     Ok(earlier.pairs)
 }
 
-/// The pairs of a map that was read already: labels, none twice, and values of their forms.
+/// The pairs of a map from its item: labels, none twice, and values of their forms.
 ///
 /// The first fault of the pairs in their order is the refusal: [`Reason::NotMap`], [`Reason::BadLabel`],
 /// [`Reason::DuplicateLabel`] or the form's, each label before its value.
@@ -55,7 +55,7 @@ pub fn check_map<'a, F: Form>(form: &F, item: &ItemRef<'a>) -> Result<Pairs<'a>,
     ensures exact { seen_by pairs_left result ≡ check_map (F.table form.now) (placed item.now) }
     ensures within { IfErr result (λ refusal. refusal.place ≤ item.now.place + length item.now.bytes.now) }
 {
-    // The law that `within` rests on.
+    // The law that the proof of `within` cites.
     refusals_stand_inside();
     if !item.is_map() {
         return Err(refused(Reason::NotMap, item));
@@ -65,7 +65,7 @@ pub fn check_map<'a, F: Form>(form: &F, item: &ItemRef<'a>) -> Result<Pairs<'a>,
 
 /// Reads bytes that are exactly one map, of a nesting of at most `depth`.
 ///
-/// The refusal is the first fault of the reading, then [`Reason::Trailing`], then those of [`check_map`].
+/// The refusal is the first fault of the item, then [`Reason::Trailing`], then those of [`check_map`].
 pub fn read_map<'a, F: Form>(
     form: &F,
     bytes: &'a [u8],

@@ -1,4 +1,4 @@
-//! Labels that are looked for among the pairs of a map, one after another.
+//! The search for labels among the pairs of a map, one label after another.
 
 ghost use Rattle.std.specs.Prelude.{◌≡◌, ◌||◌, None, not, true, option_map};
 ghost use Rattle.cose_map.specs.Label.Order as order;
@@ -11,25 +11,25 @@ use crate::label::Label;
 use crate::map::earlier::passes;
 use crate::map::pairs::Pairs;
 
-/// A search among the pairs of a map. Labels that come in increasing order are found in one pass over pairs that do so too,
-/// as deterministic encoding puts them (RFC 8949 section 4.2.1).
+/// A search among the pairs of a map. Labels in increasing order are found in one pass over pairs in increasing order,
+/// which is the order of deterministic encoding (RFC 8949 section 4.2.1).
 #[derive(Clone, Copy)]
 pub(crate) struct Search<'a, 'b> {
     /// All pairs of the map.
     pub(crate) pairs: Pairs<'a>,
-    /// Whether their labels come in increasing order.
+    /// Whether their labels are in increasing order.
     is_rising: bool,
-    /// The last label that was looked for in its order.
+    /// The last label that was searched in its order.
     last: Option<Label<'b>>,
-    /// The pairs among which a label that comes after it stands, if it is there.
+    /// The pairs that have any label that follows it in the order.
     ahead: Pairs<'a>,
-    /// Those come in increasing order, if all do.
+    /// These are in increasing order, if all are.
     pub ghost rising: { (not is_rising || spec.rise_after None (pairs_left ahead)) ≡ true },
-    /// No other pair has a label that comes after it.
+    /// No other pair has a label that follows it in the order.
     pub ghost others_passed: { spec.IsAhead (option_map label_value last) (pairs_left ahead) (pairs_left pairs) },
 }
 
-/// Whether the labels of pairs come in increasing order.
+/// Whether the labels of pairs are in increasing order.
 fn is_rising(pairs: Pairs<'_>) -> bool
     ensures { result ≡ spec.rise_after None (pairs_left pairs.entry) }
 {
@@ -43,7 +43,7 @@ fn is_rising(pairs: Pairs<'_>) -> bool
     true
 }
 
-/// The pairs from the first one on whose label is the name or comes after it.
+/// The pairs from the first one whose label is the name or follows it in the order.
 fn from<'a>(name: &Label<'_>, pairs: Pairs<'a>) -> Pairs<'a>
     ensures { pairs_left result ≡ spec.from (label_value name.now) (pairs_left pairs.entry) }
 {
@@ -69,7 +69,7 @@ fn is_first(name: &Label<'_>, pairs: Pairs<'_>) -> bool
 }
 
 impl<'a, 'b> Search<'a, 'b> {
-    /// Before the first label is looked for.
+    /// The search before any label.
     pub(crate) fn new(pairs: Pairs<'a>) -> Search<'a, 'b>
         ensures { pairs_left result.pairs ≡ pairs_left pairs.entry }
     {
@@ -81,7 +81,7 @@ impl<'a, 'b> Search<'a, 'b> {
         }
     }
 
-    /// The search after a label that comes after the last one.
+    /// The search after a label that follows the last one in the order.
     fn onward(self, name: Label<'b>) -> Search<'a, 'b>
         requires { order.passes (option_map label_value self.last) (label_value name) ≡ true }
         ensures pairs { pairs_left result.pairs ≡ pairs_left self.entry.pairs }
@@ -95,7 +95,7 @@ impl<'a, 'b> Search<'a, 'b> {
         }
     }
 
-    /// Whether a label stands among the pairs. One that is out of order is looked for among all of them.
+    /// Whether a label is among the pairs. One that is out of order is searched among all of them.
     #[tactic(auto, using(crate::proofs::lemmas::Map::Search::found_first))]
     pub(crate) fn has(&mut self, name: Label<'b>) -> bool
         ensures answer { result ≡ has_label (label_value name.entry) (pairs_left self.old.pairs) }

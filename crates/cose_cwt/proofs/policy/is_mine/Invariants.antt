@@ -1,4 +1,4 @@
--- Whether it is among those that are left is whether it is among all.
+-- It is among those that are left exactly where it is among all.
 use Rattle.std.proofs.Common.{◌≡◌, map, drop}
 use Rattle.cose_cwt.specs.Admission.{is_one_of}
 use Rattle.cose_cwt.specs.Claims.Audience.{text_value}

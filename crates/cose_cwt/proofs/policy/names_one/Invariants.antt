@@ -1,4 +1,4 @@
--- Whether one is among those that are left is whether one is among all.
+-- One is among those that are left exactly where one is among all.
 use Rattle.std.proofs.Common.{◌≡◌, map}
 use Rattle.cose_cwt.specs.Admission.{names_one}
 use Rattle.cose_cwt.specs.Claims.Audience.{text_value, texts_left}

@@ -26,7 +26,8 @@ returns-clause-token g c = λ setting bytes h told.
     let r = returns-clause-run g c setting h in
     token_of_run c.settled_stays.ensures.message _ _ _ _ _ _ _ _ _ r.taken _ bytes _ r.run r.comes told
 
--- A kept answer is no failure. With none the payload is within its limit, and so within the store.
+-- Where an answer was kept, the call doesn't stop for the store. Else the payload is within its limit, and so within
+-- the store.
 pub returns-clause-store_suffices : goal.returns-clause-store_suffices
 returns-clause-store_suffices g c =
     let before = c.args.verifier.now in

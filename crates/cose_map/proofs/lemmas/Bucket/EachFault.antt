@@ -1,4 +1,4 @@
--- What each fault of two buckets has, the one that is answered has.
+-- A property of each fault of two buckets is a property of the fault that is answered.
 use Rattle.std.proofs.Common.{ℕ, Bool, true, false, not, List, [], ◌∷◌, ◌++◌, Option, Some, None}
 use Rattle.std.specs.Prelude.{IfSome, fold, flat_map}
 use Rattle.std.specs.List.{AllByRecursion}

@@ -48,7 +48,7 @@ pub few_children : (p : Placed) (h : Head) → h ≡ head_of_item p → h.major 
 unfolding children_of
 few_children p h same e = rw (← same) (few_of h p e)
 
--- No more are usable than there are.
+-- No more items are usable than there are items.
 usable_more : {A B : Type 0} (found : Option B) (f : A → Option B) (xs : List A) (n : ℕ) → length (filter_map f xs) ≤ n → length (cons_option found (filter_map f xs)) ≤ suc n
 usable_more None f xs n most = omega (arith, most)
 usable_more (Some y) f xs n most = omega (arith, most)

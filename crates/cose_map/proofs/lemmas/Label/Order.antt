@@ -48,7 +48,7 @@ pub passes_on : (greatest : Option LabelValue) (name later : LabelValue) → pas
 passes_on None name later p q = refl
 passes_on (Some greatest) name later p q = transitive greatest name later p q
 
--- equal labels are one
+-- equal labels are the same
 pub is_same : (a b : LabelValue) → same_label a b ≡ true → a ≡ b
 is_same (number a) (number b) e = ap number ((Decides-int_eq a b).0 e)
 is_same (words a) (words b) e = ap words ((bytes_eq-Decides a b).0 e)
@@ -75,7 +75,7 @@ none_passed greatest name (pair ∷ others) all p =
     let other : same_label name pair.name ≡ false = not_same _ (λ same. true_false (passes greatest pair.name) (sym (ap (passes greatest) (is_same name pair.name same)) ∙ p) parts.0) in
     rw other (none_passed greatest name others parts.1 p)
 
--- the greatest of one more
+-- the greatest, with one more label
 none_after : (greatest : Option LabelValue) (name : LabelValue) (pairs : List Pair) → is_greatest greatest pairs ≡ true → passes greatest name ≡ true → is_greatest (Some name) pairs ≡ true
 none_after greatest name [] all p = refl
 none_after greatest name (pair ∷ others) all p =

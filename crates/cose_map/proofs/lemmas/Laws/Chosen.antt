@@ -39,7 +39,7 @@ module _ {A B : Type 0} (find : A → Option B) where
   some_found [] after key y e none = let first = none_first key after (find key) refl none in cc
   some_found (x ∷ before) after key y e none = some_found before after key y e (none_first x (before ++ key ∷ after) (find x) refl none).1
 
-  -- besides the one where it is found, it is found nowhere
+  -- where it is found at one element, it is found at no other
   after_one : (key : A) (after : List A) (y z : B) → find key ≡ Some y → filter_map find (key ∷ after) ≡ z ∷ [] → filter_map find after ≡ []
   after_one key after y z e only =
       let whole : y ∷ filter_map find after ≡ z ∷ [] = sym (ap (λ found. cons_option found (filter_map find after)) e) ∙ only in cc
@@ -100,7 +100,7 @@ first_of : (a b c d : Bool) → (a && b && c && d) ≡ true → a ≡ true
 first_of true b c d e = refl
 first_of false b c d e = cc
 
--- an algorithm that a key is for is one of the kind, and takes the key's type
+-- the algorithm of a key is for messages of the kind, and takes the key's type
 same : (a b : Kind) → same_kind a b ≡ true → a ≡ b
 same Mac0 Mac0 e = refl
 same Sign1 Sign1 e = refl

@@ -1,4 +1,4 @@
--- No refusal of a map, a bucket, a key or two buckets stands after the bytes.
+-- No place of a refusal of a map, a bucket, a key or two buckets is after the bytes.
 use Rattle.std.proofs.Common.{◌≡◌, ◌⊎◌, inl, inr, ℕ, ◌≤◌, max, Bool, true, false, List, [], ◌∷◌, ◌++◌, length, Option, Some, None, Ok, Err, if◌then◌else◌, refl, sym, subst, arith}
 use Rattle.std.specs.Prelude.{⊤, Result, IfErr, ℤ, pos, ◌==◌, IfSome, option_map, find}
 use Rattle.std.specs.List.{AllByRecursion}
@@ -168,13 +168,13 @@ module _ (end : ℕ) where
     material_by = then_by end (EndsBy end) (λ material. ⊤) (member key pairs kty) _ (member_by kty)
         (λ value s. typed_by (integer_in (look value)))
 
--- a refusal that is seen is that of the code
+-- a refusal in a view of the result is that of the code
 pub seen_inside : {X Y : Type 0} (view : X → Y) (result : Result X Refusal) (end : ℕ) (answer : Read Y) → seen_by view result ≡ answer → RefusedBy end answer →
     IfErr result (λ refusal. refusal.place ≤ end)
 seen_inside view (Ok x) end answer e inside = tt
 seen_inside view (Err refusal) end answer e inside = rw (← e) at inside
 
--- with what is known of reading and of children
+-- given the laws of reading and of children
 module _ (wholes : WholeIsItem) (inside : WholeIsRefusedInside) (children : ChildrenEndInside) where
   map_inside : (table : Table) (p : Placed) → AnswersBy (end_of p) (PairsEndBy (end_of p)) (check_map table p)
   map_inside table p = cond_both (is_a_map (look p)) (check_pairs table [] (children_of p)) (refuse NotMap p)

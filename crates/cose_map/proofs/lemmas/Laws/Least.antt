@@ -1,4 +1,4 @@
--- The least of several faults is one of them, and none goes before it.
+-- The least of several faults is one of them, and none has precedence over it.
 use Rattle.std.proofs.Common.{◌≡◌, ℕ, true, false, List, [], ◌∷◌, Option, Some, None, refl, arith, ⊎_elim}
 use Rattle.std.specs.Prelude.{◌↔◌, nat_lt, ◌==◌, ◌&&◌, ◌||◌, fold}
 use Rattle.std.specs.List.{AllByRecursion, Contains}
@@ -9,11 +9,11 @@ use Rattle.cose_head.specs.declared.refusal.Refusal.{Refusal}
 use Rattle.cose_head.specs.Reason.{number_of}
 use Rattle.cose_map.specs.Bucket.Both.{goes_before, lesser, least}
 
--- the order: by the place, and at one place by the number
+-- the order: by the place, and at the same place by the number
 not_itself : (p n : ℕ) → (nat_lt p p || (p == p && nat_lt n n)) ≡ false
 not_itself p n = grind (arith, nat_tests)
 
--- what goes before a first goes before whatever isn't before the first
+-- what has precedence over a first one has it over whatever has none over the first
 before_others : (p n q m r k : ℕ) → (nat_lt p q || (p == q && nat_lt n m)) ≡ true → (nat_lt p r || (p == r && nat_lt n k)) ≡ false →
     (nat_lt q r || (q == r && nat_lt m k)) ≡ false
 before_others p n q m r k e f = grind (arith, nat_tests)
@@ -22,7 +22,7 @@ not_before_others : (p n q m r k : ℕ) → (nat_lt p q || (p == q && nat_lt n m
     (nat_lt p r || (p == r && nat_lt n k)) ≡ false
 not_before_others p n q m r k e f = grind (arith, nat_tests)
 
--- The least of several faults, and what it is.
+-- The properties of the least of several faults.
 record IsLeast (faults : List Refusal) (fault : Refusal) : Type 0 where
   pub among : Contains faults fault
   pub none_before : AllByRecursion (λ other. goes_before other fault ≡ false) faults

@@ -1,5 +1,5 @@
--- For which reasons maps, buckets, keys, key sets, two buckets together and the choice of the key are refused: an answer is
--- a value, or a refusal whose reason has a property, and this goes through what follows it.
+-- The reasons for which maps, buckets, keys, key sets, two buckets together and the choice of the key are refused: an
+-- answer is a value, or a refusal whose reason has a property, and this is kept by what follows it.
 use Rattle.std.proofs.Common.{◌≡◌, ℕ, Bool, true, false, not, List, [], ◌∷◌, ◌++◌, length, Option, Some, None, Ok, Err, if◌then◌else◌, lit<, refl, ap}
 use Rattle.std.specs.Prelude.{◌≢◌, ⊤, IfErr, IfSome, ℤ, pos, nat_lt, ◌==◌, ◌&&◌, filter_map}
 use Rattle.std.specs.List.{AllByRecursion, Contains, list_all}
@@ -171,7 +171,7 @@ key_finds : FindsFaults (BadValue ∷ []) key_table
 unfolding key_table
 key_finds name value = bad_if (key_form name value)
 
--- with what is known of bytes that have to be one item
+-- given the reasons of bytes that should be one item
 module _ (reasons : WholeReasons) where
   whole_refused_for : (depth : ℕ) (p : Placed) → RefusedFor whole_reasons (whole depth p)
   whole_refused_for depth p = at (whole depth p) refl
@@ -262,7 +262,7 @@ module _ (reasons : List Reason) (none : list_all is_other reasons ≡ true) whe
   fault_not_truncated None s = tt
   fault_not_truncated (Some refusal) s = not_truncated refusal.reason s
 
--- with what is known of bytes that have to be one item
+-- given the reasons of bytes that should be one item
 module _ (reasons : WholeReasons) where
   pub bucket_not_truncated : (depth : ℕ) (p : Placed) → IfErr (bucket_of depth p) (λ refusal. refusal.reason ≢ Truncated)
   bucket_not_truncated depth p = refusal_not_truncated bucket_reasons refl (bucket_of depth p) (bucket_refused_for reasons depth p)

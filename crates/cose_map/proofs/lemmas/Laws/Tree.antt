@@ -46,7 +46,7 @@ passed : (table : Table) (earlier : List Pair) (label value : Placed) (pair : Pa
     (name : LabelValue) × (label_of label ≡ Some name) × (pair_with name label value ≡ pair)
 passed table earlier label value pair e = passed_name (label_of label) table earlier label value pair e
 
--- a tree that looks like a map is one
+-- a tree whose look is that of a map is a map
 simple_no_map : (a b : Bool) → is_a_map (if a then truth false else if b then truth true else other) ≡ true → ⊥
 simple_no_map true b e = cc
 simple_no_map false true e = cc
@@ -71,7 +71,7 @@ no_bytes : (bytes : List ℕ) → (length bytes == 0) ≡ true → bytes ≡ []
 no_bytes [] e = refl
 no_bytes (b ∷ bs) e = let none : length (b ∷ bs) ≡ 0 = is_zero (length (b ∷ bs)) e in absurd (omega arith)
 
--- with what is known of reading and of children
+-- given the laws of reading and of children
 module _ (spelled : ReadIsSpelled) where
   item_tree : (depth : ℕ) (p : Placed) (tree : Item) → IsItem depth p tree → IsTree depth p tree
   item_tree depth p tree s =

@@ -54,7 +54,7 @@ checked_named : (table : Table) (earlier : List Pair) (label value : Placed) (pa
 unfolding pairs_of
 checked_named table earlier label value pair others e = checked_name (label_of label) table earlier label value pair (pairs_of others) e
 
--- the check goes on after a pair that passes, and stops at one that doesn't
+-- the check continues after a pair without a fault, and ends at one with a fault
 check_on : (table : Table) (earlier : List Pair) (label value : Placed) (others : List Placed) (pair : Pair) → pair_after table earlier label value ≡ Ok pair →
     check_pairs table earlier (label ∷ value ∷ others) ≡ check_pairs table (earlier ++ pair ∷ []) others
 unfolding check_pairs

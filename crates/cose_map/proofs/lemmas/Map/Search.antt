@@ -56,7 +56,7 @@ pub still_rising : (name : LabelValue) (rising : Bool) (pairs : List Pair) → (
 still_rising name true pairs e = from_rises name pairs e
 still_rising name false pairs e = refl
 
--- labels that come after the one that was looked for are none of those that were passed
+-- labels that come after the one that was searched are none of those that were skipped
 from_keeps : (name later : LabelValue) (pairs : List Pair) → precedes name later ≡ true → has_label later (from name pairs) ≡ has_label later pairs
 from_keeps name later [] p = refl
 from_keeps name later (pair ∷ others) p = ⊎_elim (λ t. rw t refl)

@@ -1,4 +1,4 @@
-//! Labels that stand in both buckets are found in whatever order they come.
+//! Labels that are in both buckets are found in any order.
 
 use crate::bucket::Bucket;
 use crate::bucket::both::check_pair;

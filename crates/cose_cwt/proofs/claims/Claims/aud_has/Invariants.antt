@@ -1,4 +1,4 @@
--- Whether it is among those that are left is whether it is among all.
+-- It is among those that are left exactly where it is among all.
 use Rattle.std.proofs.Common.{◌≡◌, bytes_eq}
 use Rattle.std.specs.List.{list_any}
 use Rattle.cose_cwt.specs.Claims.{auds_of}

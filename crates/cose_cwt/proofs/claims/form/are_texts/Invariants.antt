@@ -4,6 +4,6 @@ use Rattle.cose_head.specs.Items.{items_left}
 use Rattle.cose_cwt.specs.Claims.Form.{is_text, are_texts}
 use Rattle.cose_cwt.proofs.claims.form.are_texts.Given as goal
 
--- what is left are texts, and there is one, if there was none so far
+-- the elements left are text strings, and there is at least one, if there was none so far
 abbrev pub invariant-elements : goal.invariant-elements
 invariant-elements l = ((l.any || not (length (items_left l.element-iterator) == 0)) && list_all is_text (items_left l.element-iterator)) ≡ are_texts (items_left l.initial.items)

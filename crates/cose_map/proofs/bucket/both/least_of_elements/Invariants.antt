@@ -7,7 +7,7 @@ use Rattle.cose_map.specs.Map.View.{pairs_left}
 use Rattle.cose_map.specs.Label.View.{label_value}
 use Rattle.cose_map.proofs.bucket.both.least_of_elements.Given as goal
 
--- the least so far, with what is to come, is the least of all
+-- the least so far, with the elements left, is the least of all
 abbrev pub invariant-elements : goal.invariant-elements
 invariant-elements l = record {
   least :

@@ -5,7 +5,7 @@ use Rattle.cose_map.specs.Map.View.{pairs_left}
 use Rattle.cose_map.specs.Bucket.Both.{lesser, unprotected_faults}
 use Rattle.cose_map.proofs.bucket.both.with_unprotected.Given as goal
 
--- the least so far, with what is to come, is the least of all
+-- the least so far, with the pairs left, is the least of all
 abbrev pub invariant-pairs : goal.invariant-pairs
 invariant-pairs l = record {
   least :

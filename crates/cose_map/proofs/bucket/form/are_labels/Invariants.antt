@@ -5,6 +5,6 @@ use Rattle.cose_map.specs.Map.Form.{is_label}
 use Rattle.cose_map.specs.Bucket.Form.{are_labels}
 use Rattle.cose_map.proofs.bucket.form.are_labels.Given as goal
 
--- what is left are labels, and there is one, if there was none so far
+-- the elements left are labels, and there is at least one, if there was none so far
 abbrev pub invariant-elements : goal.invariant-elements
 invariant-elements l = ((l.any || not (length (items_left l.element-iterator) == 0)) && list_all is_label (items_left l.element-iterator)) ≡ are_labels (items_left l.initial.items)

@@ -1,4 +1,4 @@
--- Those that are left are right, and there is one, if there was none so far.
+-- Those that are left have the form, and there is at least one, if there was none so far.
 use Rattle.std.proofs.Common.{◌≡◌, ◌==◌, ◌&&◌, ◌||◌, not, length}
 use Rattle.std.specs.List.{list_all}
 use Rattle.cose_head.specs.Items.{items_left}

@@ -1,4 +1,4 @@
--- Those that are counted and those among the items that are left are all usable keys.
+-- The count so far and the usable keys among the items left are all usable keys.
 use Rattle.std.proofs.Common.{◌≡◌, ◌+◌, ◌<◌, ◌^◌, length}
 use Rattle.std.specs.Prelude.{filter_map}
 use Rattle.cose_map.specs.KeySet.Items.{key_items_left}

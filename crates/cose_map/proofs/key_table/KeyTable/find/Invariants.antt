@@ -1,4 +1,4 @@
--- The answer for the keys that are left, after those that were met, is the answer for all.
+-- The answer for the keys that are left, after those that were checked, is the answer for all.
 use Rattle.std.proofs.Common.{◌≡◌, drop, map}
 use Rattle.std.specs.Prelude.{filter_map}
 use Rattle.cose_map.specs.Choice.{fitting, only_one}

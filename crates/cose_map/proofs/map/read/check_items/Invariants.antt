@@ -6,7 +6,7 @@ use Rattle.cose_map.specs.Map.Read.{check_pairs}
 use Rattle.cose_map.specs.Map.View.{pairs_left}
 use Rattle.cose_map.proofs.map.read.check_items.Given as goal
 
--- the pairs before this one are the first of all, and the others are still to come
+-- the pairs before this one are the first of all, and the others are left
 abbrev pub invariant-pairs : goal.invariant-pairs
 invariant-pairs g l = record {
   all : pairs_left l.earlier.pairs ≡ pairs_of (items_left l.initial.items);

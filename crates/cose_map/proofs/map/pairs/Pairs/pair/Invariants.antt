@@ -1,4 +1,4 @@
--- What is found among the pairs that are left is what is found among all.
+-- The pair found among the pairs that are left is the one found among all.
 use Rattle.std.proofs.Common.{◌≡◌}
 use Rattle.cose_map.specs.Map.Pairs.{pair_of}
 use Rattle.cose_map.specs.Map.View.{pairs_left}
