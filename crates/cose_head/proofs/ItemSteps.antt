@@ -1,9 +1,11 @@
 -- Each exit of the reader of spans is what `read` gives.
-use Rattle.std.proofs.Common.{◌≡◌, ℕ, ◌+◌, ◌-◌, ◌<◌, ◌≤◌, true, false, List, max, length, take, drop, Ok, Err, refl, sym, ap, ◌∙◌, arith, Result, zero-add}
+use Rattle.std.proofs.Common.{◌≡◌, ℕ, zero, suc, ◌+◌, ◌-◌, ◌<◌, ◌≤◌, ◌/◌, ◌%◌, true, false, List, [], ◌∷◌, max, slice_index_or, length, take, drop, Ok, Err, refl, sym, ap, ◌∙◌, arith, Result, zero-add}
 use Rattle.std.proofs.lemmas.List.{length-drop}
 use Rattle.std.proofs.Math.Seq.{take-length}
 use Rattle.std.proofs.lemmas.Bool.Decides.{nat_tests}
 use Rattle.std.specs.Ordering.{ord_max, nat_cmp}
+use Rattle.std.specs.Prelude.{nat_lt, ◌==◌}
+use Rattle.cose_head.specs.Head.{head_of}
 use Rattle.cose_head.specs.declared.head.Head.{Head}
 use Rattle.cose_head.specs.declared.item.Span.{Span}
 use Rattle.cose_head.specs.Item.{Item, depth_of}
@@ -101,3 +103,29 @@ whole_span bytes room (Ok span) (Ok found) e =
 whole_span bytes room (Ok span) (Err refusal) e = cc
 whole_span bytes room (Err refusal) (Ok found) e = cc
 whole_span bytes room (Err refusal) (Err other) e = let r : refusal ≡ other = cc in rw r refl
+
+-- an integer of one byte, which is its head
+small_head : (initial : ℕ) (rest : List ℕ) (room place : ℕ) → initial < 64 → initial % 32 < 24 →
+    Ok (head_of initial [], after 1 (left_of (initial ∷ rest) (suc room) place)) ≡ head (left_of (initial ∷ rest) (suc room) place)
+unfolding head
+small_head initial rest room place low few =
+    let definite : nat_lt (initial % 32) 28 ≡ true = grind (arith, nat_tests) in
+    let bare : nat_lt (initial % 32) 24 ≡ true = grind (arith, nat_tests) in
+    let plain : initial / 32 % 8 == 7 ≡ false = grind (arith, nat_tests) in
+    let some : suc room == 0 ≡ false = grind (arith, nat_tests) in
+    let fits : nat_lt (suc room - 1) 0 ≡ false = grind (arith, nat_tests) in
+    let there : nat_lt (length rest) 0 ≡ false = grind (arith, nat_tests) in
+    rw (definite, bare, plain, some, fits, there) refl
+
+pub small_integer : (bytes : List ℕ) (depth room place : ℕ) → 1 ≤ length bytes → slice_index_or bytes 0 0 < 64 →
+    slice_index_or bytes 0 0 % 32 < 24 → 0 < room → Ok (0, after 1 (left_of bytes room place)) ≡ nesting (read depth (left_of bytes room place))
+small_integer [] depth room place there low few some = absurd (omega arith)
+small_integer (initial ∷ rest) depth zero place there low few some = absurd (omega arith)
+small_integer (initial ∷ rest) depth (suc room) place there low few some =
+    let two : initial / 32 % 8 == 2 ≡ false = grind (arith, nat_tests) in
+    let three : initial / 32 % 8 == 3 ≡ false = grind (arith, nat_tests) in
+    let four : initial / 32 % 8 == 4 ≡ false = grind (arith, nat_tests) in
+    let five : initial / 32 % 8 == 5 ≡ false = grind (arith, nat_tests) in
+    let six : initial / 32 % 8 == 6 ≡ false = grind (arith, nat_tests) in
+    item_leaf depth (left_of (initial ∷ rest) (suc room) place) (head_of initial []) (small_head initial rest room place low few)
+    (rw (two, three) refl) (rw (four, five, six) refl)

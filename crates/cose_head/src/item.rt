@@ -1,8 +1,8 @@
 //! Complete data items (RFC 8949 section 3).
 
-ghost use Rattle.std.specs.Prelude.{◌≡◌, ℕ, ◌+◌, ◌<◌, ◌≤◌, ◌^◌, length, take, IfOk, IfErr};
+ghost use Rattle.std.specs.Prelude.{◌≡◌, ℕ, ◌+◌, ◌<◌, ◌≤◌, ◌^◌, true, length, take, Ok, IfOk, IfErr};
 ghost use Rattle.cose_head.specs.Item.{Item, Spells, depth_of};
-ghost use Rattle.cose_head.specs.Reading.{read, read_all, head, string, span_of, is_string as head_of_string, is_parent as head_of_parent};
+ghost use Rattle.cose_head.specs.Reading.{after, read, read_all, head, string, span_of, is_string as head_of_string, is_parent as head_of_parent};
 ghost use Rattle.cose_head.specs.Measured.{left_of, head_found, span_found, nesting, nesting_all, children_allowed, SpansItem};
 
 use crate::head::{Head, HeadStep, parse_head};
@@ -135,9 +135,42 @@ fn items_at(
     })
 }
 
-/// The item that `bytes` begin with. The first of `bytes` is at `place`.
+/// Whether `bytes` begin with an integer from -24 to 23, which is one byte.
+fn begins_with_small_integer(bytes: &[u8]) -> bool
+    ensures there { true ≡ result → 0 < length bytes.now }
+    ensures one_byte { (depth room place : ℕ) → true ≡ result → 0 < room →
+        let l = left_of bytes.now room place in Ok (0, after 1 l) ≡ nesting (read depth l) }
+{
+    match bytes {
+        [initial, ..] => *initial < 64 && *initial % 32 < 24,
+        [] => false,
+    }
+}
+
+/// The item that `bytes` begin with. The first of `bytes` is at `place`. An integer of one byte, as most items of headers are, takes
+/// no further reading.
 #[cycle(item)]
 pub(crate) fn item_at(bytes: &[u8], room: usize, place: u64, depth: usize) -> Result<Span, Refusal>
+    requires in_range { place + length bytes.now < 2 ^ 64 }
+    requires shallow { depth ≤ 32 }
+    ensures exact { let l = left_of bytes.now room place in span_found l result ≡ nesting (read depth l) }
+    ensures some { IfOk result (λ span. 0 < span.length) }
+    ensures there { IfOk result (λ span. span.length ≤ length bytes.now) }
+    ensures fits { IfOk result (λ span. span.length ≤ room) }
+    ensures nested { IfOk result (λ span. span.depth ≤ depth) }
+{
+    if room > 0 && begins_with_small_integer(bytes) {
+        return Ok(Span {
+            length: 1,
+            depth: 0,
+        });
+    }
+    any_item_at(bytes, room, place, depth)
+}
+
+/// The item that `bytes` begin with, whatever it is. The first of `bytes` is at `place`.
+#[cycle(item)]
+fn any_item_at(bytes: &[u8], room: usize, place: u64, depth: usize) -> Result<Span, Refusal>
     requires in_range { place + length bytes.now < 2 ^ 64 }
     requires shallow { depth ≤ 32 }
     ensures exact { let l = left_of bytes.now room place in span_found l result ≡ nesting (read depth l) }

@@ -112,7 +112,7 @@ impl<'a> KeySet<'a> {
         let mut fitting = Fitting::Nothing;
         for item in KeyItems::of(self.set) {
             if let Some(key) = usable(&item) {
-                fitting = fitting.with(key, query);
+                fitting.meet(&key, query);
             }
         }
         fitting.answer(query)

@@ -80,7 +80,7 @@ impl<'a, const N: usize> KeyTable<'a, N> {
         }
         let mut fitting = Fitting::Nothing;
         for slot in self.slots.as_slice() {
-            fitting = fitting.with(slot.key, query);
+            fitting.meet(&slot.key, query);
         }
         fitting.answer(query)
     }

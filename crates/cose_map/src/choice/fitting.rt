@@ -24,14 +24,15 @@ pub(crate) enum Fitting<'k> {
 
 impl<'k> Fitting<'k> {
     /// With one more key, if it fits.
-    pub(crate) fn with(self, key: Key<'k>, query: &Query) -> Fitting<'k>
-        ensures { (rest : List (KeyValue × ℤ)) → with_rest (question query.now) result rest
-            ≡ with_rest (question query.now) self.entry (cons_option (fitting_key (question query.now) (key_value key.entry)) rest) }
+    pub(crate) fn meet(&mut self, key: &Key<'k>, query: &Query)
+        ensures { (rest : List (KeyValue × ℤ)) → with_rest (question query.now) self.new rest
+            ≡ with_rest (question query.now) self.old (cons_option (fitting_key (question query.now) (key_value key.now)) rest) }
     {
-        match (query.fitting(&key), self) {
-            (None, fitting) => fitting,
-            (Some(algorithm), Fitting::Nothing) => Fitting::One(key, algorithm),
-            (Some(_), _) => Fitting::Several,
+        if let Some(algorithm) = query.fitting(key) {
+            *self = match self {
+                Fitting::Nothing => Fitting::One(*key, algorithm),
+                _ => Fitting::Several,
+            };
         }
     }
 

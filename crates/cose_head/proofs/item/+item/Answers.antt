@@ -7,47 +7,47 @@ use Rattle.cose_head.proofs.Measured.{item_refused}
 use Rattle.cose_head.proofs.ItemSteps.{leaf_done, string_done, string_refused, parent_refused, parent_done, children_refused, slice_from, items_next, items_done, ord_max-nat_cmp}
 use Rattle.cose_head.proofs.item.+item.Goals as goal
 
-pub item_at-returns-in_err-found-clause-exact : goal.item_at-returns-in_err-found-clause-exact
-item_at-returns-in_err-found-clause-exact t c =
+pub any_item_at-returns-in_err-found-clause-exact : goal.any_item_at-returns-in_err-found-clause-exact
+any_item_at-returns-in_err-found-clause-exact t c =
     let p = err_from_is_err_and c.from_residual.result c.from_residual.ensures.1 in
     rw (p.1, p.2) (item_refused c.args.depth
     (left_of c.args.bytes.now c.args.room c.args.place) c.in_err-found.field-0.0 c.in_err-found.ensures.exact)
 
-pub item_at-returns-in_err-string-clause-exact : goal.item_at-returns-in_err-string-clause-exact
-item_at-returns-in_err-string-clause-exact t c =
+pub any_item_at-returns-in_err-string-clause-exact : goal.any_item_at-returns-in_err-string-clause-exact
+any_item_at-returns-in_err-string-clause-exact t c =
     let p = err_from_is_err_and c.from_residual-in_err-string.result c.from_residual-in_err-string.ensures.1 in
     rw (p.1, p.2) (string_refused c.args.depth c.args.bytes.now c.args.room c.args.place c.in_ok-found.found c.from-width.result
     c.from-width.ensures c.in_ok-found.ensures.exact
     c.in_err-string.field-0.0 c.if-is_string.ensures c.in_err-string.ensures.exact)
 
-pub item_at-returns-then-is_string-clause-exact : goal.item_at-returns-then-is_string-clause-exact
-item_at-returns-then-is_string-clause-exact t c =
+pub any_item_at-returns-then-is_string-clause-exact : goal.any_item_at-returns-then-is_string-clause-exact
+any_item_at-returns-then-is_string-clause-exact t c =
     string_done c.args.depth c.args.bytes.now c.args.room c.args.place c.in_ok-found.found c.from-width.result c.from-width.ensures
     c.in_ok-found.ensures.exact
     c.in_ok-string.string.length c.in_ok-string.string.depth c.if-is_string.ensures c.in_ok-string.ensures.exact c.in_ok-string.ensures.flat
 
-pub item_at-returns-then-not-is_parent-clause-exact : goal.item_at-returns-then-not-is_parent-clause-exact
-item_at-returns-then-not-is_parent-clause-exact t c =
+pub any_item_at-returns-then-not-is_parent-clause-exact : goal.any_item_at-returns-then-not-is_parent-clause-exact
+any_item_at-returns-then-not-is_parent-clause-exact t c =
     leaf_done c.args.depth c.args.bytes.now c.args.room c.args.place c.in_ok-found.found c.from-width.result c.from-width.ensures
     c.in_ok-found.ensures.exact
     c.if-is_string.ensures c.if-not-is_parent.ensures
 
-pub item_at-returns-in_err-count-clause-exact : goal.item_at-returns-in_err-count-clause-exact
-item_at-returns-in_err-count-clause-exact t c =
+pub any_item_at-returns-in_err-count-clause-exact : goal.any_item_at-returns-in_err-count-clause-exact
+any_item_at-returns-in_err-count-clause-exact t c =
     let p = err_from_is_err_and c.from_residual-in_err-count.result c.from_residual-in_err-count.ensures.1 in
     rw (p.1, p.2) (parent_refused c.args.depth c.args.bytes.now c.args.room c.args.place c.in_ok-found.found c.from-width.result
     c.from-width.ensures c.in_ok-found.ensures.exact
     c.in_err-count.field-0.0 c.if-is_string.ensures c.if-not-is_parent.ensures c.in_err-count.ensures)
 
-pub item_at-returns-in_err-items-clause-exact : goal.item_at-returns-in_err-items-clause-exact
-item_at-returns-in_err-items-clause-exact t c =
+pub any_item_at-returns-in_err-items-clause-exact : goal.any_item_at-returns-in_err-items-clause-exact
+any_item_at-returns-in_err-items-clause-exact t c =
     let p = err_from_is_err_and c.from_residual-in_err-items.result c.from_residual-in_err-items.ensures.1 in
     rw (p.1, p.2) (children_refused c.args.depth c.args.bytes.now c.args.room c.args.place c.in_ok-found.found c.from-width.result
     c.from-width.ensures c.in_ok-found.ensures.exact
     c.in_ok-count.count c.in_err-items.field-0.0 c.if-is_string.ensures c.if-not-is_parent.ensures c.in_ok-count.ensures c.in_err-items.ensures.exact)
 
-pub item_at-returns-clause-exact : goal.item_at-returns-clause-exact
-item_at-returns-clause-exact t c =
+pub any_item_at-returns-clause-exact : goal.any_item_at-returns-clause-exact
+any_item_at-returns-clause-exact t c =
     parent_done c.args.depth c.args.bytes.now c.args.room c.args.place c.in_ok-found.found c.from-width.result c.from-width.ensures
     c.in_ok-found.ensures.exact
     c.in_ok-count.count c.in_ok-items.items.length c.in_ok-items.items.depth c.if-is_string.ensures c.if-not-is_parent.ensures

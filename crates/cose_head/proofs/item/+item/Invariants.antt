@@ -5,11 +5,14 @@ use Rattle.cose_head.proofs.Measured.{onward}
 use Rattle.cose_head.proofs.item.+item.Given as goal
 
 -- an item is read with the allowance, and its children with one less
+abbrev pub decreases-any_item_at : goal.decreases-any_item_at
+decreases-any_item_at l = 3 * l.depth
+
 abbrev pub decreases-item_at : goal.decreases-item_at
-decreases-item_at l = 2 * l.depth + 1
+decreases-item_at l = 3 * l.depth + 1
 
 abbrev pub decreases-items_at : goal.decreases-items_at
-decreases-items_at l = 2 * l.depth + 2
+decreases-items_at l = 3 * l.depth + 2
 
 abbrev pub invariant-items_at-items : goal.invariant-items_at-items
 invariant-items_at-items l = record {
