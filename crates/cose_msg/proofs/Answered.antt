@@ -134,7 +134,7 @@ kept_inspection_settles {H} {D} {S} {K} {setting} {s} {B} {v} result h kept =
 abbrev pub StaysSettled : Rules → Type 0
 StaysSettled rules = (bytes more : List ℕ) → (message rules bytes).settled ≡ true → message rules (bytes ++ more) ≡ message rules bytes
 
-all_settled : (rules : Rules) → StaysSettled rules → (bytes rest : List ℕ) (said : Answer) (settled : Bool) → (message rules bytes).settled ≡ settled → (message rules bytes).answer ≡ said → ((message rules bytes).settled ≡ false → rest ≡ []) →
+pub all_settled : (rules : Rules) → StaysSettled rules → (bytes rest : List ℕ) (said : Answer) (settled : Bool) → (message rules bytes).settled ≡ settled → (message rules bytes).answer ≡ said → ((message rules bytes).settled ≡ false → rest ≡ []) →
     (message rules (bytes ++ rest)).answer ≡ said
 all_settled rules stays bytes rest said true e answer none = ap (λ (r : Reading). r.answer) (stays bytes rest e) ∙ answer
 all_settled rules stays bytes rest said false e answer none =

@@ -46,6 +46,7 @@ mod Makes
 mod Puts
 mod Streaming
 mod Signatures
+mod Slices
 mod WorkedMessages
 mod WorkedFronts
 mod WorkedHeaders
@@ -58,3 +59,4 @@ mod WorkedMaking
 mod WorkedAdmission
 mod WorkedSettled
 mod WorkedFeeding
+mod WorkedSlices

@@ -22,6 +22,7 @@ pub mod Choosing
 pub mod Intake
 pub mod SliceIntake
 pub mod Sink
+pub mod Slice
 pub mod Store
 pub mod Status
 pub mod Feed

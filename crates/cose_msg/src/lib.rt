@@ -24,6 +24,16 @@
 //! let verdict = verify::<512, 1024, 8, _, _, _, _>(&mut verifier, &mut intake, &mut payload, &Never);
 //! ```
 //!
+//! A message that is in memory needs neither: [`verify_slice`] resets the verifier, and returns the payload of an authentic
+//! message as a part of it ([`Verified`]). A byte after the message is refused.
+//!
+//! ```rust
+//! match verify_slice(&mut verifier, message, &Never) {
+//!     Verified::Authentic { payload, .. } => handle(payload),
+//!     Verified::Refused(refusal) => report(refusal),
+//! }
+//! ```
+//!
 //! A COSE_Sign1 is authentic where the [`EcVerifier`] that the caller passes answers so, asked with the key, the digest
 //! of the structure that is signed and the signature; [`Never`] refuses all. Until [`Verifier::reset`] a verdict is
 //! answered again, and after a [`Stop`] for a failure of the intake or the sink [`Stop::Again`].
@@ -76,6 +86,7 @@ mod run;
 #[cfg(test)]
 mod samples;
 mod sink;
+mod slice;
 mod status;
 mod store;
 mod store_bytes;
@@ -91,6 +102,7 @@ pub use intake::{Intake, IntakeFault, ReadIntake, SliceIntake};
 pub use make::{MakeFault, make_mac0};
 pub use run::{inspect, verify};
 pub use sink::{Nothing, Sink, SinkFault};
+pub use slice::{Verified, verify_slice};
 pub use status::{Fed, Status};
 pub use store::Store;
 pub use verdict::{Inspected, Stop, Verdict};

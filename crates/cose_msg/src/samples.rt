@@ -4,8 +4,8 @@ ghost use Rattle.std.specs.Prelude.{◌≡◌, ◌≤◌, IfSome, None, false, l
 ghost use Rattle.cose_msg.specs.Kept.{is_inspecting};
 
 use crate::{
-    Alg, Context, Intake, IntakeFault, KeySet, Kind, Sink, SinkFault, Store, Verdict, Verifier,
-    Wanted,
+    Alg, Context, EcVerifier, Intake, IntakeFault, Key, KeySet, Kind, Sink, SinkFault, Store,
+    Verdict, Verifier, Wanted,
 };
 use std::io;
 use std::io::{Error, ErrorKind, Read};
@@ -82,6 +82,20 @@ pub(crate) fn under_jefe<const H: usize, const D: usize>() -> Option<Verifier<'s
     ensures { IfSome result (λ verifier. is_inspecting verifier ≡ false) }
 {
     Some(Verifier::new(context_of(JEFE, 2)?))
+}
+
+/// Gives the same answer for every signature.
+#[derive(Drop)]
+pub(crate) struct Says {
+    pub(crate) holds: bool,
+}
+
+impl EcVerifier for Says {
+    ghost decides = { λ says key digest signature. says.holds };
+
+    fn holds(&self, _key: &Key, _digest: &[u8], _signature: &[u8]) -> bool {
+        self.holds
+    }
 }
 
 /// Gives at most three bytes in a read. One of its reads fails, and gives none.

@@ -4,12 +4,12 @@ ghost use Rattle.std.specs.Prelude.{◌≡◌, ◌≤◌, false};
 ghost use Rattle.cose_msg.specs.Kept.{is_inspecting};
 
 use crate::samples::{
-    AUTHENTIC, CURVE_KEY, FailingReader, JEFE, MAC0, SIGN1, context_of, mac0_and_more,
+    AUTHENTIC, CURVE_KEY, FailingReader, JEFE, MAC0, SIGN1, Says, context_of, mac0_and_more,
     mac0_with_kid, under_jefe,
 };
 use crate::{
-    Alg, EcVerifier, Fed, Key, Kind, Never, Nothing, ReadIntake, Reason, Refusal, Sink,
-    SliceIntake, Status, Stop, Store, Verdict, Verifier, verify,
+    Alg, Fed, Kind, Never, Nothing, ReadIntake, Reason, Refusal, Sink, SliceIntake, Status, Stop,
+    Store, Verdict, Verifier, verify,
 };
 use std::process::Abort;
 
@@ -247,20 +247,6 @@ fn stays_stopped(rt: HostRuntime) {
             ..complete(44)
         }
     );
-}
-
-/// Gives the same answer for every signature.
-#[derive(Drop)]
-struct Says {
-    holds: bool,
-}
-
-impl EcVerifier for Says {
-    ghost decides = { λ says key digest signature. says.holds };
-
-    fn holds(&self, _key: &Key, _digest: &[u8], _signature: &[u8]) -> bool {
-        self.holds
-    }
 }
 
 /// The verdict on the COSE_Sign1, where its signature holds and where it doesn't.
