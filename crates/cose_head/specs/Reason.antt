@@ -1,7 +1,7 @@
 -- The numbers and names of the reasons, and the reasons that reading answers.
 use Rattle.std.specs.Prelude.{ℕ, List, [], ◌∷◌, ◌++◌, codes}
 use Rattle.cose_head.specs.declared.reason.Reason.{Reason}
-use Rattle.cose_head.specs.declared.reason.Reason.TheVariants.{Truncated, Reserved, Indefinite, BadSimple, TooDeep, PastRoom, WrongTag, Encrypted, SeveralParties, NotFour, WrongType, NotMap, BadLabel, DuplicateLabel, BothBuckets, BadValue, CritUnprotected, CritAbsent, CritUnknown, BothIvs, NoAlg, UnknownAlg, AlgUnprotected, NoKey, AmbiguousKey, Detached, BadAuthLength, BadAuth, PayloadTooLong, CwtTagAlone, BadKeySet, UnknownKey, FloatDate, TaggedDate, Expired, NotYet, WrongAudience, EncryptedKey, PlainKey, BadConfirmation, NestedCwt, Trailing}
+use Rattle.cose_head.specs.declared.reason.Reason.TheVariants.{Truncated, Reserved, Indefinite, BadSimple, TooDeep, PastRoom, WrongTag, Encrypted, SeveralParties, NotFour, WrongType, NotMap, BadLabel, DuplicateLabel, BothBuckets, BadValue, CritUnprotected, CritAbsent, CritUnknown, BothIvs, NoAlg, UnknownAlg, AlgUnprotected, NoKey, AmbiguousKey, Detached, BadAuthLength, BadAuth, PayloadTooLong, CwtTagAlone, BadKeySet, UnknownKey, FloatDate, TaggedDate, Expired, NotYet, WrongAudience, EncryptedKey, PlainKey, BadConfirmation, NestedCwt, Trailing, Attached}
 
 abbrev pub number_of : Reason → ℕ
 number_of Truncated = 1
@@ -46,6 +46,7 @@ number_of PlainKey = 39
 number_of BadConfirmation = 40
 number_of NestedCwt = 41
 number_of Trailing = 42
+number_of Attached = 43
 
 abbrev pub name_of : Reason → List ℕ
 name_of Truncated = codes "Truncated"
@@ -90,6 +91,7 @@ name_of PlainKey = codes "PlainKey"
 name_of BadConfirmation = codes "BadConfirmation"
 name_of NestedCwt = codes "NestedCwt"
 name_of Trailing = codes "Trailing"
+name_of Attached = codes "Attached"
 
 -- The reasons for which a head outside an item is refused; those for which an item is refused; and those for which
 -- bytes that should be exactly one item are refused, whose room is their number.

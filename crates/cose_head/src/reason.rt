@@ -93,10 +93,12 @@ pub enum Reason {
     NestedCwt = 41,
     /// A byte after the end.
     Trailing = 42,
+    /// The payload is in the message, where a detached one is wanted (RFC 9052 sections 4.2 and 6.2).
+    Attached = 43,
 }
 
 impl Reason {
-    /// The reason's number, 1 to 42.
+    /// The reason's number, 1 to 43.
     pub fn number(self) -> u8
         ensures { result ≡ number_of self }
     {
@@ -150,6 +152,7 @@ impl Reason {
             Reason::BadConfirmation => "BadConfirmation",
             Reason::NestedCwt => "NestedCwt",
             Reason::Trailing => "Trailing",
+            Reason::Attached => "Attached",
         }
     }
 }

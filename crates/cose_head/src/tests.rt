@@ -396,7 +396,7 @@ fn writes_a_refusal(rt: HostRuntime) -> Result<(), AllocError> {
 // Each reason's number and name, which never change.
 #[test]
 fn numbers_and_names_reasons(rt: HostRuntime) {
-    let rows: [(u8, &str, Reason); 42] = [
+    let rows: [(u8, &str, Reason); 43] = [
         (1, "Truncated", Reason::Truncated),
         (2, "Reserved", Reason::Reserved),
         (3, "Indefinite", Reason::Indefinite),
@@ -439,6 +439,7 @@ fn numbers_and_names_reasons(rt: HostRuntime) {
         (40, "BadConfirmation", Reason::BadConfirmation),
         (41, "NestedCwt", Reason::NestedCwt),
         (42, "Trailing", Reason::Trailing),
+        (43, "Attached", Reason::Attached),
     ];
     for (number, name, reason) in rows {
         assert_eq!(rt; reason.number(), number);

@@ -17,7 +17,7 @@ use Rattle.cose_msg.specs.Run.{Drive, Run, SaysCount, inspection}
 use Rattle.cose_msg.specs.Shown.{shown_in, shown_of}
 use Rattle.cose_msg.specs.Task.{Task, rules_of, to_inspect, to_verify}
 use Rattle.cose_msg.specs.Reader.{Counts}
-use Rattle.cose_msg.proofs.Decisions.{stands_inspected, stands_with_verdict}
+use Rattle.cose_msg.proofs.Decisions.{IsDone, stands_inspected, stands_with_verdict}
 use Rattle.cose_msg.proofs.Runs.{Along, IsKept, at_start, concluded, counted_stands, kept_by, without_more}
 
 -- Readings of the same bytes that differ only in their answers.
@@ -117,13 +117,13 @@ module _ {H D : ℕ} {S : Type 0} {K : _} {setting : Setting} {s B : List ℕ} {
       subst (λ (r : Result Inspected Stop). Run (inspecting H D setting) inspection s B come come_after ended contents contents_after r d.taken) (sym k.result_is) run
 
 -- An answer that is kept is there without a further byte.
-pub kept_verdict_settles : {H D : ℕ} {S : Type 0} {K : _} {setting : Setting} {s B : List ℕ} {v : Verifier H D S K} (result : Result Verdict Stop) → HasTaken (to_verify setting) s B v → answer_kept v.stopped (verdict_in v.reader.phase) ≡ Some result → (message (rules_of H D (to_verify setting)) (s ++ [])).settled ≡ true
+pub kept_verdict_settles : {H D : ℕ} {S : Type 0} {K : _} {setting : Setting} {s B : List ℕ} {v : Verifier H D S K} (result : Result Verdict Stop) → HasTaken (to_verify setting) s B v → answer_kept v.stopped (verdict_in v.reader.phase) ≡ Some result → IsDone (message (rules_of H D (to_verify setting)) (s ++ []))
 kept_verdict_settles {H} {D} {S} {K} {setting} {s} {B} {v} result h kept =
     let going : answer_kept false (verdict_in v.reader.phase) ≡ Some result = rw h.goes_on at kept in
     let k : IsKept (verdict_in v.reader.phase) result = kept_by (verdict_in v.reader.phase) result going in
     (stands_with_verdict k.answer (counted_stands h) k.kept_is).1
 
-pub kept_inspection_settles : {H D : ℕ} {S : Type 0} {K : _} {setting : Setting} {s B : List ℕ} {v : Verifier H D S K} (result : Result Inspected Stop) → HasTaken (to_inspect setting) s B v → answer_kept v.stopped (inspected_in v.reader.phase) ≡ Some result → (message (rules_of H D (to_inspect setting)) (s ++ [])).settled ≡ true
+pub kept_inspection_settles : {H D : ℕ} {S : Type 0} {K : _} {setting : Setting} {s B : List ℕ} {v : Verifier H D S K} (result : Result Inspected Stop) → HasTaken (to_inspect setting) s B v → answer_kept v.stopped (inspected_in v.reader.phase) ≡ Some result → IsDone (message (rules_of H D (to_inspect setting)) (s ++ []))
 kept_inspection_settles {H} {D} {S} {K} {setting} {s} {B} {v} result h kept =
     let going : answer_kept false (inspected_in v.reader.phase) ≡ Some result = rw h.goes_on at kept in
     let k : IsKept (inspected_in v.reader.phase) result = kept_by (inspected_in v.reader.phase) result going in

@@ -4,18 +4,18 @@ use Rattle.std.proofs.lemmas.List.{append-nil}
 use Rattle.cose_head.specs.declared.kind.Kind.{Kind}
 use Rattle.cose_head.specs.Item.{Item, Items, byte_string, no_items, item, Begins, IsHead, Spells, SpellsAll}
 use Rattle.cose_msg.specs.Answer.{Whole}
-use Rattle.cose_msg.specs.Grammar.{IsArrayOfFour, IsFront, IsMessage, Spellings, SpellsMessage, bare, in_tag, in_cwt_tag, untagged, tagged, in_cwt, tag_number, four_elements, spelling}
+use Rattle.cose_msg.specs.Grammar.{IsArrayOfFour, IsFront, IsMessage, Spellings, SpellsMessage, bare, in_tag, in_cwt_tag, untagged, tagged, in_cwt, tag_number, payload_element, four_elements, spelling}
 use Rattle.cose_msg.specs.GrammarLaws.{AreGood, AreParts, ArrayOfFourIsMessage, IsAllowed}
 use Rattle.cose_msg.specs.Rules.{Rules}
 
 append_assoc_back : (a b c : List ℕ) → a ++ (b ++ c) ≡ (a ++ b) ++ c
 append_assoc_back a b c = sym (append_assoc a b c)
 
-abbrev elements_of : Whole → Item → Item
-elements_of whole bucket = four_elements whole.headers.protected bucket whole.payload whole.auth
+abbrev elements_of : Whole → Item → Item → Item
+elements_of whole bucket payload = four_elements whole.headers.protected bucket payload whole.auth
 
 -- The four elements after the array's head, whatever precedes that head.
-record Four (bytes : List ℕ) (whole : Whole) (bucket : Item) : Type 0 where
+record Four (bytes : List ℕ) (whole : Whole) (bucket element : Item) : Type 0 where
   head : List ℕ
   protected : List ℕ
   unprotected : List ℕ
@@ -25,12 +25,12 @@ record Four (bytes : List ℕ) (whole : Whole) (bucket : Item) : Type 0 where
   is : bytes ≡ head ++ (protected ++ (unprotected ++ (payload ++ auth)))
   spells_protected : Spells protected (byte_string whole.headers.protected)
   spells_unprotected : Spells unprotected bucket
-  spells_payload : Spells payload (byte_string whole.payload)
+  spells_payload : Spells payload element
   spells_auth : Spells auth (byte_string whole.auth)
 
-four_of : (bytes : List ℕ) (whole : Whole) (bucket : Item) → Spells bytes (elements_of whole bucket) → Four bytes whole bucket
+four_of : (bytes : List ℕ) (whole : Whole) (bucket element : Item) → Spells bytes (elements_of whole bucket element) → Four bytes whole bucket element
 unfolding Spells SpellsAll
-four_of bytes whole bucket array =
+four_of bytes whole bucket element array =
     let (one, behind_one, is_one, spells_one, others) = array.is_rest in
     let (two, behind_two, is_two, spells_two, last_two) = others in
     let (three, behind_three, is_three, spells_three, last_one) = last_two in
@@ -66,6 +66,7 @@ message_of rules bytes whole bucket spelled parts good = record {
   together = good.together;
   chosen = good.chosen;
   payload = parts.payload;
+  payload_comes = good.payload_comes;
   payload_fits = good.payload_fits;
   auth = parts.auth;
   auth_fits = good.auth_fits;
@@ -73,7 +74,7 @@ message_of rules bytes whole bucket spelled parts good = record {
   ends = good.ends;
 }
 
-parts_of : {within : List ℕ} (rules : Rules) (bytes : List ℕ) (whole : Whole) (bucket : Item) (front : List ℕ) (four : Four within whole bucket) → IsFront rules whole.headers.kind front
+parts_of : {within : List ℕ} (rules : Rules) (bytes : List ℕ) (whole : Whole) (bucket : Item) (front : List ℕ) (four : Four within whole bucket (payload_element rules.source whole.payload)) → IsFront rules whole.headers.kind front
     → bytes ≡ front ++ (four.protected ++ (four.unprotected ++ (four.payload ++ four.auth)))
     → (spelled : Spellings) × AreParts rules bytes whole bucket spelled × (AreGood rules bytes whole bucket spelled → IsMessage rules bytes whole)
 parts_of rules bytes whole bucket front four is_front is =
@@ -91,16 +92,16 @@ parts_of rules bytes whole bucket front four is_front is =
 pub array_of_four_is_message : ArrayOfFourIsMessage
 unfolding Spells
 array_of_four_is_message rules bytes whole bucket (bare array) allowed =
-    let four = four_of bytes whole bucket array in
+    let four = four_of bytes whole bucket (payload_element rules.source whole.payload) array in
     parts_of rules bytes whole bucket four.head four (untagged allowed four.is_head) four.is
 array_of_four_is_message rules bytes whole bucket (in_tag message) allowed =
-    let four = four_of message.rest whole bucket message.is_rest in
+    let four = four_of message.rest whole bucket (payload_element rules.source whole.payload) message.is_rest in
     let front : Begins (message.head ++ four.head) 6 (tag_number whole.headers.kind) IsArrayOfFour = record { head = message.head; rest = four.head; whole = refl; is_head = message.is_head; is_rest = four.is_head } in
     parts_of rules bytes whole bucket (message.head ++ four.head) four (tagged allowed front)
     (message.whole ∙ ap (λ (rest : List ℕ). message.head ++ rest) four.is ∙ append_assoc_back message.head four.head _)
 array_of_four_is_message rules bytes whole bucket (in_cwt_tag token) allowed =
     let message = token.is_rest in
-    let four = four_of message.rest whole bucket message.is_rest in
+    let four = four_of message.rest whole bucket (payload_element rules.source whole.payload) message.is_rest in
     let own : Begins (message.head ++ four.head) 6 (tag_number whole.headers.kind) IsArrayOfFour = record { head = message.head; rest = four.head; whole = refl; is_head = message.is_head; is_rest = four.is_head } in
     let front : Begins (token.head ++ (message.head ++ four.head)) 6 61 (λ rest. Begins rest 6 (tag_number whole.headers.kind) IsArrayOfFour) = record { head = token.head; rest = message.head ++ four.head; whole = refl; is_head = token.is_head; is_rest = own } in
     parts_of rules bytes whole bucket (token.head ++ (message.head ++ four.head)) four (in_cwt allowed.0 allowed.1 front)

@@ -1,7 +1,7 @@
 -- The answer of a verifier: the decision on a signature, and Truncated where the message isn't settled.
 use Rattle.std.proofs.Common.{◌≡◌, ℕ, Bool, true, false, List, [], length, Option, None, Some, refl, sym, ap, subst, ◌∙◌}
 use Rattle.std.specs.Prelude.{option_map, if◌then◌else◌}
-use Rattle.cose_head.specs.declared.reason.Reason.TheVariants.{BadAuth}
+use Rattle.cose_head.specs.declared.reason.Reason.TheVariants.{Truncated, BadAuth}
 use Rattle.cose_head.specs.declared.algorithm.Alg.{Alg}
 use Rattle.cose_mac.specs.Hash.{digest_of}
 use Rattle.cose_head.specs.Algorithm.{is_mac_of}
@@ -24,14 +24,16 @@ use Rattle.cose_msg.specs.Hashing.{authenticator, result_of}
 use Rattle.cose_msg.specs.Kept.{inspected_in, refusal_in, verdict_in}
 use Rattle.cose_msg.specs.Laws.{then_verified}
 use Rattle.cose_msg.specs.Message.{Decides, Setting, digest_signed, judged, structure, verified}
-use Rattle.cose_msg.specs.Phase.{awaits_decision, is_settled}
+use Rattle.cose_msg.specs.Phase.{awaits_decision, ends_at, is_settled}
 use Rattle.cose_msg.specs.Phases.{headers_told}
 use Rattle.cose_msg.specs.Reading.{Reading, Told, settled}
 use Rattle.cose_msg.specs.Run.{SaysCount, inspection}
 use Rattle.cose_msg.specs.Shown.{SignInput, Shown, held_input, input_in, pairs_at, shown_in, shown_by, sign_input_in}
-use Rattle.cose_msg.specs.Task.{Task, rules_of, to_inspect, to_verify}
+use Rattle.cose_msg.specs.Status.{is_open, status_at}
+use Rattle.cose_msg.specs.Task.{Task, given_to, rules_of, to_inspect, to_verify}
 use Rattle.cose_msg.specs.Reader.{Counts, HoldsBucket, HoldsIn, IsSigned, Known, StandsFor, is_authentic, left_in, whole_of}
-use Rattle.cose_msg.proofs.Waits.{ItemWaits, here, ends_in, truncated_in}
+use Rattle.cose_msg.proofs.PhaseCases.{unsettled_ends}
+use Rattle.cose_msg.proofs.Waits.{IsNow, ItemWaits, awaiting_in, came_known, here, ends_in, truncated_in}
 
 -- ---- a signature
 
@@ -89,14 +91,18 @@ module _ {H D : ℕ} {task : Task} {B : List ℕ} {n : ℕ} {v : Reader H D} {re
 
 -- ---- an answer that is there
 
+-- No further byte changes it, of the message or of a detached payload.
+abbrev pub IsDone : Reading → Type 0
+IsDone reading = (reading.settled ≡ true) × (reading.payload_wanted ≡ 0)
+
 module _ {H D : ℕ} (task : Task) (known : Known) (told : Told) (n : ℕ) (v : Reader H D) where
   left : Phase → Reading
   left phase = left_in (rules_of H D task) known told v phase []
 
   -- A verdict that is known, and no signature was decided on.
-  verdict_read : (phase : Phase) (verdict : Verdict) → HoldsIn task known told n v phase → verdict_in phase ≡ Some verdict → ((left phase).answer ≡ decided verdict) × ((left phase).settled ≡ true) × Counts verdict n
+  verdict_read : (phase : Phase) (verdict : Verdict) → HoldsIn task known told n v phase → verdict_in phase ≡ Some verdict → ((left phase).answer ≡ decided verdict) × IsDone (left phase) × Counts verdict n
   unfolding left
-  verdict_read (phases.Settled other) verdict h e = let same : other ≡ verdict = cc in (ap decided same, refl, subst (λ (w : Verdict). Counts w n) same h.0)
+  verdict_read (phases.Settled other) verdict h e = let same : other ≡ verdict = cc in (ap decided same, (refl, refl), subst (λ (w : Verdict). Counts w n) same h.0)
   verdict_read (phases.Decided other) verdict h e = absurd h
   verdict_read phases.FirstHead verdict h e = absurd cc
   verdict_read (phases.TagHead p) verdict h e = absurd cc
@@ -106,6 +112,7 @@ module _ {H D : ℕ} (task : Task) (known : Known) (told : Told) (n : ℕ) (v : 
   verdict_read (phases.Unprotected p) verdict h e = absurd cc
   verdict_read (phases.PayloadHead p) verdict h e = absurd cc
   verdict_read (phases.Payload p) verdict h e = absurd cc
+  verdict_read (phases.Detached p) verdict h e = absurd cc
   verdict_read (phases.AuthHead p) verdict h e = absurd cc
   verdict_read (phases.Auth p) verdict h e = absurd cc
   verdict_read (phases.Signed p) verdict h e = absurd cc
@@ -116,10 +123,10 @@ module _ {H D : ℕ} (task : Task) (known : Known) (told : Told) (n : ℕ) (v : 
   refusal_read (Authentic kind alg payload taken) shown e = absurd cc
 
   -- The result of an inspection.
-  inspected_read : (phase : Phase) (shown : Inspected) → HoldsIn task known told n v phase → inspected_in phase ≡ Some shown → ((left phase).answer ≡ inspection shown) × ((left phase).settled ≡ true) × SaysCount (inspection shown) n
+  inspected_read : (phase : Phase) (shown : Inspected) → HoldsIn task known told n v phase → inspected_in phase ≡ Some shown → ((left phase).answer ≡ inspection shown) × IsDone (left phase) × SaysCount (inspection shown) n
   unfolding left
-  inspected_read (phases.Settled verdict) shown h e = let r = refusal_read verdict shown e in (r.0, refl, r.1)
-  inspected_read (phases.Shaped p) shown h e = let same : inspected.Shape p.kind p.payload p.auth p.taken ≡ shown = cc in rw (← same) (refl, refl, h.0)
+  inspected_read (phases.Settled verdict) shown h e = let r = refusal_read verdict shown e in (r.0, (refl, refl), r.1)
+  inspected_read (phases.Shaped p) shown h e = let same : inspected.Shape p.kind p.payload p.auth p.taken ≡ shown = cc in rw (← same) (refl, (refl, refl), h.0)
   inspected_read (phases.Decided verdict) shown h e = absurd h
   inspected_read phases.FirstHead shown h e = absurd cc
   inspected_read (phases.TagHead p) shown h e = absurd cc
@@ -129,26 +136,27 @@ module _ {H D : ℕ} (task : Task) (known : Known) (told : Told) (n : ℕ) (v : 
   inspected_read (phases.Unprotected p) shown h e = absurd cc
   inspected_read (phases.PayloadHead p) shown h e = absurd cc
   inspected_read (phases.Payload p) shown h e = absurd cc
+  inspected_read (phases.Detached p) shown h e = absurd cc
   inspected_read (phases.AuthHead p) shown h e = absurd cc
   inspected_read (phases.Auth p) shown h e = absurd cc
   inspected_read (phases.Signed p) shown h e = absurd cc
 
-pub stands_with_verdict : {H D : ℕ} {task : Task} {B : List ℕ} {n : ℕ} {v : Reader H D} {reading : List ℕ → Reading} (verdict : Verdict) → StandsFor task B n v reading → verdict_in v.phase ≡ Some verdict → ((reading []).answer ≡ decided verdict) × ((reading []).settled ≡ true) × Counts verdict n
+pub stands_with_verdict : {H D : ℕ} {task : Task} {B : List ℕ} {n : ℕ} {v : Reader H D} {reading : List ℕ → Reading} (verdict : Verdict) → StandsFor task B n v reading → verdict_in v.phase ≡ Some verdict → ((reading []).answer ≡ decided verdict) × IsDone (reading []) × Counts verdict n
 unfolding left
 stands_with_verdict {H} {D} {task} {B} {n} {v} {reading} verdict h e =
     let r = verdict_read task h.known h.told n v v.phase verdict h.holds e in
-    (ap (λ (x : Reading). x.answer) (h.left []) ∙ r.0, ap (λ (x : Reading). x.settled) (h.left []) ∙ r.1, r.2)
+    (ap (λ (x : Reading). x.answer) (h.left []) ∙ r.0, (ap (λ (x : Reading). x.settled) (h.left []) ∙ r.1.0, ap (λ (x : Reading). x.payload_wanted) (h.left []) ∙ r.1.1), r.2)
 
-pub stands_inspected : {H D : ℕ} {task : Task} {B : List ℕ} {n : ℕ} {v : Reader H D} {reading : List ℕ → Reading} (shown : Inspected) → StandsFor task B n v reading → inspected_in v.phase ≡ Some shown → ((reading []).answer ≡ inspection shown) × ((reading []).settled ≡ true) × SaysCount (inspection shown) n
+pub stands_inspected : {H D : ℕ} {task : Task} {B : List ℕ} {n : ℕ} {v : Reader H D} {reading : List ℕ → Reading} (shown : Inspected) → StandsFor task B n v reading → inspected_in v.phase ≡ Some shown → ((reading []).answer ≡ inspection shown) × IsDone (reading []) × SaysCount (inspection shown) n
 unfolding left
 stands_inspected {H} {D} {task} {B} {n} {v} {reading} shown h e =
     let r = inspected_read task h.known h.told n v v.phase shown h.holds e in
-    (ap (λ (x : Reading). x.answer) (h.left []) ∙ r.0, ap (λ (x : Reading). x.settled) (h.left []) ∙ r.1, r.2)
+    (ap (λ (x : Reading). x.answer) (h.left []) ∙ r.0, (ap (λ (x : Reading). x.settled) (h.left []) ∙ r.1.0, ap (λ (x : Reading). x.payload_wanted) (h.left []) ∙ r.1.1), r.2)
 
 -- ---- no answer yet
 
 module _ {H D : ℕ} (setting : Setting) (known : Known) (told : Told) (n : ℕ) (v : Reader H D) where
-  open_without_verdict : (phase : Phase) → HoldsIn (to_verify setting) known told n v phase → verdict_in phase ≡ None → awaits_decision phase ≡ false → is_settled phase ≡ false
+  open_without_verdict : (phase : Phase) → HoldsIn (to_verify setting) known told n v phase → verdict_in phase ≡ None → awaits_decision phase ≡ false → is_open (status_at phase) ≡ true
   open_without_verdict (phases.Settled verdict) h none e = absurd cc
   open_without_verdict (phases.Decided verdict) h none e = absurd h
   open_without_verdict (phases.Shaped p) h none e = let clash : false ≡ true = h.1 in absurd cc
@@ -161,6 +169,7 @@ module _ {H D : ℕ} (setting : Setting) (known : Known) (told : Told) (n : ℕ)
   open_without_verdict (phases.Unprotected p) h none e = refl
   open_without_verdict (phases.PayloadHead p) h none e = refl
   open_without_verdict (phases.Payload p) h none e = refl
+  open_without_verdict (phases.Detached p) h none e = refl
   open_without_verdict (phases.AuthHead p) h none e = refl
   open_without_verdict (phases.Auth p) h none e = refl
 
@@ -168,7 +177,7 @@ module _ {H D : ℕ} (setting : Setting) (known : Known) (told : Told) (n : ℕ)
   not_authentic (Refused refusal) h none = absurd cc
   not_authentic (Authentic kind alg payload taken) h none = let clash : true ≡ false = h.1 refl in absurd cc
 
-  open_without_shape : (phase : Phase) → HoldsIn (to_inspect setting) known told n v phase → inspected_in phase ≡ None → is_settled phase ≡ false
+  open_without_shape : (phase : Phase) → HoldsIn (to_inspect setting) known told n v phase → inspected_in phase ≡ None → is_open (status_at phase) ≡ true
   open_without_shape (phases.Settled verdict) h none = absurd (not_authentic verdict h none)
   open_without_shape (phases.Decided verdict) h none = absurd h
   open_without_shape (phases.Shaped p) h none = absurd cc
@@ -181,20 +190,17 @@ module _ {H D : ℕ} (setting : Setting) (known : Known) (told : Told) (n : ℕ)
   open_without_shape (phases.Unprotected p) h none = refl
   open_without_shape (phases.PayloadHead p) h none = refl
   open_without_shape (phases.Payload p) h none = refl
+  open_without_shape (phases.Detached p) h none = refl
   open_without_shape (phases.AuthHead p) h none = refl
   open_without_shape (phases.Auth p) h none = refl
 
-pub stands_without_verdict : {H D : ℕ} {setting : Setting} {B : List ℕ} {n : ℕ} {v : Reader H D} {reading : List ℕ → Reading} → StandsFor (to_verify setting) B n v reading → verdict_in v.phase ≡ None → awaits_decision v.phase ≡ false → is_settled v.phase ≡ false
+pub stands_without_verdict : {H D : ℕ} {setting : Setting} {B : List ℕ} {n : ℕ} {v : Reader H D} {reading : List ℕ → Reading} → StandsFor (to_verify setting) B n v reading → verdict_in v.phase ≡ None → awaits_decision v.phase ≡ false → is_open (status_at v.phase) ≡ true
 stands_without_verdict {H} {D} {setting} {B} {n} {v} {reading} h none e = open_without_verdict setting h.known h.told n v v.phase h.holds none e
 
-pub stands_without_shape : {H D : ℕ} {setting : Setting} {B : List ℕ} {n : ℕ} {v : Reader H D} {reading : List ℕ → Reading} → StandsFor (to_inspect setting) B n v reading → inspected_in v.phase ≡ None → is_settled v.phase ≡ false
+pub stands_without_shape : {H D : ℕ} {setting : Setting} {B : List ℕ} {n : ℕ} {v : Reader H D} {reading : List ℕ → Reading} → StandsFor (to_inspect setting) B n v reading → inspected_in v.phase ≡ None → is_open (status_at v.phase) ≡ true
 stands_without_shape {H} {D} {setting} {B} {n} {v} {reading} h none = open_without_shape setting h.known h.told n v v.phase h.holds none
 
-pub open_shows_no_input : (phase : Phase) (held : Option SignInput) → is_settled phase ≡ false → input_in phase held ≡ None
-open_shows_no_input (phases.Settled verdict) held e = refl
-open_shows_no_input (phases.Decided verdict) held e = absurd cc
-open_shows_no_input (phases.Shaped p) held e = refl
-open_shows_no_input (phases.Signed p) held e = absurd cc
+pub open_shows_no_input : (phase : Phase) (held : Option SignInput) → is_open (status_at phase) ≡ true → input_in phase held ≡ None
 open_shows_no_input phases.FirstHead held e = refl
 open_shows_no_input (phases.TagHead p) held e = refl
 open_shows_no_input (phases.ArrayHead p) held e = refl
@@ -203,8 +209,44 @@ open_shows_no_input (phases.Protected p) held e = refl
 open_shows_no_input (phases.Unprotected p) held e = refl
 open_shows_no_input (phases.PayloadHead p) held e = refl
 open_shows_no_input (phases.Payload p) held e = refl
+open_shows_no_input (phases.Detached p) held e = refl
 open_shows_no_input (phases.AuthHead p) held e = refl
 open_shows_no_input (phases.Auth p) held e = refl
+open_shows_no_input (phases.Signed p) held e = absurd cc
+open_shows_no_input (phases.Decided verdict) held e = absurd cc
+open_shows_no_input (phases.Settled verdict) held e = refl
+open_shows_no_input (phases.Shaped p) held e = refl
+
+-- ---- where the message ends
+
+module _ {H D : ℕ} (task : Task) (known : Known) (told : Told) (n : ℕ) (v : Reader H D) (waits : ItemWaits v) where
+  ended_unsettled : (phase : Phase) → HoldsIn task known told n v phase → is_settled phase ≡ false → (left task known told n v phase).answer ≡ refused Truncated (ends_at phase n)
+  unfolding left here
+  ended_unsettled phase h e = truncated_in task known told n v waits phase h e ∙ ap (refused Truncated) (sym (unsettled_ends phase n e))
+
+  ended_in : (phase : Phase) → HoldsIn task known told n v phase → IsNow task known told n v waits → is_open (status_at phase) ≡ true → (left task known told n v phase).answer ≡ refused Truncated (ends_at phase n)
+  unfolding left here
+  ended_in (phases.Detached p) h now e = ap (λ (r : Reading). r.answer) (awaiting_in task known told n v waits p h now [])
+  ended_in (phases.Settled (Authentic kind alg payload taken)) h now e = absurd cc
+  ended_in (phases.Settled (Refused refusal)) h now e = absurd cc
+  ended_in phases.FirstHead h now e = ended_unsettled phases.FirstHead h refl
+  ended_in (phases.TagHead p) h now e = ended_unsettled (phases.TagHead p) h refl
+  ended_in (phases.ArrayHead p) h now e = ended_unsettled (phases.ArrayHead p) h refl
+  ended_in (phases.ProtectedHead p) h now e = ended_unsettled (phases.ProtectedHead p) h refl
+  ended_in (phases.Protected p) h now e = ended_unsettled (phases.Protected p) h refl
+  ended_in (phases.Unprotected p) h now e = ended_unsettled (phases.Unprotected p) h refl
+  ended_in (phases.PayloadHead p) h now e = ended_unsettled (phases.PayloadHead p) h refl
+  ended_in (phases.Payload p) h now e = ended_unsettled (phases.Payload p) h refl
+  ended_in (phases.AuthHead p) h now e = ended_unsettled (phases.AuthHead p) h refl
+  ended_in (phases.Auth p) h now e = ended_unsettled (phases.Auth p) h refl
+  ended_in (phases.Signed p) h now e = absurd cc
+  ended_in (phases.Decided verdict) h now e = absurd cc
+  ended_in (phases.Shaped p) h now e = absurd cc
+
+-- A message of which bytes are wanted, or of whose payload, is Truncated where it ends.
+pub stands_ended : {H D : ℕ} {task : Task} {B : List ℕ} {n : ℕ} {v : Reader H D} {reading : List ℕ → Reading} → ItemWaits v → StandsFor task B n v reading → given_to B task ≡ task → is_open (status_at v.phase) ≡ true → (reading []).answer ≡ refused Truncated (ends_at v.phase n)
+unfolding left
+stands_ended {H} {D} {task} {B} {n} {v} {reading} waits h came e = ap (λ (r : Reading). r.answer) (h.left []) ∙ ended_in task h.known h.told n v waits v.phase h.holds (came_known task h.known B h.payload_known came) e
 
 -- ---- what is shown
 
@@ -222,38 +264,40 @@ shown_alike : (p q : Option (List Pair)) (r t : Option (List Pair)) (x y : Optio
 shown_alike p q r t x y m n e f g h = rw (e, f, g, h) refl
 
 module _ {H D : ℕ} (task : Task) (known : Known) (told : Told) (n : ℕ) (v : Reader H D) (waits : ItemWaits v) where
-  open_input : (phase : Phase) → HoldsIn task known told n v phase → is_settled phase ≡ false → input_in phase (held_input v) ≡ sign_input_in task.setting.aad (left task known told n v phase).answer
+  open_input : (phase : Phase) → HoldsIn task known told n v phase → is_settled phase ≡ false → is_open (status_at phase) ≡ true → input_in phase (held_input v) ≡ sign_input_in task.setting.aad (left task known told n v phase).answer
   unfolding left here
-  open_input phase h e = open_shows_no_input phase (held_input v) e ∙ sym (ap (sign_input_in task.setting.aad) (truncated_in task known told n v waits phase h e))
+  open_input phase h unsettled e = open_shows_no_input phase (held_input v) e ∙ sym (ap (sign_input_in task.setting.aad) (truncated_in task known told n v waits phase h unsettled))
 
   signed_input : (p : Signed) → IsSigned task known v.chosen v.hashing v.auth.items p → held_input v ≡ sign_input_in task.setting.aad (complete (whole_of known p.head_at p.taken))
   signed_input p s =
       let digest : digest_signed task.setting.aad s.found (whole_of known p.head_at p.taken) ≡ result_of v.hashing = no_mac s.found p.alg (structure task.setting.aad known.headers known.payload) (result_of v.hashing) s.alg_is s.no_tag s.digest_is in
       rw (s.key_is, s.chosen_is, digest, s.auth_is) refl
 
-  input_shown : (phase : Phase) → HoldsIn task known told n v phase → input_in phase (held_input v) ≡ sign_input_in task.setting.aad (left task known told n v phase).answer
-  unfolding left
-  input_shown (phases.Settled verdict) h = refl
-  input_shown (phases.Shaped p) h = refl
-  input_shown (phases.Decided verdict) h = absurd h
-  input_shown (phases.Signed p) h = signed_input p h.2
-  input_shown phases.FirstHead h = open_input phases.FirstHead h refl
-  input_shown (phases.TagHead p) h = open_input (phases.TagHead p) h refl
-  input_shown (phases.ArrayHead p) h = open_input (phases.ArrayHead p) h refl
-  input_shown (phases.ProtectedHead p) h = open_input (phases.ProtectedHead p) h refl
-  input_shown (phases.Protected p) h = open_input (phases.Protected p) h refl
-  input_shown (phases.Unprotected p) h = open_input (phases.Unprotected p) h refl
-  input_shown (phases.PayloadHead p) h = open_input (phases.PayloadHead p) h refl
-  input_shown (phases.Payload p) h = open_input (phases.Payload p) h refl
-  input_shown (phases.AuthHead p) h = open_input (phases.AuthHead p) h refl
-  input_shown (phases.Auth p) h = open_input (phases.Auth p) h refl
+  input_shown : (phase : Phase) → HoldsIn task known told n v phase → IsNow task known told n v waits → input_in phase (held_input v) ≡ sign_input_in task.setting.aad (left task known told n v phase).answer
+  unfolding left here
+  input_shown (phases.Settled verdict) h now = refl
+  input_shown (phases.Shaped p) h now = refl
+  input_shown (phases.Decided verdict) h now = absurd h
+  input_shown (phases.Signed p) h now = signed_input p h.2
+  input_shown phases.FirstHead h now = open_input phases.FirstHead h refl refl
+  input_shown (phases.TagHead p) h now = open_input (phases.TagHead p) h refl refl
+  input_shown (phases.ArrayHead p) h now = open_input (phases.ArrayHead p) h refl refl
+  input_shown (phases.ProtectedHead p) h now = open_input (phases.ProtectedHead p) h refl refl
+  input_shown (phases.Protected p) h now = open_input (phases.Protected p) h refl refl
+  input_shown (phases.Unprotected p) h now = open_input (phases.Unprotected p) h refl refl
+  input_shown (phases.PayloadHead p) h now = open_input (phases.PayloadHead p) h refl refl
+  input_shown (phases.Payload p) h now = open_input (phases.Payload p) h refl refl
+  input_shown (phases.Detached p) h now = sym (ap (λ (r : Reading). sign_input_in task.setting.aad r.answer) (awaiting_in task known told n v waits p h now []))
+  input_shown (phases.AuthHead p) h now = open_input (phases.AuthHead p) h refl refl
+  input_shown (phases.Auth p) h now = open_input (phases.Auth p) h refl refl
 
-pub stands_shown : {H D : ℕ} {task : Task} {B : List ℕ} {n : ℕ} {v : Reader H D} {reading : List ℕ → Reading} → ItemWaits v → StandsFor task B n v reading → shown_by v ≡ shown_in task.setting (reading [])
+pub stands_shown : {H D : ℕ} {task : Task} {B : List ℕ} {n : ℕ} {v : Reader H D} {reading : List ℕ → Reading} → ItemWaits v → StandsFor task B n v reading → given_to B task ≡ task → shown_by v ≡ shown_in task.setting (reading [])
 unfolding left here
-stands_shown {H} {D} {task} {B} {n} {v} {reading} waits h =
-    let same : (reading []).told ≡ h.told = ap (λ (r : Reading). r.told) (h.left [] ∙ ends_in task h.known h.told n v waits v.phase h.holds) in
+stands_shown {H} {D} {task} {B} {n} {v} {reading} waits h came =
+    let now = came_known task h.known B h.payload_known came in
+    let same : (reading []).told ≡ h.told = ap (λ (r : Reading). r.told) (h.left [] ∙ ends_in task h.known h.told n v waits v.phase h.holds now) in
     shown_alike _ _ _ _ _ _ _ _
     (bucket_shown D h.told.protected v.protected_at v.protected.items h.shows.1 ∙ sym (ap (λ (t : Told). t.protected) same))
     (bucket_shown D h.told.unprotected v.unprotected_at v.unprotected.items h.shows.2 ∙ sym (ap (λ (t : Told). t.unprotected) same))
-    (input_shown task h.known h.told n v waits v.phase h.holds ∙ sym (ap (λ (r : Reading). sign_input_in task.setting.aad r.answer) (h.left [])))
+    (input_shown task h.known h.told n v waits v.phase h.holds now ∙ sym (ap (λ (r : Reading). sign_input_in task.setting.aad r.answer) (h.left [])))
     (h.shows.3 ∙ sym (ap (λ (t : Told). t.open_items) same))

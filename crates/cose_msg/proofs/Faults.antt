@@ -4,7 +4,7 @@ use Rattle.std.specs.Prelude.{nat_lt, nat_le, ◌||◌}
 use Rattle.std.proofs.lemmas.Bool.{ltb-false, leb-false}
 use Rattle.cose_head.specs.declared.head.Head.{Head}
 use Rattle.cose_head.specs.declared.reason.Reason.{Reason}
-use Rattle.cose_msg.specs.Phases.{auth_fault_where, is_bytes_head, is_nil, protected_fault_within, payload_fault_within}
+use Rattle.cose_msg.specs.Phases.{auth_fault_where, is_bytes_head, is_nil, protected_fault_within, nil_fault_within, payload_fault_within}
 
 protected_cases : (bytes long : Bool) (a b : Reason) (n room : ℕ) → (long ≡ false → n ≤ room) → cond bytes (cond long (Some a) None) (Some b) ≡ None → n ≤ room
 protected_cases false long a b n room h e = absurd cc
@@ -23,6 +23,16 @@ payload_cases true false false a b nil c n h e none = h refl
 
 pub payload_fits : (limit : ℕ) (head : Head) → payload_fault_within limit head ≡ None → head.arg < 2 ^ 56
 payload_fits limit head e = payload_cases (is_bytes_head head) (nat_le (2 ^ 56) head.arg) (nat_lt limit head.arg) _ _ (is_nil head) _ head.arg (λ short. omega (arith, leb-false (2 ^ 56) head.arg short)) e (λ none. absurd cc)
+
+nil_cases : (nil long over bytes : Bool) (a b c : Reason) (n : ℕ) → (long ≡ false → n < 2 ^ 56) → cond nil (cond (long || over) (Some a) None) (cond bytes (Some b) (Some c)) ≡ None → n < 2 ^ 56
+nil_cases false long over true a b c n h e = absurd cc
+nil_cases false long over false a b c n h e = absurd cc
+nil_cases true true over bytes a b c n h e = absurd cc
+nil_cases true false true bytes a b c n h e = absurd cc
+nil_cases true false false bytes a b c n h e = h refl
+
+pub stated_fits : (limit stated : ℕ) (head : Head) → nil_fault_within limit stated head ≡ None → stated < 2 ^ 56
+stated_fits limit stated head e = nil_cases (is_nil head) (nat_le (2 ^ 56) stated) (nat_lt limit stated) (is_bytes_head head) _ _ _ stated (λ short. omega (arith, leb-false (2 ^ 56) stated short)) e
 
 auth_cases : (bytes same : Bool) (a b : Reason) → cond bytes (cond same None (Some a)) (Some b) ≡ None → same ≡ true
 auth_cases false same a b e = absurd cc

@@ -69,9 +69,6 @@ part_extended piece from to used count le there = elim (cases_lt 0 to) [
 
 -- ---- a piece so far
 
-unsettled_is_more : (reading : Reading) → reading.settled ≡ false → status_of reading ≡ More
-unsettled_is_more reading unsettled = rw unsettled refl
-
 -- This many bytes of the piece were used, and those between two places are the payload's. A payload that ended before
 -- is known.
 pub record Along {H D : ℕ} {S : Type 0} {K : _} (task : Task) (s B piece : List ℕ) (used from to : ℕ) (v : Verifier H D S K) : Type 0 where
@@ -79,12 +76,12 @@ pub record Along {H D : ℕ} {S : Type 0} {K : _} (task : Task) (s B piece : Lis
   pub none_earlier : (n : ℕ) → n < used → (message (rules_of H D task) (s ++ take n piece)).settled ≡ false
   pub over : 0 < to → to < used → (more : List ℕ) → (message (rules_of H D task) ((s ++ take used piece) ++ more)).told.payload ≡ B ++ part_of piece from to
 
--- Nothing is used of a piece where no byte was added to the message, unless the message wants more.
-pub uses_none : {H D : ℕ} (task : Task) (s piece : List ℕ) → (status_of (message (rules_of H D task) s) ≡ More → ⊥) → Uses (rules_of H D task) s piece 0
-uses_none {H} {D} task s piece wants_none = record {
+-- Nothing is used of a piece where the message is settled.
+pub uses_none : {H D : ℕ} (task : Task) (s piece : List ℕ) → ((message (rules_of H D task) s).settled ≡ false → ⊥) → Uses (rules_of H D task) s piece 0
+uses_none {H} {D} task s piece settled = record {
   within = omega arith;
   none_earlier = λ n lt. absurd (omega (arith, lt));
-  all = λ unsettled. absurd (wants_none (unsettled_is_more (message (rules_of H D task) s) (ap (λ (r : Reading). r.settled) (sym (without_more H D task s)) ∙ unsettled)));
+  all = λ unsettled. absurd (settled (ap (λ (r : Reading). r.settled) (sym (without_more H D task s)) ∙ unsettled));
 }
 
 pub at_start : {H D : ℕ} {S : Type 0} {K : _} {task : Task} {s B : List ℕ} (piece : List ℕ) {v : Verifier H D S K} → HasTaken task s B v → Along task s B piece 0 0 0 v

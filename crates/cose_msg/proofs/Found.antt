@@ -1,19 +1,23 @@
 -- The parts of a message that isn't refused, phase by phase, the last first: each is spelled, and passes its tests.
-use Rattle.std.proofs.Common.{◌≡◌, ℕ, ◌+◌, ◌-◌, ◌≤◌, Bool, true, false, cond, List, [], ◌++◌, length, Option, Some, None, Result, Ok, Err, refl}
-use Rattle.std.specs.Prelude.{nat_lt, ◌==◌}
+use Rattle.std.proofs.Common.{◌≡◌, ℕ, ◌+◌, ◌-◌, ◌≤◌, Bool, true, false, cond, List, [], ◌++◌, length, Option, Some, None, Result, Ok, Err, refl, inl, subst, sym, ap, ◌∙◌, take}
+use Rattle.std.specs.Prelude.{nat_lt, ◌==◌, ◌&&◌}
 use Rattle.std.proofs.lemmas.Bool.{eqb-true, ltb-false}
+use Rattle.std.proofs.lemmas.List.{length-take-le}
 use Rattle.cose_head.specs.declared.head.Head.{Head}
 use Rattle.cose_head.specs.declared.kind.Kind.{Kind}
 use Rattle.cose_head.specs.declared.reason.Reason.{Reason}
-use Rattle.cose_head.specs.declared.reason.Reason.TheVariants.{PastRoom, WrongType, Detached, BadAuthLength, PayloadTooLong}
-use Rattle.cose_head.specs.Item.{Item, byte_string, depth_of, Spells}
+use Rattle.cose_head.specs.declared.reason.Reason.TheVariants.{Truncated, PastRoom, WrongType, Detached, Attached, BadAuthLength, PayloadTooLong}
+use Rattle.cose_head.specs.Item.{Item, IsHead, byte_string, simple, depth_of, Spells}
 use Rattle.cose_map.specs.Bucket.{bucket_of}
 use Rattle.cose_map.specs.Bucket.Both.{pair_fault}
 use Rattle.cose_map.specs.Map.Pairs.{Pair}
 use Rattle.cose_msg.specs.Answer.{Answer, Chosen, Headers, Whole}
-use Rattle.cose_msg.specs.Phases.{nothing_told, protected_told, unprotected_told, headers_told, is_nil, is_too_long, finish, auth_fault_where, auth_head_fault, auth_head, past_payload, payload_fault_within, payload_head_fault, payload_head, past_choice, key_choice, both_buckets, placed_at, headers_of, past_unprotected, unprotected, past_protected, protected_fault_within, protected_head_fault, protected_head}
+use Rattle.cose_msg.specs.Phases.{nothing_told, protected_told, unprotected_told, headers_told, is_nil, is_too_long, finish, auth_fault_where, auth_head_fault, auth_head, past_payload, payload_fault_within, payload_head_fault, nil_fault_within, detached_payload, past_payload_head_from, is_bytes_head, payload_head, past_choice, key_choice, both_buckets, placed_at, headers_of, past_unprotected, unprotected, past_protected, protected_fault_within, protected_head_fault, protected_head}
 use Rattle.cose_msg.specs.Rules.{Rules}
-use Rattle.cose_msg.proofs.FoundForms.{Comes, NotRefused, ValueFound, unless_found, value_found, string_found, item_found}
+use Rattle.cose_msg.specs.Source.{Source, attached, detached}
+use Rattle.cose_msg.specs.Grammar.{HasCome, payload_element}
+use Rattle.cose_msg.specs.Reading.{awaits, with_head}
+use Rattle.cose_msg.proofs.FoundForms.{Comes, NotRefused, ValueFound, past_refusal, head_found, unless_fault_found, unless_found, value_found, string_found, item_found}
 use Rattle.cose_msg.proofs.Spelled.{SpellingLaws}
 
 -- ---- what the tests of the heads leave
@@ -47,6 +51,23 @@ payload_passes limit head e =
     let both = first_test (head.major == 2) (cond (is_too_long limit head.arg) (Some PayloadTooLong) None) (cond (is_nil head) (Some Detached) (Some WrongType)) (some_reason (is_nil head) Detached WrongType) e in
     (is_major head.major 2 both.0, passes_not (is_too_long limit head.arg) PayloadTooLong both.1)
 
+both_tests : (b c : Bool) → (b && c) ≡ true → (b ≡ true) × (c ≡ true)
+both_tests true c e = (refl, e)
+both_tests false c e = absurd cc
+
+nil_passes : (limit stated : ℕ) (head : Head) → nil_fault_within limit stated head ≡ None → (head.major ≡ 7) × (head.width ≡ 1) × (head.arg ≡ 22) × (is_too_long limit stated ≡ false)
+nil_passes limit stated head e =
+    let both = first_test (is_nil head) (cond (is_too_long limit stated) (Some PayloadTooLong) None) (cond (is_bytes_head head) (Some Attached) (Some WrongType)) (some_reason (is_bytes_head head) Attached WrongType) e in
+    let major = both_tests (head.major == 7) (head.width == 1 && head.arg == 22) both.0 in
+    let others = both_tests (head.width == 1) (head.arg == 22) major.1 in
+    (eqb-true head.major 7 major.0, eqb-true head.width 1 others.0, eqb-true head.arg 22 others.1, passes_not (is_too_long limit stated) PayloadTooLong both.1)
+
+-- nil is spelled by its head alone.
+nil_spelled : (part : List ℕ) (head : Head) → IsHead part head.major head.arg → length part ≡ head.width → head.major ≡ 7 → head.width ≡ 1 → head.arg ≡ 22 → Spells part (simple 22)
+unfolding Spells
+nil_spelled part head is wide major width arg =
+    (subst (λ (n : ℕ). IsHead part 7 n) arg (subst (λ (n : ℕ). IsHead part n head.arg) major is), inl (wide ∙ width))
+
 protected_passes : (room : ℕ) (head : Head) → protected_fault_within room head ≡ None → (head.major ≡ 2) × (head.arg ≤ room)
 protected_passes room head e =
     let both = first_test (head.major == 2) (cond (nat_lt room head.arg) (Some PastRoom) None) (Some WrongType) (λ never. cc) e in
@@ -67,12 +88,13 @@ pub record AuthFound (rules : Rules) (headers : Headers) (chosen : Option Chosen
   pub fits : rules.auth_fits chosen (length auth) ≡ true
   pub comes : rules.finish (whole_of headers chosen payload place auth (place + length part)) ≡ answer
 
-pub record PayloadFound (rules : Rules) (headers : Headers) (chosen : Option Chosen) (place : ℕ) (bytes : List ℕ) (answer : Answer) : Type 0 where
+pub record PayloadFound (source : Source) (rules : Rules) (headers : Headers) (chosen : Option Chosen) (place : ℕ) (bytes : List ℕ) (answer : Answer) : Type 0 where
   pub payload : List ℕ
   pub part : List ℕ
   pub rest : List ℕ
   pub is : bytes ≡ part ++ rest
-  pub spelled : Spells part (byte_string payload)
+  pub spelled : Spells part (payload_element source payload)
+  pub come : HasCome source payload
   pub fits : is_too_long rules.payload_limit (length payload) ≡ false
   pub next : AuthFound rules headers chosen payload (place + length part) rest answer
 
@@ -89,7 +111,7 @@ pub record UnprotectedFound (rules : Rules) (kind : Kind) (protected : List ℕ)
   pub together : pair_fault pairs found rules.understood (place + length part) ≡ None
   pub chosen : Option Chosen
   pub chosen_is : rules.choice (headers_of kind protected pairs found) ≡ Ok chosen
-  pub next : PayloadFound rules (headers_of kind protected pairs found) chosen (place + length part) rest answer
+  pub next : PayloadFound rules.source rules (headers_of kind protected pairs found) chosen (place + length part) rest answer
 
 pub record ProtectedFound (rules : Rules) (kind : Kind) (place : ℕ) (bytes : List ℕ) (answer : Answer) : Type 0 where
   pub protected : List ℕ
@@ -111,11 +133,31 @@ module _ (answer : Answer) (unrefused : NotRefused answer) (laws : SpellingLaws)
       (auth_passes (rules.auth_fits chosen)) (finish rules headers chosen payload) place bytes comes in
       record { auth = s.content; part = s.part; rest = s.rest; is = s.is; spelled = s.spelled; fits = s.fits; comes = s.comes }
 
-  payload_found : (headers : Headers) (chosen : Option Chosen) (place : ℕ) (bytes : List ℕ) → Comes (payload_head rules headers chosen) place bytes answer → PayloadFound rules headers chosen place bytes answer
-  payload_found headers chosen place bytes comes =
+  payload_found_from : (source : Source) (headers : Headers) (chosen : Option Chosen) (place : ℕ) (bytes : List ℕ) → Comes (with_head (headers_told headers []) (past_payload_head_from source rules headers chosen)) place bytes answer → PayloadFound source rules headers chosen place bytes answer
+  payload_found_from attached headers chosen place bytes comes =
       let s = string_found answer unrefused laws (headers_told headers []) (headers_told headers) (payload_head_fault rules) (λ n. is_too_long rules.payload_limit n ≡ false)
       (payload_passes rules.payload_limit) (λ at. past_payload rules headers chosen) place bytes comes in
-      record { payload = s.content; part = s.part; rest = s.rest; is = s.is; spelled = s.spelled; fits = s.fits; next = auth_found headers chosen s.content (place + length s.part) s.rest s.comes }
+      record { payload = s.content; part = s.part; rest = s.rest; is = s.is; spelled = s.spelled; come = tt; fits = s.fits; next = auth_found headers chosen s.content (place + length s.part) s.rest s.comes }
+  payload_found_from (detached came stated) headers chosen place bytes comes =
+      let h = head_found answer unrefused laws (headers_told headers []) (past_payload_head_from (detached came stated) rules headers chosen) place bytes comes in
+      let tested = unless_fault_found answer unrefused (headers_told headers []) place (nil_fault_within rules.payload_limit stated h.head) (detached_payload rules headers chosen came stated place) (place + length h.part) h.rest h.comes in
+      let nil = nil_passes rules.payload_limit stated h.head tested.0 in
+      let there = past_refusal answer unrefused (nat_lt (length came) stated) (awaits (headers_told headers came) (stated - length came) place) (auth_head rules headers chosen (take stated came) (place + length h.part) h.rest) (unrefused Truncated place) tested.1 in
+      let enough : stated ≤ length came = ltb-false (length came) stated there.0 in
+      let long : length (take stated came) ≡ stated = length-take-le stated came enough in
+      record {
+        payload = take stated came;
+        part = h.part;
+        rest = h.rest;
+        is = h.is;
+        spelled = nil_spelled h.part h.head h.is_head h.wide nil.0 nil.1 nil.2;
+        come = (enough, refl);
+        fits = ap (is_too_long rules.payload_limit) long ∙ nil.3;
+        next = auth_found headers chosen (take stated came) (place + length h.part) h.rest there.1;
+      }
+
+  payload_found : (headers : Headers) (chosen : Option Chosen) (place : ℕ) (bytes : List ℕ) → Comes (payload_head rules headers chosen) place bytes answer → PayloadFound rules.source rules headers chosen place bytes answer
+  payload_found headers chosen place bytes comes = payload_found_from rules.source headers chosen place bytes comes
 
   choice_found : (headers : Headers) (choice : Result (Option Chosen) Reason) (place : ℕ) (bytes : List ℕ) → Comes (past_choice rules headers choice) place bytes answer → ValueFound choice (payload_head rules headers) place bytes answer
   choice_found headers (Ok chosen) place bytes comes = record { found = chosen; is = refl; comes = comes }

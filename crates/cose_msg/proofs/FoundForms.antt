@@ -46,6 +46,7 @@ pub record HeadFound (next : Next Head) (place : ℕ) (bytes : List ℕ) (answer
   pub rest : List ℕ
   pub is : bytes ≡ part ++ rest
   pub is_head : IsHead part head.major head.arg
+  pub wide : length part ≡ head.width
   pub comes : Comes (next place head) (place + length part) rest answer
 
 -- This many bytes.
@@ -91,7 +92,7 @@ spelled_string head content is = record { head = head; rest = content; whole = r
 
 module _ (answer : Answer) (unrefused : NotRefused answer) where
   -- Of two readings of which the first is refused, the other is taken; and one of them can't be refused.
-  past_refusal : (b : Bool) (x y : Reading) → (x.answer ≡ answer → ⊥) → (cond b x y).answer ≡ answer → (b ≡ false) × (y.answer ≡ answer)
+  pub past_refusal : (b : Bool) (x y : Reading) → (x.answer ≡ answer → ⊥) → (cond b x y).answer ≡ answer → (b ≡ false) × (y.answer ≡ answer)
   past_refusal true x y h comes = absurd (h comes)
   past_refusal false x y h comes = (refl, comes)
 
@@ -139,6 +140,7 @@ module _ (answer : Answer) (unrefused : NotRefused answer) where
           rest = s.rest;
           is = s.whole;
           is_head = s.is_head;
+          wide = s.wide;
           comes = comes_at (next place head) (place + used) (place + length s.part) (drop used bytes) s.rest answer (ap (λ (n : ℕ). place + n) (sym long)) left comes;
         }
     past_head_found told next place bytes (More wanted) e comes = absurd (unrefused Truncated (place + length bytes) comes)

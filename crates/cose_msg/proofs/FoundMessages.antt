@@ -67,6 +67,7 @@ module _ (rules : Rules) (bytes : List ℕ) (answer : Answer) (f : FrontFound ru
         together = u.together;
         chosen = u.chosen_is;
         payload = b.spelled;
+        payload_comes = b.come;
         payload_fits = b.fits;
         auth = a.spelled;
         auth_fits = a.fits;
@@ -127,6 +128,7 @@ finished rules finish bytes whole m = record {
   together = m.together;
   chosen = m.chosen;
   payload = m.payload;
+  payload_comes = m.payload_comes;
   payload_fits = m.payload_fits;
   auth = m.auth;
   auth_fits = m.auth_fits;

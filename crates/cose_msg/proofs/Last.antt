@@ -25,9 +25,10 @@ use Rattle.cose_msg.specs.Answer.{Answer, complete, refused, Chosen, Headers, Wh
 use Rattle.cose_msg.specs.Front.{array_head_fault, past_array_head, array_head, kind_of_tag, past_tag, tag_behind_cwt, past_second_head, second_head, past_untagged, is_cwt_tag, is_tag, is_array, past_first_head, first_head}
 use Rattle.cose_msg.specs.Laws.{answered, then_compared, then_verified, FinishGoesLast, ComparingGoesLast, VerifyingGoesLast}
 use Rattle.cose_msg.specs.Message.{Decides, message, tag_of, judged, compare_tag, compared, verified, uncompared, comparing}
-use Rattle.cose_msg.specs.Phases.{nothing_told, protected_told, unprotected_told, headers_told, finish, auth, auth_head_fault, past_auth_head, auth_head, past_payload, payload, payload_head_fault, past_payload_head, payload_head, past_choice, key_choice, both_buckets, placed_at, headers_of, past_unprotected, unprotected, past_protected, protected, protected_head_fault, past_protected_head, protected_head}
-use Rattle.cose_msg.specs.Reading.{Told, Reading, Phase, Next, settled, stop, cut, past_head, with_head, with_string, is_truncated, past_item, with_item, unless, unless_fault, with_value, open_after}
+use Rattle.cose_msg.specs.Phases.{nothing_told, protected_told, unprotected_told, headers_told, finish, auth, auth_head_fault, past_auth_head, auth_head, past_payload, payload, payload_head_fault, nil_fault_within, detached_payload, past_payload_head_from, past_payload_head, payload_head, past_choice, key_choice, both_buckets, placed_at, headers_of, past_unprotected, unprotected, past_protected, protected, protected_head_fault, past_protected_head, protected_head}
+use Rattle.cose_msg.specs.Reading.{Told, Reading, Phase, Next, settled, awaits, stop, cut, past_head, with_head, with_string, is_truncated, past_item, with_item, unless, unless_fault, with_value, open_after}
 use Rattle.cose_msg.specs.Rules.{Rules}
+use Rattle.cose_msg.specs.Source.{Source, attached, detached}
 
 module _ (change : Answer → Answer) (keeps : (reason : Reason) (place : ℕ) → change (refused reason place) ≡ refused reason place) where
   -- The answers of one phase are those of another, changed.
@@ -35,7 +36,10 @@ module _ (change : Answer → Answer) (keeps : (reason : Reason) (place : ℕ) �
   Follows phase other = (place : ℕ) (bytes : List ℕ) → other place bytes ≡ answered change (phase place bytes)
 
   cut-follows : (told : Told) (wanted place : ℕ) → cut told wanted place ≡ answered change (cut told wanted place)
-  cut-follows told wanted place = ap (λ (answer : Answer). let reading : Reading = record { answer = answer; settled = false; wanted = wanted; told = told } in reading) (sym (keeps Truncated place))
+  cut-follows told wanted place = ap (λ (answer : Answer). let reading : Reading = record { answer = answer; settled = false; wanted = wanted; payload_wanted = 0; told = told } in reading) (sym (keeps Truncated place))
+
+  awaits-follows : (told : Told) (missing place : ℕ) → awaits told missing place ≡ answered change (awaits told missing place)
+  awaits-follows told missing place = ap (λ (answer : Answer). let reading : Reading = record { answer = answer; settled = true; wanted = 0; payload_wanted = missing; told = told } in reading) (sym (keeps Truncated place))
 
   stop-follows : (told : Told) (reason : Reason) (place : ℕ) → stop told reason place ≡ answered change (stop told reason place)
   stop-follows told reason place = ap (settled told) (sym (keeps reason place))
@@ -98,9 +102,16 @@ module _ (change : Answer → Answer) (keeps : (reason : Reason) (place : ℕ) �
     payload-follows : (headers : Headers) (chosen : Option Chosen) (n : ℕ) → Follows (payload rules headers chosen n) (payload others headers chosen n)
     payload-follows headers chosen n = with_string-follows (headers_told headers) n (past_payload rules headers chosen) (past_payload others headers chosen) (λ at B. auth_head-follows headers chosen B)
 
+    detached_payload-follows : (headers : Headers) (chosen : Option Chosen) (came : List ℕ) (stated at : ℕ) → Follows (detached_payload rules headers chosen came stated at) (detached_payload others headers chosen came stated at)
+    detached_payload-follows headers chosen came stated at place bytes = choose-follows (nat_lt (length came) stated) (awaits (headers_told headers came) (stated - length came) at) (auth_head rules headers chosen (take stated came) place bytes) _ _
+        (awaits-follows (headers_told headers came) (stated - length came) at) (auth_head-follows headers chosen (take stated came) place bytes)
+
+    past_payload_head-follows : (source : Source) (headers : Headers) (chosen : Option Chosen) (at : ℕ) (head : Head) → Follows (past_payload_head_from source rules headers chosen at head) (past_payload_head_from source others headers chosen at head)
+    past_payload_head-follows attached headers chosen at head = unless_fault-follows (headers_told headers []) at (payload_head_fault rules head) (payload rules headers chosen head.arg) (payload others headers chosen head.arg) (payload-follows headers chosen head.arg)
+    past_payload_head-follows (detached came stated) headers chosen at head = unless_fault-follows (headers_told headers []) at (nil_fault_within rules.payload_limit stated head) (detached_payload rules headers chosen came stated at) (detached_payload others headers chosen came stated at) (detached_payload-follows headers chosen came stated at)
+
     payload_head-follows : (headers : Headers) (chosen : Option Chosen) → Follows (payload_head rules headers chosen) (payload_head others headers chosen)
-    payload_head-follows headers chosen = with_head-follows (headers_told headers []) (past_payload_head rules headers chosen) (past_payload_head others headers chosen)
-        (λ at head. unless_fault-follows (headers_told headers []) at (payload_head_fault rules head) (payload rules headers chosen head.arg) (payload others headers chosen head.arg) (payload-follows headers chosen head.arg))
+    payload_head-follows headers chosen = with_head-follows (headers_told headers []) (past_payload_head rules headers chosen) (past_payload_head others headers chosen) (λ at head. past_payload_head-follows rules.source headers chosen at head)
 
     past_choice-follows : (headers : Headers) (found : Result (Option Chosen) Reason) → Follows (past_choice rules headers found) (past_choice others headers found)
     past_choice-follows headers (Ok chosen) = payload_head-follows headers chosen

@@ -1,5 +1,6 @@
 -- Every phase of a message is lawful: a settled reading stays, and one that isn't settled is Truncated where the bytes end.
-use Rattle.std.proofs.Common.{◌≡◌, ℕ, Bool, true, false, List, [], length, Option, Result, Ok, Err, refl, sym, ap, ◌∙◌, zero-add}
+use Rattle.std.proofs.Common.{◌≡◌, ℕ, Bool, true, false, List, [], length, take, Option, Result, Ok, Err, refl, sym, ap, ◌∙◌, zero-add}
+use Rattle.std.specs.Prelude.{◌-◌, nat_lt}
 use Rattle.cose_head.specs.declared.head.Head.{Head}
 use Rattle.cose_head.specs.declared.kind.Kind.{Kind}
 use Rattle.cose_head.specs.declared.kind.Kind.TheVariants as kinds
@@ -14,9 +15,10 @@ use Rattle.cose_msg.specs.Answer.{Chosen, Headers, refused}
 use Rattle.cose_msg.specs.Front.{array_head_fault, past_array_head, array_head, kind_of_tag, past_tag, tag_behind_cwt, past_second_head, second_head, past_untagged, is_cwt_tag, is_tag, is_array, past_first_head, first_head}
 use Rattle.cose_msg.specs.Laws.{MessageStays, MessageEndsTruncated, OpenEarlier, VerdictStays}
 use Rattle.cose_msg.specs.Message.{message, verifying}
-use Rattle.cose_msg.specs.Phases.{nothing_told, protected_told, unprotected_told, headers_told, finish, auth, auth_head_fault, past_auth_head, auth_head, past_payload, payload, payload_head_fault, past_payload_head, payload_head, past_choice, key_choice, both_buckets, placed_at, headers_of, past_unprotected, unprotected, past_protected, protected, protected_head_fault, past_protected_head, protected_head}
-use Rattle.cose_msg.specs.Reading.{Reading, stop}
+use Rattle.cose_msg.specs.Phases.{nothing_told, protected_told, unprotected_told, headers_told, finish, auth, auth_head_fault, past_auth_head, auth_head, past_payload, payload, payload_head_fault, nil_fault_within, detached_payload, past_payload_head_from, past_payload_head, payload_head, past_choice, key_choice, both_buckets, placed_at, headers_of, past_unprotected, unprotected, past_protected, protected, protected_head_fault, past_protected_head, protected_head}
+use Rattle.cose_msg.specs.Reading.{Reading, awaits, stop}
 use Rattle.cose_msg.specs.Rules.{Rules}
+use Rattle.cose_msg.specs.Source.{Source, attached, detached}
 use Rattle.cose_msg.proofs.Forms.{HeadLaws, Lawful, settled-lawful, with_head-lawful, with_string-lawful, with_item-lawful, unless_fault-lawful, unless_at-lawful, with_value-lawful, either-lawful}
 
 module _ (laws : HeadLaws) (rules : Rules) where
@@ -33,9 +35,16 @@ module _ (laws : HeadLaws) (rules : Rules) where
   payload-lawful : (headers : Headers) (chosen : Option Chosen) (n : ℕ) → Lawful (payload rules headers chosen n)
   payload-lawful headers chosen n = with_string-lawful (headers_told headers) n (past_payload rules headers chosen) (λ at B. auth_head-lawful headers chosen B)
 
+  detached_payload-lawful : (headers : Headers) (chosen : Option Chosen) (came : List ℕ) (stated at : ℕ) → Lawful (detached_payload rules headers chosen came stated at)
+  detached_payload-lawful headers chosen came stated at = either-lawful (nat_lt (length came) stated) (λ place bytes. awaits (headers_told headers came) (stated - length came) at) (auth_head rules headers chosen (take stated came))
+      (settled-lawful (λ place. awaits (headers_told headers came) (stated - length came) at) (λ place. refl)) (auth_head-lawful headers chosen (take stated came))
+
+  past_payload_head-lawful : (source : Source) (headers : Headers) (chosen : Option Chosen) (at : ℕ) (head : Head) → Lawful (past_payload_head_from source rules headers chosen at head)
+  past_payload_head-lawful attached headers chosen at head = unless_fault-lawful (headers_told headers []) at (payload_head_fault rules head) (payload rules headers chosen head.arg) (payload-lawful headers chosen head.arg)
+  past_payload_head-lawful (detached came stated) headers chosen at head = unless_fault-lawful (headers_told headers []) at (nil_fault_within rules.payload_limit stated head) (detached_payload rules headers chosen came stated at) (detached_payload-lawful headers chosen came stated at)
+
   payload_head-lawful : (headers : Headers) (chosen : Option Chosen) → Lawful (payload_head rules headers chosen)
-  payload_head-lawful headers chosen = with_head-lawful laws (headers_told headers []) (past_payload_head rules headers chosen)
-      (λ at head. unless_fault-lawful (headers_told headers []) at (payload_head_fault rules head) (payload rules headers chosen head.arg) (payload-lawful headers chosen head.arg))
+  payload_head-lawful headers chosen = with_head-lawful laws (headers_told headers []) (past_payload_head rules headers chosen) (λ at head. past_payload_head-lawful rules.source headers chosen at head)
 
   past_choice-lawful : (headers : Headers) (found : Result (Option Chosen) Reason) → Lawful (past_choice rules headers found)
   past_choice-lawful headers (Ok chosen) = payload_head-lawful headers chosen

@@ -25,6 +25,8 @@ mod MadeMessages
 mod Choices
 mod ChoiceReadings
 mod ChosenKeys
+mod Given
+mod Nils
 mod Opened
 mod Standing
 mod Steps
@@ -51,6 +53,7 @@ mod WorkedMessages
 mod WorkedFronts
 mod WorkedHeaders
 mod WorkedChoices
+mod WorkedDetached
 mod WorkedPayloads
 mod WorkedComparisons
 mod WorkedLimits

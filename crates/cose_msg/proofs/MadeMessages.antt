@@ -132,7 +132,8 @@ module _ (laws : MadeLaws) (room nesting : ℕ) (setting : Setting) (alg : Alg) 
     unprotected_read = unprotected_bucket laws.shortest nesting (unprotected_at spellings) kid short_kid h.nests;
     together = good_together alg kid (unprotected_at spellings - length (protected_made alg)) (unprotected_at spellings) (payload_at spellings) setting.understood;
     chosen = key_is_chosen;
-    payload = laws.shortest.shortest (byte_string payload) (string_short payload (omega (arith, h.payload_below)));
+    payload = rw h.payload_inside (laws.shortest.shortest (byte_string payload) (string_short payload (omega (arith, h.payload_below))));
+    payload_comes = rw h.payload_inside tt;
     payload_fits = not_too_long setting.payload_limit (length payload) h.payload_below h.payload_within;
     auth = laws.shortest.shortest (byte_string (auth_made alg secret setting.aad payload)) (string_short (auth_made alg secret setting.aad payload) (omega (arith, auth_length, auth_below alg)));
     auth_fits = eq-eqb (length (auth_made alg secret setting.aad payload)) (auth_length_of alg) auth_length;

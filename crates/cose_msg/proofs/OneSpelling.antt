@@ -22,4 +22,4 @@ same_array law bytes kind other items others (in_cwt_tag one) (in_tag two) = abs
 same_array law bytes kind other items others (in_cwt_tag one) (in_cwt_tag two) = let same = same_item law bytes _ _ one two in cc
 
 pub one_array_of_four : OneItem → OneArrayOfFour
-one_array_of_four law bytes kind other protected payload auth other_protected other_payload other_auth bucket other_bucket one two = same_array law bytes kind other _ _ one two
+one_array_of_four law bytes kind other protected auth other_protected other_auth bucket payload other_bucket other_payload one two = same_array law bytes kind other _ _ one two

@@ -1,7 +1,8 @@
 -- No more of a payload is known than a payload may have.
-use Rattle.std.proofs.Common.{◌≡◌, ℕ, ◌≤◌, ◌^◌, Bool, true, false, cond, List, [], length, Option, Some, None, Result, Ok, Err, refl, arith}
-use Rattle.std.specs.Prelude.{nat_lt, nat_le, ◌||◌}
-use Rattle.std.proofs.lemmas.Bool.{ltb-false}
+use Rattle.std.proofs.Common.{◌≡◌, ℕ, ◌≤◌, ◌^◌, Bool, true, false, inl, inr, ◌<◌, cond, List, [], length, take, Option, Some, None, Result, Ok, Err, refl, arith}
+use Rattle.std.specs.Prelude.{◌-◌, nat_lt, nat_le, ◌||◌}
+use Rattle.std.proofs.lemmas.Bool.{cases_lt, le-ltb, lt-ltb, ltb-false}
+use Rattle.std.proofs.lemmas.List.{length-take-le}
 use Rattle.cose_head.specs.declared.head.Head.{Head}
 use Rattle.cose_head.specs.declared.kind.Kind.{Kind}
 use Rattle.cose_head.specs.declared.kind.Kind.TheVariants as kinds
@@ -15,9 +16,10 @@ use Rattle.cose_msg.specs.declared.context.Wanted.TheVariants as wants
 use Rattle.cose_msg.specs.Answer.{Chosen, Headers}
 use Rattle.cose_msg.specs.Front.{array_head_fault, past_array_head, array_head, kind_of_tag, past_tag, tag_behind_cwt, past_second_head, second_head, past_untagged, is_cwt_tag, is_tag, is_array, past_first_head}
 use Rattle.cose_msg.specs.Message.{message}
-use Rattle.cose_msg.specs.Phases.{nothing_told, protected_told, unprotected_told, headers_told, finish, auth, auth_head_fault, past_auth_head, auth_head, past_payload, payload, payload_head_fault, payload_fault_within, is_bytes_head, is_nil, past_payload_head, payload_head, past_choice, key_choice, both_buckets, placed_at, headers_of, past_unprotected, unprotected, past_protected, protected, protected_head_fault, past_protected_head, protected_head}
-use Rattle.cose_msg.specs.Reading.{Told, Phase, stop}
+use Rattle.cose_msg.specs.Phases.{nothing_told, protected_told, unprotected_told, headers_told, finish, auth, auth_head_fault, past_auth_head, auth_head, past_payload, payload, payload_head_fault, payload_fault_within, nil_fault_within, detached_payload, past_payload_head_from, is_too_long, is_bytes_head, is_nil, past_payload_head, payload_head, past_choice, key_choice, both_buckets, placed_at, headers_of, past_unprotected, unprotected, past_protected, protected, protected_head_fault, past_protected_head, protected_head}
+use Rattle.cose_msg.specs.Reading.{Told, Phase, awaits, stop}
 use Rattle.cose_msg.specs.Rules.{Rules}
+use Rattle.cose_msg.specs.Source.{Source, attached, detached}
 use Rattle.cose_msg.proofs.ToldForms.{Tells, choose-tells, unless-tells, unless_fault-tells, with_head-tells, with_item-tells, with_string-tells, with_value-tells}
 
 fault_cases : (bytes large over : Bool) (a : Reason) (b : Option Reason) (nil : Bool) (c : Reason) (n limit : ℕ) → (over ≡ false → n ≤ limit) → cond bytes (cond (large || over) (Some a) None) (cond nil b (Some c)) ≡ None → (b ≡ None → ⊥) → n ≤ limit
@@ -29,6 +31,16 @@ fault_cases true false false a b nil c n limit h e none = h refl
 
 payload_is_within : (limit : ℕ) (head : Head) → payload_fault_within limit head ≡ None → head.arg ≤ limit
 payload_is_within limit head e = fault_cases (is_bytes_head head) (nat_le (2 ^ 56) head.arg) (nat_lt limit head.arg) _ _ (is_nil head) _ head.arg limit (λ short. ltb-false limit head.arg short) e (λ none. absurd cc)
+
+nil_cases : (nil large over bytes : Bool) (a b c : Reason) (n limit : ℕ) → (over ≡ false → n ≤ limit) → cond nil (cond (large || over) (Some a) None) (cond bytes (Some b) (Some c)) ≡ None → n ≤ limit
+nil_cases false large over true a b c n limit h e = absurd cc
+nil_cases false large over false a b c n limit h e = absurd cc
+nil_cases true true over bytes a b c n limit h e = absurd cc
+nil_cases true false true bytes a b c n limit h e = absurd cc
+nil_cases true false false bytes a b c n limit h e = h refl
+
+stated_is_within : (limit stated : ℕ) (head : Head) → nil_fault_within limit stated head ≡ None → stated ≤ limit
+stated_is_within limit stated head e = nil_cases (is_nil head) (nat_le (2 ^ 56) stated) (nat_lt limit stated) (is_bytes_head head) _ _ _ stated limit (λ short. ltb-false limit stated short) e
 
 module _ (rules : Rules) where
   abbrev Small : Told → Type 0
@@ -49,10 +61,21 @@ module _ (rules : Rules) where
   payload-fits headers chosen n le = with_string-tells Small (headers_told headers) n (past_payload rules headers chosen) (λ bytes lt. omega (arith, lt, le))
       (λ at B short. auth_head-fits headers chosen B (omega (arith, short, le)))
 
+  detached_payload-fits : (headers : Headers) (chosen : Option Chosen) (came : List ℕ) (stated at : ℕ) → stated ≤ rules.payload_limit → Fits (detached_payload rules headers chosen came stated at)
+  detached_payload-fits headers chosen came stated at le place bytes =
+      elim (cases_lt (length came) stated) [
+        | inl short ↦ rw (lt-ltb (length came) stated short) (omega (arith, short, le))
+        | inr there ↦ rw (le-ltb (length came) stated there) (auth_head-fits headers chosen (take stated came) (omega (arith, le, length-take-le stated came there)) place bytes)
+      ]
+
+  past_payload_head-fits : (source : Source) (headers : Headers) (chosen : Option Chosen) (at : ℕ) (head : Head) → Fits (past_payload_head_from source rules headers chosen at head)
+  past_payload_head-fits attached headers chosen at head = unless_fault-tells Small (headers_told headers []) at (payload_head_fault rules head) (payload rules headers chosen head.arg) (omega arith)
+      (λ e. payload-fits headers chosen head.arg (payload_is_within rules.payload_limit head e))
+  past_payload_head-fits (detached came stated) headers chosen at head = unless_fault-tells Small (headers_told headers []) at (nil_fault_within rules.payload_limit stated head) (detached_payload rules headers chosen came stated at) (omega arith)
+      (λ e. detached_payload-fits headers chosen came stated at (stated_is_within rules.payload_limit stated head e))
+
   payload_head-fits : (headers : Headers) (chosen : Option Chosen) → Fits (payload_head rules headers chosen)
-  payload_head-fits headers chosen = with_head-tells Small (headers_told headers []) (past_payload_head rules headers chosen) (omega arith)
-      (λ at head. unless_fault-tells Small (headers_told headers []) at (payload_head_fault rules head) (payload rules headers chosen head.arg) (omega arith)
-      (λ e. payload-fits headers chosen head.arg (payload_is_within rules.payload_limit head e)))
+  payload_head-fits headers chosen = with_head-tells Small (headers_told headers []) (past_payload_head rules headers chosen) (omega arith) (λ at head. past_payload_head-fits rules.source headers chosen at head)
 
   past_choice-fits : (headers : Headers) (found : Result (Option Chosen) Reason) → Fits (past_choice rules headers found)
   past_choice-fits headers (Ok chosen) = payload_head-fits headers chosen

@@ -11,11 +11,12 @@ use Rattle.cose_msg.specs.Phase.{in_payload, want_of}
 use Rattle.cose_msg.specs.Phases.{headers_told, finish, auth, auth_head, auth_head_fault, past_auth_head, past_payload}
 use Rattle.cose_msg.specs.Reading.{Reading, Told}
 use Rattle.cose_msg.specs.Rules.{Rules}
-use Rattle.cose_msg.specs.Task.{Task, rules_of}
+use Rattle.cose_msg.specs.Source.{with_came}
+use Rattle.cose_msg.specs.Task.{Task, given_to, rules_of}
 use Rattle.cose_msg.specs.Reader.{HoldsIn, Known, StandsFor, left_in}
 use Rattle.cose_msg.proofs.Steps.{string_whole}
 use Rattle.cose_msg.proofs.ToldForms.{Tells, unless_fault-tells, with_head-tells, with_string-tells}
-use Rattle.cose_msg.proofs.Waits.{fewer, string_waits}
+use Rattle.cose_msg.proofs.Waits.{came_known, fewer, nil_awaits, string_waits}
 
 -- ---- after the payload
 
@@ -38,22 +39,23 @@ none_known told other e none some =
 
 module _ {H D : ℕ} (task : Task) (known : Known) (told : Told) (n : ℕ) (v : Reader H D) where
   -- Where the phase isn't the payload, nothing is added to the payload.
-  fixed_in : (phase : Phase) → HoldsIn task known told n v phase → in_payload phase ≡ false → known.payload ≡ told.payload → 0 < length told.payload → (more : List ℕ) →
+  fixed_in : (phase : Phase) → HoldsIn task known told n v phase → in_payload phase ≡ false → known.payload ≡ told.payload → with_came known.payload task.setting.source ≡ task.setting.source → 0 < length told.payload → (more : List ℕ) →
       (left_in (rules_of H D task) known told v phase more).told.payload ≡ told.payload
-  fixed_in phases.FirstHead h e same some more = none_known told _ h.0 refl some
-  fixed_in (phases.TagHead p) h e same some more = none_known told _ h.0 refl some
-  fixed_in (phases.ArrayHead p) h e same some more = none_known told _ h.0 refl some
-  fixed_in (phases.ProtectedHead p) h e same some more = none_known told _ h.0 refl some
-  fixed_in (phases.Protected p) h e same some more = none_known told _ h.0 refl some
-  fixed_in (phases.Unprotected p) h e same some more = none_known told _ h.0 refl some
-  fixed_in (phases.PayloadHead p) h e same some more = none_known told _ h.0 refl some
-  fixed_in (phases.Payload p) h e same some more = absurd cc
-  fixed_in (phases.AuthHead p) h e same some more = auth_head-tells (rules_of H D task) known.headers known.chosen known.payload p.at (v.head.items ++ more) ∙ same
-  fixed_in (phases.Auth p) h e same some more = auth-tells (rules_of H D task) known.headers known.chosen known.payload p.head_at p.length p.at (known.auth ++ more) ∙ same
-  fixed_in (phases.Signed p) h e same some more = same
-  fixed_in (phases.Decided verdict) h e same some more = refl
-  fixed_in (phases.Settled verdict) h e same some more = refl
-  fixed_in (phases.Shaped p) h e same some more = refl
+  fixed_in phases.FirstHead h e same now some more = none_known told _ h.0 refl some
+  fixed_in (phases.TagHead p) h e same now some more = none_known told _ h.0 refl some
+  fixed_in (phases.ArrayHead p) h e same now some more = none_known told _ h.0 refl some
+  fixed_in (phases.ProtectedHead p) h e same now some more = none_known told _ h.0 refl some
+  fixed_in (phases.Protected p) h e same now some more = none_known told _ h.0 refl some
+  fixed_in (phases.Unprotected p) h e same now some more = none_known told _ h.0 refl some
+  fixed_in (phases.PayloadHead p) h e same now some more = none_known told _ h.0 refl some
+  fixed_in (phases.Payload p) h e same now some more = absurd cc
+  fixed_in (phases.Detached p) h e same now some more = ap (λ (r : Reading). r.told.payload) (nil_awaits task.setting.source (rules_of H D task) known.headers known.chosen known.payload p.length p.left p.at p.after more (sym now ∙ ap (with_came known.payload) h.5.1) h.1 p.some_left) ∙ same
+  fixed_in (phases.AuthHead p) h e same now some more = auth_head-tells (rules_of H D task) known.headers known.chosen known.payload p.at (v.head.items ++ more) ∙ same
+  fixed_in (phases.Auth p) h e same now some more = auth-tells (rules_of H D task) known.headers known.chosen known.payload p.head_at p.length p.at (known.auth ++ more) ∙ same
+  fixed_in (phases.Signed p) h e same now some more = same
+  fixed_in (phases.Decided verdict) h e same now some more = refl
+  fixed_in (phases.Settled verdict) h e same now some more = refl
+  fixed_in (phases.Shaped p) h e same now some more = refl
 
   -- In the payload the next bytes are added to it, as many as are left.
   grows_at : (p : Payload) → HoldsIn task known told n v (phases.Payload p) → (more : List ℕ) →
@@ -81,6 +83,7 @@ module _ {H D : ℕ} (task : Task) (known : Known) (told : Told) (n : ℕ) (v : 
   grows_in (phases.Protected p) h e more = absurd cc
   grows_in (phases.Unprotected p) h e more = absurd cc
   grows_in (phases.PayloadHead p) h e more = absurd cc
+  grows_in (phases.Detached p) h e more = absurd cc
   grows_in (phases.AuthHead p) h e more = absurd cc
   grows_in (phases.Auth p) h e more = absurd cc
   grows_in (phases.Signed p) h e more = absurd cc
@@ -90,10 +93,10 @@ module _ {H D : ℕ} (task : Task) (known : Known) (told : Told) (n : ℕ) (v : 
 
 -- ---- a verifier
 
-pub stands_fixed : {H D : ℕ} {task : Task} {B : List ℕ} {n : ℕ} {v : Reader H D} {reading : List ℕ → Reading} → (more : List ℕ) → StandsFor task B n v reading → in_payload v.phase ≡ false → 0 < length B → (reading more).told.payload ≡ B
-stands_fixed {H} {D} {task} {B} {n} {v} {reading} more h e some =
+pub stands_fixed : {H D : ℕ} {task : Task} {B : List ℕ} {n : ℕ} {v : Reader H D} {reading : List ℕ → Reading} → (more : List ℕ) → StandsFor task B n v reading → given_to B task ≡ task → in_payload v.phase ≡ false → 0 < length B → (reading more).told.payload ≡ B
+stands_fixed {H} {D} {task} {B} {n} {v} {reading} more h came e some =
     let there : 0 < length h.told.payload = omega (arith, some, ap length h.payload_told) in
-    ap (λ (r : Reading). r.told.payload) (h.left more) ∙ fixed_in task h.known h.told n v v.phase h.holds e (h.payload_known ∙ sym h.payload_told) there more ∙ h.payload_told
+    ap (λ (r : Reading). r.told.payload) (h.left more) ∙ fixed_in task h.known h.told n v v.phase h.holds e (h.payload_known ∙ sym h.payload_told) (came_known task h.known B h.payload_known came) there more ∙ h.payload_told
 
 pub stands_grows : {H D : ℕ} {task : Task} {B : List ℕ} {n : ℕ} {v : Reader H D} {reading : List ℕ → Reading} → (more : List ℕ) → StandsFor task B n v reading → in_payload v.phase ≡ true → (reading more).told.payload ≡ B ++ take (want_of v.phase) more
 stands_grows {H} {D} {task} {B} {n} {v} {reading} more h e =

@@ -1,6 +1,7 @@
 -- What is known of a phase that is none of certain phases.
-use Rattle.std.proofs.Common.{◌≡◌, true, false, Option, Some, None, refl}
+use Rattle.std.proofs.Common.{◌≡◌, ℕ, true, false, Option, Some, None, refl}
 use Rattle.cose_msg.specs.declared.phase.Auth.{Auth}
+use Rattle.cose_msg.specs.declared.phase.Detached.{Detached}
 use Rattle.cose_msg.specs.declared.phase.Payload.{Payload}
 use Rattle.cose_msg.specs.declared.phase.Phase.{Phase}
 use Rattle.cose_msg.specs.declared.phase.Phase.TheVariants as phases
@@ -11,9 +12,9 @@ use Rattle.cose_msg.specs.declared.status.Status.TheVariants.{More}
 use Rattle.cose_msg.specs.declared.verdict.Verdict.{Verdict}
 use Rattle.cose_msg.specs.declared.verdict.Verdict.TheVariants.{Authentic, Refused}
 use Rattle.cose_msg.specs.Kept.{verdict_in}
-use Rattle.cose_msg.specs.Phase.{awaits_decision, is_settled, takes_bytes}
+use Rattle.cose_msg.specs.Phase.{awaits_decision, ends_at, is_settled, payload_want_of, takes_bytes}
 use Rattle.cose_msg.specs.Shown.{SignInput, input_in}
-use Rattle.cose_msg.specs.Status.{status_at}
+use Rattle.cose_msg.specs.Status.{is_payload_next, status_at}
 
 -- In a phase that isn't settled and is no string, one byte is taken at a time.
 pub takes_byte : (phase : Phase) → ((p : Protected) → phase ≡ phases.Protected p → ⊥) → ((p : Unprotected) → phase ≡ phases.Unprotected p → ⊥) →
@@ -26,6 +27,7 @@ takes_byte (phases.Protected p) a b c d e = absurd (a p refl)
 takes_byte (phases.Unprotected p) a b c d e = absurd (b p refl)
 takes_byte (phases.PayloadHead p) a b c d e = refl
 takes_byte (phases.Payload p) a b c d e = absurd (c p refl)
+takes_byte (phases.Detached p) a b c d e = absurd cc
 takes_byte (phases.AuthHead p) a b c d e = refl
 takes_byte (phases.Auth p) a b c d e = absurd (d p refl)
 takes_byte (phases.Signed p) a b c d e = absurd cc
@@ -42,6 +44,7 @@ unsigned_is_undecided (phases.Protected p) none = refl
 unsigned_is_undecided (phases.Unprotected p) none = refl
 unsigned_is_undecided (phases.PayloadHead p) none = refl
 unsigned_is_undecided (phases.Payload p) none = refl
+unsigned_is_undecided (phases.Detached p) none = refl
 unsigned_is_undecided (phases.AuthHead p) none = refl
 unsigned_is_undecided (phases.Auth p) none = refl
 unsigned_is_undecided (phases.Signed p) none = absurd (none p refl)
@@ -62,6 +65,7 @@ known_is_decided (phases.Protected p) verdict known awaits = cc
 known_is_decided (phases.Unprotected p) verdict known awaits = cc
 known_is_decided (phases.PayloadHead p) verdict known awaits = cc
 known_is_decided (phases.Payload p) verdict known awaits = cc
+known_is_decided (phases.Detached p) verdict known awaits = cc
 known_is_decided (phases.AuthHead p) verdict known awaits = cc
 known_is_decided (phases.Auth p) verdict known awaits = cc
 known_is_decided (phases.Shaped p) verdict known awaits = cc
@@ -76,6 +80,7 @@ tells_no_input (phases.Protected p) held undecided none = refl
 tells_no_input (phases.Unprotected p) held undecided none = refl
 tells_no_input (phases.PayloadHead p) held undecided none = refl
 tells_no_input (phases.Payload p) held undecided none = refl
+tells_no_input (phases.Detached p) held undecided none = refl
 tells_no_input (phases.AuthHead p) held undecided none = refl
 tells_no_input (phases.Auth p) held undecided none = refl
 tells_no_input (phases.Signed p) held undecided none = absurd cc
@@ -92,6 +97,7 @@ more_is_unsettled (phases.Protected p) more = refl
 more_is_unsettled (phases.Unprotected p) more = refl
 more_is_unsettled (phases.PayloadHead p) more = refl
 more_is_unsettled (phases.Payload p) more = refl
+more_is_unsettled (phases.Detached p) more = absurd cc
 more_is_unsettled (phases.AuthHead p) more = refl
 more_is_unsettled (phases.Auth p) more = refl
 more_is_unsettled (phases.Signed p) more = absurd cc
@@ -99,3 +105,91 @@ more_is_unsettled (phases.Decided verdict) more = absurd cc
 more_is_unsettled (phases.Settled (Authentic kind alg payload taken)) more = absurd cc
 more_is_unsettled (phases.Settled (Refused refusal)) more = absurd cc
 more_is_unsettled (phases.Shaped p) more = absurd cc
+
+-- Before a message is settled, no byte of a detached payload is wanted.
+pub unsettled_wants_none : (phase : Phase) → is_settled phase ≡ false → payload_want_of phase ≡ 0
+unsettled_wants_none phases.FirstHead e = refl
+unsettled_wants_none (phases.TagHead p) e = refl
+unsettled_wants_none (phases.ArrayHead p) e = refl
+unsettled_wants_none (phases.ProtectedHead p) e = refl
+unsettled_wants_none (phases.Protected p) e = refl
+unsettled_wants_none (phases.Unprotected p) e = refl
+unsettled_wants_none (phases.PayloadHead p) e = refl
+unsettled_wants_none (phases.Payload p) e = refl
+unsettled_wants_none (phases.Detached p) e = absurd cc
+unsettled_wants_none (phases.AuthHead p) e = refl
+unsettled_wants_none (phases.Auth p) e = refl
+unsettled_wants_none (phases.Signed p) e = absurd cc
+unsettled_wants_none (phases.Decided verdict) e = absurd cc
+unsettled_wants_none (phases.Settled verdict) e = absurd cc
+unsettled_wants_none (phases.Shaped p) e = absurd cc
+
+-- A message that isn't settled ends where its bytes do.
+pub unsettled_ends : (phase : Phase) (n : ℕ) → is_settled phase ≡ false → ends_at phase n ≡ n
+unsettled_ends phases.FirstHead n e = refl
+unsettled_ends (phases.TagHead p) n e = refl
+unsettled_ends (phases.ArrayHead p) n e = refl
+unsettled_ends (phases.ProtectedHead p) n e = refl
+unsettled_ends (phases.Protected p) n e = refl
+unsettled_ends (phases.Unprotected p) n e = refl
+unsettled_ends (phases.PayloadHead p) n e = refl
+unsettled_ends (phases.Payload p) n e = refl
+unsettled_ends (phases.Detached p) n e = absurd cc
+unsettled_ends (phases.AuthHead p) n e = refl
+unsettled_ends (phases.Auth p) n e = refl
+unsettled_ends (phases.Signed p) n e = absurd cc
+unsettled_ends (phases.Decided verdict) n e = absurd cc
+unsettled_ends (phases.Settled verdict) n e = absurd cc
+unsettled_ends (phases.Shaped p) n e = absurd cc
+
+-- Where the status isn't that bytes of a detached payload are wanted, none are.
+pub none_wanted_else : (phase : Phase) → is_payload_next (status_at phase) ≡ false → payload_want_of phase ≡ 0
+none_wanted_else phases.FirstHead e = refl
+none_wanted_else (phases.TagHead p) e = refl
+none_wanted_else (phases.ArrayHead p) e = refl
+none_wanted_else (phases.ProtectedHead p) e = refl
+none_wanted_else (phases.Protected p) e = refl
+none_wanted_else (phases.Unprotected p) e = refl
+none_wanted_else (phases.PayloadHead p) e = refl
+none_wanted_else (phases.Payload p) e = refl
+none_wanted_else (phases.Detached p) e = absurd cc
+none_wanted_else (phases.AuthHead p) e = refl
+none_wanted_else (phases.Auth p) e = refl
+none_wanted_else (phases.Signed p) e = refl
+none_wanted_else (phases.Decided verdict) e = refl
+none_wanted_else (phases.Settled verdict) e = refl
+none_wanted_else (phases.Shaped p) e = refl
+
+pub unsettled_is_more : (phase : Phase) → is_settled phase ≡ false → status_at phase ≡ More
+unsettled_is_more phases.FirstHead e = refl
+unsettled_is_more (phases.TagHead p) e = refl
+unsettled_is_more (phases.ArrayHead p) e = refl
+unsettled_is_more (phases.ProtectedHead p) e = refl
+unsettled_is_more (phases.Protected p) e = refl
+unsettled_is_more (phases.Unprotected p) e = refl
+unsettled_is_more (phases.PayloadHead p) e = refl
+unsettled_is_more (phases.Payload p) e = refl
+unsettled_is_more (phases.Detached p) e = absurd cc
+unsettled_is_more (phases.AuthHead p) e = refl
+unsettled_is_more (phases.Auth p) e = refl
+unsettled_is_more (phases.Signed p) e = absurd cc
+unsettled_is_more (phases.Decided verdict) e = absurd cc
+unsettled_is_more (phases.Settled verdict) e = absurd cc
+unsettled_is_more (phases.Shaped p) e = absurd cc
+
+pub not_awaiting : (phase : Phase) → ((p : Detached) → phase ≡ phases.Detached p → ⊥) → payload_want_of phase ≡ 0
+not_awaiting phases.FirstHead none = refl
+not_awaiting (phases.TagHead p) none = refl
+not_awaiting (phases.ArrayHead p) none = refl
+not_awaiting (phases.ProtectedHead p) none = refl
+not_awaiting (phases.Protected p) none = refl
+not_awaiting (phases.Unprotected p) none = refl
+not_awaiting (phases.PayloadHead p) none = refl
+not_awaiting (phases.Payload p) none = refl
+not_awaiting (phases.Detached p) none = absurd (none p refl)
+not_awaiting (phases.AuthHead p) none = refl
+not_awaiting (phases.Auth p) none = refl
+not_awaiting (phases.Signed p) none = refl
+not_awaiting (phases.Decided verdict) none = refl
+not_awaiting (phases.Settled verdict) none = refl
+not_awaiting (phases.Shaped p) none = refl

@@ -29,9 +29,10 @@ use Rattle.cose_msg.specs.Answer.{Answer, complete, decided, shaped, Chosen, Hea
 use Rattle.cose_msg.specs.Front.{array_head_fault, past_array_head, array_head, kind_of_tag, past_tag, tag_behind_cwt, past_second_head, second_head, past_untagged, is_cwt_tag, is_tag, is_array, past_first_head}
 use Rattle.cose_msg.specs.Laws.{ComparingGoesLast, then_compared}
 use Rattle.cose_msg.specs.Message.{Setting, message, as_choice, compared, judged, key_choice_of, past_chosen, question_of, tag_of, uncompared, with_algorithm}
-use Rattle.cose_msg.specs.Phases.{nothing_told, protected_told, unprotected_told, headers_told, finish, auth, auth_head_fault, past_auth_head, auth_head, past_payload, payload, payload_head_fault, past_payload_head, payload_head, past_choice, key_choice, both_buckets, placed_at, headers_of, past_unprotected, unprotected, past_protected, protected, protected_head_fault, past_protected_head, protected_head}
-use Rattle.cose_msg.specs.Reading.{Told, Reading, Phase, Next, stop, cut, is_truncated, past_head, with_head, with_string, past_item, with_item, unless, unless_fault, with_value, open_after}
+use Rattle.cose_msg.specs.Phases.{nothing_told, protected_told, unprotected_told, headers_told, finish, auth, auth_head_fault, past_auth_head, auth_head, past_payload, payload, payload_head_fault, nil_fault_within, detached_payload, past_payload_head_from, past_payload_head, payload_head, past_choice, key_choice, both_buckets, placed_at, headers_of, past_unprotected, unprotected, past_protected, protected, protected_head_fault, past_protected_head, protected_head}
+use Rattle.cose_msg.specs.Reading.{Told, Reading, Phase, Next, awaits, stop, cut, is_truncated, past_head, with_head, with_string, past_item, with_item, unless, unless_fault, with_value, open_after}
 use Rattle.cose_msg.specs.Rules.{Rules}
+use Rattle.cose_msg.specs.Source.{Source, attached, detached}
 use Rattle.cose_msg.specs.Shown.{SignInput, SignaturesAreOfSign1, of_sign1, sign_input_in, signature_in, signed_with}
 
 module _ (rules : Rules) (ends : (w whole : Whole) → rules.finish w ≡ complete whole → w ≡ whole) where
@@ -91,9 +92,16 @@ module _ (rules : Rules) (ends : (w whole : Whole) → rules.finish w ≡ comple
   payload-picks : (headers : Headers) (chosen : Option Chosen) (n : ℕ) → rules.choice headers ≡ Ok chosen → Picks (payload rules headers chosen n)
   payload-picks headers chosen n is = with_string-picks (headers_told headers) n (past_payload rules headers chosen) (λ at B. auth_head-picks headers chosen B is)
 
+  detached_payload-picks : (headers : Headers) (chosen : Option Chosen) (came : List ℕ) (stated at : ℕ) → rules.choice headers ≡ Ok chosen → Picks (detached_payload rules headers chosen came stated at)
+  detached_payload-picks headers chosen came stated at is place bytes = choose-picks (nat_lt (length came) stated) (awaits (headers_told headers came) (stated - length came) at) (auth_head rules headers chosen (take stated came) place bytes) (λ whole e. absurd cc)
+      (auth_head-picks headers chosen (take stated came) is place bytes)
+
+  past_payload_head-picks : (source : Source) (headers : Headers) (chosen : Option Chosen) → rules.choice headers ≡ Ok chosen → (at : ℕ) (head : Head) → Picks (past_payload_head_from source rules headers chosen at head)
+  past_payload_head-picks attached headers chosen is at head = unless_fault-picks (headers_told headers []) at (payload_head_fault rules head) (payload rules headers chosen head.arg) (payload-picks headers chosen head.arg is)
+  past_payload_head-picks (detached came stated) headers chosen is at head = unless_fault-picks (headers_told headers []) at (nil_fault_within rules.payload_limit stated head) (detached_payload rules headers chosen came stated at) (detached_payload-picks headers chosen came stated at is)
+
   payload_head-picks : (headers : Headers) (chosen : Option Chosen) → rules.choice headers ≡ Ok chosen → Picks (payload_head rules headers chosen)
-  payload_head-picks headers chosen is = with_head-picks (headers_told headers []) (past_payload_head rules headers chosen)
-      (λ at head. unless_fault-picks (headers_told headers []) at (payload_head_fault rules head) (payload rules headers chosen head.arg) (payload-picks headers chosen head.arg is))
+  payload_head-picks headers chosen is = with_head-picks (headers_told headers []) (past_payload_head rules headers chosen) (λ at head. past_payload_head-picks rules.source headers chosen is at head)
 
   past_choice-picks : (headers : Headers) (found : Result (Option Chosen) Reason) → rules.choice headers ≡ found → Picks (past_choice rules headers found)
   past_choice-picks headers (Ok chosen) is = payload_head-picks headers chosen is

@@ -1,12 +1,13 @@
 -- Every phase of a message is sound: no refusal of a settled reading is Truncated, and no place of a reading is after
 -- the bytes.
-use Rattle.std.proofs.Common.{◌≡◌, ℕ, ◌+◌, ◌≤◌, ◌⊎◌, inl, inr, Bool, true, false, cond, List, [], ◌∷◌, length, Option, Some, None, Result, Ok, Err, refl, subst, arith}
-use Rattle.std.specs.Prelude.{◌≢◌, ◌==◌, ◌||◌, max, nat_lt, IfErr, IfSome}
+use Rattle.std.proofs.Common.{◌≡◌, ℕ, ◌+◌, ◌<◌, ◌≤◌, ◌⊎◌, inl, inr, Bool, true, false, cond, List, [], ◌∷◌, length, take, Option, Some, None, Result, Ok, Err, refl, subst, arith}
+use Rattle.std.specs.Prelude.{◌-◌, ◌≢◌, ◌==◌, ◌||◌, max, nat_lt, IfErr, IfSome}
+use Rattle.std.proofs.lemmas.Bool.{cases_lt, le-ltb, lt-ltb}
 use Rattle.cose_head.specs.declared.head.Head.{Head}
 use Rattle.cose_head.specs.declared.kind.Kind.{Kind}
 use Rattle.cose_head.specs.declared.kind.Kind.TheVariants as kinds
 use Rattle.cose_head.specs.declared.reason.Reason.{Reason}
-use Rattle.cose_head.specs.declared.reason.Reason.TheVariants.{Truncated, PastRoom, WrongTag, Encrypted, SeveralParties, NotFour, WrongType, Detached, BadAuthLength, PayloadTooLong, CwtTagAlone}
+use Rattle.cose_head.specs.declared.reason.Reason.TheVariants.{Truncated, PastRoom, WrongTag, Encrypted, SeveralParties, NotFour, WrongType, Detached, Attached, BadAuthLength, PayloadTooLong, CwtTagAlone}
 use Rattle.cose_head.specs.declared.refusal.Refusal.{Refusal}
 use Rattle.cose_map.specs.Bucket.{bucket_of}
 use Rattle.cose_map.specs.Laws.Inside.{PairsEndBy, BucketIsRefusedInside, BucketEndsInside, PairIsRefusedInside}
@@ -15,16 +16,17 @@ use Rattle.cose_map.specs.Bucket.Both.{pair_fault}
 use Rattle.cose_map.specs.Laws.Reasons.{BucketIsNotTruncated, PairIsNotTruncated, ChoiceIsNotTruncated}
 use Rattle.cose_msg.specs.declared.context.Wanted.{Wanted}
 use Rattle.cose_msg.specs.declared.context.Wanted.TheVariants as wants
-use Rattle.cose_msg.specs.Answer.{Chosen, Headers, Whole}
+use Rattle.cose_msg.specs.Answer.{refused, Chosen, Headers, Whole}
 use Rattle.cose_msg.specs.Front.{array_head_fault, past_array_head, array_head, wanted_kind, wants_kind, kind_of_tag, past_tag, tag_behind_cwt, past_second_head, second_head, past_untagged, is_cwt_tag, is_tag, is_array, past_first_head, first_head}
-use Rattle.cose_msg.specs.Laws.{AreFair, IsDefinite, MessageIsDefinite, OpenIsTruncated, MessageStandsInside}
+use Rattle.cose_msg.specs.Laws.{AreFair, IsDefinite, StandsBefore, MessageIsDefinite, OpenIsTruncated, MessageStandsInside}
 use Rattle.cose_msg.specs.Message.{message}
-use Rattle.cose_msg.specs.Phases.{nothing_told, protected_told, unprotected_told, headers_told, is_bytes_head, is_nil, is_too_long, finish, auth, auth_head_fault, past_auth_head, auth_head, past_payload, payload, payload_head_fault, past_payload_head, payload_head, past_choice, key_choice, both_buckets, placed_at, headers_of, past_unprotected, unprotected, past_protected, protected, protected_head_fault, past_protected_head, protected_head}
+use Rattle.cose_msg.specs.Phases.{nothing_told, protected_told, unprotected_told, headers_told, is_bytes_head, is_nil, is_too_long, finish, auth, auth_head_fault, past_auth_head, auth_head, past_payload, payload, payload_head_fault, nil_fault_within, detached_payload, past_payload_head_from, past_payload_head, payload_head, past_choice, key_choice, both_buckets, placed_at, headers_of, past_unprotected, unprotected, past_protected, protected, protected_head_fault, past_protected_head, protected_head}
 use Rattle.cose_msg.specs.Reading.{stop}
 use Rattle.cose_msg.specs.Rules.{Rules}
+use Rattle.cose_msg.specs.Source.{Source, attached, detached}
 use Rattle.cose_msg.proofs.Forms.{HeadLaws}
 use Rattle.cose_msg.proofs.Lawful.{message_ends_truncated}
-use Rattle.cose_msg.proofs.SoundForms.{Sound, stands_later, stop-sound, with_head-sound, with_string-sound, with_item-sound, unless_fault-sound, unless_at-sound, with_value-sound, choose-sound}
+use Rattle.cose_msg.proofs.SoundForms.{Sound, stands_later, stop-sound, awaits-sound, behind_head-sound, with_head-sound, with_string-sound, with_item-sound, unless_fault-sound, unless_at-sound, with_value-sound, choose-sound}
 
 -- The laws of buckets and keys that these proofs cite.
 pub record MapLaws : Type 0 where
@@ -66,6 +68,11 @@ payload_definite rules head =
     either (is_bytes_head head) (cond (is_too_long rules.payload_limit head.arg) (Some PayloadTooLong) None) (cond (is_nil head) (Some Detached) (Some WrongType)) (either (is_too_long rules.payload_limit head.arg) (Some PayloadTooLong) None (λ e. absurd cc) tt)
     (either (is_nil head) (Some Detached) (Some WrongType) (λ e. absurd cc) (λ e. absurd cc))
 
+nil_definite : (limit stated : ℕ) (head : Head) → Definite (nil_fault_within limit stated head)
+nil_definite limit stated head =
+    either (is_nil head) (cond (is_too_long limit stated) (Some PayloadTooLong) None) (cond (is_bytes_head head) (Some Attached) (Some WrongType)) (either (is_too_long limit stated) (Some PayloadTooLong) None (λ e. absurd cc) tt)
+    (either (is_bytes_head head) (Some Attached) (Some WrongType) (λ e. absurd cc) (λ e. absurd cc))
+
 protected_definite : (rules : Rules) (head : Head) → Definite (protected_head_fault rules head)
 protected_definite rules head = either (is_bytes_head head) (cond (nat_lt rules.room head.arg) (Some PastRoom) None) (Some WrongType) (either (nat_lt rules.room head.arg) (Some PastRoom) None (λ e. absurd cc) tt) (λ e. absurd cc)
 
@@ -91,7 +98,7 @@ module _ (laws : HeadLaws) (maps : MapLaws) (rules : Rules) (fair : AreFair rule
   finish-sound : (headers : Headers) (chosen : Option Chosen) (B : List ℕ) (auth_at at : ℕ) (tag : List ℕ) → auth_at ≤ at → Sound (at + length tag) (finish rules headers chosen B auth_at at tag)
   finish-sound headers chosen B auth_at at tag before place bytes le =
       let whole : Whole = record { headers = headers; chosen = chosen; payload = B; auth = tag; auth_at = auth_at; taken = place } in
-      record { inside = stands_later place (place + length bytes) (rules.finish whole) (omega arith) (fair.inside whole (omega arith)); definite = λ e. fair.definite whole }
+      record { inside = stands_later place (place + length bytes) (rules.finish whole) (omega arith) (fair.inside whole (omega arith)); definite = λ e none. fair.definite whole; before = λ some. absurd (omega (arith, some)) }
 
   auth-sound : (headers : Headers) (chosen : Option Chosen) (B : List ℕ) (auth_at n : ℕ) → Sound auth_at (auth rules headers chosen B auth_at n)
   auth-sound headers chosen B auth_at n = with_string-sound (λ bytes. headers_told headers B) n (finish rules headers chosen B auth_at) auth_at (finish-sound headers chosen B auth_at)
@@ -103,9 +110,22 @@ module _ (laws : HeadLaws) (maps : MapLaws) (rules : Rules) (fair : AreFair rule
   payload-sound : (headers : Headers) (chosen : Option Chosen) (n from : ℕ) → Sound from (payload rules headers chosen n)
   payload-sound headers chosen n from = with_string-sound (headers_told headers) n (past_payload rules headers chosen) from (λ at B le. auth_head-sound headers chosen B (at + length B))
 
+  detached_payload-sound : (headers : Headers) (chosen : Option Chosen) (came : List ℕ) (stated at : ℕ) → Sound (at + 1) (detached_payload rules headers chosen came stated at)
+  detached_payload-sound headers chosen came stated at place bytes le =
+      elim (cases_lt (length came) stated) [
+        | inl short ↦ rw (lt-ltb (length came) stated short) (awaits-sound (headers_told headers came) (stated - length came) at (place + length bytes) (omega (arith, short)) (omega (arith, le)))
+        | inr there ↦ rw (le-ltb (length came) stated there) (auth_head-sound headers chosen (take stated came) (at + 1) place bytes le)
+      ]
+
+  past_payload_head-sound : (source : Source) (headers : Headers) (chosen : Option Chosen) (at : ℕ) (head : Head) → Sound (at + 1) (past_payload_head_from source rules headers chosen at head)
+  past_payload_head-sound attached headers chosen at head =
+      unless_fault-sound (headers_told headers []) at (at + 1) (payload_head_fault rules head) (payload rules headers chosen head.arg) (omega arith) (payload_definite rules head) (payload-sound headers chosen head.arg (at + 1))
+  past_payload_head-sound (detached came stated) headers chosen at head =
+      unless_fault-sound (headers_told headers []) at (at + 1) (nil_fault_within rules.payload_limit stated head) (detached_payload rules headers chosen came stated at) (omega arith) (nil_definite rules.payload_limit stated head)
+      (detached_payload-sound headers chosen came stated at)
+
   payload_head-sound : (headers : Headers) (chosen : Option Chosen) (from : ℕ) → Sound from (payload_head rules headers chosen)
-  payload_head-sound headers chosen from = with_head-sound laws (headers_told headers []) (past_payload_head rules headers chosen) from
-      (λ at head. unless_fault-sound (headers_told headers []) at at (payload_head_fault rules head) (payload rules headers chosen head.arg) (omega arith) (payload_definite rules head) (payload-sound headers chosen head.arg at))
+  payload_head-sound headers chosen from = behind_head-sound laws (headers_told headers []) (past_payload_head rules headers chosen) from (λ at head. past_payload_head-sound rules.source headers chosen at head)
 
   past_choice-sound : (headers : Headers) (found : Result (Option Chosen) Reason) (from : ℕ) → IfErr found (λ reason. reason ≢ Truncated) → Sound from (past_choice rules headers found)
   past_choice-sound headers (Ok chosen) from definite = payload_head-sound headers chosen from
@@ -172,7 +192,7 @@ module _ (laws : HeadLaws) (maps : MapLaws) (rules : Rules) (fair : AreFair rule
 
 pub message_is_definite : HeadLaws → MapLaws → MessageIsDefinite
 unfolding message
-message_is_definite laws maps rules fair bytes done = (first_head-sound laws maps rules fair 0 bytes (omega arith)).definite done
+message_is_definite laws maps rules fair bytes done none = (first_head-sound laws maps rules fair 0 bytes (omega arith)).definite done none
 
 pub message_stands_inside : HeadLaws → MapLaws → MessageStandsInside
 unfolding message
@@ -182,8 +202,17 @@ open_unless : (b : Bool) → (b ≡ true → ⊥) → b ≡ false
 open_unless true h = absurd (h refl)
 open_unless false h = refl
 
+never_settled_there : HeadLaws → MapLaws → (rules : Rules) → AreFair rules → (bytes : List ℕ) → (message rules bytes).answer ≡ refused Truncated (length bytes) → (message rules bytes).settled ≡ true → ⊥
+unfolding message
+never_settled_there laws maps rules fair bytes is done =
+    let sound = first_head-sound laws maps rules fair 0 bytes (omega arith) in
+    elim (cases_lt 0 (message rules bytes).payload_wanted) [
+      | inl some ↦ (let before : length bytes < 0 + length bytes = subst (StandsBefore (0 + length bytes)) is (sound.before some) in omega (arith, before))
+      | inr none ↦ subst IsDefinite is (sound.definite done (omega (arith, none))) refl
+    ]
+
 pub open_is_truncated : HeadLaws → MapLaws → OpenIsTruncated
 open_is_truncated laws maps rules fair bytes = (
   message_ends_truncated laws rules bytes,
-  λ is. open_unless (message rules bytes).settled (λ done. subst IsDefinite is (message_is_definite laws maps rules fair bytes done) refl),
+  λ is. open_unless (message rules bytes).settled (never_settled_there laws maps rules fair bytes is),
 )

@@ -1,6 +1,6 @@
 -- The forms of a phase, once more: no refusal of a settled reading is Truncated, and no place of a reading is after the
 -- bytes.
-use Rattle.std.proofs.Common.{◌≡◌, ℕ, ◌+◌, ◌≤◌, inl, inr, Bool, true, false, cond, List, length, take, drop, Option, Some, None, Result, Ok, Err, refl, subst, arith, length-drop}
+use Rattle.std.proofs.Common.{◌≡◌, ℕ, ◌+◌, ◌<◌, ◌≤◌, inl, inr, Bool, true, false, cond, List, length, take, drop, Option, Some, None, Result, Ok, Err, refl, ap, subst, arith, length-drop}
 use Rattle.std.specs.Prelude.{max, ◌-◌, ◌≢◌, IfErr, IfSome}
 use Rattle.std.proofs.lemmas.Bool.{cases_lt, le-ltb, lt-ltb}
 use Rattle.std.proofs.lemmas.List.{length-take-le}
@@ -18,14 +18,15 @@ use Rattle.cose_head.specs.Measured.{left_of}
 use Rattle.cose_head.specs.Reading.{Outcome, read}
 use Rattle.cose_msg.specs.declared.verdict.Verdict.TheVariants.{Authentic, Refused}
 use Rattle.cose_msg.specs.Answer.{Answer, decided, complete, shaped}
-use Rattle.cose_msg.specs.Laws.{IsDefinite, StandsBy}
-use Rattle.cose_msg.specs.Reading.{Told, Reading, Phase, Next, stop, cut, past_head, with_head, with_string, is_truncated, past_item, with_item, unless, unless_fault, with_value, open_after}
+use Rattle.cose_msg.specs.Laws.{IsDefinite, StandsBefore, StandsBy}
+use Rattle.cose_msg.specs.Reading.{Told, Reading, Phase, Next, awaits, stop, cut, past_head, with_head, with_string, is_truncated, past_item, with_item, unless, unless_fault, with_value, open_after}
 use Rattle.cose_msg.proofs.Forms.{HeadLaws, head_there, item_there, not_truncated}
 
 -- The property of a reading of this many bytes.
 pub record IsSound (end : ℕ) (reading : Reading) : Type 0 where
   pub inside : StandsBy end reading.answer
-  pub definite : reading.settled ≡ true → IsDefinite reading.answer
+  pub definite : reading.settled ≡ true → reading.payload_wanted ≡ 0 → IsDefinite reading.answer
+  pub before : 0 < reading.payload_wanted → StandsBefore end reading.answer
 
 -- The property of a phase, at any place from this one on.
 abbrev pub Sound : ℕ → Phase → Type 0
@@ -41,24 +42,37 @@ sound_at : (n m : ℕ) (reading : Reading) → n ≡ m → IsSound n reading →
 sound_at n m reading same h = subst (λ (end : ℕ). IsSound end reading) same h
 
 cut-sound : (told : Told) (wanted end : ℕ) → IsSound end (cut told wanted end)
-cut-sound told wanted end = record { inside = omega arith; definite = λ e. absurd (let never : false ≡ true = e in cc) }
+cut-sound told wanted end = record { inside = omega arith; definite = λ e. absurd (let never : false ≡ true = e in cc); before = λ some. absurd (omega (arith, some)) }
 
 pub stop-sound : (told : Told) (reason : Reason) (place end : ℕ) → place ≤ end → reason ≢ Truncated → IsSound end (stop told reason place)
-stop-sound told reason place end le h = record { inside = le; definite = λ e. h }
+stop-sound told reason place end le h = record { inside = le; definite = λ e none. h; before = λ some. absurd (omega (arith, some)) }
+
+-- Bytes of a detached payload are missing, and the message goes on after its nil.
+pub awaits-sound : (told : Told) (missing place end : ℕ) → 0 < missing → place < end → IsSound end (awaits told missing place)
+awaits-sound told missing place end some lt = record { inside = omega (arith, lt); definite = λ e none. absurd (omega (arith, none, some)); before = λ e. lt }
 
 -- ---- a head
 
 module _ (laws : HeadLaws) where
-  past_head-sound : (told : Told) (next : Next Head) → ((at : ℕ) (head : Head) → Sound at (next at head)) → (place : ℕ) (bytes : List ℕ) (step : HeadStep) → bare_head bytes ≡ step → IsSound (place + length bytes) (past_head told next place bytes step)
+  head_some : (bytes : List ℕ) (head : Head) (used : ℕ) → bare_head bytes ≡ Got head used → 0 < used
+  head_some bytes head used e =
+      let spelled = (laws.spelled bytes head used).0 e in
+      omega (arith, spelled.ends, spelled.wide, ap length spelled.is_head.whole)
+
+  past_head-sound : (told : Told) (next : Next Head) → ((at : ℕ) (head : Head) → Sound (at + 1) (next at head)) → (place : ℕ) (bytes : List ℕ) (step : HeadStep) → bare_head bytes ≡ step → IsSound (place + length bytes) (past_head told next place bytes step)
   past_head-sound told next h place bytes (Got head used) e =
       let there : used ≤ length bytes = head_there laws bytes head used e in
-      sound_at (place + used + length (drop used bytes)) (place + length bytes) _ (omega (arith, there, length-drop used bytes)) (h place head (place + used) (drop used bytes) (omega arith))
+      sound_at (place + used + length (drop used bytes)) (place + length bytes) _ (omega (arith, there, length-drop used bytes)) (h place head (place + used) (drop used bytes) (omega (arith, head_some bytes head used e)))
   past_head-sound told next h place bytes (More wanted) e = cut-sound told 1 (place + length bytes)
   past_head-sound told next h place bytes (Fault reason) e = stop-sound told reason place (place + length bytes) (omega arith) (laws.faults bytes reason e)
 
-  pub with_head-sound : (told : Told) (next : Next Head) (from : ℕ) → ((at : ℕ) (head : Head) → Sound at (next at head)) → Sound from (with_head told next)
+  -- What follows a head is at a later place.
+  pub behind_head-sound : (told : Told) (next : Next Head) (from : ℕ) → ((at : ℕ) (head : Head) → Sound (at + 1) (next at head)) → Sound from (with_head told next)
   unfolding with_head
-  with_head-sound told next from h place bytes le = past_head-sound told next h place bytes (bare_head bytes) refl
+  behind_head-sound told next from h place bytes le = past_head-sound told next h place bytes (bare_head bytes) refl
+
+  pub with_head-sound : (told : Told) (next : Next Head) (from : ℕ) → ((at : ℕ) (head : Head) → Sound at (next at head)) → Sound from (with_head told next)
+  with_head-sound told next from h = behind_head-sound told next from (λ at head place bytes le. h at head place bytes (omega (arith, le)))
 
 -- ---- a string
 

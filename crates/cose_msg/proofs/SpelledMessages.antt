@@ -1,24 +1,54 @@
 -- A message that is spelled by the grammar is read as what it is, phase by phase, the last first.
-use Rattle.std.proofs.Common.{◌≡◌, ℕ, ◌+◌, ◌-◌, ◌≤◌, Bool, true, false, List, [], ◌++◌, length, Option, None, refl, sym, ap, subst, ◌∙◌, append_assoc, arith, length-append, zero-add}
+use Rattle.std.proofs.Common.{◌≡◌, ℕ, ◌+◌, ◌-◌, ◌≤◌, Bool, true, false, cond, List, [], ◌++◌, length, inl, inr, Option, None, refl, sym, ap, subst, ◌∙◌, append_assoc, arith, length-append, zero-add}
 use Rattle.std.specs.Prelude.{◌&&◌, Ok}
 use Rattle.std.proofs.lemmas.Bool.{le-ltb}
-use Rattle.std.proofs.lemmas.List.{append-nil}
+use Rattle.std.proofs.lemmas.List.{append-nil, drop_at, length-take-le}
 use Rattle.cose_head.specs.declared.kind.Kind.{Kind}
 use Rattle.cose_head.specs.declared.kind.Kind.TheVariants as kinds
-use Rattle.cose_head.specs.Item.{Item, byte_string, no_items, item, tag, depth_of, Begins, Spells, SpellsAll}
+use Rattle.cose_head.specs.declared.head.Head.{Head}
+use Rattle.cose_head.specs.declared.head.HeadStep.TheVariants.{Got}
+use Rattle.cose_head.specs.Head.{bare_head}
+use Rattle.cose_head.specs.Item.{Item, byte_string, simple, no_items, item, tag, depth_of, Begins, Spells, SpellsAll}
 use Rattle.cose_map.specs.Bucket.{bucket_of}
 use Rattle.cose_map.specs.Bucket.Both.{pair_fault}
 use Rattle.cose_msg.specs.declared.context.Wanted.{Wanted}
 use Rattle.cose_msg.specs.declared.context.Wanted.TheVariants as wants
 use Rattle.cose_msg.specs.Answer.{Chosen, Headers, Whole}
-use Rattle.cose_msg.specs.Front.{wants_kind, array_head, past_array_head, kind_of_tag, past_tag, past_second_head, second_head, past_untagged, past_first_head, first_head}
-use Rattle.cose_msg.specs.Grammar.{tag_number, is_untagged, IsArrayOfFour, IsFront, untagged, tagged, in_cwt, Spellings, protected_at, unprotected_at, payload_at, auth_at, IsMessage, four_elements, SpellsMessage, bare, in_tag, in_cwt_tag}
+use Rattle.cose_msg.specs.Front.{wants_kind, array_head, past_array_head, kind_of_tag, past_tag, past_second_head, second_head, past_untagged, is_cwt_tag, past_first_head, first_head}
+use Rattle.cose_msg.specs.Grammar.{tag_number, is_untagged, IsArrayOfFour, IsFront, untagged, tagged, in_cwt, Spellings, protected_at, unprotected_at, payload_at, auth_at, IsMessage, HasCome, payload_element, four_elements, SpellsMessage, bare, in_tag, in_cwt_tag}
 use Rattle.cose_msg.specs.Message.{message}
-use Rattle.cose_msg.specs.Phases.{nothing_told, unprotected_told, headers_told, finish, auth_head, auth_head_fault, past_payload, payload_head, payload_head_fault, is_too_long, both_buckets, placed_at, past_unprotected, unprotected, past_protected, protected_head, protected_head_fault}
-use Rattle.cose_msg.specs.Reading.{Phase, settled}
+use Rattle.cose_msg.specs.Phases.{nothing_told, unprotected_told, headers_told, finish, auth_head, auth_head_fault, past_payload, payload_head, payload_head_fault, past_payload_head_from, detached_payload, is_too_long, both_buckets, placed_at, past_unprotected, unprotected, past_protected, protected_head, protected_head_fault}
+use Rattle.cose_msg.specs.Reading.{Told, Reading, Phase, Next, settled, with_head}
 use Rattle.cose_msg.specs.Rules.{Rules}
+use Rattle.cose_msg.specs.Source.{Source, attached, detached}
 use Rattle.cose_msg.proofs.Spellings.{all_apart, spelled_length}
 use Rattle.cose_msg.proofs.Spelled.{SpellingLaws, head_of_width, head_read, item_read, byte_string_read}
+
+first_of : (b : Bool) (x y : Reading) → b ≡ true → cond b x y ≡ x
+first_of b x y e = rw e refl
+
+-- nil is spelled in one byte, and read (RFC 8949 section 3.3).
+nil_is_short : (string : List ℕ) → Spells string (simple 22) → length string ≡ 1
+unfolding Spells
+nil_is_short string spelled = elim spelled.1 [ inl one ↦ one | inr two ↦ absurd (omega (arith, two.1)) ]
+
+nil_found : SpellingLaws → (string more : List ℕ) → Spells string (simple 22) → bare_head (string ++ more) ≡ Got (head_of_width 7 22 1) 1
+unfolding Spells
+nil_found laws string more spelled = (laws.head (string ++ more) (head_of_width 7 22 1) 1).1 (record {
+  part = string;
+  rest = more;
+  whole = refl;
+  is_head = spelled.0;
+  wide = nil_is_short string spelled;
+  ends = refl;
+  good = refl;
+})
+
+nil_read : SpellingLaws → (told : Told) (next : Next Head) (place : ℕ) (string more : List ℕ) → Spells string (simple 22) → with_head told next place (string ++ more) ≡ next place (head_of_width 7 22 1) (place + length string) more
+unfolding with_head
+nil_read laws told next place string more spelled =
+    let one : length string ≡ 1 = nil_is_short string spelled in
+    rw (nil_found laws string more spelled, drop_at string more 1 one, one) refl
 
 module _ (laws : SpellingLaws) (rules : Rules) where
   -- ---- the elements, from the last one on
@@ -35,10 +65,19 @@ module _ (laws : SpellingLaws) (rules : Rules) where
   auth_read headers chosen payload auth place string more spelled fits =
       byte_string_read laws (headers_told headers payload) (auth_head_fault rules chosen) (λ at bytes. headers_told headers payload) (finish rules headers chosen payload) place string auth more spelled (λ width. rw fits refl)
 
-  payload_read : (headers : Headers) (chosen : Option Chosen) (payload : List ℕ) (place : ℕ) (string more : List ℕ) → Spells string (byte_string payload) → is_too_long rules.payload_limit (length payload) ≡ false
-      → payload_head rules headers chosen place (string ++ more) ≡ auth_head rules headers chosen payload (place + length string) more
-  payload_read headers chosen payload place string more spelled fits =
+  payload_read_from : (source : Source) (headers : Headers) (chosen : Option Chosen) (payload : List ℕ) (place : ℕ) (string more : List ℕ) → Spells string (payload_element source payload) → HasCome source payload → is_too_long rules.payload_limit (length payload) ≡ false
+      → with_head (headers_told headers []) (past_payload_head_from source rules headers chosen) place (string ++ more) ≡ auth_head rules headers chosen payload (place + length string) more
+  payload_read_from (detached came stated) headers chosen payload place string more spelled come fits =
+      let long : length payload ≡ stated = ap length come.1 ∙ length-take-le stated came come.0 in
+      let short : is_too_long rules.payload_limit stated ≡ false = ap (is_too_long rules.payload_limit) (sym long) ∙ fits in
+      nil_read laws (headers_told headers []) (past_payload_head_from (detached came stated) rules headers chosen) place string more spelled
+      ∙ rw (short, le-ltb (length came) stated come.0, ← come.1) refl
+  payload_read_from attached headers chosen payload place string more spelled come fits =
       byte_string_read laws (headers_told headers []) (payload_head_fault rules) (λ at bytes. headers_told headers bytes) (λ at. past_payload rules headers chosen) place string payload more spelled (λ width. rw fits refl)
+
+  payload_read : (headers : Headers) (chosen : Option Chosen) (payload : List ℕ) (place : ℕ) (string more : List ℕ) → Spells string (payload_element rules.source payload) → HasCome rules.source payload → is_too_long rules.payload_limit (length payload) ≡ false
+      → payload_head rules headers chosen place (string ++ more) ≡ auth_head rules headers chosen payload (place + length string) more
+  payload_read headers chosen payload place string more spelled come fits = payload_read_from rules.source headers chosen payload place string more spelled come fits
 
   -- Both buckets are good together, and there is the key.
   headers_read : (headers : Headers) (chosen : Option Chosen) (place : ℕ) (more : List ℕ) → pair_fault headers.protected_pairs headers.unprotected_pairs rules.understood place ≡ None → rules.choice headers ≡ Ok chosen
@@ -108,6 +147,9 @@ module _ (laws : SpellingLaws) (rules : Rules) where
       ∙ (array_behind_tag kind place (place + length b.head) b.rest more wanted b.is_rest
       ∙ ends_at kind place front b.head b.rest more b.whole))
 
+  past_cwt_tag : rules.cwt ≡ true → (at width place : ℕ) (more : List ℕ) → past_first_head rules at (head_of_width 6 61 width) place more ≡ second_head rules place more
+  past_cwt_tag admitted at width place more = first_of (is_cwt_tag rules.cwt (head_of_width 6 61 width)) (second_head rules place more) _ (ap (λ (cwt : Bool). is_cwt_tag cwt (head_of_width 6 61 width)) admitted)
+
   front_read : (kind : Kind) (place : ℕ) (front more : List ℕ) → IsFront rules kind front → first_head rules place (front ++ more) ≡ protected_head rules kind (place + length front) more
   front_read kind place front more (untagged wanted is) =
       head_read laws nothing_told (past_first_head rules) place 4 4 front more refl is
@@ -116,8 +158,9 @@ module _ (laws : SpellingLaws) (rules : Rules) where
   front_read kind place front more (in_cwt admitted wanted begins) =
       apart (first_head rules) place front begins.head begins.rest more begins.whole
       ∙ (head_read laws nothing_told (past_first_head rules) place 6 61 begins.head (begins.rest ++ more) refl begins.is_head
-      ∙ (rw admitted (tagged_second kind (place + length begins.head) begins.rest more wanted begins.is_rest)
-      ∙ ends_at kind place front begins.head begins.rest more begins.whole))
+      ∙ (past_cwt_tag admitted place (length begins.head) (place + length begins.head) (begins.rest ++ more)
+      ∙ (tagged_second kind (place + length begins.head) begins.rest more wanted begins.is_rest
+      ∙ ends_at kind place front begins.head begins.rest more begins.whole)))
 
   -- ---- the message
 
@@ -135,7 +178,7 @@ module _ (laws : SpellingLaws) (rules : Rules) where
       protected_read headers (protected_at s) s.protected (s.unprotected ++ (s.payload ++ (s.auth ++ more))) m.protected m.protected_fits m.protected_read
       ∙ (unprotected_read headers (unprotected_at s) m.bucket s.unprotected (s.payload ++ (s.auth ++ more)) m.unprotected m.unprotected_fits m.unprotected_nests m.unprotected_read
       ∙ (headers_read headers whole.chosen (payload_at s) (s.payload ++ (s.auth ++ more)) m.together m.chosen
-      ∙ (payload_read headers whole.chosen whole.payload (payload_at s) s.payload (s.auth ++ more) m.payload m.payload_fits
+      ∙ (payload_read headers whole.chosen whole.payload (payload_at s) s.payload (s.auth ++ more) m.payload m.payload_comes m.payload_fits
       ∙ auth_read headers whole.chosen whole.payload whole.auth (auth_at s) s.auth more m.auth m.auth_fits)))
 
   pub message_read : (bytes more : List ℕ) (whole : Whole) → IsMessage rules bytes whole → message rules (bytes ++ more) ≡ settled (headers_told whole.headers whole.payload) (rules.finish whole)
@@ -162,8 +205,8 @@ module _ (laws : SpellingLaws) (rules : Rules) where
 -- ---- as one item
 
 -- The four elements of an array, one after another.
-elements_spelled : (s : Spellings) (protected : List ℕ) (bucket : Item) (payload auth : List ℕ) → Spells s.protected (byte_string protected) → Spells s.unprotected bucket → Spells s.payload (byte_string payload) → Spells s.auth (byte_string auth)
-    → SpellsAll (s.protected ++ (s.unprotected ++ (s.payload ++ s.auth))) (item (byte_string protected) (item bucket (item (byte_string payload) (item (byte_string auth) no_items))))
+elements_spelled : (s : Spellings) (protected : List ℕ) (bucket payload : Item) (auth : List ℕ) → Spells s.protected (byte_string protected) → Spells s.unprotected bucket → Spells s.payload payload → Spells s.auth (byte_string auth)
+    → SpellsAll (s.protected ++ (s.unprotected ++ (s.payload ++ s.auth))) (item (byte_string protected) (item bucket (item payload (item (byte_string auth) no_items))))
 unfolding SpellsAll
 elements_spelled s protected bucket payload auth first second third fourth = (
   s.protected,
@@ -185,7 +228,7 @@ elements_spelled s protected bucket payload auth first second third fourth = (
   ),
 )
 
-array_spelled : (front rest protected : List ℕ) (bucket : Item) (payload auth : List ℕ) → IsArrayOfFour front → SpellsAll rest (item (byte_string protected) (item bucket (item (byte_string payload) (item (byte_string auth) no_items))))
+array_spelled : (front rest protected : List ℕ) (bucket payload : Item) (auth : List ℕ) → IsArrayOfFour front → SpellsAll rest (item (byte_string protected) (item bucket (item payload (item (byte_string auth) no_items))))
     → Spells (front ++ rest) (four_elements protected bucket payload auth)
 unfolding Spells
 array_spelled front rest protected bucket payload auth is elements = record { head = front; rest = rest; whole = refl; is_head = is; is_rest = elements }
@@ -207,12 +250,13 @@ front_spelled rules kind front rest elements array (in_cwt admitted wanted begin
     in_cwt_tag (tag_spelled 61 front rest (tag (tag_number kind) elements) (λ inner. Begins inner 6 (tag_number kind) IsArrayOfFour) begins
     (λ inner tagged. tag_spelled (tag_number kind) inner rest elements IsArrayOfFour tagged array))
 
-pub message_is_array_of_four : (rules : Rules) (bytes : List ℕ) (whole : Whole) (m : IsMessage rules bytes whole) → SpellsMessage bytes whole.headers.kind (four_elements whole.headers.protected m.bucket whole.payload whole.auth)
+pub message_is_array_of_four : (rules : Rules) (bytes : List ℕ) (whole : Whole) (m : IsMessage rules bytes whole) → SpellsMessage bytes whole.headers.kind (four_elements whole.headers.protected m.bucket (payload_element rules.source whole.payload) whole.auth)
 message_is_array_of_four rules bytes whole m =
+    let payload : Item = payload_element rules.source whole.payload in
     let s = m.spelled in
     let rest : List ℕ = s.protected ++ (s.unprotected ++ (s.payload ++ s.auth)) in
-    let elements : Item = four_elements whole.headers.protected m.bucket whole.payload whole.auth in
-    let all = elements_spelled s whole.headers.protected m.bucket whole.payload whole.auth m.protected m.unprotected m.payload m.auth in
+    let elements : Item = four_elements whole.headers.protected m.bucket payload whole.auth in
+    let all = elements_spelled s whole.headers.protected m.bucket payload whole.auth m.protected m.unprotected m.payload m.auth in
     let spelled : SpellsMessage (s.front ++ rest) whole.headers.kind elements =
-    front_spelled rules whole.headers.kind s.front rest elements (λ array is. array_spelled array rest whole.headers.protected m.bucket whole.payload whole.auth is all) m.front in
+    front_spelled rules whole.headers.kind s.front rest elements (λ array is. array_spelled array rest whole.headers.protected m.bucket payload whole.auth is all) m.front in
     subst (λ (bytes : List ℕ). SpellsMessage bytes whole.headers.kind elements) (sym m.is) spelled

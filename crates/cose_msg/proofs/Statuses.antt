@@ -1,43 +1,51 @@
 -- The status of a verifier is that of the bytes that it has taken.
-use Rattle.std.proofs.Common.{◌≡◌, ℕ, Bool, true, false, cond, List, [], ◌++◌, Option, Some, Result, Ok, refl, sym, ap, ◌∙◌}
+use Rattle.std.proofs.Common.{◌≡◌, ◌⊎◌, inl, inr, ℕ, Bool, true, false, cond, List, [], ◌++◌, Option, Some, Result, Ok, refl, sym, ap, ◌∙◌, arith}
+use Rattle.std.specs.Prelude.{◌<◌}
+use Rattle.std.proofs.lemmas.Bool.{lt-ltb}
 use Rattle.cose_msg.specs.declared.phase.Phase.{Phase}
 use Rattle.cose_msg.specs.declared.phase.Phase.TheVariants as phases
 use Rattle.cose_msg.specs.declared.status.Status.{Status}
-use Rattle.cose_msg.specs.declared.status.Status.TheVariants.{Complete, More, Refused, Stopped}
+use Rattle.cose_msg.specs.declared.status.Status.TheVariants.{Complete, More, PayloadNext, Refused, Stopped}
 use Rattle.cose_msg.specs.declared.verdict.Stop.{Stop}
 use Rattle.cose_msg.specs.declared.reader.Reader.{Reader}
 use Rattle.cose_msg.specs.declared.verifier.Verifier.{Verifier}
 use Rattle.cose_msg.specs.Kept.{HasTaken, answer_kept}
 use Rattle.cose_msg.specs.Message.{message}
-use Rattle.cose_msg.specs.Phase.{is_settled}
+use Rattle.cose_msg.specs.Phase.{is_settled, payload_want_of}
 use Rattle.cose_msg.specs.Reading.{Reading, Told}
-use Rattle.cose_msg.specs.Status.{is_complete, status_at, status_in, status_left, status_of, status_of_answer}
+use Rattle.cose_msg.specs.Status.{is_complete, is_open, status_at, status_in, status_left, status_of, status_of_answer}
 use Rattle.cose_msg.specs.Task.{Task, rules_of}
 use Rattle.cose_msg.specs.Reader.{HoldsIn, Known, StandsFor, left_in}
+use Rattle.cose_msg.proofs.Decisions.{IsDone}
 use Rattle.cose_msg.proofs.Runs.{IsKept, kept_by, without_more}
 
-open_status : (reading : Reading) → reading.settled ≡ false → More ≡ status_of reading
-open_status reading e = rw e refl
+open_status : (reading : Reading) → reading.settled ≡ false → reading.payload_wanted ≡ 0 → More ≡ status_of reading
+open_status reading e none = rw (none, e) refl
+
+-- Bytes of a detached payload are wanted.
+awaiting_status : (reading : Reading) (missing : ℕ) → reading.payload_wanted ≡ missing → 0 < missing → PayloadNext ≡ status_of reading
+awaiting_status reading missing e some = rw (e, lt-ltb 0 missing some) refl
 
 module _ {H D : ℕ} (task : Task) (known : Known) (told : Told) (n : ℕ) (v : Reader H D) where
-  status_here : (phase : Phase) (reading : Reading) → HoldsIn task known told n v phase → reading ≡ left_in (rules_of H D task) known told v phase [] → reading.settled ≡ is_settled phase → status_at phase ≡ status_of reading
-  status_here phases.FirstHead reading h e same = open_status reading same
-  status_here (phases.TagHead p) reading h e same = open_status reading same
-  status_here (phases.ArrayHead p) reading h e same = open_status reading same
-  status_here (phases.ProtectedHead p) reading h e same = open_status reading same
-  status_here (phases.Protected p) reading h e same = open_status reading same
-  status_here (phases.Unprotected p) reading h e same = open_status reading same
-  status_here (phases.PayloadHead p) reading h e same = open_status reading same
-  status_here (phases.Payload p) reading h e same = open_status reading same
-  status_here (phases.AuthHead p) reading h e same = open_status reading same
-  status_here (phases.Auth p) reading h e same = open_status reading same
-  status_here (phases.Signed p) reading h e same = sym (ap status_of e)
-  status_here (phases.Decided verdict) reading h e same = absurd h
-  status_here (phases.Settled verdict) reading h e same = sym (ap status_of e)
-  status_here (phases.Shaped p) reading h e same = sym (ap status_of e)
+  status_here : (phase : Phase) (reading : Reading) → HoldsIn task known told n v phase → reading ≡ left_in (rules_of H D task) known told v phase [] → reading.settled ≡ is_settled phase → reading.payload_wanted ≡ payload_want_of phase → status_at phase ≡ status_of reading
+  status_here phases.FirstHead reading h e same none = open_status reading same none
+  status_here (phases.TagHead p) reading h e same none = open_status reading same none
+  status_here (phases.ArrayHead p) reading h e same none = open_status reading same none
+  status_here (phases.ProtectedHead p) reading h e same none = open_status reading same none
+  status_here (phases.Protected p) reading h e same none = open_status reading same none
+  status_here (phases.Unprotected p) reading h e same none = open_status reading same none
+  status_here (phases.PayloadHead p) reading h e same none = open_status reading same none
+  status_here (phases.Payload p) reading h e same none = open_status reading same none
+  status_here (phases.Detached p) reading h e same none = awaiting_status reading p.left none p.some_left
+  status_here (phases.AuthHead p) reading h e same none = open_status reading same none
+  status_here (phases.Auth p) reading h e same none = open_status reading same none
+  status_here (phases.Signed p) reading h e same none = sym (ap status_of e)
+  status_here (phases.Decided verdict) reading h e same none = absurd h
+  status_here (phases.Settled verdict) reading h e same none = sym (ap status_of e)
+  status_here (phases.Shaped p) reading h e same none = sym (ap status_of e)
 
-pub stands_status : {H D : ℕ} {task : Task} {B : List ℕ} {n : ℕ} {v : Reader H D} {reading : List ℕ → Reading} → StandsFor task B n v reading → (reading []).settled ≡ is_settled v.phase → status_at v.phase ≡ status_of (reading [])
-stands_status {H} {D} {task} {B} {n} {v} {reading} h same = status_here task h.known h.told n v v.phase (reading []) h.holds (h.left []) same
+pub stands_status : {H D : ℕ} {task : Task} {B : List ℕ} {n : ℕ} {v : Reader H D} {reading : List ℕ → Reading} → StandsFor task B n v reading → (reading []).settled ≡ is_settled v.phase → (reading []).payload_wanted ≡ payload_want_of v.phase → status_at v.phase ≡ status_of (reading [])
+stands_status {H} {D} {task} {B} {n} {v} {reading} h same none = status_here task h.known h.told n v v.phase (reading []) h.holds (h.left []) same none
 
 -- The status of the phase is that of all bytes that were taken.
 pub status_reads : {H D : ℕ} {S : Type 0} {K : _} {task : Task} {s B : List ℕ} {v : Verifier H D S K} {said : Status} → HasTaken task s B v → status_at v.reader.phase ≡ status_of (message (rules_of H D task) (s ++ [])) → status_at v.reader.phase ≡ said → said ≡ status_of (message (rules_of H D task) s)
@@ -56,9 +64,31 @@ pub more_unless_stopped : (stopped : Bool) (said : Status) → cond stopped Stop
 more_unless_stopped true said e = absurd cc
 more_unless_stopped false said e = e
 
+-- Where bytes are wanted, of the message or of its payload, the verifier hasn't stopped.
+pub either_is_open : (said : Status) → (said ≡ More) ⊎ (said ≡ PayloadNext) → is_open said ≡ true
+either_is_open said e = elim e [ inl more ↦ ap is_open more | inr payload ↦ ap is_open payload ]
+
+pub open_goes_on : (stopped : Bool) (said : Status) → is_open (cond stopped Stopped said) ≡ true → stopped ≡ false
+open_goes_on true said e = absurd cc
+open_goes_on false said e = refl
+
+pub open_unless_stopped : (stopped : Bool) (said : Status) → is_open (cond stopped Stopped said) ≡ true → is_open said ≡ true
+open_unless_stopped true said e = absurd cc
+open_unless_stopped false said e = e
+
+-- How many bytes of a payload are wanted, where some are, and where none are.
+pub some_wanted : (stopped : Bool) (wanted : ℕ) → 0 < cond stopped 0 wanted → cond stopped 0 wanted ≡ wanted
+some_wanted true wanted some = absurd (omega (arith, some))
+some_wanted false wanted some = refl
+
+pub none_wanted : (stopped : Bool) (wanted : ℕ) → wanted ≡ 0 → cond stopped 0 wanted ≡ 0
+none_wanted true wanted none = refl
+none_wanted false wanted none = none
+
 complete_is : (said : Status) → is_complete said ≡ true → said ≡ Complete
 complete_is Complete e = refl
 complete_is More e = absurd cc
+complete_is PayloadNext e = absurd cc
 complete_is Stopped e = absurd cc
 complete_is (Refused refusal) e = absurd cc
 
@@ -67,15 +97,15 @@ complete_stays true said goes_on e = absurd cc
 complete_stays false said goes_on e = complete_is said e
 
 -- The status of a settled message is that of its answer.
-pub settled_status : (reading : Reading) (said : Status) → said ≡ status_of reading → reading.settled ≡ true → said ≡ status_of_answer reading.answer
-settled_status reading said e done = e ∙ rw done refl
+pub settled_status : (reading : Reading) (said : Status) → said ≡ status_of reading → IsDone reading → said ≡ status_of_answer reading.answer
+settled_status reading said e done = e ∙ rw (done.1, done.0) refl
 
 pub status_going : {H D : ℕ} {S : Type 0} {K : _} (v : Verifier H D S K) (said : Status) → v.stopped ≡ false → status_at v.reader.phase ≡ said → status_in v ≡ said
 status_going v said goes_on e = rw goes_on e
 
 -- ---- the status after a run
 
-pub left_by_kept : {A : Type 0} {H D : ℕ} {S : Type 0} {K : _} {task : Task} {s B : List ℕ} {v : Verifier H D S K} (answer : Option A) (result : Result A Stop) → HasTaken task s B v → status_at v.reader.phase ≡ status_of (message (rules_of H D task) (s ++ [])) → (message (rules_of H D task) (s ++ [])).settled ≡ true →
+pub left_by_kept : {A : Type 0} {H D : ℕ} {S : Type 0} {K : _} {task : Task} {s B : List ℕ} {v : Verifier H D S K} (answer : Option A) (result : Result A Stop) → HasTaken task s B v → status_at v.reader.phase ≡ status_of (message (rules_of H D task) (s ++ [])) → IsDone (message (rules_of H D task) (s ++ [])) →
     answer_kept v.stopped answer ≡ Some result → status_in v ≡ status_left result (message (rules_of H D task) s)
 left_by_kept {A} {H} {D} {S} {K} {task} {s} {B} {v} answer result h same done kept =
     let going : answer_kept false answer ≡ Some result = rw h.goes_on at kept in

@@ -114,6 +114,7 @@ grown_by_byte (phases.Protected p) B part e = refl
 grown_by_byte (phases.Unprotected p) B part e = refl
 grown_by_byte (phases.PayloadHead p) B part e = refl
 grown_by_byte (phases.Payload p) B part e = absurd cc
+grown_by_byte (phases.Detached p) B part e = absurd cc
 grown_by_byte (phases.AuthHead p) B part e = refl
 grown_by_byte (phases.Auth p) B part e = refl
 grown_by_byte (phases.Signed p) B part e = refl

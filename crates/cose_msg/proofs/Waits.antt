@@ -1,5 +1,5 @@
 -- Fewer bytes than are wanted leave a message unsettled.
-use Rattle.std.proofs.Common.{◌≡◌, ℕ, ◌+◌, ◌<◌, ◌≤◌, Bool, true, false, List, [], ◌∷◌, ◌++◌, length, refl, sym, ap, subst, ◌∙◌, arith, length-append, inl, inr}
+use Rattle.std.proofs.Common.{◌≡◌, ℕ, ◌+◌, ◌<◌, ◌≤◌, Bool, true, false, List, [], ◌∷◌, ◌++◌, length, Option, refl, sym, ap, subst, ◌∙◌, arith, length-append, inl, inr}
 use Rattle.std.specs.Prelude.{nat_lt, ◌-◌}
 use Rattle.std.proofs.lemmas.Bool.{lt-ltb, cases_lt}
 use Rattle.std.proofs.lemmas.List.{append-nil}
@@ -11,17 +11,21 @@ use Rattle.cose_head.specs.Head.{IsMore, bare_head}
 use Rattle.cose_head.specs.Measured.{left_of}
 use Rattle.cose_head.specs.Reading.{read, refuse}
 use Rattle.cose_head.specs.Walker.{HasPut}
+use Rattle.cose_msg.specs.declared.phase.Detached.{Detached}
 use Rattle.cose_msg.specs.declared.phase.Payload.{Payload}
 use Rattle.cose_msg.specs.declared.phase.Phase.{Phase}
 use Rattle.cose_msg.specs.declared.phase.Phase.TheVariants as phases
 use Rattle.cose_msg.specs.declared.reader.Reader.{Reader}
-use Rattle.cose_msg.specs.Answer.{Answer, refused}
+use Rattle.cose_msg.specs.Answer.{Answer, Chosen, Headers, refused}
 use Rattle.cose_msg.specs.Front.{past_array_head, past_first_head, past_second_head}
-use Rattle.cose_msg.specs.Phase.{in_payload, is_settled, want_of}
+use Rattle.cose_msg.specs.Phase.{in_payload, is_settled, payload_want_of, want_of}
 use Rattle.cose_msg.specs.Phases.{nothing_told, unprotected_told, headers_told, finish, past_auth_head, past_payload, past_payload_head, past_protected, past_protected_head, past_unprotected}
-use Rattle.cose_msg.specs.Reading.{Next, Reading, Told, cut, settled, past_head, open_items_after, wanted_after, with_head, with_item, with_string}
-use Rattle.cose_msg.specs.Task.{Task, rules_of}
-use Rattle.cose_msg.specs.Reader.{HoldsHead, HoldsIn, Known, StandsFor, left_in}
+use Rattle.cose_msg.specs.Reading.{Next, Reading, Told, awaits, cut, settled, past_head, open_items_after, wanted_after, with_head, with_item, with_string}
+use Rattle.cose_msg.specs.Rules.{Rules}
+use Rattle.cose_msg.specs.Source.{Source, detached, with_came}
+use Rattle.cose_msg.specs.Task.{Task, given_to, rules_of}
+use Rattle.cose_msg.specs.Reader.{HoldsHead, HoldsIn, Known, StandsFor, left_in, past_nil}
+use Rattle.cose_msg.proofs.PhaseCases.{unsettled_wants_none}
 use Rattle.cose_msg.proofs.Steps.{string_whole}
 
 -- ---- the forms
@@ -63,6 +67,14 @@ abbrev pub ItemWaits : {H D : ℕ} → Reader H D → Type 0
 ItemWaits {H} {D} v = HasPut H v.unprotected.items v.walker → (more : List ℕ) → length more < wanted_after H D v.unprotected.items →
     read D (left_of (v.unprotected.items ++ more) H 0) ≡ refuse Truncated (length (v.unprotected.items ++ more))
 
+-- After the nil of a detached payload, of which bytes are missing.
+pub nil_awaits : (source : Source) (rules : Rules) (headers : Headers) (chosen : Option Chosen) (B : List ℕ) (stated left at after : ℕ) (z : List ℕ) → source ≡ detached B stated → length B + left ≡ stated → 0 < left
+    → past_nil source rules headers chosen at after z ≡ awaits (headers_told headers B) left at
+nil_awaits source rules headers chosen B stated left at after z is count some =
+    let short : nat_lt (length B) stated ≡ true = lt-ltb (length B) stated (omega (arith, count, some)) in
+    let missing : stated - length B ≡ left = omega (arith, count) in
+    rw (is, short, missing) refl
+
 module _ {H D : ℕ} (task : Task) (known : Known) (told : Told) (n : ℕ) (v : Reader H D) (waits : ItemWaits v) where
   -- A phase at the bytes that are held of it.
   unfoldable pub here : Phase → List ℕ → Reading
@@ -70,7 +82,7 @@ module _ {H D : ℕ} (task : Task) (known : Known) (told : Told) (n : ℕ) (v : 
 
   -- Its reading, settled or not.
   abbrev pub EndsAs : Phase → Bool → Type 0
-  EndsAs phase done = here phase [] ≡ record { answer = (here phase []).answer; settled = done; wanted = want_of phase; told = told }
+  EndsAs phase done = here phase [] ≡ record { answer = (here phase []).answer; settled = done; wanted = want_of phase; payload_wanted = payload_want_of phase; told = told }
 
   -- The bytes end in it.
   abbrev IsCut : Phase → Type 0
@@ -105,6 +117,7 @@ module _ {H D : ℕ} (task : Task) (known : Known) (told : Told) (n : ℕ) (v : 
       head_cut (phases.PayloadHead p) (headers_told known.headers []) (past_payload_head (rules_of H D task) known.headers known.chosen) p.at refl refl h.0 h.1
   cut_in (phases.Payload p) h e =
       string_cut (phases.Payload p) (headers_told known.headers) p.length p.left (past_payload (rules_of H D task) known.headers known.chosen) p.at known.payload refl refl p.some_left h.0 h.1 h.2
+  cut_in (phases.Detached p) h e = absurd cc
   cut_in (phases.AuthHead p) h e =
       head_cut (phases.AuthHead p) (headers_told known.headers known.payload) (past_auth_head (rules_of H D task) known.headers known.chosen known.payload) p.at refl refl h.0 h.1
   cut_in (phases.Auth p) h e =
@@ -114,33 +127,50 @@ module _ {H D : ℕ} (task : Task) (known : Known) (told : Told) (n : ℕ) (v : 
   cut_in (phases.Settled verdict) h e = absurd cc
   cut_in (phases.Shaped p) h e = absurd cc
 
-  settled_in : (phase : Phase) → HoldsIn task known told n v phase → is_settled phase ≡ true → EndsAs phase true
-  unfolding here
-  settled_in (phases.Signed p) h e = ap (λ (t : Told). settled t (here (phases.Signed p) []).answer) (sym h.0)
-  settled_in (phases.Decided verdict) h e = refl
-  settled_in (phases.Settled verdict) h e = refl
-  settled_in (phases.Shaped p) h e = refl
-  settled_in phases.FirstHead h e = absurd cc
-  settled_in (phases.TagHead p) h e = absurd cc
-  settled_in (phases.ArrayHead p) h e = absurd cc
-  settled_in (phases.ProtectedHead p) h e = absurd cc
-  settled_in (phases.Protected p) h e = absurd cc
-  settled_in (phases.Unprotected p) h e = absurd cc
-  settled_in (phases.PayloadHead p) h e = absurd cc
-  settled_in (phases.Payload p) h e = absurd cc
-  settled_in (phases.AuthHead p) h e = absurd cc
-  settled_in (phases.Auth p) h e = absurd cc
+  -- The payload that has come is the one that was taken.
+  abbrev pub IsNow : Type 0
+  IsNow = with_came known.payload task.setting.source ≡ task.setting.source
 
-  ends_if : (phase : Phase) → HoldsIn task known told n v phase → (done : Bool) → is_settled phase ≡ done → EndsAs phase done
-  ends_if phase h true e = settled_in phase h e
-  ends_if phase h false e =
+  -- Bytes of a detached payload are missing.
+  pub awaiting_in : (p : Detached) → HoldsIn task known told n v (phases.Detached p) → IsNow → (z : List ℕ) → here (phases.Detached p) z ≡ awaits told p.left p.at
+  unfolding here
+  awaiting_in p h now z =
+      nil_awaits task.setting.source (rules_of H D task) known.headers known.chosen known.payload p.length p.left p.at p.after z (sym now ∙ ap (with_came known.payload) h.5.1) h.1 p.some_left
+      ∙ ap (λ (t : Told). awaits t p.left p.at) (sym h.0)
+
+  awaits_ends : (p : Detached) → here (phases.Detached p) [] ≡ awaits told p.left p.at → EndsAs (phases.Detached p) true
+  awaits_ends p e = e ∙ ap (λ (answer : Answer). let reading : Reading = record { answer = answer; settled = true; wanted = 0; payload_wanted = p.left; told = told } in reading) (sym (ap (λ (r : Reading). r.answer) e))
+
+  settled_in : (phase : Phase) → HoldsIn task known told n v phase → IsNow → is_settled phase ≡ true → EndsAs phase true
+  unfolding here
+  settled_in (phases.Detached p) h now e = awaits_ends p (awaiting_in p h now [])
+  settled_in (phases.Signed p) h now e = ap (λ (t : Told). settled t (here (phases.Signed p) []).answer) (sym h.0)
+  settled_in (phases.Decided verdict) h now e = refl
+  settled_in (phases.Settled verdict) h now e = refl
+  settled_in (phases.Shaped p) h now e = refl
+  settled_in phases.FirstHead h now e = absurd cc
+  settled_in (phases.TagHead p) h now e = absurd cc
+  settled_in (phases.ArrayHead p) h now e = absurd cc
+  settled_in (phases.ProtectedHead p) h now e = absurd cc
+  settled_in (phases.Protected p) h now e = absurd cc
+  settled_in (phases.Unprotected p) h now e = absurd cc
+  settled_in (phases.PayloadHead p) h now e = absurd cc
+  settled_in (phases.Payload p) h now e = absurd cc
+  settled_in (phases.AuthHead p) h now e = absurd cc
+  settled_in (phases.Auth p) h now e = absurd cc
+
+  ends_if : (phase : Phase) → HoldsIn task known told n v phase → IsNow → (done : Bool) → is_settled phase ≡ done → EndsAs phase done
+  ends_if phase h now true e = settled_in phase h now e
+  ends_if phase h now false e =
       let is_cut : IsCut phase = cut_in phase h e in
-      is_cut ∙ ap (λ (answer : Answer). let reading : Reading = record { answer = answer; settled = false; wanted = want_of phase; told = told } in reading) (sym (ap (λ (r : Reading). r.answer) is_cut))
+      is_cut
+      ∙ ap (λ (answer : Answer). let reading : Reading = record { answer = answer; settled = false; wanted = want_of phase; payload_wanted = 0; told = told } in reading) (sym (ap (λ (r : Reading). r.answer) is_cut))
+      ∙ ap (λ (m : ℕ). let reading : Reading = record { answer = (here phase []).answer; settled = false; wanted = want_of phase; payload_wanted = m; told = told } in reading) (sym (unsettled_wants_none phase e))
 
   -- Without a further byte it is settled or not as the phase is, wants what the phase wants, and gives what is known so
   -- far.
-  pub ends_in : (phase : Phase) → HoldsIn task known told n v phase → EndsAs phase (is_settled phase)
-  ends_in phase h = ends_if phase h (is_settled phase) refl
+  pub ends_in : (phase : Phase) → HoldsIn task known told n v phase → IsNow → EndsAs phase (is_settled phase)
+  ends_in phase h now = ends_if phase h now (is_settled phase) refl
 
   -- Where it isn't settled, it is Truncated at the number of bytes.
   pub truncated_in : (phase : Phase) → HoldsIn task known told n v phase → is_settled phase ≡ false → (here phase []).answer ≡ refused Truncated n
@@ -166,6 +196,7 @@ module _ {H D : ℕ} (task : Task) (known : Known) (told : Told) (n : ℕ) (v : 
   open_in (phases.PayloadHead p) h = open_at (phases.PayloadHead p) h refl refl
   open_in (phases.Payload p) h = λ more lt.
       string_open (headers_told known.headers) p.length (past_payload (rules_of H D task) known.headers known.chosen) p.at (known.payload ++ more) (fewer known.payload more p.length p.left h.1 lt)
+  open_in (phases.Detached p) h = λ more lt. absurd (omega (arith, lt))
   open_in (phases.AuthHead p) h = open_at (phases.AuthHead p) h refl refl
   open_in (phases.Auth p) h = λ more lt.
       string_open (λ bytes. headers_told known.headers known.payload) p.length (finish (rules_of H D task) known.headers known.chosen known.payload p.head_at) p.at (known.auth ++ more) (fewer known.auth more p.length p.left h.1 lt)
@@ -195,6 +226,7 @@ module _ {H D : ℕ} (task : Task) (known : Known) (told : Told) (n : ℕ) (v : 
   payload_open (phases.Protected p) h is more le = absurd cc
   payload_open (phases.Unprotected p) h is more le = absurd cc
   payload_open (phases.PayloadHead p) h is more le = absurd cc
+  payload_open (phases.Detached p) h is more le = absurd cc
   payload_open (phases.AuthHead p) h is more le = absurd cc
   payload_open (phases.Auth p) h is more le = absurd cc
   payload_open (phases.Signed p) h is more le = absurd cc
@@ -204,26 +236,30 @@ module _ {H D : ℕ} (task : Task) (known : Known) (told : Told) (n : ℕ) (v : 
 
 -- ---- a verifier
 
+-- The payload that was taken of a detached one is all that has come of it.
+pub came_known : (task : Task) (known : Known) (B : List ℕ) → known.payload ≡ B → given_to B task ≡ task → with_came known.payload task.setting.source ≡ task.setting.source
+came_known task known B is came = ap (λ (t : List ℕ). with_came t task.setting.source) is ∙ ap (λ (t : Task). t.setting.source) came
+
 pub stands_open : {H D : ℕ} {task : Task} {B : List ℕ} {n : ℕ} {v : Reader H D} {reading : List ℕ → Reading} → ItemWaits v → (more : List ℕ) → StandsFor task B n v reading → length more < want_of v.phase → (reading more).settled ≡ false
 unfolding here
 stands_open {H} {D} {task} {B} {n} {v} {reading} waits more h lt = ap (λ (r : Reading). r.settled) (h.left more) ∙ open_in task h.known h.told n v waits v.phase h.holds more lt
 
-pub stands_settled : {H D : ℕ} {task : Task} {B : List ℕ} {n : ℕ} {v : Reader H D} {reading : List ℕ → Reading} → ItemWaits v → StandsFor task B n v reading → (reading []).settled ≡ is_settled v.phase
+pub stands_settled : {H D : ℕ} {task : Task} {B : List ℕ} {n : ℕ} {v : Reader H D} {reading : List ℕ → Reading} → ItemWaits v → StandsFor task B n v reading → given_to B task ≡ task → (reading []).settled ≡ is_settled v.phase
 unfolding here
-stands_settled {H} {D} {task} {B} {n} {v} {reading} waits h = ap (λ (r : Reading). r.settled) (h.left [] ∙ ends_in task h.known h.told n v waits v.phase h.holds)
+stands_settled {H} {D} {task} {B} {n} {v} {reading} waits h came = ap (λ (r : Reading). r.settled) (h.left [] ∙ ends_in task h.known h.told n v waits v.phase h.holds (came_known task h.known B h.payload_known came))
 
-pub stands_wanted : {H D : ℕ} {task : Task} {B : List ℕ} {n : ℕ} {v : Reader H D} {reading : List ℕ → Reading} → ItemWaits v → StandsFor task B n v reading → (reading []).wanted ≡ want_of v.phase
+pub stands_wanted : {H D : ℕ} {task : Task} {B : List ℕ} {n : ℕ} {v : Reader H D} {reading : List ℕ → Reading} → ItemWaits v → StandsFor task B n v reading → given_to B task ≡ task → (reading []).wanted ≡ want_of v.phase
 unfolding here
-stands_wanted {H} {D} {task} {B} {n} {v} {reading} waits h = ap (λ (r : Reading). r.wanted) (h.left [] ∙ ends_in task h.known h.told n v waits v.phase h.holds)
+stands_wanted {H} {D} {task} {B} {n} {v} {reading} waits h came = ap (λ (r : Reading). r.wanted) (h.left [] ∙ ends_in task h.known h.told n v waits v.phase h.holds (came_known task h.known B h.payload_known came))
 
-pub stands_told : {H D : ℕ} {task : Task} {B : List ℕ} {n : ℕ} {v : Reader H D} {reading : List ℕ → Reading} → ItemWaits v → StandsFor task B n v reading → (reading []).told.payload ≡ B
+pub stands_payload_wanted : {H D : ℕ} {task : Task} {B : List ℕ} {n : ℕ} {v : Reader H D} {reading : List ℕ → Reading} → ItemWaits v → StandsFor task B n v reading → given_to B task ≡ task → (reading []).payload_wanted ≡ payload_want_of v.phase
 unfolding here
-stands_told {H} {D} {task} {B} {n} {v} {reading} waits h = ap (λ (r : Reading). r.told.payload) (h.left [] ∙ ends_in task h.known h.told n v waits v.phase h.holds) ∙ h.payload_told
+stands_payload_wanted {H} {D} {task} {B} {n} {v} {reading} waits h came = ap (λ (r : Reading). r.payload_wanted) (h.left [] ∙ ends_in task h.known h.told n v waits v.phase h.holds (came_known task h.known B h.payload_known came))
+
+pub stands_told : {H D : ℕ} {task : Task} {B : List ℕ} {n : ℕ} {v : Reader H D} {reading : List ℕ → Reading} → ItemWaits v → StandsFor task B n v reading → given_to B task ≡ task → (reading []).told.payload ≡ B
+unfolding here
+stands_told {H} {D} {task} {B} {n} {v} {reading} waits h came = ap (λ (r : Reading). r.told.payload) (h.left [] ∙ ends_in task h.known h.told n v waits v.phase h.holds (came_known task h.known B h.payload_known came)) ∙ h.payload_told
 
 pub stands_payload : {H D : ℕ} {task : Task} {B : List ℕ} {n : ℕ} {v : Reader H D} {reading : List ℕ → Reading} → ItemWaits v → (more : List ℕ) → StandsFor task B n v reading → in_payload v.phase ≡ true → length more ≤ want_of v.phase → (reading more).settled ≡ false
 unfolding here
 stands_payload {H} {D} {task} {B} {n} {v} {reading} waits more h is le = ap (λ (r : Reading). r.settled) (h.left more) ∙ payload_open task h.known h.told n v waits v.phase h.holds is more le
-
-pub stands_truncated : {H D : ℕ} {task : Task} {B : List ℕ} {n : ℕ} {v : Reader H D} {reading : List ℕ → Reading} → ItemWaits v → StandsFor task B n v reading → is_settled v.phase ≡ false → (reading []).answer ≡ refused Truncated n
-unfolding here
-stands_truncated {H} {D} {task} {B} {n} {v} {reading} waits h e = ap (λ (r : Reading). r.answer) (h.left []) ∙ truncated_in task h.known h.told n v waits v.phase h.holds e

@@ -20,6 +20,7 @@ use Rattle.cose_msg.specs.Answer.{Answer}
 use Rattle.cose_msg.specs.Reading.{Reading, with_head, with_string, with_item}
 use Rattle.cose_msg.specs.Message.{Setting, Decides, message, verifying}
 use Rattle.cose_msg.specs.Rules.{Rules}
+use Rattle.cose_msg.specs.Source.{attached}
 
 -- Bytes in hexadecimal. Spaces are skipped.
 abbrev digit : ℕ → ℕ
@@ -52,7 +53,7 @@ abbrev pub never : Decides
 never key digest signature = false
 
 abbrev pub under : List KeyValue → Setting
-under keys = record { keys = keys; aad = []; wanted = wants.Tagged; cwt = true; understood = []; payload_limit = 0xffffffffffffff }
+under keys = record { keys = keys; aad = []; wanted = wants.Tagged; cwt = true; understood = []; payload_limit = 0xffffffffffffff; source = attached }
 
 -- The verdict with room for 1024 bytes in each header bucket, and a nesting of 4.
 abbrev pub verdict_in : Setting → List ℕ → Answer

@@ -1,8 +1,8 @@
 -- A message by the grammar of items (RFC 9052 sections 2, 4.2 and 6.2, RFC 8392 section 6): its parts, each with its spelling.
-use Rattle.std.specs.Prelude.{◌≡◌, ℕ, ◌+◌, ◌-◌, ◌≤◌, List, ◌++◌, length, Bool, true, false, None, Ok}
+use Rattle.std.specs.Prelude.{◌≡◌, ℕ, ◌+◌, ◌-◌, ◌≤◌, List, ◌++◌, length, take, Bool, true, false, None, Ok, ⊤}
 use Rattle.cose_head.specs.declared.kind.Kind.{Kind}
 use Rattle.cose_head.specs.declared.kind.Kind.TheVariants as kinds
-use Rattle.cose_head.specs.Item.{Item, byte_string, array, tag, no_items, item, depth_of, Spells, IsHead, Begins}
+use Rattle.cose_head.specs.Item.{Item, byte_string, simple, array, tag, no_items, item, depth_of, Spells, IsHead, Begins}
 use Rattle.cose_map.specs.Bucket.{bucket_of}
 use Rattle.cose_map.specs.Bucket.Both.{pair_fault}
 use Rattle.cose_msg.specs.declared.context.Wanted.{Wanted}
@@ -11,6 +11,7 @@ use Rattle.cose_msg.specs.Answer.{Whole}
 use Rattle.cose_msg.specs.Front.{wants_kind}
 use Rattle.cose_msg.specs.Phases.{is_too_long, placed_at}
 use Rattle.cose_msg.specs.Rules.{Rules}
+use Rattle.cose_msg.specs.Source.{Source, attached, detached}
 
 -- The tag of a kind (RFC 9052 section 2, table 1).
 abbrev pub tag_number : Kind → ℕ
@@ -58,6 +59,16 @@ payload_at s = unprotected_at s + length s.unprotected
 abbrev pub auth_at : Spellings → ℕ
 auth_at s = payload_at s + length s.payload
 
+-- The payload's element: its bytes, or nil where the payload is detached.
+abbrev pub payload_element : Source → List ℕ → Item
+payload_element attached payload = byte_string payload
+payload_element (detached came stated) payload = simple 22
+
+-- A detached payload is the first bytes that have come, as many as are stated.
+abbrev pub HasCome : Source → List ℕ → Type 0
+HasCome attached payload = ⊤
+HasCome (detached came stated) payload = (stated ≤ length came) × (payload ≡ take stated came)
+
 -- The bytes are a message by these rules, and it has these parts: an array of two header buckets, a payload, and a tag or
 -- signature, each within its limits; both buckets are good, alone and together, and there is the key that is asked for.
 pub record IsMessage (rules : Rules) (bytes : List ℕ) (whole : Whole) : Type 0 where
@@ -74,7 +85,8 @@ pub record IsMessage (rules : Rules) (bytes : List ℕ) (whole : Whole) : Type 0
   pub unprotected_read : bucket_of rules.nesting (placed_at (unprotected_at spelled) spelled.unprotected) ≡ Ok whole.headers.unprotected_pairs
   pub together : pair_fault whole.headers.protected_pairs whole.headers.unprotected_pairs rules.understood (payload_at spelled) ≡ None
   pub chosen : rules.choice whole.headers ≡ Ok whole.chosen
-  pub payload : Spells spelled.payload (byte_string whole.payload)
+  pub payload : Spells spelled.payload (payload_element rules.source whole.payload)
+  pub payload_comes : HasCome rules.source whole.payload
   pub payload_fits : is_too_long rules.payload_limit (length whole.payload) ≡ false
   pub auth : Spells spelled.auth (byte_string whole.auth)
   pub auth_fits : rules.auth_fits whole.chosen (length whole.auth) ≡ true
@@ -83,9 +95,9 @@ pub record IsMessage (rules : Rules) (bytes : List ℕ) (whole : Whole) : Type 0
 
 -- As one item of the grammar: an array of four, perhaps in the message's tag, and that perhaps in the tag of a CWT. Bytes are
 -- at most one such array (GrammarLaws.antt).
-abbrev pub four_elements : List ℕ → Item → List ℕ → List ℕ → Item
+abbrev pub four_elements : List ℕ → Item → Item → List ℕ → Item
 four_elements protected unprotected payload auth =
-    array (item (byte_string protected) (item unprotected (item (byte_string payload) (item (byte_string auth) no_items))))
+    array (item (byte_string protected) (item unprotected (item payload (item (byte_string auth) no_items))))
 
 pub data SpellsMessage (bytes : List ℕ) (kind : Kind) (elements : Item) : Type 0 where
   bare : Spells bytes elements → SpellsMessage bytes kind elements

@@ -9,7 +9,7 @@ use Rattle.cose_msg.specs.declared.verdict.Verdict.TheVariants.{Authentic}
 use Rattle.cose_msg.specs.Answer.{Whole, decided}
 use Rattle.cose_msg.specs.Authentic.{IsAuthentic}
 use Rattle.cose_msg.specs.Front.{wants_kind}
-use Rattle.cose_msg.specs.Grammar.{IsFront, IsMessage, Spellings, SpellsMessage, bare, in_tag, in_cwt_tag, is_untagged, four_elements, spelling, unprotected_at, payload_at, auth_at}
+use Rattle.cose_msg.specs.Grammar.{IsFront, IsMessage, Spellings, SpellsMessage, bare, in_tag, in_cwt_tag, is_untagged, payload_element, HasCome, four_elements, spelling, unprotected_at, payload_at, auth_at}
 use Rattle.cose_msg.specs.Message.{Decides, Setting, message, verdict_of}
 use Rattle.cose_msg.specs.Phases.{headers_told, is_too_long, placed_at}
 use Rattle.cose_msg.specs.Reading.{settled}
@@ -23,7 +23,7 @@ MessageIsRead = (rules : Rules) (bytes more : List ℕ) (whole : Whole) → IsMe
 -- It is one item of the grammar: an array of these four elements, perhaps in its tags.
 abbrev pub MessageIsArrayOfFour : Type 0
 MessageIsArrayOfFour = (rules : Rules) (bytes : List ℕ) (whole : Whole) (m : IsMessage rules bytes whole) →
-    SpellsMessage bytes whole.headers.kind (four_elements whole.headers.protected m.bucket whole.payload whole.auth)
+    SpellsMessage bytes whole.headers.kind (four_elements whole.headers.protected m.bucket (payload_element rules.source whole.payload) whole.auth)
 
 -- Conversely: the tags of such an array are those that the rules allow ..
 abbrev pub IsAllowed : {bytes : List ℕ} {kind : Kind} {elements : Item} → Rules → SpellsMessage bytes kind elements → Type 0
@@ -37,7 +37,7 @@ pub record AreParts (rules : Rules) (bytes : List ℕ) (whole : Whole) (bucket :
   pub front : IsFront rules whole.headers.kind spelled.front
   pub protected : Spells spelled.protected (byte_string whole.headers.protected)
   pub unprotected : Spells spelled.unprotected bucket
-  pub payload : Spells spelled.payload (byte_string whole.payload)
+  pub payload : Spells spelled.payload (payload_element rules.source whole.payload)
   pub auth : Spells spelled.auth (byte_string whole.auth)
 
 -- .. and where each element is within its limits, both buckets are good, alone and together, and there is the key that is asked
@@ -50,6 +50,7 @@ pub record AreGood (rules : Rules) (bytes : List ℕ) (whole : Whole) (bucket : 
   pub unprotected_read : bucket_of rules.nesting (placed_at (unprotected_at spelled) spelled.unprotected) ≡ Ok whole.headers.unprotected_pairs
   pub together : pair_fault whole.headers.protected_pairs whole.headers.unprotected_pairs rules.understood (payload_at spelled) ≡ None
   pub chosen : rules.choice whole.headers ≡ Ok whole.chosen
+  pub payload_comes : HasCome rules.source whole.payload
   pub payload_fits : is_too_long rules.payload_limit (length whole.payload) ≡ false
   pub auth_fits : rules.auth_fits whole.chosen (length whole.auth) ≡ true
   pub auth_place : whole.auth_at ≡ auth_at spelled
@@ -58,12 +59,12 @@ pub record AreGood (rules : Rules) (bytes : List ℕ) (whole : Whole) (bucket : 
 -- .. the bytes are a message.
 abbrev pub ArrayOfFourIsMessage : Type 0
 ArrayOfFourIsMessage = (rules : Rules) (bytes : List ℕ) (whole : Whole) (bucket : Item) →
-    (array : SpellsMessage bytes whole.headers.kind (four_elements whole.headers.protected bucket whole.payload whole.auth)) → IsAllowed rules array →
+    (array : SpellsMessage bytes whole.headers.kind (four_elements whole.headers.protected bucket (payload_element rules.source whole.payload) whole.auth)) → IsAllowed rules array →
     (spelled : Spellings) × AreParts rules bytes whole bucket spelled × (AreGood rules bytes whole bucket spelled → IsMessage rules bytes whole)
 
 -- Bytes are at most one such array: what its elements are is determined.
 abbrev pub OneArrayOfFour : Type 0
-OneArrayOfFour = (bytes : List ℕ) (kind other : Kind) (protected payload auth other_protected other_payload other_auth : List ℕ) (bucket other_bucket : Item) →
+OneArrayOfFour = (bytes : List ℕ) (kind other : Kind) (protected auth other_protected other_auth : List ℕ) (bucket payload other_bucket other_payload : Item) →
     SpellsMessage bytes kind (four_elements protected bucket payload auth) → SpellsMessage bytes other (four_elements other_protected other_bucket other_payload other_auth) →
     four_elements protected bucket payload auth ≡ four_elements other_protected other_bucket other_payload other_auth
 

@@ -1,5 +1,5 @@
 -- What a verifier counts and keeps in addition to the message itself.
-use Rattle.std.specs.Prelude.{◌≡◌, ℕ, Bool, true, false, List, length, Option, Some, None, Result, Ok, Err}
+use Rattle.std.specs.Prelude.{◌≡◌, ℕ, Bool, true, false, List, [], ◌++◌, length, Option, Some, None, Result, Ok, Err}
 use Rattle.cose_msg.specs.declared.hashing.Hashing.TheVariants as states
 use Rattle.cose_msg.specs.declared.phase.Phase.{Phase}
 use Rattle.cose_msg.specs.declared.phase.Phase.TheVariants as phases
@@ -11,7 +11,7 @@ use Rattle.cose_msg.specs.declared.verdict.Verdict.{Verdict}
 use Rattle.cose_msg.specs.declared.verdict.Verdict.TheVariants.{Authentic, Refused}
 use Rattle.cose_msg.specs.declared.verifier.Verifier.{Verifier}
 use Rattle.cose_msg.specs.Reader.{SoFar}
-use Rattle.cose_msg.specs.Task.{Task}
+use Rattle.cose_msg.specs.Task.{Task, given_to}
 use Rattle.cose_msg.specs.Verifier.{task_of}
 
 abbrev pub bytes_taken : {H D : ℕ} {S : Type 0} {K : _} → Verifier H D S K → ℕ
@@ -63,9 +63,12 @@ answered_again (Err stop) = Err stops.Again
 
 -- The verifier, which was made for this task, has taken the bytes s, the payload B among them, has counted them, and
 -- continues: it hasn't stopped, the end wasn't reported before they settled the message, and no signature was decided
--- on.
+-- on. A detached payload isn't among the bytes s: B is what has come of it, and so it is in the task; the verifier stands
+-- for these bytes whatever comes of the payload then.
 pub record HasTaken {H D : ℕ} {S : Type 0} {K : _} (task : Task) (s B : List ℕ) (v : Verifier H D S K) : Type 0 where
-  pub made_for : task_of v ≡ task
+  pub made_for : task_of v ≡ given_to [] task
   pub so_far : SoFar task s B v.reader
+  pub came : given_to B task ≡ task
+  pub whatever_comes : (more : List ℕ) → SoFar (given_to (B ++ more) task) s B v.reader
   pub counted : v.taken ≡ length s
   pub goes_on : v.stopped ≡ false

@@ -1,5 +1,5 @@
 -- Laws of the reading of a message.
-use Rattle.std.specs.Prelude.{◌≡◌, ◌≢◌, ◌↔◌, ℕ, ◌+◌, ◌-◌, ◌*◌, ◌^◌, ◌≤◌, min, List, ◌++◌, length, true, false, Option, Ok, IfErr, ⊤}
+use Rattle.std.specs.Prelude.{◌≡◌, ◌≢◌, ◌↔◌, ℕ, ◌+◌, ◌-◌, ◌*◌, ◌^◌, ◌<◌, ◌≤◌, min, List, ◌++◌, length, true, false, Option, Ok, IfErr, ⊤}
 use Rattle.cose_head.specs.declared.reason.Reason.{Reason}
 use Rattle.cose_head.specs.declared.reason.Reason.TheVariants.{Truncated}
 use Rattle.cose_msg.specs.declared.verdict.Verdict.TheVariants.{Authentic, Refused}
@@ -46,6 +46,13 @@ StandsBy end (decided (Authentic kind alg payload taken)) = taken ≤ end
 StandsBy end (complete whole) = whole.taken ≤ end
 StandsBy end (shaped kind payload auth taken) = taken ≤ end
 
+-- A refusal's place is before this one.
+abbrev pub StandsBefore : ℕ → Answer → Type 0
+StandsBefore end (decided (Refused refusal)) = refusal.place < end
+StandsBefore end (decided (Authentic kind alg payload taken)) = taken < end
+StandsBefore end (complete whole) = whole.taken < end
+StandsBefore end (shaped kind payload auth taken) = taken < end
+
 -- What the rules themselves answer is never Truncated, and its place is within the message.
 pub record AreFair (rules : Rules) : Type 0 where
   pub choice : (headers : Headers) → IfErr (rules.choice headers) (λ reason. reason ≢ Truncated)
@@ -59,9 +66,10 @@ pub record AllAreFair : Type 0 where
   pub verifying : (room nesting : ℕ) (setting : Setting) (decides : Decides) → AreFair (verifying room nesting setting decides)
   pub inspecting : (room nesting : ℕ) (setting : Setting) → AreFair (inspecting room nesting setting)
 
--- Then of a settled reading nothing is Truncated.
+-- Then of a settled reading nothing is Truncated, unless bytes of a detached payload are missing.
 abbrev pub MessageIsDefinite : Type 0
-MessageIsDefinite = (rules : Rules) → AreFair rules → (bytes : List ℕ) → (message rules bytes).settled ≡ true → IsDefinite (message rules bytes).answer
+MessageIsDefinite = (rules : Rules) → AreFair rules → (bytes : List ℕ) → (message rules bytes).settled ≡ true → (message rules bytes).payload_wanted ≡ 0 →
+    IsDefinite (message rules bytes).answer
 
 -- So it isn't settled exactly where it is Truncated at the number of bytes.
 abbrev pub OpenIsTruncated : Type 0
@@ -101,7 +109,7 @@ MessageIsInspectedWithin = (room nesting : ℕ) (setting : Setting) (bytes : Lis
 
 -- A reading whose answer is changed.
 abbrev pub answered : (Answer → Answer) → Reading → Reading
-answered change reading = record { answer = change reading.answer; settled = reading.settled; wanted = reading.wanted; told = reading.told }
+answered change reading = record { answer = change reading.answer; settled = reading.settled; wanted = reading.wanted; payload_wanted = reading.payload_wanted; told = reading.told }
 
 -- Where two rules differ only in the result for a whole message, so do the answers. Refusals before that are the same.
 abbrev pub FinishGoesLast : Type 0

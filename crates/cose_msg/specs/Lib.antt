@@ -1,4 +1,5 @@
 pub mod Answer
+pub mod Source
 pub mod Rules
 pub mod Reading
 pub mod Phases

@@ -38,7 +38,7 @@ auth_made alg secret aad payload = mac alg secret (structure_of Mac0 (protected_
 unfoldable pub made : Alg → List ℕ → Option (List ℕ) → List ℕ → List ℕ → List ℕ
 made alg secret kid aad payload = shortest (
     tag (tag_number Mac0) (
-    four_elements (protected_made alg) (unprotected_made kid) payload (auth_made alg secret aad payload)))
+    four_elements (protected_made alg) (unprotected_made kid) (byte_string payload) (auth_made alg secret aad payload)))
 
 -- The operation that makes a MAC (section 7.1, table 5).
 abbrev pub mac_create : ℤ

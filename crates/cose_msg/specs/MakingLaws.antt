@@ -12,6 +12,7 @@ use Rattle.cose_msg.specs.Answer.{decided}
 use Rattle.cose_msg.specs.Front.{wants_kind}
 use Rattle.cose_msg.specs.Making.{made, unprotected_made}
 use Rattle.cose_msg.specs.Message.{Decides, Setting, operation_of, secret_of, verdict_of}
+use Rattle.cose_msg.specs.Source.{attached}
 
 -- What the message that is made asks of the key that verifies it (RFC 9052 section 7.1): its algorithm is protected, and
 -- its kid, if there is one, is not.
@@ -34,6 +35,7 @@ pub record Admits (room nesting : ℕ) (setting : Setting) (alg : Alg) (secret :
   pub unprotected_fits : length (shortest (unprotected_made kid)) ≤ room
   pub payload_below : length payload < 2 ^ 56
   pub payload_within : length payload ≤ setting.payload_limit
+  pub payload_inside : setting.source ≡ attached
   -- the kind and the key
   pub wanted : wants_kind setting.wanted Mac0 ≡ true
   pub key : KeyValue

@@ -20,13 +20,15 @@ use Rattle.cose_msg.specs.Answer.{Answer, decided, complete, shaped, refused, Ch
 use Rattle.cose_msg.specs.Front.{first_head}
 use Rattle.cose_msg.specs.Reading.{Reading}
 use Rattle.cose_msg.specs.Rules.{Rules}
+use Rattle.cose_msg.specs.Source.{Source, with_came}
 
 -- The answer for the bytes, from the first on.
 unfoldable pub message : Rules → List ℕ → Reading
 message rules bytes = first_head rules 0 bytes
 
 -- The setting of a verification: the usable keys, the externally supplied data, the kinds that are wanted, whether the
--- CWT tag may precede the message's own, the labels that the application understands, and the most bytes of a payload.
+-- CWT tag may precede the message's own, the labels that the application understands, the most bytes of a payload, and
+-- where the payload is.
 pub record Setting : Type 0 where
   pub keys : List KeyValue
   pub aad : List ℕ
@@ -34,6 +36,11 @@ pub record Setting : Type 0 where
   pub cwt : Bool
   pub understood : List LabelValue
   pub payload_limit : ℕ
+  pub source : Source
+
+-- The same, where these bytes of a detached payload have come.
+abbrev pub given : List ℕ → Setting → Setting
+given came setting = record setting { source = with_came came setting.source }
 
 -- The operations that verify (RFC 9052 section 7.1, table 5): 10 a MAC, 2 a signature.
 abbrev pub operation_of : Kind → ℤ
@@ -134,6 +141,7 @@ rules_with room nesting setting choice finish = record {
   cwt = setting.cwt;
   understood = setting.understood;
   payload_limit = setting.payload_limit;
+  source = setting.source;
   choice = choice;
   auth_fits = has_auth_length;
   finish = finish;

@@ -8,8 +8,9 @@ abbrev pub in_payload : Phase → Bool
 in_payload (phases.Payload p) = true
 in_payload _ = false
 
--- Whether no further byte is wanted.
+-- Whether no further byte of the message is wanted, or none before bytes of a detached payload.
 abbrev pub is_settled : Phase → Bool
+is_settled (phases.Detached p) = true
 is_settled (phases.Signed p) = true
 is_settled (phases.Decided verdict) = true
 is_settled (phases.Settled verdict) = true
@@ -33,23 +34,35 @@ want_of (phases.Protected p) = p.left
 want_of (phases.Unprotected p) = p.wanted
 want_of (phases.Payload p) = p.left
 want_of (phases.Auth p) = p.left
+want_of (phases.Detached p) = 0
 want_of (phases.Signed p) = 0
 want_of (phases.Decided verdict) = 0
 want_of (phases.Settled verdict) = 0
 want_of (phases.Shaped p) = 0
 want_of _ = 1
 
+-- How many bytes of a detached payload are wanted.
+abbrev pub payload_want_of : Phase → ℕ
+payload_want_of (phases.Detached p) = p.left
+payload_want_of _ = 0
+
 -- Whether bytes are taken one by one: in a head.
 abbrev pub takes_bytes : Phase → Bool
 takes_bytes (phases.Protected p) = false
 takes_bytes (phases.Unprotected p) = false
 takes_bytes (phases.Payload p) = false
+takes_bytes (phases.Detached p) = false
 takes_bytes (phases.Auth p) = false
 takes_bytes (phases.Signed p) = false
 takes_bytes (phases.Decided verdict) = false
 takes_bytes (phases.Settled verdict) = false
 takes_bytes (phases.Shaped p) = false
 takes_bytes _ = true
+
+-- Where a message is Truncated that ends after n bytes: there, or at its nil where bytes of a detached payload are missing.
+abbrev pub ends_at : Phase → ℕ → ℕ
+ends_at (phases.Detached p) n = p.at
+ends_at _ n = n
 
 -- The payload so far, after some bytes of a phase.
 abbrev pub grown : Phase → List ℕ → List ℕ → List ℕ

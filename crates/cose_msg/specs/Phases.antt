@@ -1,17 +1,18 @@
 -- The phases of a message after its tags and the head of its array (RFC 9052 sections 2, 3, 4.2 and 6.2), the last
 -- first.
-use Rattle.std.specs.Prelude.{ℕ, ◌^◌, Bool, List, [], Option, Some, None, Result, Ok, Err, nat_lt, nat_le, ◌==◌, ◌&&◌, ◌||◌, if◌then◌else◌}
+use Rattle.std.specs.Prelude.{ℕ, ◌^◌, Bool, List, [], Option, Some, None, Result, Ok, Err, nat_lt, nat_le, ◌==◌, ◌&&◌, ◌||◌, ◌-◌, length, take, if◌then◌else◌}
 use Rattle.cose_head.specs.declared.head.Head.{Head}
 use Rattle.cose_head.specs.declared.kind.Kind.{Kind}
 use Rattle.cose_head.specs.declared.reason.Reason.{Reason}
-use Rattle.cose_head.specs.declared.reason.Reason.TheVariants.{PastRoom, WrongType, Detached, BadAuthLength, PayloadTooLong}
+use Rattle.cose_head.specs.declared.reason.Reason.TheVariants.{PastRoom, WrongType, Detached, Attached, BadAuthLength, PayloadTooLong}
 use Rattle.cose_head.specs.Placed.{Placed}
 use Rattle.cose_map.specs.Bucket.{bucket_of}
 use Rattle.cose_map.specs.Map.Pairs.{Pair}
 use Rattle.cose_map.specs.Bucket.Both.{pair_fault}
 use Rattle.cose_msg.specs.Answer.{Chosen, Headers}
-use Rattle.cose_msg.specs.Reading.{Told, Phase, Next, settled, stop, with_head, with_string, with_item, unless, unless_fault, with_value}
+use Rattle.cose_msg.specs.Reading.{Told, Phase, Next, settled, awaits, stop, with_head, with_string, with_item, unless, unless_fault, with_value}
 use Rattle.cose_msg.specs.Rules.{Rules}
+use Rattle.cose_msg.specs.Source.{Source, attached, detached}
 
 -- What is known before the protected bucket was found good; in the unprotected bucket, where this much of it is open;
 -- after the protected bucket; and after both.
@@ -71,7 +72,7 @@ past_payload rules headers chosen at payload = auth_head rules headers chosen pa
 abbrev pub payload : Rules → Headers → Option Chosen → ℕ → Phase
 payload rules headers chosen n = with_string (headers_told headers) n (past_payload rules headers chosen)
 
--- Its head: a byte string, which is not too long. nil is a detached payload.
+-- Its head: a byte string, which is not too long. nil would be a detached payload.
 abbrev pub is_nil : Head → Bool
 is_nil head = head.major == 7 && (head.width == 1 && head.arg == 22)
 
@@ -86,9 +87,27 @@ payload_fault_within limit head =
 abbrev pub payload_head_fault : Rules → Head → Option Reason
 payload_head_fault rules = payload_fault_within rules.payload_limit
 
-abbrev pub past_payload_head : Rules → Headers → Option Chosen → Next Head
-past_payload_head rules headers chosen at head =
+-- A detached payload: its first bytes, as many as are stated. The tag or signature is read once they have come.
+abbrev pub detached_payload : Rules → Headers → Option Chosen → List ℕ → ℕ → ℕ → Phase
+detached_payload rules headers chosen came stated at place bytes =
+    if nat_lt (length came) stated then awaits (headers_told headers came) (stated - length came) at else
+    auth_head rules headers chosen (take stated came) place bytes
+
+-- The head in the place of one: nil. The number of bytes that is stated is not too large.
+abbrev pub nil_fault_within : ℕ → ℕ → Head → Option Reason
+nil_fault_within limit stated head =
+    if is_nil head then (if is_too_long limit stated then Some PayloadTooLong else None) else
+    if is_bytes_head head then Some Attached else Some WrongType
+
+abbrev pub past_payload_head_from : Source → Rules → Headers → Option Chosen → Next Head
+past_payload_head_from attached rules headers chosen at head =
     unless_fault (headers_told headers []) at (payload_head_fault rules head) (payload rules headers chosen head.arg)
+past_payload_head_from (detached came stated) rules headers chosen at head =
+    unless_fault (headers_told headers []) at (nil_fault_within rules.payload_limit stated head)
+    (detached_payload rules headers chosen came stated at)
+
+abbrev pub past_payload_head : Rules → Headers → Option Chosen → Next Head
+past_payload_head rules = past_payload_head_from rules.source rules
 
 abbrev pub payload_head : Rules → Headers → Option Chosen → Phase
 payload_head rules headers chosen = with_head (headers_told headers []) (past_payload_head rules headers chosen)

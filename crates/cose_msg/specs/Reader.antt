@@ -27,26 +27,28 @@ use Rattle.cose_msg.specs.Front.{first_head, second_head, array_head}
 use Rattle.cose_msg.specs.Hashing.{Hashes, HashesFor, authenticator, result_of}
 use Rattle.cose_msg.specs.Message.{Setting, has_auth_length, message, structure}
 use Rattle.cose_msg.specs.Phase.{is_settled}
-use Rattle.cose_msg.specs.Phases.{nothing_told, unprotected_told, headers_told, placed_at, protected_head, protected, unprotected, payload_head, payload, auth_head, auth}
+use Rattle.cose_msg.specs.Phases.{nothing_told, unprotected_told, headers_told, placed_at, protected_head, protected, unprotected, payload_head, payload, detached_payload, auth_head, auth}
 use Rattle.cose_msg.specs.Reading.{Reading, Told, open_items_after, wanted_after, settled}
 use Rattle.cose_msg.specs.Rules.{Rules}
+use Rattle.cose_msg.specs.Source.{Source, attached, detached, came_of, source_with}
 use Rattle.cose_msg.specs.Task.{Task, rules_of}
 
--- The setting by the terms of the code and these keys.
-abbrev pub setting_with : List KeyValue → Terms → Setting
-setting_with keys terms = record {
+-- The setting by the terms of the code, these keys, and these bytes of a detached payload.
+abbrev pub setting_with : List KeyValue → List ℕ → Terms → Setting
+setting_with keys came terms = record {
   keys = keys;
   aad = terms.aad.now;
   wanted = terms.wanted;
   cwt = terms.cwt;
   understood = map label_value terms.understood.now;
   payload_limit = terms.payload_limit;
+  source = source_with came terms.stated;
 }
 
--- A task under the terms of a reader, which knows neither the keys nor what the task is for: they are passed with the
--- bytes.
+-- A task under the terms of a reader, which knows neither the keys, nor a detached payload, nor what the task is for: they are
+-- passed with the bytes.
 abbrev pub task_in : {H D : ℕ} → Task → Reader H D → Task
-task_in task v = record { setting = setting_with task.setting.keys v.terms; inspects = task.inspects }
+task_in task v = record { setting = setting_with task.setting.keys (came_of task.setting.source) v.terms; inspects = task.inspects }
 
 -- The usable keys that are passed, if any.
 abbrev pub keys_in : {S : Type 0} → (S → List KeyValue) → Option (Bor S) → Option (List KeyValue)
@@ -86,6 +88,11 @@ whole_of known auth_at taken = record {
   taken = taken;
 }
 
+-- What follows the nil of a detached payload.
+abbrev pub past_nil : Source → Rules → Headers → Option Chosen → ℕ → ℕ → List ℕ → Reading
+past_nil attached rules headers chosen at = auth_head rules headers chosen []
+past_nil (detached came stated) rules headers chosen at = detached_payload rules headers chosen came stated at
+
 -- What is left of the definition: the phase, at the bytes that are held of it and those to come.
 abbrev pub left_in : {H D : ℕ} → Rules → Known → Told → Reader H D → Phase → List ℕ → Reading
 left_in rules known told v phases.FirstHead z = first_head rules 0 (v.head.items ++ z)
@@ -97,6 +104,7 @@ left_in rules known told v (phases.Unprotected p) z =
     unprotected rules p.kind v.protected.items known.headers.protected_pairs p.at (v.unprotected.items ++ z)
 left_in rules known told v (phases.PayloadHead p) z = payload_head rules known.headers known.chosen p.at (v.head.items ++ z)
 left_in rules known told v (phases.Payload p) z = payload rules known.headers known.chosen p.length p.at (known.payload ++ z)
+left_in rules known told v (phases.Detached p) z = past_nil rules.source rules known.headers known.chosen p.at p.after z
 left_in rules known told v (phases.AuthHead p) z = auth_head rules known.headers known.chosen known.payload p.at (v.head.items ++ z)
 left_in rules known told v (phases.Auth p) z =
     auth rules known.headers known.chosen known.payload p.head_at p.length p.at (known.auth ++ z)
@@ -127,6 +135,13 @@ OpenedFor None hashing aad headers payload n = ⊤
 
 abbrev pub IsOpened : Hashing → List ℕ → Known → ℕ → Type 0
 IsOpened hashing aad known n = OpenedFor known.chosen hashing aad known.headers known.payload n
+
+-- The payload is next, of this length, and the hash was fed all of the structure that precedes it.
+pub record IsAtPayload {H D : ℕ} (task : Task) (known : Known) (v : Reader H D) (kind : Kind) (n : ℕ) : Type 0 where
+  pub shows : Shows task (headers_told known.headers []) v
+  pub none : known.payload ≡ []
+  pub key : HoldsKey task known v kind
+  pub opened : IsOpened v.hashing task.setting.aad known n
 
 -- The hash was fed the whole structure.
 abbrev pub IsFed : Hashing → List ℕ → Known → Type 0
@@ -179,7 +194,11 @@ HoldsIn task known told n v (phases.PayloadHead p) =
     × HashesFor v.hashing known.chosen []
 HoldsIn task known told n v (phases.Payload p) =
     (told ≡ headers_told known.headers known.payload) × (length known.payload + p.left ≡ p.length) × (n ≡ p.at + length known.payload)
+    × HoldsKey task known v p.kind × IsOpened v.hashing task.setting.aad known p.length × (task.setting.source ≡ attached)
+HoldsIn task known told n v (phases.Detached p) =
+    (told ≡ headers_told known.headers known.payload) × (length known.payload + p.left ≡ p.length) × (n ≡ p.after)
     × HoldsKey task known v p.kind × IsOpened v.hashing task.setting.aad known p.length
+    × ((more : List ℕ) × (task.setting.source ≡ detached (known.payload ++ more) p.length))
 HoldsIn task known told n v (phases.AuthHead p) =
     (told ≡ headers_told known.headers known.payload) × HoldsHead p.at n v × HoldsKey task known v p.kind
     × (length known.payload ≡ p.payload) × IsFed v.hashing task.setting.aad known

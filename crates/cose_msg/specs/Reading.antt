@@ -24,12 +24,13 @@ pub record Told : Type 0 where
   pub payload : List ℕ
   pub open_items : ℕ
 
--- The answer; whether no further byte can change it; how many further bytes are wanted for certain, fewer of which don't settle
--- it; and what is known.
+-- The answer; whether no further byte of the message can change it; how many further bytes are wanted for certain, fewer
+-- of which don't settle it; how many bytes of a detached payload are wanted; and what is known.
 pub record Reading : Type 0 where
   pub answer : Answer
   pub settled : Bool
   pub wanted : ℕ
+  pub payload_wanted : ℕ
   pub told : Told
 
 abbrev pub Phase : Type 0
@@ -40,14 +41,19 @@ abbrev pub Next : Type 0 → Type 0
 Next A = ℕ → A → Phase
 
 abbrev pub settled : Told → Answer → Reading
-settled told answer = record { answer = answer; settled = true; wanted = 0; told = told }
+settled told answer = record { answer = answer; settled = true; wanted = 0; payload_wanted = 0; told = told }
 
 abbrev pub stop : Told → Reason → ℕ → Reading
 stop told reason place = settled told (refused reason place)
 
 -- The bytes end before the phase does: Truncated at their number.
 abbrev pub cut : Told → ℕ → ℕ → Reading
-cut told wanted place = record { answer = refused Truncated place; settled = false; wanted = wanted; told = told }
+cut told wanted place = record { answer = refused Truncated place; settled = false; wanted = wanted; payload_wanted = 0; told = told }
+
+-- So many bytes of a detached payload are missing. No byte of the message is of use before they have come; where they don't
+-- come, the message is Truncated at this place.
+abbrev pub awaits : Told → ℕ → ℕ → Reading
+awaits told missing place = record { answer = refused Truncated place; settled = true; wanted = 0; payload_wanted = missing; told = told }
 
 -- A head outside an item (RFC 8949 section 3). It wants one byte after the other.
 abbrev pub past_head : Told → Next Head → ℕ → List ℕ → HeadStep → Reading

@@ -3,7 +3,7 @@ use Rattle.std.specs.Prelude.{ℕ, Bool, true, false, List, Option, Some, None, 
 use Rattle.cose_head.specs.declared.reason.Reason.{Reason}
 use Rattle.cose_map.specs.Key.Value.{KeyValue}
 use Rattle.cose_msg.specs.Answer.{Answer, Chosen, Headers, Whole}
-use Rattle.cose_msg.specs.Message.{Setting, rules_with, key_choice_of, compared, shape_of}
+use Rattle.cose_msg.specs.Message.{Setting, given, rules_with, key_choice_of, compared, shape_of}
 use Rattle.cose_msg.specs.Rules.{Rules}
 
 -- What a message is verified under, and whether it is only inspected.
@@ -16,6 +16,10 @@ to_verify setting = record { setting = setting; inspects = false }
 
 abbrev pub to_inspect : Setting → Task
 to_inspect setting = record { setting = setting; inspects = true }
+
+-- The same, where these bytes of a detached payload have come.
+abbrev pub given_to : List ℕ → Task → Task
+given_to came task = record { setting = given came task.setting; inspects = task.inspects }
 
 -- No key is chosen where a message is only inspected, and nothing is compared.
 abbrev pub choice_for : Bool → Setting → Headers → Result (Option Chosen) Reason

@@ -1,11 +1,12 @@
 -- A verifier: what its message is verified under, and what it was made for.
-use Rattle.std.specs.Prelude.{ℕ, List, map}
+use Rattle.std.specs.Prelude.{ℕ, Bool, List, [], Option, map}
 use Rattle.cose_map.specs.Key.Value.{KeyValue}
 use Rattle.cose_map.specs.Label.View.{label_value}
 use Rattle.cose_msg.specs.declared.context.Context.{Context}
 use Rattle.cose_msg.specs.declared.verifier.Verifier.{Verifier}
 use Rattle.cose_msg.specs.Message.{Setting}
 use Rattle.cose_msg.specs.Reader.{opened_by, setting_with}
+use Rattle.cose_msg.specs.Source.{attached, detached, is_detached_from, source_with}
 use Rattle.cose_msg.specs.Task.{Task}
 
 -- A context of the code, without where it is in memory, by what its keys mean.
@@ -17,15 +18,30 @@ setting_of usable context = record {
   cwt = context.cwt;
   understood = map label_value context.understood.now;
   payload_limit = context.payload_limit;
+  source = attached;
 }
 
--- The setting that the verifier reads a message under.
+-- The same, where the length of a detached payload is stated, if there is one, and none of it has come.
+abbrev pub sourced : Option ℕ → Setting → Setting
+sourced stated setting = record setting { source = source_with [] stated }
+
+abbrev pub attaching : Setting → Setting
+attaching setting = record setting { source = attached }
+
+abbrev pub detaching : ℕ → Setting → Setting
+detaching stated setting = record setting { source = detached [] stated }
+
+-- The setting that the verifier reads a message under, of whose payload, where it is detached, nothing has come.
 abbrev pub setting_in : {H D : ℕ} {S : Type 0} {K : _} → Verifier H D S K → Setting
-setting_in {K = K} v = setting_with (K.usable v.keys) v.reader.terms
+setting_in {K = K} v = setting_with (K.usable v.keys) [] v.reader.terms
 
 -- What it was made for.
 abbrev pub task_of : {H D : ℕ} {S : Type 0} {K : _} → Verifier H D S K → Task
 task_of v = record { setting = setting_in v; inspects = v.inspecting }
+
+-- Whether it was made for a detached payload.
+abbrev pub is_detached : {H D : ℕ} {S : Type 0} {K : _} → Verifier H D S K → Bool
+is_detached v = is_detached_from (setting_in v).source
 
 -- How many arrays, maps and tags of the unprotected bucket are open.
 abbrev pub opened : {H D : ℕ} {S : Type 0} {K : _} → Verifier H D S K → ℕ

@@ -97,6 +97,25 @@ pub(crate) struct Payload {
     ghost early: { at < 2 ^ 19 },
 }
 
+/// A detached payload, of which bytes are to come (RFC 9052 sections 4.2 and 6.2).
+#[derive(Clone, Copy)]
+pub(crate) struct Detached {
+    /// The kind of the message.
+    pub(crate) kind: Kind,
+    /// The place of the nil in the message, where it is refused if they don't come.
+    pub(crate) at: u64,
+    /// The place after the nil.
+    pub(crate) after: u64,
+    /// The number of the payload's bytes.
+    pub(crate) length: u64,
+    /// How many of them are to come.
+    pub(crate) left: u64,
+    ghost some_left: { 0 < left },
+    ghost within: { left ≤ length },
+    ghost limit: { length < 2 ^ 56 },
+    ghost early: { after < 2 ^ 19 },
+}
+
 /// The head of the authentication tag or signature.
 #[derive(Clone, Copy)]
 pub(crate) struct AuthHead {
@@ -192,6 +211,8 @@ pub(crate) enum Phase {
     PayloadHead(PayloadHead),
     /// The payload.
     Payload(Payload),
+    /// A detached payload, which is awaited.
+    Detached(Detached),
     /// The head of the authentication tag or signature.
     AuthHead(AuthHead),
     /// The authentication tag or signature.
@@ -208,16 +229,20 @@ pub(crate) enum Phase {
 
 impl Phase {
     ghost use Rattle.std.specs.Prelude.{◌≡◌, false};
-    ghost use Rattle.cose_msg.specs.Phase.{is_settled, want_of};
+    ghost use Rattle.cose_msg.specs.Phase.{ends_at, is_settled, payload_want_of, want_of};
     ghost use Rattle.cose_msg.specs.Status.{status_at};
 
-    /// Whether no further byte is wanted.
+    /// Whether no further byte of the message is wanted, or none before bytes of a detached payload.
     pub(crate) fn is_settled(&self) -> bool
         ensures { result ≡ is_settled self.now }
     {
         matches!(
             self,
-            Phase::Signed(_) | Phase::Decided(_) | Phase::Settled(_) | Phase::Shaped(_)
+            Phase::Detached(_)
+                | Phase::Signed(_)
+                | Phase::Decided(_)
+                | Phase::Settled(_)
+                | Phase::Shaped(_)
         )
     }
 
@@ -237,11 +262,33 @@ impl Phase {
         }
     }
 
+    /// How many bytes of a detached payload are wanted.
+    pub(crate) fn payload_wanted(&self) -> u64
+        ensures { result ≡ payload_want_of self.now }
+    {
+        match *self {
+            Phase::Detached(detached) => detached.left,
+            _ => 0,
+        }
+    }
+
+    /// The place where a message is Truncated that ends after `taken` bytes: there, or at its nil where bytes of a detached
+    /// payload are missing.
+    pub(crate) fn ends_at(&self, taken: u64) -> u64
+        ensures { result ≡ ends_at self.now taken }
+    {
+        match *self {
+            Phase::Detached(detached) => detached.at,
+            _ => taken,
+        }
+    }
+
     /// The status of the message. Deciding on a signature, either way, leaves it complete.
     pub(crate) fn status(&self) -> Status
         ensures { result ≡ status_at self.now }
     {
         match *self {
+            Phase::Detached(_) => Status::PayloadNext,
             Phase::Signed(_) | Phase::Decided(_) | Phase::Shaped(_) => Status::Complete,
             Phase::Settled(Verdict::Authentic { .. }) => Status::Complete,
             Phase::Settled(Verdict::Refused(refusal)) => Status::Refused(refusal),

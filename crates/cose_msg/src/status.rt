@@ -7,6 +7,9 @@ use cose_head::Refusal;
 pub enum Status {
     /// Further bytes are wanted.
     More,
+    /// The message has nil for its payload, and bytes of the detached payload are wanted
+    /// ([`Verifier::feed_payload`](crate::Verifier::feed_payload)). No byte of the message is used before they are there.
+    PayloadNext,
     /// The message is refused. The place is relative to the message's first byte.
     Refused(Refusal),
     /// All bytes of the message are there. A COSE_Mac0 is authentic then; the signature of a COSE_Sign1 is still to be

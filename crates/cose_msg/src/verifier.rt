@@ -8,6 +8,7 @@ use crate::reader::Reader;
 use cose_map::{KeySet, Keys};
 
 mod decide;
+mod detached;
 mod feed;
 mod shown;
 
@@ -34,22 +35,22 @@ impl<'k, const H: usize, const D: usize, S: Keys<'k>> Verifier<'k, H, D, S> {
     ghost use Rattle.cose_msg.specs.declared.status.Status.{Status};
     ghost use Rattle.cose_msg.specs.Status.{status_in};
     ghost use Rattle.cose_msg.specs.Task.{to_inspect, to_verify};
-    ghost use Rattle.cose_msg.specs.Verifier.{setting_in, setting_of, task_of};
+    ghost use Rattle.cose_msg.specs.Verifier.{attaching, detaching, is_detached, setting_in, setting_of, sourced, task_of};
 
-    /// A verifier for either purpose.
-    fn made(context: Context<'k, S>, inspecting: bool) -> Self
+    /// A verifier for either purpose, of a message that has its payload, or of one with a detached payload of this length.
+    fn made(context: Context<'k, S>, inspecting: bool, stated: Option<u64>) -> Self
         requires some_room { 16 ≤ H }
         requires limit { H ≤ 65535 }
         requires nesting { D ≤ 32 }
         ensures none_taken { HasTaken
-            (record { setting = setting_of S.usable context.entry; inspects = inspecting }) [] []
-            result }
+            (record { setting = sourced stated (setting_of S.usable context.entry); inspects = inspecting })
+            [] [] result }
         ensures tells { Tells
-            (record { setting = setting_of S.usable context.entry; inspects = inspecting }) []
-            result }
+            (record { setting = sourced stated (setting_of S.usable context.entry); inspects = inspecting })
+            [] result }
         ensures status { status_in result ≡ Status.More }
         ensures held { held result ≡ 256 }
-        ensures context { setting_in result ≡ setting_of S.usable context.entry }
+        ensures context { setting_in result ≡ sourced stated (setting_of S.usable context.entry) }
         ensures inspects { is_inspecting result ≡ inspecting }
     {
         let Context {
@@ -70,6 +71,7 @@ impl<'k, const H: usize, const D: usize, S: Keys<'k>> Verifier<'k, H, D, S> {
                 cwt,
                 understood,
                 payload_limit,
+                stated,
             }),
             keys,
         }
@@ -87,8 +89,9 @@ impl<'k, const H: usize, const D: usize, S: Keys<'k>> Verifier<'k, H, D, S> {
         ensures held { held result ≡ 256 }
         ensures context { setting_in result ≡ setting_of S.usable context.entry }
         ensures inspects { is_inspecting result ≡ false }
+        ensures attached { is_detached result ≡ false }
     {
-        Self::made(context, false)
+        Self::made(context, false, None)
     }
 
     /// A verifier of a message that is only inspected in this context: its keys are not looked at, and nothing is authenticated.
@@ -104,8 +107,32 @@ impl<'k, const H: usize, const D: usize, S: Keys<'k>> Verifier<'k, H, D, S> {
         ensures held { held result ≡ 256 }
         ensures context { setting_in result ≡ setting_of S.usable context.entry }
         ensures inspects { is_inspecting result ≡ true }
+        ensures attached { is_detached result ≡ false }
     {
-        Self::made(context, true)
+        Self::made(context, true, None)
+    }
+
+    /// A verifier of a message in this context whose payload is detached (RFC 9052 sections 4.2 and 6.2): the message has nil
+    /// in its place, and the payload has `payload_length` bytes, which come on their own ([`Verifier::feed_payload`],
+    /// [`verify_detached`](crate::verify_detached)). A message that has its payload is refused as Attached.
+    pub fn detached(context: Context<'k, S>, payload_length: u64) -> Self
+        requires some_room { 16 ≤ H }
+        requires limit { H ≤ 65535 }
+        requires nesting { D ≤ 32 }
+        requires external { length context.aad.now ≤ 65535 }
+        ensures none_taken { HasTaken
+            (to_verify (detaching payload_length (setting_of S.usable context.entry))) [] []
+            result }
+        ensures tells { Tells
+            (to_verify (detaching payload_length (setting_of S.usable context.entry))) [] result }
+        ensures status { status_in result ≡ Status.More }
+        ensures held { held result ≡ 256 }
+        ensures context { setting_in result
+            ≡ detaching payload_length (setting_of S.usable context.entry) }
+        ensures inspects { is_inspecting result ≡ false }
+        ensures detached { is_detached result ≡ true }
+    {
+        Self::made(context, false, Some(payload_length))
     }
 
     /// Whether it was made for inspecting alone.
@@ -113,6 +140,13 @@ impl<'k, const H: usize, const D: usize, S: Keys<'k>> Verifier<'k, H, D, S> {
         ensures { result ≡ is_inspecting self.now }
     {
         self.inspecting
+    }
+
+    /// Whether it was made for a detached payload.
+    pub fn is_detached(&self) -> bool
+        ensures { result ≡ is_detached self.now }
+    {
+        self.reader.terms.stated.is_some()
     }
 
     /// Resets the verifier, in the same context and for the same purpose.
@@ -124,15 +158,16 @@ impl<'k, const H: usize, const D: usize, S: Keys<'k>> Verifier<'k, H, D, S> {
         ensures keyless { KeepsNoKey self.new }
         ensures context { setting_in self.new ≡ setting_in self.old }
         ensures inspects { is_inspecting self.new ≡ is_inspecting self.old }
+        ensures detached { is_detached self.new ≡ is_detached self.old }
     {
         self.reader.reset();
         self.taken = 0;
         self.stopped = false;
     }
 
-    /// What the message is verified under. The keys are borrowed.
+    /// What the message is verified under. The keys are borrowed. (The length of a detached payload is no part of it.)
     pub fn context(&self) -> Context<'k, &S>
-        ensures { setting_of (λ keys. S.usable keys.now) result ≡ setting_in self.now }
+        ensures { setting_of (λ keys. S.usable keys.now) result ≡ attaching (setting_in self.now) }
     {
         let Terms {
             aad,
@@ -140,6 +175,7 @@ impl<'k, const H: usize, const D: usize, S: Keys<'k>> Verifier<'k, H, D, S> {
             cwt,
             understood,
             payload_limit,
+            ..
         } = self.reader.terms;
         Context {
             keys: &self.keys,

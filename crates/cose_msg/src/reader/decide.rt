@@ -16,14 +16,14 @@ impl<'k, const H: usize, const D: usize> Reader<'k, H, D> {
     ghost use Rattle.cose_msg.specs.Kept.{inspected_in, verdict_in};
     ghost use Rattle.cose_msg.specs.Laws.{then_verified};
     ghost use Rattle.cose_msg.specs.Message.{Setting};
-    ghost use Rattle.cose_msg.specs.Phase.{awaits_decision, in_payload, is_settled, want_of};
+    ghost use Rattle.cose_msg.specs.Phase.{awaits_decision, ends_at, in_payload, is_settled, payload_want_of, want_of};
     ghost use Rattle.cose_msg.specs.Reader.{Counts, IsUntouched, StandsFor, opened_by};
     ghost use Rattle.cose_msg.specs.Reading.{Reading};
     ghost use Rattle.cose_msg.specs.Run.{SaysCount, inspection};
     ghost use Rattle.cose_msg.specs.Shown.{held_by, shown_by, shown_in, sign_input_by};
     ghost use Rattle.cose_msg.specs.declared.status.Status.{Status};
-    ghost use Rattle.cose_msg.specs.Status.{status_at, status_of, status_of_answer};
-    ghost use Rattle.cose_msg.specs.Task.{Task, to_inspect, to_verify};
+    ghost use Rattle.cose_msg.specs.Status.{is_open, status_at, status_of, status_of_answer};
+    ghost use Rattle.cose_msg.specs.Task.{Task, given_to, to_inspect, to_verify};
 
     /// The verdict, once it is known.
     pub(crate) fn known_verdict(&self) -> Option<Verdict>
@@ -58,27 +58,31 @@ impl<'k, const H: usize, const D: usize> Reader<'k, H, D> {
             → StandsFor task B n self.now reading
             → length more < want_of self.now.phase → (reading more).settled ≡ false }
         ensures settled { (task : Task) (B : List ℕ) (n : ℕ) (reading : List ℕ → Reading)
-            → StandsFor task B n self.now reading
+            → StandsFor task B n self.now reading → given_to B task ≡ task
             → (reading []).settled ≡ is_settled self.now.phase }
         ensures wanted { (task : Task) (B : List ℕ) (n : ℕ) (reading : List ℕ → Reading)
-            → StandsFor task B n self.now reading
+            → StandsFor task B n self.now reading → given_to B task ≡ task
             → (reading []).wanted ≡ want_of self.now.phase }
         ensures payload { (task : Task) (B : List ℕ) (n : ℕ) (reading : List ℕ → Reading)
-            → StandsFor task B n self.now reading
+            → StandsFor task B n self.now reading → given_to B task ≡ task
             → (reading []).told.payload ≡ B }
-        ensures truncated { (task : Task) (B : List ℕ) (n : ℕ) (reading : List ℕ → Reading)
-            → StandsFor task B n self.now reading
-            → is_settled self.now.phase ≡ false → (reading []).answer ≡ refused Reason.Truncated n }
+        ensures ended { (task : Task) (B : List ℕ) (n : ℕ) (reading : List ℕ → Reading)
+            → StandsFor task B n self.now reading → given_to B task ≡ task
+            → is_open (status_at self.now.phase) ≡ true
+            → (reading []).answer ≡ refused Reason.Truncated (ends_at self.now.phase n) }
         // What it shows so far is what the reading of these bytes shows.
         ensures shows { (task : Task) (B : List ℕ) (n : ℕ) (reading : List ℕ → Reading)
-            → StandsFor task B n self.now reading
+            → StandsFor task B n self.now reading → given_to B task ≡ task
             → shown_by self.now ≡ shown_in task.setting (reading []) }
         // It holds no more than its stores do, the half of a head, and the hash.
         ensures held { held_by self.now ≤ 2 * H + 512 }
         ensures opened { opened_by self.now ≤ D }
+        ensures payload_wanted { (task : Task) (B : List ℕ) (n : ℕ) (reading : List ℕ → Reading)
+            → StandsFor task B n self.now reading → given_to B task ≡ task
+            → (reading []).payload_wanted ≡ payload_want_of self.now.phase }
         // So the status is that of these bytes.
         ensures status { (task : Task) (B : List ℕ) (n : ℕ) (reading : List ℕ → Reading)
-            → StandsFor task B n self.now reading
+            → StandsFor task B n self.now reading → given_to B task ≡ task
             → status_at self.now.phase ≡ status_of (reading []) }
         // In the payload the next bytes are the payload's, as many as are left of it; after it none are.
         ensures grows { (task : Task) (B : List ℕ) (n : ℕ) (reading : List ℕ → Reading)
@@ -88,7 +92,7 @@ impl<'k, const H: usize, const D: usize> Reader<'k, H, D> {
             → (reading more).told.payload ≡ B ++ take (want_of self.now.phase) more }
         ensures fixed { (task : Task) (B : List ℕ) (n : ℕ) (reading : List ℕ → Reading)
             (more : List ℕ)
-            → StandsFor task B n self.now reading
+            → StandsFor task B n self.now reading → given_to B task ≡ task
             → in_payload self.now.phase ≡ false → 0 < length B → (reading more).told.payload ≡ B }
         // The last byte of a payload doesn't settle it either: a tag or signature follows.
         ensures open_payload { (task : Task) (B : List ℕ) (n : ℕ) (reading : List ℕ → Reading)
@@ -157,8 +161,8 @@ impl<'k, const H: usize, const D: usize> Reader<'k, H, D> {
         })
     }
 
-    /// The verdict after `taken` bytes, which is kept: the message is Truncated where it isn't settled, and a signature
-    /// is decided on, once.
+    /// The verdict after `taken` bytes, which is kept: the message is Truncated where it isn't settled, or at its nil where
+    /// bytes of a detached payload are missing, and a signature is decided on, once.
     pub(crate) fn conclude<E: EcVerifier>(&mut self, taken: u64, ec: &E) -> Verdict
         ensures kept { verdict_in self.new.phase ≡ Some result }
         ensures terms { self.new.terms ≡ self.old.terms }
@@ -169,12 +173,15 @@ impl<'k, const H: usize, const D: usize> Reader<'k, H, D> {
             → status_at self.new.phase ≡ Status.Complete }
         ensures answer { (setting : Setting) (B : List ℕ) (reading : List ℕ → Reading)
             → StandsFor (to_verify setting) B taken self.old reading
+            → given_to B (to_verify setting) ≡ to_verify setting
             → then_verified setting.aad (E.decides ec.now) (reading []).answer ≡ decided result }
         ensures counted { (setting : Setting) (B : List ℕ) (reading : List ℕ → Reading)
             → StandsFor (to_verify setting) B taken self.old reading
+            → given_to B (to_verify setting) ≡ to_verify setting
             → Counts result taken }
         ensures status { (setting : Setting) (B : List ℕ) (reading : List ℕ → Reading)
             → StandsFor (to_verify setting) B taken self.old reading
+            → given_to B (to_verify setting) ≡ to_verify setting
             → status_at self.new.phase ≡ status_of_answer (reading []).answer }
         // Where no byte was taken, the only change is that the message is Truncated at 0.
         ensures untouched { taken ≡ 0 → IsUntouched self.old → IsUntouched self.new }
@@ -189,7 +196,10 @@ impl<'k, const H: usize, const D: usize> Reader<'k, H, D> {
                 self.phase = Phase::Decided(verdict);
                 verdict
             }
-            _ => Verdict::Refused(self.truncate(taken)),
+            _ => {
+                let place = self.phase.ends_at(taken);
+                Verdict::Refused(self.truncate(place))
+            }
         }
     }
 
@@ -200,24 +210,31 @@ impl<'k, const H: usize, const D: usize> Reader<'k, H, D> {
         ensures terms { self.new.terms ≡ self.old.terms }
         ensures shown { (setting : Setting) (B : List ℕ) (reading : List ℕ → Reading)
             → StandsFor (to_inspect setting) B taken self.old reading
+            → given_to B (to_inspect setting) ≡ to_inspect setting
             → shown_by self.new ≡ shown_by self.old }
         ensures held { held_by self.new ≡ held_by self.old }
         ensures opened { opened_by self.new ≡ opened_by self.old }
         ensures answer { (setting : Setting) (B : List ℕ) (reading : List ℕ → Reading)
             → StandsFor (to_inspect setting) B taken self.old reading
+            → given_to B (to_inspect setting) ≡ to_inspect setting
             → (reading []).answer ≡ inspection result }
         ensures counted { (setting : Setting) (B : List ℕ) (reading : List ℕ → Reading)
             → StandsFor (to_inspect setting) B taken self.old reading
+            → given_to B (to_inspect setting) ≡ to_inspect setting
             → SaysCount (inspection result) taken }
         ensures status { (setting : Setting) (B : List ℕ) (reading : List ℕ → Reading)
             → StandsFor (to_inspect setting) B taken self.old reading
+            → given_to B (to_inspect setting) ≡ to_inspect setting
             → status_at self.new.phase ≡ status_of_answer (reading []).answer }
         ensures untouched { taken ≡ 0 → IsUntouched self.old → IsUntouched self.new }
     {
         self.waits();
         match self.inspected() {
             Some(inspected) => inspected,
-            None => Inspected::Refused(self.truncate(taken)),
+            None => {
+                let place = self.phase.ends_at(taken);
+                Inspected::Refused(self.truncate(place))
+            }
         }
     }
 }

@@ -1,10 +1,10 @@
 //! The payload of a message, which is hashed as it comes.
 
 ghost use Rattle.std.specs.Prelude.{◌≡◌, ◌<◌, ◌≤◌, ◌+◌, ◌^◌, ℕ, [], if◌then◌else◌};
-ghost use Rattle.cose_msg.specs.Phases.{is_nil as is_nil_head, payload_fault_within};
+ghost use Rattle.cose_msg.specs.Phases.{is_nil as is_nil_head, nil_fault_within, payload_fault_within};
 
 use crate::bare_head::take_bare_head_byte;
-use crate::phase::{Payload, PayloadHead, Phase};
+use crate::phase::{Detached, Payload, PayloadHead, Phase};
 use crate::reader::Reader;
 use cose_head::{Head, HeadStep, Kind, Reason};
 
@@ -31,6 +31,23 @@ fn fault_of_payload(head: &Head, limit: u64) -> Option<Reason>
     Some(Reason::WrongType)
 }
 
+/// What is wrong with the head in the place of a detached payload, of which `stated` bytes are to come, where a payload may
+/// have `limit` bytes.
+fn fault_of_nil(head: &Head, stated: u64, limit: u64) -> Option<Reason>
+    ensures { result ≡ nil_fault_within limit stated head.now }
+{
+    if is_nil(head) {
+        if stated >= 1 << 56 || stated > limit {
+            return Some(Reason::PayloadTooLong);
+        }
+        return None;
+    }
+    if head.major == 2 {
+        return Some(Reason::Attached);
+    }
+    Some(Reason::WrongType)
+}
+
 /// The bytes, or none.
 fn empty_if(is_bare: bool, bytes: &[u8]) -> &[u8]
     ensures { result.now ≡ (if is_bare then [] else bytes.now) }
@@ -44,10 +61,11 @@ fn empty_if(is_bare: bool, bytes: &[u8]) -> &[u8]
 impl<'k, const H: usize, const D: usize> Reader<'k, H, D> {
     ghost use Rattle.std.specs.Prelude.{List, ◌∷◌, ◌++◌, length, ◌==◌};
     ghost use Rattle.cose_msg.specs.Hashing.{HashesFor};
-    ghost use Rattle.cose_msg.specs.Phases.{headers_told, past_payload_head, payload_head};
+    ghost use Rattle.cose_msg.specs.Phases.{detached_payload, headers_told, past_payload_head, payload, payload_head};
     ghost use Rattle.cose_msg.specs.Reading.{Reading};
     ghost use Rattle.cose_msg.specs.Task.{Task, rules_of};
-    ghost use Rattle.cose_msg.specs.Reader.{HoldsKey, Known, Shows, StandsFor};
+    ghost use Rattle.cose_msg.specs.Reader.{HoldsKey, IsAtPayload, Known, Shows, StandsFor};
+    ghost use Rattle.cose_msg.specs.Source.{attached, came_of, detached};
 
     /// The payload's head begins here.
     pub(crate) fn begin_payload_head(&mut self, kind: Kind, is_bare: bool, at: u64)
@@ -82,32 +100,93 @@ impl<'k, const H: usize, const D: usize> Reader<'k, H, D> {
     /// What follows the payload's head.
     fn past_payload_head(&mut self, payload_head: PayloadHead, head: Head, at: u64)
         requires early { at < 2 ^ 19 }
-        ensures stands { (task : Task) (known : Known) → Shows task (headers_told known.headers []) self.old → known.payload ≡ []
-            → HoldsKey task known self.old payload_head.kind → known.headers.protected ≡ self.old.protected.items
-            → payload_head.is_bare ≡ (length known.headers.protected_pairs == 0) → HashesFor self.old.hashing known.chosen []
-            → StandsFor task [] at self.new (λ z. past_payload_head (rules_of H D task) known.headers known.chosen payload_head.at head at z) }
+        ensures stands { (task : Task) (known : Known)
+            → Shows task (headers_told known.headers []) self.old → known.payload ≡ []
+            → HoldsKey task known self.old payload_head.kind
+            → known.headers.protected ≡ self.old.protected.items
+            → payload_head.is_bare ≡ (length known.headers.protected_pairs == 0)
+            → HashesFor self.old.hashing known.chosen []
+            → StandsFor task [] at self.new
+            (λ z. past_payload_head (rules_of H D task) known.headers known.chosen payload_head.at
+            head at z) }
     {
-        match fault_of_payload(&head, self.terms.payload_limit) {
-            Some(reason) => self.refuse(reason, payload_head.at),
-            None => {
-                // The protected header is hashed as it was received, or as an empty string where the bucket has no
-                // pair.
-                let protected = empty_if(payload_head.is_bare, self.protected.as_slice());
-                let aad = self.terms.aad;
-                self.hashing
-                    .front(payload_head.kind, protected, aad, head.arg);
-                if head.arg == 0 {
-                    self.begin_auth_head(payload_head.kind, at, 0);
-                } else {
-                    self.phase = Phase::Payload(Payload {
-                        kind: payload_head.kind,
-                        at,
-                        length: head.arg,
-                        left: head.arg,
-                    });
+        let limit = self.terms.payload_limit;
+        match self.terms.stated {
+            Some(stated) => match fault_of_nil(&head, stated, limit) {
+                Some(reason) => self.refuse(reason, payload_head.at),
+                None => {
+                    self.hash_front(payload_head, stated);
+                    self.await_payload(payload_head.kind, payload_head.at, at, stated);
                 }
-            }
+            },
+            None => match fault_of_payload(&head, limit) {
+                Some(reason) => self.refuse(reason, payload_head.at),
+                None => {
+                    self.hash_front(payload_head, head.arg);
+                    self.begin_payload(payload_head.kind, at, head.arg);
+                }
+            },
         }
+    }
+
+    /// Hashes what precedes the payload in the structure, which has this length: the protected header as it was received,
+    /// or an empty string where the bucket has no pair.
+    fn hash_front(&mut self, head: PayloadHead, payload_length: u64)
+        ensures opened { (task : Task) (known : Known)
+            → Shows task (headers_told known.headers []) self.old → known.payload ≡ []
+            → HoldsKey task known self.old head.kind
+            → known.headers.protected ≡ self.old.protected.items
+            → head.is_bare ≡ (length known.headers.protected_pairs == 0)
+            → HashesFor self.old.hashing known.chosen []
+            → IsAtPayload task known self.new head.kind payload_length }
+    {
+        let protected = empty_if(head.is_bare, self.protected.as_slice());
+        self.hashing
+            .front(head.kind, protected, self.terms.aad, payload_length);
+    }
+
+    /// The payload begins here.
+    fn begin_payload(&mut self, kind: Kind, at: u64, length: u64)
+        requires early { at < 2 ^ 19 }
+        requires limit { length < 2 ^ 56 }
+        ensures stands { (task : Task) (known : Known) → IsAtPayload task known self.old kind length
+            → task.setting.source ≡ attached
+            → StandsFor task [] at self.new
+            (λ z. payload (rules_of H D task) known.headers known.chosen length at z) }
+    {
+        if length == 0 {
+            self.begin_auth_head(kind, at, 0);
+            return;
+        }
+        self.phase = Phase::Payload(Payload {
+            kind,
+            at,
+            length,
+            left: length,
+        });
+    }
+
+    /// A detached payload is awaited, unless it is empty: the nil is at `nil`, and the message goes on at `at`.
+    fn await_payload(&mut self, kind: Kind, nil: u64, at: u64, length: u64)
+        requires early { at < 2 ^ 19 }
+        requires limit { length < 2 ^ 56 }
+        ensures stands { (task : Task) (known : Known) (came : List ℕ)
+            → IsAtPayload task known self.old kind length
+            → task.setting.source ≡ detached came length
+            → StandsFor task [] at self.new (λ z. detached_payload (rules_of H D task) known.headers
+            known.chosen came length nil at z) }
+    {
+        if length == 0 {
+            self.begin_auth_head(kind, at, 0);
+            return;
+        }
+        self.phase = Phase::Detached(Detached {
+            kind,
+            at: nil,
+            after: at,
+            length,
+            left: length,
+        });
     }
 
     /// Takes a piece of the payload.
@@ -126,6 +205,31 @@ impl<'k, const H: usize, const D: usize> Reader<'k, H, D> {
                 kind: payload.kind,
                 at: payload.at,
                 length: payload.length,
+                left,
+            });
+        }
+    }
+
+    /// Takes a piece of a detached payload.
+    pub(crate) fn detached_piece(&mut self, detached: Detached, piece: &[u8])
+        requires phase { self.old.phase ≡ Phase.Detached detached }
+        requires fits { length piece.now ≤ detached.left }
+        // Where the piece is the next one of what comes of the payload, the reading stays.
+        ensures { (task : Task) (B more : List ℕ) (n : ℕ) (reading : List ℕ → Reading)
+            → came_of task.setting.source ≡ (B ++ piece.now) ++ more
+            → StandsFor task B n self.old reading
+            → StandsFor task (B ++ piece.now) n self.new reading }
+    {
+        self.hashing.update(piece);
+        let left = detached.left - piece.len() as u64;
+        if left == 0 {
+            self.begin_auth_head(detached.kind, detached.after, detached.length);
+        } else {
+            self.phase = Phase::Detached(Detached {
+                kind: detached.kind,
+                at: detached.at,
+                after: detached.after,
+                length: detached.length,
                 left,
             });
         }

@@ -48,7 +48,7 @@ impl<'k, const H: usize, const D: usize, S: Keys<'k>> Verifier<'k, H, D, S> {
     ghost use Rattle.cose_msg.specs.Shown.{held, shown_of, sign_input_of};
     ghost use Rattle.cose_msg.specs.declared.status.Status.{Status};
     ghost use Rattle.cose_msg.specs.Status.{status_in, status_of_answer};
-    ghost use Rattle.cose_msg.specs.Task.{Task, to_inspect, to_verify};
+    ghost use Rattle.cose_msg.specs.Task.{Task, given_to, to_inspect, to_verify};
     ghost use Rattle.cose_msg.specs.Verifier.{opened, setting_in};
 
     /// The answer that is kept until `reset`: that it had stopped, or the verdict.
@@ -111,8 +111,8 @@ impl<'k, const H: usize, const D: usize, S: Keys<'k>> Verifier<'k, H, D, S> {
         self.stopped = true;
     }
 
-    /// The verdict of the bytes taken, which is kept: the message is Truncated where it isn't settled, and a signature is decided
-    /// on, once.
+    /// The verdict of the bytes taken, which is kept: the message is Truncated where it isn't settled, or at its nil where bytes of
+    /// a detached payload are missing, and a signature is decided on, once.
     pub(crate) fn conclude<E: EcVerifier>(&mut self, ec: &E) -> Verdict
         ensures kept { kept_answer self.new ≡ answer_kept self.old.stopped (Some result) }
         ensures counts { self.new.taken ≡ self.old.taken }
@@ -125,12 +125,15 @@ impl<'k, const H: usize, const D: usize, S: Keys<'k>> Verifier<'k, H, D, S> {
             → status_in self.new ≡ Status.Complete }
         ensures answer { (setting : Setting) (B : List ℕ) (reading : List ℕ → Reading)
             → StandsFor (to_verify setting) B self.old.taken self.old.reader reading
+            → given_to B (to_verify setting) ≡ to_verify setting
             → then_verified setting.aad (E.decides ec.now) (reading []).answer ≡ decided result }
         ensures counted { (setting : Setting) (B : List ℕ) (reading : List ℕ → Reading)
             → StandsFor (to_verify setting) B self.old.taken self.old.reader reading
+            → given_to B (to_verify setting) ≡ to_verify setting
             → Counts result self.old.taken }
         ensures status { (setting : Setting) (B : List ℕ) (reading : List ℕ → Reading)
             → StandsFor (to_verify setting) B self.old.taken self.old.reader reading
+            → given_to B (to_verify setting) ≡ to_verify setting
             → self.old.stopped ≡ false → status_in self.new ≡ status_of_answer (reading []).answer }
     {
         self.reader.conclude(self.taken, ec)
@@ -144,17 +147,21 @@ impl<'k, const H: usize, const D: usize, S: Keys<'k>> Verifier<'k, H, D, S> {
         ensures context { setting_in self.new ≡ setting_in self.old }
         ensures shown { (setting : Setting) (B : List ℕ) (reading : List ℕ → Reading)
             → StandsFor (to_inspect setting) B self.old.taken self.old.reader reading
+            → given_to B (to_inspect setting) ≡ to_inspect setting
             → shown_of self.new ≡ shown_of self.old }
         ensures held { held self.new ≡ held self.old }
         ensures opened { opened self.new ≡ opened self.old }
         ensures answer { (setting : Setting) (B : List ℕ) (reading : List ℕ → Reading)
             → StandsFor (to_inspect setting) B self.old.taken self.old.reader reading
+            → given_to B (to_inspect setting) ≡ to_inspect setting
             → (reading []).answer ≡ inspection result }
         ensures counted { (setting : Setting) (B : List ℕ) (reading : List ℕ → Reading)
             → StandsFor (to_inspect setting) B self.old.taken self.old.reader reading
+            → given_to B (to_inspect setting) ≡ to_inspect setting
             → SaysCount (inspection result) self.old.taken }
         ensures status { (setting : Setting) (B : List ℕ) (reading : List ℕ → Reading)
             → StandsFor (to_inspect setting) B self.old.taken self.old.reader reading
+            → given_to B (to_inspect setting) ≡ to_inspect setting
             → self.old.stopped ≡ false → status_in self.new ≡ status_of_answer (reading []).answer }
     {
         self.reader.conclude_inspection(self.taken)

@@ -41,7 +41,7 @@ impl<'k, const H: usize, const D: usize, S: Keys<'k>> Verifier<'k, H, D, S> {
     ghost use Rattle.cose_msg.specs.Message.{Setting, message, verdict_of};
     ghost use Rattle.cose_msg.specs.Phase.{is_settled, want_of};
     ghost use Rattle.cose_msg.specs.Shown.{Tells, held, shown_of};
-    ghost use Rattle.cose_msg.specs.Status.{is_complete, is_more, status_in, status_of, wanted_in};
+    ghost use Rattle.cose_msg.specs.Status.{is_complete, is_more, is_open, status_in, status_of, status_of_answer, wanted_in};
     ghost use Rattle.cose_msg.specs.Task.{Task, rules_of, to_verify};
     ghost use Rattle.cose_msg.specs.Verifier.{opened, setting_in};
 
@@ -126,7 +126,8 @@ impl<'k, const H: usize, const D: usize, S: Keys<'k>> Verifier<'k, H, D, S> {
         // Where no byte is wanted, nothing changes.
         ensures again { is_more (status_in self.old) ≡ false → (result ≡ nothing_used (status_in self.old)) × (self.new ≡ self.old) }
         ensures inspects { is_inspecting self.new ≡ is_inspecting self.old }
-        ensures context { (task : Task) (s B : List ℕ) → HasTaken task s B self.old → setting_in self.new ≡ task.setting }
+        ensures context { (task : Task) (s B : List ℕ) → HasTaken task s B self.old
+            → setting_in self.new ≡ setting_in self.old }
         ensures held { held self.new ≤ 2 * H + 512 }
         ensures opened { opened self.new ≤ D }
     {
@@ -163,14 +164,18 @@ impl<'k, const H: usize, const D: usize, S: Keys<'k>> Verifier<'k, H, D, S> {
         }
     }
 
-    /// Says that no further byte comes: a message that isn't settled is Truncated where its bytes end. Any other status stays.
+    /// Says that no further byte comes: a message that isn't settled is Truncated where its bytes end, and one whose detached
+    /// payload isn't all there at its nil. Any other status stays.
     pub fn end(&mut self) -> Status
         ensures stands { result ≡ status_in self.new }
         ensures truncated { status_in self.old ≡ Status.More
             → result ≡ Status.Refused (record { reason = Reason.Truncated; place = bytes_taken self.old }) }
         ensures kept { status_in self.old ≡ Status.More
             → kept_answer self.new ≡ Some (Ok (Verdict.Refused (record { reason = Reason.Truncated; place = bytes_taken self.old }))) }
-        ensures again { is_more (status_in self.old) ≡ false → (result ≡ status_in self.old) × (self.new ≡ self.old) }
+        ensures awaiting { (task : Task) (s B : List ℕ) → HasTaken task s B self.old
+            → status_in self.old ≡ Status.PayloadNext
+            → result ≡ status_of_answer (message (rules_of H D task) s).answer }
+        ensures again { is_open (status_in self.old) ≡ false → (result ≡ status_in self.old) × (self.new ≡ self.old) }
         ensures counts { bytes_taken self.new ≡ bytes_taken self.old }
         ensures inspects { is_inspecting self.new ≡ is_inspecting self.old }
         ensures context { setting_in self.new ≡ setting_in self.old }
@@ -180,7 +185,10 @@ impl<'k, const H: usize, const D: usize, S: Keys<'k>> Verifier<'k, H, D, S> {
     {
         self.reader.waits();
         match self.status() {
-            Status::More => Status::Refused(self.reader.truncate(self.taken)),
+            Status::More | Status::PayloadNext => {
+                let place = self.reader.phase.ends_at(self.taken);
+                Status::Refused(self.reader.truncate(place))
+            }
             status => status,
         }
     }

@@ -54,15 +54,15 @@ returns-then-asked-eq0-clause-drive g c = λ task s B h.
     let a = c.pieces.invariant.0 task s B h in
     let none : c.request-asked.result ≡ 0 = omega (arith, c.if-asked-eq0.true) in
     let room : g.row.H ≤ 65535 = c.pieces.verifier.reader.limit in
-    let done = settled_if_none_asked (record { compared = c.messages_are_bounded.ensures.verified.1; inspected = c.messages_are_bounded.ensures.inspected }) room c.request-asked.result a.stands (c.waits.ensures.settled task _ _ _ a.stands.so_far) c.request-asked.ensures.some none in
-    concluded a (Consumes-nil _) (c.waits.ensures.payload task _ _ _ a.stands.so_far) (c.waits.ensures.shows task _ _ _ a.stands.so_far)
+    let done = settled_if_none_asked (record { compared = c.messages_are_bounded.ensures.verified.1; inspected = c.messages_are_bounded.ensures.inspected }) room c.request-asked.result a.stands (c.waits.ensures.settled task _ _ _ a.stands.so_far a.stands.came) c.request-asked.ensures.some none in
+    concluded a (Consumes-nil _) (c.waits.ensures.payload task _ _ _ a.stands.so_far a.stands.came) (c.waits.ensures.shows task _ _ _ a.stands.so_far a.stands.came)
     (λ e. let clash : true ≡ false = sym done ∙ e in absurd cc) (λ e. a.not_ended)
 
 pub returns-in-Err-clause-drive : goal.returns-in-Err-clause-drive
 returns-in-Err-clause-drive g c = λ task s B h.
     let a = c.pieces.invariant.0 task s B h in
     let wanted : 0 < want_of c.pieces.verifier.reader.phase = omega (arith, c.if-asked-eq0.false, c.request-asked.ensures.wanted) in
-    stopped_by_intake a c.in-Err.ensures.bytes (c.waits.ensures.payload task _ _ _ a.stands.so_far) (c.waits.ensures.shows task _ _ _ a.stands.so_far) (c.waits.ensures.open task _ _ _ [] a.stands.so_far wanted) c.stop.ensures.taken c.stop.ensures.shown
+    stopped_by_intake a c.in-Err.ensures.bytes (c.waits.ensures.payload task _ _ _ a.stands.so_far a.stands.came) (c.waits.ensures.shows task _ _ _ a.stands.so_far a.stands.came) (c.waits.ensures.open task _ _ _ [] a.stands.so_far wanted) c.stop.ensures.taken c.stop.ensures.shown
 
 pub returns-then-count-eq0-clause-drive : goal.returns-then-count-eq0-clause-drive
 returns-then-count-eq0-clause-drive g c = λ task s B h.
@@ -72,7 +72,7 @@ returns-then-count-eq0-clause-drive g c = λ task s B h.
     let open_yet = c.waits.ensures.open task _ _ _ [] a.stands.so_far wanted in
     let took = rw none at c.in-Ok.ensures.bytes in
     let ended = rw none at c.in-Ok.ensures.end in
-    concluded a took.0 (c.waits.ensures.payload task _ _ _ a.stands.so_far) (c.waits.ensures.shows task _ _ _ a.stands.so_far)
+    concluded a took.0 (c.waits.ensures.payload task _ _ _ a.stands.so_far a.stands.came) (c.waits.ensures.shows task _ _ _ a.stands.so_far a.stands.came)
     (λ e. (ended, took.1 refl)) (λ e. let clash : true ≡ false = sym e ∙ open_yet in absurd cc)
 
 pub returns-then-is_err-clause-drive : goal.returns-then-is_err-clause-drive
@@ -85,7 +85,7 @@ returns-then-is_err-clause-drive g c = λ task s B h.
     let within : (l more : List ℕ) → length more < length (take c.in-Ok.count l) → length more < want_of c.pieces.verifier.reader.phase = λ l more lt. omega (arith, fits l, lt) in
     stopped_by_sink c.take_piece.new.self _ a (first_of _ _ c.in-Ok.count c.take.new.into _ c.in-Ok.ensures.within c.in-Ok.ensures.bytes.0)
     (λ more lt. c.waits.ensures.open task _ _ _ more a.stands.so_far (within _ more lt)) (c.waits.ensures.open_payload task _ _ _ _ a.stands.so_far in_it (fits _)) in_it
-    (c.waits-in-pieces.ensures.payload task _ _ _ stands.so_far) (c.waits-in-pieces.ensures.shows task _ _ _ stands.so_far) (put_failed _ _ _ c.put.result (sym c.is_err.ensures.value ∙ c.if-is_err.true) c.put.ensures.bytes)
+    (c.waits-in-pieces.ensures.payload task _ _ _ stands.so_far stands.came) (c.waits-in-pieces.ensures.shows task _ _ _ stands.so_far stands.came) (put_failed _ _ _ c.put.result (sym c.is_err.ensures.value ∙ c.if-is_err.true) c.put.ensures.bytes)
     stands.counted c.stop-then-is_err.ensures.taken c.stop-then-is_err.ensures.shown
 
 -- The payload is within its limit, so the sink has promised to take the piece.
@@ -94,22 +94,22 @@ returns-then-is_err-clause-sure g c = λ task s B h enough.
     let a = c.pieces.invariant.0 task s B h in
     let stands = c.take_piece.ensures.taken task _ _ a.stands in
     let in_it : in_payload c.pieces.verifier.reader.phase ≡ true = sym c.is_in_payload-in_payload.ensures ∙ c.if-in_payload.true in
-    let known = c.waits-in-pieces.ensures.payload task _ _ _ stands.so_far in
+    let known = c.waits-in-pieces.ensures.payload task _ _ _ stands.so_far stands.came in
     let limit = payload_within (rules_of g.row.H g.row.D task) _ in
     let promised = c.put.ensures.promised (sure_enough _ _ a in_it known limit enough) in
     absurd (is_done c.put.result (sym c.is_err.ensures.value ∙ c.if-is_err.true) promised)
 
 pub returns-then-asked-eq0-clause-context : goal.returns-then-asked-eq0-clause-context
-returns-then-asked-eq0-clause-context g c = λ task s B h. ap (λ (t : Task). t.setting) (c.pieces.invariant.0 task s B h).stands.made_for
+returns-then-asked-eq0-clause-context g c = λ task s B h. ap (λ (t : Task). t.setting) (c.pieces.invariant.0 task s B h).stands.made_for ∙ sym (ap (λ (t : Task). t.setting) h.made_for)
 
 pub returns-in-Err-clause-context : goal.returns-in-Err-clause-context
-returns-in-Err-clause-context g c = λ task s B h. c.stop.ensures.context ∙ ap (λ (t : Task). t.setting) (c.pieces.invariant.0 task s B h).stands.made_for
+returns-in-Err-clause-context g c = λ task s B h. c.stop.ensures.context ∙ ap (λ (t : Task). t.setting) (c.pieces.invariant.0 task s B h).stands.made_for ∙ sym (ap (λ (t : Task). t.setting) h.made_for)
 
 pub returns-then-count-eq0-clause-context : goal.returns-then-count-eq0-clause-context
-returns-then-count-eq0-clause-context g c = λ task s B h. ap (λ (t : Task). t.setting) (c.pieces.invariant.0 task s B h).stands.made_for
+returns-then-count-eq0-clause-context g c = λ task s B h. ap (λ (t : Task). t.setting) (c.pieces.invariant.0 task s B h).stands.made_for ∙ sym (ap (λ (t : Task). t.setting) h.made_for)
 
 pub returns-then-is_err-clause-context : goal.returns-then-is_err-clause-context
-returns-then-is_err-clause-context g c = λ task s B h. c.stop-then-is_err.ensures.context ∙ ap (λ (t : Task). t.setting) (c.take_piece.ensures.taken task _ _ (c.pieces.invariant.0 task s B h).stands).made_for
+returns-then-is_err-clause-context g c = λ task s B h. c.stop-then-is_err.ensures.context ∙ ap (λ (t : Task). t.setting) (c.take_piece.ensures.taken task _ _ (c.pieces.invariant.0 task s B h).stands).made_for ∙ sym (ap (λ (t : Task). t.setting) h.made_for)
 
 pub messages_are_bounded-requires : goal.messages_are_bounded-requires
 messages_are_bounded-requires g c = cc

@@ -1,4 +1,4 @@
-use Rattle.std.proofs.Common.{sym, ap, ◌∙◌, ◌++◌, arith}
+use Rattle.std.proofs.Common.{refl, sym, ap, ◌∙◌, ◌++◌, arith}
 use Rattle.std.proofs.lemmas.Grind.{common_steps}
 use Rattle.std.specs.Prelude.{is_err}
 use Rattle.cose_msg.specs.Answer.{decided}
@@ -14,12 +14,12 @@ use Rattle.cose_msg.proofs.run.verify.Goals as goal
 pub returns-in-Some-clause-run : goal.returns-in-Some-clause-run
 returns-in-Some-clause-run g c = λ setting s B h.
     let kept = sym c.kept_answer.ensures ∙ c.in-Some.is in
-    let d = still _ _ _ h (c.waits.ensures.payload (to_verify setting) B _ _ h.so_far) (c.waits.ensures.shows (to_verify setting) B _ _ h.so_far) (kept_verdict_settles c.in-Some.answer h kept) in (
+    let d = still _ _ _ h (c.waits.ensures.payload (to_verify setting) B _ _ h.so_far h.came) (c.waits.ensures.shows (to_verify setting) B _ _ h.so_far h.came) (kept_verdict_settles c.in-Some.answer h kept).0 in (
       d.taken,
       kept_verdict_run c.deciding_goes_last.ensures.verifying c.nothing_stands_after_the_bytes.ensures.inside c.nothing_stands_after_the_bytes.ensures.fair (g.E.EcVerifier.decides c.args.ec.now) d c.in-Some.answer kept,
       d.counted,
       d.tells,
-      left_by_kept _ c.in-Some.answer d.stands.0 (c.waits.ensures.status (to_verify setting) _ _ _ d.stands.0.so_far) (kept_verdict_settles c.in-Some.answer d.stands.0 kept) kept,
+      left_by_kept _ c.in-Some.answer d.stands.0 (c.waits.ensures.status (to_verify setting) _ _ _ d.stands.0.so_far d.stands.0.came) (kept_verdict_settles c.in-Some.answer d.stands.0 kept) kept,
     )
 
 pub returns-in-Some-clause-answer : goal.returns-in-Some-clause-answer
@@ -32,10 +32,10 @@ returns-in-Ok-clause-run g c = λ setting s B h.
     let d = rw c.in-Ok.is at (c.take_message.ensures.drive (to_verify setting) s B h) in
     let stands = counted_stands d.stands.0 in (
       d.taken,
-      verdict_run c.deciding_goes_last.ensures.verifying c.nothing_stands_after_the_bytes.ensures.inside c.nothing_stands_after_the_bytes.ensures.fair (g.E.EcVerifier.decides c.args.ec.now) c.conclude.result d (c.conclude.ensures.answer setting _ _ stands) (c.conclude.ensures.counted setting _ _ stands),
+      verdict_run c.deciding_goes_last.ensures.verifying c.nothing_stands_after_the_bytes.ensures.inside c.nothing_stands_after_the_bytes.ensures.fair (g.E.EcVerifier.decides c.args.ec.now) c.conclude.result d (c.conclude.ensures.answer setting _ _ stands d.stands.0.came) (c.conclude.ensures.counted setting _ _ stands d.stands.0.came),
       c.conclude.ensures.counts ∙ d.counted,
       c.conclude.ensures.shown ∙ d.tells,
-      left_by_answer (to_verify setting) (s ++ d.taken) c.conclude.new.self (c.conclude.ensures.status setting _ _ stands d.stands.0.goes_on),
+      left_by_answer (to_verify setting) (s ++ d.taken) c.conclude.new.self (c.conclude.ensures.status setting _ _ stands d.stands.0.came d.stands.0.goes_on),
     )
 
 pub returns-in-Ok-clause-answer : goal.returns-in-Ok-clause-answer
@@ -52,16 +52,16 @@ pub returns-in-Err-clause-sure : goal.returns-in-Err-clause-sure
 returns-in-Err-clause-sure g c = λ setting s B h enough. rw c.in-Err.is at (c.take_message.ensures.sure (to_verify setting) s B h enough)
 
 pub returns-in-Some-clause-before : goal.returns-in-Some-clause-before
-returns-in-Some-clause-before g c = λ setting s B h. told_before g.row.H g.row.D (to_verify setting) s B (c.waits.ensures.payload (to_verify setting) B _ _ h.so_far)
+returns-in-Some-clause-before g c = λ setting s B h. told_before g.row.H g.row.D (to_verify setting) s B (c.waits.ensures.payload (to_verify setting) B _ _ h.so_far h.came)
 
 pub returns-in-Ok-clause-before : goal.returns-in-Ok-clause-before
-returns-in-Ok-clause-before g c = λ setting s B h. told_before g.row.H g.row.D (to_verify setting) s B (c.waits.ensures.payload (to_verify setting) B _ _ h.so_far)
+returns-in-Ok-clause-before g c = λ setting s B h. told_before g.row.H g.row.D (to_verify setting) s B (c.waits.ensures.payload (to_verify setting) B _ _ h.so_far h.came)
 
 pub returns-in-Err-clause-before : goal.returns-in-Err-clause-before
-returns-in-Err-clause-before g c = λ setting s B h. told_before g.row.H g.row.D (to_verify setting) s B (c.waits.ensures.payload (to_verify setting) B _ _ h.so_far)
+returns-in-Err-clause-before g c = λ setting s B h. told_before g.row.H g.row.D (to_verify setting) s B (c.waits.ensures.payload (to_verify setting) B _ _ h.so_far h.came)
 
 pub returns-in-Some-clause-context : goal.returns-in-Some-clause-context
-returns-in-Some-clause-context g c = λ setting s B h. ap (λ (t : Task). t.setting) h.made_for
+returns-in-Some-clause-context g c = λ setting s B h. refl
 
 pub returns-in-Ok-clause-context : goal.returns-in-Ok-clause-context
 returns-in-Ok-clause-context g c = λ setting s B h. c.conclude.ensures.context ∙ c.take_message.ensures.context (to_verify setting) s B h

@@ -5,6 +5,7 @@ use Rattle.cose_msg.specs.Shown.{held_input}
 use Rattle.cose_msg.specs.Task.{to_inspect}
 use Rattle.cose_msg.proofs.Decisions.{open_shows_no_input, stands_inspected, stands_without_shape}
 use Rattle.cose_msg.proofs.Statuses.{settled_status}
+use Rattle.cose_msg.proofs.Untouched.{untouched_ends}
 use Rattle.cose_msg.proofs.reader.Reader.conclude_inspection.Goals as goal
 
 pub returns-in-Some : goal.returns-in-Some
@@ -13,12 +14,12 @@ returns-in-Some g c =
     record {
       kept = is;
       terms = refl;
-      shown = λ setting B reading h. refl;
+      shown = λ setting B reading h came. refl;
       held = refl;
       opened = refl;
-      answer = λ setting B reading h. (stands_inspected c.in-Some.inspected h is).0;
-      counted = λ setting B reading h. (stands_inspected c.in-Some.inspected h is).2;
-      status = λ setting B reading h. settled_status (reading []) _ (c.waits.ensures.status (to_inspect setting) B _ reading h) (stands_inspected c.in-Some.inspected h is).1;
+      answer = λ setting B reading h came. (stands_inspected c.in-Some.inspected h is).0;
+      counted = λ setting B reading h came. (stands_inspected c.in-Some.inspected h is).2;
+      status = λ setting B reading h came. settled_status (reading []) _ (c.waits.ensures.status (to_inspect setting) B _ reading h came) (stands_inspected c.in-Some.inspected h is).1;
       untouched = λ none untouched. untouched;
     }
 
@@ -29,13 +30,13 @@ returns-in-None g c =
     record {
       kept = rw same.phase refl;
       terms = same.terms;
-      shown = λ setting B reading h. same.shown (open_shows_no_input c.args.self.now.phase (held_input c.args.self.now) (stands_without_shape h none));
+      shown = λ setting B reading h came. same.shown (open_shows_no_input c.args.self.now.phase (held_input c.args.self.now) (stands_without_shape h none));
       held = same.held;
       opened = same.opened;
-      answer = λ setting B reading h. rw (c.waits.ensures.truncated (to_inspect setting) B _ reading h (stands_without_shape h none), same.same) refl;
-      counted = λ setting B reading h. tt;
-      status = λ setting B reading h. rw (same.phase, c.waits.ensures.truncated (to_inspect setting) B _ reading h (stands_without_shape h none), same.same) refl;
-      untouched = same.untouched;
+      answer = λ setting B reading h came. rw (c.waits.ensures.ended (to_inspect setting) B _ reading h came (stands_without_shape h none), same.same, c.ends_at-place.ensures) refl;
+      counted = λ setting B reading h came. tt;
+      status = λ setting B reading h came. rw (same.phase, c.waits.ensures.ended (to_inspect setting) B _ reading h came (stands_without_shape h none), same.same, c.ends_at-place.ensures) refl;
+      untouched = λ none untouched. same.untouched (c.ends_at-place.ensures ∙ untouched_ends c.args.self.now c.args.taken untouched ∙ none) untouched;
     }
 
 pub waits-requires : goal.waits-requires

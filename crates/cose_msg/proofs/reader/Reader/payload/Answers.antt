@@ -35,7 +35,7 @@ returns-else-left-eq0 g c = record {
         shows = shows_as task c.args.self.now h.told (headers_told h.known.headers h.known.payload) inside.0 h.shows;
         payload_known = ap (λ (payload : List ℕ). payload ++ c.args.piece.now) h.payload_known;
         payload_told = ap (λ (payload : List ℕ). payload ++ c.args.piece.now) h.payload_known;
-        holds = (refl, left, count, inside.3, opened);
+        holds = (refl, left, count, inside.3, opened, inside.5);
         left = λ z. rw append_assoc (rw c.requires.phase at (h.left (c.args.piece.now ++ z)));
       };
 }

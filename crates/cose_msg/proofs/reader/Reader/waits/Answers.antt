@@ -1,9 +1,9 @@
 use Rattle.std.proofs.Common.{◌<◌, arith}
 use Rattle.std.proofs.lemmas.Grind.{common_steps}
-use Rattle.cose_msg.proofs.Decisions.{stands_shown}
+use Rattle.cose_msg.proofs.Decisions.{stands_ended, stands_shown}
 use Rattle.cose_msg.proofs.PayloadsKnown.{stands_fixed, stands_grows}
 use Rattle.cose_msg.proofs.Statuses.{stands_status}
-use Rattle.cose_msg.proofs.Waits.{ItemWaits, stands_open, stands_settled, stands_told, stands_payload, stands_truncated, stands_wanted}
+use Rattle.cose_msg.proofs.Waits.{ItemWaits, stands_open, stands_settled, stands_told, stands_payload, stands_payload_wanted, stands_wanted}
 use Rattle.cose_msg.proofs.reader.Reader.waits.Goals as goal
 
 -- Fewer bytes than the walker wants don't end its item.
@@ -16,31 +16,34 @@ pub returns-clause-open : goal.returns-clause-open
 returns-clause-open g c = λ task B n reading more h lt. stands_open (walker g c) more h lt
 
 pub returns-clause-settled : goal.returns-clause-settled
-returns-clause-settled g c = λ task B n reading h. stands_settled (walker g c) h
+returns-clause-settled g c = λ task B n reading h came. stands_settled (walker g c) h came
 
 pub returns-clause-wanted : goal.returns-clause-wanted
-returns-clause-wanted g c = λ task B n reading h. stands_wanted (walker g c) h
+returns-clause-wanted g c = λ task B n reading h came. stands_wanted (walker g c) h came
 
 pub returns-clause-payload : goal.returns-clause-payload
-returns-clause-payload g c = λ task B n reading h. stands_told (walker g c) h
+returns-clause-payload g c = λ task B n reading h came. stands_told (walker g c) h came
 
 pub returns-clause-open_payload : goal.returns-clause-open_payload
 returns-clause-open_payload g c = λ task B n reading more h is le. stands_payload (walker g c) more h is le
 
-pub returns-clause-truncated : goal.returns-clause-truncated
-returns-clause-truncated g c = λ task B n reading h e. stands_truncated (walker g c) h e
+pub returns-clause-ended : goal.returns-clause-ended
+returns-clause-ended g c = λ task B n reading h came e. stands_ended (walker g c) h came e
+
+pub returns-clause-payload_wanted : goal.returns-clause-payload_wanted
+returns-clause-payload_wanted g c = λ task B n reading h came. stands_payload_wanted (walker g c) h came
 
 pub returns-clause-shows : goal.returns-clause-shows
-returns-clause-shows g c = λ task B n reading h. stands_shown (walker g c) h
+returns-clause-shows g c = λ task B n reading h came. stands_shown (walker g c) h came
 
 pub returns-clause-status : goal.returns-clause-status
-returns-clause-status g c = λ task B n reading h. stands_status h (stands_settled (walker g c) h)
+returns-clause-status g c = λ task B n reading h came. stands_status h (stands_settled (walker g c) h came) (stands_payload_wanted (walker g c) h came)
 
 pub returns-clause-grows : goal.returns-clause-grows
 returns-clause-grows g c = λ task B n reading more h is. stands_grows more h is
 
 pub returns-clause-fixed : goal.returns-clause-fixed
-returns-clause-fixed g c = λ task B n reading more h is some. stands_fixed more h is some
+returns-clause-fixed g c = λ task B n reading more h came is some. stands_fixed more h came is some
 
 pub want-wanted-requires : goal.want-wanted-requires
 want-wanted-requires g c = grind (arith, common_steps)

@@ -15,5 +15,5 @@ returns g c =
       complete = λ awaits goes_on. rw goes_on (e.complete awaits);
       answer = e.answer;
       counted = e.counted;
-      status = λ setting B reading h goes_on. rw goes_on (e.status setting B reading h);
+      status = λ setting B reading h came goes_on. rw goes_on (e.status setting B reading h came);
     }

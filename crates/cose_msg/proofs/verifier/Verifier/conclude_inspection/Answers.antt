@@ -14,5 +14,5 @@ returns g c =
       opened = e.opened;
       answer = e.answer;
       counted = e.counted;
-      status = λ setting B reading h goes_on. rw goes_on (e.status setting B reading h);
+      status = λ setting B reading h came goes_on. rw goes_on (e.status setting B reading h came);
     }

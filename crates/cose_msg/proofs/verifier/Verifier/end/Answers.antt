@@ -1,10 +1,14 @@
 use Rattle.std.proofs.Common.{◌≡◌, true, false, refl, sym, ap, ◌∙◌, arith}
 use Rattle.std.proofs.lemmas.Grind.{common_steps}
-use Rattle.cose_msg.specs.Status.{is_more, status_at}
+use Rattle.cose_msg.specs.Phase.{ends_at}
+use Rattle.cose_msg.specs.Reading.{Reading}
+use Rattle.cose_msg.specs.Status.{is_open, status_at, status_of_answer}
 use Rattle.cose_msg.specs.Shown.{held_input}
 use Rattle.cose_msg.proofs.Decisions.{open_shows_no_input}
-use Rattle.cose_msg.proofs.PhaseCases.{more_is_unsettled}
-use Rattle.cose_msg.proofs.Statuses.{more_goes_on, more_unless_stopped}
+use Rattle.cose_msg.proofs.PhaseCases.{more_is_unsettled, unsettled_ends}
+use Rattle.cose_msg.proofs.Runs.{without_more}
+use Rattle.cose_msg.proofs.Statuses.{either_is_open, more_goes_on, more_unless_stopped, open_goes_on, open_unless_stopped}
+use Rattle.cose_msg.proofs.Untouched.{untouched_ends}
 use Rattle.cose_msg.proofs.verifier.Verifier.end.Goals as goal
 
 pub waits-requires : goal.waits-requires
@@ -15,31 +19,44 @@ truncate-requires g c = grind (arith, common_steps)
 
 pub returns-in-More-clause-stands : goal.returns-in-More-clause-stands
 returns-in-More-clause-stands g c =
-    let goes_on = more_goes_on c.args.self.now.stopped _ (sym c.status.ensures.value ∙ c.in-More.is) in
+    let goes_on = open_goes_on c.args.self.now.stopped _ (ap is_open (sym c.status.ensures.value) ∙ either_is_open c.status.result c.in-More.is) in
     rw (goes_on, c.truncate.ensures.phase) refl
 
 pub returns-in-More-clause-truncated : goal.returns-in-More-clause-truncated
-returns-in-More-clause-truncated g c = λ more. rw c.truncate.ensures.same refl
+returns-in-More-clause-truncated g c = λ more.
+    let phase = c.args.self.now.reader.phase in
+    let ends : ends_at phase c.args.self.now.taken ≡ c.args.self.now.taken = unsettled_ends phase c.args.self.now.taken (more_is_unsettled phase (more_unless_stopped c.args.self.now.stopped _ more)) in
+    rw (c.truncate.ensures.same, c.ends_at-place.ensures ∙ ends) refl
 
 pub returns-in-More-clause-kept : goal.returns-in-More-clause-kept
 returns-in-More-clause-kept g c = λ more.
+    let phase = c.args.self.now.reader.phase in
+    let ends : ends_at phase c.args.self.now.taken ≡ c.args.self.now.taken = unsettled_ends phase c.args.self.now.taken (more_is_unsettled phase (more_unless_stopped c.args.self.now.stopped _ more)) in
     let goes_on = more_goes_on c.args.self.now.stopped _ more in
-    rw (goes_on, c.truncate.ensures.phase, c.truncate.ensures.same) refl
+    rw (goes_on, c.truncate.ensures.phase, c.truncate.ensures.same, c.ends_at-place.ensures ∙ ends) refl
+
+pub returns-in-More-clause-awaiting : goal.returns-in-More-clause-awaiting
+returns-in-More-clause-awaiting g c = λ task s B h awaits.
+    let phase = c.args.self.now.reader.phase in
+    let opened : is_open (status_at phase) ≡ true = open_unless_stopped c.args.self.now.stopped (status_at phase) (ap is_open awaits) in
+    let ended = c.waits.ensures.ended task B _ _ h.so_far h.came opened in
+    rw (c.truncate.ensures.same, c.ends_at-place.ensures ∙ ap (ends_at phase) h.counted) (sym (ap status_of_answer (ap (λ (r : Reading). r.answer) (sym (without_more g.row.H g.row.D task s)) ∙ ended)))
 
 pub returns-in-More-clause-again : goal.returns-in-More-clause-again
-returns-in-More-clause-again g c = λ settled.
-    let clash : true ≡ false = sym (ap is_more (sym c.status.ensures.value ∙ c.in-More.is)) ∙ settled in absurd cc
+returns-in-More-clause-again g c = λ closed.
+    let clash : true ≡ false = sym (ap is_open (sym c.status.ensures.value) ∙ either_is_open c.status.result c.in-More.is) ∙ closed in absurd cc
 
 pub returns-in-More-clause-context : goal.returns-in-More-clause-context
 returns-in-More-clause-context g c = rw c.truncate.ensures.terms refl
 
--- A message that wants more gives no signature.
+-- A message of which bytes are wanted, or of its payload, gives no signature.
 pub returns-in-More-clause-shown : goal.returns-in-More-clause-shown
 returns-in-More-clause-shown g c =
     let now = c.args.self.now in
-    let more = more_unless_stopped now.stopped (status_at now.reader.phase) (sym c.status.ensures.value ∙ c.in-More.is) in
-    let unsettled = more_is_unsettled now.reader.phase more in
-    c.truncate.ensures.shown (open_shows_no_input now.reader.phase (held_input now.reader) unsettled)
+    let opened = open_unless_stopped now.stopped (status_at now.reader.phase) (ap is_open (sym c.status.ensures.value) ∙ either_is_open c.status.result c.in-More.is) in
+    c.truncate.ensures.shown (open_shows_no_input now.reader.phase (held_input now.reader) opened)
 
 pub invariant_of-self-clause-untouched : goal.invariant_of-self-clause-untouched
-invariant_of-self-clause-untouched g c = λ none. c.truncate.ensures.untouched none (c.args.self.now.untouched none)
+invariant_of-self-clause-untouched g c = λ none.
+    let untouched = c.args.self.now.untouched none in
+    c.truncate.ensures.untouched (c.ends_at-place.ensures ∙ untouched_ends c.args.self.now.reader c.args.self.now.taken untouched ∙ none) untouched

@@ -5,14 +5,17 @@ use Rattle.cose_msg.specs.Status.{status_of}
 use Rattle.cose_msg.specs.Task.{Task}
 use Rattle.cose_msg.proofs.Feeds.{at_start, chosen_within, fits_in, goes_on, goes_past, in_order, is_behind, knows_payload, part_extended, stepped, tells_now, uses_all, uses_none}
 use Rattle.cose_msg.proofs.Runs.{without_more}
-use Rattle.cose_msg.proofs.Statuses.{wants_and_goes_on}
+use Rattle.cose_msg.specs.Reading.{Reading}
+use Rattle.cose_msg.proofs.PhaseCases.{unsettled_is_more}
+use Rattle.cose_msg.proofs.Statuses.{status_going, wants_and_goes_on}
 use Rattle.cose_msg.proofs.verifier.Verifier.feed.Goals.{then-is_in_payload, else-is_in_payload}
 use Rattle.cose_msg.proofs.verifier.Verifier.feed.Goals as goal
 
 pub returns-then-want-eq0-clause-uses : goal.returns-then-want-eq0-clause-uses
 returns-then-want-eq0-clause-uses g c = λ task s B h.
-    uses_none task s c.args.piece.now (λ more. (
-    let wants : 0 < c.want.result = c.want.ensures.some (sym c.status.ensures.value ∙ c.status.ensures.reads task s B h ∙ more) in
+    uses_none task s c.args.piece.now (λ unsettled. (
+    let open_yet = unsettled_is_more c.args.self.now.reader.phase (sym (c.waits.ensures.settled task B _ _ h.so_far h.came) ∙ ap (λ (r : Reading). r.settled) (without_more g.row.H g.row.D task s) ∙ unsettled) in
+    let wants : 0 < c.want.result = c.want.ensures.some (status_going c.args.self.now _ h.goes_on open_yet) in
     omega (arith, wants, c.if-want-eq0.true)))
 
 pub returns-then-want-eq0-clause-status : goal.returns-then-want-eq0-clause-status
@@ -20,7 +23,7 @@ returns-then-want-eq0-clause-status g c = λ task s B h.
     c.status.ensures.reads task s B h ∙ ap status_of (sym (without_more g.row.H g.row.D task s))
 
 pub returns-then-want-eq0-clause-tells : goal.returns-then-want-eq0-clause-tells
-returns-then-want-eq0-clause-tells g c = λ task s B h. c.waits.ensures.shows task B _ _ h.so_far
+returns-then-want-eq0-clause-tells g c = λ task s B h. c.waits.ensures.shows task B _ _ h.so_far h.came
 
 pub pieces-init : goal.pieces-init
 pieces-init g c = (
@@ -67,7 +70,7 @@ pieces-preserved g c =
           rw w.payload-is (
             λ task s B h.
                 (let a = i.0 task s B h in
-                goes_past c.take_piece.new.self count a outside (λ more there. c.waits-in-pieces.ensures.fixed task _ _ _ more a.stands.so_far outside there)
+                goes_past c.take_piece.new.self count a outside (λ more there. c.waits-in-pieces.ensures.fixed task _ _ _ more a.stands.so_far a.stands.came outside there)
                 (λ more lt. c.waits-in-pieces.ensures.open task _ _ _ more a.stands.so_far (within more lt)) (stepped c.take_piece.new.self count a (c.take_piece.ensures.taken task _ _ a.stands))
                 (in_order c.pieces.payload.from c.pieces.payload.to i.5 i.7) i.6 fits.0),
             goes_still,
@@ -84,7 +87,7 @@ pub returns-then-count-eq0-clause-uses : goal.returns-then-count-eq0-clause-uses
 returns-then-count-eq0-clause-uses g c = λ task s B h.
     let a = c.pieces.invariant.0 task s B h in
     let limit : g.row.H ≤ 65535 = c.pieces.self.reader.limit in
-    uses_all a (record { compared = c.messages_are_bounded.ensures.verified.1; inspected = c.messages_are_bounded.ensures.inspected }) limit c.step-count.result (c.waits-in-pieces.ensures.settled task _ _ _ a.stands.so_far) c.step-count.ensures.some c.if-count-eq0.true c.pieces.invariant.4
+    uses_all a (record { compared = c.messages_are_bounded.ensures.verified.1; inspected = c.messages_are_bounded.ensures.inspected }) limit c.step-count.result (c.waits-in-pieces.ensures.settled task _ _ _ a.stands.so_far a.stands.came) c.step-count.ensures.some c.if-count-eq0.true c.pieces.invariant.4
 
 pub returns-then-count-eq0-clause-taken : goal.returns-then-count-eq0-clause-taken
 returns-then-count-eq0-clause-taken g c = λ task s B h. let a = c.pieces.invariant.0 task s B h in a.stands
@@ -95,15 +98,15 @@ returns-then-count-eq0-clause-status g c = λ task s B h. let a = c.pieces.invar
 pub returns-then-count-eq0-clause-payload : goal.returns-then-count-eq0-clause-payload
 returns-then-count-eq0-clause-payload g c = λ task s B h.
     let a = c.pieces.invariant.0 task s B h in
-    knows_payload a (c.waits-in-pieces.ensures.payload task _ _ _ a.stands.so_far) (c.waits.ensures.payload task B _ _ h.so_far)
+    knows_payload a (c.waits-in-pieces.ensures.payload task _ _ _ a.stands.so_far a.stands.came) (c.waits.ensures.payload task B _ _ h.so_far h.came)
 
 pub returns-then-count-eq0-clause-tells : goal.returns-then-count-eq0-clause-tells
 returns-then-count-eq0-clause-tells g c = λ task s B h.
     let a = c.pieces.invariant.0 task s B h in
-    tells_now task _ c.pieces.self (c.waits-in-pieces.ensures.shows task _ _ _ a.stands.so_far)
+    tells_now task _ c.pieces.self (c.waits-in-pieces.ensures.shows task _ _ _ a.stands.so_far a.stands.came)
 
 pub returns-then-count-eq0-clause-context : goal.returns-then-count-eq0-clause-context
-returns-then-count-eq0-clause-context g c = λ task s B h. let a = c.pieces.invariant.0 task s B h in ap (λ (t : Task). t.setting) a.stands.made_for
+returns-then-count-eq0-clause-context g c = λ task s B h. let a = c.pieces.invariant.0 task s B h in ap (λ (t : Task). t.setting) a.stands.made_for ∙ sym (ap (λ (t : Task). t.setting) h.made_for)
 
 pub returns-then-count-eq0-clause-again : goal.returns-then-count-eq0-clause-again
 returns-then-count-eq0-clause-again g c = λ settled. absurd (c.if-want-eq0.false (c.want.ensures.none settled))

@@ -1,14 +1,9 @@
 use Rattle.std.proofs.Common.{refl}
-use Rattle.cose_msg.proofs.Untouched.{starts_message}
+use Rattle.cose_msg.proofs.Untouched.{begins}
 use Rattle.cose_msg.proofs.verifier.Verifier.made.Goals as goal
 
 pub returns-clause-none_taken : goal.returns-clause-none_taken
-returns-clause-none_taken g c = record {
-  made_for = rw c.new.ensures.terms refl;
-  so_far = starts_message _ _ c.new.ensures.untouched c.new.ensures.phase (rw c.new.ensures.terms refl);
-  counted = refl;
-  goes_on = refl;
-}
+returns-clause-none_taken g c = begins _ _ (rw c.new.ensures.terms refl) c.new.ensures.untouched c.new.ensures.phase refl refl
 
 pub returns-clause-tells : goal.returns-clause-tells
 returns-clause-tells g c = c.new.ensures.shown _

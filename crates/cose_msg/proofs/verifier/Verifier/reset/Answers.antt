@@ -1,15 +1,10 @@
 use Rattle.std.proofs.Common.{refl}
 use Rattle.cose_msg.specs.Verifier.{task_of}
-use Rattle.cose_msg.proofs.Untouched.{starts_message}
+use Rattle.cose_msg.proofs.Untouched.{begins}
 use Rattle.cose_msg.proofs.verifier.Verifier.reset.Goals as goal
 
 pub returns-clause-none_taken : goal.returns-clause-none_taken
-returns-clause-none_taken g c = record {
-  made_for = rw c.reset.ensures.terms refl;
-  so_far = starts_message (task_of c.args.self.now) _ c.reset.ensures.untouched c.reset.ensures.phase (rw c.reset.ensures.terms refl);
-  counted = refl;
-  goes_on = refl;
-}
+returns-clause-none_taken g c = begins (task_of c.args.self.now) _ (rw c.reset.ensures.terms refl) c.reset.ensures.untouched c.reset.ensures.phase refl refl
 
 pub returns-clause-tells : goal.returns-clause-tells
 returns-clause-tells g c = c.reset.ensures.shown (task_of c.args.self.now)

@@ -6,7 +6,7 @@ use Rattle.cose_msg.proofs.verifier.Verifier.status.Goals as goal
 pub returns : goal.returns
 returns g c = record {
   value = rw c.if-self.false c.status.ensures;
-  reads = λ task s B h. status_reads h (c.waits.ensures.status task B _ _ h.so_far) (sym c.status.ensures);
+  reads = λ task s B h. status_reads h (c.waits.ensures.status task B _ _ h.so_far h.came) (sym c.status.ensures);
 }
 
 pub waits-requires : goal.waits-requires

@@ -14,7 +14,7 @@ returns-in-Some-clause-answer g c = λ setting s B h.
 
 pub returns-in-None-clause-answer : goal.returns-in-None-clause-answer
 returns-in-None-clause-answer g c = λ setting s B h.
-    verdict_so_far c.deciding_goes_last.ensures.verifying g.row.H g.row.D setting (g.E.EcVerifier.decides c.args.ec.now) s c.conclude.result (c.conclude.ensures.answer setting _ _ (counted_stands h))
+    verdict_so_far c.deciding_goes_last.ensures.verifying g.row.H g.row.D setting (g.E.EcVerifier.decides c.args.ec.now) s c.conclude.result (c.conclude.ensures.answer setting _ _ (counted_stands h) h.came)
 
 pub deciding_goes_last-requires : goal.deciding_goes_last-requires
 deciding_goes_last-requires g c = grind (arith, common_steps)

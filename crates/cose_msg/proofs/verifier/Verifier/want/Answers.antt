@@ -6,7 +6,7 @@ use Rattle.cose_msg.proofs.Runs.{without_more}
 use Rattle.cose_msg.proofs.verifier.Verifier.want.Goals as goal
 
 pub returns-clause-reads : goal.returns-clause-reads
-returns-clause-reads g c = λ task s B h. c.wanted.ensures.value ∙ sym (c.waits.ensures.wanted task B _ _ h.so_far) ∙ ap (λ (r : Reading). r.wanted) (without_more _ _ task s)
+returns-clause-reads g c = λ task s B h. c.wanted.ensures.value ∙ sym (c.waits.ensures.wanted task B _ _ h.so_far h.came) ∙ ap (λ (r : Reading). r.wanted) (without_more _ _ task s)
 
 pub returns-clause-early : goal.returns-clause-early
 returns-clause-early g c = λ task s B more h lt. c.waits.ensures.open task B _ _ more h.so_far (let short : length more < want_of c.args.self.now.reader.phase = omega (arith, lt, c.wanted.ensures.value) in short)

@@ -1,0 +1,62 @@
+use Rattle.std.proofs.Common.{◌≡◌, ◌<◌, ℕ, List, [], ◌++◌, length, take, refl, sym, ap, subst, ◌∙◌, append_assoc, arith}
+use Rattle.std.proofs.lemmas.Grind.{common_steps}
+use Rattle.cose_msg.specs.Message.{message}
+use Rattle.cose_msg.specs.Kept.{HasTaken}
+use Rattle.cose_msg.specs.Reader.{SoFar}
+use Rattle.cose_msg.specs.Reading.{Reading}
+use Rattle.cose_msg.specs.Shown.{shown_in}
+use Rattle.cose_msg.specs.Phase.{payload_want_of}
+use Rattle.cose_msg.specs.Status.{payload_wanted_in, status_of}
+use Rattle.cose_msg.specs.Task.{Task, given_to, rules_of}
+use Rattle.cose_msg.proofs.Given.{came_more, given_again, now_given, stands_beside}
+use Rattle.cose_msg.proofs.Runs.{without_more}
+use Rattle.cose_msg.proofs.Standing.{whole_task}
+use Rattle.cose_msg.proofs.PhaseCases.{not_awaiting}
+use Rattle.cose_msg.proofs.Statuses.{none_wanted, some_wanted}
+use Rattle.cose_msg.proofs.Untouched.{untouched_awaits_none}
+use Rattle.cose_msg.proofs.verifier.Verifier.feed_payload.Goals as goal
+
+pub returns-in-Detached-clause-taken : goal.returns-in-Detached-clause-taken
+returns-in-Detached-clause-taken g c = λ task s B h.
+    let piece : List ℕ = take c.min-count.result c.args.piece.now in
+    let later : (more : List ℕ) → SoFar (given_to ((B ++ piece) ++ more) task) s (B ++ piece) c.detached_piece.new.self = λ more.
+        (let same : given_to (B ++ (piece ++ more)) task ≡ given_to ((B ++ piece) ++ more) task = ap (λ (t : List ℕ). given_to t task) (sym (append_assoc B piece more)) in
+        let before : SoFar (given_to ((B ++ piece) ++ more) task) s B c.args.self.now.reader = subst (λ (t : Task). SoFar t s B c.args.self.now.reader) same (h.whatever_comes (piece ++ more)) in
+        c.detached_piece.ensures (given_to ((B ++ piece) ++ more) task) B more (length s) _ (came_more task ((B ++ piece) ++ more) (stands_beside h.so_far c.in-Detached.detached c.in-Detached.is)) before) in
+    let all : HasTaken (given_to (B ++ piece) task) s (B ++ piece) _ = record {
+      made_for = whole_task (given_to (B ++ piece) task) _ c.detached_piece.new.self.terms _ (ap (λ (t : Task). t.setting.keys) h.made_for) (ap (λ (t : Task). t.inspects) h.made_for) (now_given task s (B ++ piece) c.detached_piece.new.self later).shows.0;
+      so_far = now_given task s (B ++ piece) c.detached_piece.new.self later;
+      came = given_again task (B ++ piece) (B ++ piece);
+      whatever_comes = λ more. subst (λ (t : Task). SoFar t s (B ++ piece) c.detached_piece.new.self) (sym (given_again task ((B ++ piece) ++ more) (B ++ piece))) (later more);
+      counted = h.counted;
+      goes_on = h.goes_on;
+    } in
+    all
+
+pub returns-in-Detached-clause-status : goal.returns-in-Detached-clause-status
+returns-in-Detached-clause-status g c = λ task s B h.
+    let now = returns-in-Detached-clause-taken g c task s B h in
+    rw h.goes_on (c.waits.ensures.status _ _ _ _ now.so_far now.came ∙ ap status_of (without_more g.row.H g.row.D _ s))
+
+pub returns-in-Detached-clause-tells : goal.returns-in-Detached-clause-tells
+returns-in-Detached-clause-tells g c = λ task s B h.
+    let now = returns-in-Detached-clause-taken g c task s B h in
+    c.waits.ensures.shows _ _ _ _ now.so_far now.came ∙ ap (shown_in (given_to (B ++ take c.min-count.result c.args.piece.now) task).setting) (without_more g.row.H g.row.D _ s)
+
+pub returns-in-Detached-clause-context : goal.returns-in-Detached-clause-context
+returns-in-Detached-clause-context g c = λ task s B h.
+    let now = returns-in-Detached-clause-taken g c task s B h in
+    ap (λ (t : Task). t.setting) now.made_for ∙ ap (λ (t : Task). t.setting) (given_again task [] _) ∙ sym (ap (λ (t : Task). t.setting) h.made_for)
+
+pub returns-in-Detached-clause-uses : goal.returns-in-Detached-clause-uses
+returns-in-Detached-clause-uses g c =
+    let wanted : payload_wanted_in c.args.self.now ≡ c.in-Detached.detached.left = some_wanted c.args.self.now.stopped (payload_want_of c.args.self.now.reader.phase) c.requires.some ∙ ap payload_want_of c.in-Detached.is in
+    omega (arith, c.min-count.ensures, wanted)
+
+pub returns-in_default : goal.returns-in_default
+returns-in_default g c =
+    let none : payload_wanted_in c.args.self.now ≡ 0 = none_wanted c.args.self.now.stopped (payload_want_of c.args.self.now.reader.phase) (not_awaiting c.args.self.now.reader.phase c.in_default.not-Detached) in
+    absurd (omega (arith, c.requires.some, none))
+
+pub invariant_of-self-clause-untouched : goal.invariant_of-self-clause-untouched
+invariant_of-self-clause-untouched g c = λ none. absurd (untouched_awaits_none c.args.self.now.reader (c.args.self.now.untouched none) c.in-Detached.detached c.in-Detached.is)

@@ -1,0 +1,27 @@
+-- Where the payload of a message is (RFC 9052 sections 4.2 and 6.2).
+use Rattle.std.specs.Prelude.{ℕ, List, [], Bool, true, false, Option, Some, None}
+
+-- In the message; or detached from it, where the message has nil: its bytes come from elsewhere. Those that have come, and the
+-- number of all of them, which is stated.
+pub data Source : Type 0 where
+  attached : Source
+  detached : List ℕ → ℕ → Source
+
+abbrev pub is_detached_from : Source → Bool
+is_detached_from attached = false
+is_detached_from (detached came stated) = true
+
+-- The bytes that have come of a detached payload.
+abbrev pub came_of : Source → List ℕ
+came_of attached = []
+came_of (detached came stated) = came
+
+-- The source of a payload, whose length is stated where it is detached, and these bytes of a detached one.
+abbrev pub source_with : List ℕ → Option ℕ → Source
+source_with came None = attached
+source_with came (Some stated) = detached came stated
+
+-- The same, where these bytes of a detached payload have come.
+abbrev pub with_came : List ℕ → Source → Source
+with_came came attached = attached
+with_came came (detached before stated) = detached came stated

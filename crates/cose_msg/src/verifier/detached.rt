@@ -1,0 +1,68 @@
+//! A detached payload, which is fed on its own after the message's nil.
+
+ghost use Rattle.std.specs.Prelude.{◌≡◌, ◌<◌, ◌≤◌, ◌+◌, ◌*◌, ℕ, true, false, List, ◌++◌, length, take, min};
+
+use crate::phase::Phase;
+use crate::verifier::Verifier;
+use cose_map::Keys;
+
+impl<'k, const H: usize, const D: usize, S: Keys<'k>> Verifier<'k, H, D, S> {
+    ghost use Rattle.cose_msg.specs.Kept.{HasTaken, bytes_taken, is_inspecting};
+    ghost use Rattle.cose_msg.specs.Message.{message};
+    ghost use Rattle.cose_msg.specs.Shown.{Tells, held};
+    ghost use Rattle.cose_msg.specs.declared.status.Status.{Status};
+    ghost use Rattle.cose_msg.specs.Status.{is_payload_next, payload_wanted_in, status_in, status_of};
+    ghost use Rattle.cose_msg.specs.Task.{Task, given_to, rules_of};
+    ghost use Rattle.cose_msg.specs.Verifier.{is_detached, opened, setting_in};
+
+    /// How many bytes of the detached payload are to come. None unless the status is
+    /// [`Status::PayloadNext`](crate::Status::PayloadNext).
+    pub fn payload_wanted(&self) -> u64
+        ensures value { result ≡ payload_wanted_in self.now }
+        // By definition, of the bytes so far.
+        ensures reads { (task : Task) (s B : List ℕ) → HasTaken task s B self.now
+            → result ≡ (message (rules_of H D task) s).payload_wanted }
+        ensures some { status_in self.now ≡ Status.PayloadNext → 0 < result }
+        ensures none { is_payload_next (status_in self.now) ≡ false → result ≡ 0 }
+    {
+        self.reader.waits();
+        if self.stopped {
+            return 0;
+        }
+        self.reader.phase.payload_wanted()
+    }
+
+    /// Takes the next bytes of a detached payload: the whole piece, or as many as are wanted. It returns how many it
+    /// used. They are hashed, and not kept.
+    ///
+    /// It is called where bytes of the payload are wanted ([`Verifier::payload_wanted`]). When all are there, the
+    /// message is fed again.
+    pub fn feed_payload(&mut self, piece: &[u8]) -> usize
+        requires some { 0 < payload_wanted_in self.old }
+        ensures uses { result ≡ min (length piece.now) (payload_wanted_in self.old) }
+        ensures taken { (task : Task) (s B : List ℕ) → HasTaken task s B self.old
+            → HasTaken (given_to (B ++ take result piece.now) task) s (B ++ take result piece.now)
+            self.new }
+        ensures status { (task : Task) (s B : List ℕ) → HasTaken task s B self.old
+            → status_in self.new
+            ≡ status_of (message (rules_of H D (given_to (B ++ take result piece.now) task)) s) }
+        ensures tells { (task : Task) (s B : List ℕ) → HasTaken task s B self.old
+            → Tells (given_to (B ++ take result piece.now) task) s self.new }
+        ensures counts { bytes_taken self.new ≡ bytes_taken self.old }
+        ensures inspects { is_inspecting self.new ≡ is_inspecting self.old }
+        ensures context { (task : Task) (s B : List ℕ) → HasTaken task s B self.old
+            → setting_in self.new ≡ setting_in self.old }
+        ensures held { held self.new ≤ 2 * H + 512 }
+        ensures opened { opened self.new ≤ D }
+    {
+        match self.reader.phase {
+            Phase::Detached(detached) => {
+                let count = detached.left.min(piece.len() as u64) as usize;
+                self.reader.detached_piece(detached, &piece[..count]);
+                self.reader.waits();
+                count
+            }
+            _ => 0,
+        }
+    }
+}
