@@ -201,7 +201,7 @@ class Round:
         self.spelling = Spelling(chance, chance.choice(WIDE_RATES))
         self.kind = "sign1" if command == "digest" or self.happens(0.3) else "mac0"
         self.other_kind = "mac0" if self.kind == "sign1" else "sign1"
-        self.alg = -7 if self.kind == "sign1" else self.pick(4, 5, 5, 6, 7)
+        self.alg = self.pick(-7, -35, -36) if self.kind == "sign1" else self.pick(4, 5, 5, 6, 7)
         self.alg_bucket = chance.choices(("protected", "unprotected", "neither"), (16, 2, 1))[0]
         self.kid = self.pick(None, chance.choice(KIDS))
         self.is_tagged = self.happens(0.8)
@@ -301,8 +301,12 @@ class Round:
 
     def point(self):
         """The members of an EC2 key; the point may be off the curve, which the program doesn't look at."""
-        x, y = self.chance.randbytes(32), self.chance.randbytes(32)
-        pairs = [(1, reading.EC2), (-1, reading.P256), (-2, x), (-3, self.pick(y, y, True, False))]
+        curve = reading.ALGORITHMS[self.alg].curve or self.pick(*reading.COORDINATE_BYTES)
+        if self.slips():
+            curve = self.pick(0, 1, 2, 3, 4)
+        length = reading.COORDINATE_BYTES.get(curve, 32) + self.slips()
+        x, y = self.chance.randbytes(length), self.chance.randbytes(length)
+        pairs = [(1, reading.EC2), (-1, curve), (-2, x), (-3, self.pick(y, y, True, False))]
         return [*pairs, (-4, y)] if self.happens(0.1) else pairs
 
     def other_key(self):
@@ -310,7 +314,7 @@ class Round:
         other_alg = self.chance.choice([it for it in reading.ALGORITHMS if it != self.alg or self.slips()])
         return self.pick(
             Pairs([(1, 1), (-1, 6), (-2, bytes(32))]),
-            Pairs([(1, reading.EC2), (-1, 2), (-2, bytes(48)), (-3, bytes(48))]),
+            Pairs([(1, reading.EC2), (-1, 4), (-2, bytes(32)), (-3, bytes(32))]),
             Pairs([(1, self.pick("EC2", 3, 0))]),
             self.key(self.other_kind, None, self.kid),
             self.key(self.kind, other_alg, self.kid),

@@ -140,7 +140,7 @@ def lines_of_claims(claims):
     if "cnf key" in claims:
         key = claims["cnf key"]
         y = str(key.y).lower() if isinstance(key.y, bool) else key.y.hex()
-        yield f"cnf key {reading.P256} {key.x.hex()} {y}"
+        yield f"cnf key {key.curve} {key.x.hex()} {y}"
     if "cnf kid" in claims:
         yield f"cnf kid {claims['cnf kid'].content().hex()}"
 

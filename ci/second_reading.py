@@ -250,7 +250,8 @@ def check_buckets(protected, unprotected, after):
 # Keys (RFC 9052 section 7, RFC 9053 section 7)
 
 EC2, SYMMETRIC = 2, 4
-P256, P256_BYTES = 1, 32
+# the bytes of a coordinate on P-256, P-384 and P-521
+COORDINATE_BYTES = {1: 32, 2: 48, 3: 66}
 VERIFY, MAC_CREATE, MAC_VERIFY = 2, 9, 10
 KEY_FORMS = {
     1: form(is_integer_or_text),
@@ -263,13 +264,14 @@ KEY_FORMS = {
 
 @dataclass
 class Key:
-    """A usable key: a secret, or the point x, y on P-256, where y is bytes or a truth value (the sign alone)."""
+    """A usable key: a secret, or the point x, y on a curve, where y is bytes or a truth value (the sign alone)."""
 
     type: int
     kid: bytes | None
     alg: int | str | None
     operations: list | None
     secret: bytes | None = None
+    curve: int | None = None
     x: bytes | None = None
     y: bytes | bool | None = None
 
@@ -292,18 +294,18 @@ def key_of(item):
     if key_type == SYMMETRIC:
         key.secret = member(-1, lambda value: is_bytes(value) and value.argument > 0).content()
         return key
-    curve = member(-1, is_integer_or_text)
-    demand(curve.integer() == P256, Reason.UnknownKey, item.place)
+    key.curve = member(-1, is_integer_or_text).integer()
+    demand(key.curve in COORDINATE_BYTES, Reason.UnknownKey, item.place)
+
+    def is_coordinate(value):
+        return is_bytes(value) and value.argument == COORDINATE_BYTES[key.curve]
+
     key.x = member(-2, is_coordinate).content()
     y = member(-3, lambda value: is_coordinate(value) or value.truth() is not None)
     key.y = y.content() if is_bytes(y) else y.truth()
     if -4 in pairs:
         member(-4, is_bytes)
     return key
-
-
-def is_coordinate(value):
-    return is_bytes(value) and value.argument == P256_BYTES
 
 
 def read_key(data):
@@ -337,6 +339,7 @@ class Algorithm:
     hash: str
     auth_length: int
     key_type: int
+    curve: int | None = None
 
 
 ALGORITHMS = {
@@ -344,7 +347,9 @@ ALGORITHMS = {
     5: Algorithm("mac0", "sha256", 32, SYMMETRIC),
     6: Algorithm("mac0", "sha384", 48, SYMMETRIC),
     7: Algorithm("mac0", "sha512", 64, SYMMETRIC),
-    -7: Algorithm("sign1", "sha256", 64, EC2),
+    -7: Algorithm("sign1", "sha256", 64, EC2, 1),
+    -35: Algorithm("sign1", "sha384", 96, EC2, 2),
+    -36: Algorithm("sign1", "sha512", 132, EC2, 3),
 }
 OPERATIONS = {"mac0": MAC_VERIFY, "sign1": VERIFY}
 
@@ -368,6 +373,7 @@ def choose_key(keys, kind, protected, unprotected, place):
             # anyone can change the unprotected bucket, so the key has to name the same algorithm
             and (inside is not None or outside is None or key.alg == outside)
             and ALGORITHMS[used].key_type == key.type
+            and ALGORITHMS[used].curve == key.curve
             and (key.operations is None or OPERATIONS[kind] in key.operations)
             and (None in (key.kid, kid) or key.kid == kid)
         )
@@ -489,7 +495,7 @@ def vouch_word(message, aad):
     content = structure(message.kind, message.protected_bytes, aad, message.payload)
     digest = hashlib.new(ALGORITHMS[message.alg].hash, content).digest()
     y = bytes([message.key.y]) if isinstance(message.key.y, bool) else message.key.y
-    return bytes([P256]) + digest + message.auth + message.key.x + y
+    return bytes([message.key.curve]) + digest + message.auth + message.key.x + y
 
 
 def authenticate(message, context):

@@ -1,5 +1,5 @@
 -- Claims on examples, by computing.
-use Rattle.std.proofs.Common.{◌≡◌, ◌-◌, ◌^◌, ℕ, ℤ, pos, negsuc, List, [], ◌∷◌, ◌++◌, replicate, Option, Some, None, Ok, Err, refl}
+use Rattle.std.proofs.Common.{◌≡◌, ◌-◌, ◌^◌, ℕ, ℤ, pos, negsuc, List, [], ◌∷◌, ◌++◌, replicate, Option, Some, None, Ok, Err, map, refl}
 use Rattle.std.specs.Str.{is_utf8, chars}
 use Rattle.cose_head.specs.declared.reason.Reason.{Reason}
 use Rattle.cose_head.specs.declared.reason.Reason.TheVariants as reasons
@@ -222,3 +222,24 @@ public_key : said (0xa1 ∷ 8 ∷ 0xa1 ∷ 1 ∷ 0xa4 ∷ 1 ∷ 2 ∷ 0x20 ∷ 1
     })
 unfolding said
 public_key = refl
+
+-- A key on P-384, and one on P-521, with coordinates of these lengths.
+abbrev confirming : ℕ → ℕ → List ℕ
+confirming curve size = 0xa1 ∷ 8 ∷ 0xa1 ∷ 1 ∷ 0xa4 ∷ 1 ∷ 2 ∷ 0x20 ∷ curve ∷ 0x21 ∷ 0x58 ∷ size ∷ (replicate size 7 ++ 0x22 ∷ 0x58 ∷ size ∷ replicate size 9)
+
+abbrev confirms : ℕ → ℕ → Said
+confirms curve size = record silent {
+  cnf = Some (record {
+    key = Some (record { kid = None; alg = None; operations = None; material = elliptic curve (replicate size 7) (coordinate (replicate size 9)) });
+    kid = None;
+  });
+}
+
+public_keys : map said (confirming 2 48 ∷ confirming 3 66 ∷ []) ≡ Ok (confirms 2 48) ∷ Ok (confirms 3 66) ∷ []
+unfolding said
+public_keys = refl
+
+-- Coordinates of other lengths, and X25519 (curve 4).
+no_public_keys : map said (confirming 2 32 ∷ confirming 3 64 ∷ confirming 4 32 ∷ []) ≡ replicate 3 (refused reasons.BadConfirmation 4)
+unfolding said
+no_public_keys = refl

@@ -10,16 +10,22 @@ use Rattle.cose_head.specs.declared.algorithm.Hash.TheVariants.{Sha256, Sha384, 
 use Rattle.cose_head.specs.declared.algorithm.KeyType.{KeyType}
 use Rattle.cose_head.specs.declared.algorithm.KeyType.TheVariants.{Symmetric, Elliptic}
 use Rattle.cose_head.specs.declared.algorithm.Alg.{Alg}
-use Rattle.cose_head.specs.declared.algorithm.Alg.TheVariants.{Hmac64, Hmac256, Hmac384, Hmac512, Es256}
+use Rattle.cose_head.specs.declared.algorithm.Alg.TheVariants.{Hmac64, Hmac256, Hmac384, Hmac512, Es256, Es384, Es512}
 
 -- number, kind of message, keys, hash function, and bytes of a MAC or signature
 abbrev pub row : ℤ → Kind → KeyType → Hash → ℕ → Row
 row number kind key_type hash auth_length =
     record { number = number; kind = kind; key_type = key_type; hash = hash; auth_length = auth_length }
 
--- the number of the curve P-256 (RFC 9053 section 7.1, table 18)
+-- the numbers of the curves P-256, P-384 and P-521 (RFC 9053 section 7.1, table 18)
 abbrev pub p_256 : ℕ
 p_256 = 1
+
+abbrev pub p_384 : ℕ
+p_384 = 2
+
+abbrev pub p_521 : ℕ
+p_521 = 3
 
 abbrev pub row_of : Alg → Row
 row_of Hmac64 = row (pos 4) Mac0 Symmetric Sha256 8
@@ -27,6 +33,8 @@ row_of Hmac256 = row (pos 5) Mac0 Symmetric Sha256 32
 row_of Hmac384 = row (pos 6) Mac0 Symmetric Sha384 48
 row_of Hmac512 = row (pos 7) Mac0 Symmetric Sha512 64
 row_of Es256 = row (negsuc 6) Sign1 (Elliptic p_256) Sha256 64
+row_of Es384 = row (negsuc 34) Sign1 (Elliptic p_384) Sha384 96
+row_of Es512 = row (negsuc 35) Sign1 (Elliptic p_521) Sha512 132
 
 abbrev pub algorithm_number : Alg → ℤ
 algorithm_number alg = (row_of alg).number
@@ -52,7 +60,7 @@ abbrev pub is_mac_of : Alg → Bool
 is_mac_of alg = is_mac0 (kind_of alg)
 
 abbrev pub algorithms : List Alg
-algorithms = Hmac64 ∷ Hmac256 ∷ Hmac384 ∷ Hmac512 ∷ Es256 ∷ []
+algorithms = Hmac64 ∷ Hmac256 ∷ Hmac384 ∷ Hmac512 ∷ Es256 ∷ Es384 ∷ Es512 ∷ []
 
 -- The algorithm of this number, if there is one.
 abbrev pub algorithm_numbered : ℤ → Option Alg

@@ -18,6 +18,10 @@ pub enum Alg {
     Hmac512,
     /// ES256: ECDSA with SHA-256, here on the curve P-256 alone.
     Es256,
+    /// ES384: ECDSA with SHA-384, here on the curve P-384 alone.
+    Es384,
+    /// ES512: ECDSA with SHA-512, here on the curve P-521 alone.
+    Es512,
 }
 
 /// A hash function of FIPS 180-4.
@@ -51,12 +55,14 @@ struct Row {
 }
 
 impl Alg {
-    const ALL: [Alg; 5] = [
+    const ALL: [Alg; 7] = [
         Alg::Hmac64,
         Alg::Hmac256,
         Alg::Hmac384,
         Alg::Hmac512,
         Alg::Es256,
+        Alg::Es384,
+        Alg::Es512,
     ];
 
     /// The algorithm of this number, if it is one of these.
@@ -119,6 +125,8 @@ impl Alg {
             Alg::Hmac384 => (6, Kind::Mac0, KeyType::Symmetric, Hash::Sha384, 48),
             Alg::Hmac512 => (7, Kind::Mac0, KeyType::Symmetric, Hash::Sha512, 64),
             Alg::Es256 => (-7, Kind::Sign1, KeyType::Elliptic(1), Hash::Sha256, 64),
+            Alg::Es384 => (-35, Kind::Sign1, KeyType::Elliptic(2), Hash::Sha384, 96),
+            Alg::Es512 => (-36, Kind::Sign1, KeyType::Elliptic(3), Hash::Sha512, 132),
         };
         Row {
             number,

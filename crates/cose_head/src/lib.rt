@@ -7,7 +7,8 @@
 //! [`parse_head`], which answers with a [`HeadStep`], and [`write_head`] are for a [`Head`] outside an item. No memory
 //! is allocated.
 //!
-//! [`Alg`] is the table of algorithms: the [`Kind`] of message of each, its [`Hash`], and the [`KeyType`] of its keys.
+//! [`Alg`] is the table of algorithms, four of HMAC and three of ECDSA: the [`Kind`] of message of each, its [`Hash`],
+//! and the [`KeyType`] of its keys.
 //!
 //! `Debug` of an [`ItemRef`] and of [`Items`] prints how many bytes there are, and none of them ([`Hidden`]): they may be a key's.
 //!

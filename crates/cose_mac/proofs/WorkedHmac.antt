@@ -1,9 +1,9 @@
 -- The lengths of the hash functions (FIPS 180-4, figure 1) and the blocks of HMAC (RFC 2104 section 2), on examples, by computing.
-use Rattle.std.proofs.Common.{◌≡◌, ℕ, List, [], ◌∷◌, ◌++◌, refl}
+use Rattle.std.proofs.Common.{◌≡◌, ℕ, List, [], ◌∷◌, ◌++◌, map, refl}
 use Rattle.std.specs.Prelude.{replicate, take}
 use Rattle.sha2.specs.Sha256.{sha256}
 use Rattle.sha2.specs.Sha512.{sha384, sha512}
-use Rattle.cose_head.specs.declared.algorithm.Alg.TheVariants.{Hmac64, Hmac256, Hmac384, Hmac512, Es256}
+use Rattle.cose_head.specs.declared.algorithm.Alg.TheVariants.{Hmac64, Hmac256, Hmac384, Hmac512, Es256, Es384, Es512}
 use Rattle.cose_head.specs.declared.algorithm.Hash.TheVariants.{Sha256, Sha384, Sha512}
 use Rattle.cose_mac.proofs.HashLemmas.{length_digest}
 use Rattle.cose_mac.specs.Hash.{function_of, digest_of, digest_length_of}
@@ -18,13 +18,21 @@ block_of_sha384 = refl
 block_of_sha512 : (function_of Sha512).block_length ≡ 128
 block_of_sha512 = refl
 
--- ES256 signs a digest by SHA-256 (RFC 9053 section 2.1).
+-- ES256 signs a digest by SHA-256, ES384 one by SHA-384, and ES512 one by SHA-512 (RFC 9053 section 2.1).
 digest_of_es256 : (message : List ℕ) → digest_of Es256 message ≡ sha256 message
 unfolding digest_of
 digest_of_es256 message = refl
 
-digest_length_of_es256 : digest_length_of Es256 ≡ 32
-digest_length_of_es256 = refl
+digest_of_es384 : (message : List ℕ) → digest_of Es384 message ≡ sha384 message
+unfolding digest_of
+digest_of_es384 message = refl
+
+digest_of_es512 : (message : List ℕ) → digest_of Es512 message ≡ sha512 message
+unfolding digest_of
+digest_of_es512 message = refl
+
+digest_lengths : map digest_length_of (Es256 ∷ Es384 ∷ Es512 ∷ []) ≡ 32 ∷ 48 ∷ 64 ∷ []
+digest_lengths = refl
 
 digest_length_of_hmac384 : digest_length_of Hmac384 ≡ 48
 digest_length_of_hmac384 = refl

@@ -96,3 +96,35 @@ fn computes_the_digests_of_fips_180_4(rt: HostRuntime) {
         }
     }
 }
+
+/// The digest that each algorithm of signatures signs (RFC 9053 section 2.1), of `abc` (FIPS 180-4).
+#[test]
+fn digests_by_the_algorithm(rt: HostRuntime) {
+    let table: [(Alg, &[u8]); 3] = [
+        (
+            Alg::Es256,
+            b"\xba\x78\x16\xbf\x8f\x01\xcf\xea\x41\x41\x40\xde\x5d\xae\x22\x23\
+              \xb0\x03\x61\xa3\x96\x17\x7a\x9c\xb4\x10\xff\x61\xf2\x00\x15\xad",
+        ),
+        (
+            Alg::Es384,
+            b"\xcb\x00\x75\x3f\x45\xa3\x5e\x8b\xb5\xa0\x3d\x69\x9a\xc6\x50\x07\
+              \x27\x2c\x32\xab\x0e\xde\xd1\x63\x1a\x8b\x60\x5a\x43\xff\x5b\xed\
+              \x80\x86\x07\x2b\xa1\xe7\xcc\x23\x58\xba\xec\xa1\x34\xc8\x25\xa7",
+        ),
+        (
+            Alg::Es512,
+            b"\xdd\xaf\x35\xa1\x93\x61\x7a\xba\xcc\x41\x73\x49\xae\x20\x41\x31\
+              \x12\xe6\xfa\x4e\x89\xa9\x7e\xa2\x0a\x9e\xee\xe6\x4b\x55\xd3\x9a\
+              \x21\x92\x99\x2a\x27\x4f\xc1\xa8\x36\xba\x3c\x23\xa3\xfe\xeb\xbd\
+              \x45\x4d\x44\x23\x64\x3c\xe8\x0e\x2a\x9a\xc9\x4f\xa5\x4c\xa4\x9f",
+        ),
+    ];
+    for (alg, digest) in table {
+        let mut running = Running::digest(alg);
+        running.update(b"a");
+        running.update(b"bc");
+        assert!(rt; !running.is_mac());
+        assert_eq!(rt; running.finish_digest().as_slice(), digest, "for {alg:?}");
+    }
+}

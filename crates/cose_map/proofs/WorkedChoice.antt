@@ -1,5 +1,5 @@
 -- The choice of the key on examples, by computing.
-use Rattle.std.proofs.Common.{◌≡◌, ℕ, ℤ, pos, negsuc, true, List, [], ◌∷◌, Option, Some, None, Result, Ok, Err, map, refl}
+use Rattle.std.proofs.Common.{◌≡◌, ℕ, ℤ, pos, negsuc, true, List, [], ◌∷◌, Option, Some, None, Result, Ok, Err, map, replicate, refl}
 use Rattle.cose_head.specs.declared.kind.Kind.TheVariants.{Mac0, Sign1}
 use Rattle.cose_head.specs.declared.reason.Reason.{Reason}
 use Rattle.cose_head.specs.declared.reason.Reason.TheVariants.{NoAlg, UnknownAlg, AlgUnprotected, NoKey, AmbiguousKey}
@@ -82,13 +82,13 @@ macs : map (λ n. answer (Some (number n)) None None (plain ∷ [])) (pos 4 ∷ 
 unfolding answer
 macs = refl
 
-no_macs : map (λ n. answer (Some (number n)) None None (plain ∷ [])) (pos 3 ∷ pos 8 ∷ pos 0 ∷ negsuc 3 ∷ negsuc 6 ∷ [])
-    ≡ Err UnknownAlg ∷ Err UnknownAlg ∷ Err UnknownAlg ∷ Err UnknownAlg ∷ Err UnknownAlg ∷ []
+no_macs : map (λ n. answer (Some (number n)) None None (plain ∷ [])) (pos 3 ∷ pos 8 ∷ pos 0 ∷ negsuc 3 ∷ negsuc 6 ∷ negsuc 34 ∷ negsuc 35 ∷ [])
+    ≡ replicate 7 (Err UnknownAlg)
 unfolding answer
 no_macs = refl
 
--- A point on P-256, which is curve 1, is for ES256 (-7); a point on another curve, or a secret, isn't, and a point
--- isn't for a MAC.
+-- A point on P-256 (curve 1) is for ES256 (-7), one on P-384 (2) for ES384 (-35), and one on P-521 (3) for ES512 (-36).
+-- A point on another curve, or a secret, isn't, and a point isn't for a MAC.
 abbrev point : ℕ → KeyValue
 point curve = record { kid = None; alg = None; operations = None; material = elliptic curve (7 ∷ []) (sign true) }
 
@@ -102,12 +102,31 @@ signed protected keys = chosen (asks_signature protected) keys
 abbrev es256 : Option LabelValue
 es256 = Some (number (negsuc 6))
 
+abbrev es384 : Option LabelValue
+es384 = Some (number (negsuc 34))
+
+abbrev es512 : Option LabelValue
+es512 = Some (number (negsuc 35))
+
 signature : signed es256 (point 1 ∷ []) ≡ Ok (point 1, negsuc 6)
 unfolding signed
 signature = refl
 
-no_signatures : map (λ n. signed (Some (number n)) (point 1 ∷ [])) (negsuc 5 ∷ negsuc 7 ∷ negsuc 36 ∷ [])
-    ≡ Err UnknownAlg ∷ Err UnknownAlg ∷ Err UnknownAlg ∷ []
+each_curve : map (λ alg. map (λ curve. signed alg (point curve ∷ [])) (1 ∷ 2 ∷ 3 ∷ 4 ∷ [])) (es256 ∷ es384 ∷ es512 ∷ []) ≡
+    (Ok (point 1, negsuc 6) ∷ Err NoKey ∷ Err NoKey ∷ Err NoKey ∷ []) ∷
+    (Err NoKey ∷ Ok (point 2, negsuc 34) ∷ Err NoKey ∷ Err NoKey ∷ []) ∷
+    (Err NoKey ∷ Err NoKey ∷ Ok (point 3, negsuc 35) ∷ Err NoKey ∷ []) ∷ []
+unfolding signed
+each_curve = refl
+
+-- Of three keys, one on each curve.
+one_of_each : map (λ alg. signed alg (point 1 ∷ point 2 ∷ point 3 ∷ [])) (es256 ∷ es384 ∷ es512 ∷ []) ≡
+    Ok (point 1, negsuc 6) ∷ Ok (point 2, negsuc 34) ∷ Ok (point 3, negsuc 35) ∷ []
+unfolding signed
+one_of_each = refl
+
+no_signatures : map (λ n. signed (Some (number n)) (point 1 ∷ point 2 ∷ point 3 ∷ [])) (negsuc 5 ∷ negsuc 7 ∷ negsuc 33 ∷ negsuc 36 ∷ pos 35 ∷ [])
+    ≡ replicate 5 (Err UnknownAlg)
 unfolding signed
 no_signatures = refl
 
@@ -115,7 +134,7 @@ other_curve : signed es256 (point 2 ∷ []) ≡ Err NoKey
 unfolding signed
 other_curve = refl
 
-secret_for_signature : signed es256 (plain ∷ []) ≡ Err NoKey
+secret_for_signature : map (λ alg. signed alg (plain ∷ [])) (es256 ∷ es384 ∷ es512 ∷ []) ≡ replicate 3 (Err NoKey)
 unfolding signed
 secret_for_signature = refl
 
@@ -123,7 +142,7 @@ mac_for_signature : signed five (plain ∷ []) ≡ Err UnknownAlg
 unfolding signed
 mac_for_signature = refl
 
-point_for_mac : answer five None None (point 1 ∷ []) ≡ Err NoKey
+point_for_mac : map (λ curve. answer five None None (point curve ∷ [])) (1 ∷ 2 ∷ 3 ∷ []) ≡ replicate 3 (Err NoKey)
 unfolding answer
 point_for_mac = refl
 
@@ -146,6 +165,10 @@ own_mac_for_signature = refl
 own_signature : signed None (for_es256 ∷ []) ≡ Ok (for_es256, negsuc 6)
 unfolding signed
 own_signature = refl
+
+own_signature_on_another_curve : signed None (record (point 2) { alg = es256 } ∷ record (point 3) { alg = es384 } ∷ []) ≡ Err NoAlg
+unfolding signed
+own_signature_on_another_curve = refl
 
 -- A key for an algorithm that a text string names.
 abbrev for_words : KeyValue

@@ -259,7 +259,8 @@ named_curve : key (0xa2 ∷ 1 ∷ 2 ∷ 0x20 ∷ 0x61 ∷ 0xff ∷ []) ≡ refus
 unfolding key
 named_curve = refl
 
-other_curves : map (λ n. key (0xa2 ∷ 1 ∷ 2 ∷ 0x20 ∷ n ∷ [])) (0 ∷ 3 ∷ 4 ∷ 6 ∷ 0x20 ∷ []) ≡ replicate 5 (refused UnknownKey 0)
+-- The numbers next to those of the curves, X25519 (4), and Ed25519 (6) (RFC 9053 section 7.1, table 18).
+other_curves : map (λ n. key (0xa2 ∷ 1 ∷ 2 ∷ 0x20 ∷ n ∷ [])) (0 ∷ 4 ∷ 5 ∷ 6 ∷ 0x20 ∷ 0x21 ∷ 0x22 ∷ []) ≡ replicate 7 (refused UnknownKey 0)
 unfolding key
 other_curves = refl
 
@@ -267,9 +268,58 @@ missing_curve : key (0xa1 ∷ 1 ∷ 2 ∷ []) ≡ refused BadValue 0
 unfolding key
 missing_curve = refl
 
-other_curve : key (0xa2 ∷ 1 ∷ 2 ∷ 0x20 ∷ 2 ∷ []) ≡ refused UnknownKey 0
+-- On each usable curve x must be present.
+missing_x : map (λ n. key (0xa2 ∷ 1 ∷ 2 ∷ 0x20 ∷ n ∷ [])) (1 ∷ 2 ∷ 3 ∷ []) ≡ replicate 3 (refused BadValue 0)
 unfolding key
-other_curve = refl
+missing_x = refl
+
+-- Points on P-384 (2) and on P-521 (3), whose coordinates have 48 and 66 bytes.
+abbrev x_and : ℕ → ℕ → List ℕ → List ℕ
+x_and curve length_of_x y = 0xa4 ∷ 1 ∷ 2 ∷ 0x20 ∷ curve ∷ 0x21 ∷ 0x58 ∷ length_of_x ∷ replicate length_of_x 7 ++ 0x22 ∷ y
+
+abbrev y_of : ℕ → List ℕ
+y_of n = 0x58 ∷ n ∷ replicate n 8
+
+point_on_p_384 : key (x_and 2 48 (y_of 48))
+    ≡ Ok (record { kid = None; alg = None; operations = None; material = elliptic 2 (replicate 48 7) (coordinate (replicate 48 8)) })
+unfolding key
+point_on_p_384 = refl
+
+point_on_p_521 : key (x_and 3 66 (y_of 66))
+    ≡ Ok (record { kid = None; alg = None; operations = None; material = elliptic 3 (replicate 66 7) (coordinate (replicate 66 8)) })
+unfolding key
+point_on_p_521 = refl
+
+sign_on_p_384 : key (x_and 2 48 (0xf5 ∷ []))
+    ≡ Ok (record { kid = None; alg = None; operations = None; material = elliptic 2 (replicate 48 7) (sign true) })
+unfolding key
+sign_on_p_384 = refl
+
+sign_on_p_521 : key (x_and 3 66 (0xf4 ∷ []))
+    ≡ Ok (record { kid = None; alg = None; operations = None; material = elliptic 3 (replicate 66 7) (sign false) })
+unfolding key
+sign_on_p_521 = refl
+
+-- Coordinates that are a byte too short or too long, or as long as those of another curve.
+other_x_on_p_256 : map (λ n. key (x_and 1 n (y_of 32))) (48 ∷ 66 ∷ []) ≡ replicate 2 (refused BadValue 6)
+unfolding key
+other_x_on_p_256 = refl
+
+other_x_on_p_384 : map (λ n. key (x_and 2 n (y_of 48))) (32 ∷ 47 ∷ 49 ∷ 66 ∷ []) ≡ replicate 4 (refused BadValue 6)
+unfolding key
+other_x_on_p_384 = refl
+
+other_x_on_p_521 : map (λ n. key (x_and 3 n (y_of 66))) (32 ∷ 48 ∷ 64 ∷ 65 ∷ 67 ∷ []) ≡ replicate 5 (refused BadValue 6)
+unfolding key
+other_x_on_p_521 = refl
+
+other_y_on_p_384 : map (λ n. key (x_and 2 48 (y_of n))) (32 ∷ 47 ∷ 49 ∷ 66 ∷ []) ≡ replicate 4 (refused BadValue 57)
+unfolding key
+other_y_on_p_384 = refl
+
+other_y_on_p_521 : map (λ n. key (x_and 3 66 (y_of n))) (48 ∷ 64 ∷ 65 ∷ 67 ∷ []) ≡ replicate 4 (refused BadValue 75)
+unfolding key
+other_y_on_p_521 = refl
 
 -- A member of another form is refused at its value: bytes for a curve, a number for x, nil for y, and a number for d.
 no_curves : map (λ value. key (0xa2 ∷ 1 ∷ 2 ∷ 0x20 ∷ value)) values ≡

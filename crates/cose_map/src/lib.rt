@@ -38,6 +38,9 @@
 //!
 //! Code that takes either is generic over [`Keys`].
 //!
+//! A usable key is a secret, or a point on P-256, P-384 or P-521 ([`Material`]). Whether a point is on its curve isn't
+//! checked: no curve arithmetic is included.
+//!
 //! The labels that RFC 9052 section 3.1 defines are in [`header`]. [`read_map`] and [`check_map`] read any map with a
 //! table of value forms, a [`Form`], into its [`Pairs`]. [`KeySet::of_key`] is the set of one key that is within
 //! another item.

@@ -4,7 +4,7 @@ use Rattle.cose_head.specs.declared.reason.Reason.TheVariants.{Truncated, NoAlg,
 use Rattle.cose_map.specs.Label.{number}
 use Rattle.cose_msg.specs.declared.context.Wanted.TheVariants as wants
 use Rattle.cose_msg.specs.Answer.{refused}
-use Rattle.cose_msg.proofs.WorkedMessages.{hex, Gives, reading, verdict, verdict_in, under, secret, plain, for_five, point}
+use Rattle.cose_msg.proofs.WorkedMessages.{hex, Gives, reading, verdict, verdict_in, under, secret, plain, for_five, point, point_on}
 
 -- Without a key. The fault is at the place of the payload's head, and precedes every fault of that head.
 without_keys : Gives (verdict []) (
@@ -50,6 +50,35 @@ other_kinds : Gives (verdict plain) (
     (hex "d83dd28443a10105a0", refused UnknownAlg 9) ∷ [])
 unfolding reading
 other_kinds = refl
+
+-- Each signature algorithm under a point on each curve; EdDSA (-8), and the numbers next to ES384 and ES512, are unknown.
+signed_under_p_256 : Gives (verdict (point None ∷ [])) (
+    (hex "d28443a10126a0", refused Truncated 7) ∷
+    (hex "d28444a1013822a0", refused NoKey 8) ∷
+    (hex "d28444a1013823a0", refused NoKey 8) ∷
+    (hex "d28443a10127a0", refused UnknownAlg 7) ∷
+    (hex "d28444a1013821a0", refused UnknownAlg 8) ∷
+    (hex "d28444a1013824a0", refused UnknownAlg 8) ∷ [])
+unfolding reading
+signed_under_p_256 = refl
+
+signed_under_p_384 : Gives (verdict (point_on 2 48 ∷ [])) (
+    (hex "d28443a10126a0", refused NoKey 7) ∷
+    (hex "d28444a1013822a0", refused Truncated 8) ∷
+    (hex "d28444a1013823a0", refused NoKey 8) ∷
+    (hex "d28443a10127a0", refused UnknownAlg 7) ∷
+    (hex "d18444a1013822a0", refused UnknownAlg 8) ∷ [])
+unfolding reading
+signed_under_p_384 = refl
+
+signed_under_p_521 : Gives (verdict (point_on 3 66 ∷ [])) (
+    (hex "d28443a10126a0", refused NoKey 7) ∷
+    (hex "d28444a1013822a0", refused NoKey 8) ∷
+    (hex "d28444a1013823a0", refused Truncated 8) ∷
+    (hex "d28443a10127a0", refused UnknownAlg 7) ∷
+    (hex "d18444a1013823a0", refused UnknownAlg 8) ∷ [])
+unfolding reading
+signed_under_p_521 = refl
 
 untagged_mac0 : Gives (verdict_in (record (under plain) { wanted = wants.Mac0 })) (
     (hex "8443a10105a0", refused Truncated 6) ∷

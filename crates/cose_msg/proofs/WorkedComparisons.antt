@@ -8,7 +8,7 @@ use Rattle.cose_head.specs.Shortest.{shortest, shortest_all}
 use Rattle.cose_head.specs.declared.kind.Kind.TheVariants.{Mac0, Sign1}
 use Rattle.cose_head.specs.declared.reason.Reason.TheVariants.{BadAuth}
 use Rattle.cose_head.specs.declared.algorithm.Alg.{Alg}
-use Rattle.cose_head.specs.declared.algorithm.Alg.TheVariants.{Hmac64, Hmac256, Hmac384, Hmac512, Es256}
+use Rattle.cose_head.specs.declared.algorithm.Alg.TheVariants.{Hmac64, Hmac256, Hmac384, Hmac512, Es256, Es384, Es512}
 use Rattle.cose_mac.specs.Hmac.{mac}
 use Rattle.cose_mac.specs.Hash.{digest_of}
 use Rattle.cose_mac.specs.Structure.{mac_structure, sig_structure}
@@ -18,7 +18,7 @@ use Rattle.cose_msg.specs.declared.verdict.Verdict.{Verdict}
 use Rattle.cose_msg.specs.declared.verdict.Verdict.TheVariants.{Authentic, Refused}
 use Rattle.cose_msg.specs.Answer.{Answer, Chosen, decided, complete, refused}
 use Rattle.cose_msg.specs.Message.{Decides, Setting, structure, uncompared, comparing, verified, verifying}
-use Rattle.cose_msg.proofs.WorkedMessages.{hex, any, algorithm, Gives, reading, under, jefe, secret, plain, for_five, point}
+use Rattle.cose_msg.proofs.WorkedMessages.{hex, any, algorithm, Gives, reading, under, jefe, secret, plain, for_five, point, point_on}
 
 -- The answer where the tag is compared with the MAC of these bytes, for a payload of two bytes.
 abbrev if_mac_of : String → Alg → List ℕ → ℕ → ℕ → Answer
@@ -129,6 +129,21 @@ sign1 : (decides : Decides) (byte : ℕ → ℕ) →
     then decided (Authentic Sign1 Es256 0 74) else refused BadAuth 8)
 unfolding reading structure sig_structure shortest shortest_all shortest_head
 sign1 decides byte = refl
+
+-- ES384 and ES512: the digest is by SHA-384 and by SHA-512, and the signature has 96 bytes and 132.
+sign1_by_es384 : (decides : Decides) (byte : ℕ → ℕ) →
+    (reading (verifying 1024 4 (under (point_on 2 48 ∷ [])) decides) (hex "d28444a1013822a0 40 5860" ++ any byte 96)).answer ≡
+    (if decides (point_on 2 48) (digest_of Es384 (hex "846a5369676e61747572653144a10138224040")) (any byte 96)
+    then decided (Authentic Sign1 Es384 0 107) else refused BadAuth 9)
+unfolding reading structure sig_structure shortest shortest_all shortest_head
+sign1_by_es384 decides byte = refl
+
+sign1_by_es512 : (decides : Decides) (byte : ℕ → ℕ) →
+    (reading (verifying 1024 4 (under (point_on 3 66 ∷ [])) decides) (hex "d28444a1013823a0 40 5884" ++ any byte 132)).answer ≡
+    (if decides (point_on 3 66) (digest_of Es512 (hex "846a5369676e61747572653144a10138234040")) (any byte 132)
+    then decided (Authentic Sign1 Es512 0 143) else refused BadAuth 9)
+unfolding reading structure sig_structure shortest shortest_all shortest_head
+sign1_by_es512 decides byte = refl
 
 -- The signature covers the external data and the payload too.
 sign1_with_data : (decides : Decides) (byte : ℕ → ℕ) →

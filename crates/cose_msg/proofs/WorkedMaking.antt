@@ -1,12 +1,12 @@
 -- The COSE_Mac0 that is made, and the faults of the arguments, on examples, by computing (RFC 9052 section 6.2, RFC
 -- 9053 section 3.1). The MAC is left as it is defined.
-use Rattle.std.specs.Prelude.{◌≡◌, ℕ, ◌^◌, ◌-◌, pos, List, [], ◌∷◌, ◌++◌, map, Option, None, Some, refl}
+use Rattle.std.specs.Prelude.{◌≡◌, ℕ, ◌^◌, ◌-◌, pos, List, [], ◌∷◌, ◌++◌, map, replicate, Option, None, Some, refl}
 use Rattle.std.proofs.Common.{ap, ◌∙◌}
 use Prim.Native.String.{String}
 use Rattle.cose_head.specs.Head.{shortest_head}
 use Rattle.cose_head.specs.Shortest.{shortest, shortest_all}
 use Rattle.cose_head.specs.declared.algorithm.Alg.{Alg}
-use Rattle.cose_head.specs.declared.algorithm.Alg.TheVariants.{Hmac64, Hmac256, Hmac384, Hmac512, Es256}
+use Rattle.cose_head.specs.declared.algorithm.Alg.TheVariants.{Hmac64, Hmac256, Hmac384, Hmac512, Es256, Es384, Es512}
 use Rattle.cose_mac.specs.Hmac.{mac}
 use Rattle.cose_mac.specs.Laws.{MacHasItsLength}
 use Rattle.cose_mac.specs.Structure.{encoded_string, mac_structure}
@@ -17,7 +17,7 @@ use Rattle.cose_msg.specs.declared.make.MakeFault.TheVariants.{WrongKey, TooLong
 use Rattle.cose_msg.specs.Make.{make_fault}
 use Rattle.cose_msg.specs.Making.{made}
 use Rattle.cose_msg.proofs.Making.{in_parts}
-use Rattle.cose_msg.proofs.WorkedMessages.{any, hex, jefe, point, secret}
+use Rattle.cose_msg.proofs.WorkedMessages.{any, hex, jefe, point, point_on, secret}
 
 abbrev message : Alg → Option (List ℕ) → List ℕ → List ℕ → List ℕ
 message alg kid aad payload = made alg jefe kid aad payload
@@ -88,7 +88,8 @@ tags length bytes = rw (length Hmac64 jefe bytes refl, length Hmac256 jefe bytes
 abbrev under_key : Alg → KeyValue → Option MakeFault
 under_key alg key = make_fault alg key None [] 2
 
-plain_keys : map (λ alg. under_key alg (secret None None None)) (Hmac64 ∷ Hmac256 ∷ Hmac384 ∷ Hmac512 ∷ Es256 ∷ []) ≡ None ∷ None ∷ None ∷ None ∷ Some WrongKey ∷ []
+plain_keys : map (λ alg. under_key alg (secret None None None)) (Hmac64 ∷ Hmac256 ∷ Hmac384 ∷ Hmac512 ∷ Es256 ∷ Es384 ∷ Es512 ∷ []) ≡
+    None ∷ None ∷ None ∷ None ∷ Some WrongKey ∷ Some WrongKey ∷ Some WrongKey ∷ []
 plain_keys = refl
 
 -- A key for HMAC 256/256 alone, and one for an algorithm that a text names.
@@ -103,8 +104,12 @@ operations : map (λ allowed. under_key Hmac256 (secret None None (Some allowed)
     Some WrongKey ∷ None ∷ None ∷ Some WrongKey ∷ []
 operations = refl
 
+-- A point makes no MAC, also under an algorithm that is for its curve.
 points : map (λ alg. under_key alg (point None)) (Hmac256 ∷ Es256 ∷ []) ≡ Some WrongKey ∷ Some WrongKey ∷ []
 points = refl
+
+points_on_other_curves : map (λ alg. under_key alg (point_on 2 48)) (Hmac384 ∷ Es384 ∷ []) ++ map (λ alg. under_key alg (point_on 3 66)) (Hmac512 ∷ Es512 ∷ []) ≡ replicate 4 (Some WrongKey)
+points_on_other_curves = refl
 
 -- The key's own identifier is not compared.
 other_identifier : make_fault Hmac256 (secret (Some (hex "31")) None None) (Some (hex "32")) [] 2 ≡ None

@@ -80,6 +80,10 @@ for_five = secret None (Some (number (pos 5))) None ∷ []
 abbrev pub point : Option (List ℤ) → KeyValue
 point operations = record { kid = None; alg = None; operations = operations; material = elliptic 1 (replicate 32 7) (coordinate (replicate 32 8)) }
 
+-- A point on another curve, by the curve's number and the number of bytes of a coordinate.
+abbrev pub point_on : ℕ → ℕ → KeyValue
+point_on curve size = record { kid = None; alg = None; operations = None; material = elliptic curve (replicate size 7) (coordinate (replicate size 8)) }
+
 -- The pair of an algorithm: its label is at this place, and its value after that.
 abbrev pub algorithm_at : ℕ → ℕ → Pair
 algorithm_at place value = record {

@@ -2,7 +2,7 @@
 use Rattle.std.specs.Prelude.{ℕ, ◌^◌, List, [], ◌∷◌, None, refl}
 use Rattle.cose_head.specs.declared.reason.Reason.TheVariants.{Truncated, Reserved, Indefinite, BadSimple, WrongType, Detached, BadAuthLength, PayloadTooLong}
 use Rattle.cose_msg.specs.Answer.{Answer, refused}
-use Rattle.cose_msg.proofs.WorkedMessages.{hex, Gives, reading, verdict, verdict_in, under, secret, plain, point}
+use Rattle.cose_msg.proofs.WorkedMessages.{hex, Gives, reading, verdict, verdict_in, under, secret, plain, point, point_on}
 
 -- The head of the payload: a byte string of less than 2^56 bytes. nil marks a detached payload, in one byte alone.
 payload_heads : Gives (verdict plain) (
@@ -76,8 +76,8 @@ auth_heads : Gives (verdict plain) (
 unfolding reading
 auth_heads = refl
 
--- The lengths of the other algorithms: HMAC 256/64, 384/384 and 512/512, and ES256.
-auth_lengths : Gives (verdict (secret None None None ∷ point None ∷ [])) (
+-- The lengths of the other algorithms: HMAC 256/64, 384/384 and 512/512, and ES256, ES384 and ES512.
+auth_lengths : Gives (verdict (secret None None None ∷ point None ∷ point_on 2 48 ∷ point_on 3 66 ∷ [])) (
     (hex "d18443a10104a0 40 48", refused Truncated 9) ∷
     (hex "d18443a10104a0 40 47", refused BadAuthLength 8) ∷
     (hex "d18443a10104a0 40 49", refused BadAuthLength 8) ∷
@@ -93,6 +93,15 @@ auth_lengths : Gives (verdict (secret None None None ∷ point None ∷ [])) (
     (hex "d28443a10126a0 40 5840", refused Truncated 10) ∷
     (hex "d28443a10126a0 40 583f", refused BadAuthLength 8) ∷
     (hex "d28443a10126a0 40 5841", refused BadAuthLength 8) ∷
-    (hex "d28443a10126a0 40 5820", refused BadAuthLength 8) ∷ [])
+    (hex "d28443a10126a0 40 5820", refused BadAuthLength 8) ∷
+    (hex "d28444a1013822a0 40 5860", refused Truncated 11) ∷
+    (hex "d28444a1013822a0 40 585f", refused BadAuthLength 9) ∷
+    (hex "d28444a1013822a0 40 5861", refused BadAuthLength 9) ∷
+    (hex "d28444a1013822a0 40 5840", refused BadAuthLength 9) ∷
+    (hex "d28444a1013823a0 40 5884", refused Truncated 11) ∷
+    (hex "d28444a1013823a0 40 5883", refused BadAuthLength 9) ∷
+    (hex "d28444a1013823a0 40 5885", refused BadAuthLength 9) ∷
+    (hex "d28444a1013823a0 40 5880", refused BadAuthLength 9) ∷
+    (hex "d28444a1013823a0 40 5860", refused BadAuthLength 9) ∷ [])
 unfolding reading
 auth_lengths = refl

@@ -8,7 +8,7 @@ use Rattle.cose_head.specs.Item.{depth_of}
 use Rattle.cose_head.specs.Placed.{look, children_of, items_from, head_of_item}
 use Rattle.cose_head.specs.Reading.{read, head}
 use Rattle.cose_head.specs.Shortest.{shortest, shortest_all}
-use Rattle.cose_head.specs.declared.algorithm.Alg.TheVariants.{Es256}
+use Rattle.cose_head.specs.declared.algorithm.Alg.TheVariants.{Es256, Es384, Es512}
 use Rattle.cose_mac.specs.Hash.{digest_of}
 use Rattle.cose_mac.specs.Structure.{sig_structure}
 use Rattle.cose_map.specs.Bucket.{bucket_of}
@@ -48,6 +48,23 @@ untagged byte = refl
 in_cwt : (byte : ℕ → ℕ) → digests point [] (hex "d83dd28443a10126a0 40 5840" ++ any byte 64) ≡ told byte
 unfolding digests structure sig_structure shortest shortest_all shortest_head
 in_cwt byte = refl
+
+-- A point on P-384 for ES384, and one on P-521 for ES512.
+abbrev point_on_p_384 : List ℕ
+point_on_p_384 = hex "a401022002215830" ++ (replicate 48 7 ++ (hex "225830" ++ replicate 48 8))
+
+abbrev point_on_p_521 : List ℕ
+point_on_p_521 = hex "a401022003215842" ++ (replicate 66 7 ++ (hex "225842" ++ replicate 66 8))
+
+by_es384 : (byte : ℕ → ℕ) → digests point_on_p_384 [] (hex "d28444a1013822a0 40 5860" ++ any byte 96) ≡
+    vouched (word_for 2 (replicate 48 7) (coordinate (replicate 48 8)) (digest_of Es384 (hex "846a5369676e61747572653144a10138224040")) (any byte 96))
+unfolding digests structure sig_structure shortest shortest_all shortest_head
+by_es384 byte = refl
+
+by_es512 : (byte : ℕ → ℕ) → digests point_on_p_521 [] (hex "d28444a1013823a0 40 5884" ++ any byte 132) ≡
+    vouched (word_for 3 (replicate 66 7) (coordinate (replicate 66 8)) (digest_of Es512 (hex "846a5369676e61747572653144a10138234040")) (any byte 132))
+unfolding digests structure sig_structure shortest shortest_all shortest_head
+by_es512 byte = refl
 
 -- An argument of `--vouch`: the curve in one byte, the digest, the signature, x and y, or one byte for the sign of y.
 words_for : map (λ y. word_for 1 (hex "aa") y (hex "dd") (hex "5555")) (coordinate (hex "bb") ∷ sign true ∷ sign false ∷ []) ≡

@@ -3,6 +3,7 @@
 mod bounds;
 mod commands;
 mod contexts;
+mod curves;
 mod cwt;
 mod digests;
 mod failures;

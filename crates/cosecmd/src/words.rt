@@ -14,7 +14,10 @@ use std::alloc::{AllocError, Global};
 const VERSION: &str = "0.1.0";
 
 /// What help says below the options.
-const NOTES: &str = "Words in hexadecimal have an even number of digits, no prefix and no spaces.
+const NOTES: &str =
+    "HMAC is computed here; for ECDSA (ES256, ES384, ES512) the digest is computed, and --vouch decides; no curve \
+arithmetic is included.
+Words in hexadecimal have an even number of digits, no prefix and no spaces.
 Exit status: 0 authentic, 1 refused, 2 no verdict (command line, keys, memory, input or output).";
 
 /// What help says below the options of `make`.
@@ -25,7 +28,8 @@ Exit status: 0 made, 2 not or not whole (command line, key, memory, input or out
 
 /// What help says below the options of `digest`.
 const DIGEST_NOTES: &str =
-    "Words in hexadecimal have an even number of digits, no prefix and no spaces.
+    "For ECDSA (ES256, ES384, ES512) the digest is computed here; no curve arithmetic is included.
+Words in hexadecimal have an even number of digits, no prefix and no spaces.
 It prints the word that `verify --vouch` takes: the curve of the key in one byte, the digest of the structure that is signed, \
 the signature, x and y. Nobody has looked at the signature: whoever does vouches for it with that word.
 Exit status: 0 told, 1 refused, 2 no answer (command line, keys, memory, input or output).";
@@ -38,7 +42,9 @@ Exit status: 0 shown, 1 refused, 2 no answer (command line, memory, input or out
 
 /// What help says below the options of `cwt`.
 const CWT_NOTES: &str =
-    "Words in hexadecimal have an even number of digits, no prefix and no spaces.
+    "HMAC is computed here; for ECDSA (ES256, ES384, ES512) the digest is computed, and --vouch decides; no curve \
+arithmetic is included.
+Words in hexadecimal have an even number of digits, no prefix and no spaces.
 It prints `admitted`, and then a line for each registered claim and for each text of the audience: texts and bytes in \
 hexadecimal, dates in seconds since 1970; of a confirmation the key (curve, x, y) and its identifier.
 Exit status: 0 admitted, 1 refused, 2 no answer (command line, keys, memory, input or output).";

@@ -202,6 +202,45 @@ fn gives_the_confirmation(rt: HostRuntime) -> Result<(), Fail> {
     Ok(())
 }
 
+/// The curve of the key in cnf, and the number of bytes of its x.
+fn confirmed(bytes: &[u8]) -> Option<(u8, usize)> {
+    let claims = Claims::read(bytes, 4).ok()?;
+    match claims.cnf()?.key?.material {
+        Material::Ec { crv, x, .. } => Some((crv, x.len())),
+        Material::Symmetric(_) => None,
+    }
+}
+
+#[test]
+fn gives_points_on_each_curve(rt: HostRuntime) {
+    let rows: [(&[u8], Option<(u8, usize)>); 4] = [
+        (
+            b"\xa1\x08\xa1\x01\xa4\x01\x02\x20\x02\x21\x58\x30\
+            012345678901234567890123456789012345678901234567\x22\xf5",
+            Some((2, 48)),
+        ),
+        (
+            b"\xa1\x08\xa1\x01\xa4\x01\x02\x20\x03\x21\x58\x42\
+            012345678901234567890123456789012345678901234567890123456789012345\x22\xf5",
+            Some((3, 66)),
+        ),
+        // Coordinates that are too short for the curve.
+        (
+            b"\xa1\x08\xa1\x01\xa4\x01\x02\x20\x02\x21\x58\x20\
+            01234567890123456789012345678901\x22\xf5",
+            None,
+        ),
+        (
+            b"\xa1\x08\xa1\x01\xa4\x01\x02\x20\x03\x21\x58\x40\
+            0123456789012345678901234567890123456789012345678901234567890123\x22\xf5",
+            None,
+        ),
+    ];
+    for (bytes, want) in rows {
+        assert_eq!(rt; confirmed(bytes), want, "of {bytes:?}");
+    }
+}
+
 #[test]
 fn shows_no_bytes_of_claims(rt: HostRuntime) -> Result<(), Fail> {
     // The key of cnf has the private key d (label -4), which no getter gives.

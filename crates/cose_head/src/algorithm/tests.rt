@@ -7,12 +7,16 @@ use crate::kind::Kind;
 fn has_the_table_of_the_standard(rt: HostRuntime) {
     let symmetric = KeyType::Symmetric;
     let p_256 = KeyType::Elliptic(1);
+    let p_384 = KeyType::Elliptic(2);
+    let p_521 = KeyType::Elliptic(3);
     let table = [
         (4, Alg::Hmac64, Kind::Mac0, symmetric, Hash::Sha256, 8),
         (5, Alg::Hmac256, Kind::Mac0, symmetric, Hash::Sha256, 32),
         (6, Alg::Hmac384, Kind::Mac0, symmetric, Hash::Sha384, 48),
         (7, Alg::Hmac512, Kind::Mac0, symmetric, Hash::Sha512, 64),
         (-7, Alg::Es256, Kind::Sign1, p_256, Hash::Sha256, 64),
+        (-35, Alg::Es384, Kind::Sign1, p_384, Hash::Sha384, 96),
+        (-36, Alg::Es512, Kind::Sign1, p_521, Hash::Sha512, 132),
     ];
     for (number, alg, kind, key_type, hash, length) in table {
         assert_eq!(rt; Alg::from_number(number), Some(alg), "at {number}");
@@ -30,15 +34,17 @@ fn knows_no_other_number(rt: HostRuntime) {
     for magnitude in 0..70_000u32 {
         let number = i128::from(magnitude);
         let is_hmac = matches!(magnitude, 4..=7);
+        let is_ecdsa = matches!(magnitude, 7 | 35 | 36);
         assert_eq!(rt; Alg::from_number(number).is_some(), is_hmac, "at {number}");
         assert_eq!(rt;
             Alg::from_number(-number).is_some(),
-            magnitude == 7,
+            is_ecdsa,
             "at -{number}"
         );
     }
     for number in [
         i128::MIN,
+        -(1 << 64) - 36,
         -(1 << 64) - 7,
         (1 << 32) + 5,
         (1 << 64) + 5,

@@ -17,12 +17,15 @@ impl Curve {
     pub(crate) fn numbered(number: i128) -> Option<Curve>
         ensures { result ≡ curve_of number }
     {
-        match number {
-            1 => Some(Curve {
-                number: 1,
-                coordinate_length: 32,
-            }),
-            _ => None,
-        }
+        let (number, coordinate_length) = match number {
+            1 => (1, 32),
+            2 => (2, 48),
+            3 => (3, 66),
+            _ => return None,
+        };
+        Some(Curve {
+            number,
+            coordinate_length,
+        })
     }
 }

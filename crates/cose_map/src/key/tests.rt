@@ -1,5 +1,7 @@
 //! Tables of examples: values of which the contracts can't show that they are the intended ones.
 
+ghost use Rattle.std.specs.Prelude.{◌≤◌};
+
 use super::*;
 use crate::key::material::Y;
 use cose_head::Reason;
@@ -74,11 +76,11 @@ fn refuses_keys_on_curves(rt: HostRuntime) {
         (b"\xa2\x01\x02\x20\x40", Reason::BadValue, 11),
         (b"\xa2\x01\x02\x20\x61\x78", Reason::UnknownKey, 7),
         (b"\xa2\x01\x02\x20\x00", Reason::UnknownKey, 7),
-        (b"\xa2\x01\x02\x20\x03", Reason::UnknownKey, 7),
         (b"\xa2\x01\x02\x20\x04", Reason::UnknownKey, 7),
+        (b"\xa2\x01\x02\x20\x06", Reason::UnknownKey, 7),
         // crv, and then x
         (b"\xa2\x01\x02\x21\x00", Reason::BadValue, 7),
-        (b"\xa2\x01\x02\x20\x02", Reason::UnknownKey, 7),
+        (b"\xa2\x01\x02\x20\x02", Reason::BadValue, 7),
         (b"\xa2\x01\x02\x20\x01", Reason::BadValue, 7),
         (b"\xa3\x01\x02\x20\x01\x21\x00", Reason::BadValue, 13),
         (b"\xa3\x01\x02\x20\x01\x21\x41\x78", Reason::BadValue, 13),
@@ -175,6 +177,33 @@ fn reads_keys(rt: HostRuntime) {
     ];
     for bytes in rows {
         assert!(rt; Key::read(bytes, 7).is_ok(), "{bytes:?} is refused");
+    }
+}
+
+/// Whether a key on this curve is read whose x is this many zeros, and whose y is a sign.
+fn is_read(curve: u8, length: u8) -> bool
+    requires { length ≤ 70 }
+{
+    let mut bytes = [0; 80];
+    let end = 8 + usize::from(length);
+    bytes[..8].copy_from_slice(b"\xa4\x01\x02\x20\x00\x21\x58\x00");
+    bytes[4] = curve;
+    bytes[7] = length;
+    bytes[end] = 0x22;
+    bytes[end + 1] = 0xf5;
+    match Key::read(&bytes[..end + 2], 0).map(|key| key.material) {
+        Ok(Material::Ec { crv, x, .. }) => crv == curve && x.len() == usize::from(length),
+        _ => false,
+    }
+}
+
+#[test]
+fn reads_points_on_each_curve(rt: HostRuntime) {
+    for length in 24..70 {
+        assert_eq!(rt; is_read(1, length), length == 32, "P-256, {length} bytes");
+        assert_eq!(rt; is_read(2, length), length == 48, "P-384, {length} bytes");
+        assert_eq!(rt; is_read(3, length), length == 66, "P-521, {length} bytes");
+        assert!(rt; !is_read(4, length), "curve 4, {length} bytes");
     }
 }
 

@@ -2,7 +2,7 @@
 
 ghost use Rattle.std.specs.Prelude.{◌≤◌, None};
 
-use crate::samples::{FailingReader, JEFE, MAC0, WatchedIntake, WatchedSink};
+use crate::samples::{CURVE_KEY, FailingReader, JEFE, MAC0, WatchedIntake, WatchedSink};
 use crate::{
     Alg, Intake, Key, MakeFault, ReadIntake, Sink, SinkFault, SliceIntake, Store, make_mac0,
 };
@@ -150,7 +150,6 @@ fn refuses_arguments(rt: HostRuntime) {
         2,
         MakeFault::WrongKey,
     );
-    refuses(&rt, Alg::Es256, JEFE, None, 2, MakeFault::WrongKey);
     refuses(
         &rt,
         Alg::Hmac256,
@@ -161,6 +160,16 @@ fn refuses_arguments(rt: HostRuntime) {
     );
     refuses(&rt, Alg::Hmac256, JEFE, None, 1 << 56, MakeFault::TooLong);
     refuses(&rt, Alg::Es256, JEFE, None, 1 << 56, MakeFault::WrongKey);
+}
+
+/// Each algorithm of signatures, under a secret and under a point.
+#[test]
+fn makes_no_signature(rt: HostRuntime) {
+    assert!(rt; Key::read(CURVE_KEY, 0).is_ok());
+    for alg in [Alg::Es256, Alg::Es384, Alg::Es512] {
+        refuses(&rt, alg, JEFE, None, 2, MakeFault::WrongKey);
+        refuses(&rt, alg, CURVE_KEY, None, 2, MakeFault::WrongKey);
+    }
 }
 
 #[test]

@@ -86,7 +86,7 @@ fn refuses(
 }
 
 /// A run with these arguments admits the token of these claims, and prints these lines for them.
-fn admits(
+pub fn admits(
     rt: &(impl Abort + Alloc<A = Global>),
     arguments: &[&str],
     claims: &str,

@@ -1,0 +1,188 @@
+//! Signatures on the curves P-384 and P-521: ES384 and ES512 (RFC 9053 section 2.1).
+
+use crate::tests::cwt::admits;
+use crate::tests::{KEYS, MEMBER_Y, point, prints, signed};
+use std::alloc::{AllocError, Global};
+use std::process::Abort;
+use std::test::Fail;
+
+/// A COSE_Sign1 of an empty payload, and the curve of its key.
+#[derive(Clone, Copy)]
+struct Signed {
+    /// The message up to the signature.
+    front: &'static str,
+    /// The digest that is signed, of the Sig_structure (RFC 9052 section 4.4).
+    digest: &'static str,
+    /// The number of the curve, in one digit.
+    curve: &'static str,
+    /// A coordinate's head, and the number of its bytes.
+    head: &'static str,
+    size: usize,
+    /// What is printed of the message where its signature is good.
+    authentic: &'static str,
+}
+
+const BY_ES384: Signed = Signed {
+    front: "d28444a1013822a0405860",
+    digest: "1e0ba67dbeb5d63762394f93eb7bc11152510218e61e5e3a6a55e08ed5c2f96b84a2f7986c02360da9b74e8ead5f29cc",
+    curve: "2",
+    head: "5830",
+    size: 48,
+    authentic: "authentic sign1 alg -35 payload 0 taken 107\n",
+};
+
+const BY_ES512: Signed = Signed {
+    front: "d28444a1013823a0405884",
+    digest: "44f8fc2e956542fad228314598f505314bd91b7707d3394095c1384eadd9fc5d\
+        9c7a33f412e0c2dfe088c7595282a092adb08eb548715137805165945a388b0d",
+    curve: "3",
+    head: "5842",
+    size: 66,
+    authentic: "authentic sign1 alg -36 payload 0 taken 143\n",
+};
+
+/// The longest signature.
+const SIGNATURE: &[u8] = &[0x5a; 132];
+
+/// The signature, which has as many bytes as two coordinates.
+fn signature(size: usize) -> &'static [u8] {
+    SIGNATURE.get(..size.saturating_mul(2)).unwrap_or(&[])
+}
+
+/// A coordinate whose bytes are all this one, in hexadecimal.
+fn coordinate(alloc: Global, byte: u8, size: usize) -> Result<String, AllocError> {
+    hex::encode(alloc, [byte; 66].get(..size).unwrap_or(&[]))
+}
+
+/// The key of a point on the curve, with this member y.
+fn key(alloc: Global, by: &Signed, y: &str) -> Result<String, AllocError> {
+    let x = coordinate(alloc, 0x11, by.size)?;
+    format!(in alloc; "a40102200{}21{}{x}22{y}", by.curve, by.head)
+}
+
+/// What vouches for the signature, after the curve: the digest, the signature, x, and these bytes of y.
+fn rest_of_word(alloc: Global, by: &Signed, y: &str) -> Result<String, AllocError> {
+    let digest = by.digest;
+    let signature = hex::encode(alloc, signature(by.size))?;
+    let x = coordinate(alloc, 0x11, by.size)?;
+    format!(in alloc; "{digest}{signature}{x}{y}")
+}
+
+/// Under the key with this member y, whose bytes are these, `digest` prints what vouches for the signature. With that
+/// `verify` finds the message authentic, and with the number of another curve it doesn't.
+fn vouches(
+    rt: &(impl Abort + Alloc<A = Global>),
+    by: &Signed,
+    member: &str,
+    y: &str,
+) -> Result<(), Fail> {
+    let alloc = rt.alloc();
+    let keys = key(alloc, by, member)?;
+    let message = signed(alloc, by.front, signature(by.size))?;
+    let rest = rest_of_word(alloc, by, y)?;
+    let word = format!(in alloc; "0{}{rest}", by.curve)?;
+    let other = format!(in alloc; "01{rest}")?;
+    let text = format!(in alloc; "vouch {word}\n")?;
+    let rows: [(&[&str], &str, u8); 4] = [
+        (&["digest", "--keys", &keys], &text, 0),
+        (
+            &["verify", "--keys", &keys, "--vouch", &word],
+            by.authentic,
+            0,
+        ),
+        (
+            &["verify", "--keys", &keys, "--vouch", &other],
+            "refused BadAuth at 9\n",
+            1,
+        ),
+        (&["verify", "--keys", &keys], "refused BadAuth at 9\n", 1),
+    ];
+    for (words, text, status) in rows {
+        prints(rt, words, message.as_slice(), text, status)?;
+    }
+    Ok(())
+}
+
+#[test]
+fn vouches_on_each_curve(rt: HostRuntime) -> Result<(), Fail> {
+    for (by, digits) in [(&BY_ES384, 482), (&BY_ES512, 658)] {
+        let y = coordinate(rt.alloc(), 0x22, by.size)?;
+        let member = format!(in rt.alloc(); "{}{y}", by.head)?;
+        let word = format!(in rt.alloc(); "0{}{}", by.curve, rest_of_word(rt.alloc(), by, &y)?)?;
+        assert_eq!(rt; word.len(), digits);
+        vouches(&rt, by, &member, &y)?;
+        vouches(&rt, by, "f5", "01")?;
+        vouches(&rt, by, "f4", "00")?;
+    }
+    Ok(())
+}
+
+#[test]
+fn refuses_other_keys_and_lengths(rt: HostRuntime) -> Result<(), Fail> {
+    let on_p_256 = point(rt.alloc(), MEMBER_Y)?;
+    let on_p_384 = key(rt.alloc(), &BY_ES384, "f5")?;
+    let on_p_521 = key(rt.alloc(), &BY_ES512, "f5")?;
+    // A coordinate of P-384 has 48 bytes.
+    let short = Signed {
+        head: "5820",
+        size: 32,
+        ..BY_ES384
+    };
+    let short = key(rt.alloc(), &short, "f5")?;
+    let rows: [(&str, &str, &str); 8] = [
+        (BY_ES384.front, &on_p_256, "refused NoKey at 8\n"),
+        (BY_ES384.front, &on_p_521, "refused NoKey at 8\n"),
+        (BY_ES384.front, &short, "refused NoKey at 8\n"),
+        (BY_ES512.front, &on_p_384, "refused NoKey at 8\n"),
+        ("d28443a10126a0405840", &on_p_384, "refused NoKey at 7\n"),
+        (
+            "d28444a1013822a0405840",
+            &on_p_384,
+            "refused BadAuthLength at 9\n",
+        ),
+        (
+            "d28444a1013823a0405880",
+            &on_p_521,
+            "refused BadAuthLength at 9\n",
+        ),
+        (
+            "d28443a10127a0405840",
+            &on_p_384,
+            "refused UnknownAlg at 7\n",
+        ),
+    ];
+    for (front, keys, text) in rows {
+        let message = signed(rt.alloc(), front, signature(66))?;
+        prints(
+            &rt,
+            &["verify", "--keys", keys],
+            message.as_slice(),
+            text,
+            1,
+        )?;
+        prints(
+            &rt,
+            &["digest", "--keys", keys],
+            message.as_slice(),
+            text,
+            1,
+        )?;
+    }
+    Ok(())
+}
+
+#[test]
+fn prints_confirmed_keys_on_each_curve(rt: HostRuntime) -> Result<(), Fail> {
+    let alloc = rt.alloc();
+    for by in [&BY_ES384, &BY_ES512] {
+        let (x, y) = (
+            coordinate(alloc, 0x11, by.size)?,
+            coordinate(alloc, 0x22, by.size)?,
+        );
+        let member = format!(in alloc; "{}{y}", by.head)?;
+        let claims = format!(in alloc; "a108a101{}", key(alloc, by, &member)?)?;
+        let line = format!(in alloc; "cnf key {} {x} {y}\n", by.curve)?;
+        admits(&rt, &["cwt", "--keys", KEYS, "--now", "0"], &claims, &line)?;
+    }
+    Ok(())
+}
