@@ -1,18 +1,17 @@
 //! Header buckets (RFC 9052 section 3).
 
-ghost use Rattle.std.specs.Prelude.{◌≡◌, ℕ, ◌+◌, ◌<◌, ◌≤◌, ◌^◌, ◌==◌, length, option_map, IfErr};
+ghost use Rattle.std.specs.Prelude.{◌≡◌, option_map};
 ghost use Rattle.cose_head.specs.ItemRef.{placed};
-ghost use Rattle.cose_head.specs.Items.{items_left};
-ghost use Rattle.cose_map.specs.Bucket.{bucket_of, alg_of, kid_of, crit_of};
-ghost use Rattle.cose_map.specs.Map.Pairs.{value_of, has_label};
-ghost use Rattle.cose_map.specs.Bucket.View.{bucket_pairs};
-ghost use Rattle.cose_map.specs.Map.View.{pairs_left, seen_by};
-ghost use Rattle.cose_map.specs.Label.View.{label_value};
+ghost use Rattle.cose_map.specs.Bucket.Header as names;
+ghost use Rattle.cose_map.specs.Map.Pairs.{value_of};
+ghost use Rattle.cose_map.specs.Map.View.{pairs_left};
 
 pub mod both;
+mod common;
 mod form;
 pub mod header;
 
+use crate::bucket::common::Common;
 use crate::bucket::form::HeaderForm;
 use crate::label::Label;
 use crate::map::pairs::Pairs;
@@ -23,9 +22,34 @@ use cose_head::{ItemRef, Items, Refusal};
 #[derive(Clone, Copy, Debug)]
 pub struct Bucket<'a> {
     pairs: Pairs<'a>,
+    common: Common<'a>,
+    /// The common values are those of the pairs.
+    pub ghost alg_found: { option_map placed common.alg ≡ value_of names.alg (pairs_left pairs) },
+    pub ghost crit_found: { option_map placed common.crit ≡ value_of names.crit (pairs_left pairs) },
+    pub ghost kid_found: { option_map placed common.kid ≡ value_of names.kid (pairs_left pairs) },
+    pub ghost iv_found: { option_map placed common.iv ≡ value_of names.iv (pairs_left pairs) },
+    pub ghost partial_iv_found: { option_map placed common.partial_iv ≡ value_of names.partial_iv (pairs_left pairs) },
 }
 
 impl<'a> Bucket<'a> {
+    ghost use Rattle.std.specs.Prelude.{ℕ, ◌+◌, ◌<◌, ◌≤◌, ◌^◌, ◌==◌, length, IfErr};
+    ghost use Rattle.cose_head.specs.Items.{items_left};
+    ghost use Rattle.cose_map.specs.Bucket.{bucket_of, alg_of, kid_of, crit_of};
+    ghost use Rattle.cose_map.specs.Bucket.View.{bucket_pairs};
+    ghost use Rattle.cose_map.specs.Label.View.{label_value};
+    ghost use Rattle.cose_map.specs.Map.Pairs.{has_label};
+    ghost use Rattle.cose_map.specs.Map.View.{seen_by};
+
+    /// A bucket of these pairs.
+    fn of(pairs: Pairs<'a>) -> Bucket<'a>
+        ensures { bucket_pairs result ≡ pairs_left pairs.entry }
+    {
+        Bucket {
+            pairs,
+            common: Common::of(pairs),
+        }
+    }
+
     /// Reads a bucket of a nesting of at most `depth`, whose first byte is at place `at`. Zero bytes are the empty
     /// bucket.
     ///
@@ -40,12 +64,10 @@ impl<'a> Bucket<'a> {
     {
         if bytes.is_empty() {
             let items = Items::none();
-            return Ok(Bucket {
-                pairs: Pairs { items },
-            });
+            return Ok(Bucket::of(Pairs { items }));
         }
         let pairs = read_map(&HeaderForm, bytes, at, depth)?;
-        Ok(Bucket { pairs })
+        Ok(Bucket::of(pairs))
     }
 
     /// The value of a label.
@@ -66,24 +88,35 @@ impl<'a> Bucket<'a> {
     pub fn alg(&self) -> Option<Label<'a>>
         ensures { option_map label_value result ≡ alg_of (bucket_pairs self.now) }
     {
-        let value = self.get(&header::ALG)?;
-        Label::of(&value)
+        Label::of(&self.common.alg?)
     }
 
     /// The key identifier.
     pub fn kid(&self) -> Option<&'a [u8]>
         ensures { option_map (λ kid. kid.now) result ≡ kid_of (bucket_pairs self.now) }
     {
-        let value = self.get(&header::KID)?;
-        value.as_bytes()
+        self.common.kid?.as_bytes()
     }
 
     /// The labels of the parameters that a recipient must understand.
     pub fn crit(&self) -> Option<Items<'a>>
         ensures { option_map items_left result ≡ crit_of (bucket_pairs self.now) }
     {
-        let value = self.get(&header::CRIT)?;
-        Some(Items::of(&value))
+        Some(Items::of(&self.common.crit?))
+    }
+
+    /// Whether the initialization vector is in the bucket.
+    pub(crate) fn has_iv(&self) -> bool
+        ensures { result ≡ has_label names.iv (bucket_pairs self.now) }
+    {
+        self.common.iv.is_some()
+    }
+
+    /// Whether the part of an initialization vector is in the bucket.
+    pub(crate) fn has_partial_iv(&self) -> bool
+        ensures { result ≡ has_label names.partial_iv (bucket_pairs self.now) }
+    {
+        self.common.partial_iv.is_some()
     }
 
     /// The pairs, in the order of the bytes: the label, its item, and the value.

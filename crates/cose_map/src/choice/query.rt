@@ -120,10 +120,11 @@ impl<'q> Query<'q> {
     fn fits(&self, key: &Key, algorithm: i128) -> bool
         ensures { result ≡ fits_key (question self.now) (key_value key.now) algorithm }
     {
-        is_for(&key.material, algorithm_of(self.kind, algorithm))
-            && is_allowed_algorithm(key.alg, algorithm)
-            && is_allowed_operation(key.ops, self.operation)
+        // What most keys of a set fail comes first: its algorithm is another, or its identifier.
+        is_allowed_algorithm(key.alg, algorithm)
             && is_allowed_kid(key.kid, self.kid)
+            && is_for(&key.material, algorithm_of(self.kind, algorithm))
+            && is_allowed_operation(key.ops, self.operation)
     }
 
     /// The algorithm of a key that fits.
