@@ -32,13 +32,28 @@ pub struct Bucket<'a> {
 }
 
 impl<'a> Bucket<'a> {
-    ghost use Rattle.std.specs.Prelude.{ℕ, ◌+◌, ◌<◌, ◌≤◌, ◌^◌, ◌==◌, length, IfErr};
+    ghost use Rattle.std.specs.Prelude.{ℕ, ◌+◌, ◌<◌, ◌≤◌, ◌^◌, ◌==◌, List, Ok, length, IfErr};
     ghost use Rattle.cose_head.specs.Items.{items_left};
     ghost use Rattle.cose_map.specs.Bucket.{bucket_of, alg_of, kid_of, crit_of};
     ghost use Rattle.cose_map.specs.Bucket.View.{bucket_pairs};
     ghost use Rattle.cose_map.specs.Label.View.{label_value};
-    ghost use Rattle.cose_map.specs.Map.Pairs.{has_label};
-    ghost use Rattle.cose_map.specs.Map.View.{seen_by};
+    ghost use Rattle.cose_map.specs.Map.Pairs.{Pair, has_label};
+    ghost use Rattle.cose_map.specs.Map.View.{refusal_in, seen_by};
+
+    /// The pairs of a bucket, checked.
+    #[tactic(auto, unfolding(crate::specs::Bucket::bucket_of, crate::specs::Map::Pairs::pairs_of))]
+    fn checked(bytes: &'a [u8], at: u64, depth: usize) -> Result<Pairs<'a>, Refusal>
+        requires shallow { depth ≤ 32 }
+        requires in_range { at + length bytes.now < 2 ^ 64 }
+        ensures exact { seen_by pairs_left result ≡ bucket_of depth (record { bytes = bytes.now; place = at }) }
+        ensures within { IfErr result (λ refusal. refusal.place ≤ at + length bytes.now) }
+    {
+        if bytes.is_empty() {
+            let items = Items::none();
+            return Ok(Pairs { items });
+        }
+        read_map(&HeaderForm, bytes, at, depth)
+    }
 
     /// A bucket of these pairs.
     fn of(pairs: Pairs<'a>) -> Bucket<'a>
@@ -55,19 +70,42 @@ impl<'a> Bucket<'a> {
     ///
     /// The refusal is the first fault of the item, with [`cose_head::Reason::PastRoom`] where the bytes end early, then
     /// `Trailing`, `NotMap`, and then in the order of the pairs `BadLabel`, `DuplicateLabel` and `BadValue`.
-    #[tactic(auto, unfolding(crate::specs::Bucket::bucket_of, crate::specs::Map::Pairs::pairs_of))]
+    #[tactic(auto, unfolding(crate::specs::Bucket::bucket_of))]
     pub fn read(bytes: &'a [u8], at: u64, depth: usize) -> Result<Bucket<'a>, Refusal>
         requires shallow { depth ≤ 32 }
         requires in_range { at + length bytes.now < 2 ^ 64 }
         ensures exact { seen_by bucket_pairs result ≡ bucket_of depth (record { bytes = bytes.now; place = at }) }
         ensures within { IfErr result (λ refusal. refusal.place ≤ at + length bytes.now) }
     {
-        if bytes.is_empty() {
-            let items = Items::none();
-            return Ok(Bucket::of(Pairs { items }));
-        }
-        let pairs = read_map(&HeaderForm, bytes, at, depth)?;
+        let pairs = Bucket::checked(bytes, at, depth)?;
         Ok(Bucket::of(pairs))
+    }
+
+    /// Why bytes are refused as a bucket, if they are: the refusal of [`Bucket::read`].
+    pub fn fault(bytes: &'a [u8], at: u64, depth: usize) -> Option<Refusal>
+        requires shallow { depth ≤ 32 }
+        requires in_range { at + length bytes.now < 2 ^ 64 }
+        ensures { result ≡ refusal_in (bucket_of depth (record { bytes = bytes.now; place = at })) }
+    {
+        Bucket::checked(bytes, at, depth).err()
+    }
+
+    /// Reads a bucket again in which [`Bucket::fault`] found nothing: its pairs, which aren't checked once more.
+    ///
+    /// Of other bytes only the faults of the item are refused, and the pairs end before the first without a label.
+    #[tactic(auto, unfolding(crate::specs::Bucket::bucket_of, crate::specs::Map::Pairs::pairs_of))]
+    pub fn again(bytes: &'a [u8], at: u64, depth: usize) -> Result<Bucket<'a>, Refusal>
+        requires shallow { depth ≤ 32 }
+        requires in_range { at + length bytes.now < 2 ^ 64 }
+        ensures { (pairs : List Pair) → bucket_of depth (record { bytes = bytes.now; place = at }) ≡ Ok pairs
+            → seen_by bucket_pairs result ≡ Ok pairs }
+    {
+        let items = if bytes.is_empty() {
+            Items::none()
+        } else {
+            Items::of(&ItemRef::read(bytes, at, depth)?)
+        };
+        Ok(Bucket::of(Pairs { items }))
     }
 
     /// The value of a label.

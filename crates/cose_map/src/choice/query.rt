@@ -53,7 +53,11 @@ fn is_for(material: &Material, algorithm: Option<Alg>) -> bool
 fn is_allowed_algorithm(own: Option<Label>, algorithm: i128) -> bool
     ensures { result ≡ allows_algorithm (option_map label_value own.entry) (number algorithm) }
 {
-    own.is_none_or(|own| own.is_same(&Label::Int(algorithm)))
+    match own {
+        Some(Label::Int(own)) => own == algorithm,
+        Some(Label::Text(_)) => false,
+        None => true,
+    }
 }
 
 /// Whether a key's operations, if it lists them, contain this one.
