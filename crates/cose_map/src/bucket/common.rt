@@ -5,6 +5,7 @@ ghost use Rattle.std.specs.Option.{option_or};
 ghost use Rattle.cose_head.specs.ItemRef.{placed};
 ghost use Rattle.cose_head.specs.Placed.{Placed};
 ghost use Rattle.cose_map.specs.Bucket.Header as names;
+ghost use Rattle.cose_map.specs.Label.{same_label};
 ghost use Rattle.cose_map.specs.Label.View.{label_value};
 ghost use Rattle.cose_map.specs.Map.Pairs.{Pair, value_of};
 ghost use Rattle.cose_map.specs.Map.View.{pairs_left};
@@ -29,8 +30,18 @@ pub(crate) struct Common<'a> {
     pub(crate) partial_iv: Option<ItemRef<'a>>,
 }
 
+/// Whether a pair has the label. Nearly all labels of headers are integers, which are compared at once.
+fn is_named(label: &Label<'_>, name: &Label<'_>) -> bool
+    ensures { result ≡ same_label (label_value label.now) (label_value name.now) }
+{
+    match (label, name) {
+        (Label::Int(number), Label::Int(other)) => number == other,
+        _ => label.is_same(name),
+    }
+}
+
 /// The first value of a label: that of the pairs so far, or else this pair's, if it has the label.
-#[tactic(auto, using(crate::proofs::lemmas::Bucket::Common::value_stays, crate::proofs::lemmas::Bucket::Common::value_found, crate::proofs::lemmas::Bucket::Common::value_passed))]
+#[tactic(auto, using(crate::proofs::lemmas::Bucket::Common::value_found, crate::proofs::lemmas::Bucket::Common::value_passed))]
 fn first<'a>(
     so_far: Option<ItemRef<'a>>,
     label: &Label<'_>,
@@ -42,13 +53,10 @@ fn first<'a>(
         ≡ option_or (option_map placed so_far.entry) (value_of (label_value label.now)
         (record { name = label_value name.now; label = item; value = placed value.entry } ∷ others)) }
 {
-    if so_far.is_some() {
-        return so_far;
-    }
-    if label.is_same(name) {
+    if is_named(label, name) && so_far.is_none() {
         return Some(value);
     }
-    None
+    so_far
 }
 
 impl<'a> Common<'a> {

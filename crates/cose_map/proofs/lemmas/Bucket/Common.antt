@@ -1,13 +1,7 @@
 -- The first value of a label, pair by pair.
-use Rattle.std.proofs.Common.{◌≡◌, true, false, List, ◌∷◌, Option, Some, refl}
-use Rattle.std.specs.Option.{option_or}
-use Rattle.cose_head.specs.Placed.{Placed}
+use Rattle.std.proofs.Common.{◌≡◌, true, false, List, ◌∷◌, Some, refl}
 use Rattle.cose_map.specs.Label.{LabelValue, same_label}
 use Rattle.cose_map.specs.Map.Pairs.{Pair, value_of}
-
--- one that was found
-pub value_stays : (found : Placed) (later others : Option Placed) → option_or (Some found) later ≡ option_or (Some found) others
-value_stays found later others = refl
 
 -- the value of a pair that has the label, and of one that hasn't
 pub value_found : (name : LabelValue) (pair : Pair) (others : List Pair) → same_label name pair.name ≡ true → value_of name (pair ∷ others) ≡ Some pair.value
