@@ -1,18 +1,17 @@
 //! Header buckets (RFC 9052 section 3).
 
-ghost use Rattle.std.specs.Prelude.{◌≡◌, ℕ, ◌+◌, ◌<◌, ◌≤◌, ◌^◌, ◌==◌, length, option_map, IfErr};
+ghost use Rattle.std.specs.Prelude.{◌≡◌, option_map};
 ghost use Rattle.cose_head.specs.ItemRef.{placed};
-ghost use Rattle.cose_head.specs.Items.{items_left};
-ghost use Rattle.cose_map.specs.Bucket.{bucket_of, alg_of, kid_of, crit_of};
-ghost use Rattle.cose_map.specs.Map.Pairs.{value_of, has_label};
-ghost use Rattle.cose_map.specs.Bucket.View.{bucket_pairs};
-ghost use Rattle.cose_map.specs.Map.View.{pairs_left, seen_by};
-ghost use Rattle.cose_map.specs.Label.View.{label_value};
+ghost use Rattle.cose_map.specs.Bucket.Header as names;
+ghost use Rattle.cose_map.specs.Map.Pairs.{value_of};
+ghost use Rattle.cose_map.specs.Map.View.{pairs_left};
 
 pub mod both;
+mod common;
 mod form;
 pub mod header;
 
+use crate::bucket::common::Common;
 use crate::bucket::form::HeaderForm;
 use crate::label::Label;
 use crate::map::pairs::Pairs;
@@ -23,29 +22,90 @@ use cose_head::{ItemRef, Items, Refusal};
 #[derive(Clone, Copy, Debug)]
 pub struct Bucket<'a> {
     pairs: Pairs<'a>,
+    common: Common<'a>,
+    /// The common values are those of the pairs.
+    pub ghost alg_found: { option_map placed common.alg ≡ value_of names.alg (pairs_left pairs) },
+    pub ghost crit_found: { option_map placed common.crit ≡ value_of names.crit (pairs_left pairs) },
+    pub ghost kid_found: { option_map placed common.kid ≡ value_of names.kid (pairs_left pairs) },
+    pub ghost iv_found: { option_map placed common.iv ≡ value_of names.iv (pairs_left pairs) },
+    pub ghost partial_iv_found: { option_map placed common.partial_iv ≡ value_of names.partial_iv (pairs_left pairs) },
 }
 
 impl<'a> Bucket<'a> {
+    ghost use Rattle.std.specs.Prelude.{ℕ, ◌+◌, ◌<◌, ◌≤◌, ◌^◌, ◌==◌, List, Ok, length, IfErr};
+    ghost use Rattle.cose_head.specs.Items.{items_left};
+    ghost use Rattle.cose_map.specs.Bucket.{bucket_of, alg_of, kid_of, crit_of};
+    ghost use Rattle.cose_map.specs.Bucket.View.{bucket_pairs};
+    ghost use Rattle.cose_map.specs.Label.View.{label_value};
+    ghost use Rattle.cose_map.specs.Map.Pairs.{Pair, has_label};
+    ghost use Rattle.cose_map.specs.Map.View.{refusal_in, seen_by};
+
+    /// The pairs of a bucket, checked.
+    #[tactic(auto, unfolding(crate::specs::Bucket::bucket_of, crate::specs::Map::Pairs::pairs_of))]
+    fn checked(bytes: &'a [u8], at: u64, depth: usize) -> Result<Pairs<'a>, Refusal>
+        requires shallow { depth ≤ 32 }
+        requires in_range { at + length bytes.now < 2 ^ 64 }
+        ensures exact { seen_by pairs_left result ≡ bucket_of depth (record { bytes = bytes.now; place = at }) }
+        ensures within { IfErr result (λ refusal. refusal.place ≤ at + length bytes.now) }
+    {
+        if bytes.is_empty() {
+            let items = Items::none();
+            return Ok(Pairs { items });
+        }
+        read_map(&HeaderForm, bytes, at, depth)
+    }
+
+    /// A bucket of these pairs.
+    fn of(pairs: Pairs<'a>) -> Bucket<'a>
+        ensures { bucket_pairs result ≡ pairs_left pairs.entry }
+    {
+        Bucket {
+            pairs,
+            common: Common::of(pairs),
+        }
+    }
+
     /// Reads a bucket of a nesting of at most `depth`, whose first byte is at place `at`. Zero bytes are the empty
     /// bucket.
     ///
     /// The refusal is the first fault of the item, with [`cose_head::Reason::PastRoom`] where the bytes end early, then
     /// `Trailing`, `NotMap`, and then in the order of the pairs `BadLabel`, `DuplicateLabel` and `BadValue`.
-    #[tactic(auto, unfolding(crate::specs::Bucket::bucket_of, crate::specs::Map::Pairs::pairs_of))]
+    #[tactic(auto, unfolding(crate::specs::Bucket::bucket_of))]
     pub fn read(bytes: &'a [u8], at: u64, depth: usize) -> Result<Bucket<'a>, Refusal>
         requires shallow { depth ≤ 32 }
         requires in_range { at + length bytes.now < 2 ^ 64 }
         ensures exact { seen_by bucket_pairs result ≡ bucket_of depth (record { bytes = bytes.now; place = at }) }
         ensures within { IfErr result (λ refusal. refusal.place ≤ at + length bytes.now) }
     {
-        if bytes.is_empty() {
-            let items = Items::none();
-            return Ok(Bucket {
-                pairs: Pairs { items },
-            });
-        }
-        let pairs = read_map(&HeaderForm, bytes, at, depth)?;
-        Ok(Bucket { pairs })
+        let pairs = Bucket::checked(bytes, at, depth)?;
+        Ok(Bucket::of(pairs))
+    }
+
+    /// Why bytes are refused as a bucket, if they are: the refusal of [`Bucket::read`].
+    pub fn fault(bytes: &'a [u8], at: u64, depth: usize) -> Option<Refusal>
+        requires shallow { depth ≤ 32 }
+        requires in_range { at + length bytes.now < 2 ^ 64 }
+        ensures { result ≡ refusal_in (bucket_of depth (record { bytes = bytes.now; place = at })) }
+    {
+        Bucket::checked(bytes, at, depth).err()
+    }
+
+    /// Reads a bucket again in which [`Bucket::fault`] found nothing: its pairs, which aren't checked once more.
+    ///
+    /// Of other bytes only the faults of the item are refused, and the pairs end before the first without a label.
+    #[tactic(auto, unfolding(crate::specs::Bucket::bucket_of, crate::specs::Map::Pairs::pairs_of))]
+    pub fn again(bytes: &'a [u8], at: u64, depth: usize) -> Result<Bucket<'a>, Refusal>
+        requires shallow { depth ≤ 32 }
+        requires in_range { at + length bytes.now < 2 ^ 64 }
+        ensures { (pairs : List Pair) → bucket_of depth (record { bytes = bytes.now; place = at }) ≡ Ok pairs
+            → seen_by bucket_pairs result ≡ Ok pairs }
+    {
+        let items = if bytes.is_empty() {
+            Items::none()
+        } else {
+            Items::of(&ItemRef::read(bytes, at, depth)?)
+        };
+        Ok(Bucket::of(Pairs { items }))
     }
 
     /// The value of a label.
@@ -66,24 +126,35 @@ impl<'a> Bucket<'a> {
     pub fn alg(&self) -> Option<Label<'a>>
         ensures { option_map label_value result ≡ alg_of (bucket_pairs self.now) }
     {
-        let value = self.get(&header::ALG)?;
-        Label::of(&value)
+        Label::of(&self.common.alg?)
     }
 
     /// The key identifier.
     pub fn kid(&self) -> Option<&'a [u8]>
         ensures { option_map (λ kid. kid.now) result ≡ kid_of (bucket_pairs self.now) }
     {
-        let value = self.get(&header::KID)?;
-        value.as_bytes()
+        self.common.kid?.as_bytes()
     }
 
     /// The labels of the parameters that a recipient must understand.
     pub fn crit(&self) -> Option<Items<'a>>
         ensures { option_map items_left result ≡ crit_of (bucket_pairs self.now) }
     {
-        let value = self.get(&header::CRIT)?;
-        Some(Items::of(&value))
+        Some(Items::of(&self.common.crit?))
+    }
+
+    /// Whether the initialization vector is in the bucket.
+    pub(crate) fn has_iv(&self) -> bool
+        ensures { result ≡ has_label names.iv (bucket_pairs self.now) }
+    {
+        self.common.iv.is_some()
+    }
+
+    /// Whether the part of an initialization vector is in the bucket.
+    pub(crate) fn has_partial_iv(&self) -> bool
+        ensures { result ≡ has_label names.partial_iv (bucket_pairs self.now) }
+    {
+        self.common.partial_iv.is_some()
     }
 
     /// The pairs, in the order of the bytes: the label, its item, and the value.

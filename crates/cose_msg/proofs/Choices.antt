@@ -1,15 +1,20 @@
 -- The result of both buckets together, step by step.
-use Rattle.std.proofs.Common.{◌≡◌, ℕ, Option, Some, None, Ok, Err, refl, sym, ◌∙◌}
+use Rattle.std.proofs.Common.{◌≡◌, ℕ, List, Option, Some, None, Ok, Err, refl}
 use Rattle.cose_head.specs.declared.reason.Reason.{Reason}
 use Rattle.cose_head.specs.declared.refusal.Refusal.{Refusal}
+use Rattle.cose_map.specs.Map.Pairs.{Pair}
 use Rattle.cose_map.specs.Map.Read.{Read}
 use Rattle.cose_map.specs.Bucket.Both.{pair_fault}
 use Rattle.cose_msg.specs.Answer.{Chosen, Headers}
 use Rattle.cose_msg.specs.Choosing.{choice_of}
 use Rattle.cose_msg.specs.Task.{Task, choice_for}
 
-pub same_value : {A : Type 0} (value : Read A) (x y : A) → value ≡ Ok x → Ok y ≡ value → x ≡ y
-same_value value x y e f = let both : Ok x ≡ Ok y = sym e ∙ sym f in cc
+-- a bucket that is read again, which had no fault
+pub same_pairs : (x y : List Pair) → ◌≡◌ {A = Read (List Pair)} (Ok x) (Ok y) → x ≡ y
+same_pairs x y e = cc
+
+pub not_refused : (refusal : Refusal) (pairs : List Pair) → ◌≡◌ {A = Read (List Pair)} (Err refusal) (Ok pairs) → ⊥
+not_refused refusal pairs e = cc
 
 module _ (task : Task) (headers : Headers) (place : ℕ) where
   pub pair_refused : (refusal : Refusal) → pair_fault headers.protected_pairs headers.unprotected_pairs task.setting.understood place ≡ Some refusal → choice_of task headers place ≡ Err refusal

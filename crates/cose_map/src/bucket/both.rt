@@ -141,6 +141,10 @@ fn with_unprotected(
 ) -> Option<Refusal>
     ensures { result ≡ fold spec.lesser so_far (flat_map (spec.unprotected_faults (bucket_pairs protected.now)) (bucket_pairs unprotected.now)) }
 {
+    // Without a pair in it nothing is searched, and the protected pairs needn't be gone through.
+    if unprotected.is_empty() {
+        return so_far;
+    }
     let mut search = Search::new(protected.pairs());
     let mut least = so_far;
     'pairs: for (name, item, _value) in unprotected.pairs() {
@@ -153,8 +157,8 @@ fn with_unprotected(
 fn has_both_ivs(protected: &Bucket<'_>, unprotected: &Bucket<'_>) -> bool
     ensures { result ≡ spec.both_ivs (bucket_pairs protected.now) (bucket_pairs unprotected.now) }
 {
-    (protected.has(&header::IV) || unprotected.has(&header::IV))
-        && (protected.has(&header::PARTIAL_IV) || unprotected.has(&header::PARTIAL_IV))
+    (protected.has_iv() || unprotected.has_iv())
+        && (protected.has_partial_iv() || unprotected.has_partial_iv())
 }
 
 /// Checks the two buckets of a message together (RFC 9052 sections 3 and 3.1).

@@ -175,6 +175,22 @@ fn bucket<'a>(rt: &impl Abort, bytes: &'a [u8], at: u64) -> Bucket<'a>
 }
 
 #[test]
+fn reads_again_what_has_no_fault(rt: HostRuntime) {
+    let bytes = b"\xa2\x01\x05\x04\x411".as_slice();
+    assert_eq!(rt; Bucket::fault(bytes, 3, 4), None);
+    match Bucket::again(bytes, 3, 4) {
+        Ok(again) => {
+            assert_eq!(rt; again.alg(), Some(Label::Int(5)));
+            assert_eq!(rt; again.kid(), Some(b"1".as_slice()));
+        }
+        Err(refusal) => panic!(rt; "{refusal:?}"),
+    }
+    // alg is a byte string.
+    let fault = refusal(Reason::BadValue, 5);
+    assert_eq!(rt; Bucket::fault(b"\xa1\x01\x40", 3, 4), Some(fault));
+}
+
+#[test]
 fn gives_every_pair(rt: HostRuntime) {
     let mut pairs = bucket(&rt, b"\xa2\x01\x05\x61\x31\x00", 0).pairs();
     let names = [Label::Int(1), Label::Text("1")];

@@ -53,7 +53,11 @@ fn is_for(material: &Material, algorithm: Option<Alg>) -> bool
 fn is_allowed_algorithm(own: Option<Label>, algorithm: i128) -> bool
     ensures { result ≡ allows_algorithm (option_map label_value own.entry) (number algorithm) }
 {
-    own.is_none_or(|own| own.is_same(&Label::Int(algorithm)))
+    match own {
+        Some(Label::Int(own)) => own == algorithm,
+        Some(Label::Text(_)) => false,
+        None => true,
+    }
 }
 
 /// Whether a key's operations, if it lists them, contain this one.
@@ -120,10 +124,11 @@ impl<'q> Query<'q> {
     fn fits(&self, key: &Key, algorithm: i128) -> bool
         ensures { result ≡ fits_key (question self.now) (key_value key.now) algorithm }
     {
-        is_for(&key.material, algorithm_of(self.kind, algorithm))
-            && is_allowed_algorithm(key.alg, algorithm)
-            && is_allowed_operation(key.ops, self.operation)
+        // What most keys of a set fail comes first: its algorithm is another, or its identifier.
+        is_allowed_algorithm(key.alg, algorithm)
             && is_allowed_kid(key.kid, self.kid)
+            && is_for(&key.material, algorithm_of(self.kind, algorithm))
+            && is_allowed_operation(key.ops, self.operation)
     }
 
     /// The algorithm of a key that fits.

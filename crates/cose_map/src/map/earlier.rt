@@ -118,17 +118,14 @@ impl<'a> Earlier<'a> {
         }
     }
 
-    /// These and the next pair, whose label this is.
-    pub(crate) fn with_next(self, name: Label<'a>) -> Earlier<'a>
-        requires few { self.count + 1 < 2 ^ 128 }
-        requires greatest { order.is_greatest (order.greater (option_map label_value self.greatest) (label_value name)) (take (self.count + 1) (pairs_left self.pairs)) ≡ true }
-        ensures pairs { pairs_left result.pairs ≡ pairs_left self.entry.pairs }
-        ensures count { result.count ≡ self.entry.count + 1 }
+    /// Adds the next pair, whose label this is.
+    pub(crate) fn push(&mut self, name: Label<'a>)
+        requires few { self.old.count + 1 < 2 ^ 128 }
+        requires greatest { order.is_greatest (order.greater (option_map label_value self.old.greatest) (label_value name)) (take (self.old.count + 1) (pairs_left self.old.pairs)) ≡ true }
+        ensures pairs { pairs_left self.new.pairs ≡ pairs_left self.old.pairs }
+        ensures count { self.new.count ≡ self.old.count + 1 }
     {
-        Earlier {
-            pairs: self.pairs,
-            count: self.count + 1,
-            greatest: greater(self.greatest, name),
-        }
+        self.greatest = greater(self.greatest, name);
+        self.count += 1;
     }
 }

@@ -41,7 +41,7 @@ fn check_items<'a, F: Form>(form: &F, items: Items<'a>) -> Result<Pairs<'a>, Ref
     let mut rest = items;
     'pairs: while let Some((label, value)) = next_two(&mut rest) {
         let name = earlier.check(form, &label, &value)?;
-        earlier = earlier.with_next(name);
+        earlier.push(name);
     }
     Ok(earlier.pairs)
 }

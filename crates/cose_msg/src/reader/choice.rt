@@ -119,8 +119,8 @@ impl<'k, const H: usize, const D: usize> Reader<'k, H, D> {
             (choice_of task (headers_of kind self.now.protected.items pairs others)
             (at + length self.now.unprotected.items)) }
     {
-        let protected = Bucket::read(self.protected.as_slice(), protected_at, D)?;
-        let unprotected = Bucket::read(self.unprotected.as_slice(), at, D)?;
+        let protected = Bucket::again(self.protected.as_slice(), protected_at, D)?;
+        let unprotected = Bucket::again(self.unprotected.as_slice(), at, D)?;
         let place = at + self.unprotected.len() as u64;
         check_pair(&protected, &unprotected, self.terms.understood, place)?;
         match key_for(keys, kind, &protected, &unprotected) {

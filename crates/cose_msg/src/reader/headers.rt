@@ -22,7 +22,7 @@ fn refusal_of(bytes: &[u8], at: u64, depth: usize) -> Option<Refusal>
     requires in_range { at + length bytes.now < 2 ^ 64 }
     ensures { result ≡ refusal_in (bucket_of depth (record { bytes = bytes.now; place = at })) }
 {
-    Bucket::read(bytes, at, depth).err()
+    Bucket::fault(bytes, at, depth)
 }
 
 /// Puts a piece of no more bytes than the walker wants, and returns the walker's step after it.

@@ -49,7 +49,7 @@ checked_name : (o : Option LabelValue) (table : Table) (earlier : List Pair) (la
 checked_name None table earlier label value pair others e = cc
 checked_name (Some name) table earlier label value pair others e = checked_new (has_label name earlier) table name label value pair others e
 
-checked_named : (table : Table) (earlier : List Pair) (label value : Placed) (pair : Pair) (others : List Placed) →
+pub checked_named : (table : Table) (earlier : List Pair) (label value : Placed) (pair : Pair) (others : List Placed) →
     pair_after table earlier label value ≡ Ok pair → pairs_of (label ∷ value ∷ others) ≡ pair ∷ pairs_of others
 unfolding pairs_of
 checked_named table earlier label value pair others e = checked_name (label_of label) table earlier label value pair (pairs_of others) e

@@ -8,8 +8,8 @@ use Rattle.cose_map.proofs.lemmas.Map.Read.{pairs_on, pairs_off, pairs_done}
 use Rattle.cose_map.proofs.lemmas.Label.Order.{still_greatest}
 use Rattle.cose_map.proofs.map.read.check_items.Goals as goal
 
-pub with_next-earlier-requires-clause-greatest : goal.with_next-earlier-requires-clause-greatest
-with_next-earlier-requires-clause-greatest g c =
+pub push-requires-clause-greatest : goal.push-requires-clause-greatest
+push-requires-clause-greatest g c =
     let next = pairs_on _ _ _ _ _ _ _ _ _ c.in-Some.ensures c.pairs.invariant.to_come c.pairs.invariant.onward c.in_ok-name.ensures in
     let pair = pair_value (c.in_ok-name.name, c.in-Some.label, c.in-Some.value) in
     rw next.0 (still_greatest (option_map label_value c.pairs.earlier.greatest) pair (earlier_pairs c.pairs.earlier) c.pairs.earlier.greatest_of_them)
@@ -17,7 +17,7 @@ with_next-earlier-requires-clause-greatest g c =
 pub pairs-preserved : goal.pairs-preserved
 pairs-preserved g c =
     let next = pairs_on _ _ _ _ _ _ _ _ _ c.in-Some.ensures c.pairs.invariant.to_come c.pairs.invariant.onward c.in_ok-name.ensures in
-    let added = c.with_next-earlier.ensures in
+    let added = c.push.ensures in
     let shorter = ap length c.in-Some.ensures in
     record {
       all = added.pairs ∙ c.pairs.invariant.all;

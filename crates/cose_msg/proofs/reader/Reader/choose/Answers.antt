@@ -1,47 +1,44 @@
 use Rattle.std.proofs.Common.{◌≡◌, ◌+◌, ap, length, Some, None, Ok, Err, refl, sym, ◌∙◌, arith}
 use Rattle.std.proofs.lemmas.Grind.{common_steps}
 use Rattle.std.proofs.lemmas.Result.{err_from_is_err_and}
-use Rattle.cose_map.specs.Bucket.{bucket_of}
 use Rattle.cose_map.specs.Bucket.View.{bucket_pairs}
 use Rattle.cose_map.specs.Bucket.Both.{pair_fault}
 use Rattle.std.specs.Prelude.{option_map}
 use Rattle.cose_msg.specs.Chosen.{chosen_value}
-use Rattle.cose_msg.specs.Phases.{headers_of, placed_at}
+use Rattle.cose_msg.specs.Phases.{headers_of}
 use Rattle.cose_msg.specs.Task.{Task, choice_for}
 use Rattle.cose_msg.proofs.ChoiceReadings.{chosen_among}
-use Rattle.cose_msg.proofs.Choices.{key_found, key_refused, pair_refused, same_value}
+use Rattle.cose_msg.proofs.Choices.{key_found, key_refused, not_refused, pair_refused, same_pairs}
 use Rattle.cose_msg.proofs.reader.Reader.choose.Goals as goal
 
 pub returns-in_err-protected : goal.returns-in_err-protected
 returns-in_err-protected g c = λ task pairs others e among good found_good.
-    let refused = rw c.as_slice.ensures.value at c.in_err-protected.ensures.exact in
-    let clash = refused ∙ good in absurd cc
+    absurd (not_refused _ pairs ((rw c.as_slice.ensures.value at c.in_err-protected.ensures) pairs good))
 
 pub returns-in_err-unprotected : goal.returns-in_err-unprotected
 returns-in_err-unprotected g c = λ task pairs others e among good found_good.
-    let refused = rw c.as_slice-2.ensures.value at c.in_err-unprotected.ensures.exact in
-    let clash = refused ∙ found_good in absurd cc
+    absurd (not_refused _ others ((rw c.as_slice-2.ensures.value at c.in_err-unprotected.ensures) others found_good))
 
 pub returns-in_err-check_pair : goal.returns-in_err-check_pair
 returns-in_err-check_pair g c = λ task pairs others e among good found_good.
-    let same : pairs ≡ bucket_pairs c.in_ok-protected.protected = same_value (bucket_of g.row.D (placed_at c.args.protected_at c.args.self.now.protected.items)) pairs (bucket_pairs c.in_ok-protected.protected) good (rw c.as_slice.ensures.value at c.in_ok-protected.ensures.exact) in
-    let same_others : others ≡ bucket_pairs c.in_ok-unprotected.unprotected = same_value (bucket_of g.row.D (placed_at c.args.at c.args.self.now.unprotected.items)) others (bucket_pairs c.in_ok-unprotected.unprotected) found_good (rw c.as_slice-2.ensures.value at c.in_ok-unprotected.ensures.exact) in
+    let same : pairs ≡ bucket_pairs c.in_ok-protected.protected = sym (same_pairs (bucket_pairs c.in_ok-protected.protected) pairs ((rw c.as_slice.ensures.value at c.in_ok-protected.ensures) pairs good)) in
+    let same_others : others ≡ bucket_pairs c.in_ok-unprotected.unprotected = sym (same_pairs (bucket_pairs c.in_ok-unprotected.unprotected) others ((rw c.as_slice-2.ensures.value at c.in_ok-unprotected.ensures) others found_good)) in
     let fault : pair_fault (bucket_pairs c.in_ok-protected.protected) (bucket_pairs c.in_ok-unprotected.unprotected) task.setting.understood (c.args.at + length c.args.self.now.unprotected.items) ≡ Some c.in_err-check_pair.field-0.0 = ap (λ (t : Task). pair_fault (bucket_pairs c.in_ok-protected.protected) (bucket_pairs c.in_ok-unprotected.unprotected) t.setting.understood (c.args.at + length c.args.self.now.unprotected.items)) (sym e) ∙ sym (rw c.len.ensures.value at c.in_err-check_pair.ensures) in
     let p = err_from_is_err_and c.from_residual-in_err-check_pair.result c.from_residual-in_err-check_pair.ensures.1 in
     rw (p.1, same, same_others, pair_refused task (headers_of c.args.kind c.args.self.now.protected.items (bucket_pairs c.in_ok-protected.protected) (bucket_pairs c.in_ok-unprotected.unprotected)) (c.args.at + length c.args.self.now.unprotected.items) c.in_err-check_pair.field-0.0 fault) p.2
 
 pub returns-in-Ok : goal.returns-in-Ok
 returns-in-Ok g c = λ task pairs others e among good found_good.
-    let same : pairs ≡ bucket_pairs c.in_ok-protected.protected = same_value (bucket_of g.row.D (placed_at c.args.protected_at c.args.self.now.protected.items)) pairs (bucket_pairs c.in_ok-protected.protected) good (rw c.as_slice.ensures.value at c.in_ok-protected.ensures.exact) in
-    let same_others : others ≡ bucket_pairs c.in_ok-unprotected.unprotected = same_value (bucket_of g.row.D (placed_at c.args.at c.args.self.now.unprotected.items)) others (bucket_pairs c.in_ok-unprotected.unprotected) found_good (rw c.as_slice-2.ensures.value at c.in_ok-unprotected.ensures.exact) in
+    let same : pairs ≡ bucket_pairs c.in_ok-protected.protected = sym (same_pairs (bucket_pairs c.in_ok-protected.protected) pairs ((rw c.as_slice.ensures.value at c.in_ok-protected.ensures) pairs good)) in
+    let same_others : others ≡ bucket_pairs c.in_ok-unprotected.unprotected = sym (same_pairs (bucket_pairs c.in_ok-unprotected.unprotected) others ((rw c.as_slice-2.ensures.value at c.in_ok-unprotected.ensures) others found_good)) in
     let fault : pair_fault (bucket_pairs c.in_ok-protected.protected) (bucket_pairs c.in_ok-unprotected.unprotected) task.setting.understood (c.args.at + length c.args.self.now.unprotected.items) ≡ None = ap (λ (t : Task). pair_fault (bucket_pairs c.in_ok-protected.protected) (bucket_pairs c.in_ok-unprotected.unprotected) t.setting.understood (c.args.at + length c.args.self.now.unprotected.items)) (sym e) ∙ sym (rw c.len.ensures.value at c.in_ok-check_pair.ensures) in
     let found : choice_for task.inspects task.setting (headers_of c.args.kind c.args.self.now.protected.items (bucket_pairs c.in_ok-protected.protected) (bucket_pairs c.in_ok-unprotected.unprotected)) ≡ Ok (option_map chosen_value c.in-Ok.chosen) = chosen_among task _ (headers_of c.args.kind c.args.self.now.protected.items (bucket_pairs c.in_ok-protected.protected) (bucket_pairs c.in_ok-unprotected.unprotected)) among ∙ sym (c.in-Ok.ensures c.args.self.now.protected.items) in
     rw (same, same_others, key_found task (headers_of c.args.kind c.args.self.now.protected.items (bucket_pairs c.in_ok-protected.protected) (bucket_pairs c.in_ok-unprotected.unprotected)) (c.args.at + length c.args.self.now.unprotected.items) (option_map chosen_value c.in-Ok.chosen) fault found) (refl, c.is_empty.ensures)
 
 pub returns-in-Err : goal.returns-in-Err
 returns-in-Err g c = λ task pairs others e among good found_good.
-    let same : pairs ≡ bucket_pairs c.in_ok-protected.protected = same_value (bucket_of g.row.D (placed_at c.args.protected_at c.args.self.now.protected.items)) pairs (bucket_pairs c.in_ok-protected.protected) good (rw c.as_slice.ensures.value at c.in_ok-protected.ensures.exact) in
-    let same_others : others ≡ bucket_pairs c.in_ok-unprotected.unprotected = same_value (bucket_of g.row.D (placed_at c.args.at c.args.self.now.unprotected.items)) others (bucket_pairs c.in_ok-unprotected.unprotected) found_good (rw c.as_slice-2.ensures.value at c.in_ok-unprotected.ensures.exact) in
+    let same : pairs ≡ bucket_pairs c.in_ok-protected.protected = sym (same_pairs (bucket_pairs c.in_ok-protected.protected) pairs ((rw c.as_slice.ensures.value at c.in_ok-protected.ensures) pairs good)) in
+    let same_others : others ≡ bucket_pairs c.in_ok-unprotected.unprotected = sym (same_pairs (bucket_pairs c.in_ok-unprotected.unprotected) others ((rw c.as_slice-2.ensures.value at c.in_ok-unprotected.ensures) others found_good)) in
     let fault : pair_fault (bucket_pairs c.in_ok-protected.protected) (bucket_pairs c.in_ok-unprotected.unprotected) task.setting.understood (c.args.at + length c.args.self.now.unprotected.items) ≡ None = ap (λ (t : Task). pair_fault (bucket_pairs c.in_ok-protected.protected) (bucket_pairs c.in_ok-unprotected.unprotected) t.setting.understood (c.args.at + length c.args.self.now.unprotected.items)) (sym e) ∙ sym (rw c.len.ensures.value at c.in_ok-check_pair.ensures) in
     let none : choice_for task.inspects task.setting (headers_of c.args.kind c.args.self.now.protected.items (bucket_pairs c.in_ok-protected.protected) (bucket_pairs c.in_ok-unprotected.unprotected)) ≡ Err c.in-Err.reason = chosen_among task _ (headers_of c.args.kind c.args.self.now.protected.items (bucket_pairs c.in_ok-protected.protected) (bucket_pairs c.in_ok-unprotected.unprotected)) among ∙ sym (c.in-Err.ensures c.args.self.now.protected.items) in
     rw (same, same_others, key_refused task (headers_of c.args.kind c.args.self.now.protected.items (bucket_pairs c.in_ok-protected.protected) (bucket_pairs c.in_ok-unprotected.unprotected)) (c.args.at + length c.args.self.now.unprotected.items) c.in-Err.reason fault none, c.len.ensures.value) refl
@@ -49,20 +46,20 @@ returns-in-Err g c = λ task pairs others e among good found_good.
 pub as_slice-requires : goal.as_slice-requires
 as_slice-requires g c = grind (arith, common_steps)
 
-pub read-requires-clause-shallow : goal.read-requires-clause-shallow
-read-requires-clause-shallow g c = grind (arith, common_steps)
+pub again-requires-clause-shallow : goal.again-requires-clause-shallow
+again-requires-clause-shallow g c = grind (arith, common_steps)
 
-pub read-requires-clause-in_range : goal.read-requires-clause-in_range
-read-requires-clause-in_range g c = grind (arith, common_steps)
+pub again-requires-clause-in_range : goal.again-requires-clause-in_range
+again-requires-clause-in_range g c = grind (arith, common_steps)
 
 pub as_slice-requires-2 : goal.as_slice-requires-2
 as_slice-requires-2 g c = grind (arith, common_steps)
 
-pub read-requires-2-clause-shallow : goal.read-requires-2-clause-shallow
-read-requires-2-clause-shallow g c = grind (arith, common_steps)
+pub again-requires-2-clause-shallow : goal.again-requires-2-clause-shallow
+again-requires-2-clause-shallow g c = grind (arith, common_steps)
 
-pub read-requires-2-clause-in_range : goal.read-requires-2-clause-in_range
-read-requires-2-clause-in_range g c = grind (arith, common_steps)
+pub again-requires-2-clause-in_range : goal.again-requires-2-clause-in_range
+again-requires-2-clause-in_range g c = grind (arith, common_steps)
 
 pub len-requires : goal.len-requires
 len-requires g c = grind (arith, common_steps)
