@@ -114,7 +114,8 @@ pub fn verify_cwt<
         (claims_seen result ≡ token_of D (policy_value policy.entry.now) answer []) × (verifier.new ≡ verifier.old) × (intake.new ≡ intake.old) }
     ensures stopped { (claims_seen result ≡ Err (CwtStop.Stopped Stop.Again)) ↔ (is_stopped verifier.old ≡ true) }
     ensures inspects { is_inspecting verifier.new ≡ false }
-    ensures context { (setting : Setting) → HasTaken (to_verify setting) [] [] verifier.old → setting_in verifier.new ≡ setting }
+    ensures context { (setting : Setting) → HasTaken (to_verify setting) [] [] verifier.old
+        → setting_in verifier.new ≡ setting_in verifier.old }
 
     // The place of a refusal of the claims is within the store's length, for any verifier. In a run it is in the
     // payload, or at its end.

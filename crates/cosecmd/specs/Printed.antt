@@ -27,6 +27,7 @@ use Rattle.cose_msg.specs.declared.make.MakeFault.TheVariants as makes
 use Rattle.cose_msg.specs.Make.{make_fault}
 use Rattle.cose_msg.specs.Making.{made, protected_made}
 use Rattle.cose_msg.specs.Message.{Decides, Setting, comparing, inspecting, message, secret_of, verdict_of}
+use Rattle.cose_msg.specs.Source.{attached}
 use Rattle.cose_msg.specs.Reading.{Reading, Told}
 use Rattle.cose_msg.specs.Shown.{SignInput, sign_input_in}
 use Rattle.cose_msg.specs.Writes.{front_of}
@@ -79,7 +80,7 @@ abbrev pub fault_of_keys : Refusal → Output
 fault_of_keys refusal = record { text = codes "fault keys " ++ refusal_text refusal ++ codes "\n"; status = statuses.Fault }
 
 -- The setting that the program verifies a message under: it knows the CWT tag, understands no label in addition to the
--- standard's, and has no payload limit of its own.
+-- standard's, has no payload limit of its own, and takes no detached payload.
 abbrev pub program_setting : List KeyValue → List ℕ → Wanted → Setting
 program_setting keys aad wanted = record {
   keys = keys;
@@ -88,6 +89,7 @@ program_setting keys aad wanted = record {
   cwt = true;
   understood = [];
   payload_limit = 2 ^ 56 - 1;
+  source = attached;
 }
 
 -- The number of bytes of a message that isn't refused.

@@ -167,16 +167,16 @@ impl<'k, const H: usize, const D: usize> Reader<'k, H, D> {
     }
 
     /// A detached payload is awaited, unless it is empty: the nil is at `nil`, and the message goes on at `at`.
-    fn await_payload(&mut self, kind: Kind, nil: u64, at: u64, length: u64)
+    fn await_payload(&mut self, kind: Kind, nil: u64, at: u64, stated: u64)
         requires early { at < 2 ^ 19 }
-        requires limit { length < 2 ^ 56 }
+        requires limit { stated < 2 ^ 56 }
         ensures stands { (task : Task) (known : Known) (came : List ℕ)
-            → IsAtPayload task known self.old kind length
-            → task.setting.source ≡ detached came length
+            → IsAtPayload task known self.old kind stated
+            → task.setting.source ≡ detached came stated
             → StandsFor task [] at self.new (λ z. detached_payload (rules_of H D task) known.headers
-            known.chosen came length nil at z) }
+            known.chosen came stated nil at z) }
     {
-        if length == 0 {
+        if stated == 0 {
             self.begin_auth_head(kind, at, 0);
             return;
         }
@@ -184,8 +184,8 @@ impl<'k, const H: usize, const D: usize> Reader<'k, H, D> {
             kind,
             at: nil,
             after: at,
-            length,
-            left: length,
+            length: stated,
+            left: stated,
         });
     }
 
@@ -211,17 +211,17 @@ impl<'k, const H: usize, const D: usize> Reader<'k, H, D> {
     }
 
     /// Takes a piece of a detached payload.
-    pub(crate) fn detached_piece(&mut self, detached: Detached, piece: &[u8])
+    pub(crate) fn detached_piece(&mut self, detached: Detached, part: &[u8])
         requires phase { self.old.phase ≡ Phase.Detached detached }
-        requires fits { length piece.now ≤ detached.left }
-        // Where the piece is the next one of what comes of the payload, the reading stays.
+        requires fits { length part.now ≤ detached.left }
+        // Where it is the next one of what comes of the payload, the reading stays.
         ensures { (task : Task) (B more : List ℕ) (n : ℕ) (reading : List ℕ → Reading)
-            → came_of task.setting.source ≡ (B ++ piece.now) ++ more
+            → came_of task.setting.source ≡ (B ++ part.now) ++ more
             → StandsFor task B n self.old reading
-            → StandsFor task (B ++ piece.now) n self.new reading }
+            → StandsFor task (B ++ part.now) n self.new reading }
     {
-        self.hashing.update(piece);
-        let left = detached.left - piece.len() as u64;
+        self.hashing.update(part);
+        let left = detached.left - part.len() as u64;
         if left == 0 {
             self.begin_auth_head(detached.kind, detached.after, detached.length);
         } else {

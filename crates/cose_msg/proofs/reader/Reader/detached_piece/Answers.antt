@@ -12,7 +12,7 @@ pub returns-then-left-eq0 : goal.returns-then-left-eq0
 returns-then-left-eq0 g c = λ task B more n reading comes h.
     let inside = rw c.requires.phase at h.holds in
     let p = c.args.detached in
-    let piece = c.args.piece.now in
+    let piece = c.args.part.now in
     let now = with_payload h.known (h.known.payload ++ piece) in
     let grown : h.known.payload ++ piece ≡ B ++ piece = ap (λ (t : List ℕ). t ++ piece) h.payload_known in
     let whole : length (h.known.payload ++ piece) ≡ p.length = omega (arith, inside.1, c.requires.fits, c.if-left-eq0.true, length-append h.known.payload piece) in
@@ -28,7 +28,7 @@ pub returns-else-left-eq0 : goal.returns-else-left-eq0
 returns-else-left-eq0 g c = λ task B more n reading comes h.
     let inside = rw c.requires.phase at h.holds in
     let p = c.args.detached in
-    let piece = c.args.piece.now in
+    let piece = c.args.part.now in
     let grown : h.known.payload ++ piece ≡ B ++ piece = ap (λ (t : List ℕ). t ++ piece) h.payload_known in
     let opened = opened_more task.setting.aad h.known.headers h.known.payload p.length h.known.chosen c.args.self.now.hashing c.update.new.self piece c.update.ensures inside.4 in
     let left : length (h.known.payload ++ piece) + (p.left - length piece) ≡ p.length = omega (arith, inside.1, c.requires.fits, length-append h.known.payload piece) in

@@ -1,0 +1,161 @@
+//! Messages whose payload is detached: the message is fed, and the payload on its own.
+
+ghost use Rattle.std.specs.Prelude.{◌≡◌, ◌<◌, ◌≤◌, IfSome, false, length};
+ghost use Rattle.cose_msg.specs.Kept.{is_inspecting};
+
+use crate::samples::{JEFE, MAC0, context_of};
+use crate::{
+    Alg, Fed, Kind, Never, Reason, Refusal, SliceIntake, Status, Store, Verdict, Verifier, verify,
+};
+
+/// The COSE_Mac0 of the samples with nil in place of its payload. The tag is the same.
+fn nil_mac0() -> [u8; 42] {
+    let mut bytes = [0xf6; 42];
+    bytes[..7].copy_from_slice(&MAC0[..7]);
+    bytes[8..].copy_from_slice(&MAC0[10..]);
+    bytes
+}
+
+/// A verifier under the key `Jefe` of a detached payload of so many bytes, of which the context allows this many.
+fn under_jefe(stated: u64, payload_limit: u64) -> Option<Verifier<'static, 16, 1>>
+    ensures { IfSome result (λ verifier. is_inspecting verifier ≡ false) }
+{
+    Some(Verifier::detached(context_of(JEFE, payload_limit)?, stated))
+}
+
+/// Feeds the message and the payload in pieces of one size, as far as they are used, and reports their end. Returns the
+/// status.
+fn fed(
+    verifier: &mut Verifier<'_, 16, 1>,
+    message: &[u8],
+    payload: &[u8],
+    size: usize,
+) -> Status
+    requires { 0 < size }
+{
+    let rest = &message[feed_in_pieces(verifier, message, size)..];
+    for piece in payload.chunks(size) {
+        if verifier.payload_wanted() > 0 {
+            verifier.feed_payload(piece);
+        }
+    }
+    feed_in_pieces(verifier, rest, size);
+    verifier.end()
+}
+
+/// Feeds a message in pieces of one size, and returns how many bytes were used.
+fn feed_in_pieces(verifier: &mut Verifier<'_, 16, 1>, message: &[u8], size: usize) -> usize
+    requires { 0 < size }
+    ensures { result ≤ length message.now }
+{
+    let mut used = 0usize;
+    for piece in message.chunks(size) {
+        used = used.saturating_add(verifier.feed(piece).used);
+    }
+    used.min(message.len())
+}
+
+/// A refusal.
+const fn refused(reason: Reason, place: u64) -> Status {
+    Status::Refused(Refusal { reason, place })
+}
+
+#[test]
+fn awaits_the_payload_at_the_nil(rt: HostRuntime) {
+    let message = nil_mac0();
+    let mut verifier = under_jefe(2, 2).expect(&rt, "a verifier");
+    assert_eq!(rt; verifier.is_detached(), true);
+    let at_nil = Fed {
+        used: 8,
+        payload_from: 0,
+        payload_to: 0,
+        status: Status::PayloadNext,
+    };
+    assert_eq!(rt; verifier.payload_wanted(), 0);
+    assert_eq!(rt; verifier.feed(&message), at_nil);
+    assert_eq!(rt; verifier.payload_wanted(), 2);
+    assert_eq!(rt; verifier.want(), 0);
+    assert_eq!(rt; verifier.feed(&message[8..]), Fed { used: 0, ..at_nil });
+}
+
+#[test]
+fn takes_as_many_bytes_as_are_stated(rt: HostRuntime) {
+    let message = nil_mac0();
+    let mut verifier = under_jefe(2, 2).expect(&rt, "a verifier");
+    verifier.feed(&message);
+    let pieces: [(&[u8], usize, u64); 3] = [(b"", 0, 2), (b"h", 1, 1), (b"i!", 1, 0)];
+    for (piece, used, left) in pieces {
+        if verifier.payload_wanted() > 0 {
+            assert_eq!(rt; verifier.feed_payload(piece), used);
+        }
+        assert_eq!(rt; verifier.payload_wanted(), left);
+    }
+    assert_eq!(rt; verifier.status(), Status::More);
+    assert_eq!(rt; verifier.want(), 1);
+    let fed = verifier.feed(&message[8..]);
+    assert_eq!(rt; (fed.used, fed.payload_to, fed.status), (34, 0, Status::Complete));
+}
+
+/// The message, the payload, how many bytes of it are stated, and allowed; the status at the end, and the number of the
+/// message's bytes that were taken.
+type Row<'a> = (&'a [u8], &'a [u8], u64, u64, Status, u64);
+
+#[test]
+fn has_the_same_status_in_pieces_of_every_size(rt: HostRuntime) {
+    let message = nil_mac0();
+    let mut turned = message;
+    turned[41] ^= 1;
+    let rows: [Row; 10] = [
+        (&message, b"hi", 2, 2, Status::Complete, 42),
+        (&message, b"hi!", 2, 2, Status::Complete, 42),
+        (&message, b"ho", 2, 2, refused(Reason::BadAuth, 8), 42),
+        (&turned, b"hi", 2, 2, refused(Reason::BadAuth, 8), 42),
+        (&message, b"h", 2, 2, refused(Reason::Truncated, 7), 8),
+        (&message[..7], b"hi", 2, 2, refused(Reason::Truncated, 7), 7),
+        (MAC0, b"hi", 2, 2, refused(Reason::Attached, 7), 8),
+        (&message, b"hi!", 3, 2, refused(Reason::PayloadTooLong, 7), 8),
+        (&message, b"hi", 1 << 56, u64::MAX, refused(Reason::PayloadTooLong, 7), 8),
+        (b"\xd1\x84\x43\xa1\x01\x05\xa0\xf6\x40", b"", 0, 2, refused(Reason::BadAuthLength, 8), 9),
+    ];
+    for (message, payload, length, limit, status, taken) in rows {
+        for size in [1usize, 2, 7, 64] {
+            let mut verifier = under_jefe(length, limit).expect(&rt, "a verifier");
+            assert_eq!(rt; fed(&mut verifier, message, payload, size), status, "pieces of {size}");
+            assert_eq!(rt; verifier.taken(), taken);
+        }
+    }
+}
+
+#[test]
+fn is_truncated_where_either_ends(rt: HostRuntime) {
+    let message = nil_mac0();
+    for count in 0..42usize {
+        let mut verifier = under_jefe(2, 2).expect(&rt, "a verifier");
+        let end = fed(&mut verifier, &message[..count], b"hi", 64);
+        assert_eq!(rt; end, refused(Reason::Truncated, count as u64));
+        verifier.reset();
+        let early = fed(&mut verifier, &message[..count], b"h", 64);
+        assert_eq!(rt; early, refused(Reason::Truncated, count.min(7) as u64));
+    }
+}
+
+#[test]
+fn decides_after_the_payload(rt: HostRuntime) {
+    let message = nil_mac0();
+    let mut verifier = under_jefe(2, 2).expect(&rt, "a verifier");
+    verifier.feed(&message);
+    if verifier.payload_wanted() > 0 {
+        verifier.feed_payload(b"hi");
+    }
+    let mut store = Store::<2>::new();
+    let mut rest = SliceIntake::new(&message[8..], 64);
+    let verdict = verify::<64, 16, 1, _, _, _, _>(&mut verifier, &mut rest, &mut store, &Never);
+    let authentic = Verdict::Authentic {
+        kind: Kind::Mac0,
+        alg: Alg::Hmac256,
+        payload: 2,
+        taken: 42,
+    };
+    assert_eq!(rt; verdict, Ok(authentic));
+    assert_eq!(rt; store.bytes().len(), 0);
+}
