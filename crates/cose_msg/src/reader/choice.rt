@@ -62,12 +62,10 @@ fn query_of<'q>(kind: Kind, protected: &Bucket<'q>, unprotected: &Bucket<'q>) ->
 fn chosen_of<'k>(found: Result<(Key<'k>, i128), Reason>) -> Result<Chosen<'k>, Reason>
     ensures { found_seen result ≡ past_chosen (found_value found.entry) }
 {
-    match found {
-        Ok((key, number)) => match Alg::from_number(number) {
-            Some(alg) => Ok(Chosen { key, alg }),
-            None => Err(Reason::UnknownAlg),
-        },
-        Err(reason) => Err(reason),
+    let (key, number) = found?;
+    match Alg::from_number(number) {
+        Some(alg) => Ok(Chosen { key, alg }),
+        None => Err(Reason::UnknownAlg),
     }
 }
 
