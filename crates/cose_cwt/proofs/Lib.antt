@@ -1,3 +1,4 @@
+pub mod Checked
 pub mod Tokens
 pub mod Inside
 pub mod Trees

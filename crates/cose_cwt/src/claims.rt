@@ -1,21 +1,20 @@
 //! The claims of a token (RFC 8392 section 3).
 
-ghost use Rattle.std.specs.Prelude.{◌≡◌, ℕ, ◌≤◌, [], ◌∷◌, length, IfErr, option_map, option_and_then};
-ghost use Rattle.std.specs.List.{list_any};
-ghost use Rattle.std.specs.Prelude.{bytes_eq};
+ghost use Rattle.std.specs.Prelude.{◌≡◌, option_map};
 ghost use Rattle.cose_head.specs.ItemRef.{placed};
-ghost use Rattle.cose_map.specs.Key.View.{contents};
-ghost use Rattle.cose_map.specs.KeySet.View.{keys};
-ghost use Rattle.cose_map.specs.Map.View.{seen_by};
+ghost use Rattle.cose_map.specs.Map.Pairs.{value_of};
+ghost use Rattle.cose_map.specs.Map.View.{pairs_left, seen_by};
 ghost use Rattle.cose_cwt.specs.Claims as spec;
-ghost use Rattle.cose_cwt.specs.Claims.Audience.{text_value, texts_left};
-ghost use Rattle.cose_cwt.specs.Confirmation.View.{cnf_value, confirmation_value};
+ghost use Rattle.cose_cwt.specs.Claims.Labels as names;
+ghost use Rattle.cose_cwt.specs.Confirmation.View.{confirmation_value};
 
 pub mod audience;
+mod checked;
 mod form;
 pub(crate) mod labels;
 
 use crate::claims::audience::Auds;
+use crate::claims::checked::Checked;
 use crate::claims::form::ClaimsForm;
 use crate::confirmation::{Cnf, Confirmation};
 use crate::laws::claims_refusals_stand_inside;
@@ -28,6 +27,11 @@ use cose_map::{ItemRef, KeySet, Pairs, Reason, Refusal, check_map, refused};
 pub struct Claims<'a> {
     pub(crate) pairs: Pairs<'a>,
     confirmation: Option<Confirmation<'a>>,
+    pub(crate) checked: Checked<'a>,
+    /// The claims that are checked are those of the pairs.
+    pub ghost aud_found: { option_map placed checked.aud ≡ value_of names.aud (pairs_left pairs) },
+    pub ghost exp_found: { option_map placed checked.exp ≡ value_of names.exp (pairs_left pairs) },
+    pub ghost nbf_found: { option_map placed checked.nbf ≡ value_of names.nbf (pairs_left pairs) },
 }
 
 /// Whether the tag is one of COSE (RFC 9052 section 2) or that of CWT (RFC 8392 section 6).
@@ -58,7 +62,13 @@ fn confirmation_at<'a>(value: Option<ItemRef<'a>>) -> Result<Option<Confirmation
 }
 
 impl<'a> Claims<'a> {
+    ghost use Rattle.std.specs.Prelude.{ℕ, ◌≤◌, [], ◌∷◌, length, IfErr, option_and_then, bytes_eq};
+    ghost use Rattle.std.specs.List.{list_any};
+    ghost use Rattle.cose_map.specs.Key.View.{contents};
+    ghost use Rattle.cose_map.specs.KeySet.View.{keys};
+    ghost use Rattle.cose_cwt.specs.Claims.Audience.{text_value, texts_left};
     ghost use Rattle.cose_cwt.specs.Claims.View.{claims_value};
+    ghost use Rattle.cose_cwt.specs.Confirmation.View.{cnf_value};
 
     /// The claims of a payload.
     #[tactic(auto, unfolding(crate::specs::Claims::claims_of))]
@@ -68,10 +78,12 @@ impl<'a> Claims<'a> {
     {
         let item = not_nested(ItemRef::read(bytes, 0, depth)?)?;
         let pairs = check_map(&ClaimsForm, &item)?;
-        let confirmation = confirmation_at(pairs.get(&labels::CNF))?;
+        let checked = Checked::of(pairs);
+        let confirmation = confirmation_at(checked.cnf)?;
         Ok(Claims {
             pairs,
             confirmation,
+            checked,
         })
     }
 

@@ -8,8 +8,8 @@ ghost use Rattle.cose_cwt.specs.Admission.View.{audience_value, policy_value};
 ghost use Rattle.cose_cwt.specs.Claims.Audience.{text_value, texts_left};
 ghost use Rattle.cose_cwt.specs.Claims.View.{claims_value};
 
+use crate::claims::Claims;
 use crate::claims::audience::Auds;
-use crate::claims::{Claims, labels};
 use cose_map::{Reason, Refusal, refused};
 
 /// The audience that a token must have.
@@ -87,7 +87,7 @@ impl Claims<'_> {
     fn not_expired(&self, policy: &Policy<'_>) -> Result<(), Refusal>
         ensures { result ≡ spec.not_expired (policy_value policy.entry.now) (claims_value self.now) }
     {
-        let Some(value) = self.pairs.get(&labels::EXP) else {
+        let Some(value) = self.checked.exp else {
             return Ok(());
         };
         match value.as_int() {
@@ -100,7 +100,7 @@ impl Claims<'_> {
     fn not_early(&self, policy: &Policy<'_>) -> Result<(), Refusal>
         ensures { result ≡ spec.not_early (policy_value policy.entry.now) (claims_value self.now) }
     {
-        let Some(value) = self.pairs.get(&labels::NBF) else {
+        let Some(value) = self.checked.nbf else {
             return Ok(());
         };
         match value.as_int() {
@@ -113,7 +113,7 @@ impl Claims<'_> {
     fn not_for_others(&self, policy: &Policy<'_>) -> Result<(), Refusal>
         ensures { result ≡ spec.not_for_others (policy_value policy.entry.now) (claims_value self.now) }
     {
-        match self.pairs.get(&labels::AUD) {
+        match self.checked.aud {
             Some(value) if policy.is_for_others(Auds::of(&value)) => {
                 Err(refused(Reason::WrongAudience, &value))
             }

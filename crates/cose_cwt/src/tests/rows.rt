@@ -252,7 +252,8 @@ fn shows_no_bytes_of_claims(rt: HostRuntime) -> Result<(), Fail> {
     assert_eq!(rt;
         shown.as_str(),
         "Claims { pairs: Pairs { items: Items { rest: 80 bytes, place: 1, left: 2 } }, \
-         confirmation: Some(Confirmation { key: Some(ItemRef { bytes: 77 bytes, place: 4 }), kid: None }) }"
+         confirmation: Some(Confirmation { key: Some(ItemRef { bytes: 77 bytes, place: 4 }), kid: None }), \
+         checked: Checked { aud: None, exp: None, nbf: None, cnf: Some(ItemRef { bytes: 79 bytes, place: 2 }) } }"
     );
     Ok(())
 }
