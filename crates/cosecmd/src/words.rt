@@ -14,21 +14,23 @@ use std::alloc::{AllocError, Global};
 const VERSION: &str = "0.1.0";
 
 /// What help says below the options.
-const NOTES: &str = "Words in hexadecimal have an even number of digits, no prefix and no spaces.
+const NOTES: &str =
+    "Arguments in hexadecimal have an even number of digits, no prefix and no spaces.
 Exit status: 0 authentic, 1 refused, 2 no verdict (command line, keys, memory, input or output).";
 
 /// What help says below the options of `make`.
 const MAKE_NOTES: &str =
-    "Words in hexadecimal have an even number of digits, no prefix and no spaces.
+    "Arguments in hexadecimal have an even number of digits, no prefix and no spaces.
 The message has its tag, 17, and its shortest spelling. It is written while the payload is read.
 Exit status: 0 made, 2 not or not whole (command line, key, memory, input or output): drop what was written.";
 
 /// What help says below the options of `digest`.
 const DIGEST_NOTES: &str =
-    "Words in hexadecimal have an even number of digits, no prefix and no spaces.
-It prints the word that `verify --vouch` takes: the curve of the key in one byte, the digest of the structure that is signed, \
-the signature, x and y. Nobody has looked at the signature: whoever does vouches for it with that word.
-Exit status: 0 told, 1 refused, 2 no answer (command line, keys, memory, input or output).";
+    "Arguments in hexadecimal have an even number of digits, no prefix and no spaces.
+It prints the argument of `verify --vouch`: the curve of the key in one byte, the digest of the structure that is signed, \
+the signature, x and y. The signature isn't verified yet: pass this argument to `verify` only where another program has \
+verified it.
+Exit status: 0 printed, 1 refused, 2 no answer (command line, keys, memory, input or output).";
 
 /// What help says below the options of `show`.
 const SHOW_NOTES: &str =
@@ -38,16 +40,13 @@ Exit status: 0 shown, 1 refused, 2 no answer (command line, memory, input or out
 
 /// What help says below the options of `cwt`.
 const CWT_NOTES: &str =
-    "Words in hexadecimal have an even number of digits, no prefix and no spaces.
+    "Arguments in hexadecimal have an even number of digits, no prefix and no spaces.
 It prints `admitted`, and then a line for each registered claim and for each text of the audience: texts and bytes in \
 hexadecimal, dates in seconds since 1970; of a confirmation the key (curve, x, y) and its identifier.
 Exit status: 0 admitted, 1 refused, 2 no answer (command line, keys, memory, input or output).";
 
 /// The values of `--kind`, the kinds of messages that are wanted.
 const KINDS: &[&str] = &["mac0", "sign1", "tagged"];
-
-/// The values of `--alg`, the algorithms that make MACs (RFC 9053 section 3.1).
-const ALGORITHMS: &[&str] = &["4", "5", "6", "7"];
 
 /// A payload has fewer bytes.
 const PAYLOAD: i64 = 1 << 56;
@@ -148,7 +147,7 @@ fn kind_option<'a>(alloc: Global) -> Arg<'a> {
         .value_name("KIND")
         .value_parser(KINDS)
         .default_value("tagged")
-        .help("The kind of message: one of both, or as its tag says")
+        .help("The kind of message; with `tagged` either kind, as its tag says")
 }
 
 /// The option `--vouch`.
@@ -156,7 +155,9 @@ fn vouch_option<'a>(alloc: Global) -> Arg<'a> {
     Arg::new(alloc, "vouch")
         .long("vouch")
         .value_name("HEX")
-        .help("What a signature is good for: curve, digest, signature, x and y")
+        .help(
+            "The one signature that is good: curve, digest, signature, x and y, as `digest` prints them; without it none is good",
+        )
 }
 
 /// The option of the current time.
@@ -166,7 +167,7 @@ fn now_option<'a>(alloc: Global) -> Arg<'a> {
         .value_name("N")
         .required(true)
         .value_parser(value_parser!(i64).range(0..))
-        .help("The moment, in seconds since 1970; the program reads no clock")
+        .help("The current time, in seconds since 1970; the program reads no clock")
 }
 
 /// The option of the leeway.
@@ -182,7 +183,7 @@ fn leeway_option<'a>(alloc: Global) -> Arg<'a> {
 /// The option of the audience.
 fn aud_option<'a>(alloc: Global) -> Arg<'a> {
     Arg::new(alloc, "aud").long("aud").value_name("TEXT").help(
-        "The audience that a token has to name, where it names one; without it any is good",
+        "The audience that a token has to name, where it names one; without this option the audience isn't compared",
     )
 }
 
@@ -192,7 +193,7 @@ fn alg_option<'a>(alloc: Global) -> Arg<'a> {
         .long("alg")
         .value_name("N")
         .required(true)
-        .value_parser(ALGORITHMS)
+        .value_parser(value_parser!(u8).range(4..=7))
         .help("The algorithm: HMAC 256/64 (4), 256/256 (5), 384/384 (6) or 512/512 (7)")
 }
 
@@ -262,7 +263,9 @@ fn cwt_line<'a>(alloc: Global) -> Result<Command<'a>, AllocError> {
 /// The command `digest` and its options.
 fn digest_line<'a>(alloc: Global) -> Result<Command<'a>, AllocError> {
     Command::new(alloc, "digest")
-        .about("Tells what the signature of the COSE_Sign1 on standard input is verified with")
+        .about(
+            "Prints what the signature of the COSE_Sign1 on standard input has to be verified with",
+        )
         .after_help(DIGEST_NOTES)
         .arg(keys_option(alloc))?
         .arg(aad_option(alloc))
@@ -352,15 +355,10 @@ fn external_of(alloc: Global, matches: &ArgMatches) -> Result<Vec<u8>, Fault>
     Ok(aad)
 }
 
-/// The algorithm for a value of `--alg`.
-fn alg_of(word: &str) -> Option<Alg> {
-    match word {
-        "4" => Some(Alg::Hmac64),
-        "5" => Some(Alg::Hmac256),
-        "6" => Some(Alg::Hmac384),
-        "7" => Some(Alg::Hmac512),
-        _ => None,
-    }
+/// The algorithm that the arguments name by its number (RFC 9053 section 3.1).
+fn alg_of(matches: &ArgMatches) -> Option<Alg> {
+    let number = matches.get_one::<u8>("alg")?;
+    Alg::from_number(i128::from(number))
 }
 
 /// The kinds of messages that the arguments name.
@@ -411,7 +409,7 @@ fn digest_of(alloc: Global, matches: &ArgMatches) -> Result<Digest, Fault> {
 /// The arguments of `make`, in the order in which help lists them. The line has an algorithm and a length that are in
 /// range.
 fn make_of(alloc: Global, matches: &ArgMatches) -> Result<Make, Fault> {
-    let Some(alg) = alg_of(matches.get_str("alg").unwrap_or("")) else {
+    let Some(alg) = alg_of(matches) else {
         return Err(Fault::Line("alg"));
     };
     let key = bytes_of(alloc, matches, "key")?;
