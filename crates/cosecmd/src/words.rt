@@ -1,12 +1,15 @@
 //! The arguments of the command line.
 
-ghost use Rattle.std.specs.Prelude.{◌≤◌, IfOk, length as length_of};
+ghost use Rattle.std.specs.Prelude.{◌≡◌, ◌≤◌, ℕ, List, Some, IfOk, codes, length as length_of};
+ghost use Rattle.clap.specs.Matches.{first_value, found_of};
+ghost use Rattle.cosecmd.specs.Printed.{program_keys};
 
 use crate::fault::Fault;
+use crate::files::{NamedFiles, key_bytes, key_set_bytes};
 use crate::mistake::mistake;
 use crate::reply::{Reply, Status};
 use clap::error::ErrorKind;
-use clap::{Arg, ArgMatches, Command, value_parser};
+use clap::{Arg, ArgGroup, ArgMatches, Command, value_parser};
 use cose_msg::{Alg, Wanted};
 use std::alloc::{AllocError, Global};
 
@@ -129,8 +132,28 @@ fn keys_option<'a>(alloc: Global) -> Arg<'a> {
     Arg::new(alloc, "keys")
         .long("keys")
         .value_name("HEX")
-        .required(true)
         .help("The key set (RFC 9052 section 7)")
+}
+
+/// The option of the key set's file.
+fn keys_file_option<'a>(alloc: Global) -> Arg<'a> {
+    Arg::new(alloc, "keys-file")
+        .long("keys-file")
+        .value_name("PATH")
+        .help("The file that has the bytes of the key set, in place of --keys")
+}
+
+/// Two options of which one has to be there, and not both.
+fn one_of<'a>(
+    alloc: Global,
+    id: &'a str,
+    option: &'a str,
+    other: &'a str,
+) -> Result<ArgGroup<'a>, AllocError> {
+    ArgGroup::new(alloc, id)
+        .required(true)
+        .arg(option)?
+        .arg(other)
 }
 
 /// The option of the externally supplied data.
@@ -202,8 +225,15 @@ fn key_option<'a>(alloc: Global) -> Arg<'a> {
     Arg::new(alloc, "key")
         .long("key")
         .value_name("HEX")
-        .required(true)
         .help("The key, one symmetric COSE_Key (RFC 9052 section 7)")
+}
+
+/// The option of the key's file.
+fn key_file_option<'a>(alloc: Global) -> Arg<'a> {
+    Arg::new(alloc, "key-file")
+        .long("key-file")
+        .value_name("PATH")
+        .help("The file that has the bytes of the key, at most 65,535, in place of --key")
 }
 
 /// The option of the payload's length.
@@ -241,6 +271,8 @@ fn verify_line<'a>(alloc: Global) -> Result<Command<'a>, AllocError> {
         .about("Verifies the COSE message on standard input and prints the verdict")
         .after_help(NOTES)
         .arg(keys_option(alloc))?
+        .arg(keys_file_option(alloc))?
+        .group(one_of(alloc, "key set", "keys", "keys-file")?)?
         .arg(aad_option(alloc))?
         .arg(kind_option(alloc))?
         .arg(vouch_option(alloc))
@@ -252,6 +284,8 @@ fn cwt_line<'a>(alloc: Global) -> Result<Command<'a>, AllocError> {
         .about("Admits the CBOR Web Token on standard input and prints its claims")
         .after_help(CWT_NOTES)
         .arg(keys_option(alloc))?
+        .arg(keys_file_option(alloc))?
+        .group(one_of(alloc, "key set", "keys", "keys-file")?)?
         .arg(aad_option(alloc))?
         .arg(kind_option(alloc))?
         .arg(vouch_option(alloc))?
@@ -268,6 +302,8 @@ fn digest_line<'a>(alloc: Global) -> Result<Command<'a>, AllocError> {
         )
         .after_help(DIGEST_NOTES)
         .arg(keys_option(alloc))?
+        .arg(keys_file_option(alloc))?
+        .group(one_of(alloc, "key set", "keys", "keys-file")?)?
         .arg(aad_option(alloc))
 }
 
@@ -278,6 +314,8 @@ fn make_line<'a>(alloc: Global) -> Result<Command<'a>, AllocError> {
         .after_help(MAKE_NOTES)
         .arg(alg_option(alloc))?
         .arg(key_option(alloc))?
+        .arg(key_file_option(alloc))?
+        .group(one_of(alloc, "key bytes", "key", "key-file")?)?
         .arg(length_option(alloc))?
         .arg(kid_option(alloc))?
         .arg(aad_option(alloc))
@@ -335,6 +373,37 @@ fn optional_bytes_of(
     Ok(None)
 }
 
+/// The bytes of the key set, from the argument or from the file that the arguments name.
+fn key_set_of<F: NamedFiles>(
+    alloc: Global,
+    files: &F,
+    matches: &ArgMatches,
+) -> Result<Vec<u8>, Fault>
+    // Where a file is named whose bytes are known, its keys are the keys.
+    ensures file { (name bytes : List ℕ) →
+        first_value (found_of matches.now) (codes "keys-file") ≡ Some name →
+        F.content files.now name ≡ Some bytes →
+        IfOk result (λ keys. program_keys keys.items ≡ program_keys bytes) }
+{
+    match matches.get_str("keys-file") {
+        Some(name) => key_set_bytes(alloc, files, "keys-file", name),
+        None => bytes_of(alloc, matches, "keys"),
+    }
+}
+
+/// The bytes of the key, from the argument or from the file that the arguments name.
+fn key_of<F: NamedFiles>(alloc: Global, files: &F, matches: &ArgMatches) -> Result<Vec<u8>, Fault>
+    // Where a file is named whose bytes are known, they are the key.
+    ensures file { (name bytes : List ℕ) →
+        first_value (found_of matches.now) (codes "key-file") ≡ Some name →
+        F.content files.now name ≡ Some bytes → IfOk result (λ key. key.items ≡ bytes) }
+{
+    match matches.get_str("key-file") {
+        Some(name) => key_bytes(alloc, files, "key-file", name),
+        None => bytes_of(alloc, matches, "key"),
+    }
+}
+
 /// The kinds of messages for a value of `--kind`.
 fn wanted_of(word: &str) -> Wanted {
     match word {
@@ -367,8 +436,12 @@ fn kind_of(matches: &ArgMatches) -> Wanted {
 }
 
 /// The arguments of `verify`, in the order in which help lists them.
-fn verify_of(alloc: Global, matches: &ArgMatches) -> Result<Verify, Fault> {
-    let keys = bytes_of(alloc, matches, "keys")?;
+fn verify_of<F: NamedFiles>(
+    alloc: Global,
+    files: &F,
+    matches: &ArgMatches,
+) -> Result<Verify, Fault> {
+    let keys = key_set_of(alloc, files, matches)?;
     let aad = external_of(alloc, matches)?;
     let wanted = kind_of(matches);
     let vouch = optional_bytes_of(alloc, matches, "vouch")?;
@@ -382,8 +455,12 @@ fn verify_of(alloc: Global, matches: &ArgMatches) -> Result<Verify, Fault> {
 
 /// The arguments of `cwt`, in the order in which help lists them. The line has a current time and a leeway that are in
 /// range.
-fn cwt_of<'a>(alloc: Global, matches: &ArgMatches<'a>) -> Result<Cwt<'a>, Fault> {
-    let verify = verify_of(alloc, matches)?;
+fn cwt_of<'a, F: NamedFiles>(
+    alloc: Global,
+    files: &F,
+    matches: &ArgMatches<'a>,
+) -> Result<Cwt<'a>, Fault> {
+    let verify = verify_of(alloc, files, matches)?;
     let Some(now) = matches.get_one::<i64>("now") else {
         return Err(Fault::Line("now"));
     };
@@ -400,19 +477,23 @@ fn cwt_of<'a>(alloc: Global, matches: &ArgMatches<'a>) -> Result<Cwt<'a>, Fault>
 }
 
 /// The arguments of `digest`, in the order in which help lists them.
-fn digest_of(alloc: Global, matches: &ArgMatches) -> Result<Digest, Fault> {
-    let keys = bytes_of(alloc, matches, "keys")?;
+fn digest_of<F: NamedFiles>(
+    alloc: Global,
+    files: &F,
+    matches: &ArgMatches,
+) -> Result<Digest, Fault> {
+    let keys = key_set_of(alloc, files, matches)?;
     let aad = external_of(alloc, matches)?;
     Ok(Digest { keys, aad })
 }
 
 /// The arguments of `make`, in the order in which help lists them. The line has an algorithm and a length that are in
 /// range.
-fn make_of(alloc: Global, matches: &ArgMatches) -> Result<Make, Fault> {
+fn make_of<F: NamedFiles>(alloc: Global, files: &F, matches: &ArgMatches) -> Result<Make, Fault> {
     let Some(alg) = alg_of(matches) else {
         return Err(Fault::Line("alg"));
     };
-    let key = bytes_of(alloc, matches, "key")?;
+    let key = key_of(alloc, files, matches)?;
     let Some(length) = matches.get_one::<u64>("length") else {
         return Err(Fault::Line("length"));
     };
@@ -427,8 +508,12 @@ fn make_of(alloc: Global, matches: &ArgMatches) -> Result<Make, Fault> {
     })
 }
 
-/// Reads the arguments, the first of which is the program's name.
-pub fn request_of<'a>(alloc: Global, words: &'a [&'a str]) -> Result<Request<'a>, Fault> {
+/// Reads the arguments, the first of which is the program's name, and the file that they name.
+pub fn request_of<'a, F: NamedFiles>(
+    alloc: Global,
+    files: &F,
+    words: &'a [&'a str],
+) -> Result<Request<'a>, Fault> {
     let matches = match line(alloc)?.try_get_matches_from(words) {
         Ok(matches) => matches,
         Err(error) => return Ok(Request::Print(refused_line(alloc, error)?)),
@@ -437,16 +522,16 @@ pub fn request_of<'a>(alloc: Global, words: &'a [&'a str]) -> Result<Request<'a>
         return Ok(Request::Show(kind_of(show)));
     }
     if let Some(verify) = matches.subcommand_matches("verify") {
-        return Ok(Request::Verify(verify_of(alloc, verify)?));
+        return Ok(Request::Verify(verify_of(alloc, files, verify)?));
     }
     if let Some(cwt) = matches.subcommand_matches("cwt") {
-        return Ok(Request::Cwt(cwt_of(alloc, cwt)?));
+        return Ok(Request::Cwt(cwt_of(alloc, files, cwt)?));
     }
     if let Some(digest) = matches.subcommand_matches("digest") {
-        return Ok(Request::Digest(digest_of(alloc, digest)?));
+        return Ok(Request::Digest(digest_of(alloc, files, digest)?));
     }
     match matches.subcommand_matches("make") {
-        Some(make) => Ok(Request::Make(make_of(alloc, make)?)),
+        Some(make) => Ok(Request::Make(make_of(alloc, files, make)?)),
         None => Err(Fault::Line("command")),
     }
 }
