@@ -2,6 +2,7 @@ pub mod Admissions
 pub mod Asked
 pub mod Digests
 pub mod Failures
+pub mod KeyFiles
 pub mod Makings
 pub mod Replies
 pub mod Shows

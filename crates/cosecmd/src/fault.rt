@@ -1,11 +1,14 @@
 //! Why a run has no verdict and makes no message (the command line, the keys, memory, the input), each with the line that is
 //! printed for it.
 
+ghost use Rattle.std.specs.IoError.{error_kind};
 ghost use Rattle.std.specs.Prelude.{◌≡◌, ◌≢◌};
 
 use cose_msg::Refusal;
 use hex::FromHexError;
 use std::alloc::AllocError;
+use std::io;
+use std::io::ErrorKind;
 use thiserror::Error;
 
 /// Why a run has no verdict and makes no message. The program ends with status 2.
@@ -17,6 +20,9 @@ pub enum Fault {
     /// The argument of this option isn't hexadecimal, or is too long.
     #[error("fault line {0}")]
     Line(&'static str),
+    /// The file of this option can't be opened or read, or has more bytes than a key may have.
+    #[error("fault file {0}")]
+    File(&'static str),
     /// The key set is refused. The place is relative to the first byte of the set.
     #[error("fault keys {0}")]
     Keys(Refusal),
@@ -53,6 +59,17 @@ impl Fault {
         match error {
             FromHexError::OutOfMemory => Fault::Memory,
             _ => Fault::Line(option),
+        }
+    }
+
+    /// The fault of an option whose file couldn't be opened or read.
+    pub fn file(option: &'static str, error: &io::Error) -> Fault
+        ensures memory { error_kind error.now ≡ ErrorKind.OutOfMemory → result ≡ Fault.Memory }
+        ensures file { error_kind error.now ≢ ErrorKind.OutOfMemory → result ≡ Fault.File option.entry }
+    {
+        match error.kind() {
+            ErrorKind::OutOfMemory => Fault::Memory,
+            _ => Fault::File(option),
         }
     }
 }

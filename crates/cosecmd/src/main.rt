@@ -8,6 +8,7 @@ ghost use Rattle.std.specs.Process.{exit_status};
 
 mod answer;
 mod fault;
+mod files;
 mod job;
 mod line;
 mod mistake;
@@ -18,7 +19,7 @@ mod vouch;
 mod words;
 mod write_sink;
 
-use run::run;
+use run::run_with_files;
 use std::alloc::{AllocError, Global};
 use std::io::{ErrorKind, Write};
 use std::process::ExitCode;
@@ -64,7 +65,8 @@ fn main(rt: HostRuntime) -> ExitCode {
     };
     match borrowed_words(rt.alloc(), owned.as_slice()) {
         Ok(words) => {
-            let status = run(rt.alloc(), words.as_slice(), &mut rt.stdin(), &mut output);
+            let mut input = rt.stdin();
+            let status = run_with_files(rt.alloc(), words.as_slice(), &rt, &mut input, &mut output);
             ExitCode::from(status)
         }
         Err(_) => complain(&mut output, "fault memory\n"),

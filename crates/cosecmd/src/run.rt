@@ -6,6 +6,7 @@ ghost use Rattle.cosecmd.specs.Printed.{EndsWith};
 ghost use Rattle.cosecmd.specs.Words.{admitted_for, asked_for, digested_for, made_for, verified_for};
 
 use crate::answer::answer;
+use crate::files::{NamedFiles, NoFiles};
 use crate::job::Job;
 use crate::print::{print, print_fault};
 use crate::reply::Reply;
@@ -120,14 +121,7 @@ fn answer_request<R: Read, W: Write>(
     }
 }
 
-/// Runs the program: `words` are the arguments of the command line, the first of them the program's name. The message,
-/// or the payload of which one is made, comes from `input`; every line goes to `output`, a fault's too, and so does a
-/// message that is made.
-///
-/// The exit status is 0 for a message that is authentic, shown or made, or whose digest is printed, and for a token
-/// that is admitted (and for help and the version), 1 for a message or a token that is refused, and 2 where there is no
-/// answer and no whole message: the command line is wrong, the keys are refused, a request for memory is refused, or
-/// the input or the output fails.
+/// Runs the program without files: one that an option names can't be opened. In all else it is `run_with_files`.
 pub fn run<'a, R: Read, W: Write>(
     alloc: Global,
     words: &'a [&'a str],
@@ -136,7 +130,27 @@ pub fn run<'a, R: Read, W: Write>(
 ) -> u8
     ensures { result ≤ 2 }
 {
-    match request_of(alloc, words) {
+    run_with_files(alloc, words, &NoFiles, input, output)
+}
+
+/// Runs the program: `words` are the arguments of the command line, the first of them the program's name. The message,
+/// or the payload of which one is made, comes from `input`; every line goes to `output`, a fault's too, and so does a
+/// message that is made. The keys come from the arguments, or from the file that an option names.
+///
+/// The exit status is 0 for a message that is authentic, shown or made, or whose digest is printed, and for a token
+/// that is admitted (and for help and the version), 1 for a message or a token that is refused, and 2 where there is no
+/// answer and no whole message: the command line is wrong, the file of the keys can't be read, the keys are refused, a
+/// request for memory is refused, or the input or the output fails.
+pub fn run_with_files<'a, F: NamedFiles, R: Read, W: Write>(
+    alloc: Global,
+    words: &'a [&'a str],
+    files: &F,
+    input: &mut R,
+    output: &mut W,
+) -> u8
+    ensures { result ≤ 2 }
+{
+    match request_of(alloc, files, words) {
         Ok(request) => answer_request(alloc, &request, input, output),
         Err(fault) => print_fault(alloc, fault, output).code(),
     }

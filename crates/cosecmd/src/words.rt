@@ -1,12 +1,15 @@
 //! The arguments of the command line.
 
-ghost use Rattle.std.specs.Prelude.{◌≤◌, IfOk, length as length_of};
+ghost use Rattle.std.specs.Prelude.{◌≡◌, ◌≤◌, ℕ, List, Some, IfOk, codes, length as length_of};
+ghost use Rattle.clap.specs.Matches.{first_value, found_of};
+ghost use Rattle.cosecmd.specs.Printed.{program_keys};
 
 use crate::fault::Fault;
+use crate::files::{NamedFiles, key_bytes, key_set_bytes};
 use crate::mistake::mistake;
 use crate::reply::{Reply, Status};
 use clap::error::ErrorKind;
-use clap::{Arg, ArgMatches, Command, value_parser};
+use clap::{Arg, ArgGroup, ArgMatches, Command, value_parser};
 use cose_msg::{Alg, Wanted};
 use std::alloc::{AllocError, Global};
 
@@ -17,22 +20,23 @@ const VERSION: &str = "0.1.0";
 const NOTES: &str =
     "HMAC is computed here; for ECDSA (ES256, ES384, ES512) the digest is computed, and --vouch decides; no curve \
 arithmetic is included.
-Words in hexadecimal have an even number of digits, no prefix and no spaces.
+Arguments in hexadecimal have an even number of digits, no prefix and no spaces.
 Exit status: 0 authentic, 1 refused, 2 no verdict (command line, keys, memory, input or output).";
 
 /// What help says below the options of `make`.
 const MAKE_NOTES: &str =
-    "Words in hexadecimal have an even number of digits, no prefix and no spaces.
+    "Arguments in hexadecimal have an even number of digits, no prefix and no spaces.
 The message has its tag, 17, and its shortest spelling. It is written while the payload is read.
 Exit status: 0 made, 2 not or not whole (command line, key, memory, input or output): drop what was written.";
 
 /// What help says below the options of `digest`.
 const DIGEST_NOTES: &str =
     "For ECDSA (ES256, ES384, ES512) the digest is computed here; no curve arithmetic is included.
-Words in hexadecimal have an even number of digits, no prefix and no spaces.
-It prints the word that `verify --vouch` takes: the curve of the key in one byte, the digest of the structure that is signed, \
-the signature, x and y. Nobody has looked at the signature: whoever does vouches for it with that word.
-Exit status: 0 told, 1 refused, 2 no answer (command line, keys, memory, input or output).";
+Arguments in hexadecimal have an even number of digits, no prefix and no spaces.
+It prints the argument of `verify --vouch`: the curve of the key in one byte, the digest of the structure that is signed, \
+the signature, x and y. The signature isn't verified yet: pass this argument to `verify` only where another program has \
+verified it.
+Exit status: 0 printed, 1 refused, 2 no answer (command line, keys, memory, input or output).";
 
 /// What help says below the options of `show`.
 const SHOW_NOTES: &str =
@@ -44,16 +48,13 @@ Exit status: 0 shown, 1 refused, 2 no answer (command line, memory, input or out
 const CWT_NOTES: &str =
     "HMAC is computed here; for ECDSA (ES256, ES384, ES512) the digest is computed, and --vouch decides; no curve \
 arithmetic is included.
-Words in hexadecimal have an even number of digits, no prefix and no spaces.
+Arguments in hexadecimal have an even number of digits, no prefix and no spaces.
 It prints `admitted`, and then a line for each registered claim and for each text of the audience: texts and bytes in \
 hexadecimal, dates in seconds since 1970; of a confirmation the key (curve, x, y) and its identifier.
 Exit status: 0 admitted, 1 refused, 2 no answer (command line, keys, memory, input or output).";
 
 /// The values of `--kind`, the kinds of messages that are wanted.
 const KINDS: &[&str] = &["mac0", "sign1", "tagged"];
-
-/// The values of `--alg`, the algorithms that make MACs (RFC 9053 section 3.1).
-const ALGORITHMS: &[&str] = &["4", "5", "6", "7"];
 
 /// A payload has fewer bytes.
 const PAYLOAD: i64 = 1 << 56;
@@ -136,8 +137,28 @@ fn keys_option<'a>(alloc: Global) -> Arg<'a> {
     Arg::new(alloc, "keys")
         .long("keys")
         .value_name("HEX")
-        .required(true)
         .help("The key set (RFC 9052 section 7)")
+}
+
+/// The option of the key set's file.
+fn keys_file_option<'a>(alloc: Global) -> Arg<'a> {
+    Arg::new(alloc, "keys-file")
+        .long("keys-file")
+        .value_name("PATH")
+        .help("The file that has the bytes of the key set, in place of --keys")
+}
+
+/// Two options of which one has to be there, and not both.
+fn one_of<'a>(
+    alloc: Global,
+    id: &'a str,
+    option: &'a str,
+    other: &'a str,
+) -> Result<ArgGroup<'a>, AllocError> {
+    ArgGroup::new(alloc, id)
+        .required(true)
+        .arg(option)?
+        .arg(other)
 }
 
 /// The option of the externally supplied data.
@@ -154,7 +175,7 @@ fn kind_option<'a>(alloc: Global) -> Arg<'a> {
         .value_name("KIND")
         .value_parser(KINDS)
         .default_value("tagged")
-        .help("The kind of message: one of both, or as its tag says")
+        .help("The kind of message; with `tagged` either kind, as its tag says")
 }
 
 /// The option `--vouch`.
@@ -162,7 +183,9 @@ fn vouch_option<'a>(alloc: Global) -> Arg<'a> {
     Arg::new(alloc, "vouch")
         .long("vouch")
         .value_name("HEX")
-        .help("What a signature is good for: curve, digest, signature, x and y")
+        .help(
+            "The one signature that is good: curve, digest, signature, x and y, as `digest` prints them; without it none is good",
+        )
 }
 
 /// The option of the current time.
@@ -172,7 +195,7 @@ fn now_option<'a>(alloc: Global) -> Arg<'a> {
         .value_name("N")
         .required(true)
         .value_parser(value_parser!(i64).range(0..))
-        .help("The moment, in seconds since 1970; the program reads no clock")
+        .help("The current time, in seconds since 1970; the program reads no clock")
 }
 
 /// The option of the leeway.
@@ -188,7 +211,7 @@ fn leeway_option<'a>(alloc: Global) -> Arg<'a> {
 /// The option of the audience.
 fn aud_option<'a>(alloc: Global) -> Arg<'a> {
     Arg::new(alloc, "aud").long("aud").value_name("TEXT").help(
-        "The audience that a token has to name, where it names one; without it any is good",
+        "The audience that a token has to name, where it names one; without this option the audience isn't compared",
     )
 }
 
@@ -198,7 +221,7 @@ fn alg_option<'a>(alloc: Global) -> Arg<'a> {
         .long("alg")
         .value_name("N")
         .required(true)
-        .value_parser(ALGORITHMS)
+        .value_parser(value_parser!(u8).range(4..=7))
         .help("The algorithm: HMAC 256/64 (4), 256/256 (5), 384/384 (6) or 512/512 (7)")
 }
 
@@ -207,8 +230,15 @@ fn key_option<'a>(alloc: Global) -> Arg<'a> {
     Arg::new(alloc, "key")
         .long("key")
         .value_name("HEX")
-        .required(true)
         .help("The key, one symmetric COSE_Key (RFC 9052 section 7)")
+}
+
+/// The option of the key's file.
+fn key_file_option<'a>(alloc: Global) -> Arg<'a> {
+    Arg::new(alloc, "key-file")
+        .long("key-file")
+        .value_name("PATH")
+        .help("The file that has the bytes of the key, at most 65,535, in place of --key")
 }
 
 /// The option of the payload's length.
@@ -246,6 +276,8 @@ fn verify_line<'a>(alloc: Global) -> Result<Command<'a>, AllocError> {
         .about("Verifies the COSE message on standard input and prints the verdict")
         .after_help(NOTES)
         .arg(keys_option(alloc))?
+        .arg(keys_file_option(alloc))?
+        .group(one_of(alloc, "key set", "keys", "keys-file")?)?
         .arg(aad_option(alloc))?
         .arg(kind_option(alloc))?
         .arg(vouch_option(alloc))
@@ -257,6 +289,8 @@ fn cwt_line<'a>(alloc: Global) -> Result<Command<'a>, AllocError> {
         .about("Admits the CBOR Web Token on standard input and prints its claims")
         .after_help(CWT_NOTES)
         .arg(keys_option(alloc))?
+        .arg(keys_file_option(alloc))?
+        .group(one_of(alloc, "key set", "keys", "keys-file")?)?
         .arg(aad_option(alloc))?
         .arg(kind_option(alloc))?
         .arg(vouch_option(alloc))?
@@ -268,9 +302,13 @@ fn cwt_line<'a>(alloc: Global) -> Result<Command<'a>, AllocError> {
 /// The command `digest` and its options.
 fn digest_line<'a>(alloc: Global) -> Result<Command<'a>, AllocError> {
     Command::new(alloc, "digest")
-        .about("Tells what the signature of the COSE_Sign1 on standard input is verified with")
+        .about(
+            "Prints what the signature of the COSE_Sign1 on standard input has to be verified with",
+        )
         .after_help(DIGEST_NOTES)
         .arg(keys_option(alloc))?
+        .arg(keys_file_option(alloc))?
+        .group(one_of(alloc, "key set", "keys", "keys-file")?)?
         .arg(aad_option(alloc))
 }
 
@@ -281,6 +319,8 @@ fn make_line<'a>(alloc: Global) -> Result<Command<'a>, AllocError> {
         .after_help(MAKE_NOTES)
         .arg(alg_option(alloc))?
         .arg(key_option(alloc))?
+        .arg(key_file_option(alloc))?
+        .group(one_of(alloc, "key bytes", "key", "key-file")?)?
         .arg(length_option(alloc))?
         .arg(kid_option(alloc))?
         .arg(aad_option(alloc))
@@ -338,6 +378,37 @@ fn optional_bytes_of(
     Ok(None)
 }
 
+/// The bytes of the key set, from the argument or from the file that the arguments name.
+fn key_set_of<F: NamedFiles>(
+    alloc: Global,
+    files: &F,
+    matches: &ArgMatches,
+) -> Result<Vec<u8>, Fault>
+    // Where a file is named whose bytes are known, its keys are the keys.
+    ensures file { (name bytes : List ℕ) →
+        first_value (found_of matches.now) (codes "keys-file") ≡ Some name →
+        F.content files.now name ≡ Some bytes →
+        IfOk result (λ keys. program_keys keys.items ≡ program_keys bytes) }
+{
+    match matches.get_str("keys-file") {
+        Some(name) => key_set_bytes(alloc, files, "keys-file", name),
+        None => bytes_of(alloc, matches, "keys"),
+    }
+}
+
+/// The bytes of the key, from the argument or from the file that the arguments name.
+fn key_of<F: NamedFiles>(alloc: Global, files: &F, matches: &ArgMatches) -> Result<Vec<u8>, Fault>
+    // Where a file is named whose bytes are known, they are the key.
+    ensures file { (name bytes : List ℕ) →
+        first_value (found_of matches.now) (codes "key-file") ≡ Some name →
+        F.content files.now name ≡ Some bytes → IfOk result (λ key. key.items ≡ bytes) }
+{
+    match matches.get_str("key-file") {
+        Some(name) => key_bytes(alloc, files, "key-file", name),
+        None => bytes_of(alloc, matches, "key"),
+    }
+}
+
 /// The kinds of messages for a value of `--kind`.
 fn wanted_of(word: &str) -> Wanted {
     match word {
@@ -358,15 +429,10 @@ fn external_of(alloc: Global, matches: &ArgMatches) -> Result<Vec<u8>, Fault>
     Ok(aad)
 }
 
-/// The algorithm for a value of `--alg`.
-fn alg_of(word: &str) -> Option<Alg> {
-    match word {
-        "4" => Some(Alg::Hmac64),
-        "5" => Some(Alg::Hmac256),
-        "6" => Some(Alg::Hmac384),
-        "7" => Some(Alg::Hmac512),
-        _ => None,
-    }
+/// The algorithm that the arguments name by its number (RFC 9053 section 3.1).
+fn alg_of(matches: &ArgMatches) -> Option<Alg> {
+    let number = matches.get_one::<u8>("alg")?;
+    Alg::from_number(i128::from(number))
 }
 
 /// The kinds of messages that the arguments name.
@@ -375,8 +441,12 @@ fn kind_of(matches: &ArgMatches) -> Wanted {
 }
 
 /// The arguments of `verify`, in the order in which help lists them.
-fn verify_of(alloc: Global, matches: &ArgMatches) -> Result<Verify, Fault> {
-    let keys = bytes_of(alloc, matches, "keys")?;
+fn verify_of<F: NamedFiles>(
+    alloc: Global,
+    files: &F,
+    matches: &ArgMatches,
+) -> Result<Verify, Fault> {
+    let keys = key_set_of(alloc, files, matches)?;
     let aad = external_of(alloc, matches)?;
     let wanted = kind_of(matches);
     let vouch = optional_bytes_of(alloc, matches, "vouch")?;
@@ -390,8 +460,12 @@ fn verify_of(alloc: Global, matches: &ArgMatches) -> Result<Verify, Fault> {
 
 /// The arguments of `cwt`, in the order in which help lists them. The line has a current time and a leeway that are in
 /// range.
-fn cwt_of<'a>(alloc: Global, matches: &ArgMatches<'a>) -> Result<Cwt<'a>, Fault> {
-    let verify = verify_of(alloc, matches)?;
+fn cwt_of<'a, F: NamedFiles>(
+    alloc: Global,
+    files: &F,
+    matches: &ArgMatches<'a>,
+) -> Result<Cwt<'a>, Fault> {
+    let verify = verify_of(alloc, files, matches)?;
     let Some(now) = matches.get_one::<i64>("now") else {
         return Err(Fault::Line("now"));
     };
@@ -408,19 +482,23 @@ fn cwt_of<'a>(alloc: Global, matches: &ArgMatches<'a>) -> Result<Cwt<'a>, Fault>
 }
 
 /// The arguments of `digest`, in the order in which help lists them.
-fn digest_of(alloc: Global, matches: &ArgMatches) -> Result<Digest, Fault> {
-    let keys = bytes_of(alloc, matches, "keys")?;
+fn digest_of<F: NamedFiles>(
+    alloc: Global,
+    files: &F,
+    matches: &ArgMatches,
+) -> Result<Digest, Fault> {
+    let keys = key_set_of(alloc, files, matches)?;
     let aad = external_of(alloc, matches)?;
     Ok(Digest { keys, aad })
 }
 
 /// The arguments of `make`, in the order in which help lists them. The line has an algorithm and a length that are in
 /// range.
-fn make_of(alloc: Global, matches: &ArgMatches) -> Result<Make, Fault> {
-    let Some(alg) = alg_of(matches.get_str("alg").unwrap_or("")) else {
+fn make_of<F: NamedFiles>(alloc: Global, files: &F, matches: &ArgMatches) -> Result<Make, Fault> {
+    let Some(alg) = alg_of(matches) else {
         return Err(Fault::Line("alg"));
     };
-    let key = bytes_of(alloc, matches, "key")?;
+    let key = key_of(alloc, files, matches)?;
     let Some(length) = matches.get_one::<u64>("length") else {
         return Err(Fault::Line("length"));
     };
@@ -435,8 +513,12 @@ fn make_of(alloc: Global, matches: &ArgMatches) -> Result<Make, Fault> {
     })
 }
 
-/// Reads the arguments, the first of which is the program's name.
-pub fn request_of<'a>(alloc: Global, words: &'a [&'a str]) -> Result<Request<'a>, Fault> {
+/// Reads the arguments, the first of which is the program's name, and the file that they name.
+pub fn request_of<'a, F: NamedFiles>(
+    alloc: Global,
+    files: &F,
+    words: &'a [&'a str],
+) -> Result<Request<'a>, Fault> {
     let matches = match line(alloc)?.try_get_matches_from(words) {
         Ok(matches) => matches,
         Err(error) => return Ok(Request::Print(refused_line(alloc, error)?)),
@@ -445,16 +527,16 @@ pub fn request_of<'a>(alloc: Global, words: &'a [&'a str]) -> Result<Request<'a>
         return Ok(Request::Show(kind_of(show)));
     }
     if let Some(verify) = matches.subcommand_matches("verify") {
-        return Ok(Request::Verify(verify_of(alloc, verify)?));
+        return Ok(Request::Verify(verify_of(alloc, files, verify)?));
     }
     if let Some(cwt) = matches.subcommand_matches("cwt") {
-        return Ok(Request::Cwt(cwt_of(alloc, cwt)?));
+        return Ok(Request::Cwt(cwt_of(alloc, files, cwt)?));
     }
     if let Some(digest) = matches.subcommand_matches("digest") {
-        return Ok(Request::Digest(digest_of(alloc, digest)?));
+        return Ok(Request::Digest(digest_of(alloc, files, digest)?));
     }
     match matches.subcommand_matches("make") {
-        Some(make) => Ok(Request::Make(make_of(alloc, make)?)),
+        Some(make) => Ok(Request::Make(make_of(alloc, files, make)?)),
         None => Err(Fault::Line("command")),
     }
 }

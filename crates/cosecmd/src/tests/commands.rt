@@ -130,7 +130,7 @@ fn names_its_exit_statuses(rt: HostRuntime) -> Result<(), Fail> {
         ),
         (
             &["digest", "--help"],
-            "\nExit status: 0 told, 1 refused, \
+            "\nExit status: 0 printed, 1 refused, \
             2 no answer (command line, keys, memory, input or output).\n",
         ),
         (

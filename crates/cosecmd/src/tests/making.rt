@@ -43,13 +43,19 @@ fn makes_the_message(rt: HostRuntime) -> Result<(), Fail> {
 
 #[test]
 fn makes_as_many_bytes_as_are_wanted(rt: HostRuntime) -> Result<(), Fail> {
-    let rows: [(&[&str], &[u8], usize); 4] = [
+    let rows: [(&[&str], &[u8], usize); 5] = [
         (
             &[
                 "make", "--alg", "5", "--key", KEYS, "--length", "2", "--kid", "31",
             ],
             b"hi",
             47,
+        ),
+        // A number may begin with zeros.
+        (
+            &["make", "--alg", "05", "--key", KEYS, "--length", "002"],
+            b"hi",
+            44,
         ),
         (
             &["make", "--alg", "7", "--key", KEYS, "--length", "0"],
@@ -141,12 +147,13 @@ fn reads_the_words_of_make_in_order(rt: HostRuntime) -> Result<(), Fail> {
 
 #[test]
 fn refuses_lines_without_a_message(rt: HostRuntime) -> Result<(), Fail> {
-    let rows: [&[&str]; 8] = [
+    let rows: [&[&str]; 9] = [
         &["make", "--key", KEYS, "--length", "2"],
         &["make", "--alg", "5", "--length", "2"],
         &["make", "--alg", "5", "--key", KEYS],
         &["make", "--alg", "3", "--key", KEYS, "--length", "2"],
         &["make", "--alg", "8", "--key", KEYS, "--length", "2"],
+        &["make", "--alg", "5a", "--key", KEYS, "--length", "2"],
         &[
             "make",
             "--alg",

@@ -97,7 +97,11 @@ fn explains_its_line(rt: HostRuntime) -> Result<(), Fail> {
         (&["verify"], "--keys <HEX>", 2),
         (&["show", "--help"], "0 shown, 1 refused, 2 no answer", 0),
         (&["cwt", "--help"], "0 admitted, 1 refused, 2 no answer", 0),
-        (&["digest", "--help"], "0 told, 1 refused, 2 no answer", 0),
+        (
+            &["digest", "--help"],
+            "0 printed, 1 refused, 2 no answer",
+            0,
+        ),
         (&["sign"], "unrecognized subcommand\n", 2),
     ];
     for (arguments, part, status) in rows {

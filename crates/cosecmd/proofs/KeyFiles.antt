@@ -1,0 +1,33 @@
+-- What is read of a file: its first bytes, which decide on keys as the whole file does.
+use Rattle.std.proofs.Common.{◌≡◌, ℕ, ◌≤◌, ◌<◌, Bool, true, false, List, [], ◌++◌, take, length, Option, Some, option_map, nat_lt, refl, ap, ◌∙◌, arith, min}
+use Rattle.std.specs.Prelude.{IfSome}
+use Rattle.std.proofs.lemmas.Bool.{lt-ltb, ltb-false, ltb-true}
+use Rattle.std.proofs.lemmas.List.{length-take, take_all}
+use Rattle.cosecmd.specs.Printed.{program_keys}
+use Rattle.cose_map.specs.KeySet.{keys_of}
+
+pub first_read : (left : Option (List ℕ)) (limit : ℕ) (old new bytes : List ℕ) → left ≡ Some bytes → limit ≡ 65536 → old ≡ [] →
+    IfSome (option_map (take limit) left) (λ more. new ≡ old ++ more) → new ≡ take 65536 bytes
+first_read left limit old new bytes l m o read = rw (l, m, o) at read
+
+-- Where fewer bytes were read, they are the whole file.
+pub whole_read : (read bytes : List ℕ) → read ≡ take 65536 bytes → length read < 65536 → read ≡ bytes
+whole_read read bytes is short =
+    let n : length read ≡ min 65536 (length bytes) = rw is (length-take 65536 bytes) in
+    let fits : length bytes ≤ 65536 = omega (arith, n, short) in
+    is ∙ take_all 65536 bytes fits
+
+-- So many bytes are no key set, whatever follows them.
+same_keys_by : (bytes : List ℕ) (long : Bool) → nat_lt 65536 (length bytes) ≡ long → program_keys (take 65536 bytes) ≡ program_keys bytes
+unfolding keys_of
+same_keys_by bytes false e =
+    let fits : length bytes ≤ 65536 = let f = ltb-false 65536 (length bytes) e in omega (arith, f) in
+    ap program_keys (take_all 65536 bytes fits)
+same_keys_by bytes true e =
+    let more : 65536 < length bytes = ltb-true 65536 (length bytes) e in
+    let n : length (take 65536 bytes) ≡ 65536 = let m = length-take 65536 bytes in omega (arith, m, more) in
+    let long : nat_lt 65535 (length bytes) ≡ true = lt-ltb 65535 (length bytes) (omega (arith, more)) in
+    rw (n, long) refl
+
+pub keys_read : (read bytes : List ℕ) → read ≡ take 65536 bytes → program_keys read ≡ program_keys bytes
+keys_read read bytes is = ap program_keys is ∙ same_keys_by bytes (nat_lt 65536 (length bytes)) refl

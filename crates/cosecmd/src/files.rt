@@ -1,0 +1,101 @@
+//! The files that options name, where a key or a key set is in a file.
+
+ghost use Rattle.std.specs.Prelude.{◌≡◌, ◌≢◌, ◌⊎◌, ℕ, List, Option, Some, None, IfErr, IfOk, take};
+ghost use Rattle.std.specs.IoError.{error_kind};
+ghost use Rattle.cosecmd.specs.Printed.{program_keys};
+
+use crate::fault::Fault;
+use std::alloc::Global;
+use std::fs::File;
+use std::io;
+use std::io::{Error, ErrorKind, Read};
+
+/// The most bytes of a file that are read. A key set of so many is refused.
+const MOST: usize = 65_536;
+
+/// Files, each of which is opened by its name.
+///
+/// A contract sees the bytes of a file by its name, where they are known to it.
+pub trait NamedFiles {
+    /// An open file.
+    type File: Read + Drop;
+
+    ghost content: { Self → List ℕ → Option (List ℕ) };
+
+    /// Opens the file of this name, to be read from its first byte.
+    fn open(&self, name: &str) -> io::Result<Self::File>
+        ensures { (bytes : List ℕ) → content self.now name.now ≡ Some bytes →
+            IfOk result (λ file. Self.File.remaining file ≡ Some bytes) };
+}
+
+/// The files of the process. Their bytes aren't known to the contract.
+impl NamedFiles for HostRuntime {
+    type File = File;
+
+    ghost content = { λ _ _. None };
+
+    fn open(&self, name: &str) -> io::Result<File> {
+        File::open(self, name)
+    }
+}
+
+/// No files: none can be opened.
+#[derive(Clone, Copy)]
+pub struct NoFiles;
+
+impl NamedFiles for NoFiles {
+    type File = &'static [u8];
+
+    ghost content = { λ _ _. None };
+
+    fn open(&self, _name: &str) -> io::Result<&'static [u8]> {
+        Err(Error::from(ErrorKind::NotFound))
+    }
+}
+
+/// The first bytes of a file, at most 65,536.
+fn first_bytes<F: NamedFiles>(alloc: Global, files: &F, name: &str) -> io::Result<Vec<u8>>
+    ensures { (bytes : List ℕ) → F.content files.now name.now ≡ Some bytes →
+        IfOk result (λ read. read.items ≡ take 65536 bytes) }
+{
+    let mut bytes = Vec::new(alloc);
+    let mut front = files.open(name)?.take(MOST as u64);
+    front.read_to_end(&mut bytes)?;
+    Ok(bytes)
+}
+
+/// The bytes of the key set in the file that this option names, as far as they decide on it: of a file with more than
+/// 65,536 bytes the first of them, which are refused as the whole file is.
+pub fn key_set_bytes<F: NamedFiles>(
+    alloc: Global,
+    files: &F,
+    option: &'static str,
+    name: &str,
+) -> Result<Vec<u8>, Fault>
+    ensures keys { (bytes : List ℕ) → F.content files.now name.now ≡ Some bytes →
+        IfOk result (λ read. program_keys read.items ≡ program_keys bytes) }
+    ensures fault { IfErr result (λ fault. (fault ≡ Fault.Memory) ⊎ (fault ≡ Fault.File option.entry)) }
+{
+    match first_bytes(alloc, files, name) {
+        Ok(bytes) => Ok(bytes),
+        Err(error) => Err(Fault::file(option, &error)),
+    }
+}
+
+/// The bytes of the one key in the file that this option names, which has fewer than 65,536 bytes.
+pub fn key_bytes<F: NamedFiles>(
+    alloc: Global,
+    files: &F,
+    option: &'static str,
+    name: &str,
+) -> Result<Vec<u8>, Fault>
+    ensures whole { (bytes : List ℕ) → F.content files.now name.now ≡ Some bytes →
+        IfOk result (λ read. read.items ≡ bytes) }
+    ensures fault { IfErr result (λ fault. (fault ≡ Fault.Memory) ⊎ (fault ≡ Fault.File option.entry)) }
+{
+    match first_bytes(alloc, files, name) {
+        Ok(bytes) if bytes.len() < MOST => Ok(bytes),
+        Ok(_) => Err(Fault::File(option)),
+        Err(error) => Err(Fault::file(option, &error)),
+    }
+}
