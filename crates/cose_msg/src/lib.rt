@@ -50,6 +50,9 @@
 //! of the payload ([`Fed`]), and gives the [`Status`] of the message. [`Verifier::end`] says that no byte follows, and
 //! [`Verifier::verdict`] decides once the message is complete. `verify` continues where a verifier was fed before.
 //!
+//! A payload may be detached (RFC 9052 sections 4.2 and 6.2): the message has nil in its place. [`Verifier::detached`] is
+//! passed its length; where the status is [`Status::PayloadNext`], [`Verifier::feed_payload`] takes its bytes.
+//!
 //! ```rust
 //! let fed = verifier.feed(piece);
 //! let payload = &piece[fed.payload_from..fed.payload_to];

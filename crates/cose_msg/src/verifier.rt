@@ -113,8 +113,8 @@ impl<'k, const H: usize, const D: usize, S: Keys<'k>> Verifier<'k, H, D, S> {
     }
 
     /// A verifier of a message in this context whose payload is detached (RFC 9052 sections 4.2 and 6.2): the message has nil
-    /// in its place, and the payload has `payload_length` bytes, which come on their own ([`Verifier::feed_payload`],
-    /// [`verify_detached`](crate::verify_detached)). A message that has its payload is refused as Attached.
+    /// in its place, and the payload has `payload_length` bytes, which are passed to [`Verifier::feed_payload`]. A message that
+    /// has its payload is refused as Attached.
     pub fn detached(context: Context<'k, S>, payload_length: u64) -> Self
         requires some_room { 16 ≤ H }
         requires limit { H ≤ 65535 }

@@ -7,8 +7,8 @@ ghost use Rattle.cose_msg.specs.Kept.{is_inspecting};
 use crate::tests::cwt::example;
 use crate::tests::streams::{Asked, FailingIntake};
 use crate::tests::{
-    KEY, KEY_SET, SIGNED, STRUCTURE, authentic, counted, cut, decision, hmac, key_set, message,
-    point_set, refused, signed, signed_digest,
+    FRONT, KEY, KEY_SET, SIGNED, STRUCTURE, authentic, counted, cut, decision, hmac, joined, key_set,
+    message, point_set, refused, signed, signed_digest,
 };
 use cose_cwt::{Audience, Claims, CwtStop, Policy, verify_cwt};
 use cose_mac::{Alg, Running, structure_front};
@@ -250,7 +250,7 @@ fn listen<P: Port, S: Sink, E: EcVerifier>(
     match verifier.end() {
         Status::Complete => Ok(verifier.verdict(ec)),
         Status::Refused(refusal) => Ok(Verdict::Refused(refusal)),
-        Status::More | Status::Stopped => Err(Stop::Again),
+        Status::More | Status::PayloadNext | Status::Stopped => Err(Stop::Again),
     }
 }
 
@@ -315,6 +315,80 @@ fn decides_on_a_signature_from_a_line(rt: HostRuntime) -> Result<(), Fail> {
     };
     hears(&rt, keys, bytes.as_slice(), &knows, decision(true), b"");
     hears(&rt, keys, bytes.as_slice(), &Never, decision(false), b"");
+    Ok(())
+}
+
+/// The verdict on an image whose COSE message came before it, with nil for its payload. The image comes in pieces, which are
+/// written to a slot that isn't started yet.
+fn update<I: Intake, S: Sink, E: EcVerifier>(
+    verifier: &mut Verifier<256, 4>,
+    message: &[u8],
+    image: &mut I,
+    slot: &mut S,
+    ec: &E,
+) -> Result<Verdict, Stop>
+    requires { is_inspecting verifier.old ≡ false }
+{
+    let at_nil = verifier.feed(message).used;
+    let mut page = [0u8; 256];
+    'pages: for _i in 0..u64::MAX {
+        let most = verifier.payload_wanted().min(256) as usize;
+        if most == 0 {
+            break;
+        }
+        let count = match image.take(&mut page[..most]) {
+            Ok(count) => count,
+            Err(_) => return Err(Stop::Intake),
+        };
+        if count == 0 {
+            break;
+        }
+        verifier.feed_payload(&page[..count]);
+        if slot.put(&page[..count]).is_err() {
+            return Err(Stop::Sink);
+        }
+    }
+    verifier.feed(&message[at_nil..]);
+    match verifier.end() {
+        Status::Complete => Ok(verifier.verdict(ec)),
+        Status::Refused(refusal) => Ok(Verdict::Refused(refusal)),
+        Status::More | Status::PayloadNext | Status::Stopped => Err(Stop::Again),
+    }
+}
+
+/// The COSE_Mac0 of an image of 600 bytes, which isn't in it.
+fn message_of_image(alloc: Global, image: &[u8]) -> Result<Vec<u8>, AllocError> {
+    let structure = joined(alloc, &[b"\x84\x64MAC0\x43\xa1\x01\x05\x40\x59\x02\x58", image])?;
+    let tag = hmac(KEY, structure.as_slice());
+    joined(alloc, &[FRONT, b"\xf6\x58\x20", &tag])
+}
+
+#[test]
+fn updates_an_image(rt: HostRuntime) -> Result<(), Fail> {
+    let alloc = rt.alloc();
+    let image: [u8; 600] = counted();
+    let message = message_of_image(alloc, &image)?;
+    let keys = key_set().ok_or("no keys")?;
+    let rows: [(&[u8], Verdict); 2] = [
+        (
+            &image,
+            Verdict::Authentic {
+                kind: Kind::Mac0,
+                alg: Alg::Hmac256,
+                payload: 600,
+                taken: 42,
+            },
+        ),
+        (&image[..599], refused(Reason::Truncated, 7)),
+    ];
+    for (bytes, verdict) in rows {
+        let mut verifier = Verifier::detached(context(keys), 600);
+        let mut intake = SliceIntake::new(bytes, 100);
+        let mut slot = Store::<600>::new();
+        let updated = update(&mut verifier, message.as_slice(), &mut intake, &mut slot, &Never);
+        assert_eq!(rt; updated, Ok(verdict));
+        assert_eq!(rt; slot.bytes(), bytes);
+    }
     Ok(())
 }
 

@@ -11,8 +11,9 @@ use crate::{
 /// The COSE_Mac0 of the samples with nil in place of its payload. The tag is the same.
 fn nil_mac0() -> [u8; 42] {
     let mut bytes = [0xf6; 42];
-    bytes[..7].copy_from_slice(&MAC0[..7]);
-    bytes[8..].copy_from_slice(&MAC0[10..]);
+    let (front, rest) = MAC0.split_at(7);
+    bytes[..7].copy_from_slice(front);
+    bytes[8..].copy_from_slice(&rest[3..]);
     bytes
 }
 
@@ -25,12 +26,7 @@ fn under_jefe(stated: u64, payload_limit: u64) -> Option<Verifier<'static, 16, 1
 
 /// Feeds the message and the payload in pieces of one size, as far as they are used, and reports their end. Returns the
 /// status.
-fn fed(
-    verifier: &mut Verifier<'_, 16, 1>,
-    message: &[u8],
-    payload: &[u8],
-    size: usize,
-) -> Status
+fn fed(verifier: &mut Verifier<'_, 16, 1>, message: &[u8], payload: &[u8], size: usize) -> Status
     requires { 0 < size }
 {
     let rest = &message[feed_in_pieces(verifier, message, size)..];
@@ -93,7 +89,10 @@ fn takes_as_many_bytes_as_are_stated(rt: HostRuntime) {
     assert_eq!(rt; verifier.status(), Status::More);
     assert_eq!(rt; verifier.want(), 1);
     let fed = verifier.feed(&message[8..]);
-    assert_eq!(rt; (fed.used, fed.payload_to, fed.status), (34, 0, Status::Complete));
+    assert_eq!(rt;
+        (fed.used, fed.payload_to, fed.status),
+        (34, 0, Status::Complete)
+    );
 }
 
 /// The message, the payload, how many bytes of it are stated, and allowed; the status at the end, and the number of the
@@ -113,14 +112,39 @@ fn has_the_same_status_in_pieces_of_every_size(rt: HostRuntime) {
         (&message, b"h", 2, 2, refused(Reason::Truncated, 7), 8),
         (&message[..7], b"hi", 2, 2, refused(Reason::Truncated, 7), 7),
         (MAC0, b"hi", 2, 2, refused(Reason::Attached, 7), 8),
-        (&message, b"hi!", 3, 2, refused(Reason::PayloadTooLong, 7), 8),
-        (&message, b"hi", 1 << 56, u64::MAX, refused(Reason::PayloadTooLong, 7), 8),
-        (b"\xd1\x84\x43\xa1\x01\x05\xa0\xf6\x40", b"", 0, 2, refused(Reason::BadAuthLength, 8), 9),
+        (
+            &message,
+            b"hi!",
+            3,
+            2,
+            refused(Reason::PayloadTooLong, 7),
+            8,
+        ),
+        (
+            &message,
+            b"hi",
+            1 << 56,
+            u64::MAX,
+            refused(Reason::PayloadTooLong, 7),
+            8,
+        ),
+        (
+            b"\xd1\x84\x43\xa1\x01\x05\xa0\xf6\x40",
+            b"",
+            0,
+            2,
+            refused(Reason::BadAuthLength, 8),
+            9,
+        ),
     ];
     for (message, payload, length, limit, status, taken) in rows {
         for size in [1usize, 2, 7, 64] {
             let mut verifier = under_jefe(length, limit).expect(&rt, "a verifier");
-            assert_eq!(rt; fed(&mut verifier, message, payload, size), status, "pieces of {size}");
+            assert_eq!(rt;
+                fed(&mut verifier, message, payload, size),
+                status,
+                "pieces of {size}"
+            );
             assert_eq!(rt; verifier.taken(), taken);
         }
     }
