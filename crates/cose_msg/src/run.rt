@@ -42,7 +42,8 @@ fn take_message<
         (S.contents sink.old) (S.contents sink.new) (stop_in result) verifier.new }
     ensures stopped { is_stopped verifier.new ≡ is_err result }
     ensures inspects { is_inspecting verifier.new ≡ is_inspecting verifier.old }
-    ensures context { (task : Task) (s B : List ℕ) → HasTaken task s B verifier.old → setting_in verifier.new ≡ setting_in verifier.old }
+    ensures context { (task : Task) (s B : List ℕ) → HasTaken task s B verifier.old
+        → setting_in verifier.new ≡ setting_in verifier.old }
     ensures held { held verifier.new ≤ 2 * H + 512 }
     ensures opened { opened verifier.new ≤ D }
     ensures once { result ≢ Err Stop.Again }
@@ -127,7 +128,9 @@ pub fn verify<
         (result ≡ answer) × (verifier.new ≡ verifier.old) × (intake.new ≡ intake.old) × (sink.new ≡ sink.old) }
     ensures stopped { (result ≡ Err Stop.Again) ↔ (is_stopped verifier.old ≡ true) }
     ensures inspects { is_inspecting verifier.new ≡ false }
-    ensures context { (setting : Setting) (s B : List ℕ) → HasTaken (to_verify setting) s B verifier.old → setting_in verifier.new ≡ setting_in verifier.old }
+    ensures context { (setting : Setting) (s B : List ℕ)
+        → HasTaken (to_verify setting) s B verifier.old
+        → setting_in verifier.new ≡ setting_in verifier.old }
     // What it holds of the message is within a bound, in addition to the `C` bytes of the call, and so is what is open
     // of it.
     ensures held { held verifier.new ≤ 2 * H + 512 }
@@ -186,7 +189,9 @@ pub fn inspect<'k, const C: usize, const H: usize, const D: usize, K: Keys<'k>, 
         (result ≡ answer) × (verifier.new ≡ verifier.old) × (intake.new ≡ intake.old) × (sink.new ≡ sink.old) }
     ensures stopped { (result ≡ Err Stop.Again) ↔ (is_stopped verifier.old ≡ true) }
     ensures inspects { is_inspecting verifier.new ≡ true }
-    ensures context { (setting : Setting) (s B : List ℕ) → HasTaken (to_inspect setting) s B verifier.old → setting_in verifier.new ≡ setting_in verifier.old }
+    ensures context { (setting : Setting) (s B : List ℕ)
+        → HasTaken (to_inspect setting) s B verifier.old
+        → setting_in verifier.new ≡ setting_in verifier.old }
     // What it holds of the message is within a bound, in addition to the `C` bytes of the call, and so is what is open
     // of it.
     ensures held { held verifier.new ≤ 2 * H + 512 }

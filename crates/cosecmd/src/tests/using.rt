@@ -7,8 +7,8 @@ ghost use Rattle.cose_msg.specs.Kept.{is_inspecting};
 use crate::tests::cwt::example;
 use crate::tests::streams::{Asked, FailingIntake};
 use crate::tests::{
-    FRONT, KEY, KEY_SET, SIGNED, STRUCTURE, authentic, counted, cut, decision, hmac, joined, key_set,
-    message, point_set, refused, signed, signed_digest,
+    FRONT, KEY, KEY_SET, SIGNED, STRUCTURE, authentic, counted, cut, decision, hmac, joined,
+    key_set, message, point_set, refused, signed, signed_digest,
 };
 use cose_cwt::{Audience, Claims, CwtStop, Policy, verify_cwt};
 use cose_mac::{Alg, Running, structure_front};
@@ -19,6 +19,7 @@ use cose_msg::{
     Context, EcVerifier, Intake, Never, Nothing, Sink, SliceIntake, Status, Stop, Store, Verdict,
     Verifier, Wanted, verify,
 };
+use std::alloc::{AllocError, Global};
 use std::mem::size_of;
 use std::process::Abort;
 use std::test::Fail;
@@ -358,7 +359,10 @@ fn update<I: Intake, S: Sink, E: EcVerifier>(
 
 /// The COSE_Mac0 of an image of 600 bytes, which isn't in it.
 fn message_of_image(alloc: Global, image: &[u8]) -> Result<Vec<u8>, AllocError> {
-    let structure = joined(alloc, &[b"\x84\x64MAC0\x43\xa1\x01\x05\x40\x59\x02\x58", image])?;
+    let structure = joined(
+        alloc,
+        &[b"\x84\x64MAC0\x43\xa1\x01\x05\x40\x59\x02\x58", image],
+    )?;
     let tag = hmac(KEY, structure.as_slice());
     joined(alloc, &[FRONT, b"\xf6\x58\x20", &tag])
 }
@@ -385,7 +389,13 @@ fn updates_an_image(rt: HostRuntime) -> Result<(), Fail> {
         let mut verifier = Verifier::detached(context(keys), 600);
         let mut intake = SliceIntake::new(bytes, 100);
         let mut slot = Store::<600>::new();
-        let updated = update(&mut verifier, message.as_slice(), &mut intake, &mut slot, &Never);
+        let updated = update(
+            &mut verifier,
+            message.as_slice(),
+            &mut intake,
+            &mut slot,
+            &Never,
+        );
         assert_eq!(rt; updated, Ok(verdict));
         assert_eq!(rt; slot.bytes(), bytes);
     }
