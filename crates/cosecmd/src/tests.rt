@@ -7,6 +7,7 @@ mod cwt;
 mod digests;
 mod failures;
 mod feeding;
+mod key_files;
 mod limits;
 mod long;
 mod making;

@@ -1,0 +1,214 @@
+//! Keys in files: what is printed for each command, for files that can't be read, and for long ones.
+
+ghost use Rattle.std.specs.Prelude.{None};
+
+use crate::files::NamedFiles;
+use crate::run::run_with_files;
+use crate::tests::cwt::made;
+use crate::tests::streams::FailingReader;
+use crate::tests::{
+    FRONT, KEY_SET, KEYS, PAYLOAD, SIGNED, STRUCTURE, X, Y, hmac, joined, message, point_set,
+    prints, signed, signed_digest,
+};
+use sha2::{Digest, Sha256};
+use std::alloc::{AllocError, Global};
+use std::io;
+use std::io::{Error, ErrorKind};
+use std::process::Abort;
+use std::test::Fail;
+
+/// The name of the file.
+const FILE: &str = "keys.cbor";
+
+const VERIFY: &[&str] = &["verify", "--keys-file", FILE];
+
+const CWT: &[&str] = &["cwt", "--now", "0", "--keys-file", FILE];
+
+const DIGEST: &[&str] = &["digest", "--keys-file", FILE];
+
+/// To make the message of 44 bytes.
+const MAKE: &[&str] = &["make", "--alg", "5", "--length", "2", "--key-file", FILE];
+
+/// One file, which gives a byte in each read and fails at one of them.
+#[derive(Clone, Copy)]
+struct OneFile<'f> {
+    name: &'f str,
+    bytes: &'f [u8],
+    fails_at: usize,
+}
+
+/// The file with these bytes, none of whose reads fails.
+fn file<'f>(bytes: &'f [u8]) -> OneFile<'f> {
+    OneFile {
+        name: FILE,
+        bytes,
+        fails_at: 0,
+    }
+}
+
+impl<'f> NamedFiles for OneFile<'f> {
+    type File = FailingReader<'f>;
+
+    ghost content = { λ _ _. None };
+
+    fn open(&self, name: &str) -> io::Result<FailingReader<'f>> {
+        if name != self.name {
+            return Err(Error::from(ErrorKind::NotFound));
+        }
+        Ok(FailingReader {
+            bytes: self.bytes,
+            reads: 0,
+            fails_at: self.fails_at,
+        })
+    }
+}
+
+/// A run with these arguments and this file writes these bytes, and ends with this status. With status 2 it has read
+/// nothing of its input.
+fn writes(
+    rt: &(impl Abort + Alloc<A = Global>),
+    arguments: &[&str],
+    file: OneFile,
+    input: &[u8],
+    (bytes, status): (&[u8], u8),
+) -> Result<(), AllocError> {
+    let mut words = Vec::new(rt.alloc());
+    words.push("cosecmd")?;
+    words.extend_from_slice(arguments)?;
+    let mut left = input;
+    let mut output = Vec::new(rt.alloc());
+    let ended = run_with_files(rt.alloc(), words.as_slice(), &file, &mut left, &mut output);
+    assert_eq!(rt; output.as_slice(), bytes, "{arguments:?}");
+    assert_eq!(rt; ended, status, "{arguments:?}");
+    assert!(rt; status < 2 || left.len() == input.len(), "{arguments:?}");
+    Ok(())
+}
+
+#[test]
+fn takes_keys_from_a_file(rt: HostRuntime) -> Result<(), Fail> {
+    let alloc = rt.alloc();
+    let mac = message(alloc)?;
+    let token = made(alloc, b"\xa0")?;
+    let signature = signed(alloc, SIGNED, &[0x5a; 64])?;
+    let point = point_set(alloc)?;
+    let digest = hex::encode(alloc, signed_digest(alloc)?.as_slice())?;
+    let signed = hex::encode(alloc, [0x5a; 64].as_slice())?;
+    let vouch = format!(in alloc; "vouch 01{digest}{signed}{X}{Y}\n")?;
+    let authentic = b"authentic mac0 alg 5 payload 2 taken 44\n";
+    let rows: [(&[&str], &[u8], &[u8], (&[u8], u8)); 7] = [
+        (VERIFY, KEY_SET, &mac, (authentic, 0)),
+        (CWT, KEY_SET, &token, (b"admitted\n", 0)),
+        (DIGEST, &point, &signature, (vouch.as_bytes(), 0)),
+        (MAKE, KEY_SET, b"hi", (&mac, 0)),
+        (VERIFY, b"\x80", &mac, (b"fault keys BadKeySet at 0\n", 2)),
+        (MAKE, b"\x80", b"hi", (b"fault key NotMap at 0\n", 2)),
+        // Digits are bytes of the key set like any others.
+        (
+            VERIFY,
+            KEYS.as_bytes(),
+            &mac,
+            (b"fault keys Trailing at 2\n", 2),
+        ),
+    ];
+    for (arguments, keys, input, ends) in rows {
+        writes(&rt, arguments, file(keys), input, ends)?;
+    }
+    Ok(())
+}
+
+#[test]
+fn says_which_file_fails(rt: HostRuntime) -> Result<(), Fail> {
+    let keys_file = b"fault file keys-file\n".as_slice();
+    let rows: [(&[&str], &[u8]); 4] = [
+        (VERIFY, keys_file),
+        (CWT, keys_file),
+        (DIGEST, keys_file),
+        (MAKE, b"fault file key-file\n"),
+    ];
+    // There is no such file; then a read of its nine bytes fails, or the one that finds its end.
+    let files = [("other", 0), (FILE, 1), (FILE, 5), (FILE, 10)];
+    for (arguments, text) in rows {
+        for (name, fails_at) in files {
+            let file = OneFile {
+                name,
+                bytes: KEY_SET,
+                fails_at,
+            };
+            writes(&rt, arguments, file, b"hi", (text, 2))?;
+        }
+    }
+    prints(&rt, VERIFY, b"", "fault file keys-file\n", 2)?;
+    Ok(())
+}
+
+#[test]
+fn reads_a_file_in_its_options_place(rt: HostRuntime) -> Result<(), Fail> {
+    let verify = ["verify", "--aad", "zz", "--keys-file", FILE];
+    let make = [
+        "make",
+        "--kid",
+        "zz",
+        "--key-file",
+        FILE,
+        "--alg",
+        "5",
+        "--length",
+        "2",
+    ];
+    let missing = OneFile {
+        name: "other",
+        ..file(b"\x80")
+    };
+    let rows: [(&[&str], OneFile, &[u8]); 4] = [
+        (&verify, missing, b"fault file keys-file\n"),
+        (&verify, file(b"\x80"), b"fault line aad\n"),
+        (&make, missing, b"fault file key-file\n"),
+        (&make, file(b"\x80"), b"fault line kid\n"),
+    ];
+    for (arguments, file, text) in rows {
+        writes(&rt, arguments, file, b"hi", (text, 2))?;
+    }
+    Ok(())
+}
+
+/// The key of a secret of this many bytes, each of them 0, and then further bytes.
+fn long_key(alloc: Global, count: u16, more: &[u8]) -> Result<Vec<u8>, AllocError> {
+    let mut key = joined(alloc, &[b"\xa2\x01\x04\x20\x59", &count.to_be_bytes()])?;
+    for _i in 0..count {
+        key.push(0)?;
+    }
+    key.extend_from_slice(more)?;
+    Ok(key)
+}
+
+#[test]
+fn reads_so_much_of_a_file(rt: HostRuntime) -> Result<(), Fail> {
+    let alloc = rt.alloc();
+    let longest = long_key(alloc, 65_528, b"")?;
+    let longer = long_key(alloc, 65_529, b"")?;
+    let followed = long_key(alloc, 65_528, b"\0")?;
+    assert_eq!(rt; (longest.len(), longer.len()), (65_535, 65_536));
+    // A secret that is longer than a block of the hash is replaced by its digest (RFC 2104 section 2).
+    let secret = Sha256::digest(longest.get(7..).unwrap_or(&[]));
+    let made = joined(alloc, &[FRONT, PAYLOAD, &hmac(&secret, STRUCTURE)])?;
+    // The next read after 65,536 bytes would fail.
+    let endless = OneFile {
+        fails_at: 65_537,
+        ..file(&longer)
+    };
+    let no_set = (b"fault keys BadKeySet at 0\n".as_slice(), 2);
+    let no_key = (b"fault file key-file\n".as_slice(), 2);
+    writes(
+        &rt,
+        VERIFY,
+        file(&longest),
+        b"",
+        (b"refused Truncated at 0\n", 1),
+    )?;
+    writes(&rt, VERIFY, endless, b"", no_set)?;
+    writes(&rt, MAKE, file(&longest), b"hi", (&made, 0))?;
+    writes(&rt, MAKE, endless, b"hi", no_key)?;
+    // A byte follows the key.
+    writes(&rt, MAKE, file(&followed), b"hi", no_key)?;
+    Ok(())
+}
