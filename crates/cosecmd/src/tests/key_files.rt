@@ -1,5 +1,7 @@
 //! Keys in files: what is printed for each command, for files that can't be read, and for long ones.
 
+ghost use Rattle.std.specs.Prelude.{None};
+
 use crate::files::NamedFiles;
 use crate::run::run_with_files;
 use crate::tests::cwt::made;
@@ -182,7 +184,6 @@ fn long_key(alloc: Global, count: u16, more: &[u8]) -> Result<Vec<u8>, AllocErro
 #[test]
 fn reads_so_much_of_a_file(rt: HostRuntime) -> Result<(), Fail> {
     let alloc = rt.alloc();
-    let mac = message(alloc)?;
     let longest = long_key(alloc, 65_528, b"")?;
     let longer = long_key(alloc, 65_529, b"")?;
     let followed = long_key(alloc, 65_528, b"\0")?;
@@ -195,21 +196,19 @@ fn reads_so_much_of_a_file(rt: HostRuntime) -> Result<(), Fail> {
         fails_at: 65_537,
         ..file(&longer)
     };
-    let rows: [(&[&str], OneFile, &[u8], (&[u8], u8)); 5] = [
-        (
-            VERIFY,
-            file(&longest),
-            &mac,
-            (b"refused BadAuth at 10\n", 1),
-        ),
-        (VERIFY, endless, &mac, (b"fault keys BadKeySet at 0\n", 2)),
-        (MAKE, file(&longest), b"hi", (&made, 0)),
-        (MAKE, endless, b"hi", (b"fault file key-file\n", 2)),
-        // A byte follows the key.
-        (MAKE, file(&followed), b"hi", (b"fault file key-file\n", 2)),
-    ];
-    for (arguments, file, input, ends) in rows {
-        writes(&rt, arguments, file, input, ends)?;
-    }
+    let no_set = (b"fault keys BadKeySet at 0\n".as_slice(), 2);
+    let no_key = (b"fault file key-file\n".as_slice(), 2);
+    writes(
+        &rt,
+        VERIFY,
+        file(&longest),
+        b"",
+        (b"refused Truncated at 0\n", 1),
+    )?;
+    writes(&rt, VERIFY, endless, b"", no_set)?;
+    writes(&rt, MAKE, file(&longest), b"hi", (&made, 0))?;
+    writes(&rt, MAKE, endless, b"hi", no_key)?;
+    // A byte follows the key.
+    writes(&rt, MAKE, file(&followed), b"hi", no_key)?;
     Ok(())
 }
