@@ -1,8 +1,8 @@
 //! The choice among the keys that fit.
 
-ghost use Rattle.std.specs.Prelude.{◌≡◌, ℤ, List, []};
+ghost use Rattle.std.specs.Prelude.{◌≡◌, ℤ, List, [], ◌∷◌};
 ghost use Rattle.std.specs.List.{cons_option};
-ghost use Rattle.cose_map.specs.Choice.{fitting as fitting_key};
+ghost use Rattle.cose_map.specs.Choice.{Question, fitting as fitting_key};
 ghost use Rattle.cose_map.specs.Choice.View.{question, with_rest, found_value};
 ghost use Rattle.cose_map.specs.Key.Value.{KeyValue};
 ghost use Rattle.cose_map.specs.Key.View.{key_value};
@@ -29,11 +29,19 @@ impl<'k> Fitting<'k> {
             ≡ with_rest (question query.now) self.old (cons_option (fitting_key (question query.now) (key_value key.now)) rest) }
     {
         if let Some(algorithm) = query.fitting(key) {
-            *self = match self {
-                Fitting::Nothing => Fitting::One(*key, algorithm),
-                _ => Fitting::Several,
-            };
+            self.add(key, algorithm);
         }
+    }
+
+    /// With one more key, which fits. Nearly all keys don't, so that what a copy costs is here alone.
+    fn add(&mut self, key: &Key<'k>, algorithm: i128)
+        ensures { (q : Question) (rest : List (KeyValue × ℤ)) → with_rest q self.new rest
+            ≡ with_rest q self.old ((key_value key.now, algorithm) ∷ rest) }
+    {
+        *self = match self {
+            Fitting::Nothing => Fitting::One(*key, algorithm),
+            _ => Fitting::Several,
+        };
     }
 
     /// The one key that fits, once all keys were checked.
