@@ -1,11 +1,10 @@
 -- An array of four elements in tags that are allowed is a message, where its elements are good.
-use Rattle.std.proofs.Common.{◌≡◌, ℕ, true, List, [], ◌++◌, length, refl, sym, ap, ◌∙◌, append_assoc}
+use Rattle.std.proofs.Common.{◌≡◌, ℕ, List, ◌++◌, refl, sym, ap, ◌∙◌, append_assoc}
 use Rattle.std.proofs.lemmas.List.{append-nil}
-use Rattle.cose_head.specs.declared.kind.Kind.{Kind}
-use Rattle.cose_head.specs.Item.{Item, Items, byte_string, no_items, item, Begins, IsHead, Spells, SpellsAll}
+use Rattle.cose_head.specs.Item.{Item, byte_string, Begins, Spells, SpellsAll}
 use Rattle.cose_msg.specs.Answer.{Whole}
-use Rattle.cose_msg.specs.Grammar.{IsArrayOfFour, IsFront, IsMessage, Spellings, SpellsMessage, bare, in_tag, in_cwt_tag, untagged, tagged, in_cwt, tag_number, payload_element, four_elements, spelling}
-use Rattle.cose_msg.specs.GrammarLaws.{AreGood, AreParts, ArrayOfFourIsMessage, IsAllowed}
+use Rattle.cose_msg.specs.Grammar.{IsArrayOfFour, IsFront, IsMessage, Spellings, bare, in_tag, in_cwt_tag, untagged, tagged, in_cwt, tag_number, payload_element, four_elements}
+use Rattle.cose_msg.specs.GrammarLaws.{AreGood, AreParts, ArrayOfFourIsMessage}
 use Rattle.cose_msg.specs.Rules.{Rules}
 
 append_assoc_back : (a b c : List ℕ) → a ++ (b ++ c) ≡ (a ++ b) ++ c

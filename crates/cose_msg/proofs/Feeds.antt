@@ -1,5 +1,5 @@
 -- A piece that is fed, as far as it was used.
-use Rattle.std.proofs.Common.{◌≡◌, ℕ, ◌+◌, ◌-◌, ◌^◌, ◌<◌, ◌≤◌, Bool, true, false, cond, List, [], ◌∷◌, ◌++◌, length, take, drop, refl, sym, ap, subst, ◌∙◌, append_assoc, arith, inl, inr, length-append, eq-eqb}
+use Rattle.std.proofs.Common.{◌≡◌, ℕ, ◌+◌, ◌-◌, ◌^◌, ◌<◌, ◌≤◌, Bool, true, false, cond, List, [], ◌∷◌, ◌++◌, length, take, drop, sym, ap, subst, ◌∙◌, append_assoc, arith, inl, inr, length-append, eq-eqb}
 use Rattle.std.specs.Prelude.{◌==◌}
 use Rattle.std.proofs.lemmas.Bool.{cases_lt, ne_eqb}
 use Rattle.std.proofs.lemmas.List.{append-nil, take_all, length-take, length-drop, drop-drop}
@@ -11,8 +11,6 @@ use Rattle.cose_msg.specs.Message.{message}
 use Rattle.cose_msg.specs.Phase.{grown, in_payload, is_settled, want_of}
 use Rattle.cose_msg.specs.Reading.{Reading}
 use Rattle.cose_msg.specs.Shown.{Tells, shown_in, shown_of}
-use Rattle.cose_msg.specs.declared.status.Status.TheVariants.{More}
-use Rattle.cose_msg.specs.Status.{status_of}
 use Rattle.cose_msg.specs.Task.{Task, rules_of}
 use Rattle.cose_msg.proofs.Runs.{Bounded, grown_by, settled_if_none_asked, without_more}
 

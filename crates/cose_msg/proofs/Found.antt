@@ -1,5 +1,5 @@
 -- The parts of a message that isn't refused, phase by phase, the last first: each is spelled, and passes its tests.
-use Rattle.std.proofs.Common.{◌≡◌, ℕ, ◌+◌, ◌-◌, ◌≤◌, Bool, true, false, cond, List, [], ◌++◌, length, Option, Some, None, Result, Ok, Err, refl, inl, subst, sym, ap, ◌∙◌, take}
+use Rattle.std.proofs.Common.{◌≡◌, ℕ, ◌+◌, ◌-◌, ◌≤◌, Bool, true, false, cond, List, [], ◌++◌, length, Option, Some, None, Result, Ok, Err, refl, inl, subst, ap, ◌∙◌, take}
 use Rattle.std.specs.Prelude.{nat_lt, ◌==◌, ◌&&◌}
 use Rattle.std.proofs.lemmas.Bool.{eqb-true, ltb-false}
 use Rattle.std.proofs.lemmas.List.{length-take-le}

@@ -1,5 +1,5 @@
 -- What follows the nil of a detached payload.
-use Rattle.std.proofs.Common.{◌≡◌, ℕ, ◌<◌, ◌≤◌, List, [], ◌++◌, length, take, true, false, Option, Some, None, refl, sym, ap, subst, ◌∙◌, arith, length-append}
+use Rattle.std.proofs.Common.{◌≡◌, ℕ, List, [], ◌++◌, length, false, Option, refl, sym, ap, ◌∙◌, arith, length-append}
 use Rattle.std.specs.Prelude.{nat_lt}
 use Rattle.std.proofs.lemmas.Bool.{le-ltb}
 use Rattle.std.proofs.lemmas.List.{take_at}
@@ -7,7 +7,7 @@ use Rattle.cose_msg.specs.Answer.{Chosen, Headers}
 use Rattle.cose_msg.specs.Phases.{auth_head, detached_payload}
 use Rattle.cose_msg.specs.Reader.{past_nil}
 use Rattle.cose_msg.specs.Rules.{Rules}
-use Rattle.cose_msg.specs.Source.{Source, attached, detached, came_of, source_with, with_came}
+use Rattle.cose_msg.specs.Source.{Source, detached, came_of}
 
 -- A source by what has come, and the number that is stated.
 pub source_is : (source : Source) (before came : List ℕ) (stated : ℕ) → source ≡ detached before stated → came_of source ≡ came → source ≡ detached came stated

@@ -17,7 +17,7 @@ use Rattle.cose_msg.specs.Answer.{Chosen, Headers, Whole}
 use Rattle.cose_msg.specs.Front.{wants_kind, array_head, past_array_head, kind_of_tag, past_tag, past_second_head, second_head, past_untagged, is_cwt_tag, past_first_head, first_head}
 use Rattle.cose_msg.specs.Grammar.{tag_number, is_untagged, IsArrayOfFour, IsFront, untagged, tagged, in_cwt, Spellings, protected_at, unprotected_at, payload_at, auth_at, IsMessage, HasCome, payload_element, four_elements, SpellsMessage, bare, in_tag, in_cwt_tag}
 use Rattle.cose_msg.specs.Message.{message}
-use Rattle.cose_msg.specs.Phases.{nothing_told, unprotected_told, headers_told, finish, auth_head, auth_head_fault, past_payload, payload_head, payload_head_fault, past_payload_head_from, detached_payload, is_too_long, both_buckets, placed_at, past_unprotected, unprotected, past_protected, protected_head, protected_head_fault}
+use Rattle.cose_msg.specs.Phases.{nothing_told, unprotected_told, headers_told, finish, auth_head, auth_head_fault, past_payload, payload_head, payload_head_fault, past_payload_head_from, is_too_long, both_buckets, placed_at, past_unprotected, unprotected, past_protected, protected_head, protected_head_fault}
 use Rattle.cose_msg.specs.Reading.{Told, Reading, Phase, Next, settled, with_head}
 use Rattle.cose_msg.specs.Rules.{Rules}
 use Rattle.cose_msg.specs.Source.{Source, attached, detached}

@@ -1,5 +1,5 @@
 -- The status of a verifier is that of the bytes that it has taken.
-use Rattle.std.proofs.Common.{◌≡◌, ◌⊎◌, inl, inr, ℕ, Bool, true, false, cond, List, [], ◌++◌, Option, Some, Result, Ok, refl, sym, ap, ◌∙◌, arith}
+use Rattle.std.proofs.Common.{◌≡◌, ◌⊎◌, inl, inr, ℕ, Bool, true, false, cond, List, [], ◌++◌, Option, Some, Result, refl, sym, ap, ◌∙◌, arith}
 use Rattle.std.specs.Prelude.{◌<◌}
 use Rattle.std.proofs.lemmas.Bool.{lt-ltb}
 use Rattle.cose_msg.specs.declared.phase.Phase.{Phase}

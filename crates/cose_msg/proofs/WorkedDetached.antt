@@ -2,7 +2,6 @@
 -- come of the payload are known on their own.
 use Rattle.std.specs.Prelude.{ℕ, ◌^◌, List, [], ◌∷◌, refl}
 use Rattle.cose_head.specs.declared.reason.Reason.TheVariants.{Truncated, BadSimple, WrongType, Attached, BadAuthLength, PayloadTooLong}
-use Rattle.cose_head.specs.declared.refusal.Refusal.{Refusal}
 use Rattle.cose_msg.specs.declared.status.Status.{Status}
 use Rattle.cose_msg.specs.declared.status.Status.TheVariants.{More, PayloadNext, Refused}
 use Rattle.cose_msg.specs.Answer.{Answer, refused}

@@ -3,7 +3,6 @@ use Rattle.std.specs.Borrow.{Bor}
 use Rattle.std.specs.Prelude.{◌≡◌, ℕ, ◌+◌, ◌≤◌, Bool, true, false, List, [], ◌++◌, length, Option, Some, None, Ok, ⊤, is_none, option_map, map, ◌==◌}
 use Rattle.cose_head.specs.declared.kind.Kind.{Kind}
 use Rattle.cose_head.specs.declared.reason.Reason.TheVariants.{Truncated}
-use Rattle.cose_head.specs.declared.refusal.Refusal.{Refusal}
 use Rattle.cose_head.specs.Head.{IsMore, bare_head}
 use Rattle.cose_head.specs.Walker.{HasPut, open_now}
 use Rattle.cose_head.specs.Algorithm.{is_mac_of}

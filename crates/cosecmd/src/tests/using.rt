@@ -409,7 +409,7 @@ fn takes_a_fixed_amount_of_memory(rt: HostRuntime) {
         size_of::<Verifier<256, 4>>(),
         size_of::<Verifier<1_024, 4>>(),
     ];
-    assert_eq!(rt; sizes, [1_232, 1_616, 3_152]);
+    assert_eq!(rt; sizes, [1_248, 1_632, 3_168]);
 }
 
 /// The MAC of a COSE_Mac0 before its first byte, under the one key of the set that fits what the headers ask for.

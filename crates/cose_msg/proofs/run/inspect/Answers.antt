@@ -3,7 +3,7 @@ use Rattle.std.proofs.lemmas.Grind.{common_steps}
 use Rattle.std.specs.Prelude.{is_err}
 use Rattle.cose_msg.specs.Message.{inspecting}
 use Rattle.cose_msg.specs.Run.{inspection}
-use Rattle.cose_msg.specs.Task.{Task, to_inspect}
+use Rattle.cose_msg.specs.Task.{to_inspect}
 use Rattle.cose_msg.specs.Kept.{inspected_in}
 use Rattle.cose_msg.proofs.KeptAnswers.{kept_again, kept_intake, kept_sink, kept_stop, unfailed}
 use Rattle.cose_msg.proofs.Answered.{alike, inspection_run, kept_inspection_run, kept_inspection_settles, of_any, still, stopped}

@@ -3,7 +3,7 @@ use Rattle.std.proofs.lemmas.Grind.{common_steps}
 use Rattle.std.specs.Prelude.{is_err}
 use Rattle.cose_msg.specs.Answer.{decided}
 use Rattle.cose_msg.specs.Message.{verifying}
-use Rattle.cose_msg.specs.Task.{Task, to_verify}
+use Rattle.cose_msg.specs.Task.{to_verify}
 use Rattle.cose_msg.specs.Kept.{verdict_in}
 use Rattle.cose_msg.proofs.KeptAnswers.{kept_again, kept_intake, kept_sink, kept_stop, unfailed}
 use Rattle.cose_msg.proofs.Answered.{kept_verdict_run, kept_verdict_settles, of_any, still, stopped, verdict_run, verifying_alike}

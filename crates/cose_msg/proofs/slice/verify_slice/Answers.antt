@@ -1,8 +1,7 @@
-use Rattle.std.proofs.Common.{◌≡◌, ℕ, Bool, [], length, subst, sym, ap, ◌∙◌, arith}
+use Rattle.std.proofs.Common.{◌≡◌, Bool, [], length, subst, ap, ◌∙◌}
 use Rattle.cose_msg.specs.declared.verdict.Verdict.{Verdict}
 use Rattle.cose_msg.specs.Answer.{decided}
 use Rattle.cose_msg.specs.Kept.{HasTaken}
-use Rattle.cose_msg.specs.Message.{verdict_of}
 use Rattle.cose_msg.specs.Reader.{Counts}
 use Rattle.cose_msg.specs.Slice.{outcome_of}
 use Rattle.cose_msg.specs.Task.{to_verify}

@@ -1,7 +1,5 @@
-use Rattle.std.proofs.Common.{◌≡◌, List, [], ◌++◌, length, take, refl, sym, ap, ◌∙◌, zero-add, arith}
-use Rattle.std.proofs.lemmas.Grind.{common_steps}
-use Rattle.cose_msg.specs.Phases.{auth_head, detached_payload, headers_told}
-use Rattle.cose_msg.specs.Source.{detached}
+use Rattle.std.proofs.Common.{◌≡◌, length, refl, sym, ap, ◌∙◌, zero-add}
+use Rattle.cose_msg.specs.Phases.{headers_told}
 use Rattle.cose_msg.specs.Task.{rules_of}
 use Rattle.cose_msg.proofs.Nils.{nil_empty}
 use Rattle.cose_msg.proofs.Opened.{opened_whole}

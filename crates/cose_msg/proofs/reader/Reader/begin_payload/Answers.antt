@@ -1,5 +1,4 @@
-use Rattle.std.proofs.Common.{◌≡◌, List, length, refl, sym, ap, ◌∙◌, zero-add, add-zero, arith}
-use Rattle.std.proofs.lemmas.Grind.{common_steps}
+use Rattle.std.proofs.Common.{◌≡◌, length, refl, sym, ap, ◌∙◌, zero-add, add-zero}
 use Rattle.cose_msg.specs.Phases.{headers_told, past_payload}
 use Rattle.cose_msg.specs.Task.{rules_of}
 use Rattle.cose_msg.proofs.Opened.{opened_whole}

@@ -1,7 +1,6 @@
-use Rattle.std.proofs.Common.{◌≡◌, ℕ, ◌+◌, ◌-◌, List, ◌++◌, length, refl, sym, ap, subst, ◌∙◌, arith, length-append}
-use Rattle.std.proofs.lemmas.Grind.{common_steps}
+use Rattle.std.proofs.Common.{◌≡◌, ℕ, ◌+◌, ◌-◌, List, ◌++◌, length, refl, sym, ap, ◌∙◌, arith, length-append}
 use Rattle.cose_msg.specs.Phases.{headers_told}
-use Rattle.cose_msg.specs.Source.{Source, came_of, detached}
+use Rattle.cose_msg.specs.Source.{detached}
 use Rattle.cose_msg.specs.Task.{rules_of}
 use Rattle.cose_msg.proofs.Nils.{nil_whole, source_is}
 use Rattle.cose_msg.proofs.Opened.{opened_more, opened_whole, with_payload}

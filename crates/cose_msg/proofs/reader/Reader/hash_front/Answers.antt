@@ -1,5 +1,4 @@
 use Rattle.std.proofs.Common.{◌≡◌, ℕ, List, [], cond, sym, ap, subst, ◌∙◌}
-use Rattle.std.proofs.lemmas.Grind.{common_steps}
 use Rattle.cose_msg.specs.Message.{protected_content}
 use Rattle.cose_msg.specs.Reader.{IsOpened}
 use Rattle.cose_msg.specs.Task.{Task}

@@ -1,10 +1,8 @@
-use Rattle.std.proofs.Common.{◌≡◌, ◌<◌, ◌^◌, ℕ, List, [], Some, None, refl, sym, ap, ◌∙◌, arith}
-use Rattle.std.proofs.lemmas.Grind.{common_steps}
+use Rattle.std.proofs.Common.{◌≡◌, [], Some, None, refl, sym, ap, ◌∙◌}
 use Rattle.cose_msg.specs.Phases.{headers_told, nil_fault_within, payload_fault_within}
 use Rattle.cose_msg.specs.Reader.{IsAtPayload}
-use Rattle.cose_msg.specs.Source.{Source, attached, came_of, detached, source_with}
+use Rattle.cose_msg.specs.Source.{attached, came_of, detached, source_with}
 use Rattle.cose_msg.specs.Task.{Task}
-use Rattle.cose_msg.proofs.Faults.{payload_fits, stated_fits}
 use Rattle.cose_msg.proofs.Standing.{along}
 use Rattle.cose_msg.proofs.reader.Reader.past_payload_head.Goals as goal
 

@@ -1,13 +1,10 @@
-use Rattle.std.proofs.Common.{◌≡◌, ◌<◌, ℕ, List, [], ◌++◌, length, take, refl, sym, ap, subst, ◌∙◌, append_assoc, arith}
-use Rattle.std.proofs.lemmas.Grind.{common_steps}
-use Rattle.cose_msg.specs.Message.{message}
+use Rattle.std.proofs.Common.{◌≡◌, ℕ, List, [], ◌++◌, length, take, sym, ap, subst, ◌∙◌, append_assoc, arith}
 use Rattle.cose_msg.specs.Kept.{HasTaken}
 use Rattle.cose_msg.specs.Reader.{SoFar}
-use Rattle.cose_msg.specs.Reading.{Reading}
 use Rattle.cose_msg.specs.Shown.{shown_in}
 use Rattle.cose_msg.specs.Phase.{payload_want_of}
 use Rattle.cose_msg.specs.Status.{payload_wanted_in, status_of}
-use Rattle.cose_msg.specs.Task.{Task, given_to, rules_of}
+use Rattle.cose_msg.specs.Task.{Task, given_to}
 use Rattle.cose_msg.proofs.Given.{came_more, given_again, now_given, stands_beside}
 use Rattle.cose_msg.proofs.Runs.{without_more}
 use Rattle.cose_msg.proofs.Standing.{whole_task}

@@ -1,7 +1,5 @@
-use Rattle.std.proofs.Common.{◌≡◌, false, ap, ◌∙◌, sym, arith}
-use Rattle.std.proofs.lemmas.Grind.{common_steps}
+use Rattle.std.proofs.Common.{ap, ◌∙◌, sym}
 use Rattle.cose_msg.specs.Reading.{Reading}
-use Rattle.cose_msg.specs.Status.{is_payload_next}
 use Rattle.cose_msg.proofs.PhaseCases.{none_wanted_else}
 use Rattle.cose_msg.proofs.Runs.{without_more}
 use Rattle.cose_msg.proofs.verifier.Verifier.payload_wanted.Goals as goal

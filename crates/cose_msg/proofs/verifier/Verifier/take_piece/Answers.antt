@@ -1,4 +1,4 @@
-use Rattle.std.proofs.Common.{◌≡◌, true, List, ◌++◌, refl, sym, ap, ◌∙◌, arith, length-append}
+use Rattle.std.proofs.Common.{◌≡◌, true, ◌++◌, refl, sym, ap, ◌∙◌, arith, length-append}
 use Rattle.cose_msg.specs.Message.{message}
 use Rattle.cose_msg.specs.Phase.{grown, in_payload}
 use Rattle.cose_msg.specs.Reader.{SoFar}

@@ -1,4 +1,4 @@
-use Rattle.std.proofs.Common.{◌<◌, length, ℕ, ap, ◌∙◌, sym, arith}
+use Rattle.std.proofs.Common.{◌<◌, length, ap, ◌∙◌, sym, arith}
 use Rattle.std.proofs.lemmas.Grind.{common_steps}
 use Rattle.cose_msg.specs.Phase.{want_of}
 use Rattle.cose_msg.specs.Reading.{Reading}
