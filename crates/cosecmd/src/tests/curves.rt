@@ -83,23 +83,14 @@ fn vouches(
     let word = format!(in alloc; "0{}{rest}", by.curve)?;
     let other = format!(in alloc; "01{rest}")?;
     let text = format!(in alloc; "vouch {word}\n")?;
-    let rows: [(&[&str], &str, u8); 4] = [
-        (&["digest", "--keys", &keys], &text, 0),
-        (
-            &["verify", "--keys", &keys, "--vouch", &word],
-            by.authentic,
-            0,
-        ),
-        (
-            &["verify", "--keys", &keys, "--vouch", &other],
-            "refused BadAuth at 9\n",
-            1,
-        ),
-        (&["verify", "--keys", &keys], "refused BadAuth at 9\n", 1),
-    ];
-    for (words, text, status) in rows {
-        prints(rt, words, message.as_slice(), text, status)?;
-    }
+    let message = message.as_slice();
+    prints(rt, &["digest", "--keys", &keys], message, &text, 0)?;
+    let vouched = ["verify", "--keys", &keys, "--vouch", &word];
+    prints(rt, &vouched, message, by.authentic, 0)?;
+    let refused = "refused BadAuth at 9\n";
+    let vouched = ["verify", "--keys", &keys, "--vouch", &other];
+    prints(rt, &vouched, message, refused, 1)?;
+    prints(rt, &["verify", "--keys", &keys], message, refused, 1)?;
     Ok(())
 }
 
