@@ -1,4 +1,3 @@
-pub mod Checked
 pub mod Tokens
 pub mod Inside
 pub mod Trees

@@ -1,5 +1,5 @@
 -- What is known of a phase that is none of certain phases.
-use Rattle.std.proofs.Common.{◌≡◌, ℕ, true, false, Option, Some, None, refl}
+use Rattle.std.proofs.Common.{◌≡◌, ◌∙◌, ap, sym, Bool, ℕ, true, false, true≢false, Option, Some, None, refl}
 use Rattle.cose_msg.specs.declared.phase.Auth.{Auth}
 use Rattle.cose_msg.specs.declared.phase.Detached.{Detached}
 use Rattle.cose_msg.specs.declared.phase.Payload.{Payload}
@@ -106,59 +106,40 @@ more_is_unsettled (phases.Settled (Authentic kind alg payload taken)) more = abs
 more_is_unsettled (phases.Settled (Refused refusal)) more = absurd cc
 more_is_unsettled (phases.Shaped p) more = absurd cc
 
+-- A phase in which no byte of a detached payload is awaited: none is wanted, and the message ends where its bytes do.
+pub not_awaiting : (phase : Phase) → ((p : Detached) → phase ≡ phases.Detached p → ⊥) → (payload_want_of phase ≡ 0) × ((n : ℕ) → ends_at phase n ≡ n)
+not_awaiting phases.FirstHead none = (refl, λ n. refl)
+not_awaiting (phases.TagHead p) none = (refl, λ n. refl)
+not_awaiting (phases.ArrayHead p) none = (refl, λ n. refl)
+not_awaiting (phases.ProtectedHead p) none = (refl, λ n. refl)
+not_awaiting (phases.Protected p) none = (refl, λ n. refl)
+not_awaiting (phases.Unprotected p) none = (refl, λ n. refl)
+not_awaiting (phases.PayloadHead p) none = (refl, λ n. refl)
+not_awaiting (phases.Payload p) none = (refl, λ n. refl)
+not_awaiting (phases.Detached p) none = absurd (none p refl)
+not_awaiting (phases.AuthHead p) none = (refl, λ n. refl)
+not_awaiting (phases.Auth p) none = (refl, λ n. refl)
+not_awaiting (phases.Signed p) none = (refl, λ n. refl)
+not_awaiting (phases.Decided verdict) none = (refl, λ n. refl)
+not_awaiting (phases.Settled verdict) none = (refl, λ n. refl)
+not_awaiting (phases.Shaped p) none = (refl, λ n. refl)
+
+-- A phase with a property that a phase awaiting a detached payload hasn't.
+awaits_none : (has : Phase → Bool) (b : Bool) → ((p : Detached) → has (phases.Detached p) ≡ b → ⊥) → (phase : Phase) → has phase ≡ b →
+    (p : Detached) → phase ≡ phases.Detached p → ⊥
+awaits_none has b not phase e p is = not p (sym (ap has is) ∙ e)
+
 -- Before a message is settled, no byte of a detached payload is wanted.
 pub unsettled_wants_none : (phase : Phase) → is_settled phase ≡ false → payload_want_of phase ≡ 0
-unsettled_wants_none phases.FirstHead e = refl
-unsettled_wants_none (phases.TagHead p) e = refl
-unsettled_wants_none (phases.ArrayHead p) e = refl
-unsettled_wants_none (phases.ProtectedHead p) e = refl
-unsettled_wants_none (phases.Protected p) e = refl
-unsettled_wants_none (phases.Unprotected p) e = refl
-unsettled_wants_none (phases.PayloadHead p) e = refl
-unsettled_wants_none (phases.Payload p) e = refl
-unsettled_wants_none (phases.Detached p) e = absurd cc
-unsettled_wants_none (phases.AuthHead p) e = refl
-unsettled_wants_none (phases.Auth p) e = refl
-unsettled_wants_none (phases.Signed p) e = absurd cc
-unsettled_wants_none (phases.Decided verdict) e = absurd cc
-unsettled_wants_none (phases.Settled verdict) e = absurd cc
-unsettled_wants_none (phases.Shaped p) e = absurd cc
+unsettled_wants_none phase e = (not_awaiting phase (awaits_none is_settled false (λ p. true≢false) phase e)).0
 
 -- A message that isn't settled ends where its bytes do.
 pub unsettled_ends : (phase : Phase) (n : ℕ) → is_settled phase ≡ false → ends_at phase n ≡ n
-unsettled_ends phases.FirstHead n e = refl
-unsettled_ends (phases.TagHead p) n e = refl
-unsettled_ends (phases.ArrayHead p) n e = refl
-unsettled_ends (phases.ProtectedHead p) n e = refl
-unsettled_ends (phases.Protected p) n e = refl
-unsettled_ends (phases.Unprotected p) n e = refl
-unsettled_ends (phases.PayloadHead p) n e = refl
-unsettled_ends (phases.Payload p) n e = refl
-unsettled_ends (phases.Detached p) n e = absurd cc
-unsettled_ends (phases.AuthHead p) n e = refl
-unsettled_ends (phases.Auth p) n e = refl
-unsettled_ends (phases.Signed p) n e = absurd cc
-unsettled_ends (phases.Decided verdict) n e = absurd cc
-unsettled_ends (phases.Settled verdict) n e = absurd cc
-unsettled_ends (phases.Shaped p) n e = absurd cc
+unsettled_ends phase n e = (not_awaiting phase (awaits_none is_settled false (λ p. true≢false) phase e)).1 n
 
 -- Where the status isn't that bytes of a detached payload are wanted, none are.
 pub none_wanted_else : (phase : Phase) → is_payload_next (status_at phase) ≡ false → payload_want_of phase ≡ 0
-none_wanted_else phases.FirstHead e = refl
-none_wanted_else (phases.TagHead p) e = refl
-none_wanted_else (phases.ArrayHead p) e = refl
-none_wanted_else (phases.ProtectedHead p) e = refl
-none_wanted_else (phases.Protected p) e = refl
-none_wanted_else (phases.Unprotected p) e = refl
-none_wanted_else (phases.PayloadHead p) e = refl
-none_wanted_else (phases.Payload p) e = refl
-none_wanted_else (phases.Detached p) e = absurd cc
-none_wanted_else (phases.AuthHead p) e = refl
-none_wanted_else (phases.Auth p) e = refl
-none_wanted_else (phases.Signed p) e = refl
-none_wanted_else (phases.Decided verdict) e = refl
-none_wanted_else (phases.Settled verdict) e = refl
-none_wanted_else (phases.Shaped p) e = refl
+none_wanted_else phase e = (not_awaiting phase (awaits_none (λ q. is_payload_next (status_at q)) false (λ p. true≢false) phase e)).0
 
 pub unsettled_is_more : (phase : Phase) → is_settled phase ≡ false → status_at phase ≡ More
 unsettled_is_more phases.FirstHead e = refl
@@ -176,20 +157,3 @@ unsettled_is_more (phases.Signed p) e = absurd cc
 unsettled_is_more (phases.Decided verdict) e = absurd cc
 unsettled_is_more (phases.Settled verdict) e = absurd cc
 unsettled_is_more (phases.Shaped p) e = absurd cc
-
-pub not_awaiting : (phase : Phase) → ((p : Detached) → phase ≡ phases.Detached p → ⊥) → payload_want_of phase ≡ 0
-not_awaiting phases.FirstHead none = refl
-not_awaiting (phases.TagHead p) none = refl
-not_awaiting (phases.ArrayHead p) none = refl
-not_awaiting (phases.ProtectedHead p) none = refl
-not_awaiting (phases.Protected p) none = refl
-not_awaiting (phases.Unprotected p) none = refl
-not_awaiting (phases.PayloadHead p) none = refl
-not_awaiting (phases.Payload p) none = refl
-not_awaiting (phases.Detached p) none = absurd (none p refl)
-not_awaiting (phases.AuthHead p) none = refl
-not_awaiting (phases.Auth p) none = refl
-not_awaiting (phases.Signed p) none = refl
-not_awaiting (phases.Decided verdict) none = refl
-not_awaiting (phases.Settled verdict) none = refl
-not_awaiting (phases.Shaped p) none = refl

@@ -1,7 +1,6 @@
 -- Whether a bucket has a label.
 pub mod Both
 pub mod EachFault
-pub mod Common
 use Rattle.std.proofs.Common.{◌≡◌, ◌∙◌, ap, Option, None, List, [], ◌∷◌, refl}
 use Rattle.cose_head.specs.Placed.{Placed}
 use Rattle.std.specs.Prelude.{is_some, option_map, cond, ◌||◌, Bool, true, false, Some}

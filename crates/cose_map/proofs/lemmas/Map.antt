@@ -1,3 +1,4 @@
+pub mod First
 pub mod Read
 pub mod Again
 pub mod Search

@@ -1,17 +1,13 @@
 //! The values of a header bucket that the reading of a message asks for (RFC 9052 section 3.1), found in one pass.
 
-ghost use Rattle.std.specs.Prelude.{◌≡◌, List, ◌∷◌, option_map};
-ghost use Rattle.std.specs.Option.{option_or};
+ghost use Rattle.std.specs.Prelude.{◌≡◌, option_map};
 ghost use Rattle.cose_head.specs.ItemRef.{placed};
-ghost use Rattle.cose_head.specs.Placed.{Placed};
 ghost use Rattle.cose_map.specs.Bucket.Header as names;
-ghost use Rattle.cose_map.specs.Label.{same_label};
-ghost use Rattle.cose_map.specs.Label.View.{label_value};
-ghost use Rattle.cose_map.specs.Map.Pairs.{Pair, value_of};
+ghost use Rattle.cose_map.specs.Map.Pairs.{value_of};
 ghost use Rattle.cose_map.specs.Map.View.{pairs_left};
 
 use crate::bucket::header;
-use crate::label::Label;
+use crate::map::first::first_value;
 use crate::map::pairs::Pairs;
 use cose_head::ItemRef;
 
@@ -30,35 +26,6 @@ pub(crate) struct Common<'a> {
     pub(crate) partial_iv: Option<ItemRef<'a>>,
 }
 
-/// Whether a pair has the label. Nearly all labels of headers are integers, which are compared at once.
-fn is_named(label: &Label<'_>, name: &Label<'_>) -> bool
-    ensures { result ≡ same_label (label_value label.now) (label_value name.now) }
-{
-    match (label, name) {
-        (Label::Int(number), Label::Int(other)) => number == other,
-        _ => label.is_same(name),
-    }
-}
-
-/// The first value of a label: that of the pairs so far, or else this pair's, if it has the label.
-#[tactic(auto, using(crate::proofs::lemmas::Bucket::Common::value_found, crate::proofs::lemmas::Bucket::Common::value_passed))]
-fn first<'a>(
-    so_far: Option<ItemRef<'a>>,
-    label: &Label<'_>,
-    name: &Label<'_>,
-    value: ItemRef<'a>,
-) -> Option<ItemRef<'a>>
-    ensures { (item : Placed) (others : List Pair)
-        → option_or (option_map placed result) (value_of (label_value label.now) others)
-        ≡ option_or (option_map placed so_far.entry) (value_of (label_value label.now)
-        (record { name = label_value name.now; label = item; value = placed value.entry } ∷ others)) }
-{
-    if is_named(label, name) && so_far.is_none() {
-        return Some(value);
-    }
-    so_far
-}
-
 impl<'a> Common<'a> {
     /// Those of the pairs of a bucket.
     pub(crate) fn of(pairs: Pairs<'a>) -> Common<'a>
@@ -75,11 +42,11 @@ impl<'a> Common<'a> {
         let mut iv = None;
         let mut partial_iv = None;
         'pairs: for (name, _item, value) in pairs {
-            alg = first(alg, &header::ALG, &name, value);
-            crit = first(crit, &header::CRIT, &name, value);
-            kid = first(kid, &header::KID, &name, value);
-            iv = first(iv, &header::IV, &name, value);
-            partial_iv = first(partial_iv, &header::PARTIAL_IV, &name, value);
+            alg = first_value(alg, &header::ALG, &name, value);
+            crit = first_value(crit, &header::CRIT, &name, value);
+            kid = first_value(kid, &header::KID, &name, value);
+            iv = first_value(iv, &header::IV, &name, value);
+            partial_iv = first_value(partial_iv, &header::PARTIAL_IV, &name, value);
         }
         Common {
             alg,

@@ -52,7 +52,7 @@ returns-in-Detached-clause-uses g c =
 
 pub returns-in_default : goal.returns-in_default
 returns-in_default g c =
-    let none : payload_wanted_in c.args.self.now ≡ 0 = none_wanted c.args.self.now.stopped (payload_want_of c.args.self.now.reader.phase) (not_awaiting c.args.self.now.reader.phase c.in_default.not-Detached) in
+    let none : payload_wanted_in c.args.self.now ≡ 0 = none_wanted c.args.self.now.stopped (payload_want_of c.args.self.now.reader.phase) (not_awaiting c.args.self.now.reader.phase c.in_default.not-Detached).0 in
     absurd (omega (arith, c.requires.some, none))
 
 pub invariant_of-self-clause-untouched : goal.invariant_of-self-clause-untouched
