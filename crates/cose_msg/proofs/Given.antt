@@ -1,13 +1,13 @@
 -- What comes of a detached payload, and a verifier that has taken some of it.
-use Rattle.std.proofs.Common.{◌≡◌, ℕ, Bool, true, false, List, [], ◌++◌, append-nil, refl, sym, ap, subst, ◌∙◌}
+use Rattle.std.proofs.Common.{◌≡◌, ℕ, Bool, true, false, List, [], ◌++◌, Option, Some, None, append-nil, refl, sym, ap, subst, ◌∙◌}
 use Rattle.cose_msg.specs.declared.phase.Detached.{Detached}
 use Rattle.cose_msg.specs.declared.phase.Phase.{Phase}
 use Rattle.cose_msg.specs.declared.phase.Phase.TheVariants as phases
 use Rattle.cose_msg.specs.declared.reader.Reader.{Reader}
 use Rattle.cose_msg.specs.Phase.{grown, in_payload}
-use Rattle.cose_msg.specs.Reader.{HoldsIn, Known, SoFar, StandsFor}
-use Rattle.cose_msg.specs.Reading.{Reading, Told}
-use Rattle.cose_msg.specs.Source.{Source, attached, detached, came_of, with_came}
+use Rattle.cose_msg.specs.Reader.{HoldsIn, SoFar, StandsFor}
+use Rattle.cose_msg.specs.Reading.{Reading}
+use Rattle.cose_msg.specs.Source.{Source, IsStated, attached, detached, came_of, source_with, with_came}
 use Rattle.cose_msg.specs.Task.{Task, given_to}
 use Rattle.cose_msg.proofs.Runs.{grown_by, payload_of}
 
@@ -28,26 +28,15 @@ given_again task came before =
     let from : Source → Task = λ source. record { setting = record task.setting { source = source }; inspects = task.inspects } in
     ap from (again came before task.setting.source)
 
-module _ {H D : ℕ} (task : Task) (known : Known) (told : Told) (n : ℕ) (v : Reader H D) where
-  attached_in : (phase : Phase) → HoldsIn task known told n v phase → in_payload phase ≡ true → task.setting.source ≡ attached
-  attached_in (phases.Payload p) h is = h.5
-  attached_in phases.FirstHead h is = absurd cc
-  attached_in (phases.TagHead p) h is = absurd cc
-  attached_in (phases.ArrayHead p) h is = absurd cc
-  attached_in (phases.ProtectedHead p) h is = absurd cc
-  attached_in (phases.Protected p) h is = absurd cc
-  attached_in (phases.Unprotected p) h is = absurd cc
-  attached_in (phases.PayloadHead p) h is = absurd cc
-  attached_in (phases.Detached p) h is = absurd cc
-  attached_in (phases.AuthHead p) h is = absurd cc
-  attached_in (phases.Auth p) h is = absurd cc
-  attached_in (phases.Signed p) h is = absurd cc
-  attached_in (phases.Decided verdict) h is = absurd cc
-  attached_in (phases.Settled verdict) h is = absurd cc
-  attached_in (phases.Shaped p) h is = absurd cc
+-- The length that is stated of a payload of which nothing has come is that of the same payload when some of it has.
+stated_as : (stated : Option ℕ) (source : Source) → source_with [] stated ≡ with_came [] source → IsStated stated source
+stated_as None attached e = refl
+stated_as None (detached came n) e = absurd cc
+stated_as (Some n) attached e = absurd cc
+stated_as (Some n) (detached came m) e = let same : n ≡ m = cc in ap (detached came) same
 
-pub stands_attached : {H D : ℕ} {task : Task} {B : List ℕ} {n : ℕ} {v : Reader H D} {reading : List ℕ → Reading} → StandsFor task B n v reading → in_payload v.phase ≡ true → task.setting.source ≡ attached
-stands_attached {H} {D} {task} {B} {n} {v} {reading} h is = attached_in task h.known h.told n v v.phase h.holds is
+pub stated_for : (stated : Option ℕ) (task other : Task) → source_with [] stated ≡ with_came [] task.setting.source → given_to [] other ≡ given_to [] task → IsStated stated other.setting.source
+stated_for stated task other e same = stated_as stated other.setting.source (e ∙ sym (ap (λ (t : Task). t.setting.source) same))
 
 -- After a piece of the message what has come of a detached payload is the same, and whatever comes of it then.
 grown_outside : (phase : Phase) (B piece : List ℕ) → in_payload phase ≡ false → grown phase B piece ≡ B

@@ -7,7 +7,9 @@ mod Sound
 mod Fair
 mod Settles
 mod Bounds
+mod Alongside
 mod Last
+mod PayloadStays
 mod Spellings
 mod Spelled
 mod SpelledMessages
@@ -38,6 +40,9 @@ mod ToldForms
 mod PayloadLimit
 mod PayloadsKnown
 mod Statuses
+mod Brings
+mod BothTaken
+mod BothAnswered
 mod PhaseCases
 mod KeptAnswers
 mod Untouched

@@ -1,5 +1,5 @@
 -- What is known of a phase that is none of certain phases.
-use Rattle.std.proofs.Common.{◌≡◌, ◌∙◌, ap, sym, Bool, ℕ, true, false, true≢false, Option, Some, None, refl}
+use Rattle.std.proofs.Common.{◌≡◌, ◌<◌, arith, ◌⊎◌, inl, inr, ◌∙◌, ap, sym, Bool, ℕ, true, false, true≢false, Option, Some, None, refl}
 use Rattle.cose_msg.specs.declared.phase.Auth.{Auth}
 use Rattle.cose_msg.specs.declared.phase.Detached.{Detached}
 use Rattle.cose_msg.specs.declared.phase.Payload.{Payload}
@@ -105,6 +105,30 @@ more_is_unsettled (phases.Decided verdict) more = absurd cc
 more_is_unsettled (phases.Settled (Authentic kind alg payload taken)) more = absurd cc
 more_is_unsettled (phases.Settled (Refused refusal)) more = absurd cc
 more_is_unsettled (phases.Shaped p) more = absurd cc
+
+-- Either no byte of a detached payload is wanted, or the phase is that of one.
+pub awaits_or_not : (phase : Phase) → (payload_want_of phase ≡ 0) ⊎ ((p : Detached) × (phase ≡ phases.Detached p))
+awaits_or_not phases.FirstHead = inl refl
+awaits_or_not (phases.TagHead p) = inl refl
+awaits_or_not (phases.ArrayHead p) = inl refl
+awaits_or_not (phases.ProtectedHead p) = inl refl
+awaits_or_not (phases.Protected p) = inl refl
+awaits_or_not (phases.Unprotected p) = inl refl
+awaits_or_not (phases.PayloadHead p) = inl refl
+awaits_or_not (phases.Payload p) = inl refl
+awaits_or_not (phases.Detached p) = inr (p, refl)
+awaits_or_not (phases.AuthHead p) = inl refl
+awaits_or_not (phases.Auth p) = inl refl
+awaits_or_not (phases.Signed p) = inl refl
+awaits_or_not (phases.Decided verdict) = inl refl
+awaits_or_not (phases.Settled verdict) = inl refl
+awaits_or_not (phases.Shaped p) = inl refl
+
+pub awaited_is_settled : (phase : Phase) → 0 < payload_want_of phase → is_settled phase ≡ true
+awaited_is_settled phase some = elim (awaits_or_not phase) [
+  | inl none ↦ absurd (omega (arith, some, none))
+  | inr w ↦ ap is_settled w.1
+]
 
 -- A phase in which no byte of a detached payload is awaited: none is wanted, and the message ends where its bytes do.
 pub not_awaiting : (phase : Phase) → ((p : Detached) → phase ≡ phases.Detached p → ⊥) → (payload_want_of phase ≡ 0) × ((n : ℕ) → ends_at phase n ≡ n)

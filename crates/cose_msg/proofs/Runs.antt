@@ -1,6 +1,6 @@
 -- A run of the verifier so far, and its exits.
 use Rattle.std.proofs.Common.{◌≡◌, ℕ, zero, suc, ◌+◌, ◌-◌, ◌*◌, ◌^◌, ◌<◌, ◌≤◌, Bool, true, false, List, [], ◌++◌, length, take, Option, None, Some, Ok, Err, refl, sym, ap, subst, ◌∙◌, append_assoc, arith, inl, inr, length-append}
-use Rattle.std.specs.Prelude.{Result, IsOk, OnOk, is_err, min, ◌||◌, ◌⊎◌}
+use Rattle.std.specs.Prelude.{Result, IsOk, OnOk, is_err, ◌||◌, ◌⊎◌}
 use Rattle.std.specs.Io.KnownBytes.{Appends, Consumes, IsAtEnd}
 use Rattle.std.proofs.KnownBytes.{Consumes-nil, Consumes-trans, Appends-nil, Appends-trans}
 use Rattle.std.proofs.lemmas.Bool.{cases_lt}
@@ -11,20 +11,22 @@ use Rattle.cose_msg.specs.declared.intake.IntakeFault.{IntakeFault}
 use Rattle.cose_msg.specs.declared.phase.Phase.{Phase}
 use Rattle.cose_msg.specs.declared.phase.Phase.TheVariants as phases
 use Rattle.cose_msg.specs.declared.sink.SinkFault.{SinkFault}
+use Rattle.cose_msg.specs.declared.reader.Reader.{Reader}
 use Rattle.cose_msg.specs.declared.verdict.Stop.{Stop}
 use Rattle.cose_msg.specs.declared.verdict.Stop.TheVariants as stops
 use Rattle.cose_msg.specs.declared.verifier.Verifier.{Verifier}
 use Rattle.cose_msg.specs.Intake.{KeepsOrForgets, TakesInAll, is_end, marks}
 use Rattle.cose_msg.specs.Kept.{HasTaken, answer_kept}
-use Rattle.cose_msg.specs.Laws.{MessageIsInspectedWithin, VerifiedWithin, payload_at_most}
+use Rattle.cose_msg.specs.Laws.{MessageIsInspectedWithin, VerifiedWithin, payload_inside}
 use Rattle.cose_msg.specs.Message.{Setting, comparing, message}
 use Rattle.cose_msg.specs.Phase.{grown, in_payload, is_settled, want_of}
-use Rattle.cose_msg.specs.Reading.{Reading}
+use Rattle.cose_msg.specs.Reading.{Reading, Told}
 use Rattle.cose_msg.specs.Run.{Drive}
 use Rattle.cose_msg.specs.Shown.{Tells, shown_in, shown_of}
 use Rattle.cose_msg.specs.Sink.{AppendsFront, Puts}
+use Rattle.cose_msg.specs.Source.{Source, attached, detached as apart, is_detached_from}
 use Rattle.cose_msg.specs.Task.{Task, rules_of}
-use Rattle.cose_msg.specs.Reader.{StandsFor}
+use Rattle.cose_msg.specs.Reader.{HoldsIn, Known, StandsFor}
 
 pub or_false : (b other : Bool) → other ≡ false → (b || other) ≡ b
 or_false true other e = refl
@@ -53,6 +55,7 @@ pub record Along {H D : ℕ} {S : Type 0} {K : _} (task : Task) (s B : List ℕ)
   pub not_ended : 0 < length taken → ended_now ≡ false
   pub payload : Appends contents contents_now part
   pub promise : sure ≤ sure_now + length part
+  pub beside : is_detached_from task.setting.source ≡ true → part ≡ []
 
 abbrev pub at_start : {H D : ℕ} {S : Type 0} {K : _} {task : Task} {s B : List ℕ} {v : Verifier H D S K} (come contents : Option (List ℕ)) (ended : Bool) (sure : ℕ) → HasTaken task s B v → Along task s B come come ended contents contents sure sure v
 at_start {H} {D} {S} {K} {task} {s} {B} {v} come contents ended sure stands = record {
@@ -64,6 +67,7 @@ at_start {H} {D} {S} {K} {task} {s} {B} {v} come contents ended sure stands = re
   not_ended = λ lt. absurd (omega arith);
   payload = Appends-nil contents;
   promise = omega arith;
+  beside = λ detached. refl;
 }
 
 -- The part of the array that the intake wrote a piece into.
@@ -119,6 +123,32 @@ wanted_is_open (phases.Decided verdict) lt = absurd (omega (arith, lt))
 wanted_is_open (phases.Settled verdict) lt = absurd (omega (arith, lt))
 wanted_is_open (phases.Shaped p) lt = absurd (omega (arith, lt))
 
+-- Only a payload that is in the message is read there.
+module _ {H D : ℕ} (task : Task) (known : Known) (told : Told) (n : ℕ) (v : Reader H D) where
+  attached_in : (phase : Phase) → HoldsIn task known told n v phase → in_payload phase ≡ true → task.setting.source ≡ attached
+  attached_in (phases.Payload p) h is = h.5
+  attached_in phases.FirstHead h is = absurd cc
+  attached_in (phases.TagHead p) h is = absurd cc
+  attached_in (phases.ArrayHead p) h is = absurd cc
+  attached_in (phases.ProtectedHead p) h is = absurd cc
+  attached_in (phases.Protected p) h is = absurd cc
+  attached_in (phases.Unprotected p) h is = absurd cc
+  attached_in (phases.PayloadHead p) h is = absurd cc
+  attached_in (phases.Detached p) h is = absurd cc
+  attached_in (phases.AuthHead p) h is = absurd cc
+  attached_in (phases.Auth p) h is = absurd cc
+  attached_in (phases.Signed p) h is = absurd cc
+  attached_in (phases.Decided verdict) h is = absurd cc
+  attached_in (phases.Settled verdict) h is = absurd cc
+  attached_in (phases.Shaped p) h is = absurd cc
+
+pub stands_attached : {H D : ℕ} {task : Task} {B : List ℕ} {n : ℕ} {v : Reader H D} {reading : List ℕ → Reading} → StandsFor task B n v reading → in_payload v.phase ≡ true → task.setting.source ≡ attached
+stands_attached {H} {D} {task} {B} {n} {v} {reading} h is = attached_in task h.known h.told n v v.phase h.holds is
+
+-- A payload that is in the message isn't detached.
+not_both : (source : Source) → source ≡ attached → is_detached_from source ≡ true → ⊥
+not_both source is detached = let clash : false ≡ true = sym (ap is_detached_from is) ∙ detached in cc
+
 -- What of a piece is payload.
 abbrev pub payload_of : Bool → List ℕ → List ℕ
 payload_of true piece = piece
@@ -140,6 +170,13 @@ grown_by (phases.Signed p) B piece = sym (append-nil B)
 grown_by (phases.Decided verdict) B piece = sym (append-nil B)
 grown_by (phases.Settled verdict) B piece = sym (append-nil B)
 grown_by (phases.Shaped p) B piece = sym (append-nil B)
+
+none_inside : (inside : Bool) (part piece : List ℕ) → (inside ≡ true → ⊥) → part ≡ [] → part ++ payload_of inside piece ≡ []
+none_inside true part piece none e = absurd (none refl)
+none_inside false part piece none e = append-nil part ∙ e
+
+pub none_apart : {H D : ℕ} {task : Task} {B : List ℕ} {n : ℕ} {v : Reader H D} {reading : List ℕ → Reading} → StandsFor task B n v reading → is_detached_from task.setting.source ≡ true → in_payload v.phase ≡ true → ⊥
+none_apart {H} {D} {task} h detached inside = not_both task.setting.source (stands_attached h inside) detached
 
 -- ---- a piece more
 
@@ -172,6 +209,7 @@ goes_on {H} {D} {S} {K} {task} {s} {B} {come} {come_now} {come_after} {contents}
       not_ended = λ some. e;
       payload = Appends-trans contents contents_now contents_after a.part more a.payload grew;
       promise = omega (arith, a.promise, promise, length-append a.part more);
+      beside = λ detached. none_inside (in_payload v.reader.phase) a.part piece (none_apart a.stands.so_far detached) (a.beside detached);
     }
 
 -- ---- exits
@@ -199,6 +237,7 @@ concluded {H} {D} {S} {K} {task} {s} {B} {come} {come_now} {come_after} {content
       tells = told_of_all task v bytes bytes refl shown;
       payload = ap (λ (r : Reading). r.told.payload) (sym here) ∙ told;
       grows = a.payload;
+      beside = a.beside;
     }
 
 -- A failed intake.
@@ -218,6 +257,7 @@ stopped_by_intake {H} {D} {S} {K} {task} {s} {B} {come} {come_now} {come_after} 
       tells = told_of_all task next bytes bytes refl (same ∙ shown);
       payload = ap (λ (r : Reading). r.told.payload) (sym here) ∙ told;
       grows = a.payload;
+      beside = a.beside;
     }
 
 -- A failed sink: the piece was of the payload.
@@ -240,6 +280,7 @@ stopped_by_sink {H} {D} {S} {K} {task} {s} {B} {come} {come_now} {come_after} {c
       tells = told_of_all task next bytes (s ++ (a.taken ++ piece)) regrouped (same ∙ shown);
       payload = subst (λ (t : List ℕ). (message (rules_of H D task) t).told.payload ≡ B ++ (a.part ++ piece)) regrouped (ap (λ (r : Reading). r.told.payload) (sym here) ∙ told ∙ payload_is);
       grows = AppendsFront-then contents contents_now contents_after a.part piece a.payload front;
+      beside = λ detached. absurd (none_apart a.stands.so_far detached in_it);
     }
 
 -- ---- what a failed put ensures
@@ -273,6 +314,10 @@ pub not_at_end : (n : ℕ) → 0 < n → is_end {E = IntakeFault} (Ok n) ≡ fal
 not_at_end zero lt = absurd (omega (arith, lt))
 not_at_end (suc n) lt = refl
 
+pub put_none : {H D : ℕ} {S : Type 0} {K : _} {task : Task} {s B : List ℕ} {come come_now contents contents_now : Option (List ℕ)} {ended : Bool} {sure sure_now : ℕ} {v : Verifier H D S K} → Along task s B come come_now ended contents contents_now sure sure_now v →
+    is_detached_from task.setting.source ≡ true → sure ≤ sure_now
+put_none a detached = omega (arith, a.promise, ap length (a.beside detached))
+
 -- A sink that is sure of every payload doesn't fail.
 pub sure_enough : {H D : ℕ} {S : Type 0} {K : _} {task : Task} {s B : List ℕ} {come come_now contents contents_now : Option (List ℕ)} {ended : Bool} {sure sure_now : ℕ} {v : Verifier H D S K} (piece known : List ℕ) → (a : Along task s B come come_now ended contents contents_now sure sure_now v) → in_payload v.reader.phase ≡ true → known ≡ grown v.reader.phase (B ++ a.part) piece →
     length known ≤ task.setting.payload_limit → task.setting.payload_limit ≤ sure → length piece ≤ sure_now
@@ -286,8 +331,12 @@ asked_for_more : (asked taken : ℕ) → (taken < 2 ^ 57 → 0 < asked) → aske
 asked_for_more asked taken some none (inl early) = let positive : 0 < asked = some early in absurd (omega arith)
 asked_for_more asked taken some none (inr late) = late
 
-within_limit : (room limit n : ℕ) → room ≤ 65535 → 2 ^ 57 ≤ n → (2 * room + 186 + payload_at_most limit ≤ n) × (2 * room + 65589 + payload_at_most limit ≤ n)
-within_limit room limit n le late = let short : min limit (2 ^ 56 - 1) ≤ 2 ^ 56 - 1 = min-le_right limit (2 ^ 56 - 1) in (omega arith, omega arith)
+inside_is_short : (source : Source) (limit : ℕ) → payload_inside source limit ≤ 2 ^ 56 - 1
+inside_is_short attached limit = min-le_right limit (2 ^ 56 - 1)
+inside_is_short (apart came stated) limit = omega arith
+
+within_limit : (room : ℕ) (source : Source) (limit n : ℕ) → room ≤ 65535 → 2 ^ 57 ≤ n → (2 * room + 186 + payload_inside source limit ≤ n) × (2 * room + 65589 + payload_inside source limit ≤ n)
+within_limit room source limit n le late = let short : payload_inside source limit ≤ 2 ^ 56 - 1 = inside_is_short source limit in (omega arith, omega arith)
 
 -- This many bytes settle any message.
 pub record Bounded : Type 0 where
@@ -295,8 +344,8 @@ pub record Bounded : Type 0 where
   pub inspected : MessageIsInspectedWithin
 
 settled_by_limit : Bounded → (H D : ℕ) (inspects : Bool) (setting : Setting) (bytes : List ℕ) → H ≤ 65535 → 2 ^ 57 ≤ length bytes → (message (rules_of H D (record { setting = setting; inspects = inspects })) bytes).settled ≡ true
-settled_by_limit within H D false setting bytes le late = within.compared H D setting bytes (within_limit H setting.payload_limit (length bytes) le late).0
-settled_by_limit within H D true setting bytes le late = within.inspected H D setting bytes (within_limit H setting.payload_limit (length bytes) le late).1
+settled_by_limit within H D false setting bytes le late = within.compared H D setting bytes (within_limit H setting.source setting.payload_limit (length bytes) le late).0
+settled_by_limit within H D true setting bytes le late = within.inspected H D setting bytes (within_limit H setting.source setting.payload_limit (length bytes) le late).1
 
 too_long : (settled : Bool) → (settled ≡ false → settled ≡ true) → settled ≡ true
 too_long true h = refl

@@ -23,7 +23,7 @@ use Rattle.cose_msg.specs.declared.context.Wanted.{Wanted}
 use Rattle.cose_msg.specs.declared.context.Wanted.TheVariants as wants
 use Rattle.cose_msg.specs.Answer.{Chosen, Headers}
 use Rattle.cose_msg.specs.Front.{array_head_fault, past_array_head, array_head, kind_of_tag, past_tag, tag_behind_cwt, past_second_head, second_head, past_untagged, is_cwt_tag, is_tag, is_array, past_first_head, first_head}
-use Rattle.cose_msg.specs.Laws.{payload_at_most, AuthIsAtMost, MessageIsBounded}
+use Rattle.cose_msg.specs.Laws.{payload_at_most, payload_inside, AuthIsAtMost, MessageIsBounded}
 use Rattle.cose_msg.specs.Message.{message}
 use Rattle.cose_msg.specs.Phases.{nothing_told, protected_told, unprotected_told, headers_told, is_bytes_head, is_nil, is_too_long, finish, auth, auth_head_fault, past_auth_head, auth_head, past_payload, payload, payload_head_fault, nil_fault_within, detached_payload, past_payload_head_from, past_payload_head, payload_head, past_choice, key_choice, both_buckets, placed_at, headers_of, past_unprotected, unprotected, past_protected, protected, protected_head_fault, past_protected_head, protected_head}
 use Rattle.cose_msg.specs.Reading.{Told, Reading, Phase, Next, awaits, past_head, with_head, with_string, is_truncated, past_item, with_item, unless, unless_fault, with_value, open_after}
@@ -135,21 +135,24 @@ module _ (laws : BoundLaws) (rules : Rules) (most : ℕ) (at_most : AuthIsAtMost
       (λ at head. unless_fault-settles (headers_told headers B) at most (auth_head_fault rules chosen head) (auth rules headers chosen B at head.arg)
       (λ e. auth-settles headers chosen B at head.arg (at_most headers chosen head.arg is (passes_both (is_bytes_head head) (rules.auth_fits chosen head.arg) _ _ e))))
 
+  abbrev to_payload_of : Source → ℕ
+  to_payload_of source = payload_inside source rules.payload_limit + (9 + most)
+
   abbrev to_payload : ℕ
-  to_payload = payload_at_most rules.payload_limit + (9 + most)
+  to_payload = to_payload_of rules.source
 
-  payload-settles : (headers : Headers) (chosen : Option Chosen) (n : ℕ) → rules.choice headers ≡ Ok chosen → n ≤ payload_at_most rules.payload_limit → Settles to_payload (payload rules headers chosen n)
-  payload-settles headers chosen n is le = by_more (n + (9 + most)) to_payload (payload rules headers chosen n) (omega arith) (with_string-settles (headers_told headers) n (9 + most) (past_payload rules headers chosen) (λ at B. auth_head-settles headers chosen B is))
+  payload-settles : (headers : Headers) (chosen : Option Chosen) (n : ℕ) → rules.choice headers ≡ Ok chosen → n ≤ payload_at_most rules.payload_limit → Settles (to_payload_of attached) (payload rules headers chosen n)
+  payload-settles headers chosen n is le = by_more (n + (9 + most)) (to_payload_of attached) (payload rules headers chosen n) (omega arith) (with_string-settles (headers_told headers) n (9 + most) (past_payload rules headers chosen) (λ at B. auth_head-settles headers chosen B is))
 
-  detached_payload-settles : (headers : Headers) (chosen : Option Chosen) (came : List ℕ) (stated at : ℕ) → rules.choice headers ≡ Ok chosen → Settles to_payload (detached_payload rules headers chosen came stated at)
+  detached_payload-settles : (headers : Headers) (chosen : Option Chosen) (came : List ℕ) (stated at : ℕ) → rules.choice headers ≡ Ok chosen → Settles (0 + (9 + most)) (detached_payload rules headers chosen came stated at)
   detached_payload-settles headers chosen came stated at is =
-      choose-settles (nat_lt (length came) stated) (λ place bytes. awaits (headers_told headers came) (stated - length came) at) (auth_head rules headers chosen (take stated came)) to_payload (λ place bytes le. refl)
-      (by_more (9 + most) to_payload (auth_head rules headers chosen (take stated came)) (omega arith) (auth_head-settles headers chosen (take stated came) is))
+      choose-settles (nat_lt (length came) stated) (λ place bytes. awaits (headers_told headers came) (stated - length came) at) (auth_head rules headers chosen (take stated came)) (0 + (9 + most)) (λ place bytes le. refl)
+      (by_more (9 + most) (0 + (9 + most)) (auth_head rules headers chosen (take stated came)) (omega arith) (auth_head-settles headers chosen (take stated came) is))
 
-  past_payload_head-settles : (source : Source) (headers : Headers) (chosen : Option Chosen) → rules.choice headers ≡ Ok chosen → (at : ℕ) (head : Head) → Settles to_payload (past_payload_head_from source rules headers chosen at head)
-  past_payload_head-settles attached headers chosen is at head = unless_fault-settles (headers_told headers []) at to_payload (payload_head_fault rules head) (payload rules headers chosen head.arg)
+  past_payload_head-settles : (source : Source) (headers : Headers) (chosen : Option Chosen) → rules.choice headers ≡ Ok chosen → (at : ℕ) (head : Head) → Settles (to_payload_of source) (past_payload_head_from source rules headers chosen at head)
+  past_payload_head-settles attached headers chosen is at head = unless_fault-settles (headers_told headers []) at (to_payload_of attached) (payload_head_fault rules head) (payload rules headers chosen head.arg)
       (λ e. payload-settles headers chosen head.arg is (short_enough rules.payload_limit head.arg (passes_payload (is_bytes_head head) (is_too_long rules.payload_limit head.arg) (is_nil head) _ _ _ e)))
-  past_payload_head-settles (detached came stated) headers chosen is at head = unless_fault-settles (headers_told headers []) at to_payload (nil_fault_within rules.payload_limit stated head) (detached_payload rules headers chosen came stated at)
+  past_payload_head-settles (detached came stated) headers chosen is at head = unless_fault-settles (headers_told headers []) at (to_payload_of (detached came stated)) (nil_fault_within rules.payload_limit stated head) (detached_payload rules headers chosen came stated at)
       (λ e. detached_payload-settles headers chosen came stated at is)
 
   payload_head-settles : (headers : Headers) (chosen : Option Chosen) → rules.choice headers ≡ Ok chosen → Settles (9 + to_payload) (payload_head rules headers chosen)

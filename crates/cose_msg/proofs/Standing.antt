@@ -1,5 +1,5 @@
 -- The meaning of a reader depends on the reading alone.
-use Rattle.std.proofs.Common.{◌≡◌, ℕ, Bool, ◌+◌, List, [], ◌∷◌, ◌++◌, length, take, Option, None, Some, refl, sym, ap, subst, ◌∙◌, arith, append_assoc, length-append}
+use Rattle.std.proofs.Common.{◌≡◌, ℕ, Bool, ◌+◌, List, [], ◌∷◌, ◌++◌, length, take, Option, None, sym, ap, subst, ◌∙◌, arith, append_assoc, length-append}
 use Rattle.std.proofs.Math.Seq.{take-length}
 use Rattle.cose_head.specs.declared.kind.Kind.TheVariants.{Mac0}
 use Rattle.cose_map.specs.Key.Value.{KeyValue}
@@ -8,7 +8,7 @@ use Rattle.cose_msg.specs.declared.context.Terms.{Terms}
 use Rattle.cose_msg.specs.declared.reader.Reader.{Reader}
 use Rattle.cose_msg.specs.Reading.{Reading, Told}
 use Rattle.cose_head.specs.Head.{IsMore, bare_head}
-use Rattle.cose_msg.specs.Source.{Source, came_of, source_with, with_came}
+use Rattle.cose_msg.specs.Source.{source_with, with_came}
 use Rattle.cose_msg.specs.Task.{Task, given_to}
 use Rattle.cose_msg.specs.Reader.{HoldsIn, Known, Shows, StandsFor, setting_with}
 
@@ -67,16 +67,11 @@ holds_more at n byte held now count kept half =
 pub told_payload : (told other : Told) (B : List ℕ) → told ≡ other → told.payload ≡ B → other.payload ≡ B
 told_payload told other B same is = sym (ap (λ (t : Told). t.payload) same) ∙ is
 
-none_came : (came : List ℕ) (stated : Option ℕ) → with_came [] (source_with came stated) ≡ source_with [] stated
-none_came came None = refl
-none_came came (Some n) = refl
-
--- A task that is a reader's, with these keys and for this purpose, before anything of a detached payload has come.
-pub whole_task : (task : Task) (keys : List KeyValue) (terms : Terms) (inspects : Bool) → keys ≡ task.setting.keys → inspects ≡ task.inspects
-    → record { setting = setting_with task.setting.keys (came_of task.setting.source) terms; inspects = task.inspects } ≡ task → record { setting = setting_with keys [] terms; inspects = inspects } ≡ given_to [] task
-whole_task task keys terms inspects same purpose e =
-    let from : Source → Task = λ source. record { setting = record (setting_with task.setting.keys [] terms) { source = source }; inspects = task.inspects } in
-    rw (same, purpose) (ap from (sym (none_came (came_of task.setting.source) terms.stated)) ∙ ap (given_to []) e)
+-- A task that is a reader's, with these keys, this length of a detached payload, and for this purpose, before anything of the
+-- payload has come.
+pub whole_task : (task : Task) (keys : List KeyValue) (terms : Terms) (inspects : Bool) (stated : Option ℕ) → keys ≡ task.setting.keys → inspects ≡ task.inspects → source_with [] stated ≡ with_came [] task.setting.source
+    → record { setting = setting_with task.setting.keys task.setting.source terms; inspects = task.inspects } ≡ task → record { setting = setting_with keys (source_with [] stated) terms; inspects = inspects } ≡ given_to [] task
+whole_task task keys terms inspects stated same purpose source e = rw (same, purpose, source) (ap (given_to []) e)
 
 -- A piece was taken whole.
 pub took_piece : {H D : ℕ} {task : Task} (v : Reader H D) (s piece : List ℕ) (grows : List ℕ → List ℕ) (used : ℕ) (reading : List ℕ → Reading) → used ≡ length piece

@@ -1,6 +1,6 @@
 -- The status of a verifier is that of the bytes that it has taken.
 use Rattle.std.proofs.Common.{◌≡◌, ◌⊎◌, inl, inr, ℕ, Bool, true, false, cond, List, [], ◌++◌, Option, Some, Result, refl, sym, ap, ◌∙◌, arith}
-use Rattle.std.specs.Prelude.{◌<◌}
+use Rattle.std.specs.Prelude.{◌<◌, nat_lt}
 use Rattle.std.proofs.lemmas.Bool.{lt-ltb}
 use Rattle.cose_msg.specs.declared.phase.Phase.{Phase}
 use Rattle.cose_msg.specs.declared.phase.Phase.TheVariants as phases
@@ -9,6 +9,9 @@ use Rattle.cose_msg.specs.declared.status.Status.TheVariants.{Complete, More, Pa
 use Rattle.cose_msg.specs.declared.verdict.Stop.{Stop}
 use Rattle.cose_msg.specs.declared.reader.Reader.{Reader}
 use Rattle.cose_msg.specs.declared.verifier.Verifier.{Verifier}
+use Rattle.cose_msg.specs.declared.verdict.Verdict.TheVariants.{Authentic}
+use Rattle.cose_msg.specs.declared.verdict.Verdict.TheVariants as verdicts
+use Rattle.cose_msg.specs.Answer.{Answer, decided, complete, shaped}
 use Rattle.cose_msg.specs.Kept.{HasTaken, answer_kept}
 use Rattle.cose_msg.specs.Message.{message}
 use Rattle.cose_msg.specs.Phase.{is_settled, payload_want_of}
@@ -95,6 +98,36 @@ complete_is (Refused refusal) e = absurd cc
 pub complete_stays : (stopped : Bool) (said : Status) → stopped ≡ false → is_complete (cond stopped Stopped said) ≡ true → said ≡ Complete
 complete_stays true said goes_on e = absurd cc
 complete_stays false said goes_on e = complete_is said e
+
+either_open : (b : Bool) → is_open (cond b PayloadNext More) ≡ true
+either_open true = refl
+either_open false = refl
+
+answer_is_closed : (answer : Answer) → is_open (status_of_answer answer) ≡ false
+answer_is_closed (decided (Authentic kind alg payload taken)) = refl
+answer_is_closed (decided (verdicts.Refused refusal)) = refl
+answer_is_closed (complete whole) = refl
+answer_is_closed (shaped kind payload auth taken) = refl
+
+open_if : (settled : Bool) (answer : Answer) → is_open (cond settled (status_of_answer answer) More) ≡ true → settled ≡ false
+open_if true answer wants = let closed : is_open (status_of_answer answer) ≡ false = answer_is_closed answer in absurd cc
+open_if false answer wants = refl
+
+-- A message of which bytes are wanted, and none of a detached payload, isn't settled; and one that isn't settled wants bytes.
+pub open_unsettled : (reading : Reading) → reading.payload_wanted ≡ 0 → is_open (status_of reading) ≡ true → reading.settled ≡ false
+open_unsettled reading none wants = open_if reading.settled reading.answer (rw none at wants)
+
+pub unsettled_open : (reading : Reading) → reading.settled ≡ false → is_open (status_of reading) ≡ true
+unsettled_open reading e = rw e (either_open (nat_lt 0 reading.payload_wanted))
+
+open_either : (awaits settled : Bool) (answer other : Answer) → is_open (cond awaits PayloadNext (cond settled (status_of_answer answer) More)) ≡ is_open (cond awaits PayloadNext (cond settled (status_of_answer other) More))
+open_either true settled answer other = refl
+open_either false true answer other = answer_is_closed answer ∙ sym (answer_is_closed other)
+open_either false false answer other = refl
+
+-- Whether bytes are wanted doesn't depend on the answer.
+pub open_as : (reading other : Reading) → reading.payload_wanted ≡ other.payload_wanted → reading.settled ≡ other.settled → is_open (status_of reading) ≡ is_open (status_of other)
+open_as reading other wanted settled = rw (wanted, settled) (open_either (nat_lt 0 other.payload_wanted) other.settled reading.answer other.answer)
 
 -- The status of a settled message is that of its answer.
 pub settled_status : (reading : Reading) (said : Status) → said ≡ status_of reading → IsDone reading → said ≡ status_of_answer reading.answer

@@ -14,7 +14,7 @@ use Rattle.cose_msg.specs.Message.{message}
 use Rattle.cose_msg.specs.Phase.{awaits_decision, ends_at, is_settled, payload_want_of}
 use Rattle.cose_msg.specs.Phases.{nothing_told}
 use Rattle.cose_msg.specs.Reader.{HoldsIn, IsUntouched, SoFar, first_phase, task_in}
-use Rattle.cose_msg.specs.Source.{Source, came_of, source_with, with_came}
+use Rattle.cose_msg.specs.Source.{Source, source_with, with_came}
 use Rattle.cose_msg.specs.Task.{Task, given_to}
 use Rattle.cose_msg.specs.Verifier.{task_of}
 use Rattle.cose_msg.proofs.Standing.{unknown}
@@ -80,16 +80,12 @@ none_came : (stated : Option ℕ) → with_came [] (source_with [] stated) ≡ s
 none_came None = refl
 none_came (Some n) = refl
 
-terms_whole : (came : List ℕ) (stated : Option ℕ) → source_with (came_of (with_came came (source_with [] stated))) stated ≡ with_came came (source_with [] stated)
-terms_whole came None = refl
-terms_whole came (Some n) = refl
-
 -- A verifier that hasn't stopped, of a reader that is at its first head and has taken nothing, has taken nothing.
 pub begins : {H D : ℕ} {S : Type 0} {K : _} (task : Task) (v : Verifier H D S K) → task_of v ≡ task → IsUntouched v.reader → v.reader.phase ≡ phases.FirstHead → v.taken ≡ 0 → v.stopped ≡ false → HasTaken task [] [] v
 begins {H} {D} {S} {K} task v is untouched first none going =
     let from : Source → Task = λ source. record { setting = record (task_of v).setting { source = source }; inspects = v.inspecting } in
-    let nothing : given_to [] (task_of v) ≡ task_of v = ap from (none_came v.reader.terms.stated) in
-    let so : (more : List ℕ) → SoFar (given_to more (task_of v)) [] [] v.reader = λ more. starts_message (given_to more (task_of v)) v.reader untouched first (ap from (terms_whole more v.reader.terms.stated)) in
+    let nothing : given_to [] (task_of v) ≡ task_of v = ap from (none_came v.stated) in
+    let so : (more : List ℕ) → SoFar (given_to more (task_of v)) [] [] v.reader = λ more. starts_message (given_to more (task_of v)) v.reader untouched first refl in
     subst (λ (t : Task). HasTaken t [] [] v) is (record {
       made_for = sym nothing;
       so_far = subst (λ (t : Task). SoFar t [] [] v.reader) nothing (so []);

@@ -7,6 +7,7 @@ use Rattle.cose_msg.specs.Answer.{Answer, decided, complete, shaped, refused, Ch
 use Rattle.cose_msg.specs.Message.{Decides, Setting, message, verdict_of, compared, verified, uncompared, comparing, verifying, inspecting}
 use Rattle.cose_msg.specs.Reading.{Reading, Phase}
 use Rattle.cose_msg.specs.Rules.{Rules}
+use Rattle.cose_msg.specs.Source.{Source, attached, detached, with_came}
 
 -- A settled reading stays when bytes follow.
 abbrev pub Stays : Phase → Type 0
@@ -31,6 +32,19 @@ abbrev pub VerdictStays : Type 0
 VerdictStays = (room nesting : ℕ) (setting : Setting) (decides : Decides) (bytes more : List ℕ) →
     (message (verifying room nesting setting decides) bytes).settled ≡ true →
     verdict_of room nesting setting decides (bytes ++ more) ≡ verdict_of room nesting setting decides bytes
+
+-- The rules, where these bytes of a detached payload have come.
+abbrev pub receiving : List ℕ → Rules → Rules
+receiving came rules = record rules { source = with_came came rules.source }
+
+-- Where no byte of a detached payload is wanted, none that comes changes anything; nor does it before the message is settled.
+abbrev pub PayloadStays : Type 0
+PayloadStays = (rules : Rules) (came more bytes : List ℕ) → (message (receiving came rules) bytes).payload_wanted ≡ 0 →
+    message (receiving (came ++ more) rules) bytes ≡ message (receiving came rules) bytes
+
+abbrev pub OpenStays : Type 0
+OpenStays = (rules : Rules) (came more bytes : List ℕ) → (message (receiving came rules) bytes).settled ≡ false →
+    message (receiving (came ++ more) rules) bytes ≡ message (receiving came rules) bytes
 
 -- A refusal for a reason other than that bytes are missing, or no refusal.
 abbrev pub IsDefinite : Answer → Type 0
@@ -84,6 +98,11 @@ MessageStandsInside = (rules : Rules) → AreFair rules → (bytes : List ℕ) �
 abbrev pub payload_at_most : ℕ → ℕ
 payload_at_most payload_limit = min payload_limit (2 ^ 56 - 1)
 
+-- The most bytes of it that are in the message: none of a detached one are.
+abbrev pub payload_inside : Source → ℕ → ℕ
+payload_inside attached payload_limit = payload_at_most payload_limit
+payload_inside (detached came stated) payload_limit = 0
+
 abbrev pub AuthIsAtMost : ℕ → Rules → Type 0
 AuthIsAtMost most rules = (headers : Headers) (chosen : Option Chosen) (n : ℕ) → rules.choice headers ≡ Ok chosen →
     rules.auth_fits chosen n ≡ true → n ≤ most
@@ -92,12 +111,12 @@ AuthIsAtMost most rules = (headers : Headers) (chosen : Option Chosen) (n : ℕ)
 -- payload, and the tag or signature.
 abbrev pub MessageIsBounded : Type 0
 MessageIsBounded = (rules : Rules) (most : ℕ) → AuthIsAtMost most rules → (bytes : List ℕ) →
-    2 * rules.room + 54 + payload_at_most rules.payload_limit + most ≤ length bytes → (message rules bytes).settled ≡ true
+    2 * rules.room + 54 + payload_inside rules.source rules.payload_limit + most ≤ length bytes → (message rules bytes).settled ≡ true
 
 -- A signature has at most 132 bytes (RFC 9053 section 2.1), and a tag fewer.
 abbrev pub VerifiedWithin : (ℕ → ℕ → Setting → Rules) → Type 0
 VerifiedWithin rules = (room nesting : ℕ) (setting : Setting) (bytes : List ℕ) →
-    2 * room + 186 + payload_at_most setting.payload_limit ≤ length bytes → (message (rules room nesting setting) bytes).settled ≡ true
+    2 * room + 186 + payload_inside setting.source setting.payload_limit ≤ length bytes → (message (rules room nesting setting) bytes).settled ≡ true
 
 abbrev pub MessageIsVerifiedWithin : Type 0
 MessageIsVerifiedWithin = VerifiedWithin uncompared × VerifiedWithin comparing
@@ -105,7 +124,7 @@ MessageIsVerifiedWithin = VerifiedWithin uncompared × VerifiedWithin comparing
 
 abbrev pub MessageIsInspectedWithin : Type 0
 MessageIsInspectedWithin = (room nesting : ℕ) (setting : Setting) (bytes : List ℕ) →
-    2 * room + 65589 + payload_at_most setting.payload_limit ≤ length bytes → (message (inspecting room nesting setting) bytes).settled ≡ true
+    2 * room + 65589 + payload_inside setting.source setting.payload_limit ≤ length bytes → (message (inspecting room nesting setting) bytes).settled ≡ true
 
 -- A reading whose answer is changed.
 abbrev pub answered : (Answer → Answer) → Reading → Reading

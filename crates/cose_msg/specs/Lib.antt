@@ -30,5 +30,6 @@ pub mod Feed
 pub mod Kept
 pub mod Shown
 pub mod Run
+pub mod Detached
 pub mod Make
 pub mod Writes

@@ -29,25 +29,25 @@ use Rattle.cose_msg.specs.Phase.{is_settled}
 use Rattle.cose_msg.specs.Phases.{nothing_told, unprotected_told, headers_told, placed_at, protected_head, protected, unprotected, payload_head, payload, detached_payload, auth_head, auth}
 use Rattle.cose_msg.specs.Reading.{Reading, Told, open_items_after, wanted_after, settled}
 use Rattle.cose_msg.specs.Rules.{Rules}
-use Rattle.cose_msg.specs.Source.{Source, attached, detached, came_of, source_with}
+use Rattle.cose_msg.specs.Source.{Source, attached, detached}
 use Rattle.cose_msg.specs.Task.{Task, rules_of}
 
--- The setting by the terms of the code, these keys, and these bytes of a detached payload.
-abbrev pub setting_with : List KeyValue → List ℕ → Terms → Setting
-setting_with keys came terms = record {
+-- The setting by the terms of the code, these keys, and where the payload is.
+abbrev pub setting_with : List KeyValue → Source → Terms → Setting
+setting_with keys source terms = record {
   keys = keys;
   aad = terms.aad.now;
   wanted = terms.wanted;
   cwt = terms.cwt;
   understood = map label_value terms.understood.now;
   payload_limit = terms.payload_limit;
-  source = source_with came terms.stated;
+  source = source;
 }
 
--- A task under the terms of a reader, which knows neither the keys, nor a detached payload, nor what the task is for: they are
--- passed with the bytes.
+-- A task under the terms of a reader, which knows neither the keys, nor where the payload is, nor what the task is for: they
+-- are passed with the bytes.
 abbrev pub task_in : {H D : ℕ} → Task → Reader H D → Task
-task_in task v = record { setting = setting_with task.setting.keys (came_of task.setting.source) v.terms; inspects = task.inspects }
+task_in task v = record { setting = setting_with task.setting.keys task.setting.source v.terms; inspects = task.inspects }
 
 -- The usable keys that are passed, if any.
 abbrev pub keys_in : {S : Type 0} → (S → List KeyValue) → Option (Bor S) → Option (List KeyValue)

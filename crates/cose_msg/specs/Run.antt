@@ -1,5 +1,5 @@
 -- What a call of `verify` or of `inspect` did with an intake and a sink.
-use Rattle.std.specs.Prelude.{◌≡◌, ℕ, ◌<◌, Bool, true, false, List, ◌++◌, length, take, Option, Some, None, Result, Ok, Err, ⊤}
+use Rattle.std.specs.Prelude.{◌≡◌, ℕ, ◌<◌, Bool, true, false, List, [], ◌++◌, length, take, Option, Some, None, Result, Ok, Err, ⊤}
 use Rattle.std.specs.Io.KnownBytes.{Appends, Consumes, IsAtEnd}
 use Rattle.cose_msg.specs.declared.verdict.Inspected.{Inspected}
 use Rattle.cose_msg.specs.declared.verdict.Inspected.TheVariants as inspected
@@ -15,6 +15,7 @@ use Rattle.cose_msg.specs.Message.{message}
 use Rattle.cose_msg.specs.Reading.{Reading}
 use Rattle.cose_msg.specs.Rules.{Rules}
 use Rattle.cose_msg.specs.Shown.{Tells}
+use Rattle.cose_msg.specs.Source.{is_detached_from}
 use Rattle.cose_msg.specs.Sink.{AppendsFront}
 use Rattle.cose_msg.specs.Task.{Task, rules_of}
 use Rattle.cose_msg.specs.Reader.{Counts}
@@ -108,3 +109,5 @@ pub record Drive {H D : ℕ} {S : Type 0} {K : _} (task : Task) (s B : List ℕ)
   pub tells : Tells task (s ++ taken) v
   pub payload : (message (rules_of H D task) (s ++ taken)).told.payload ≡ B ++ part
   pub grows : Grows contents contents_after stop part
+  -- A detached payload isn't among the bytes of the message.
+  pub beside : is_detached_from task.setting.source ≡ true → part ≡ []

@@ -1,5 +1,5 @@
 -- Where the payload of a message is (RFC 9052 sections 4.2 and 6.2).
-use Rattle.std.specs.Prelude.{ℕ, List, [], Bool, true, false, Option, Some, None}
+use Rattle.std.specs.Prelude.{◌≡◌, ℕ, List, [], Bool, true, false, Option, Some, None}
 
 -- In the message; or detached from it, where the message has nil: its bytes come from elsewhere. Those that have come, and the
 -- number of all of them, which is stated.
@@ -20,6 +20,15 @@ came_of (detached came stated) = came
 abbrev pub source_with : List ℕ → Option ℕ → Source
 source_with came None = attached
 source_with came (Some stated) = detached came stated
+
+-- A payload is detached where its length is stated, and has this length.
+abbrev pub IsStated : Option ℕ → Source → Type 0
+IsStated stated source = source_with (came_of source) stated ≡ source
+
+-- The number of bytes that is stated of a detached payload.
+abbrev pub stated_of : Source → ℕ
+stated_of attached = 0
+stated_of (detached came stated) = stated
 
 -- The same, where these bytes of a detached payload have come.
 abbrev pub with_came : List ℕ → Source → Source

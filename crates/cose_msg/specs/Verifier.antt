@@ -33,7 +33,7 @@ detaching stated setting = record setting { source = detached [] stated }
 
 -- The setting that the verifier reads a message under, of whose payload, where it is detached, nothing has come.
 abbrev pub setting_in : {H D : ℕ} {S : Type 0} {K : _} → Verifier H D S K → Setting
-setting_in {K = K} v = setting_with (K.usable v.keys) [] v.reader.terms
+setting_in {K = K} v = setting_with (K.usable v.keys) (source_with [] v.stated) v.reader.terms
 
 -- What it was made for.
 abbrev pub task_of : {H D : ℕ} {S : Type 0} {K : _} → Verifier H D S K → Task

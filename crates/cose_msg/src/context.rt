@@ -45,6 +45,4 @@ pub(crate) struct Terms<'k> {
     pub(crate) understood: &'k [Label<'k>],
     /// The most bytes that a payload may have.
     pub(crate) payload_limit: u64,
-    /// The number of bytes of a detached payload; none where the message has its payload.
-    pub(crate) stated: Option<u64>,
 }

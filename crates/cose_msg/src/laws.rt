@@ -4,7 +4,7 @@
 ghost use Rattle.cose_msg.specs.Feed.{CutsDontMatter, PiecesJoin};
 ghost use Rattle.cose_msg.specs.GrammarLaws.{ArrayOfFourIsMessage, AuthenticIsMessage, MessageIsArrayOfFour, MessageIsRead, OneArrayOfFour};
 ghost use Rattle.cose_msg.specs.MakingLaws.{MadeIsAuthentic};
-ghost use Rattle.cose_msg.specs.Laws.{AllAreFair, ComparingGoesLast, FinishGoesLast, MessageEndsTruncated, MessageIsBounded, MessageIsDefinite, MessageIsInspectedWithin, MessageIsVerifiedWithin, MessageStandsInside, MessageStays, OpenEarlier, OpenIsTruncated, VerdictStays, VerifyingGoesLast};
+ghost use Rattle.cose_msg.specs.Laws.{AllAreFair, ComparingGoesLast, FinishGoesLast, MessageEndsTruncated, MessageIsBounded, MessageIsDefinite, MessageIsInspectedWithin, MessageIsVerifiedWithin, MessageStandsInside, MessageStays, OpenEarlier, OpenIsTruncated, OpenStays, PayloadStays, VerdictStays, VerifyingGoesLast};
 ghost use Rattle.cose_msg.specs.Shown.{SignaturesAreOfSign1};
 ghost use Rattle.cose_msg.specs.Unrefused.{OneMessage, ShapedIsMessage, UnrefusedIsMessage, WholeIsMessage};
 
@@ -29,6 +29,13 @@ pub fn settled_stays()
     read_steps();
 }
 
+/// Where no byte of a detached payload is wanted, the reading of a message stays whatever more comes of the payload: its bytes
+/// after the stated length are of no use, and so are all before the message's nil.
+pub fn payload_stays()
+    ensures complete { PayloadStays }
+    ensures unsettled { OpenStays }
+{}
+
 /// Once the reading of a message's bytes is settled, its answer is not Truncated: so the reading isn't settled exactly
 /// where its answer is Truncated at the number of bytes. No refusal's place is after the bytes, and no message ends
 /// after them.
@@ -46,7 +53,7 @@ pub fn nothing_stands_after_the_bytes()
 }
 
 /// A message is settled within 2H + 186 + p bytes, H being the room of a header bucket, and p the lesser of the payload's limit
-/// and 2^56 - 1: six heads have at most 9 bytes each, and a signature has at most 132 (RFC 9053 section 2.1). One that is only
+/// and 2^56 - 1, or none where the payload is detached: six heads have at most 9 bytes each, and a signature has at most 132 (RFC 9053 section 2.1). One that is only
 /// inspected may have a tag or signature of 65,535 bytes, so it is settled within 2H + 65,589 + p.
 pub fn messages_are_bounded()
     ensures any { MessageIsBounded }

@@ -55,7 +55,7 @@
 //!
 //! ```rust
 //! let fed = verifier.feed(piece);
-//! let payload = &piece[fed.payload_from..fed.payload_to];
+//! let payload = fed.payload_of(piece);
 //! if verifier.is_complete() {
 //!     let verdict = verifier.verdict(&Never);
 //! }
@@ -104,6 +104,7 @@ pub use cose_map::{Bucket, Key, KeySet, KeyTable, Keys, Label};
 pub use elliptic::{EcVerifier, Never};
 pub use intake::{Intake, IntakeFault, ReadIntake, SliceIntake};
 pub use make::{MakeFault, make_mac0};
+pub use run::detached::verify_detached;
 pub use run::{inspect, verify};
 pub use sink::{Nothing, Sink, SinkFault};
 pub use slice::{Verified, verify_slice};

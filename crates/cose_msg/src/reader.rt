@@ -66,6 +66,7 @@ impl<'k, const H: usize, const D: usize> Reader<'k, H, D> {
     ghost use Rattle.cose_msg.specs.Phase.{grown, in_payload, is_settled, takes_bytes, want_of};
     ghost use Rattle.cose_msg.specs.Reader.{IsUntouched, Shows, StandsFor, keys_in};
     ghost use Rattle.cose_msg.specs.Reading.{Reading, stop, Told};
+    ghost use Rattle.cose_msg.specs.Source.{IsStated};
     ghost use Rattle.cose_msg.specs.Shown.{held_by, shown_by, shown_in};
     ghost use Rattle.cose_msg.specs.Task.{Task, keys_for, rules_of};
 
@@ -152,10 +153,10 @@ impl<'k, const H: usize, const D: usize> Reader<'k, H, D> {
     }
 
     /// Takes the next byte of a head. In any other phase nothing changes.
-    fn take_byte(&mut self, byte: u8)
+    fn take_byte(&mut self, byte: u8, stated: Option<u64>)
         requires { takes_bytes self.old.phase ≡ true }
         ensures { (task : Task) (B : List ℕ) (n : ℕ) (reading : List ℕ → Reading)
-            → StandsFor task B n self.old reading
+            → IsStated stated task.setting.source → StandsFor task B n self.old reading
             → StandsFor task B (n + 1) self.new (λ z. reading (byte ∷ z)) }
     {
         match self.phase {
@@ -163,7 +164,7 @@ impl<'k, const H: usize, const D: usize> Reader<'k, H, D> {
             Phase::TagHead(head) => self.tag_head(head, byte),
             Phase::ArrayHead(head) => self.array_head(head, byte),
             Phase::ProtectedHead(head) => self.protected_head(head, byte),
-            Phase::PayloadHead(head) => self.payload_head(head, byte),
+            Phase::PayloadHead(head) => self.payload_head(head, byte, stated),
             Phase::AuthHead(head) => self.auth_head(head, byte),
             _ => {}
         }
@@ -171,14 +172,19 @@ impl<'k, const H: usize, const D: usize> Reader<'k, H, D> {
 
     /// Takes the next bytes, all of one phase, and returns their number. A string takes all that it has left, or the
     /// whole piece. The key is chosen from those that are passed, once both header buckets are there; none are passed
-    /// where the message is only inspected.
-    pub(crate) fn advance<K: Keys<'k>>(&mut self, piece: &[u8], keys: Option<&K>) -> usize
+    /// where the message is only inspected. The length of a detached payload is stated.
+    pub(crate) fn advance<K: Keys<'k>>(
+        &mut self,
+        piece: &[u8],
+        keys: Option<&K>,
+        stated: Option<u64>,
+    ) -> usize
         requires some { 0 < length piece.now }
         ensures fits { result ≤ length piece.now }
         ensures uses { is_settled self.old.phase ≡ false → 0 < result }
         ensures whole { length piece.now ≤ want_of self.old.phase → result ≡ length piece.now }
         ensures stands { (task : Task) (B : List ℕ) (n : ℕ) (reading : List ℕ → Reading)
-            → keys_in K.usable keys.entry ≡ keys_for task
+            → keys_in K.usable keys.entry ≡ keys_for task → IsStated stated task.setting.source
             → StandsFor task B n self.old reading
             → StandsFor task (grown self.old.phase B (take result piece.now)) (n + result) self.new
             (λ z. reading (take result piece.now ++ z)) }
@@ -206,7 +212,7 @@ impl<'k, const H: usize, const D: usize> Reader<'k, H, D> {
             }
             _ if self.is_settled() => 0,
             _ => {
-                self.take_byte(piece[0]);
+                self.take_byte(piece[0], stated);
                 1
             }
         }

@@ -9,9 +9,10 @@ ghost use Rattle.cose_msg.specs.Kept.{HasTaken, answered_again, bytes_taken, is_
 ghost use Rattle.cose_msg.specs.Message.{Setting, inspecting, message, verdict_of, verifying};
 ghost use Rattle.cose_msg.specs.Run.{Drive, Run, inspection, stop_in, stops_for_intake, stops_for_sink};
 ghost use Rattle.cose_msg.specs.Shown.{Tells, held};
+ghost use Rattle.cose_msg.specs.Source.{is_detached_from};
 ghost use Rattle.cose_msg.specs.Status.{status_in, status_left};
 ghost use Rattle.cose_msg.specs.Task.{Task, rules_of, to_inspect, to_verify};
-ghost use Rattle.cose_msg.specs.Verifier.{opened, setting_in};
+ghost use Rattle.cose_msg.specs.Verifier.{is_detached, opened, setting_in};
 
 use crate::elliptic::EcVerifier;
 use crate::intake::Intake;
@@ -24,24 +25,22 @@ use crate::verifier::Verifier;
 use cose_map::Keys;
 
 /// Takes pieces of a message until no further byte is wanted, or the intake has ended. It takes none after the message,
-/// and puts the payload into the sink as it comes.
-fn take_message<
-    'k,
-    const C: usize,
-    const H: usize,
-    const D: usize,
-    K: Keys<'k>,
-    I: Intake,
-    S: Sink,
->(verifier: &mut Verifier<'k, H, D, K>, intake: &mut I, sink: &mut S) -> Result<(), Stop>
-    requires some { 1 ≤ C }
-    requires limit { C ≤ 65536 }
+/// and puts the payload into the sink as it comes. A piece is as long as the chunk at most, into which it is taken.
+pub(crate) fn take_message<'k, const H: usize, const D: usize, K: Keys<'k>, I: Intake, S: Sink>(
+    verifier: &mut Verifier<'k, H, D, K>,
+    intake: &mut I,
+    sink: &mut S,
+    chunk: &mut [u8],
+) -> Result<(), Stop>
+    requires some { 1 ≤ length chunk.old }
+    requires limit { length chunk.old ≤ 65536 }
     requires goes_on { is_stopped verifier.old ≡ false }
     ensures drive { (task : Task) (s B : List ℕ) → HasTaken task s B verifier.old →
         Drive task s B (I.to_come intake.old) (I.to_come intake.new) (I.ended intake.new)
         (S.contents sink.old) (S.contents sink.new) (stop_in result) verifier.new }
     ensures stopped { is_stopped verifier.new ≡ is_err result }
     ensures inspects { is_inspecting verifier.new ≡ is_inspecting verifier.old }
+    ensures detached { is_detached verifier.new ≡ is_detached verifier.old }
     ensures context { (task : Task) (s B : List ℕ) → HasTaken task s B verifier.old
         → setting_in verifier.new ≡ setting_in verifier.old }
     ensures held { held verifier.new ≤ 2 * H + 512 }
@@ -53,13 +52,16 @@ fn take_message<
     ensures sink_failure { S.has_failed sink.new ≡ (S.has_failed sink.old || stops_for_sink result) }
     ensures sure { (task : Task) (s B : List ℕ) → HasTaken task s B verifier.old → task.setting.payload_limit ≤ S.sure sink.old →
         stops_for_sink result ≡ false }
+    // Of a message whose payload is detached nothing goes to the sink.
+    ensures beside { (task : Task) (s B : List ℕ) → HasTaken task s B verifier.old
+        → is_detached_from task.setting.source ≡ true
+        → (stops_for_sink result ≡ false) × (S.sure sink.old ≤ S.sure sink.new) }
 {
     // The law of messages that the proof cites.
     messages_are_bounded();
-    let mut chunk = [0u8; C];
     'pieces: loop {
         verifier.reader.waits();
-        let asked = verifier.request(C);
+        let asked = verifier.request(chunk.len());
         if asked == 0 {
             return Ok(());
         }
@@ -91,7 +93,7 @@ fn take_message<
 /// was fed continues from there. A verdict is kept and answered again until `reset`; after a stop every call answers
 /// [`Stop::Again`]. Of message bytes it holds `C` at most in addition to what the verifier holds ([`Verifier::held`]).
 ///
-/// The verifier isn't one that [`Verifier::inspecting`] made.
+/// The verifier isn't one that [`Verifier::inspecting`] or [`Verifier::detached`] made.
 pub fn verify<
     'k,
     const C: usize,
@@ -110,6 +112,7 @@ pub fn verify<
     requires some { 1 ≤ C }
     requires limit { C ≤ 65536 }
     requires verifies { is_inspecting verifier.old ≡ false }
+    requires attached { is_detached verifier.old ≡ false }
     // What was taken, the result, what the sink got, what the verifier gives, and the status of the message.
     ensures run { (setting : Setting) (s B : List ℕ) → HasTaken (to_verify setting) s B verifier.old →
         (taken : List ℕ) × Run (verifying H D setting (E.decides ec.now)) decided s B (I.to_come intake.old) (I.to_come intake.new) (I.ended intake.new)
@@ -128,6 +131,7 @@ pub fn verify<
         (result ≡ answer) × (verifier.new ≡ verifier.old) × (intake.new ≡ intake.old) × (sink.new ≡ sink.old) }
     ensures stopped { (result ≡ Err Stop.Again) ↔ (is_stopped verifier.old ≡ true) }
     ensures inspects { is_inspecting verifier.new ≡ false }
+    ensures attached { is_detached verifier.new ≡ false }
     ensures context { (setting : Setting) (s B : List ℕ)
         → HasTaken (to_verify setting) s B verifier.old
         → setting_in verifier.new ≡ setting_in verifier.old }
@@ -152,7 +156,8 @@ pub fn verify<
         Some(answer) => return answer,
         None => {}
     }
-    match take_message::<C, H, D, K, I, S>(verifier, intake, sink) {
+    let mut chunk = [0u8; C];
+    match take_message(verifier, intake, sink, &mut chunk) {
         Ok(()) => Ok(verifier.conclude(ec)),
         Err(stop) => Err(stop),
     }
@@ -171,6 +176,7 @@ pub fn inspect<'k, const C: usize, const H: usize, const D: usize, K: Keys<'k>, 
     requires some { 1 ≤ C }
     requires limit { C ≤ 65536 }
     requires inspects { is_inspecting verifier.old ≡ true }
+    requires attached { is_detached verifier.old ≡ false }
     // What was taken, the result, what the sink got, what the verifier gives, and the status of the message.
     ensures run { (setting : Setting) (s B : List ℕ) → HasTaken (to_inspect setting) s B verifier.old →
         (taken : List ℕ) × Run (inspecting H D setting) inspection s B (I.to_come intake.old) (I.to_come intake.new) (I.ended intake.new)
@@ -189,6 +195,7 @@ pub fn inspect<'k, const C: usize, const H: usize, const D: usize, K: Keys<'k>, 
         (result ≡ answer) × (verifier.new ≡ verifier.old) × (intake.new ≡ intake.old) × (sink.new ≡ sink.old) }
     ensures stopped { (result ≡ Err Stop.Again) ↔ (is_stopped verifier.old ≡ true) }
     ensures inspects { is_inspecting verifier.new ≡ true }
+    ensures attached { is_detached verifier.new ≡ false }
     ensures context { (setting : Setting) (s B : List ℕ)
         → HasTaken (to_inspect setting) s B verifier.old
         → setting_in verifier.new ≡ setting_in verifier.old }
@@ -212,12 +219,14 @@ pub fn inspect<'k, const C: usize, const H: usize, const D: usize, K: Keys<'k>, 
         Some(answer) => return answer,
         None => {}
     }
-    match take_message::<C, H, D, K, I, S>(verifier, intake, sink) {
+    let mut chunk = [0u8; C];
+    match take_message(verifier, intake, sink, &mut chunk) {
         Ok(()) => Ok(verifier.conclude_inspection()),
         Err(stop) => Err(stop),
     }
 }
 
+pub mod detached;
 #[cfg(test)]
 mod inspecting_tests;
 #[cfg(test)]

@@ -1,7 +1,8 @@
 //! Messages, keys, contexts, a reader, an intake and a sink that several modules of tests use.
 
-ghost use Rattle.std.specs.Prelude.{◌≡◌, ◌≤◌, IfSome, None, false, length};
+ghost use Rattle.std.specs.Prelude.{◌≡◌, ◌≤◌, IfSome, None, false, true, length};
 ghost use Rattle.cose_msg.specs.Kept.{is_inspecting};
+ghost use Rattle.cose_msg.specs.Verifier.{is_detached};
 
 use crate::{
     Alg, Context, EcVerifier, Intake, IntakeFault, Key, KeySet, Kind, Sink, SinkFault, Store,
@@ -59,6 +60,15 @@ pub(crate) fn mac0_with_kid() -> [u8; 51] {
     bytes
 }
 
+/// The COSE_Mac0 of the samples with nil in place of its payload. The tag is the same.
+pub(crate) fn nil_mac0() -> [u8; 42] {
+    let mut bytes = [0xf6; 42];
+    let (front, rest) = MAC0.split_at(7);
+    bytes[..7].copy_from_slice(front);
+    bytes[8..].copy_from_slice(&rest[3..]);
+    bytes
+}
+
 /// The context of these keys, for a payload of at most this many bytes.
 pub(crate) fn context_of(keys: &'static [u8], payload_limit: u64) -> Option<Context<'static>>
     ensures { IfSome result (λ context. length context.aad.now ≤ 65535) }
@@ -79,9 +89,20 @@ pub(crate) fn under_jefe<const H: usize, const D: usize>() -> Option<Verifier<'s
     requires some_room { 16 ≤ H }
     requires limit { H ≤ 65535 }
     requires nesting { D ≤ 32 }
-    ensures { IfSome result (λ verifier. is_inspecting verifier ≡ false) }
+    ensures { IfSome result (λ verifier. (is_inspecting verifier ≡ false)
+        × (is_detached verifier ≡ false)) }
 {
     Some(Verifier::new(context_of(JEFE, 2)?))
+}
+
+/// A verifier under the key `Jefe` of a detached payload of so many bytes, of which the context allows this many.
+pub(crate) fn detached_under_jefe(
+    stated: u64,
+    payload_limit: u64,
+) -> Option<Verifier<'static, 16, 1>>
+    ensures { IfSome result (λ verifier. is_detached verifier ≡ true) }
+{
+    Some(Verifier::detached(context_of(JEFE, payload_limit)?, stated))
 }
 
 /// Gives the same answer for every signature.

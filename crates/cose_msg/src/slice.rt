@@ -65,7 +65,7 @@ pub fn verify_slice<'k, 'm, const H: usize, const D: usize, K: Keys<'k>, E: EcVe
         Verdict::Authentic { kind, alg, .. } => Verified::Authentic {
             kind,
             alg,
-            payload: &message[fed.payload_from..fed.payload_to],
+            payload: fed.payload_of(message),
         },
     }
 }

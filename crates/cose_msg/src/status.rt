@@ -1,5 +1,7 @@
 //! The status of a message that is fed to a verifier.
 
+ghost use Rattle.std.specs.Prelude.{◌≡◌, ◌≤◌, length};
+
 use cose_head::Refusal;
 
 /// The status of a message after the bytes so far.
@@ -26,8 +28,21 @@ pub struct Fed {
     pub used: usize,
     /// Where the payload's bytes begin in the piece.
     pub payload_from: usize,
-    /// Where they end: they are `piece[payload_from..payload_to]`. Both are 0 where the piece has none.
+    /// Where they end ([`Fed::payload_of`]). Both are 0 where the piece has none.
     pub payload_to: usize,
     /// The status of the message.
     pub status: Status,
+}
+
+impl Fed {
+    ghost use Rattle.cose_msg.specs.Feed.{payload_in};
+
+    /// The payload's bytes of the piece that was fed, from `payload_from` to `payload_to`: none where the piece has none.
+    pub fn payload_of<'p>(&self, piece: &'p [u8]) -> &'p [u8]
+        requires ordered { self.now.payload_from ≤ self.now.payload_to }
+        requires among { self.now.payload_to ≤ length piece.now }
+        ensures { result.now ≡ payload_in self.now piece.now }
+    {
+        &piece[self.payload_from..self.payload_to]
+    }
 }

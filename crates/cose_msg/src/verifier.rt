@@ -19,6 +19,8 @@ pub struct Verifier<'k, const H: usize, const D: usize, S: Keys<'k> = KeySet<'k>
     taken: u64,
     stopped: bool,
     inspecting: bool,
+    /// The number of bytes of a detached payload; none where the message has its payload.
+    stated: Option<u64>,
     pub(crate) reader: Reader<'k, H, D>,
     keys: S,
     // (The meaning of the keys belongs to the type of a verifier in a contract, since a field of it names them.)
@@ -65,13 +67,13 @@ impl<'k, const H: usize, const D: usize, S: Keys<'k>> Verifier<'k, H, D, S> {
             taken: 0,
             stopped: false,
             inspecting,
+            stated,
             reader: Reader::new(Terms {
                 aad,
                 wanted,
                 cwt,
                 understood,
                 payload_limit,
-                stated,
             }),
             keys,
         }
@@ -146,7 +148,7 @@ impl<'k, const H: usize, const D: usize, S: Keys<'k>> Verifier<'k, H, D, S> {
     pub fn is_detached(&self) -> bool
         ensures { result ≡ is_detached self.now }
     {
-        self.reader.terms.stated.is_some()
+        self.stated.is_some()
     }
 
     /// Resets the verifier, in the same context and for the same purpose.
@@ -175,7 +177,6 @@ impl<'k, const H: usize, const D: usize, S: Keys<'k>> Verifier<'k, H, D, S> {
             cwt,
             understood,
             payload_limit,
-            ..
         } = self.reader.terms;
         Context {
             keys: &self.keys,

@@ -56,6 +56,9 @@ impl<'k, const H: usize, const D: usize> Reader<'k, H, D> {
     ghost use Rattle.std.specs.Prelude.{List, ◌∷◌, Some, option_map};
     ghost use Rattle.cose_msg.specs.declared.reader.Chosen.{Chosen};
     ghost use Rattle.cose_msg.specs.Answer.{Chosen as Found};
+    ghost use Rattle.cose_msg.specs.declared.status.Status.{Status};
+    ghost use Rattle.cose_msg.specs.Phase.{payload_want_of};
+    ghost use Rattle.cose_msg.specs.Status.{status_at};
     ghost use Rattle.cose_msg.specs.Phases.{auth_head, finish, headers_told, past_auth_head};
     ghost use Rattle.cose_msg.specs.Reading.{Reading};
     ghost use Rattle.cose_msg.specs.Task.{Task, rules_of};
@@ -74,6 +77,8 @@ impl<'k, const H: usize, const D: usize> Reader<'k, H, D> {
     /// The head of the tag or signature begins here, after a payload of this length.
     pub(crate) fn begin_auth_head(&mut self, kind: Kind, at: u64, payload: u64)
         requires early { at < 2 ^ 57 }
+        ensures further { status_at self.new.phase ≡ Status.More }
+        ensures unawaited { payload_want_of self.new.phase ≡ 0 }
         ensures stands { (task : Task) (known : Known) → Shows task (headers_told known.headers known.payload) self.old
             → HoldsKey task known self.old kind → length known.payload ≡ payload → IsFed self.old.hashing task.setting.aad known
             → StandsFor task known.payload at self.new (λ z. auth_head (rules_of H D task) known.headers known.chosen known.payload at z) }

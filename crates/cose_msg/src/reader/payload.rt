@@ -59,13 +59,16 @@ fn empty_if(is_bare: bool, bytes: &[u8]) -> &[u8]
 }
 
 impl<'k, const H: usize, const D: usize> Reader<'k, H, D> {
-    ghost use Rattle.std.specs.Prelude.{List, ◌∷◌, ◌++◌, length, ◌==◌};
+    ghost use Rattle.std.specs.Prelude.{List, ◌∷◌, ◌++◌, length, ◌==◌, true};
     ghost use Rattle.cose_msg.specs.Hashing.{HashesFor};
     ghost use Rattle.cose_msg.specs.Phases.{detached_payload, headers_told, past_payload_head, payload, payload_head};
     ghost use Rattle.cose_msg.specs.Reading.{Reading};
     ghost use Rattle.cose_msg.specs.Task.{Task, rules_of};
     ghost use Rattle.cose_msg.specs.Reader.{HoldsKey, IsAtPayload, Known, Shows, StandsFor};
-    ghost use Rattle.cose_msg.specs.Source.{attached, came_of, detached};
+    ghost use Rattle.cose_msg.specs.declared.status.Status.{Status};
+    ghost use Rattle.cose_msg.specs.Phase.{payload_want_of};
+    ghost use Rattle.cose_msg.specs.Status.{is_open, status_at};
+    ghost use Rattle.cose_msg.specs.Source.{IsStated, attached, came_of, detached};
 
     /// The payload's head begins here.
     pub(crate) fn begin_payload_head(&mut self, kind: Kind, is_bare: bool, at: u64)
@@ -79,10 +82,11 @@ impl<'k, const H: usize, const D: usize> Reader<'k, H, D> {
         self.phase = Phase::PayloadHead(PayloadHead { kind, is_bare, at });
     }
 
-    /// Takes the next byte of the payload's head.
-    pub(crate) fn payload_head(&mut self, payload_head: PayloadHead, byte: u8)
+    /// Takes the next byte of the payload's head. A detached payload has the length that is stated.
+    pub(crate) fn payload_head(&mut self, payload_head: PayloadHead, byte: u8, stated: Option<u64>)
         requires phase { self.old.phase ≡ Phase.PayloadHead payload_head }
-        ensures stands { (task : Task) (B : List ℕ) (n : ℕ) (reading : List ℕ → Reading) → StandsFor task B n self.old reading
+        ensures stands { (task : Task) (B : List ℕ) (n : ℕ) (reading : List ℕ → Reading)
+            → IsStated stated task.setting.source → StandsFor task B n self.old reading
             → StandsFor task B (n + 1) self.new (λ z. reading (byte ∷ z)) }
     {
         let at = payload_head.at;
@@ -93,14 +97,21 @@ impl<'k, const H: usize, const D: usize> Reader<'k, H, D> {
                 payload_head,
                 head,
                 at + used as u64,
+                stated,
             ),
         }
     }
 
     /// What follows the payload's head.
-    fn past_payload_head(&mut self, payload_head: PayloadHead, head: Head, at: u64)
+    fn past_payload_head(
+        &mut self,
+        payload_head: PayloadHead,
+        head: Head,
+        at: u64,
+        stated: Option<u64>,
+    )
         requires early { at < 2 ^ 19 }
-        ensures stands { (task : Task) (known : Known)
+        ensures stands { (task : Task) (known : Known) → IsStated stated task.setting.source
             → Shows task (headers_told known.headers []) self.old → known.payload ≡ []
             → HoldsKey task known self.old payload_head.kind
             → known.headers.protected ≡ self.old.protected.items
@@ -111,7 +122,7 @@ impl<'k, const H: usize, const D: usize> Reader<'k, H, D> {
             head at z) }
     {
         let limit = self.terms.payload_limit;
-        match self.terms.stated {
+        match stated {
             Some(stated) => match fault_of_nil(&head, stated, limit) {
                 Some(reason) => self.refuse(reason, payload_head.at),
                 None => {
@@ -214,8 +225,12 @@ impl<'k, const H: usize, const D: usize> Reader<'k, H, D> {
     pub(crate) fn detached_piece(&mut self, detached: Detached, part: &[u8])
         requires phase { self.old.phase ≡ Phase.Detached detached }
         requires fits { length part.now ≤ detached.left }
+        // So many bytes fewer are wanted; once there are none, further bytes of the message are.
+        ensures left { payload_want_of self.new.phase + length part.now ≡ detached.left }
+        ensures further { is_open (status_at self.new.phase) ≡ true }
+        ensures complete { payload_want_of self.new.phase ≡ 0 → status_at self.new.phase ≡ Status.More }
         // Where it is the next one of what comes of the payload, the reading stays.
-        ensures { (task : Task) (B more : List ℕ) (n : ℕ) (reading : List ℕ → Reading)
+        ensures stands { (task : Task) (B more : List ℕ) (n : ℕ) (reading : List ℕ → Reading)
             → came_of task.setting.source ≡ (B ++ part.now) ++ more
             → StandsFor task B n self.old reading
             → StandsFor task (B ++ part.now) n self.new reading }

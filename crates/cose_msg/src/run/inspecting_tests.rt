@@ -2,6 +2,7 @@
 
 ghost use Rattle.std.specs.Prelude.{◌≡◌, false, true};
 ghost use Rattle.cose_msg.specs.Kept.{is_inspecting};
+ghost use Rattle.cose_msg.specs.Verifier.{is_detached};
 
 use crate::samples::{CURVE_KEY, MAC0, SIGN1, context_of, under_jefe};
 use crate::{
@@ -11,15 +12,18 @@ use crate::{
 
 /// What `inspect` answers for the bytes of this intake.
 fn inspected(verifier: &mut Verifier<32, 4>, intake: &mut SliceIntake) -> Result<Inspected, Stop>
-    requires { is_inspecting verifier.old ≡ true }
-    ensures { is_inspecting verifier.new ≡ true }
+    requires inspects { is_inspecting verifier.old ≡ true }
+    requires attached { is_detached verifier.old ≡ false }
+    ensures inspects { is_inspecting verifier.new ≡ true }
+    ensures attached { is_detached verifier.new ≡ false }
 {
     inspect::<64, 32, 4, _, SliceIntake, Nothing>(verifier, intake, &mut Nothing)
 }
 
 /// What `verify` answers for these bytes.
 fn verified(verifier: &mut Verifier<32, 4>, bytes: &[u8]) -> Result<Verdict, Stop>
-    requires { is_inspecting verifier.old ≡ false }
+    requires verifies { is_inspecting verifier.old ≡ false }
+    requires attached { is_detached verifier.old ≡ false }
 {
     let mut intake = SliceIntake::new(bytes, 64);
     verify::<64, 32, 4, _, SliceIntake, Nothing, Never>(verifier, &mut intake, &mut Nothing, &Never)

@@ -49,7 +49,7 @@ impl<'k, const H: usize, const D: usize, S: Keys<'k>> Verifier<'k, H, D, S> {
     ghost use Rattle.cose_msg.specs.declared.status.Status.{Status};
     ghost use Rattle.cose_msg.specs.Status.{status_in, status_of_answer};
     ghost use Rattle.cose_msg.specs.Task.{Task, given_to, to_inspect, to_verify};
-    ghost use Rattle.cose_msg.specs.Verifier.{opened, setting_in};
+    ghost use Rattle.cose_msg.specs.Verifier.{is_detached, opened, setting_in};
 
     /// The answer that is kept until `reset`: that it had stopped, or the verdict.
     pub(crate) fn kept_answer(&self) -> Option<Result<Verdict, Stop>>
@@ -90,11 +90,12 @@ impl<'k, const H: usize, const D: usize, S: Keys<'k>> Verifier<'k, H, D, S> {
         ensures counted { self.new.taken ≡ self.old.taken + length piece.now }
         ensures marked { self.new.stopped ≡ self.old.stopped }
         ensures inspects { is_inspecting self.new ≡ is_inspecting self.old }
+        ensures detached { is_detached self.new ≡ is_detached self.old }
         ensures taken { (task : Task) (s B : List ℕ) → HasTaken task s B self.old
             → HasTaken task (s ++ piece.now) (grown self.old.reader.phase B piece.now) self.new }
     {
         let keys = keys_to_choose_from(&self.keys, self.inspecting);
-        self.reader.advance(piece, keys);
+        self.reader.advance(piece, keys, self.stated);
         self.taken += piece.len() as u64;
     }
 
@@ -106,6 +107,7 @@ impl<'k, const H: usize, const D: usize, S: Keys<'k>> Verifier<'k, H, D, S> {
         ensures held { held self.new ≡ held self.old }
         ensures opened { opened self.new ≡ opened self.old }
         ensures inspects { is_inspecting self.new ≡ is_inspecting self.old }
+        ensures detached { is_detached self.new ≡ is_detached self.old }
         ensures context { setting_in self.new ≡ setting_in self.old }
     {
         self.stopped = true;
@@ -117,6 +119,7 @@ impl<'k, const H: usize, const D: usize, S: Keys<'k>> Verifier<'k, H, D, S> {
         ensures kept { kept_answer self.new ≡ answer_kept self.old.stopped (Some result) }
         ensures counts { self.new.taken ≡ self.old.taken }
         ensures inspects { is_inspecting self.new ≡ is_inspecting self.old }
+        ensures detached { is_detached self.new ≡ is_detached self.old }
         ensures context { setting_in self.new ≡ setting_in self.old }
         ensures shown { shown_of self.new ≡ shown_of self.old }
         ensures held { held self.new ≡ held self.old }
@@ -144,6 +147,7 @@ impl<'k, const H: usize, const D: usize, S: Keys<'k>> Verifier<'k, H, D, S> {
         ensures kept { kept_inspection self.new ≡ answer_kept self.old.stopped (Some result) }
         ensures counts { self.new.taken ≡ self.old.taken }
         ensures inspects { is_inspecting self.new ≡ is_inspecting self.old }
+        ensures detached { is_detached self.new ≡ is_detached self.old }
         ensures context { setting_in self.new ≡ setting_in self.old }
         ensures shown { (setting : Setting) (B : List ℕ) (reading : List ℕ → Reading)
             → StandsFor (to_inspect setting) B self.old.taken self.old.reader reading

@@ -11,7 +11,7 @@ impl<'k, const H: usize, const D: usize, S: Keys<'k>> Verifier<'k, H, D, S> {
     ghost use Rattle.cose_msg.specs.Message.{message};
     ghost use Rattle.cose_msg.specs.Shown.{Tells, held};
     ghost use Rattle.cose_msg.specs.declared.status.Status.{Status};
-    ghost use Rattle.cose_msg.specs.Status.{is_payload_next, payload_wanted_in, status_in, status_of};
+    ghost use Rattle.cose_msg.specs.Status.{is_open, is_payload_next, payload_wanted_in, status_in, status_of};
     ghost use Rattle.cose_msg.specs.Task.{Task, given_to, rules_of};
     ghost use Rattle.cose_msg.specs.Verifier.{is_detached, opened, setting_in};
 
@@ -48,8 +48,13 @@ impl<'k, const H: usize, const D: usize, S: Keys<'k>> Verifier<'k, H, D, S> {
             ≡ status_of (message (rules_of H D (given_to (B ++ take result piece.now) task)) s) }
         ensures tells { (task : Task) (s B : List ℕ) → HasTaken task s B self.old
             → Tells (given_to (B ++ take result piece.now) task) s self.new }
+        // So many fewer are wanted then. Where none is, bytes of the message are.
+        ensures left { payload_wanted_in self.new + result ≡ payload_wanted_in self.old }
+        ensures further { is_open (status_in self.new) ≡ true }
+        ensures complete { payload_wanted_in self.new ≡ 0 → status_in self.new ≡ Status.More }
         ensures counts { bytes_taken self.new ≡ bytes_taken self.old }
         ensures inspects { is_inspecting self.new ≡ is_inspecting self.old }
+        ensures detached { is_detached self.new ≡ is_detached self.old }
         ensures context { (task : Task) (s B : List ℕ) → HasTaken task s B self.old
             → setting_in self.new ≡ setting_in self.old }
         ensures held { held self.new ≤ 2 * H + 512 }

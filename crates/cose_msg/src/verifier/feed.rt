@@ -43,7 +43,7 @@ impl<'k, const H: usize, const D: usize, S: Keys<'k>> Verifier<'k, H, D, S> {
     ghost use Rattle.cose_msg.specs.Shown.{Tells, held, shown_of};
     ghost use Rattle.cose_msg.specs.Status.{is_complete, is_more, is_open, status_in, status_of, status_of_answer, wanted_in};
     ghost use Rattle.cose_msg.specs.Task.{Task, rules_of, to_verify};
-    ghost use Rattle.cose_msg.specs.Verifier.{opened, setting_in};
+    ghost use Rattle.cose_msg.specs.Verifier.{is_detached, opened, setting_in};
 
     /// The status of the message after the bytes so far.
     pub fn status(&self) -> Status
@@ -126,6 +126,7 @@ impl<'k, const H: usize, const D: usize, S: Keys<'k>> Verifier<'k, H, D, S> {
         // Where no byte is wanted, nothing changes.
         ensures again { is_more (status_in self.old) ≡ false → (result ≡ nothing_used (status_in self.old)) × (self.new ≡ self.old) }
         ensures inspects { is_inspecting self.new ≡ is_inspecting self.old }
+        ensures detached { is_detached self.new ≡ is_detached self.old }
         ensures context { (task : Task) (s B : List ℕ) → HasTaken task s B self.old
             → setting_in self.new ≡ setting_in self.old }
         ensures held { held self.new ≤ 2 * H + 512 }
@@ -178,6 +179,7 @@ impl<'k, const H: usize, const D: usize, S: Keys<'k>> Verifier<'k, H, D, S> {
         ensures again { is_open (status_in self.old) ≡ false → (result ≡ status_in self.old) × (self.new ≡ self.old) }
         ensures counts { bytes_taken self.new ≡ bytes_taken self.old }
         ensures inspects { is_inspecting self.new ≡ is_inspecting self.old }
+        ensures detached { is_detached self.new ≡ is_detached self.old }
         ensures context { setting_in self.new ≡ setting_in self.old }
         ensures shown { shown_of self.new ≡ shown_of self.old }
         ensures held { held self.new ≤ 2 * H + 512 }
@@ -209,6 +211,7 @@ impl<'k, const H: usize, const D: usize, S: Keys<'k>> Verifier<'k, H, D, S> {
         ensures again { (verdict : Verdict) → kept_answer self.old ≡ Some (Ok verdict) → (result ≡ verdict) × (self.new ≡ self.old) }
         ensures counts { bytes_taken self.new ≡ bytes_taken self.old }
         ensures inspects { is_inspecting self.new ≡ false }
+        ensures detached { is_detached self.new ≡ is_detached self.old }
         ensures context { setting_in self.new ≡ setting_in self.old }
         ensures shown { shown_of self.new ≡ shown_of self.old }
         ensures held { held self.new ≤ 2 * H + 512 }

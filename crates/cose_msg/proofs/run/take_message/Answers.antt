@@ -1,17 +1,17 @@
 use Rattle.std.proofs.Common.{◌≡◌, ℕ, ◌<◌, ◌≤◌, rules, length-append, true, false, List, [], ◌++◌, length, take, drop, refl, sym, ap, ◌∙◌, arith}
 use Rattle.std.proofs.lemmas.Grind.{common_steps}
-use Rattle.std.proofs.lemmas.List.{length-take}
+use Rattle.std.proofs.lemmas.List.{length-drop, length-take}
 use Rattle.std.proofs.KnownBytes.{Consumes-nil, Appends-nil}
 use Rattle.cose_msg.specs.Phase.{in_payload, want_of}
 use Rattle.cose_msg.specs.Task.{Task, rules_of}
 use Rattle.cose_msg.proofs.PayloadLimit.{payload_within}
-use Rattle.cose_msg.proofs.Runs.{at_start, concluded, first_of, goes_on, is_done, marks_fault, marks_nothing, not_at_end, promise_kept, put_done, put_failed, sure_enough, settled_if_none_asked, stopped_by_intake, stopped_by_sink, take_short}
+use Rattle.cose_msg.proofs.Runs.{at_start, concluded, first_of, goes_on, is_done, marks_fault, marks_nothing, none_apart, not_at_end, promise_kept, put_done, put_failed, put_none, sure_enough, settled_if_none_asked, stopped_by_intake, stopped_by_sink, take_short}
 use Rattle.cose_msg.proofs.KeptAnswers.{unfailed}
 use Rattle.cose_msg.proofs.run.take_message.Goals.{else-in_payload-via-then-in_payload+else-is_err, else-in_payload-via-else-in_payload}
 use Rattle.cose_msg.proofs.run.take_message.Goals as goal
 
 pub pieces-init : goal.pieces-init
-pieces-init g c = (λ task s B h. at_start _ _ _ _ h, c.requires.goes_on, refl, refl, refl)
+pieces-init g c = (λ task s B h. at_start _ _ _ _ h, c.requires.goes_on, refl, refl, refl, refl, refl)
 
 pub pieces-preserved : goal.pieces-preserved
 pieces-preserved g c =
@@ -21,6 +21,8 @@ pieces-preserved g c =
     let some : 0 < c.in-Ok.count = omega (arith, c.if-count-eq0.false) in
     let stopped = c.take_piece.ensures.marked ∙ c.pieces.invariant.1 in
     let inspects = c.take_piece.ensures.inspects ∙ c.pieces.invariant.2 in
+    let detached = c.take_piece.ensures.detached ∙ c.pieces.invariant.5 in
+    let room : length (c.take.new.into ++ drop c.request-asked.result c.pieces.chunk) ≡ length c.args.chunk.now = omega (arith, c.take.auto.into, c.pieces.invariant.6, length-append c.take.new.into (drop c.request-asked.result c.pieces.chunk), length-take c.request-asked.result c.pieces.chunk, length-drop c.request-asked.result c.pieces.chunk) in
     elim c.else-in_payload.branch [
       | else-in_payload-via-then-in_payload+else-is_err w ↦
           (let in_it : in_payload c.pieces.verifier.reader.phase ≡ true = sym c.is_in_payload-in_payload.ensures ∙ w.if-in_payload.true in
@@ -34,6 +36,8 @@ pieces-preserved g c =
             inspects,
             c.in-Ok.ensures.failure ∙ c.pieces.invariant.3,
             w.put.ensures.failure ∙ marks_nothing _ w.put.result done ∙ c.pieces.invariant.4,
+            detached,
+            room,
           ))
       | else-in_payload-via-else-in_payload w ↦
           (let in_it : in_payload c.pieces.verifier.reader.phase ≡ false = sym c.is_in_payload-in_payload.ensures ∙ w.if-in_payload.false in
@@ -46,6 +50,8 @@ pieces-preserved g c =
             inspects,
             c.in-Ok.ensures.failure ∙ c.pieces.invariant.3,
             c.pieces.invariant.4,
+            detached,
+            room,
           ))
     ]
 
@@ -141,9 +147,6 @@ returns-then-asked-eq0-clause-sink_failure g c = c.pieces.invariant.4 ∙ unfail
 pub returns-then-asked-eq0-clause-sure : goal.returns-then-asked-eq0-clause-sure
 returns-then-asked-eq0-clause-sure g c = grind (arith, common_steps)
 
-pub whole_as_front-take : goal.whole_as_front-take
-whole_as_front-take g c = grind (arith, common_steps)
-
 pub take-requires : goal.take-requires
 take-requires g c = grind (arith, common_steps)
 
@@ -188,9 +191,6 @@ returns-then-count-eq0-clause-sink_failure g c = c.pieces.invariant.4 ∙ unfail
 
 pub returns-then-count-eq0-clause-sure : goal.returns-then-count-eq0-clause-sure
 returns-then-count-eq0-clause-sure g c = grind (arith, common_steps)
-
-pub shared_whole_as_front-piece : goal.shared_whole_as_front-piece
-shared_whole_as_front-piece g c = grind (arith, common_steps)
 
 pub is_in_payload-in_payload-requires : goal.is_in_payload-in_payload-requires
 is_in_payload-in_payload-requires g c = grind (arith, common_steps)
@@ -243,3 +243,29 @@ take_piece-requires g c κs =
         ),
       ),
     )
+
+pub returns-then-asked-eq0-clause-detached : goal.returns-then-asked-eq0-clause-detached
+returns-then-asked-eq0-clause-detached g c = c.pieces.invariant.5
+
+pub returns-in-Err-clause-detached : goal.returns-in-Err-clause-detached
+returns-in-Err-clause-detached g c = c.stop.ensures.detached ∙ c.pieces.invariant.5
+
+pub returns-then-count-eq0-clause-detached : goal.returns-then-count-eq0-clause-detached
+returns-then-count-eq0-clause-detached g c = c.pieces.invariant.5
+
+pub returns-then-is_err-clause-detached : goal.returns-then-is_err-clause-detached
+returns-then-is_err-clause-detached g c = c.stop-then-is_err.ensures.detached ∙ c.take_piece.ensures.detached ∙ c.pieces.invariant.5
+
+-- Of a detached payload nothing was put.
+pub returns-then-asked-eq0-clause-beside : goal.returns-then-asked-eq0-clause-beside
+returns-then-asked-eq0-clause-beside g c = λ task s B h detached. (refl, put_none (c.pieces.invariant.0 task s B h) detached)
+
+pub returns-in-Err-clause-beside : goal.returns-in-Err-clause-beside
+returns-in-Err-clause-beside g c = λ task s B h detached. (refl, put_none (c.pieces.invariant.0 task s B h) detached)
+
+pub returns-then-count-eq0-clause-beside : goal.returns-then-count-eq0-clause-beside
+returns-then-count-eq0-clause-beside g c = λ task s B h detached. (refl, put_none (c.pieces.invariant.0 task s B h) detached)
+
+pub returns-then-is_err-clause-beside : goal.returns-then-is_err-clause-beside
+returns-then-is_err-clause-beside g c = λ task s B h detached.
+    absurd (none_apart (c.pieces.invariant.0 task s B h).stands.so_far detached (sym c.is_in_payload-in_payload.ensures ∙ c.if-in_payload.true))

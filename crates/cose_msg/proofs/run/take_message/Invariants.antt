@@ -1,6 +1,7 @@
-use Rattle.std.proofs.Common.{◌≡◌, ◌-◌, ◌^◌, ℕ, List, false}
+use Rattle.std.proofs.Common.{◌≡◌, ◌-◌, ◌^◌, ℕ, List, length, false}
 use Rattle.cose_msg.specs.Kept.{HasTaken}
 use Rattle.cose_msg.specs.Task.{Task}
+use Rattle.cose_msg.specs.Verifier.{is_detached}
 use Rattle.cose_msg.proofs.Runs.{Along}
 use Rattle.cose_msg.proofs.run.take_message.Given as goal
 
@@ -13,6 +14,8 @@ invariant-pieces g l =
     × (l.verifier.inspecting ≡ l.initial.verifier.inspecting)
     × (g.I.Intake.has_failed l.intake ≡ g.I.Intake.has_failed l.initial.intake)
     × (g.S.Sink.has_failed l.sink ≡ g.S.Sink.has_failed l.initial.sink)
+    × (is_detached l.verifier ≡ is_detached l.initial.verifier)
+    × (length l.chunk ≡ length l.initial.chunk)
 
 -- No message has so many bytes.
 abbrev pub decreases-pieces : goal.decreases-pieces

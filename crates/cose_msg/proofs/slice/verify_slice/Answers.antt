@@ -43,7 +43,7 @@ returns-in-Authentic-2-clause-payload g c =
     let setting = setting_in c.args.verifier.now in
     let fresh : HasTaken (to_verify setting) [] [] c.reset.new.self = subst (λ (inspects : Bool). HasTaken (record { setting = setting; inspects = inspects }) [] [] c.reset.new.self) c.requires.verifies c.reset.ensures.none_taken in
     let fed = c.feed-fed.ensures.taken (to_verify setting) [] [] fresh in
-    payload_of_fed g.row.H g.row.D (to_verify setting) c.args.message.now _ c.feed-fed.result.used c.feed-fed.ensures.fits c.if-fed-message.false (c.waits.ensures.payload (to_verify setting) _ _ _ fed.so_far fed.came)
+    c.payload_of.ensures ∙ payload_of_fed g.row.H g.row.D (to_verify setting) c.args.message.now _ c.feed-fed.result.used c.feed-fed.ensures.fits c.if-fed-message.false (c.waits.ensures.payload (to_verify setting) _ _ _ fed.so_far fed.came)
 
 pub returns-in-Refused-clause-context : goal.returns-in-Refused-clause-context
 returns-in-Refused-clause-context g c =

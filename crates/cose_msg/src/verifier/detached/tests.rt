@@ -1,28 +1,9 @@
 //! Messages whose payload is detached: the message is fed, and the payload on its own.
 
-ghost use Rattle.std.specs.Prelude.{◌≡◌, ◌<◌, ◌≤◌, IfSome, false, length};
-ghost use Rattle.cose_msg.specs.Kept.{is_inspecting};
+ghost use Rattle.std.specs.Prelude.{◌<◌, ◌≤◌, length};
 
-use crate::samples::{JEFE, MAC0, context_of};
-use crate::{
-    Alg, Fed, Kind, Never, Reason, Refusal, SliceIntake, Status, Store, Verdict, Verifier, verify,
-};
-
-/// The COSE_Mac0 of the samples with nil in place of its payload. The tag is the same.
-fn nil_mac0() -> [u8; 42] {
-    let mut bytes = [0xf6; 42];
-    let (front, rest) = MAC0.split_at(7);
-    bytes[..7].copy_from_slice(front);
-    bytes[8..].copy_from_slice(&rest[3..]);
-    bytes
-}
-
-/// A verifier under the key `Jefe` of a detached payload of so many bytes, of which the context allows this many.
-fn under_jefe(stated: u64, payload_limit: u64) -> Option<Verifier<'static, 16, 1>>
-    ensures { IfSome result (λ verifier. is_inspecting verifier ≡ false) }
-{
-    Some(Verifier::detached(context_of(JEFE, payload_limit)?, stated))
-}
+use crate::samples::{MAC0, detached_under_jefe, nil_mac0};
+use crate::{Fed, Reason, Refusal, Status, Verifier};
 
 /// Feeds the message and the payload in pieces of one size, as far as they are used, and reports their end. Returns the
 /// status.
@@ -59,7 +40,7 @@ const fn refused(reason: Reason, place: u64) -> Status {
 #[test]
 fn awaits_the_payload_at_the_nil(rt: HostRuntime) {
     let message = nil_mac0();
-    let mut verifier = under_jefe(2, 2).expect(&rt, "a verifier");
+    let mut verifier = detached_under_jefe(2, 2).expect(&rt, "a verifier");
     assert_eq!(rt; verifier.is_detached(), true);
     let at_nil = Fed {
         used: 8,
@@ -77,7 +58,7 @@ fn awaits_the_payload_at_the_nil(rt: HostRuntime) {
 #[test]
 fn takes_as_many_bytes_as_are_stated(rt: HostRuntime) {
     let message = nil_mac0();
-    let mut verifier = under_jefe(2, 2).expect(&rt, "a verifier");
+    let mut verifier = detached_under_jefe(2, 2).expect(&rt, "a verifier");
     verifier.feed(&message);
     let pieces: [(&[u8], usize, u64); 3] = [(b"", 0, 2), (b"h", 1, 1), (b"i!", 1, 0)];
     for (piece, used, left) in pieces {
@@ -139,7 +120,7 @@ fn has_the_same_status_in_pieces_of_every_size(rt: HostRuntime) {
     ];
     for (message, payload, length, limit, status, taken) in rows {
         for size in [1usize, 2, 7, 64] {
-            let mut verifier = under_jefe(length, limit).expect(&rt, "a verifier");
+            let mut verifier = detached_under_jefe(length, limit).expect(&rt, "a verifier");
             assert_eq!(rt;
                 fed(&mut verifier, message, payload, size),
                 status,
@@ -154,32 +135,11 @@ fn has_the_same_status_in_pieces_of_every_size(rt: HostRuntime) {
 fn is_truncated_where_either_ends(rt: HostRuntime) {
     let message = nil_mac0();
     for count in 0..42usize {
-        let mut verifier = under_jefe(2, 2).expect(&rt, "a verifier");
+        let mut verifier = detached_under_jefe(2, 2).expect(&rt, "a verifier");
         let end = fed(&mut verifier, &message[..count], b"hi", 64);
         assert_eq!(rt; end, refused(Reason::Truncated, count as u64));
         verifier.reset();
         let early = fed(&mut verifier, &message[..count], b"h", 64);
         assert_eq!(rt; early, refused(Reason::Truncated, count.min(7) as u64));
     }
-}
-
-#[test]
-fn decides_after_the_payload(rt: HostRuntime) {
-    let message = nil_mac0();
-    let mut verifier = under_jefe(2, 2).expect(&rt, "a verifier");
-    verifier.feed(&message);
-    if verifier.payload_wanted() > 0 {
-        verifier.feed_payload(b"hi");
-    }
-    let mut store = Store::<2>::new();
-    let mut rest = SliceIntake::new(&message[8..], 64);
-    let verdict = verify::<64, 16, 1, _, _, _, _>(&mut verifier, &mut rest, &mut store, &Never);
-    let authentic = Verdict::Authentic {
-        kind: Kind::Mac0,
-        alg: Alg::Hmac256,
-        payload: 2,
-        taken: 42,
-    };
-    assert_eq!(rt; verdict, Ok(authentic));
-    assert_eq!(rt; store.bytes().len(), 0);
 }

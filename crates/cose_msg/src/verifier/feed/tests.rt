@@ -2,6 +2,7 @@
 
 ghost use Rattle.std.specs.Prelude.{◌≡◌, ◌≤◌, false};
 ghost use Rattle.cose_msg.specs.Kept.{is_inspecting};
+ghost use Rattle.cose_msg.specs.Verifier.{is_detached};
 
 use crate::samples::{
     AUTHENTIC, CURVE_KEY, FailingReader, JEFE, MAC0, SIGN1, Says, context_of, mac0_and_more,
@@ -115,7 +116,7 @@ fn wants_what_is_left_of_an_unprotected_string(rt: HostRuntime) {
 /// Feeds a piece, and puts what it holds of the payload into a store.
 fn feed_into(verifier: &mut Verifier<16, 1>, piece: &[u8], store: &mut Store<2>) -> Fed {
     let fed = verifier.feed(piece);
-    let payload = &piece[fed.payload_from..fed.payload_to];
+    let payload = fed.payload_of(piece);
     if !payload.is_empty() {
         let _ = store.put(payload);
     }
@@ -291,7 +292,8 @@ fn decides_on_a_signature_once(rt: HostRuntime) {
 
 /// The verdict of `verify` on these bytes, where every signature holds or none does.
 fn verified(verifier: &mut Verifier<16, 1>, bytes: &[u8], holds: bool) -> Result<Verdict, Stop>
-    requires { is_inspecting verifier.old ≡ false }
+    requires verifies { is_inspecting verifier.old ≡ false }
+    requires attached { is_detached verifier.old ≡ false }
 {
     verify::<64, 16, 1, _, SliceIntake, Nothing, Says>(
         verifier,

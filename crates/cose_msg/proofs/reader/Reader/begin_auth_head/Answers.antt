@@ -6,6 +6,8 @@ use Rattle.cose_msg.proofs.reader.Reader.begin_auth_head.Goals as goal
 pub returns : goal.returns
 unfolding bare_head
 returns g c = record {
+  further = refl;
+  unawaited = refl;
   stands = λ task known e key count fed. record {
     known = known;
     told = headers_told known.headers known.payload;

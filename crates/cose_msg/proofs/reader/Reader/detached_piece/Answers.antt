@@ -7,8 +7,8 @@ use Rattle.cose_msg.proofs.Opened.{opened_more, opened_whole, with_payload}
 use Rattle.cose_msg.proofs.Standing.{moved, shows_as}
 use Rattle.cose_msg.proofs.reader.Reader.detached_piece.Goals as goal
 
-pub returns-then-left-eq0 : goal.returns-then-left-eq0
-returns-then-left-eq0 g c = λ task B more n reading comes h.
+pub returns-then-left-eq0-clause-stands : goal.returns-then-left-eq0-clause-stands
+returns-then-left-eq0-clause-stands g c = λ task B more n reading comes h.
     let inside = rw c.requires.phase at h.holds in
     let p = c.args.detached in
     let piece = c.args.part.now in
@@ -23,8 +23,8 @@ returns-then-left-eq0 g c = λ task B more n reading comes h.
     (λ z. (rw c.requires.phase at (h.left z)) ∙ nil_whole task.setting.source (rules_of g.row.H g.row.D task) h.known.headers h.known.chosen (h.known.payload ++ piece) more p.length p.at p.after z source whole)
     (c.begin_auth_head.ensures.stands task now shows inside.3 whole fed)
 
-pub returns-else-left-eq0 : goal.returns-else-left-eq0
-returns-else-left-eq0 g c = λ task B more n reading comes h.
+pub returns-else-left-eq0-clause-stands : goal.returns-else-left-eq0-clause-stands
+returns-else-left-eq0-clause-stands g c = λ task B more n reading comes h.
     let inside = rw c.requires.phase at h.holds in
     let p = c.args.detached in
     let piece = c.args.part.now in

@@ -9,7 +9,7 @@ use Rattle.cose_msg.proofs.reader.Reader.payload_head.Goals as goal
 
 pub returns-in-More : goal.returns-in-More
 returns-in-More g c = record {
-  stands = λ task B n reading h.
+  stands = λ task B n reading st h.
       let inside = rw c.requires.phase at h.holds in
       let kept = rw c.in-More.is at c.take_bare_head_byte.ensures.kept in
       let half : IsMore (bare_head (c.args.self.now.head.items ++ c.args.byte ∷ [])) = rw (← c.take_bare_head_byte.ensures.answer, c.in-More.is) tt in
@@ -26,7 +26,7 @@ returns-in-More g c = record {
 
 pub returns-in-Fault : goal.returns-in-Fault
 returns-in-Fault g c = record {
-  stands = λ task B n reading h.
+  stands = λ task B n reading st h.
       let inside = rw c.requires.phase at h.holds in
       let none = told_payload h.told (headers_told h.known.headers []) B inside.0 h.payload_told in
       moved c.refuse.new.self _ _ refl refl
@@ -36,14 +36,14 @@ returns-in-Fault g c = record {
 
 pub returns-in-Got : goal.returns-in-Got
 returns-in-Got g c = record {
-  stands = λ task B n reading h.
+  stands = λ task B n reading st h.
       let inside = rw c.requires.phase at h.holds in
       let none = told_payload h.told (headers_told h.known.headers []) B inside.0 h.payload_told in
       let last = c.in-Got.ensures.last inside.1.0 in
       let count : c.args.payload_head.at + c.in-Got.used ≡ n + 1 = omega (arith, inside.1.1, last, length-append c.args.self.now.head.items (c.args.byte ∷ [])) in
       moved c.past_payload_head.new.self _ _ none count
       (λ z. (rw c.requires.phase at (h.left (c.args.byte ∷ z))) ∙ head_completed (headers_told h.known.headers []) (past_payload_head (rules_of g.row.H g.row.D task) h.known.headers h.known.chosen) c.args.payload_head.at c.args.self.now.head.items c.args.byte c.in-Got.head c.in-Got.used (c.in-Got.ensures.stays tt) last z)
-      (c.past_payload_head.ensures.stands task h.known (shows_as task c.args.self.now h.told (headers_told h.known.headers []) inside.0 h.shows) (h.payload_known ∙ sym none) inside.2 inside.3 inside.4 inside.5);
+      (c.past_payload_head.ensures.stands task h.known st (shows_as task c.args.self.now h.told (headers_told h.known.headers []) inside.0 h.shows) (h.payload_known ∙ sym none) inside.2 inside.3 inside.4 inside.5);
 }
 
 pub take_bare_head_byte-requires : goal.take_bare_head_byte-requires

@@ -8,6 +8,7 @@ returns g c =
       kept = rw e.kept refl;
       counts = refl;
       inspects = refl;
+      detached = refl;
       context = rw e.terms refl;
       shown = e.shown;
       held = e.held;

@@ -35,6 +35,7 @@ pieces-init g c = (
   omega arith,
   omega arith,
   λ e. e,
+  refl,
 )
 
 pub pieces-preserved : goal.pieces-preserved
@@ -48,6 +49,7 @@ pieces-preserved g c =
     let within : (more : List ℕ) → length more < count → length more < want_of c.pieces.self.reader.phase = λ more lt. omega (arith, lt, c.step-count.ensures.wanted) in
     let goes_still = c.take_piece.ensures.marked ∙ i.1 in
     let inspects = c.take_piece.ensures.inspects ∙ i.2 in
+    let detached = c.take_piece.ensures.detached ∙ i.8 in
     elim c.if-is_in_payload.branch [
       | then-is_in_payload w ↦
           (let inside : in_payload c.pieces.self.reader.phase ≡ true = sym c.is_in_payload.ensures ∙ w.if-is_in_payload.true in
@@ -64,6 +66,7 @@ pieces-preserved g c =
             chosen_within _ used c.pieces.payload.from (used + count) (omega arith) (omega (arith, i.5, i.6)),
             omega arith,
             λ e. (let before = chosen_within (c.pieces.payload.to == 0) used c.pieces.payload.from used (omega arith) (omega (arith, i.5, i.6)) in absurd (omega (arith, before, e, some))),
+            detached,
           ))
       | else-is_in_payload w ↦
           (let outside : in_payload c.pieces.self.reader.phase ≡ false = sym c.is_in_payload.ensures ∙ w.if-is_in_payload.false in
@@ -80,6 +83,7 @@ pieces-preserved g c =
             i.5,
             omega (arith, i.6),
             i.7,
+            detached,
           ))
     ]
 
@@ -107,6 +111,9 @@ returns-then-count-eq0-clause-tells g c = λ task s B h.
 
 pub returns-then-count-eq0-clause-context : goal.returns-then-count-eq0-clause-context
 returns-then-count-eq0-clause-context g c = λ task s B h. let a = c.pieces.invariant.0 task s B h in ap (λ (t : Task). t.setting) a.stands.made_for ∙ sym (ap (λ (t : Task). t.setting) h.made_for)
+
+pub returns-then-count-eq0-clause-detached : goal.returns-then-count-eq0-clause-detached
+returns-then-count-eq0-clause-detached g c = c.pieces.invariant.8
 
 pub returns-then-count-eq0-clause-again : goal.returns-then-count-eq0-clause-again
 returns-then-count-eq0-clause-again g c = λ settled. absurd (c.if-want-eq0.false (c.want.ensures.none settled))

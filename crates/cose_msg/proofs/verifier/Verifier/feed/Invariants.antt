@@ -1,6 +1,7 @@
 use Rattle.std.proofs.Common.{◌≡◌, ◌+◌, ◌-◌, ◌≤◌, ℕ, List, length, false}
 use Rattle.cose_msg.specs.Kept.{HasTaken}
 use Rattle.cose_msg.specs.Task.{Task}
+use Rattle.cose_msg.specs.Verifier.{is_detached}
 use Rattle.cose_msg.proofs.Feeds.{Along}
 use Rattle.cose_msg.proofs.verifier.Verifier.feed.Given as goal
 
@@ -14,6 +15,7 @@ invariant-pieces g l =
     × (l.payload.from ≤ l.payload.to)
     × (l.payload.to ≤ l.used)
     × (l.payload.from ≡ l.payload.to → l.payload.to ≡ 0)
+    × (is_detached l.self ≡ is_detached l.initial.self)
 
 abbrev pub decreases-pieces : goal.decreases-pieces
 decreases-pieces g l = length l.piece - l.used

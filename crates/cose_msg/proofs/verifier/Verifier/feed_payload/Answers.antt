@@ -19,9 +19,9 @@ returns-in-Detached-clause-taken g c = λ task s B h.
     let later : (more : List ℕ) → SoFar (given_to ((B ++ piece) ++ more) task) s (B ++ piece) c.detached_piece.new.self = λ more.
     (let same : given_to (B ++ (piece ++ more)) task ≡ given_to ((B ++ piece) ++ more) task = ap (λ (t : List ℕ). given_to t task) (sym (append_assoc B piece more)) in
     let before : SoFar (given_to ((B ++ piece) ++ more) task) s B c.args.self.now.reader = subst (λ (t : Task). SoFar t s B c.args.self.now.reader) same (h.whatever_comes (piece ++ more)) in
-    c.detached_piece.ensures (given_to ((B ++ piece) ++ more) task) B more (length s) _ (came_more task ((B ++ piece) ++ more) (stands_beside h.so_far c.in-Detached.detached c.in-Detached.is)) before) in
+    c.detached_piece.ensures.stands (given_to ((B ++ piece) ++ more) task) B more (length s) _ (came_more task ((B ++ piece) ++ more) (stands_beside h.so_far c.in-Detached.detached c.in-Detached.is)) before) in
     let all : HasTaken (given_to (B ++ piece) task) s (B ++ piece) _ = record {
-      made_for = whole_task (given_to (B ++ piece) task) _ c.detached_piece.new.self.terms _ (ap (λ (t : Task). t.setting.keys) h.made_for) (ap (λ (t : Task). t.inspects) h.made_for) (now_given task s (B ++ piece) c.detached_piece.new.self later).shows.0;
+      made_for = whole_task (given_to (B ++ piece) task) _ c.detached_piece.new.self.terms _ _ (ap (λ (t : Task). t.setting.keys) h.made_for) (ap (λ (t : Task). t.inspects) h.made_for) (ap (λ (t : Task). t.setting.source) (h.made_for ∙ sym (given_again task [] (B ++ piece)))) (now_given task s (B ++ piece) c.detached_piece.new.self later).shows.0;
       so_far = now_given task s (B ++ piece) c.detached_piece.new.self later;
       came = given_again task (B ++ piece) (B ++ piece);
       whatever_comes = λ more. subst (λ (t : Task). SoFar t s (B ++ piece) c.detached_piece.new.self) (sym (given_again task ((B ++ piece) ++ more) (B ++ piece))) (later more);

@@ -1,10 +1,11 @@
-use Rattle.std.proofs.Common.{◌≡◌, true, ◌++◌, refl, sym, ap, ◌∙◌, arith, length-append}
+use Rattle.std.proofs.Common.{◌≡◌, true, ◌++◌, [], refl, sym, ap, ◌∙◌, arith, length-append}
 use Rattle.cose_msg.specs.Message.{message}
 use Rattle.cose_msg.specs.Phase.{grown, in_payload}
 use Rattle.cose_msg.specs.Reader.{SoFar}
 use Rattle.cose_msg.specs.Source.{attached}
 use Rattle.cose_msg.specs.Task.{Task, given_to, keys_for, rules_of}
-use Rattle.cose_msg.proofs.Given.{stands_attached, still_comes, whatever_then}
+use Rattle.cose_msg.proofs.Given.{given_again, stated_for, still_comes, whatever_then}
+use Rattle.cose_msg.proofs.Runs.{stands_attached}
 use Rattle.cose_msg.proofs.Standing.{took_piece, whole_task}
 use Rattle.cose_msg.proofs.verifier.Verifier.take_piece.Goals as goal
 
@@ -13,15 +14,16 @@ returns-clause-taken g c = λ task s B h.
     let phase = c.args.self.now.reader.phase in
     let piece = c.args.piece.now in
     let among = c.keys_to_choose_from-keys.ensures ∙ ap keys_for h.made_for in
-    let taken : (t : Task) → keys_for t ≡ keys_for task → SoFar t s B c.args.self.now.reader → SoFar t (s ++ piece) (grown phase B piece) c.advance.new.self =
-    λ t same so. took_piece c.advance.new.self s piece (grown phase B) c.advance.result (message (rules_of g.row.H g.row.D t)) (c.advance.ensures.whole c.requires.wanted) (c.advance.ensures.stands t B _ _ (among ∙ sym same) so) in
-    let now : SoFar task (s ++ piece) (grown phase B piece) c.advance.new.self = taken task refl h.so_far in
-    let source : in_payload phase ≡ true → task.setting.source ≡ attached = λ is. stands_attached h.so_far is in
+    let source = ap (λ (t : Task). t.setting.source) h.made_for in
+    let taken : (t : Task) → keys_for t ≡ keys_for task → given_to [] t ≡ given_to [] task → SoFar t s B c.args.self.now.reader → SoFar t (s ++ piece) (grown phase B piece) c.advance.new.self =
+    λ t same others so. took_piece c.advance.new.self s piece (grown phase B) c.advance.result (message (rules_of g.row.H g.row.D t)) (c.advance.ensures.whole c.requires.wanted) (c.advance.ensures.stands t B _ _ (among ∙ sym same) (stated_for c.args.self.now.stated task t source others) so) in
+    let now : SoFar task (s ++ piece) (grown phase B piece) c.advance.new.self = taken task refl refl h.so_far in
+    let inside : in_payload phase ≡ true → task.setting.source ≡ attached = λ is. stands_attached h.so_far is in
     record {
-      made_for = whole_task task _ c.advance.new.self.terms _ (ap (λ (t : Task). t.setting.keys) h.made_for) (ap (λ (t : Task). t.inspects) h.made_for) now.shows.0;
+      made_for = whole_task task _ c.advance.new.self.terms _ _ (ap (λ (t : Task). t.setting.keys) h.made_for) (ap (λ (t : Task). t.inspects) h.made_for) source now.shows.0;
       so_far = now;
-      came = still_comes task phase B piece (in_payload phase) refl source h.came;
-      whatever_comes = whatever_then task phase (s ++ piece) B piece c.advance.new.self (in_payload phase) refl source now (λ more. taken (given_to (B ++ more) task) refl (h.whatever_comes more));
+      came = still_comes task phase B piece (in_payload phase) refl inside h.came;
+      whatever_comes = whatever_then task phase (s ++ piece) B piece c.advance.new.self (in_payload phase) refl inside now (λ more. taken (given_to (B ++ more) task) refl (given_again task [] (B ++ more)) (h.whatever_comes more));
       counted = omega (arith, h.counted, length-append s piece);
       goes_on = h.goes_on;
     }
