@@ -8,7 +8,7 @@ ghost use Rattle.cose_msg.specs.declared.verdict.Verdict.{Verdict};
 ghost use Rattle.cose_msg.specs.Kept.{HasTaken, bytes_taken, is_inspecting, is_stopped, kept_answer};
 ghost use Rattle.cose_msg.specs.Message.{Setting};
 ghost use Rattle.cose_msg.specs.Task.{to_verify};
-ghost use Rattle.cose_msg.specs.Verifier.{setting_in};
+ghost use Rattle.cose_msg.specs.Verifier.{is_detached, setting_in};
 ghost use Rattle.cose_cwt.specs.declared.token.CwtStop.{CwtStop};
 ghost use Rattle.cose_cwt.specs.Admission.{admitted_claims as admitted_claims_of};
 ghost use Rattle.cose_cwt.specs.Admission.View.{policy_value};
@@ -72,10 +72,9 @@ fn claims_after<'a>(
 /// message is known to be authentic, so no claim of another message is ever returned. After a refusal or a stop the
 /// store may hold the payload of the refused message, or a part of it: [`Store::clear`] drops it.
 ///
-/// The verifier must not be inspecting, and must have taken nothing yet. Its context must allow the CWT tag, and no
-/// payload that the store can't hold. After a verdict or a stop the verifier answers as after [`verify`], until
-/// `reset`.
-/// hold. After a verdict or a stop the verifier answers as after [`verify`], until `reset`.
+/// The verifier isn't one that [`Verifier::inspecting`] or [`Verifier::detached`] made, and must have taken nothing yet.
+/// Its context must allow the CWT tag, and no payload that the store can't hold. After a verdict or a stop the verifier
+/// answers as after [`verify`], until `reset`.
 pub fn verify_cwt<
     'a,
     'k,
@@ -99,6 +98,7 @@ pub fn verify_cwt<
     requires some_store { 16 ≤ L }
     requires store_limit { L ≤ 65535 }
     requires verifies { is_inspecting verifier.old ≡ false }
+    requires attached { is_detached verifier.old ≡ false }
     requires none_taken { bytes_taken verifier.old ≡ 0 }
     requires cwt { (setting_in verifier.old).cwt ≡ true }
     requires payload_limit { (setting_in verifier.old).payload_limit ≤ L }
@@ -114,6 +114,7 @@ pub fn verify_cwt<
         (claims_seen result ≡ token_of D (policy_value policy.entry.now) answer []) × (verifier.new ≡ verifier.old) × (intake.new ≡ intake.old) }
     ensures stopped { (claims_seen result ≡ Err (CwtStop.Stopped Stop.Again)) ↔ (is_stopped verifier.old ≡ true) }
     ensures inspects { is_inspecting verifier.new ≡ false }
+    ensures attached { is_detached verifier.new ≡ false }
     ensures context { (setting : Setting) → HasTaken (to_verify setting) [] [] verifier.old
         → setting_in verifier.new ≡ setting_in verifier.old }
 
