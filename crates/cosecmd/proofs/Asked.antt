@@ -16,10 +16,11 @@ use Rattle.cosecmd.specs.Words.{admitted_for, asked_for, digested_for, made_for,
 pub ends_with : {said asked : Output} (old new : Option (List ℕ)) (status : ℕ) → said ≡ asked → EndsWith said old new status → EndsWith asked old new status
 ends_with old new status e ends = subst (λ (output : Output). EndsWith output old new status) e ends
 
-pub verify_words : (words : VerifyWords) (keys aad : Bor (List ℕ)) (vouch : Option (Bor (List ℕ))) (bytes : List ℕ) → keys.now ≡ words.keys.items → aad.now ≡ words.aad.items →
-    option_map contents vouch ≡ option_map (λ word. word.items) words.vouch → printed (Verify keys aad words.wanted vouch) bytes ≡ verified_for words bytes
+pub verify_words : (words : VerifyWords) (keys aad : Bor (List ℕ)) (vouch payload : Option (Bor (List ℕ))) (detached : Option (List ℕ)) (bytes : List ℕ) →
+    keys.now ≡ words.keys.items → aad.now ≡ words.aad.items → option_map contents vouch ≡ option_map (λ word. word.items) words.vouch → option_map contents payload ≡ detached →
+    printed (Verify keys aad words.wanted vouch payload) bytes ≡ verified_for words detached bytes
 unfolding printed
-verify_words words keys aad vouch bytes k a v = rw (k, a, v) refl
+verify_words words keys aad vouch payload detached bytes k a v p = rw (k, a, v, p) refl
 
 pub cwt_words : (words : CwtWords) (keys aad : Bor (List ℕ)) (vouch : Option (Bor (List ℕ))) (now : ℤ) (bytes : List ℕ) → keys.now ≡ words.verify.keys.items → aad.now ≡ words.verify.aad.items →
     option_map contents vouch ≡ option_map (λ word. word.items) words.verify.vouch → now ≡ words.now →

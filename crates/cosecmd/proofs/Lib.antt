@@ -11,6 +11,7 @@ pub mod Vouches
 pub mod WorkedAdmitted
 pub mod WorkedDigests
 pub mod WorkedMade
+pub mod WorkedPayloads
 pub mod WorkedPrinted
 pub mod WorkedShown
 pub mod Writes

@@ -10,14 +10,14 @@ use Rattle.cose_msg.specs.Answer.{decided}
 use Rattle.cosecmd.specs.declared.reply.Reply.{Reply}
 use Rattle.cosecmd.specs.declared.reply.Status.{Status}
 use Rattle.cosecmd.specs.declared.reply.Status.TheVariants as statuses
-use Rattle.cosecmd.specs.Printed.{Output, Prints, Says, code_of, input_answer, output_of, program_setting, said_of, verified_under}
+use Rattle.cosecmd.specs.Printed.{Output, Prints, Says, code_of, input_answer, output_of, program_setting, said_of, verified_under, with_payload}
 use Rattle.cosecmd.specs.Vouch.{vouching}
 
-pub says_verified : {F : Type 0} (set : Read (List KeyValue)) (keys : List KeyValue) (aad : List ℕ) (wanted : Wanted) (vouch : Option (List ℕ)) (bytes : List ℕ) (verdict : Verdict) (reply : Result Reply F) →
-    set ≡ Ok keys → input_answer (program_setting keys aad wanted) (vouching vouch) bytes ≡ decided verdict → IfOk reply (Says (said_of verdict)) →
-    IfOk reply (Says (verified_under set aad wanted vouch bytes))
-says_verified set keys aad wanted vouch bytes verdict reply d b s =
-    let e : verified_under set aad wanted vouch bytes ≡ said_of verdict = ap (λ (t : Read (List KeyValue)). verified_under t aad wanted vouch bytes) d ∙ ap output_of b in
+pub says_verified : {F : Type 0} (set : Read (List KeyValue)) (keys : List KeyValue) (aad : List ℕ) (wanted : Wanted) (vouch payload : Option (List ℕ)) (bytes : List ℕ) (verdict : Verdict) (reply : Result Reply F) →
+    set ≡ Ok keys → input_answer (with_payload payload (program_setting keys aad wanted)) (vouching vouch) bytes ≡ decided verdict → IfOk reply (Says (said_of verdict)) →
+    IfOk reply (Says (verified_under set aad wanted vouch payload bytes))
+says_verified set keys aad wanted vouch payload bytes verdict reply d b s =
+    let e : verified_under set aad wanted vouch payload bytes ≡ said_of verdict = ap (λ (t : Read (List KeyValue)). verified_under t aad wanted vouch payload bytes) d ∙ ap output_of b in
     subst (λ (o : Output). IfOk reply (Says o)) (sym e) s
 
 -- Unless there is a fault, a run ends with the output's status.

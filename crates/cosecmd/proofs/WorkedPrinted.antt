@@ -69,7 +69,7 @@ abbrev pub word : List ℕ → Bor (List ℕ)
 word bytes = record { ref_ptr = (0, 0); now = bytes }
 
 abbrev verifying : List ℕ → Option (List ℕ) → Job
-verifying keys vouch = Verify (word keys) (word []) wants.Tagged (option_map word vouch)
+verifying keys vouch = Verify (word keys) (word []) wants.Tagged (option_map word vouch) None
 
 unfoldable prints : List ℕ → Option (List ℕ) → List ℕ → Output
 unfolding printed keys_of key_of key_table material_of message with_head with_string with_item bucket_of bucket_table check_pairs pair_faults chosen children_of items_from look head_of_item bare_head read head depth_of is_utf8 chars lib.Utf8.encode digits
@@ -128,15 +128,15 @@ exit_statuses : map code_of (statuses.Done ∷ statuses.Refused ∷ statuses.Fau
 exit_statuses = refl
 
 -- A tag of 32 bytes, whatever they are, is compared with the MAC of these.
-abbrev is_mac_of : (ℕ → ℕ) → String → Bool
+abbrev pub is_mac_of : (ℕ → ℕ) → String → Bool
 is_mac_of byte to_mac = bytes_eq (any byte 32) (mac Hmac256 jefe (hex to_mac))
 
 -- A line where a test holds, and another where it doesn't.
-abbrev either : Bool → String → String → Output
+abbrev pub either : Bool → String → String → Output
 either holds authentic other = if holds then line authentic statuses.Done else line other statuses.Refused
 
 -- What is printed for a message after which no byte follows, and one. The `EcVerifier` is not asked about a signature.
-abbrev found : Chosen
+abbrev pub found : Chosen
 found = record { key = record { kid = None; alg = None; operations = None; material = symmetric jefe }; alg = Hmac256 }
 
 abbrev said_behind : ℕ → Bool → Output

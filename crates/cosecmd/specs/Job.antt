@@ -5,7 +5,7 @@ use Rattle.cosecmd.specs.declared.job.Job.TheVariants.{Show, Verify, Cwt, Digest
 
 abbrev pub aad_of : Job → List ℕ
 aad_of (Show wanted) = []
-aad_of (Verify keys aad wanted vouch) = aad.now
+aad_of (Verify keys aad wanted vouch payload) = aad.now
 aad_of (Cwt keys aad wanted vouch now leeway aud) = aad.now
 aad_of (Digest keys aad) = aad.now
 aad_of (Make alg key length kid aad) = aad.now

@@ -27,7 +27,7 @@ use Rattle.cose_msg.specs.declared.make.MakeFault.TheVariants as makes
 use Rattle.cose_msg.specs.Make.{make_fault}
 use Rattle.cose_msg.specs.Making.{made, protected_made}
 use Rattle.cose_msg.specs.Message.{Decides, Setting, comparing, inspecting, message, secret_of, verdict_of}
-use Rattle.cose_msg.specs.Source.{attached}
+use Rattle.cose_msg.specs.Source.{attached, detached}
 use Rattle.cose_msg.specs.Reading.{Reading, Told}
 use Rattle.cose_msg.specs.Shown.{SignInput, sign_input_in}
 use Rattle.cose_msg.specs.Writes.{front_of}
@@ -92,6 +92,11 @@ program_setting keys aad wanted = record {
   source = attached;
 }
 
+-- The same, where the payload is detached: all its bytes are passed, and their number is stated.
+abbrev pub with_payload : Option (List ℕ) → Setting → Setting
+with_payload None setting = setting
+with_payload (Some payload) setting = record setting { source = detached payload (length payload) }
+
 -- The number of bytes of a message that isn't refused.
 abbrev pub message_length : Answer → Option ℕ
 message_length (decided (Authentic kind alg payload taken)) = Some taken
@@ -131,9 +136,9 @@ output_of (decided verdict) = said_of verdict
 output_of (complete whole) = none_said
 output_of (shaped kind payload auth taken) = none_said
 
-abbrev pub verified_under : Read (List KeyValue) → List ℕ → Wanted → Option (List ℕ) → List ℕ → Output
-verified_under (Ok keys) aad wanted vouch bytes = output_of (input_answer (program_setting keys aad wanted) (vouching vouch) bytes)
-verified_under (Err refusal) aad wanted vouch bytes = fault_of_keys refusal
+abbrev pub verified_under : Read (List KeyValue) → List ℕ → Wanted → Option (List ℕ) → Option (List ℕ) → List ℕ → Output
+verified_under (Ok keys) aad wanted vouch payload bytes = output_of (input_answer (with_payload payload (program_setting keys aad wanted)) (vouching vouch) bytes)
+verified_under (Err refusal) aad wanted vouch payload bytes = fault_of_keys refusal
 
 -- A token is verified as a message is, with a payload of at most 4,096 bytes.
 abbrev pub token_setting : List KeyValue → List ℕ → Wanted → Setting
@@ -232,7 +237,8 @@ made_under (Err refusal) alg payload_length kid aad bytes = fault_of_key refusal
 -- say; no clause requires a run that ends so to print it.
 unfoldable pub printed : Job → List ℕ → Output
 printed (Show wanted) bytes = shown wanted bytes
-printed (Verify keys aad wanted vouch) bytes = verified_under (program_keys keys.now) aad.now wanted (option_map contents vouch) bytes
+printed (Verify keys aad wanted vouch payload) bytes =
+    verified_under (program_keys keys.now) aad.now wanted (option_map contents vouch) (option_map contents payload) bytes
 printed (Cwt keys aad wanted vouch now leeway aud) bytes =
     admitted_under (program_keys keys.now) aad.now wanted (option_map contents vouch) (program_policy now leeway (option_map text_value aud)) bytes
 printed (Digest keys aad) bytes = digested_under (program_keys keys.now) aad.now bytes

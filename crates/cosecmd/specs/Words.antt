@@ -11,8 +11,9 @@ use Rattle.cosecmd.specs.declared.words.Request.{Request}
 use Rattle.cosecmd.specs.declared.words.Request.TheVariants as asks
 use Rattle.cosecmd.specs.declared.words.Verify.{Verify}
 
-abbrev pub verified_for : Verify → List ℕ → Output
-verified_for words bytes = verified_under (program_keys words.keys.items) words.aad.items words.wanted (option_map (λ word. word.items) words.vouch) bytes
+abbrev pub verified_for : Verify → Option (List ℕ) → List ℕ → Output
+verified_for words payload bytes =
+    verified_under (program_keys words.keys.items) words.aad.items words.wanted (option_map (λ word. word.items) words.vouch) payload bytes
 
 abbrev pub admitted_for : Cwt → List ℕ → Output
 admitted_for words bytes =
@@ -29,7 +30,7 @@ made_for words bytes =
 -- Help, the version and what is wrong with the line are printed as they are.
 abbrev pub asked_for : Request → List ℕ → Output
 asked_for (asks.Show wanted) bytes = shown wanted bytes
-asked_for (asks.Verify words) bytes = verified_for words bytes
+asked_for (asks.Verify words payload) bytes = verified_for words (option_map (λ payload. payload.items) payload) bytes
 asked_for (asks.Cwt words) bytes = admitted_for words bytes
 asked_for (asks.Digest words) bytes = digested_for words bytes
 asked_for (asks.Make words) bytes = made_for words bytes

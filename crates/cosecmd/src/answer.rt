@@ -37,8 +37,9 @@ fn status_of<R: Read, W: Write>(alloc: Global, job: &Job, input: &mut R, output:
             aad,
             wanted,
             vouch,
+            payload,
         } => {
-            let reply = verify_reply(alloc, keys, aad, *wanted, *vouch, input);
+            let reply = verify_reply(alloc, keys, aad, *wanted, *vouch, *payload, input);
             print_reply(alloc, reply, output)
         }
         Job::Cwt {

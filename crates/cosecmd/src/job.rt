@@ -20,6 +20,8 @@ pub enum Job<'j> {
         wanted: Wanted,
         /// The argument of `--vouch`, where there is one.
         vouch: Option<&'j [u8]>,
+        /// The detached payload, where there is one (RFC 9052 sections 4.2 and 6.2).
+        payload: Option<&'j [u8]>,
     },
     /// To admit the token on the input, and to show its claims.
     Cwt {

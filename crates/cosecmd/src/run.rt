@@ -28,18 +28,20 @@ fn slice_of(word: &Option<Vec<u8>>) -> Option<&[u8]>
 fn answer_verify<R: Read, W: Write>(
     alloc: Global,
     words: &Verify,
+    payload: &Option<Vec<u8>>,
     input: &mut R,
     output: &mut W,
 ) -> u8
     ensures status { result ≤ 2 }
     ensures printed { (bytes : List ℕ) → R.remaining input.old ≡ Some bytes →
-        EndsWith (verified_for words.now bytes) (W.contents output.old) (W.contents output.new) result }
+        EndsWith (verified_for words.now (option_map (λ payload. payload.items) payload.now) bytes) (W.contents output.old) (W.contents output.new) result }
 {
     let job = Job::Verify {
         keys: words.keys.as_slice(),
         aad: words.aad.as_slice(),
         wanted: words.wanted,
         vouch: slice_of(&words.vouch),
+        payload: slice_of(payload),
     };
     answer(alloc, &job, input, output)
 }
@@ -113,7 +115,7 @@ fn answer_request<R: Read, W: Write>(
 {
     match request {
         Request::Show(wanted) => answer(alloc, &Job::Show { wanted: *wanted }, input, output),
-        Request::Verify(words) => answer_verify(alloc, words, input, output),
+        Request::Verify { words, payload } => answer_verify(alloc, words, payload, input, output),
         Request::Cwt(words) => answer_cwt(alloc, words, input, output),
         Request::Digest(words) => answer_digest(alloc, words, input, output),
         Request::Make(words) => answer_make(alloc, words, input, output),

@@ -15,6 +15,7 @@ mod making;
 mod messages;
 mod mistakes;
 mod options;
+mod payloads;
 mod replaced;
 mod rows;
 mod runs;
@@ -27,6 +28,7 @@ mod using;
 
 ghost use Rattle.std.specs.Prelude.{◌≡◌, ◌≤◌, false, length};
 ghost use Rattle.cose_msg.specs.Kept.{is_inspecting};
+ghost use Rattle.cose_msg.specs.Verifier.{is_detached};
 
 use crate::run::run;
 use cose_msg::{
@@ -132,7 +134,8 @@ fn context<'k, S: Keys<'k>>(keys: S) -> Context<'k, S>
 
 /// A verifier under these keys.
 fn verifier(keys: KeySet, wanted: Wanted) -> Verifier<1024, 4>
-    ensures { is_inspecting result ≡ false }
+    ensures verifies { is_inspecting result ≡ false }
+    ensures attached { is_detached result ≡ false }
 {
     Verifier::new(Context {
         wanted,
@@ -147,7 +150,8 @@ fn verified_in_pieces(
     cut: usize,
     store: &mut Store<16>,
 ) -> Result<Verdict, Stop>
-    requires { is_inspecting verifier.old ≡ false }
+    requires verifies { is_inspecting verifier.old ≡ false }
+    requires attached { is_detached verifier.old ≡ false }
 {
     let mut intake = SliceIntake::new(bytes, cut.max(1));
     verify::<128, 1024, 4, _, _, _, _>(verifier, &mut intake, store, &Never)

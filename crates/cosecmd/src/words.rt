@@ -62,7 +62,7 @@ const PAYLOAD: i64 = 1 << 56;
 /// The most bytes of the externally supplied data.
 const EXTERNAL: usize = 65_535;
 
-/// The arguments of `verify`.
+/// The arguments that `verify` and `cwt` have.
 #[derive(Drop)]
 pub struct Verify {
     /// The bytes of the key set.
@@ -121,7 +121,12 @@ pub enum Request<'w> {
     /// To show a message of these kinds.
     Show(Wanted),
     /// To verify a message.
-    Verify(Verify),
+    Verify {
+        /// Those of its arguments that `cwt` has too.
+        words: Verify,
+        /// The detached payload, where there is one.
+        payload: Option<Vec<u8>>,
+    },
     /// To admit a token.
     Cwt(Cwt<'w>),
     /// To print what a signature is verified with.
@@ -185,6 +190,16 @@ fn vouch_option<'a>(alloc: Global) -> Arg<'a> {
         .value_name("HEX")
         .help(
             "The one signature that is good: curve, digest, signature, x and y, as `digest` prints them; without it none is good",
+        )
+}
+
+/// The option of the detached payload.
+fn payload_option<'a>(alloc: Global) -> Arg<'a> {
+    Arg::new(alloc, "payload")
+        .long("payload")
+        .value_name("HEX")
+        .help(
+            "The payload of a message that has nil in its place (detached: RFC 9052 sections 4.2 and 6.2)",
         )
 }
 
@@ -280,7 +295,8 @@ fn verify_line<'a>(alloc: Global) -> Result<Command<'a>, AllocError> {
         .group(one_of(alloc, "key set", "keys", "keys-file")?)?
         .arg(aad_option(alloc))?
         .arg(kind_option(alloc))?
-        .arg(vouch_option(alloc))
+        .arg(vouch_option(alloc))?
+        .arg(payload_option(alloc))
 }
 
 /// The command `cwt` and its options.
@@ -440,7 +456,7 @@ fn kind_of(matches: &ArgMatches) -> Wanted {
     wanted_of(matches.get_str("kind").unwrap_or("tagged"))
 }
 
-/// The arguments of `verify`, in the order in which help lists them.
+/// The arguments that `verify` and `cwt` have, in the order in which help lists them.
 fn verify_of<F: NamedFiles>(
     alloc: Global,
     files: &F,
@@ -456,6 +472,17 @@ fn verify_of<F: NamedFiles>(
         wanted,
         vouch,
     })
+}
+
+/// What the arguments of `verify` ask for. The payload goes last, as help lists it.
+fn verify_request<'a, F: NamedFiles>(
+    alloc: Global,
+    files: &F,
+    matches: &ArgMatches,
+) -> Result<Request<'a>, Fault> {
+    let words = verify_of(alloc, files, matches)?;
+    let payload = optional_bytes_of(alloc, matches, "payload")?;
+    Ok(Request::Verify { words, payload })
 }
 
 /// The arguments of `cwt`, in the order in which help lists them. The line has a current time and a leeway that are in
@@ -527,7 +554,7 @@ pub fn request_of<'a, F: NamedFiles>(
         return Ok(Request::Show(kind_of(show)));
     }
     if let Some(verify) = matches.subcommand_matches("verify") {
-        return Ok(Request::Verify(verify_of(alloc, files, verify)?));
+        return verify_request(alloc, files, verify);
     }
     if let Some(cwt) = matches.subcommand_matches("cwt") {
         return Ok(Request::Cwt(cwt_of(alloc, files, cwt)?));

@@ -7,7 +7,7 @@ ghost use Rattle.cose_map.specs.Key.View.{contents, key_value};
 ghost use Rattle.cose_msg.specs.Kept.{HasTaken, bytes_taken, is_inspecting};
 ghost use Rattle.cose_msg.specs.Message.{Setting};
 ghost use Rattle.cose_msg.specs.Task.{to_verify};
-ghost use Rattle.cose_msg.specs.Verifier.{setting_in, setting_of};
+ghost use Rattle.cose_msg.specs.Verifier.{is_detached, setting_in, setting_of};
 ghost use Rattle.cose_cwt.specs.Admission.View.{policy_value};
 ghost use Rattle.cose_cwt.specs.Claims.Audience.{text_value, texts_left};
 ghost use Rattle.cose_cwt.specs.Claims.View.{claims_value};
@@ -207,6 +207,7 @@ fn whole_token<'a, 'j, I: Intake>(
     policy: &Policy,
 ) -> Result<Claims<'a>, CwtStop>
     requires verifies { is_inspecting verifier.old ≡ false }
+    requires attached { is_detached verifier.old ≡ false }
     requires none_taken { bytes_taken verifier.old ≡ 0 }
     requires cwt { (setting_in verifier.old).cwt ≡ true }
     requires payload_limit { (setting_in verifier.old).payload_limit ≤ 4096 }

@@ -8,7 +8,7 @@ ghost use Rattle.cose_msg.specs.Answer.{decided};
 ghost use Rattle.cose_msg.specs.Verifier.{setting_of};
 ghost use Rattle.cose_msg.specs.declared.verdict.Verdict.{Verdict};
 ghost use Rattle.cosecmd.specs.Faults.{fails_by_input};
-ghost use Rattle.cosecmd.specs.Printed.{Says, input_answer, trailing_refusal, program_keys, program_setting, said_of, verified_under, followed_by};
+ghost use Rattle.cosecmd.specs.Printed.{Says, input_answer, trailing_refusal, program_keys, program_setting, said_of, verified_under, followed_by, with_payload};
 ghost use Rattle.cosecmd.specs.Vouch.{vouching};
 
 use crate::fault::Fault;
@@ -16,8 +16,8 @@ use crate::line::Line;
 use crate::reply::{Reply, Status};
 use crate::vouch::Vouch;
 use cose_msg::{
-    Context, Intake, KeyTable, Keys, Nothing, ReadIntake, Reason, Refusal, Verdict, Verifier,
-    Wanted, verify,
+    Context, Intake, KeyTable, Keys, Nothing, ReadIntake, Reason, Refusal, SliceIntake, Verdict,
+    Verifier, Wanted, verify, verify_detached,
 };
 use std::alloc::Global;
 use std::io::Read;
@@ -106,7 +106,7 @@ pub fn whole_verdict<I: Intake>(verdict: Verdict, intake: &mut I) -> Result<Verd
     }
 }
 
-/// The verdict of all that an intake gives.
+/// The verdict of all that an intake gives, a message that has its payload.
 fn input_verdict<'j, I: Intake>(
     context: Context<'j, KeyTable<'j, KEYS>>,
     vouch: &Vouch<'j>,
@@ -133,6 +133,60 @@ fn input_verdict<'j, I: Intake>(
     }
 }
 
+/// The verdict of all that an intake gives, which has nil in the place of the payload. The payload's bytes are these.
+fn detached_verdict<'j, I: Intake>(
+    context: Context<'j, KeyTable<'j, KEYS>>,
+    vouch: &Vouch<'j>,
+    payload: &[u8],
+    intake: &mut I,
+) -> Result<Verdict, Fault>
+    requires external { length context.aad.now ≤ 65535 }
+    ensures verdict { (bytes : List ℕ) → I.to_come intake.old ≡ Some bytes →
+        IfOk result (λ verdict. input_answer (with_payload (Some payload.now) (setting_of usable context.entry))
+        (vouching (option_map contents vouch.now.word)) bytes ≡ decided verdict) }
+    ensures fault { IfErr result (λ fault. fault ≡ Fault.Input) }
+    ensures failure { I.has_failed intake.new ≡ (I.has_failed intake.old || is_err result) }
+{
+    let payload_length = payload.len() as u64;
+    let mut verifier = Verifier::<HEADER, NESTING, KeyTable<'_, KEYS>>::detached(
+        context,
+        payload_length,
+    );
+    let mut payload_intake = SliceIntake::new(payload, CHUNK);
+    let verdict = verify_detached::<CHUNK, HEADER, NESTING, _, _, _, _, _>(
+        &mut verifier,
+        intake,
+        &mut payload_intake,
+        &mut Nothing,
+        vouch,
+    );
+    match verdict {
+        Ok(verdict) => whole_verdict(verdict, intake),
+        // A slice and the sink `Nothing` never fail, and a new verifier hasn't stopped.
+        Err(_) => Err(Fault::Input),
+    }
+}
+
+/// The verdict of all that an intake gives: with a payload, where the message has nil in its place, and otherwise alone.
+fn verdict_of_input<'j, I: Intake>(
+    context: Context<'j, KeyTable<'j, KEYS>>,
+    vouch: &Vouch<'j>,
+    payload: Option<&[u8]>,
+    intake: &mut I,
+) -> Result<Verdict, Fault>
+    requires external { length context.aad.now ≤ 65535 }
+    ensures verdict { (bytes : List ℕ) → I.to_come intake.old ≡ Some bytes →
+        IfOk result (λ verdict. input_answer (with_payload (option_map contents payload.entry) (setting_of usable context.entry))
+        (vouching (option_map contents vouch.now.word)) bytes ≡ decided verdict) }
+    ensures fault { IfErr result (λ fault. fault ≡ Fault.Input) }
+    ensures failure { I.has_failed intake.new ≡ (I.has_failed intake.old || is_err result) }
+{
+    match payload {
+        Some(payload) => detached_verdict(context, vouch, payload, intake),
+        None => input_verdict(context, vouch, intake),
+    }
+}
+
 /// The reply to the message of an intake: the key set is read before the intake is asked.
 fn verified_reply<I: Intake>(
     alloc: Global,
@@ -140,12 +194,13 @@ fn verified_reply<I: Intake>(
     aad: &[u8],
     wanted: Wanted,
     vouch: Option<&[u8]>,
+    payload: Option<&[u8]>,
     intake: &mut I,
 ) -> Result<Reply, Fault>
     requires external { length aad.now ≤ 65535 }
     ensures says { (bytes : List ℕ) → I.to_come intake.old ≡ Some bytes →
         IfOk result (Says (verified_under (program_keys keys.now) aad.now wanted
-        (option_map contents vouch.entry) bytes)) }
+        (option_map contents vouch.entry) (option_map contents payload.entry) bytes)) }
     ensures keys { (refusal : Refusal)
         → program_keys keys.now ≡ Err refusal ↔ result ≡ Err (Fault.Keys refusal) }
     // Its fault is that the input failed exactly where the intake failed in this call.
@@ -156,7 +211,7 @@ fn verified_reply<I: Intake>(
         Err(refusal) => return Err(Fault::Keys(refusal)),
     };
     let context = program_context(keys, aad, wanted);
-    let verdict = input_verdict(context, &Vouch { word: vouch }, intake)?;
+    let verdict = verdict_of_input(context, &Vouch { word: vouch }, payload, intake)?;
     reply_of(alloc, verdict)
 }
 
@@ -167,15 +222,16 @@ pub fn verify_reply<R: Read>(
     aad: &[u8],
     wanted: Wanted,
     vouch: Option<&[u8]>,
+    payload: Option<&[u8]>,
     input: &mut R,
 ) -> Result<Reply, Fault>
     requires external { length aad.now ≤ 65535 }
     ensures says { (bytes : List ℕ) → R.remaining input.old ≡ Some bytes →
         IfOk result (Says (verified_under (program_keys keys.now) aad.now wanted
-        (option_map contents vouch.entry) bytes)) }
+        (option_map contents vouch.entry) (option_map contents payload.entry) bytes)) }
     ensures keys { (refusal : Refusal) →
         program_keys keys.now ≡ Err refusal ↔ result ≡ Err (Fault.Keys refusal) }
 {
     let mut intake = ReadIntake::new(input);
-    verified_reply(alloc, keys, aad, wanted, vouch, &mut intake)
+    verified_reply(alloc, keys, aad, wanted, vouch, payload, &mut intake)
 }

@@ -2,6 +2,7 @@
 
 use crate::run::run;
 use crate::tests::cwt::example;
+use crate::tests::payloads::detached;
 use crate::tests::streams::{FailingReader, KeepingWriter};
 use crate::tests::{FRONT, KEYS, MEMBER_Y, SIGNED, joined, message, point, ran, signed};
 use std::alloc::Global;
@@ -65,6 +66,8 @@ fn says_that_the_input_failed(rt: HostRuntime) -> Result<(), Fail> {
     assert_eq!(rt; lengths, (44, 123, 74));
     let verify = ["verify", "--keys", KEYS];
     says_at_each_read(&rt, verify.as_slice(), made.as_slice())?;
+    let with_payload = ["verify", "--keys", KEYS, "--payload", "6869"];
+    says_at_each_read(&rt, with_payload.as_slice(), detached(alloc)?.as_slice())?;
     says_at_each_read(&rt, ["show"].as_slice(), made.as_slice())?;
     let digest = ["digest", "--keys", point.as_str()];
     says_at_each_read(&rt, digest.as_slice(), signed.as_slice())?;

@@ -19,7 +19,7 @@ pub fn feed_all(
     for _i in 0..bytes.len() {
         let (piece, after) = rest.split_at(cut.min(rest.len()));
         let fed = verifier.feed(piece);
-        let payload = &piece[fed.payload_from..fed.payload_to];
+        let payload = fed.payload_of(piece);
         if !payload.is_empty() {
             assert!(rt; store.put(payload).is_ok());
         }

@@ -160,7 +160,7 @@ fn refuses_a_signature_that_nothing_vouches_for(rt: HostRuntime) -> Result<(), F
 
 #[test]
 fn reads_its_words_in_order(rt: HostRuntime) -> Result<(), Fail> {
-    let rows: [(&[&str], &str); 4] = [
+    let rows: [(&[&str], &str); 6] = [
         (
             &["verify", "--vouch", "zz", "--aad", "zz", "--keys", "zz"],
             "fault line keys\n",
@@ -172,6 +172,14 @@ fn reads_its_words_in_order(rt: HostRuntime) -> Result<(), Fail> {
         (
             &["verify", "--vouch", "zz", "--keys", "80"],
             "fault line vouch\n",
+        ),
+        (
+            &["verify", "--payload", "zz", "--vouch", "zz", "--keys", "80"],
+            "fault line vouch\n",
+        ),
+        (
+            &["verify", "--payload", "zz", "--keys", "80"],
+            "fault line payload\n",
         ),
         (&["verify", "--keys", "80"], "fault keys BadKeySet at 0\n"),
     ];

@@ -2,6 +2,7 @@
 
 ghost use Rattle.std.specs.Prelude.{◌≡◌, false};
 ghost use Rattle.cose_msg.specs.Kept.{is_inspecting};
+ghost use Rattle.cose_msg.specs.Verifier.{is_detached};
 
 use crate::tests::feeding::feed_all;
 use crate::tests::messages::answers_read;
@@ -38,7 +39,8 @@ pub fn answers_in_pieces(
     verdict: Verdict,
     taken: u64,
 )
-    requires { is_inspecting verifier.old ≡ false }
+    requires verifies { is_inspecting verifier.old ≡ false }
+    requires attached { is_detached verifier.old ≡ false }
 {
     let mut store = Store::<16>::new();
     let answer = verified_in_pieces(verifier, bytes, cut, &mut store);

@@ -2,6 +2,7 @@
 
 ghost use Rattle.std.specs.Prelude.{◌≡◌, ◌≤◌, false};
 ghost use Rattle.cose_msg.specs.Kept.{is_inspecting};
+ghost use Rattle.cose_msg.specs.Verifier.{is_detached};
 
 use crate::tests::cwt::example;
 use crate::tests::streams::{Asked, FailingIntake, FailingSink};
@@ -29,8 +30,10 @@ fn answer<const H: usize, I: Intake, S: Sink, E: EcVerifier>(
     sink: &mut S,
     ec: &E,
 ) -> Result<Verdict, Stop>
-    requires { is_inspecting verifier.old ≡ false }
-    ensures { is_inspecting verifier.new ≡ false }
+    requires verifies { is_inspecting verifier.old ≡ false }
+    requires attached { is_detached verifier.old ≡ false }
+    ensures verifies { is_inspecting verifier.new ≡ false }
+    ensures attached { is_detached verifier.new ≡ false }
 {
     verify::<1, H, 4, _, _, _, _>(verifier, intake, sink, ec)
 }
@@ -74,8 +77,10 @@ fn stays_stopped<const H: usize>(
     bytes: &[u8],
     taken: u64,
 )
-    requires { is_inspecting verifier.old ≡ false }
-    ensures { is_inspecting verifier.new ≡ false }
+    requires verifies { is_inspecting verifier.old ≡ false }
+    requires attached { is_detached verifier.old ≡ false }
+    ensures verifies { is_inspecting verifier.new ≡ false }
+    ensures attached { is_detached verifier.new ≡ false }
 {
     let nothing = Fed {
         used: 0,
@@ -94,6 +99,7 @@ impl<E: EcVerifier> Case<'_, E> {
         requires some_room { 16 ≤ H }
         requires limit { H ≤ 65535 }
         requires verifies { is_inspecting verifier.old ≡ false }
+        requires attached { is_detached verifier.old ≡ false }
     {
         verifier.reset();
         let new = Verifier::<H, 4>::new(context(self.keys));

@@ -3,6 +3,7 @@
 
 ghost use Rattle.std.specs.Prelude.{◌≡◌, ◌≤◌, false, true, length};
 ghost use Rattle.cose_msg.specs.Kept.{is_inspecting};
+ghost use Rattle.cose_msg.specs.Verifier.{is_detached};
 
 use crate::tests::cwt::example;
 use crate::tests::streams::{Asked, FailingIntake};
@@ -17,7 +18,7 @@ use cose_map::{
 };
 use cose_msg::{
     Context, EcVerifier, Intake, Never, Nothing, Sink, SliceIntake, Status, Stop, Store, Verdict,
-    Verifier, Wanted, verify,
+    Verified, Verifier, Wanted, verify, verify_slice,
 };
 use std::alloc::{AllocError, Global};
 use std::mem::size_of;
@@ -49,14 +50,29 @@ fn context<'k, S: Keys<'k>>(keys: S) -> Context<'k, S>
     }
 }
 
+/// The payload of a message in memory that is authentic under these keys.
+fn payload_in<'m>(key_set: &[u8], message: &'m [u8]) -> Result<&'m [u8], Problem> {
+    let keys = match KeySet::read(key_set) {
+        Ok(keys) => keys,
+        Err(refusal) => return Err(Problem::Keys(refusal)),
+    };
+    let mut verifier = Verifier::<1_024, 8>::new(context(keys));
+    match verify_slice(&mut verifier, message, &Never) {
+        Verified::Authentic { payload, .. } => Ok(payload),
+        Verified::Refused(refusal) => Err(Problem::Message(refusal)),
+    }
+}
+
 /// The payload of a message that is authentic.
 fn payload_of<'p, I: Intake>(
     verifier: &mut Verifier<1_024, 8>,
     intake: &mut I,
     store: &'p mut Store<4_096>,
 ) -> Result<&'p [u8], Problem>
-    requires { is_inspecting verifier.old ≡ false }
-    ensures { is_inspecting verifier.new ≡ false }
+    requires verifies { is_inspecting verifier.old ≡ false }
+    requires attached { is_detached verifier.old ≡ false }
+    ensures verifies { is_inspecting verifier.new ≡ false }
+    ensures attached { is_detached verifier.new ≡ false }
 {
     match verify::<512, 1_024, 8, _, _, _, _>(verifier, intake, store, &Never) {
         Ok(Verdict::Authentic { .. }) => Ok(store.bytes()),
@@ -84,7 +100,7 @@ fn is_next_authentic<'k>(
     message: &[u8],
 ) -> bool {
     verifier.reset();
-    if verifier.is_inspecting() {
+    if verifier.is_inspecting() || verifier.is_detached() {
         return false;
     }
     let mut intake = SliceIntake::new(message, 512);
@@ -112,6 +128,25 @@ fn counts_what_is_authentic(rt: HostRuntime) -> Result<(), Fail> {
     let messages: [&[u8]; 3] = [good.as_slice(), bad, good.as_slice()];
     assert_eq!(rt; count_authentic(&table, &messages), 2);
     assert_eq!(rt; count_authentic(&table, &[bad]), 0);
+    Ok(())
+}
+
+#[test]
+fn gives_the_payload_of_a_message_in_memory(rt: HostRuntime) -> Result<(), Fail> {
+    let alloc = rt.alloc();
+    let whole = message(alloc)?;
+    assert_eq!(rt; payload_in(KEY_SET, whole.as_slice()), Ok(b"hi".as_slice()));
+    let longer = joined(alloc, &[whole.as_slice(), b"\xff"])?;
+    let trailing = Problem::Message(Refusal {
+        reason: Reason::Trailing,
+        place: 44,
+    });
+    assert_eq!(rt; payload_in(KEY_SET, longer.as_slice()), Err(trailing));
+    let no_keys = Problem::Keys(Refusal {
+        reason: Reason::PastRoom,
+        place: 0,
+    });
+    assert_eq!(rt; payload_in(b"", whole.as_slice()), Err(no_keys));
     Ok(())
 }
 
@@ -145,8 +180,10 @@ fn hands_out_what_is_authentic(rt: HostRuntime) -> Result<(), Fail> {
 
 /// An intake that fails at its third call stops it so.
 fn stops(rt: &impl Abort, verifier: &mut Verifier<1_024, 8>, bytes: &[u8], stop: Stop)
-    requires { is_inspecting verifier.old ≡ false }
-    ensures { is_inspecting verifier.new ≡ false }
+    requires verifies { is_inspecting verifier.old ≡ false }
+    requires attached { is_detached verifier.old ≡ false }
+    ensures verifies { is_inspecting verifier.new ≡ false }
+    ensures attached { is_detached verifier.new ≡ false }
 {
     let mut failing = FailingIntake::new(bytes, 3);
     let mut store = Store::new();
@@ -240,7 +277,7 @@ fn listen<P: Port, S: Sink, E: EcVerifier>(
         let count = port.interrupt(&mut buffer).min(7);
         let bytes = &buffer[..count];
         let fed = verifier.feed(bytes);
-        let payload = &bytes[fed.payload_from..fed.payload_to];
+        let payload = fed.payload_of(bytes);
         if !payload.is_empty() && handler.put(payload).is_err() {
             return Err(Stop::Sink);
         }

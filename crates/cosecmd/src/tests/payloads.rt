@@ -1,0 +1,151 @@
+//! The option `--payload`: messages whose payload is detached (RFC 9052 sections 4.2 and 6.2).
+
+use crate::tests::{
+    FRONT, KEY, KEYS, MEMBER_Y, STRUCTURE, X, Y, hmac, joined, message, point, prints, ran,
+};
+use sha2::{Digest, Sha256};
+use std::alloc::{AllocError, Global};
+use std::test::Fail;
+
+/// The COSE_Mac0 of 42 bytes with nil in the place of the payload, `hi`.
+pub fn detached(alloc: Global) -> Result<Vec<u8>, AllocError> {
+    let tag = hmac(KEY, STRUCTURE);
+    joined(alloc, &[FRONT, b"\xf6\x58\x20", &tag])
+}
+
+#[test]
+fn verifies_under_a_payload(rt: HostRuntime) -> Result<(), Fail> {
+    let alloc = rt.alloc();
+    let attached = message(alloc)?;
+    let bytes = detached(alloc)?;
+    let mut changed = detached(alloc)?;
+    if let Some(byte) = changed.get_mut(41) {
+        *byte ^= 1;
+    }
+    let mut longer = detached(alloc)?;
+    longer.push(0xff)?;
+    let shorter = bytes.get(..41).unwrap_or(&[]);
+    let with = ["verify", "--keys", KEYS, "--payload", "6869"];
+    let without = ["verify", "--keys", KEYS];
+    let authentic = "authentic mac0 alg 5 payload 2 taken 42\n";
+    let rows: [(&[&str], &[u8], &str, u8); 7] = [
+        (&with, &bytes, authentic, 0),
+        (&with, &attached, "refused Attached at 7\n", 1),
+        (&without, &bytes, "refused Detached at 7\n", 1),
+        (&with, &changed, "refused BadAuth at 8\n", 1),
+        (&with, &longer, "refused Trailing at 42\n", 1),
+        (&with, shorter, "refused Truncated at 41\n", 1),
+        (&with, b"", "refused Truncated at 0\n", 1),
+    ];
+    for (arguments, bytes, text, status) in rows {
+        prints(&rt, arguments, bytes, text, status)?;
+    }
+    Ok(())
+}
+
+#[test]
+fn authenticates_the_payload_that_is_passed(rt: HostRuntime) -> Result<(), Fail> {
+    let detached = detached(rt.alloc())?;
+    let refused = ("refused BadAuth at 8\n", 1);
+    let rows: [(&str, (&str, u8)); 7] = [
+        ("6869", ("authentic mac0 alg 5 payload 2 taken 42\n", 0)),
+        ("6868", refused),
+        ("68", refused),
+        ("686900", refused),
+        // The payload of no byte, whose length is 0.
+        ("", refused),
+        ("zz", ("fault line payload\n", 2)),
+        ("686", ("fault line payload\n", 2)),
+    ];
+    for (payload, (text, status)) in rows {
+        let verify = ["verify", "--keys", KEYS, "--payload", payload];
+        prints(&rt, verify.as_slice(), detached.as_slice(), text, status)?;
+    }
+    Ok(())
+}
+
+#[test]
+fn verifies_a_payload_of_no_byte(rt: HostRuntime) -> Result<(), Fail> {
+    // The MAC_structure of the empty payload (RFC 9052 section 6.3).
+    let tag = hmac(KEY, b"\x84\x64MAC0\x43\xa1\x01\x05\x40\x40");
+    let bytes = joined(rt.alloc(), &[FRONT, b"\xf6\x58\x20", &tag])?;
+    let verify = ["verify", "--keys", KEYS, "--payload", ""];
+    let authentic = "authentic mac0 alg 5 payload 0 taken 42\n";
+    prints(&rt, verify.as_slice(), bytes.as_slice(), authentic, 0)?;
+    Ok(())
+}
+
+/// A payload of more bytes than are taken at once.
+#[test]
+fn verifies_a_long_payload(rt: HostRuntime) -> Result<(), Fail> {
+    let alloc = rt.alloc();
+    let payload = [0x5a; 5_000];
+    let structure = joined(
+        alloc,
+        &[b"\x84\x64MAC0\x43\xa1\x01\x05\x40\x59\x13\x88", &payload],
+    )?;
+    let tag = hmac(KEY, structure.as_slice());
+    let bytes = joined(alloc, &[FRONT, b"\xf6\x58\x20", &tag])?;
+    let word = hex::encode(alloc, payload.as_slice())?;
+    let verify = ["verify", "--keys", KEYS, "--payload", word.as_str()];
+    let authentic = "authentic mac0 alg 5 payload 5000 taken 42\n";
+    prints(&rt, verify.as_slice(), bytes.as_slice(), authentic, 0)?;
+    Ok(())
+}
+
+#[test]
+fn vouches_for_a_payload_that_is_passed(rt: HostRuntime) -> Result<(), Fail> {
+    let alloc = rt.alloc();
+    // The Sig_structure of the payload `hi` (RFC 9052 section 4.4).
+    let digest = Sha256::digest(b"\x84\x6aSignature1\x43\xa1\x01\x26\x40\x42hi");
+    let digest = hex::encode(alloc, digest.as_slice())?;
+    let signature = [0x5a; 64];
+    let signed = hex::encode(alloc, signature.as_slice())?;
+    let vouch = format!(in alloc; "01{digest}{signed}{X}{Y}")?;
+    let bytes = joined(
+        alloc,
+        &[b"\xd2\x84\x43\xa1\x01\x26\xa0\xf6\x58\x40", &signature],
+    )?;
+    let keys = point(alloc, MEMBER_Y)?;
+    let refused = ("refused BadAuth at 8\n", 1);
+    let rows: [(&str, &str, (&str, u8)); 3] = [
+        (
+            vouch.as_str(),
+            "6869",
+            ("authentic sign1 alg -7 payload 2 taken 74\n", 0),
+        ),
+        (vouch.as_str(), "6868", refused),
+        ("", "6869", refused),
+    ];
+    for (vouch, payload, (text, status)) in rows {
+        let verify = [
+            "verify",
+            "--keys",
+            keys.as_str(),
+            "--vouch",
+            vouch,
+            "--payload",
+            payload,
+        ];
+        prints(&rt, verify.as_slice(), bytes.as_slice(), text, status)?;
+    }
+    Ok(())
+}
+
+#[test]
+fn is_an_option_of_verify_alone(rt: HostRuntime) -> Result<(), Fail> {
+    let rows: [&[&str]; 3] = [
+        &["cwt", "--keys", KEYS, "--now", "0", "--payload", "6869"],
+        &["digest", "--keys", KEYS, "--payload", "6869"],
+        &["show", "--payload", "6869"],
+    ];
+    for arguments in rows {
+        let (output, status, _left) = ran(rt.alloc(), arguments, b"")?;
+        assert!(rt;
+            output.as_slice().starts_with(b"error: unexpected argument"),
+            "{arguments:?}"
+        );
+        assert_eq!(rt; status, 2, "{arguments:?}");
+    }
+    Ok(())
+}
