@@ -27,6 +27,8 @@ LENGTHS = (0, 1, 2, 7, 14, 23, 24, 63, 64, 65, 127, 128, 129, 255, 256, 300)
 LONG_LENGTHS = (4_095, 4_096, 4_097, 8_192, 65_535, 65_536, 70_000)
 # the most bytes that an argument of the command line can have in hexadecimal, which has at most 131,071 characters
 ARGUMENT_BYTES = 65_535
+# what a message has in the place of a detached payload
+NIL = b"\xf6"
 # initial bytes that change what follows
 HEADS = bytes.fromhex("00 18 1c 1f 20 38 40 57 58 5b 5f 60 80 84 9b 9f a0 a1 b8 bf c0 c1 d0 d1 d2 d8 f4 f6 f8 f9 fb ff")
 
@@ -438,8 +440,8 @@ class Round:
         if self.slips():
             length = self.pick(len(content) + 1, max(len(content) - 1, 0), 1_025, 65_536, 2**56 - 1, 2**56, 2**64 - 1)
             other_length = self.spelling.head(2, length) + content
-            nil, text = b"\xf6", self.spelling.head(3, len(content)) + content
-            return self.pick(nil, text, other_length, b"\x5f" + content, self.spell(self.any_value()))
+            text = self.spelling.head(3, len(content)) + content
+            return self.pick(NIL, text, other_length, b"\x5f" + content, self.spell(self.any_value()))
         return self.spell(content)
 
     def case(self, draft):
@@ -447,8 +449,11 @@ class Round:
         items = [*draft.options.items()]
         if draft.command != "show":
             items.append(("keys", self.argument(draft.keys)))
-        self.chance.shuffle(items)
         protected, payload, auth = map(self.string, (draft.protected, draft.payload, draft.auth))
+        if draft.command == "verify" and self.happens(0.2):
+            items.append(("payload", self.argument(draft.payload[:ARGUMENT_BYTES])))
+            payload = payload if self.slips() else NIL
+        self.chance.shuffle(items)
         data = draft.front + protected + draft.unprotected + payload + auth
         case = Case(draft.command, dict(items), data)
         return case.sealed() if self.happens(0.9) else case
@@ -509,7 +514,7 @@ class Round:
             yield mutant.sealed() if self.happens(0.5) else mutant
         for part in ("front", "protected", "unprotected", "payload"):
             yield self.case(replace(draft, **{part: mutated(self.chance, getattr(draft, part))}))
-        for name in [it for it in ("keys", "vouch", "aad") if it in case.options]:
+        for name in [it for it in ("keys", "vouch", "payload", "aad") if it in case.options]:
             yield self.with_other_argument(case, name)
         for _ in range(10):
             yield self.case_with_slips(draft)

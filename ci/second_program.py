@@ -55,13 +55,15 @@ def external_data(options):
 
 def context_of(command, options):
     """The context of a command with keys. Its arguments are judged in this order, and the key set after them."""
-    keys, aad, vouch = hexadecimal(options, "keys"), external_data(options), hexadecimal(options, "vouch")
+    keys, aad = hexadecimal(options, "keys"), external_data(options)
+    vouch, payload = hexadecimal(options, "vouch"), hexadecimal(options, "payload")
     try:
         usable = reading.read_key_set(keys)
     except Refused as refusal:
         raise Fault(f"keys {refusal}") from None
     wanted = "sign1" if command == "digest" else options.get("kind", "tagged")
-    return reading.Context(wanted, usable, aad, CLAIMS_LIMIT if command == "cwt" else reading.PAYLOAD_LIMIT, vouch)
+    payload_limit = CLAIMS_LIMIT if command == "cwt" else reading.PAYLOAD_LIMIT
+    return reading.Context(wanted, usable, aad, payload_limit, vouch, payload)
 
 
 def demand_end(data, message):

@@ -27,7 +27,7 @@ Reason = enum.IntEnum(
     "NotMap BadLabel DuplicateLabel BothBuckets BadValue CritUnprotected CritAbsent CritUnknown BothIvs NoAlg "
     "UnknownAlg AlgUnprotected NoKey AmbiguousKey Detached BadAuthLength BadAuth PayloadTooLong CwtTagAlone BadKeySet "
     "UnknownKey FloatDate TaggedDate Expired NotYet WrongAudience EncryptedKey PlainKey BadConfirmation NestedCwt "
-    "Trailing",
+    "Trailing Attached",
 )
 
 
@@ -401,6 +401,8 @@ class Context:
     aad: bytes = b""
     payload_limit: int = PAYLOAD_LIMIT
     vouch: bytes | None = None
+    # the bytes of a detached payload; without them the message has its payload
+    payload: bytes | None = None
 
 
 @dataclass
@@ -460,6 +462,18 @@ def read_protected(data, place):
     return pairs, content if pairs else b"", end
 
 
+def read_payload(data, place, context):
+    """The payload of a message, which is in it or was passed next to it, and the place of the tag or signature."""
+    major, argument, width = read_head(data, place)
+    is_nil = (major, argument, width) == (SIMPLE, NIL, 1)
+    if context.payload is None:
+        demand(not is_nil, Reason.Detached, place)
+        return read_string(data, place, lambda it: it <= context.payload_limit, Reason.PayloadTooLong)
+    demand(major != BYTES, Reason.Attached, place)
+    demand(is_nil, Reason.WrongType, place)
+    return context.payload, place + width
+
+
 def read_message(data, context):
     """The message that some bytes begin with, up to its last byte, which is before the comparison."""
     kind, place = read_front(data, context.wanted)
@@ -471,9 +485,7 @@ def read_message(data, context):
     key, alg = None, None
     if context.keys is not None:
         key, alg = choose_key(context.keys, kind, protected, unprotected, place)
-    major, argument, width = read_head(data, place)
-    demand((major, argument, width) != (SIMPLE, NIL, 1), Reason.Detached, place)
-    payload, auth_place = read_string(data, place, lambda it: it <= context.payload_limit, Reason.PayloadTooLong)
+    payload, auth_place = read_payload(data, place, context)
     lengths = range(SHOWN_AUTH_LIMIT + 1) if alg is None else [ALGORITHMS[alg].auth_length]
     auth, taken = read_string(data, auth_place, lambda it: it in lengths, Reason.BadAuthLength)
     return Message(kind, protected, unprotected, protected_bytes, payload, auth, auth_place, taken, key, alg)
