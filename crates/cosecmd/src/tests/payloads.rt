@@ -5,6 +5,7 @@ use crate::tests::{
 };
 use sha2::{Digest, Sha256};
 use std::alloc::{AllocError, Global};
+use std::process::Abort;
 use std::test::Fail;
 
 /// The COSE_Mac0 of 42 bytes with nil in the place of the payload, `hi`.
@@ -93,42 +94,44 @@ fn verifies_a_long_payload(rt: HostRuntime) -> Result<(), Fail> {
     Ok(())
 }
 
-#[test]
-fn vouches_for_a_payload_that_is_passed(rt: HostRuntime) -> Result<(), Fail> {
-    let alloc = rt.alloc();
-    // The Sig_structure of the payload `hi` (RFC 9052 section 4.4).
+/// The argument of `--vouch` for the signature of 64 bytes 5a over the payload `hi` (RFC 9052 section 4.4).
+fn vouch(alloc: Global) -> Result<String, Fail> {
     let digest = Sha256::digest(b"\x84\x6aSignature1\x43\xa1\x01\x26\x40\x42hi");
     let digest = hex::encode(alloc, digest.as_slice())?;
-    let signature = [0x5a; 64];
-    let signed = hex::encode(alloc, signature.as_slice())?;
-    let vouch = format!(in alloc; "01{digest}{signed}{X}{Y}")?;
-    let bytes = joined(
-        alloc,
-        &[b"\xd2\x84\x43\xa1\x01\x26\xa0\xf6\x58\x40", &signature],
-    )?;
-    let keys = point(alloc, MEMBER_Y)?;
-    let refused = ("refused BadAuth at 8\n", 1);
-    let rows: [(&str, &str, (&str, u8)); 3] = [
-        (
-            vouch.as_str(),
-            "6869",
-            ("authentic sign1 alg -7 payload 2 taken 74\n", 0),
-        ),
-        (vouch.as_str(), "6868", refused),
-        ("", "6869", refused),
+    let signature = hex::encode(alloc, [0x5a; 64].as_slice())?;
+    Ok(format!(in alloc; "01{digest}{signature}{X}{Y}")?)
+}
+
+/// With this argument of `--vouch` and this payload, that signature's message is answered so.
+fn answers_signed<'w>(
+    rt: &(impl Abort + Alloc<A = Global>),
+    vouch: &'w str,
+    payload: &'w str,
+    (text, status): (&str, u8),
+) -> Result<(), AllocError> {
+    let front: &[u8] = b"\xd2\x84\x43\xa1\x01\x26\xa0\xf6\x58\x40";
+    let bytes = joined(rt.alloc(), &[front, &[0x5a; 64]])?;
+    let keys = point(rt.alloc(), MEMBER_Y)?;
+    let verify = [
+        "verify",
+        "--keys",
+        keys.as_str(),
+        "--vouch",
+        vouch,
+        "--payload",
+        payload,
     ];
-    for (vouch, payload, (text, status)) in rows {
-        let verify = [
-            "verify",
-            "--keys",
-            keys.as_str(),
-            "--vouch",
-            vouch,
-            "--payload",
-            payload,
-        ];
-        prints(&rt, verify.as_slice(), bytes.as_slice(), text, status)?;
-    }
+    prints(rt, verify.as_slice(), bytes.as_slice(), text, status)
+}
+
+#[test]
+fn vouches_for_a_payload_that_is_passed(rt: HostRuntime) -> Result<(), Fail> {
+    let good = vouch(rt.alloc())?;
+    let authentic = ("authentic sign1 alg -7 payload 2 taken 74\n", 0);
+    let refused = ("refused BadAuth at 8\n", 1);
+    answers_signed(&rt, good.as_str(), "6869", authentic)?;
+    answers_signed(&rt, good.as_str(), "6868", refused)?;
+    answers_signed(&rt, "", "6869", refused)?;
     Ok(())
 }
 
