@@ -53,7 +53,8 @@ fn not_nested<'a>(item: ItemRef<'a>) -> Result<ItemRef<'a>, Refusal>
 
 /// The confirmation, if present.
 fn confirmation_at<'a>(value: Option<ItemRef<'a>>) -> Result<Option<Confirmation<'a>>, Refusal>
-    ensures { seen_by (option_map confirmation_value) result ≡ spec.confirmation_at (option_map placed value.entry) }
+    ensures { seen_by (option_map confirmation_value) result
+        ≡ spec.confirmation_at (option_map placed value.entry) }
 {
     match value {
         Some(value) => Ok(Some(Confirmation::read(&value)?)),
@@ -74,7 +75,8 @@ impl<'a> Claims<'a> {
     #[tactic(auto, unfolding(crate::specs::Claims::claims_of))]
     fn of_payload(bytes: &'a [u8], depth: usize) -> Result<Claims<'a>, Refusal>
         requires { depth ≤ 32 }
-        ensures { seen_by claims_value result ≡ spec.claims_of depth (record { bytes = bytes.now; place = 0 }) }
+        ensures { seen_by claims_value result
+            ≡ spec.claims_of depth (record { bytes = bytes.now; place = 0 }) }
     {
         let item = not_nested(ItemRef::read(bytes, 0, depth)?)?;
         let pairs = check_map(&ClaimsForm, &item)?;
@@ -98,7 +100,8 @@ impl<'a> Claims<'a> {
     #[tactic(auto, using(crate::proofs::Inside::seen_inside))]
     pub fn read(bytes: &'a [u8], depth: usize) -> Result<Claims<'a>, Refusal>
         requires { depth ≤ 32 }
-        ensures exact { seen_by claims_value result ≡ spec.claims_of depth (record { bytes = bytes.now; place = 0 }) }
+        ensures exact { seen_by claims_value result
+            ≡ spec.claims_of depth (record { bytes = bytes.now; place = 0 }) }
         ensures within { IfErr result (λ refusal. refusal.place ≤ length bytes.now) }
     {
         // The law that the proof of `within` cites.
@@ -180,7 +183,8 @@ impl<'a> Claims<'a> {
     /// The key that the presenter of the token holds, as a set of this one key. A context takes it as the keys for
     /// messages that the presenter authenticates. `None` where the token has no such key.
     pub fn cnf_set(&self) -> Option<KeySet<'a>>
-        ensures { option_map keys result ≡ option_map (λ key. key ∷ []) (spec.confirmed_key_of (claims_value self.now)) }
+        ensures { option_map keys result
+            ≡ option_map (λ key. key ∷ []) (spec.confirmed_key_of (claims_value self.now)) }
     {
         KeySet::of_key(self.confirmation?.key?)
     }

@@ -53,7 +53,8 @@ impl Form for MembersForm {
 
 /// The public key that an item is.
 fn public_key<'a>(item: &ItemRef<'a>) -> Result<Key<'a>, Refusal>
-    ensures { seen_by key_value result ≡ spec.public_key (placed item.now) (key_of (placed item.now)) }
+    ensures { seen_by key_value result
+        ≡ spec.public_key (placed item.now) (key_of (placed item.now)) }
 {
     match Key::read(item.bytes, item.place) {
         Ok(key) => match key.material {
@@ -70,7 +71,9 @@ fn confirmed_key<'a>(
     encrypted: Option<(Label<'a>, ItemRef<'a>, ItemRef<'a>)>,
     key: Option<ItemRef<'a>>,
 ) -> Result<Option<ItemRef<'a>>, Refusal>
-    ensures { seen_by key_in result ≡ spec.confirmed_key (placed cnf.now) (option_map pair_value encrypted.entry) (option_map placed key.entry) }
+    ensures { seen_by key_in result
+        ≡ spec.confirmed_key (placed cnf.now) (option_map pair_value encrypted.entry)
+        (option_map placed key.entry) }
 {
     match (encrypted, key) {
         (Some(_), Some(_)) => Err(refused(Reason::BadConfirmation, cnf)),
@@ -85,7 +88,8 @@ fn confirmed_key<'a>(
 
 /// The identifier of the key, if present.
 fn confirmed_kid<'a>(value: Option<ItemRef<'a>>) -> Result<Option<&'a [u8]>, Refusal>
-    ensures { seen_by (option_map contents) result ≡ spec.confirmed_kid (option_map placed value.entry) }
+    ensures { seen_by (option_map contents) result
+        ≡ spec.confirmed_kid (option_map placed value.entry) }
 {
     match value {
         Some(value) => match value.as_bytes() {

@@ -73,7 +73,8 @@ impl Policy<'_> {
 
     /// Whether the policy has a list of text strings, and none of those of the audience is in it.
     fn is_for_others(&self, texts: Auds<'_>) -> bool
-        ensures { result ≡ spec.is_for_others (policy_value self.entry.now) (texts_left texts.entry) }
+        ensures { result ≡ spec.is_for_others (policy_value self.entry.now)
+            (texts_left texts.entry) }
     {
         match self.audience {
             Audience::Mine(mine) => !names_one(texts, mine),
@@ -85,7 +86,8 @@ impl Policy<'_> {
 impl Claims<'_> {
     /// Refuses a token that has expired.
     fn not_expired(&self, policy: &Policy<'_>) -> Result<(), Refusal>
-        ensures { result ≡ spec.not_expired (policy_value policy.entry.now) (claims_value self.now) }
+        ensures { result ≡ spec.not_expired (policy_value policy.entry.now)
+            (claims_value self.now) }
     {
         let Some(value) = self.checked.exp else {
             return Ok(());
@@ -111,7 +113,8 @@ impl Claims<'_> {
 
     /// Refuses a token that is for others.
     fn not_for_others(&self, policy: &Policy<'_>) -> Result<(), Refusal>
-        ensures { result ≡ spec.not_for_others (policy_value policy.entry.now) (claims_value self.now) }
+        ensures { result ≡ spec.not_for_others (policy_value policy.entry.now)
+            (claims_value self.now) }
     {
         match self.checked.aud {
             Some(value) if policy.is_for_others(Auds::of(&value)) => {

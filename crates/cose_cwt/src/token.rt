@@ -40,7 +40,8 @@ fn admitted_claims<'a>(
     policy: &Policy<'_>,
 ) -> Result<Claims<'a>, Refusal>
     requires { depth ≤ 32 }
-    ensures { seen_by claims_value result ≡ admitted_claims_of depth (policy_value policy.entry.now) payload.entry.now }
+    ensures { seen_by claims_value result ≡ admitted_claims_of depth (policy_value policy.entry.now)
+        payload.entry.now }
 {
     let claims = Claims::read(payload, depth)?;
     claims.admit(policy)?;
@@ -55,7 +56,8 @@ fn claims_after<'a>(
     policy: &Policy<'_>,
 ) -> Result<Claims<'a>, CwtStop>
     requires { depth ≤ 32 }
-    ensures { claims_seen result ≡ token_of depth (policy_value policy.entry.now) verdict payload.entry.now }
+    ensures { claims_seen result
+        ≡ token_of depth (policy_value policy.entry.now) verdict payload.entry.now }
 {
     match verdict {
         Ok(Verdict::Authentic { .. }) => {
@@ -105,14 +107,20 @@ pub fn verify_cwt<
     // The bytes that were taken, what the verifier's getters give of them, the verdict that is kept, the payload that
     // the store holds, and the result for the token by these.
     ensures run { (setting : Setting) → HasTaken (to_verify setting) [] [] verifier.old →
-        IsRun setting (E.decides ec.now) (policy_value policy.entry.now) (I.to_come intake.old) (I.to_come intake.new) (I.ended intake.new) verifier.new (claims_seen result) }
+        IsRun setting (E.decides ec.now) (policy_value policy.entry.now) (I.to_come intake.old)
+        (I.to_come intake.new) (I.ended intake.new) verifier.new (claims_seen result) }
     // Where the intake's bytes are known to the contract, the result is that of all of them.
-    ensures token { (setting : Setting) (bytes : List ℕ) → HasTaken (to_verify setting) [] [] verifier.old → I.to_come intake.old ≡ Some bytes →
-        UnlessStopped (claims_seen result) (IsToken H D setting (E.decides ec.now) (policy_value policy.entry.now) bytes (claims_seen result)) }
+    ensures token { (setting : Setting) (bytes : List ℕ)
+        → HasTaken (to_verify setting) [] [] verifier.old → I.to_come intake.old ≡ Some bytes →
+        UnlessStopped (claims_seen result)
+        (IsToken H D setting (E.decides ec.now) (policy_value policy.entry.now) bytes
+        (claims_seen result)) }
     // A verdict or stop that was kept is answered again.
     ensures again { (answer : Result Verdict Stop) → kept_answer verifier.old ≡ Some answer →
-        (claims_seen result ≡ token_of D (policy_value policy.entry.now) answer []) × (verifier.new ≡ verifier.old) × (intake.new ≡ intake.old) }
-    ensures stopped { (claims_seen result ≡ Err (CwtStop.Stopped Stop.Again)) ↔ (is_stopped verifier.old ≡ true) }
+        (claims_seen result ≡ token_of D (policy_value policy.entry.now) answer [])
+        × (verifier.new ≡ verifier.old) × (intake.new ≡ intake.old) }
+    ensures stopped { (claims_seen result ≡ Err (CwtStop.Stopped Stop.Again))
+        ↔ (is_stopped verifier.old ≡ true) }
     ensures inspects { is_inspecting verifier.new ≡ false }
     ensures attached { is_detached verifier.new ≡ false }
     ensures context { (setting : Setting) → HasTaken (to_verify setting) [] [] verifier.old
@@ -120,15 +128,17 @@ pub fn verify_cwt<
 
     // The place of a refusal of the claims is within the store's length, for any verifier. In a run it is in the
     // payload, or at its end.
-    ensures within { (refusal : Refusal) → claims_seen result ≡ Err (CwtStop.Claims refusal) → refusal.place ≤ L }
+    ensures within { (refusal : Refusal) → claims_seen result ≡ Err (CwtStop.Claims refusal)
+        → refusal.place ≤ L }
 
     // The intake has failed exactly where it had failed before, or where this call stops for it. The call never stops
     // for the store.
-    ensures intake_failure { I.has_failed intake.new ≡ (I.has_failed intake.old || is_for_intake (stop_in (claims_seen result))) }
+    ensures intake_failure { I.has_failed intake.new
+        ≡ (I.has_failed intake.old || is_for_intake (stop_in (claims_seen result))) }
     ensures store_suffices { is_for_store (stop_in (claims_seen result)) ≡ false }
     // Where an answer was kept, the call doesn't stop for the intake.
-    ensures again_unfailed { (answer : Result Verdict Stop) → kept_answer verifier.old ≡ Some answer →
-        is_for_intake (stop_in (claims_seen result)) ≡ false }
+    ensures again_unfailed { (answer : Result Verdict Stop) → kept_answer verifier.old ≡ Some answer
+        → is_for_intake (stop_in (claims_seen result)) ≡ false }
 {
     // Laws that the proof cites: a verdict is the same when bytes follow, and the places of refusals of claims.
     settled_stays();

@@ -9,7 +9,8 @@ use arrayvec::ArrayVec;
 
 /// The head that these first bytes of an item are, or `None` where it is incomplete.
 fn head_so_far(first: &[u8], room: usize) -> Result<Option<Head>, Reason>
-    requires { (half : List ℕ) × (byte : ℕ) × (first.now ≡ half ++ byte ∷ []) × (is_half half ≡ true) × (length half ≤ room) }
+    requires { (half : List ℕ) × (byte : ℕ) × (first.now ≡ half ++ byte ∷ [])
+        × (is_half half ≡ true) × (length half ≤ room) }
     ensures { HeadSoFar first.now room result }
 {
     if room < first.len() {

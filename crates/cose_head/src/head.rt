@@ -99,7 +99,8 @@ pub fn parse_head(bytes: &[u8]) -> HeadStep
     ensures used_there { IfGot result (λ head n. n ≤ length bytes.now) }
     ensures used_fits { IfGot result (λ head n. n ≤ 9) }
     // The byte that completes a head is its last.
-    ensures last { (front : List ℕ) (byte : ℕ) → bytes.now ≡ front ++ byte ∷ [] → IsMore (bare_head front)
+    ensures last { (front : List ℕ) (byte : ℕ) → bytes.now ≡ front ++ byte ∷ []
+        → IsMore (bare_head front)
         → IfGot result (λ head n. n ≡ length bytes.now) }
 {
     let [initial, rest @ ..] = bytes else {

@@ -69,7 +69,8 @@ fn string_at(
     place: u64,
 ) -> Result<Span, Refusal>
     requires { place + length bytes.now < 2 ^ 64 }
-    ensures exact { let l = left_of bytes.now room place in span_found l result ≡ nesting (string start announced l) }
+    ensures exact { let l = left_of bytes.now room place in
+        span_found l result ≡ nesting (string start announced l) }
     ensures there { IfOk result (λ span. span.length ≤ length bytes.now) }
     ensures fits { IfOk result (λ span. span.length ≤ room) }
     ensures flat { IfOk result (λ span. span.depth ≡ 0) }
@@ -116,7 +117,8 @@ fn items_at(
 ) -> Result<Span, Refusal>
     requires in_range { place + length bytes.now < 2 ^ 64 }
     requires shallow { depth < 32 }
-    ensures exact { let l = left_of bytes.now room place in span_found l result ≡ nesting_all (read_all (read depth) count l) }
+    ensures exact { let l = left_of bytes.now room place in
+        span_found l result ≡ nesting_all (read_all (read depth) count l) }
     ensures there { IfOk result (λ span. span.length ≤ length bytes.now) }
     ensures fits { IfOk result (λ span. span.length ≤ room) }
     ensures nested { IfOk result (λ span. span.depth ≤ depth) }
@@ -153,7 +155,8 @@ fn begins_with_small_integer(bytes: &[u8]) -> bool
 pub(crate) fn item_at(bytes: &[u8], room: usize, place: u64, depth: usize) -> Result<Span, Refusal>
     requires in_range { place + length bytes.now < 2 ^ 64 }
     requires shallow { depth ≤ 32 }
-    ensures exact { let l = left_of bytes.now room place in span_found l result ≡ nesting (read depth l) }
+    ensures exact { let l = left_of bytes.now room place in
+        span_found l result ≡ nesting (read depth l) }
     ensures some { IfOk result (λ span. 0 < span.length) }
     ensures there { IfOk result (λ span. span.length ≤ length bytes.now) }
     ensures fits { IfOk result (λ span. span.length ≤ room) }
@@ -173,7 +176,8 @@ pub(crate) fn item_at(bytes: &[u8], room: usize, place: u64, depth: usize) -> Re
 fn any_item_at(bytes: &[u8], room: usize, place: u64, depth: usize) -> Result<Span, Refusal>
     requires in_range { place + length bytes.now < 2 ^ 64 }
     requires shallow { depth ≤ 32 }
-    ensures exact { let l = left_of bytes.now room place in span_found l result ≡ nesting (read depth l) }
+    ensures exact { let l = left_of bytes.now room place in
+        span_found l result ≡ nesting (read depth l) }
     ensures some { IfOk result (λ span. 0 < span.length) }
     ensures there { IfOk result (λ span. span.length ≤ length bytes.now) }
     ensures fits { IfOk result (λ span. span.length ≤ room) }
@@ -213,7 +217,8 @@ pub fn read_item(bytes: &[u8], room: usize, depth: usize) -> Result<Span, Refusa
     requires { depth ≤ 32 }
     // An `Ok` spans exactly the bytes that spell an item.
     ensures spelled { IfOk result (SpansItem bytes.now) }
-    ensures complete { (content : Item) (n : ℕ) → n ≤ length bytes.now → Spells (take n bytes.now) content → n ≤ room → depth_of content ≤ depth →
+    ensures complete { (content : Item) (n : ℕ) → n ≤ length bytes.now
+        → Spells (take n bytes.now) content → n ≤ room → depth_of content ≤ depth →
         result ≡ Ok (record { length = n; depth = depth_of content }) }
 
     // The length and the nesting of the item that `read` gives, or its refusal.

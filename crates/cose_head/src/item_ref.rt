@@ -65,8 +65,10 @@ impl<'a> ItemRef<'a> {
     pub fn read(bytes: &'a [u8], at: u64, depth: usize) -> Result<ItemRef<'a>, Refusal>
         requires shallow { depth ≤ 32 }
         requires in_range { at + length bytes.now < 2 ^ 64 }
-        ensures exact { placed_read result ≡ whole depth (record { bytes = bytes.now; place = at }) }
-        ensures same { IfOk result (λ item. placed item ≡ record { bytes = bytes.now; place = at }) }
+        ensures exact { placed_read result
+            ≡ whole depth (record { bytes = bytes.now; place = at }) }
+        ensures same { IfOk result (λ item. placed item
+            ≡ record { bytes = bytes.now; place = at }) }
         ensures from { IfErr result (λ refusal. at ≤ refusal.place) }
         ensures within { IfErr result (λ refusal. refusal.place ≤ at + length bytes.now) }
     {

@@ -51,7 +51,8 @@ impl<'a> Items<'a> {
     pub fn new(bytes: &'a [u8], at: u64) -> Option<Items<'a>>
         requires one_item { is_one_item bytes.now ≡ true }
         requires in_range { at + length bytes.now < 2 ^ 64 }
-        ensures { option_map items_left result ≡ children_if_any (record { bytes = bytes.now; place = at }) }
+        ensures { option_map items_left result
+            ≡ children_if_any (record { bytes = bytes.now; place = at }) }
     {
         match parse_head(bytes) {
             HeadStep::Got(head, used) => {

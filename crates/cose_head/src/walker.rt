@@ -55,7 +55,8 @@ fn follows_head(head: Head) -> Follows
 /// items that have none. Returns whether there is such a child.
 fn next_child<const D: usize>(counts: &mut ArrayVec<usize, D>) -> bool
     ensures { (l : Left) → finish D counts.old.items (ends l) ≡
-        (if result then finish D counts.new.items (walk (D - length counts.new.items) l) else ends l) }
+        (if result then finish D counts.new.items (walk (D - length counts.new.items) l)
+        else ends l) }
 {
     // The length is read for its bound: at most D.
     let _open = counts.len();
@@ -162,7 +163,8 @@ impl<const D: usize> Walker<D> {
     /// the same, and nothing changes.
     pub fn put(&mut self, byte: u8) -> Step
         ensures answer { (room : ℕ) (bytes : List ℕ) → HasPut room bytes self.old
-            → Answers room (bytes ++ byte ∷ []) result (read D (left_of (bytes ++ byte ∷ []) room 0)) }
+            → Answers room (bytes ++ byte ∷ []) result
+            (read D (left_of (bytes ++ byte ∷ []) room 0)) }
         ensures put { (room : ℕ) (bytes : List ℕ) → HasPut room bytes self.old
             → result ≡ Step.Going → HasPut room (bytes ++ byte ∷ []) self.new }
         ensures among { (room : ℕ) (bytes : List ℕ) → HasPut room bytes self.old
@@ -190,9 +192,11 @@ impl<const D: usize> Walker<D> {
             → result ≡ min (open_in D (left_of bytes room 0)).content (length piece.now) }
         ensures fits { result ≤ length piece.now }
         ensures answer { (room : ℕ) (bytes : List ℕ) → HasPut room bytes self.old → 0 < result
-            → Answers room (bytes ++ take result piece.now) (last_step self.new) (read D (left_of (bytes ++ take result piece.now) room 0)) }
+            → Answers room (bytes ++ take result piece.now) (last_step self.new)
+            (read D (left_of (bytes ++ take result piece.now) room 0)) }
         ensures put { (room : ℕ) (bytes : List ℕ) → HasPut room bytes self.old
-            → last_step self.new ≡ Step.Going → HasPut room (bytes ++ take result piece.now) self.new }
+            → last_step self.new ≡ Step.Going
+            → HasPut room (bytes ++ take result piece.now) self.new }
         ensures among { (room : ℕ) (bytes : List ℕ) → HasPut room bytes self.old → 0 < result
             → StandsAmong room (bytes ++ take result piece.now) (last_step self.new) }
         ensures none { result ≡ 0 → self.new ≡ self.old }
@@ -228,8 +232,10 @@ impl<const D: usize> Walker<D> {
     /// Takes a byte of the open string or of the head.
     fn advance(&mut self, byte: u8) -> Result<Progress, Reason>
         ensures leads { Leads (λ bytes. resume self.old (byte ∷ bytes)) result self.new }
-        ensures taken { OnOk result (self.new.place + length self.new.half.items ≡ self.old.place + length self.old.half.items + 1) }
-        ensures left { OnOk result (self.new.place + self.new.room ≡ self.old.place + self.old.room) }
+        ensures taken { OnOk result (self.new.place + length self.new.half.items
+            ≡ self.old.place + length self.old.half.items + 1) }
+        ensures left { OnOk result (self.new.place + self.new.room
+            ≡ self.old.place + self.old.room) }
         ensures among { self.new.place ≤ self.old.place + length self.old.half.items + 1 }
     {
         if self.string > 0 {
@@ -245,7 +251,8 @@ impl<const D: usize> Walker<D> {
     fn advance_content(&mut self, count: usize) -> Result<Progress, Reason>
         requires some { 0 < count }
         requires fits { count ≤ self.old.string }
-        ensures leads { (piece : List ℕ) → length piece ≡ count → Leads (λ bytes. resume self.old (piece ++ bytes)) result self.new }
+        ensures leads { (piece : List ℕ) → length piece ≡ count
+            → Leads (λ bytes. resume self.old (piece ++ bytes)) result self.new }
         ensures stands { Stands (self.old.room - count) (self.old.place + count) self.new }
     {
         self.string -= count;
@@ -262,8 +269,10 @@ impl<const D: usize> Walker<D> {
         requires half { length self.old.half.items ≡ 0 }
         requires fits { head.width ≤ self.old.room }
         ensures leads { (first : List ℕ) → IsHeadAt first self.old.room self.old.place head
-            → Leads (λ bytes. go_on D self.old.counts.items first 0 (left_at self.old bytes)) result self.new }
-        ensures stands { OnOk result (Stands (self.old.room - head.width) (self.old.place + head.width) self.new) }
+            → Leads (λ bytes. go_on D self.old.counts.items first 0 (left_at self.old bytes)) result
+            self.new }
+        ensures stands { OnOk result
+            (Stands (self.old.room - head.width) (self.old.place + head.width) self.new) }
         ensures among { self.new.place ≤ self.old.place + head.width }
     {
         let width = usize::from(head.width);
@@ -298,7 +307,8 @@ impl<const D: usize> Walker<D> {
         requires string { self.old.string ≡ 0 }
         requires half { length self.old.half.items ≡ 0 }
         requires fits { count ≤ self.old.room }
-        ensures leads { Leads (λ bytes. finish D self.old.counts.items (walk_content count (left_at self.old bytes))) result self.new }
+        ensures leads { Leads (λ bytes. finish D self.old.counts.items
+            (walk_content count (left_at self.old bytes))) result self.new }
         ensures stands { Stands self.old.room self.old.place self.new }
     {
         if count == 0 {
@@ -314,7 +324,8 @@ impl<const D: usize> Walker<D> {
         requires half { length self.old.half.items ≡ 0 }
         requires nesting { length self.old.counts.items < D }
         ensures leads { let inner = D - length self.old.counts.items - 1 in
-            Leads (λ bytes. finish D self.old.counts.items (walk_all inner count (left_at self.old bytes))) result self.new }
+            Leads (λ bytes. finish D self.old.counts.items
+            (walk_all inner count (left_at self.old bytes))) result self.new }
         ensures stands { Stands self.old.room self.old.place self.new }
     {
         self.counts.push(count);
@@ -325,7 +336,8 @@ impl<const D: usize> Walker<D> {
     fn end_item(&mut self) -> Result<Progress, Reason>
         requires string { self.old.string ≡ 0 }
         requires half { length self.old.half.items ≡ 0 }
-        ensures leads { Leads (λ bytes. finish D self.old.counts.items (ends (left_at self.old bytes))) result self.new }
+        ensures leads { Leads (λ bytes. finish D self.old.counts.items
+            (ends (left_at self.old bytes))) result self.new }
         ensures stands { Stands self.old.room self.old.place self.new }
     {
         if !next_child(&mut self.counts) {

@@ -30,7 +30,8 @@ impl Hasher {
 
     /// Appends a piece to the message.
     pub(crate) fn update(&mut self, piece: &[u8])
-        ensures { (hash : Hash) (message : List ℕ) → Holds hash self.old message → Holds hash self.new (message ++ piece.now) }
+        ensures { (hash : Hash) (message : List ℕ) → Holds hash self.old message
+            → Holds hash self.new (message ++ piece.now) }
     {
         match self {
             Hasher::Sha256(hasher) => hasher.update(piece),
@@ -41,7 +42,8 @@ impl Hasher {
 
     /// The digest of the message.
     pub(crate) fn finish(self) -> ArrayVec<u8, 64>
-        ensures { (hash : Hash) (message : List ℕ) → Holds hash self message → result.items ≡ (function_of hash).digest message }
+        ensures { (hash : Hash) (message : List ℕ) → Holds hash self message
+            → result.items ≡ (function_of hash).digest message }
     {
         let mut digest = ArrayVec::new();
         // No digest is longer than 64 bytes.

@@ -55,7 +55,8 @@ pub fn structure_front(
     payload_length: u64,
     into: &mut Running,
 )
-    ensures appended { Appends into.old into.new (spec.structure_front kind protected.now aad.now payload_length) }
+    ensures appended { Appends into.old into.new
+        (spec.structure_front kind protected.now aad.now payload_length) }
 
     // With any payload of that length after it, this is the structure.
     ensures front { (payload : List ℕ) → length payload ≡ payload_length

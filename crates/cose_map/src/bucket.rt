@@ -45,7 +45,8 @@ impl<'a> Bucket<'a> {
     fn checked(bytes: &'a [u8], at: u64, depth: usize) -> Result<Pairs<'a>, Refusal>
         requires shallow { depth ≤ 32 }
         requires in_range { at + length bytes.now < 2 ^ 64 }
-        ensures exact { seen_by pairs_left result ≡ bucket_of depth (record { bytes = bytes.now; place = at }) }
+        ensures exact { seen_by pairs_left result
+            ≡ bucket_of depth (record { bytes = bytes.now; place = at }) }
         ensures within { IfErr result (λ refusal. refusal.place ≤ at + length bytes.now) }
     {
         if bytes.is_empty() {
@@ -74,7 +75,8 @@ impl<'a> Bucket<'a> {
     pub fn read(bytes: &'a [u8], at: u64, depth: usize) -> Result<Bucket<'a>, Refusal>
         requires shallow { depth ≤ 32 }
         requires in_range { at + length bytes.now < 2 ^ 64 }
-        ensures exact { seen_by bucket_pairs result ≡ bucket_of depth (record { bytes = bytes.now; place = at }) }
+        ensures exact { seen_by bucket_pairs result
+            ≡ bucket_of depth (record { bytes = bytes.now; place = at }) }
         ensures within { IfErr result (λ refusal. refusal.place ≤ at + length bytes.now) }
     {
         let pairs = Bucket::checked(bytes, at, depth)?;
@@ -97,7 +99,8 @@ impl<'a> Bucket<'a> {
     pub fn again(bytes: &'a [u8], at: u64, depth: usize) -> Result<Bucket<'a>, Refusal>
         requires shallow { depth ≤ 32 }
         requires in_range { at + length bytes.now < 2 ^ 64 }
-        ensures { (pairs : List Pair) → bucket_of depth (record { bytes = bytes.now; place = at }) ≡ Ok pairs
+        ensures { (pairs : List Pair) → bucket_of depth (record { bytes = bytes.now; place = at })
+            ≡ Ok pairs
             → seen_by bucket_pairs result ≡ Ok pairs }
     {
         let items = if bytes.is_empty() {
@@ -110,7 +113,8 @@ impl<'a> Bucket<'a> {
 
     /// The value of a label.
     pub fn get(&self, label: &Label<'_>) -> Option<ItemRef<'a>>
-        ensures { option_map placed result ≡ value_of (label_value label.now) (bucket_pairs self.now) }
+        ensures { option_map placed result
+            ≡ value_of (label_value label.now) (bucket_pairs self.now) }
     {
         self.pairs.get(label)
     }

@@ -65,7 +65,8 @@ impl<'a> Key<'a> {
     #[tactic(auto, using(crate::proofs::lemmas::Laws::Inside::seen_inside))]
     pub fn read(bytes: &'a [u8], at: u64) -> Result<Key<'a>, Refusal>
         requires { at + length bytes.now < 2 ^ 64 }
-        ensures exact { seen_by key_value result ≡ key_of (record { bytes = bytes.now; place = at }) }
+        ensures exact { seen_by key_value result
+            ≡ key_of (record { bytes = bytes.now; place = at }) }
         ensures within { IfErr result (λ refusal. refusal.place ≤ at + length bytes.now) }
     {
         // The law that the proof of `within` cites.

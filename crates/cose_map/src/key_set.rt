@@ -69,7 +69,8 @@ impl<'a> KeySet<'a> {
     /// where the item isn't a usable key.
     #[tactic(auto, using(crate::proofs::lemmas::KeySet::key_alone))]
     pub fn of_key(item: ItemRef<'a>) -> Option<KeySet<'a>>
-        ensures { option_map keys result ≡ option_map (λ key. key ∷ []) (usable_key (placed item.entry)) }
+        ensures { option_map keys result
+            ≡ option_map (λ key. key ∷ []) (usable_key (placed item.entry)) }
     {
         usable(&item)?;
         Some(KeySet { set: item })

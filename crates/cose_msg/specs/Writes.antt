@@ -22,8 +22,9 @@ pub record Seen : Type 0 where
   pub has_failed : Bool
   pub sure : ℕ
 
-abbrev pub seen : Option (List ℕ) → Bool → ℕ → Seen
-seen contents has_failed sure = record { contents = contents; has_failed = has_failed; sure = sure }
+-- The same by the functions with which a contract sees one.
+abbrev pub seen : {S : Type 0} → (S → Option (List ℕ)) → (S → Bool) → (S → ℕ) → S → Seen
+seen contents has_failed sure sink = record { contents = contents sink; has_failed = has_failed sink; sure = sure sink }
 
 abbrev pub Puts : Seen → Seen → Result ℕ MakeFault → List ℕ → Type 0
 Puts old new (Ok n) bytes = Appends old.contents new.contents bytes
@@ -36,6 +37,10 @@ pub record Writes (old new : Seen) (result : Result ℕ MakeFault) (bytes : List
   pub failure : new.has_failed ≡ marks old.has_failed result
   pub promised : length bytes ≤ old.sure → IsOk result
   pub promise : OnOk result (old.sure ≤ new.sure + length bytes)
+
+-- The same of a sink before and after a call, as it is seen.
+abbrev pub WritesTo : {S : Type 0} → (S → Seen) → S → S → Result ℕ MakeFault → List ℕ → Type 0
+WritesTo view old new result bytes = Writes (view old) (view new) result bytes
 
 -- What precedes the payload's content.
 abbrev pub front_of : List ℕ → Option (List ℕ) → ℕ → List ℕ

@@ -14,8 +14,10 @@ pub(crate) fn take_bare_head_byte(head: &mut ArrayVec<u8, 9>, byte: u8) -> HeadS
     ensures short { array_vec_len head.new < 9 }
     ensures answer { result ≡ bare_head (head.old.items ++ byte ∷ []) }
     ensures kept { head.new.items ≡ kept_of result (head.old.items ++ byte ∷ []) }
-    ensures stays { IsWhole result → (more : List ℕ) → bare_head ((head.old.items ++ byte ∷ []) ++ more) ≡ result }
-    ensures last { IsMore (bare_head head.old.items) → IfGot result (λ h used. used ≡ length (head.old.items ++ byte ∷ [])) }
+    ensures stays { IsWhole result → (more : List ℕ)
+        → bare_head ((head.old.items ++ byte ∷ []) ++ more) ≡ result }
+    ensures last { IsMore (bare_head head.old.items)
+        → IfGot result (λ h used. used ≡ length (head.old.items ++ byte ∷ [])) }
     ensures used { IfGot result (λ h used. used ≤ 9) }
 {
     head.push(byte);

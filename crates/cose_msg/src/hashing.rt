@@ -25,7 +25,8 @@ impl Hashing {
 
     /// The MAC or the digest of the empty message, as the algorithm requires.
     pub(crate) fn begin(alg: Alg, secret: &[u8]) -> Hashing
-        ensures { (found : Found) → found.alg ≡ alg → secret_of found.key.material ≡ secret.now → Hashes result found [] }
+        ensures { (found : Found) → found.alg ≡ alg → secret_of found.key.material ≡ secret.now
+            → Hashes result found [] }
     {
         if alg.is_mac() {
             return Hashing::Running(Running::hmac(alg, secret));
@@ -35,7 +36,8 @@ impl Hashing {
 
     /// Appends a piece.
     pub(crate) fn update(&mut self, piece: &[u8])
-        ensures { (found : Found) (message : List ℕ) → Hashes self.old found message → Hashes self.new found (message ++ piece.now) }
+        ensures { (found : Found) (message : List ℕ) → Hashes self.old found message
+            → Hashes self.new found (message ++ piece.now) }
     {
         match self {
             Hashing::Running(running) => running.update(piece),
@@ -46,10 +48,13 @@ impl Hashing {
     /// Appends what precedes the payload's content in the structure.
     pub(crate) fn front(&mut self, kind: Kind, protected: &[u8], aad: &[u8], payload_length: u64)
         ensures appended { (found : Found) (message : List ℕ) → Hashes self.old found message
-            → Hashes self.new found (message ++ structure_front kind protected.now aad.now payload_length) }
+            → Hashes self.new found
+            (message ++ structure_front kind protected.now aad.now payload_length) }
         // Any payload of that length completes it.
-        ensures front { (found : Found) (message payload : List ℕ) → Hashes self.old found message → length payload ≡ payload_length
-            → structure_front kind protected.now aad.now payload_length ++ payload ≡ structure_of kind protected.now aad.now payload }
+        ensures front { (found : Found) (message payload : List ℕ) → Hashes self.old found message
+            → length payload ≡ payload_length
+            → structure_front kind protected.now aad.now payload_length ++ payload
+            ≡ structure_of kind protected.now aad.now payload }
     {
         match self {
             Hashing::Running(running) => structure_front(
@@ -65,7 +70,8 @@ impl Hashing {
 
     /// Replaces what was fed by its MAC or digest.
     pub(crate) fn finish(&mut self)
-        ensures { (found : Found) (message : List ℕ) → Hashes self.old found message → result_of self.new ≡ authenticator found message }
+        ensures { (found : Found) (message : List ℕ) → Hashes self.old found message
+            → result_of self.new ≡ authenticator found message }
     {
         match mem::replace(self, Hashing::Nothing) {
             Hashing::Running(running) => {

@@ -69,8 +69,10 @@ impl<'a> Intake for SliceIntake<'a> {
     fn take(&mut self, into: &mut [u8]) -> Result<usize, IntakeFault>
         requires { 0 < length into.old }
         ensures within { IfOk result (λ n. n ≤ length into.new) }
-        ensures bytes { Takes (⟦<SliceIntake<'a> as Intake>⟧.to_come self.old) (⟦<SliceIntake<'a> as Intake>⟧.to_come self.new) result into.new }
-        ensures failure { ⟦<SliceIntake<'a> as Intake>⟧.has_failed self.new ≡ marks (⟦<SliceIntake<'a> as Intake>⟧.has_failed self.old) result }
+        ensures bytes { Takes (⟦<SliceIntake<'a> as Intake>⟧.to_come self.old)
+            (⟦<SliceIntake<'a> as Intake>⟧.to_come self.new) result into.new }
+        ensures failure { ⟦<SliceIntake<'a> as Intake>⟧.has_failed self.new
+            ≡ marks (⟦<SliceIntake<'a> as Intake>⟧.has_failed self.old) result }
         ensures end { ⟦<SliceIntake<'a> as Intake>⟧.ended self.new ≡ is_end result }
         // It gives no more than its cut in a call, and never fails.
         ensures cut { IfOk result (λ n. n ≤ cut_of self.old) }

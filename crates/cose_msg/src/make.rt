@@ -7,7 +7,7 @@ ghost use Rattle.cose_head.specs.Shortest.{shortest};
 ghost use Rattle.cose_mac.specs.Structure.{encoded_string};
 ghost use Rattle.cose_map.specs.Key.View.{contents, key_value};
 ghost use Rattle.cose_msg.specs.Make.{Makes, answer_over, argument_fault, is_long_kid, is_too_long as is_too_long_for, made_under, make_fault, stops_for_intake, stops_for_sink};
-ghost use Rattle.cose_msg.specs.Writes.{Streams, Writes, front_of, seen};
+ghost use Rattle.cose_msg.specs.Writes.{Streams, WritesTo, front_of, seen};
 ghost use Rattle.cose_msg.specs.Making.{allows_making as allows_making_by, fits_making, protected_made, unprotected_made};
 ghost use Rattle.cose_msg.specs.Message.{secret_of};
 
@@ -64,7 +64,9 @@ fn allows_making(key: &Key, alg: Alg) -> bool
 
 /// The secret of a key that makes MACs by this algorithm.
 fn secret_for<'a>(key: &Key<'a>, alg: Alg) -> Option<&'a [u8]>
-    ensures { option_map contents result ≡ (if fits_making (key_value key.now) alg then Some (secret_of (key_value key.now).material) else None) }
+    ensures { option_map contents result
+        ≡ (if fits_making (key_value key.now) alg then Some (secret_of (key_value key.now).material)
+        else None) }
 {
     match key.material {
         Material::Symmetric(secret) if alg.is_mac() && allows_making(key, alg) => Some(secret),
@@ -89,7 +91,8 @@ fn protected_header(alg: Alg) -> [u8; 3]
 
 /// Puts some bytes, perhaps none. It returns their number, as do the functions below.
 fn put_bytes<S: Sink>(sink: &mut S, bytes: &[u8]) -> Result<u64, MakeFault>
-    ensures written { Writes (seen (S.contents sink.old) (S.has_failed sink.old) (S.sure sink.old)) (seen (S.contents sink.new) (S.has_failed sink.new) (S.sure sink.new)) result bytes.now }
+    ensures written { WritesTo (seen S.contents S.has_failed S.sure) sink.old sink.new result
+        bytes.now }
 {
     if !bytes.is_empty() && sink.put(bytes).is_err() {
         return Err(MakeFault::Sink);
@@ -100,7 +103,8 @@ fn put_bytes<S: Sink>(sink: &mut S, bytes: &[u8]) -> Result<u64, MakeFault>
 /// Puts the shortest head of this major type and argument.
 fn put_head<S: Sink>(sink: &mut S, major: u8, argument: u64) -> Result<u64, MakeFault>
     requires { major ≤ 6 }
-    ensures written { Writes (seen (S.contents sink.old) (S.has_failed sink.old) (S.sure sink.old)) (seen (S.contents sink.new) (S.has_failed sink.new) (S.sure sink.new)) result (shortest_head major argument) }
+    ensures written { WritesTo (seen S.contents S.has_failed S.sure) sink.old sink.new result
+        (shortest_head major argument) }
     ensures short { IfOk result (λ n. n ≤ 9) }
 {
     put_bytes(sink, &write_head(major, argument))
@@ -109,7 +113,8 @@ fn put_head<S: Sink>(sink: &mut S, major: u8, argument: u64) -> Result<u64, Make
 /// Puts a byte string.
 fn put_byte_string<S: Sink>(sink: &mut S, content: &[u8]) -> Result<u64, MakeFault>
     requires { length_of content.now ≤ 65535 }
-    ensures written { Writes (seen (S.contents sink.old) (S.has_failed sink.old) (S.sure sink.old)) (seen (S.contents sink.new) (S.has_failed sink.new) (S.sure sink.new)) result (encoded_string 2 content.now) }
+    ensures written { WritesTo (seen S.contents S.has_failed S.sure) sink.old sink.new result
+        (encoded_string 2 content.now) }
     ensures short { IfOk result (λ n. n ≤ 9 + length_of content.now) }
 {
     let head = put_head(sink, BYTE_STRING, content.len() as u64)?;
@@ -120,7 +125,8 @@ fn put_byte_string<S: Sink>(sink: &mut S, content: &[u8]) -> Result<u64, MakeFau
 /// Puts the unprotected header: {4: kid}, or an empty one.
 fn put_unprotected<S: Sink>(sink: &mut S, kid: Option<&[u8]>) -> Result<u64, MakeFault>
     requires { is_long_kid (option_map contents kid) ≡ false }
-    ensures written { Writes (seen (S.contents sink.old) (S.has_failed sink.old) (S.sure sink.old)) (seen (S.contents sink.new) (S.has_failed sink.new) (S.sure sink.new)) result (shortest (unprotected_made (option_map contents kid.entry))) }
+    ensures written { WritesTo (seen S.contents S.has_failed S.sure) sink.old sink.new result
+        (shortest (unprotected_made (option_map contents kid.entry))) }
     ensures short { IfOk result (λ n. n ≤ 282) }
 {
     match kid {
@@ -143,7 +149,8 @@ fn put_front<S: Sink>(
 ) -> Result<u64, MakeFault>
     requires protected { length_of protected.now ≡ 3 }
     requires kid { is_long_kid (option_map contents kid) ≡ false }
-    ensures written { Writes (seen (S.contents sink.old) (S.has_failed sink.old) (S.sure sink.old)) (seen (S.contents sink.new) (S.has_failed sink.new) (S.sure sink.new)) result (front_of protected.now (option_map contents kid.entry) length) }
+    ensures written { WritesTo (seen S.contents S.has_failed S.sure) sink.old sink.new result
+        (front_of protected.now (option_map contents kid.entry) length) }
     ensures short { IfOk result (λ n. n ≤ 321) }
 {
     let tag = put_head(sink, TAG, COSE_MAC0)?;
@@ -163,10 +170,13 @@ fn put_payload<const C: usize, I: Intake, S: Sink>(
 ) -> Result<u64, MakeFault>
     requires some { 1 ≤ C }
     requires limit { C ≤ 65536 }
-    ensures streams { (taken : List ℕ) × Streams length (I.to_come intake.old) (I.to_come intake.new) (I.ended intake.new)
-        (seen (S.contents sink.old) (S.has_failed sink.old) (S.sure sink.old)) (seen (S.contents sink.new) (S.has_failed sink.new) (S.sure sink.new))
+    ensures streams { (taken : List ℕ)
+        × Streams length (I.to_come intake.old) (I.to_come intake.new) (I.ended intake.new)
+        (seen S.contents S.has_failed S.sure sink.old)
+        (seen S.contents S.has_failed S.sure sink.new)
         running.old running.new result taken }
-    ensures intake_failure { I.has_failed intake.new ≡ (I.has_failed intake.old || stops_for_intake result) }
+    ensures intake_failure { I.has_failed intake.new
+        ≡ (I.has_failed intake.old || stops_for_intake result) }
 {
     let mut chunk = [0u8; C];
     let mut left = length;
@@ -210,21 +220,32 @@ pub fn make_mac0<const C: usize, I: Intake, S: Sink>(
     requires some { 1 ≤ C }
     requires limit { C ≤ 65536 }
     // A fault of the arguments is answered before anything is taken or put.
-    ensures fault { argument_fault result ≡ make_fault alg (key_value key.now) (option_map contents kid.entry) aad.now length }
-    ensures untouched { is_some (argument_fault result) ≡ true → (intake.new ≡ intake.old) × (sink.new ≡ sink.old) }
+    ensures fault { argument_fault result
+        ≡ make_fault alg (key_value key.now) (option_map contents kid.entry) aad.now length }
+    ensures untouched { is_some (argument_fault result) ≡ true → (intake.new ≡ intake.old)
+        × (sink.new ≡ sink.old) }
     // Otherwise: what was taken, what the sink got, and what is answered.
-    ensures makes { argument_fault result ≡ None → (taken : List ℕ) × Makes (made_under alg (key_value key.now) (option_map contents kid.entry) aad.now)
-        length (I.to_come intake.old) (I.to_come intake.new) (I.ended intake.new) (S.contents sink.old) (S.contents sink.new) result taken }
+    ensures makes { argument_fault result ≡ None → (taken : List ℕ)
+        × Makes (made_under alg (key_value key.now) (option_map contents kid.entry) aad.now)
+        length (I.to_come intake.old) (I.to_come intake.new) (I.ended intake.new)
+        (S.contents sink.old) (S.contents sink.new) result taken }
     // Where the bytes to come are known to the contract, and neither the intake nor the sink fails.
-    ensures answer { (bytes : List ℕ) → argument_fault result ≡ None → I.to_come intake.old ≡ Some bytes
+    ensures answer { (bytes : List ℕ) → argument_fault result ≡ None
+        → I.to_come intake.old ≡ Some bytes
         → stops_for_intake result ≡ false → stops_for_sink result ≡ false
-        → result ≡ answer_over (made_under alg (key_value key.now) (option_map contents kid.entry) aad.now) length bytes }
+        → result
+        ≡ answer_over (made_under alg (key_value key.now) (option_map contents kid.entry) aad.now)
+        length bytes }
 
     // It stops only for a failure in this call.
-    ensures intake_failure { I.has_failed intake.new ≡ (I.has_failed intake.old || stops_for_intake result) }
-    ensures sink_failure { S.has_failed sink.new ≡ (S.has_failed sink.old || stops_for_sink result) }
+    ensures intake_failure { I.has_failed intake.new
+        ≡ (I.has_failed intake.old || stops_for_intake result) }
+    ensures sink_failure { S.has_failed sink.new
+        ≡ (S.has_failed sink.old || stops_for_sink result) }
     // A sink that is sure of the whole message doesn't stop it.
-    ensures sure { (payload : List ℕ) → length_of payload ≡ length → length_of (made_under alg (key_value key.now) (option_map contents kid.entry) aad.now payload) ≤ S.sure sink.old
+    ensures sure { (payload : List ℕ) → length_of payload ≡ length
+        → length_of (made_under alg (key_value key.now) (option_map contents kid.entry) aad.now
+        payload) ≤ S.sure sink.old
         → stops_for_sink result ≡ false }
 {
     // The law that the proof of `sure` cites.

@@ -48,9 +48,12 @@ pub(crate) fn take_message<'k, const H: usize, const D: usize, K: Keys<'k>, I: I
     ensures once { result ≢ Err Stop.Again }
 
     // It stops only for a failure in this call.
-    ensures intake_failure { I.has_failed intake.new ≡ (I.has_failed intake.old || stops_for_intake result) }
-    ensures sink_failure { S.has_failed sink.new ≡ (S.has_failed sink.old || stops_for_sink result) }
-    ensures sure { (task : Task) (s B : List ℕ) → HasTaken task s B verifier.old → task.setting.payload_limit ≤ S.sure sink.old →
+    ensures intake_failure { I.has_failed intake.new
+        ≡ (I.has_failed intake.old || stops_for_intake result) }
+    ensures sink_failure { S.has_failed sink.new
+        ≡ (S.has_failed sink.old || stops_for_sink result) }
+    ensures sure { (task : Task) (s B : List ℕ) → HasTaken task s B verifier.old
+        → task.setting.payload_limit ≤ S.sure sink.old →
         stops_for_sink result ≡ false }
     // Of a message whose payload is detached nothing goes to the sink.
     ensures beside { (task : Task) (s B : List ℕ) → HasTaken task s B verifier.old
@@ -114,21 +117,30 @@ pub fn verify<
     requires verifies { is_inspecting verifier.old ≡ false }
     requires attached { is_detached verifier.old ≡ false }
     // What was taken, the result, what the sink got, what the verifier gives, and the status of the message.
-    ensures run { (setting : Setting) (s B : List ℕ) → HasTaken (to_verify setting) s B verifier.old →
-        (taken : List ℕ) × Run (verifying H D setting (E.decides ec.now)) decided s B (I.to_come intake.old) (I.to_come intake.new) (I.ended intake.new)
+    ensures run { (setting : Setting) (s B : List ℕ) → HasTaken (to_verify setting) s B verifier.old
+        → (taken : List ℕ)
+        × Run (verifying H D setting (E.decides ec.now)) decided s B (I.to_come intake.old)
+        (I.to_come intake.new) (I.ended intake.new)
         (S.contents sink.old) (S.contents sink.new) result taken
-        × (bytes_taken verifier.new ≡ length (s ++ taken)) × Tells (to_verify setting) (s ++ taken) verifier.new
-        × (status_in verifier.new ≡ status_left result (message (rules_of H D (to_verify setting)) (s ++ taken))) }
+        × (bytes_taken verifier.new ≡ length (s ++ taken))
+        × Tells (to_verify setting) (s ++ taken) verifier.new
+        × (status_in verifier.new
+        ≡ status_left result (message (rules_of H D (to_verify setting)) (s ++ taken))) }
     // (The payload so far, before the call, is that of the bytes so far.)
-    ensures before { (setting : Setting) (s B : List ℕ) → HasTaken (to_verify setting) s B verifier.old → (message (rules_of H D (to_verify setting)) s).told.payload ≡ B }
+    ensures before { (setting : Setting) (s B : List ℕ)
+        → HasTaken (to_verify setting) s B verifier.old
+        → (message (rules_of H D (to_verify setting)) s).told.payload ≡ B }
     // Where the bytes to come are known to the contract, the verdict is that of all of them.
-    ensures answer { (setting : Setting) (s B bytes : List ℕ) → HasTaken (to_verify setting) s B verifier.old → I.to_come intake.old ≡ Some bytes →
-        IfOk result (λ verdict. verdict_of H D setting (E.decides ec.now) (s ++ bytes) ≡ decided verdict) }
+    ensures answer { (setting : Setting) (s B bytes : List ℕ)
+        → HasTaken (to_verify setting) s B verifier.old → I.to_come intake.old ≡ Some bytes →
+        IfOk result (λ verdict. verdict_of H D setting (E.decides ec.now) (s ++ bytes)
+        ≡ decided verdict) }
 
     // The answer is kept, and a kept one is answered again.
     ensures kept { kept_answer verifier.new ≡ Some (answered_again result) }
     ensures again { (answer : Result Verdict Stop) → kept_answer verifier.old ≡ Some answer →
-        (result ≡ answer) × (verifier.new ≡ verifier.old) × (intake.new ≡ intake.old) × (sink.new ≡ sink.old) }
+        (result ≡ answer) × (verifier.new ≡ verifier.old) × (intake.new ≡ intake.old)
+        × (sink.new ≡ sink.old) }
     ensures stopped { (result ≡ Err Stop.Again) ↔ (is_stopped verifier.old ≡ true) }
     ensures inspects { is_inspecting verifier.new ≡ false }
     ensures attached { is_detached verifier.new ≡ false }
@@ -141,10 +153,13 @@ pub fn verify<
     ensures opened { opened verifier.new ≤ D }
 
     // It stops only for a failure in this call.
-    ensures intake_failure { I.has_failed intake.new ≡ (I.has_failed intake.old || stops_for_intake result) }
-    ensures sink_failure { S.has_failed sink.new ≡ (S.has_failed sink.old || stops_for_sink result) }
+    ensures intake_failure { I.has_failed intake.new
+        ≡ (I.has_failed intake.old || stops_for_intake result) }
+    ensures sink_failure { S.has_failed sink.new
+        ≡ (S.has_failed sink.old || stops_for_sink result) }
     // A sink that is sure of every payload doesn't stop it.
-    ensures sure { (setting : Setting) (s B : List ℕ) → HasTaken (to_verify setting) s B verifier.old → setting.payload_limit ≤ S.sure sink.old →
+    ensures sure { (setting : Setting) (s B : List ℕ)
+        → HasTaken (to_verify setting) s B verifier.old → setting.payload_limit ≤ S.sure sink.old →
         stops_for_sink result ≡ false }
 {
     // Laws of messages that the proof cites.
@@ -178,21 +193,31 @@ pub fn inspect<'k, const C: usize, const H: usize, const D: usize, K: Keys<'k>, 
     requires inspects { is_inspecting verifier.old ≡ true }
     requires attached { is_detached verifier.old ≡ false }
     // What was taken, the result, what the sink got, what the verifier gives, and the status of the message.
-    ensures run { (setting : Setting) (s B : List ℕ) → HasTaken (to_inspect setting) s B verifier.old →
-        (taken : List ℕ) × Run (inspecting H D setting) inspection s B (I.to_come intake.old) (I.to_come intake.new) (I.ended intake.new)
+    ensures run { (setting : Setting) (s B : List ℕ)
+        → HasTaken (to_inspect setting) s B verifier.old →
+        (taken : List ℕ)
+        × Run (inspecting H D setting) inspection s B (I.to_come intake.old) (I.to_come intake.new)
+        (I.ended intake.new)
         (S.contents sink.old) (S.contents sink.new) result taken
-        × (bytes_taken verifier.new ≡ length (s ++ taken)) × Tells (to_inspect setting) (s ++ taken) verifier.new
-        × (status_in verifier.new ≡ status_left result (message (rules_of H D (to_inspect setting)) (s ++ taken))) }
+        × (bytes_taken verifier.new ≡ length (s ++ taken))
+        × Tells (to_inspect setting) (s ++ taken) verifier.new
+        × (status_in verifier.new
+        ≡ status_left result (message (rules_of H D (to_inspect setting)) (s ++ taken))) }
     // (The payload so far, before the call, is that of the bytes so far.)
-    ensures before { (setting : Setting) (s B : List ℕ) → HasTaken (to_inspect setting) s B verifier.old → (message (rules_of H D (to_inspect setting)) s).told.payload ≡ B }
+    ensures before { (setting : Setting) (s B : List ℕ)
+        → HasTaken (to_inspect setting) s B verifier.old
+        → (message (rules_of H D (to_inspect setting)) s).told.payload ≡ B }
     // Where the bytes to come are known to the contract, the answer is that of all of them.
-    ensures answer { (setting : Setting) (s B bytes : List ℕ) → HasTaken (to_inspect setting) s B verifier.old → I.to_come intake.old ≡ Some bytes →
-        IfOk result (λ inspected. (message (inspecting H D setting) (s ++ bytes)).answer ≡ inspection inspected) }
+    ensures answer { (setting : Setting) (s B bytes : List ℕ)
+        → HasTaken (to_inspect setting) s B verifier.old → I.to_come intake.old ≡ Some bytes →
+        IfOk result (λ inspected. (message (inspecting H D setting) (s ++ bytes)).answer
+        ≡ inspection inspected) }
 
     // The answer is kept, and a kept one is answered again.
     ensures kept { kept_inspection verifier.new ≡ Some (answered_again result) }
     ensures again { (answer : Result Inspected Stop) → kept_inspection verifier.old ≡ Some answer →
-        (result ≡ answer) × (verifier.new ≡ verifier.old) × (intake.new ≡ intake.old) × (sink.new ≡ sink.old) }
+        (result ≡ answer) × (verifier.new ≡ verifier.old) × (intake.new ≡ intake.old)
+        × (sink.new ≡ sink.old) }
     ensures stopped { (result ≡ Err Stop.Again) ↔ (is_stopped verifier.old ≡ true) }
     ensures inspects { is_inspecting verifier.new ≡ true }
     ensures attached { is_detached verifier.new ≡ false }
@@ -205,10 +230,13 @@ pub fn inspect<'k, const C: usize, const H: usize, const D: usize, K: Keys<'k>, 
     ensures opened { opened verifier.new ≤ D }
 
     // It stops only for a failure in this call.
-    ensures intake_failure { I.has_failed intake.new ≡ (I.has_failed intake.old || stops_for_intake result) }
-    ensures sink_failure { S.has_failed sink.new ≡ (S.has_failed sink.old || stops_for_sink result) }
+    ensures intake_failure { I.has_failed intake.new
+        ≡ (I.has_failed intake.old || stops_for_intake result) }
+    ensures sink_failure { S.has_failed sink.new
+        ≡ (S.has_failed sink.old || stops_for_sink result) }
     // A sink that is sure of every payload doesn't stop it.
-    ensures sure { (setting : Setting) (s B : List ℕ) → HasTaken (to_inspect setting) s B verifier.old → setting.payload_limit ≤ S.sure sink.old →
+    ensures sure { (setting : Setting) (s B : List ℕ)
+        → HasTaken (to_inspect setting) s B verifier.old → setting.payload_limit ≤ S.sure sink.old →
         stops_for_sink result ≡ false }
 {
     // Laws of messages that the proof cites.

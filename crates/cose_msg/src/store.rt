@@ -44,7 +44,8 @@ impl<const L: usize> Store<L> {
         ensures held { ⟦<Store<L> as Sink>⟧.contents self.now ≡ Some result.now }
         ensures limit { length result.now ≤ L }
         // This many bytes more are sure to fit.
-        ensures sure { ⟦<Store<L> as Sink>⟧.sure self.now ≡ room_left L (⟦<Store<L> as Sink>⟧.has_failed self.now) (length result.now) }
+        ensures sure { ⟦<Store<L> as Sink>⟧.sure self.now
+            ≡ room_left L (⟦<Store<L> as Sink>⟧.has_failed self.now) (length result.now) }
     {
         self.held.as_slice()
     }
@@ -59,12 +60,16 @@ impl<const L: usize> Sink for Store<L> {
 
     fn put(&mut self, piece: &[u8]) -> Result<(), SinkFault>
         requires { 0 < length piece.now }
-        ensures bytes { Puts (⟦<Store<L> as Sink>⟧.contents self.old) (⟦<Store<L> as Sink>⟧.contents self.new) result piece.now }
-        ensures failure { ⟦<Store<L> as Sink>⟧.has_failed self.new ≡ marks (⟦<Store<L> as Sink>⟧.has_failed self.old) result }
+        ensures bytes { Puts (⟦<Store<L> as Sink>⟧.contents self.old)
+            (⟦<Store<L> as Sink>⟧.contents self.new) result piece.now }
+        ensures failure { ⟦<Store<L> as Sink>⟧.has_failed self.new
+            ≡ marks (⟦<Store<L> as Sink>⟧.has_failed self.old) result }
         ensures promised { length piece.now ≤ ⟦<Store<L> as Sink>⟧.sure self.old → IsOk result }
-        ensures promise { OnOk result (⟦<Store<L> as Sink>⟧.sure self.old ≤ ⟦<Store<L> as Sink>⟧.sure self.new + length piece.now) }
+        ensures promise { OnOk result (⟦<Store<L> as Sink>⟧.sure self.old
+            ≤ ⟦<Store<L> as Sink>⟧.sure self.new + length piece.now) }
         // A piece that fails isn't kept, and no later one ends the failure.
-        ensures none_kept { OnErr result (⟦<Store<L> as Sink>⟧.contents self.new ≡ ⟦<Store<L> as Sink>⟧.contents self.old) }
+        ensures none_kept { OnErr result (⟦<Store<L> as Sink>⟧.contents self.new
+            ≡ ⟦<Store<L> as Sink>⟧.contents self.old) }
         ensures stays_failed { ⟦<Store<L> as Sink>⟧.has_failed self.old ≡ true → IsErr result }
     {
         if self.failed || self.held.try_extend_from_slice(piece).is_err() {

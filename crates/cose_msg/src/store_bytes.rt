@@ -6,7 +6,8 @@ use arrayvec::ArrayVec;
 
 /// Appends a piece, where it fits.
 pub(crate) fn append<const N: usize>(store: &mut ArrayVec<u8, N>, piece: &[u8])
-    ensures { length store.old.items + length piece.now ≤ N → store.new.items ≡ store.old.items ++ piece.now }
+    ensures { length store.old.items + length piece.now ≤ N
+        → store.new.items ≡ store.old.items ++ piece.now }
 {
     let _ = store.try_extend_from_slice(piece);
 }

@@ -45,10 +45,16 @@ impl<'k, const H: usize, const D: usize, S: Keys<'k>> Verifier<'k, H, D, S> {
         requires limit { H ≤ 65535 }
         requires nesting { D ≤ 32 }
         ensures none_taken { HasTaken
-            (record { setting = sourced stated (setting_of S.usable context.entry); inspects = inspecting })
+            (record {
+              setting = sourced stated (setting_of S.usable context.entry);
+              inspects = inspecting;
+            })
             [] [] result }
         ensures tells { Tells
-            (record { setting = sourced stated (setting_of S.usable context.entry); inspects = inspecting })
+            (record {
+              setting = sourced stated (setting_of S.usable context.entry);
+              inspects = inspecting;
+            })
             [] result }
         ensures status { status_in result ≡ Status.More }
         ensures held { held result ≡ 256 }

@@ -76,7 +76,9 @@ fn with_element<'b>(
     protected: &mut Search<'_, 'b>,
     understood: &[Label<'_>],
 ) -> Option<Refusal>
-    ensures least { result ≡ fold spec.lesser least (spec.element_faults (pairs_left protected.old.pairs) (map label_value understood.now) (placed element.now)) }
+    ensures least { result ≡ fold spec.lesser least
+        (spec.element_faults (pairs_left protected.old.pairs) (map label_value understood.now)
+        (placed element.now)) }
     ensures same { pairs_left protected.new.pairs ≡ pairs_left protected.old.pairs }
 {
     let Some(label) = Label::of(element) else {
@@ -95,7 +97,10 @@ fn least_of_elements(
     protected: &Bucket<'_>,
     understood: &[Label<'_>],
 ) -> Option<Refusal>
-    ensures { result ≡ spec.least (flat_map (spec.element_faults (bucket_pairs protected.now) (map label_value understood.now)) (items_left elements.entry)) }
+    ensures { result ≡ spec.least
+        (flat_map
+        (spec.element_faults (bucket_pairs protected.now) (map label_value understood.now))
+        (items_left elements.entry)) }
 {
     let mut search = Search::new(protected.pairs());
     let mut least = None;
@@ -107,7 +112,8 @@ fn least_of_elements(
 
 /// The least fault of the protected crit.
 fn least_of_crit(protected: &Bucket<'_>, understood: &[Label<'_>]) -> Option<Refusal>
-    ensures { result ≡ spec.least (spec.crit_faults (bucket_pairs protected.now) (map label_value understood.now)) }
+    ensures { result ≡ spec.least
+        (spec.crit_faults (bucket_pairs protected.now) (map label_value understood.now)) }
 {
     match protected.crit() {
         Some(elements) => least_of_elements(elements, protected, understood),
@@ -123,7 +129,9 @@ fn with_pair<'b>(
     item: &ItemRef<'_>,
     protected: &mut Search<'_, 'b>,
 ) -> Option<Refusal>
-    ensures least { result ≡ fold spec.lesser least (spec.label_faults (pairs_left protected.old.pairs) (label_value name.entry) item.now.place) }
+    ensures least { result ≡ fold spec.lesser least
+        (spec.label_faults (pairs_left protected.old.pairs) (label_value name.entry)
+        item.now.place) }
     ensures same { pairs_left protected.new.pairs ≡ pairs_left protected.old.pairs }
 {
     let is_repeated = protected.has(name);
@@ -139,7 +147,9 @@ fn with_unprotected(
     protected: &Bucket<'_>,
     unprotected: &Bucket<'_>,
 ) -> Option<Refusal>
-    ensures { result ≡ fold spec.lesser so_far (flat_map (spec.unprotected_faults (bucket_pairs protected.now)) (bucket_pairs unprotected.now)) }
+    ensures { result ≡ fold spec.lesser so_far
+        (flat_map (spec.unprotected_faults (bucket_pairs protected.now))
+        (bucket_pairs unprotected.now)) }
 {
     // Without a pair in it nothing is searched, and the protected pairs needn't be gone through.
     if unprotected.is_empty() {
@@ -175,7 +185,9 @@ pub fn check_pair(
     understood: &[Label<'_>],
     after: u64,
 ) -> Result<(), Refusal>
-    ensures { refusal_in result ≡ spec.pair_fault (bucket_pairs protected.now) (bucket_pairs unprotected.now) (map label_value understood.now) after }
+    ensures { refusal_in result
+        ≡ spec.pair_fault (bucket_pairs protected.now) (bucket_pairs unprotected.now)
+        (map label_value understood.now) after }
 {
     let has_ivs = has_both_ivs(protected, unprotected);
     let least = least_of_crit(protected, understood);

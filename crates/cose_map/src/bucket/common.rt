@@ -30,7 +30,8 @@ impl<'a> Common<'a> {
     /// Those of the pairs of a bucket.
     pub(crate) fn of(pairs: Pairs<'a>) -> Common<'a>
         ensures alg { option_map placed result.alg ≡ value_of names.alg (pairs_left pairs.entry) }
-        ensures crit { option_map placed result.crit ≡ value_of names.crit (pairs_left pairs.entry) }
+        ensures crit { option_map placed result.crit
+            ≡ value_of names.crit (pairs_left pairs.entry) }
         ensures kid { option_map placed result.kid ≡ value_of names.kid (pairs_left pairs.entry) }
         ensures iv { option_map placed result.iv ≡ value_of names.iv (pairs_left pairs.entry) }
         ensures partial_iv { option_map placed result.partial_iv

@@ -26,7 +26,8 @@ impl<'k> Fitting<'k> {
     /// With one more key, if it fits.
     pub(crate) fn meet(&mut self, key: &Key<'k>, query: &Query)
         ensures { (rest : List (KeyValue × ℤ)) → with_rest (question query.now) self.new rest
-            ≡ with_rest (question query.now) self.old (cons_option (fitting_key (question query.now) (key_value key.now)) rest) }
+            ≡ with_rest (question query.now) self.old
+            (cons_option (fitting_key (question query.now) (key_value key.now)) rest) }
     {
         if let Some(algorithm) = query.fitting(key) {
             self.add(key, algorithm);

@@ -69,7 +69,8 @@ fn is_allowed_operation(own: Option<Ops>, operation: i128) -> bool
 
 /// Whether two identifiers are equal, where both are present.
 fn is_allowed_kid(own: Option<&[u8]>, asked: Option<&[u8]>) -> bool
-    ensures { result ≡ allows_kid (option_map contents own.entry) (option_map contents asked.entry) }
+    ensures { result ≡ allows_kid (option_map contents own.entry)
+        (option_map contents asked.entry) }
 {
     match (own, asked) {
         (Some(own), Some(asked)) => own == asked,
@@ -89,7 +90,9 @@ fn number_of(label: Label) -> Option<i128>
 
 /// The algorithm that the unprotected bucket names, if the key's own is equal.
 fn confirmed(own: Option<Label>, unprotected: Label) -> Option<i128>
-    ensures { result ≡ option_and_then integer_in_label (algorithm_used None (Some (label_value unprotected.entry)) (option_map label_value own.entry)) }
+    ensures { result ≡ option_and_then integer_in_label
+        (algorithm_used None (Some (label_value unprotected.entry))
+        (option_map label_value own.entry)) }
 {
     match own {
         Some(own) if own.is_same(&unprotected) => number_of(unprotected),
@@ -100,7 +103,8 @@ fn confirmed(own: Option<Label>, unprotected: Label) -> Option<i128>
 impl<'q> Query<'q> {
     /// Whether the message names no algorithm, or one for messages of its kind.
     pub(crate) fn is_answerable(&self) -> bool
-        ensures { let q = question self.now in result ≡ is_answerable_query q.kind q.protected_alg q.unprotected_alg }
+        ensures { let q = question self.now in
+            result ≡ is_answerable_query q.kind q.protected_alg q.unprotected_alg }
     {
         match (self.protected_alg, self.unprotected_alg) {
             (Some(protected), _) => is_known_algorithm(self.kind, protected),
@@ -111,7 +115,9 @@ impl<'q> Query<'q> {
 
     /// The algorithm that the key is used with.
     fn algorithm_for(&self, key: &Key) -> Option<i128>
-        ensures { let q = question self.now in result ≡ option_and_then integer_in_label (algorithm_used q.protected_alg q.unprotected_alg (key_value key.now).alg) }
+        ensures { let q = question self.now in
+            result ≡ option_and_then integer_in_label
+            (algorithm_used q.protected_alg q.unprotected_alg (key_value key.now).alg) }
     {
         match (self.protected_alg, self.unprotected_alg) {
             (Some(protected), _) => number_of(protected),
@@ -133,7 +139,8 @@ impl<'q> Query<'q> {
 
     /// The algorithm of a key that fits.
     pub(crate) fn fitting(&self, key: &Key) -> Option<i128>
-        ensures { option_map (λ algorithm. (key_value key.now, algorithm)) result ≡ fitting_key (question self.now) (key_value key.now) }
+        ensures { option_map (λ algorithm. (key_value key.now, algorithm)) result
+            ≡ fitting_key (question self.now) (key_value key.now) }
     {
         match self.algorithm_for(key) {
             Some(algorithm) if self.fits(key, algorithm) => Some(algorithm),
@@ -143,7 +150,8 @@ impl<'q> Query<'q> {
 
     /// Why no key fits.
     pub(crate) fn no_key(&self) -> Reason
-        ensures { let q = question self.now in result ≡ none_fits q.protected_alg q.unprotected_alg }
+        ensures { let q = question self.now in
+            result ≡ none_fits q.protected_alg q.unprotected_alg }
     {
         match (self.protected_alg, self.unprotected_alg) {
             (Some(_), _) => Reason::NoKey,

@@ -67,7 +67,8 @@ impl fmt::Debug for Material<'_> {
 
 /// The secret of a symmetric key.
 pub(crate) fn secret<'a>(value: &ItemRef<'a>) -> Result<Material<'a>, Refusal>
-    ensures { let v = placed value.now in seen_by material_value result ≡ secret_in v (bytes_in (look v)) }
+    ensures { let v = placed value.now in seen_by material_value result
+        ≡ secret_in v (bytes_in (look v)) }
 {
     match value.as_bytes() {
         Some(k) if !k.is_empty() => Ok(Material::Symmetric(k)),
@@ -77,7 +78,8 @@ pub(crate) fn secret<'a>(value: &ItemRef<'a>) -> Result<Material<'a>, Refusal>
 
 /// The usable curve that a member of the key names.
 pub(crate) fn curve_at(key: &ItemRef, value: &ItemRef) -> Result<Curve, Refusal>
-    ensures { let v = placed value.now in result ≡ curve_in (placed key.now) v (integer_in (look v)) }
+    ensures { let v = placed value.now in
+        result ≡ curve_in (placed key.now) v (integer_in (look v)) }
 {
     match value.as_int() {
         Some(number) => Curve::numbered(number).ok_or(refused(Reason::UnknownKey, key)),
@@ -102,7 +104,8 @@ fn whole_coordinate<'a>(
 
 /// The coordinate that is the value of a member of the key.
 pub(crate) fn coordinate<'a>(value: &ItemRef<'a>, length: usize) -> Result<&'a [u8], Refusal>
-    ensures { let v = placed value.now in seen_by contents result ≡ coordinate_in length v (bytes_in (look v)) }
+    ensures { let v = placed value.now in
+        seen_by contents result ≡ coordinate_in length v (bytes_in (look v)) }
 {
     match value.as_bytes() {
         Some(bytes) => whole_coordinate(value, bytes, length),
@@ -112,7 +115,8 @@ pub(crate) fn coordinate<'a>(value: &ItemRef<'a>, length: usize) -> Result<&'a [
 
 /// The coordinate y, or its sign.
 pub(crate) fn y_at<'a>(value: &ItemRef<'a>, length: usize) -> Result<Y<'a>, Refusal>
-    ensures { let v = placed value.now in seen_by y_value result ≡ y_in length v (bytes_in (look v)) }
+    ensures { let v = placed value.now in
+        seen_by y_value result ≡ y_in length v (bytes_in (look v)) }
 {
     match (value.as_bytes(), value.as_bool()) {
         (Some(bytes), _) => Ok(Y::Bytes(whole_coordinate(value, bytes, length)?)),

@@ -35,35 +35,40 @@ pub(crate) struct Members<'a> {
 impl<'a> Members<'a> {
     /// The value of a label, if the key has it.
     pub(crate) fn get(&self, label: &Label<'_>) -> Option<ItemRef<'a>>
-        ensures { option_map placed result ≡ value_of (label_value label.now) (pairs_left self.now.pairs) }
+        ensures { option_map placed result
+            ≡ value_of (label_value label.now) (pairs_left self.now.pairs) }
     {
         self.pairs.get(label)
     }
 
     /// The value of a label that the key must have.
     fn wanted(&self, label: &Label<'_>) -> Result<ItemRef<'a>, Refusal>
-        ensures { seen_by placed result ≡ member (placed self.now.key) (pairs_left self.now.pairs) (label_value label.now) }
+        ensures { seen_by placed result ≡ member (placed self.now.key) (pairs_left self.now.pairs)
+            (label_value label.now) }
     {
         self.get(label).ok_or(refused(Reason::BadValue, &self.key))
     }
 
     /// The content of a byte string.
     pub(crate) fn bytes(&self, label: &Label<'_>) -> Option<&'a [u8]>
-        ensures { option_map contents result ≡ bytes_under (label_value label.now) (pairs_left self.now.pairs) }
+        ensures { option_map contents result
+            ≡ bytes_under (label_value label.now) (pairs_left self.now.pairs) }
     {
         self.get(label)?.as_bytes()
     }
 
     /// An integer, or a text string that is UTF-8.
     pub(crate) fn label(&self, label: &Label<'_>) -> Option<Label<'a>>
-        ensures { option_map label_value result ≡ label_under (label_value label.now) (pairs_left self.now.pairs) }
+        ensures { option_map label_value result
+            ≡ label_under (label_value label.now) (pairs_left self.now.pairs) }
     {
         Label::of(&self.get(label)?)
     }
 
     /// The operations of an array.
     pub(crate) fn ops(&self, label: &Label<'_>) -> Option<Ops<'a>>
-        ensures { option_map operations_of result ≡ operations_under (label_value label.now) (pairs_left self.now.pairs) }
+        ensures { option_map operations_of result
+            ≡ operations_under (label_value label.now) (pairs_left self.now.pairs) }
     {
         let value = self.get(label)?;
         Some(Ops {
@@ -73,14 +78,16 @@ impl<'a> Members<'a> {
 
     /// A secret: k.
     fn symmetric(&self) -> Result<Material<'a>, Refusal>
-        ensures { seen_by material_value result ≡ symmetric_key (placed self.now.key) (pairs_left self.now.pairs) }
+        ensures { seen_by material_value result
+            ≡ symmetric_key (placed self.now.key) (pairs_left self.now.pairs) }
     {
         secret(&self.wanted(&labels::K)?)
     }
 
     /// A point: crv, x and y, and perhaps d.
     fn elliptic(&self) -> Result<Material<'a>, Refusal>
-        ensures { seen_by material_value result ≡ elliptic_key (placed self.now.key) (pairs_left self.now.pairs) }
+        ensures { seen_by material_value result
+            ≡ elliptic_key (placed self.now.key) (pairs_left self.now.pairs) }
     {
         let curve = curve_at(&self.key, &self.wanted(&labels::CRV)?)?;
         let x = coordinate(&self.wanted(&labels::X)?, curve.coordinate_length)?;
@@ -96,7 +103,8 @@ impl<'a> Members<'a> {
     /// The material of the key, by its type.
     #[tactic(auto, unfolding(crate::specs::Key::Material::material_of))]
     pub(crate) fn material(&self) -> Result<Material<'a>, Refusal>
-        ensures { seen_by material_value result ≡ material_of (placed self.now.key) (pairs_left self.now.pairs) }
+        ensures { seen_by material_value result
+            ≡ material_of (placed self.now.key) (pairs_left self.now.pairs) }
     {
         match self.wanted(&labels::KTY)?.as_int() {
             Some(SYMMETRIC) => self.symmetric(),

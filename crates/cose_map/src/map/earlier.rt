@@ -38,7 +38,8 @@ pub(crate) fn passes(greatest: Option<Label<'_>>, name: &Label<'_>) -> bool
 
 /// The greater of a label and the greatest so far.
 fn greater<'a>(greatest: Option<Label<'a>>, name: Label<'a>) -> Option<Label<'a>>
-    ensures { option_map label_value result ≡ order.greater (option_map label_value greatest.entry) (label_value name.entry) }
+    ensures { option_map label_value result
+        ≡ order.greater (option_map label_value greatest.entry) (label_value name.entry) }
 {
     if passes(greatest, &name) {
         return Some(name);
@@ -91,7 +92,8 @@ impl<'a> Earlier<'a> {
 
     /// The label that an item is, if it is one and isn't among theirs.
     fn new_label<'b>(&self, item: &ItemRef<'b>) -> Result<Label<'b>, Refusal>
-        ensures { seen_by label_value result ≡ label_after (earlier_pairs self.now) (placed item.now) }
+        ensures { seen_by label_value result
+            ≡ label_after (earlier_pairs self.now) (placed item.now) }
     {
         let Some(name) = Label::of(item) else {
             return Err(refused(Reason::BadLabel, item));
@@ -109,7 +111,9 @@ impl<'a> Earlier<'a> {
         label: &ItemRef<'a>,
         value: &ItemRef<'a>,
     ) -> Result<Label<'a>, Refusal>
-        ensures { seen_by (λ name. pair_value (name, label.now, value.now)) result ≡ pair_after (F.table form.now) (earlier_pairs self.now) (placed label.now) (placed value.now) }
+        ensures { seen_by (λ name. pair_value (name, label.now, value.now)) result
+            ≡ pair_after (F.table form.now) (earlier_pairs self.now) (placed label.now)
+            (placed value.now) }
     {
         let name = self.new_label(label)?;
         match form.fault(&name, value) {
@@ -121,7 +125,9 @@ impl<'a> Earlier<'a> {
     /// Adds the next pair, whose label this is.
     pub(crate) fn push(&mut self, name: Label<'a>)
         requires few { self.old.count + 1 < 2 ^ 128 }
-        requires greatest { order.is_greatest (order.greater (option_map label_value self.old.greatest) (label_value name)) (take (self.old.count + 1) (pairs_left self.old.pairs)) ≡ true }
+        requires greatest { order.is_greatest
+            (order.greater (option_map label_value self.old.greatest) (label_value name))
+            (take (self.old.count + 1) (pairs_left self.old.pairs)) ≡ true }
         ensures pairs { pairs_left self.new.pairs ≡ pairs_left self.old.pairs }
         ensures count { self.new.count ≡ self.old.count + 1 }
     {

@@ -42,7 +42,8 @@ pub fn first_value<'a>(
     ensures first { (item : Placed) (others : List Pair)
         → option_or (option_map placed result) (value_of (label_value label.now) others)
         ≡ option_or (option_map placed so_far.entry) (value_of (label_value label.now)
-        (record { name = label_value name.now; label = item; value = placed value.entry } ∷ others)) }
+        (record { name = label_value name.now; label = item; value = placed value.entry } ∷
+        others)) }
 {
     if is_named(label, name) && so_far.is_none() {
         return Some(value);

@@ -39,7 +39,8 @@ impl<'a> Pairs<'a> {
 
     /// The pair of a label: the label, its item, and the value.
     pub fn pair(&self, label: &Label<'_>) -> Option<(Label<'a>, ItemRef<'a>, ItemRef<'a>)>
-        ensures { option_map pair_value result ≡ pair_of (label_value label.now) (pairs_left self.now) }
+        ensures { option_map pair_value result
+            ≡ pair_of (label_value label.now) (pairs_left self.now) }
     {
         'pairs: for (name, item, value) in *self {
             if label.is_same(&name) {
@@ -51,7 +52,8 @@ impl<'a> Pairs<'a> {
 
     /// The value of a label.
     pub fn get(&self, label: &Label<'_>) -> Option<ItemRef<'a>>
-        ensures { option_map placed result ≡ value_of (label_value label.now) (pairs_left self.now) }
+        ensures { option_map placed result
+            ≡ value_of (label_value label.now) (pairs_left self.now) }
     {
         let (_name, _item, value) = self.pair(label)?;
         Some(value)

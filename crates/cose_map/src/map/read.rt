@@ -26,7 +26,8 @@ pub fn refused(reason: Reason, item: &ItemRef<'_>) -> Refusal
 
 /// The next two items.
 fn next_two<'a>(items: &mut Items<'a>) -> Option<(ItemRef<'a>, ItemRef<'a>)>
-    ensures { MatchOption result (length (items_left items.old) < 2) (λ found. items_left items.old ≡ placed found.0 ∷ placed found.1 ∷ items_left items.new) }
+    ensures { MatchOption result (length (items_left items.old) < 2) (λ found. items_left items.old
+        ≡ placed found.0 ∷ placed found.1 ∷ items_left items.new) }
 {
     let first = items.next()?;
     let second = items.next()?;
@@ -35,7 +36,8 @@ fn next_two<'a>(items: &mut Items<'a>) -> Option<(ItemRef<'a>, ItemRef<'a>)>
 
 /// The pairs of a map from its children, each with a new label and a value of its form.
 fn check_items<'a, F: Form>(form: &F, items: Items<'a>) -> Result<Pairs<'a>, Refusal>
-    ensures { seen_by pairs_left result ≡ check_pairs (F.table form.now) [] (items_left items.entry) }
+    ensures { seen_by pairs_left result
+        ≡ check_pairs (F.table form.now) [] (items_left items.entry) }
 {
     let mut earlier = Earlier::none(Pairs { items });
     let mut rest = items;
@@ -53,7 +55,8 @@ fn check_items<'a, F: Form>(form: &F, items: Items<'a>) -> Result<Pairs<'a>, Ref
 #[tactic(auto, using(crate::proofs::lemmas::Laws::Inside::seen_inside))]
 pub fn check_map<'a, F: Form>(form: &F, item: &ItemRef<'a>) -> Result<Pairs<'a>, Refusal>
     ensures exact { seen_by pairs_left result ≡ check_map (F.table form.now) (placed item.now) }
-    ensures within { IfErr result (λ refusal. refusal.place ≤ item.now.place + length item.now.bytes.now) }
+    ensures within { IfErr result (λ refusal. refusal.place
+        ≤ item.now.place + length item.now.bytes.now) }
 {
     // The law that the proof of `within` cites.
     refusals_stand_inside();
@@ -74,7 +77,8 @@ pub fn read_map<'a, F: Form>(
 ) -> Result<Pairs<'a>, Refusal>
     requires shallow { depth ≤ 32 }
     requires in_range { at + length bytes.now < 2 ^ 64 }
-    ensures exact { seen_by pairs_left result ≡ read_map (F.table form.now) depth (record { bytes = bytes.now; place = at }) }
+    ensures exact { seen_by pairs_left result
+        ≡ read_map (F.table form.now) depth (record { bytes = bytes.now; place = at }) }
     ensures within { IfErr result (λ refusal. refusal.place ≤ at + length bytes.now) }
 {
     let item = ItemRef::read(bytes, at, depth)?;

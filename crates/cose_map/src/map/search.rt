@@ -85,7 +85,8 @@ impl<'a, 'b> Search<'a, 'b> {
     fn onward(self, name: Label<'b>) -> Search<'a, 'b>
         requires { order.passes (option_map label_value self.last) (label_value name) ≡ true }
         ensures pairs { pairs_left result.pairs ≡ pairs_left self.entry.pairs }
-        ensures ahead { pairs_left result.ahead ≡ spec.from (label_value name.entry) (pairs_left self.entry.ahead) }
+        ensures ahead { pairs_left result.ahead
+            ≡ spec.from (label_value name.entry) (pairs_left self.entry.ahead) }
     {
         Search {
             pairs: self.pairs,

@@ -79,9 +79,12 @@ impl<'k, const H: usize, const D: usize> Reader<'k, H, D> {
         requires early { at < 2 ^ 57 }
         ensures further { status_at self.new.phase ≡ Status.More }
         ensures unawaited { payload_want_of self.new.phase ≡ 0 }
-        ensures stands { (task : Task) (known : Known) → Shows task (headers_told known.headers known.payload) self.old
-            → HoldsKey task known self.old kind → length known.payload ≡ payload → IsFed self.old.hashing task.setting.aad known
-            → StandsFor task known.payload at self.new (λ z. auth_head (rules_of H D task) known.headers known.chosen known.payload at z) }
+        ensures stands { (task : Task) (known : Known)
+            → Shows task (headers_told known.headers known.payload) self.old
+            → HoldsKey task known self.old kind → length known.payload ≡ payload
+            → IsFed self.old.hashing task.setting.aad known
+            → StandsFor task known.payload at self.new
+            (λ z. auth_head (rules_of H D task) known.headers known.chosen known.payload at z) }
     {
         self.head.clear();
         self.phase = Phase::AuthHead(AuthHead { kind, at, payload });
@@ -90,7 +93,8 @@ impl<'k, const H: usize, const D: usize> Reader<'k, H, D> {
     /// Takes the next byte of the head of the tag or signature.
     pub(crate) fn auth_head(&mut self, auth_head: AuthHead, byte: u8)
         requires phase { self.old.phase ≡ Phase.AuthHead auth_head }
-        ensures stands { (task : Task) (B : List ℕ) (n : ℕ) (reading : List ℕ → Reading) → StandsFor task B n self.old reading
+        ensures stands { (task : Task) (B : List ℕ) (n : ℕ) (reading : List ℕ → Reading)
+            → StandsFor task B n self.old reading
             → StandsFor task B (n + 1) self.new (λ z. reading (byte ∷ z)) }
     {
         let at = auth_head.at;
@@ -104,10 +108,13 @@ impl<'k, const H: usize, const D: usize> Reader<'k, H, D> {
     /// What follows the head of the tag or signature.
     fn past_auth_head(&mut self, auth_head: AuthHead, head: Head, at: u64)
         requires early { at < 2 ^ 58 }
-        ensures stands { (task : Task) (known : Known) → Shows task (headers_told known.headers known.payload) self.old
-            → HoldsKey task known self.old auth_head.kind → length known.payload ≡ auth_head.payload → IsFed self.old.hashing task.setting.aad known
+        ensures stands { (task : Task) (known : Known)
+            → Shows task (headers_told known.headers known.payload) self.old
+            → HoldsKey task known self.old auth_head.kind → length known.payload ≡ auth_head.payload
+            → IsFed self.old.hashing task.setting.aad known
             → StandsFor task known.payload at self.new
-            (λ z. past_auth_head (rules_of H D task) known.headers known.chosen known.payload auth_head.at head at z) }
+            (λ z. past_auth_head (rules_of H D task) known.headers known.chosen known.payload
+            auth_head.at head at z) }
     {
         match fault_of_auth(&head, self.alg()) {
             Some(reason) => self.refuse(reason, auth_head.at),
@@ -139,7 +146,8 @@ impl<'k, const H: usize, const D: usize> Reader<'k, H, D> {
     pub(crate) fn auth(&mut self, auth: Auth, piece: &[u8])
         requires phase { self.old.phase ≡ Phase.Auth auth }
         requires fits { length piece.now ≤ auth.left }
-        ensures stands { (task : Task) (B : List ℕ) (n : ℕ) (reading : List ℕ → Reading) → StandsFor task B n self.old reading
+        ensures stands { (task : Task) (B : List ℕ) (n : ℕ) (reading : List ℕ → Reading)
+            → StandsFor task B n self.old reading
             → StandsFor task B (n + length piece.now) self.new (λ z. reading (piece.now ++ z)) }
     {
         let has_key = self.chosen.is_some();
@@ -167,11 +175,15 @@ impl<'k, const H: usize, const D: usize> Reader<'k, H, D> {
 
     /// All bytes are there: the shape of a message that is only inspected is known.
     fn finish(&mut self, whole: Whole)
-        ensures stands { (task : Task) (known : Known) (at : ℕ) → Shows task (headers_told known.headers known.payload) self.old
-            → HoldsKey task known self.old whole.kind → length known.payload ≡ whole.payload → length known.auth ≡ whole.auth
-            → IsFed self.old.hashing task.setting.aad known → HoldsAuth known.chosen self.old.auth.items known.auth
+        ensures stands { (task : Task) (known : Known) (at : ℕ)
+            → Shows task (headers_told known.headers known.payload) self.old
+            → HoldsKey task known self.old whole.kind → length known.payload ≡ whole.payload
+            → length known.auth ≡ whole.auth
+            → IsFed self.old.hashing task.setting.aad known
+            → HoldsAuth known.chosen self.old.auth.items known.auth
             → StandsFor task known.payload whole.taken self.new
-            (λ z. finish (rules_of H D task) known.headers known.chosen known.payload whole.head_at at known.auth whole.taken z) }
+            (λ z. finish (rules_of H D task) known.headers known.chosen known.payload whole.head_at
+            at known.auth whole.taken z) }
     {
         match self.alg() {
             Some(alg) => self.compare(whole, alg),
@@ -188,11 +200,14 @@ impl<'k, const H: usize, const D: usize> Reader<'k, H, D> {
 
     /// All bytes are there, and a key was chosen: a tag is compared, and a signature is left to the `EcVerifier`.
     fn compare(&mut self, whole: Whole, alg: Alg)
-        ensures stands { (task : Task) (known : Known) (found : Found) (at : ℕ) → Shows task (headers_told known.headers known.payload) self.old
-            → HoldsKey task known self.old whole.kind → known.chosen ≡ Some found → found.alg ≡ alg → length known.payload ≡ whole.payload
+        ensures stands { (task : Task) (known : Known) (found : Found) (at : ℕ)
+            → Shows task (headers_told known.headers known.payload) self.old
+            → HoldsKey task known self.old whole.kind → known.chosen ≡ Some found → found.alg ≡ alg
+            → length known.payload ≡ whole.payload
             → IsFed self.old.hashing task.setting.aad known → self.old.auth.items ≡ known.auth
             → StandsFor task known.payload whole.taken self.new
-            (λ z. finish (rules_of H D task) known.headers known.chosen known.payload whole.head_at at known.auth whole.taken z) }
+            (λ z. finish (rules_of H D task) known.headers known.chosen known.payload whole.head_at
+            at known.auth whole.taken z) }
     {
         self.hashing.finish();
         if alg.is_mac() {

@@ -47,7 +47,9 @@ fn secret_of<'k>(material: &Material<'k>) -> &'k [u8]
 
 /// What a message asks of its key.
 fn query_of<'q>(kind: Kind, protected: &Bucket<'q>, unprotected: &Bucket<'q>) -> Query<'q>
-    ensures { question result ≡ question_of (headers_of kind [] (bucket_pairs protected.now) (bucket_pairs unprotected.now)) }
+    ensures { question result
+        ≡ question_of
+        (headers_of kind [] (bucket_pairs protected.now) (bucket_pairs unprotected.now)) }
 {
     Query {
         kind,
@@ -154,11 +156,14 @@ impl<'k, const H: usize, const D: usize> Reader<'k, H, D> {
         requires early { at < 2 ^ 17 }
         ensures stands { (task : Task) (pairs others : List Pair)
             → keys_in K.usable keys.entry ≡ keys_for task
-            → Shows task (headers_told (headers_of kind self.old.protected.items pairs others) []) self.old
+            → Shows task (headers_told (headers_of kind self.old.protected.items pairs others) [])
+            self.old
             → bucket_of D (placed_at protected_at self.old.protected.items) ≡ Ok pairs
             → bucket_of D (placed_at at self.old.unprotected.items) ≡ Ok others
             → StandsFor task [] (at + length self.old.unprotected.items) self.new
-            (λ z. both_buckets (rules_of H D task) (headers_of kind self.old.protected.items pairs others) (at + length self.old.unprotected.items) z) }
+            (λ z. both_buckets (rules_of H D task)
+            (headers_of kind self.old.protected.items pairs others)
+            (at + length self.old.unprotected.items) z) }
     {
         let after = at + self.unprotected.len() as u64;
         match self.choose(keys, kind, protected_at, at) {

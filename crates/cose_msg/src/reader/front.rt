@@ -90,7 +90,8 @@ impl<'k, const H: usize, const D: usize> Reader<'k, H, D> {
     /// Takes the next byte of the first head.
     pub(crate) fn first_head(&mut self, byte: u8)
         requires phase { self.old.phase ≡ Phase.FirstHead }
-        ensures stands { (task : Task) (B : List ℕ) (n : ℕ) (reading : List ℕ → Reading) → StandsFor task B n self.old reading
+        ensures stands { (task : Task) (B : List ℕ) (n : ℕ) (reading : List ℕ → Reading)
+            → StandsFor task B n self.old reading
             → StandsFor task B (n + 1) self.new (λ z. reading (byte ∷ z)) }
     {
         match take_bare_head_byte(&mut self.head, byte) {
@@ -122,7 +123,8 @@ impl<'k, const H: usize, const D: usize> Reader<'k, H, D> {
     fn past_untagged(&mut self, wanted: Wanted, head: Head, at: u64)
         requires early { at ≤ 9 }
         ensures stands { (task : Task) → Shows task nothing_told self.old
-            → StandsFor task [] at self.new (λ z. past_untagged (rules_of H D task) wanted 0 head at z) }
+            → StandsFor task [] at self.new
+            (λ z. past_untagged (rules_of H D task) wanted 0 head at z) }
     {
         match wanted {
             Wanted::Mac0 => self.past_array_head(Kind::Mac0, head, 0, at),
@@ -144,7 +146,8 @@ impl<'k, const H: usize, const D: usize> Reader<'k, H, D> {
     /// Takes the next byte of the head after the CWT tag.
     pub(crate) fn tag_head(&mut self, tag_head: TagHead, byte: u8)
         requires phase { self.old.phase ≡ Phase.TagHead tag_head }
-        ensures stands { (task : Task) (B : List ℕ) (n : ℕ) (reading : List ℕ → Reading) → StandsFor task B n self.old reading
+        ensures stands { (task : Task) (B : List ℕ) (n : ℕ) (reading : List ℕ → Reading)
+            → StandsFor task B n self.old reading
             → StandsFor task B (n + 1) self.new (λ z. reading (byte ∷ z)) }
     {
         let at = tag_head.at;
@@ -183,7 +186,8 @@ impl<'k, const H: usize, const D: usize> Reader<'k, H, D> {
     /// Takes the next byte of the array's head.
     pub(crate) fn array_head(&mut self, array_head: ArrayHead, byte: u8)
         requires phase { self.old.phase ≡ Phase.ArrayHead array_head }
-        ensures stands { (task : Task) (B : List ℕ) (n : ℕ) (reading : List ℕ → Reading) → StandsFor task B n self.old reading
+        ensures stands { (task : Task) (B : List ℕ) (n : ℕ) (reading : List ℕ → Reading)
+            → StandsFor task B n self.old reading
             → StandsFor task B (n + 1) self.new (λ z. reading (byte ∷ z)) }
     {
         let ArrayHead { kind, at } = array_head;
@@ -198,7 +202,8 @@ impl<'k, const H: usize, const D: usize> Reader<'k, H, D> {
     fn past_array_head(&mut self, kind: Kind, head: Head, head_at: u64, at: u64)
         requires early { at ≤ 27 }
         ensures stands { (task : Task) → Shows task nothing_told self.old
-            → StandsFor task [] at self.new (λ z. past_array_head (rules_of H D task) kind head_at head at z) }
+            → StandsFor task [] at self.new
+            (λ z. past_array_head (rules_of H D task) kind head_at head at z) }
     {
         match fault_of_array(&head) {
             Some(reason) => self.refuse(reason, head_at),

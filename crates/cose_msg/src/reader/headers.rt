@@ -28,11 +28,14 @@ fn refusal_of(bytes: &[u8], at: u64, depth: usize) -> Option<Refusal>
 /// Puts a piece of no more bytes than the walker wants, and returns the walker's step after it.
 fn walk_on<const D: usize>(walker: &mut Walker<D>, piece: &[u8]) -> Step
     requires some { 0 < length piece.now }
-    ensures answer { (room : ℕ) (bytes : List ℕ) → HasPut room bytes walker.old → length piece.now ≤ wanted_after room D bytes
+    ensures answer { (room : ℕ) (bytes : List ℕ) → HasPut room bytes walker.old
+        → length piece.now ≤ wanted_after room D bytes
         → Answers room (bytes ++ piece.now) result (read D (left_of (bytes ++ piece.now) room 0)) }
-    ensures put { (room : ℕ) (bytes : List ℕ) → HasPut room bytes walker.old → length piece.now ≤ wanted_after room D bytes
+    ensures put { (room : ℕ) (bytes : List ℕ) → HasPut room bytes walker.old
+        → length piece.now ≤ wanted_after room D bytes
         → result ≡ Step.Going → HasPut room (bytes ++ piece.now) walker.new }
-    ensures among { (room : ℕ) (bytes : List ℕ) → HasPut room bytes walker.old → length piece.now ≤ wanted_after room D bytes
+    ensures among { (room : ℕ) (bytes : List ℕ) → HasPut room bytes walker.old
+        → length piece.now ≤ wanted_after room D bytes
         → StandsAmong room (bytes ++ piece.now) result }
     ensures step { last_step walker.new ≡ result }
 {
@@ -63,7 +66,8 @@ impl<'k, const H: usize, const D: usize> Reader<'k, H, D> {
     /// Takes the next byte of the protected bucket's head.
     pub(crate) fn protected_head(&mut self, protected_head: ProtectedHead, byte: u8)
         requires phase { self.old.phase ≡ Phase.ProtectedHead protected_head }
-        ensures stands { (task : Task) (B : List ℕ) (n : ℕ) (reading : List ℕ → Reading) → StandsFor task B n self.old reading
+        ensures stands { (task : Task) (B : List ℕ) (n : ℕ) (reading : List ℕ → Reading)
+            → StandsFor task B n self.old reading
             → StandsFor task B (n + 1) self.new (λ z. reading (byte ∷ z)) }
     {
         let ProtectedHead { kind, at } = protected_head;
@@ -91,7 +95,8 @@ impl<'k, const H: usize, const D: usize> Reader<'k, H, D> {
     fn past_protected_head(&mut self, kind: Kind, head: Head, head_at: u64, at: u64)
         requires early { at ≤ 36 }
         ensures stands { (task : Task) → Shows task nothing_told self.old
-            → StandsFor task [] at self.new (λ z. past_protected_head (rules_of H D task) kind head_at head at z) }
+            → StandsFor task [] at self.new
+            (λ z. past_protected_head (rules_of H D task) kind head_at head at z) }
     {
         match Self::fault_of_protected(&head) {
             Some(reason) => self.refuse(reason, head_at),
@@ -115,7 +120,8 @@ impl<'k, const H: usize, const D: usize> Reader<'k, H, D> {
     pub(crate) fn protected_piece(&mut self, protected: Protected, piece: &[u8])
         requires phase { self.old.phase ≡ Phase.Protected protected }
         requires fits { length piece.now ≤ protected.left }
-        ensures stands { (task : Task) (B : List ℕ) (n : ℕ) (reading : List ℕ → Reading) → StandsFor task B n self.old reading
+        ensures stands { (task : Task) (B : List ℕ) (n : ℕ) (reading : List ℕ → Reading)
+            → StandsFor task B n self.old reading
             → StandsFor task B (n + length piece.now) self.new (λ z. reading (piece.now ++ z)) }
     {
         append(&mut self.protected, piece);
@@ -137,7 +143,8 @@ impl<'k, const H: usize, const D: usize> Reader<'k, H, D> {
         requires early { at ≤ 36 }
         ensures stands { (task : Task) → Shows task nothing_told self.old
             → StandsFor task [] (at + length self.old.protected.items) self.new
-            (λ z. past_protected (rules_of H D task) kind at self.old.protected.items (at + length self.old.protected.items) z) }
+            (λ z. past_protected (rules_of H D task) kind at self.old.protected.items
+            (at + length self.old.protected.items) z) }
     {
         let length = self.protected.len() as u64;
         match refusal_of(self.protected.as_slice(), at, D) {
@@ -152,7 +159,8 @@ impl<'k, const H: usize, const D: usize> Reader<'k, H, D> {
         requires early { at < 2 ^ 17 }
         ensures stands { (task : Task) (pairs : List Pair) → Shows task nothing_told self.old
             → bucket_of D (placed_at protected_at self.old.protected.items) ≡ Ok pairs
-            → StandsFor task [] at self.new (λ z. unprotected (rules_of H D task) kind self.old.protected.items pairs at z) }
+            → StandsFor task [] at self.new
+            (λ z. unprotected (rules_of H D task) kind self.old.protected.items pairs at z) }
     {
         // The law of walkers that the proof cites.
         walker_is_reading();
@@ -182,7 +190,8 @@ impl<'k, const H: usize, const D: usize> Reader<'k, H, D> {
             → Shows task (protected_told pairs) self.old
             → bucket_of D (placed_at protected_at self.old.protected.items) ≡ Ok pairs
             → StandsFor task [] (at + length self.old.unprotected.items) self.new
-            (λ z. past_unprotected (rules_of H D task) kind self.old.protected.items pairs at self.old.unprotected.items (at + length self.old.unprotected.items) z) }
+            (λ z. past_unprotected (rules_of H D task) kind self.old.protected.items pairs at
+            self.old.unprotected.items (at + length self.old.unprotected.items) z) }
     {
         match refusal_of(self.unprotected.as_slice(), at, D) {
             Some(refusal) => self.refuse(refusal.reason, refusal.place),

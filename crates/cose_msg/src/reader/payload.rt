@@ -73,10 +73,13 @@ impl<'k, const H: usize, const D: usize> Reader<'k, H, D> {
     /// The payload's head begins here.
     pub(crate) fn begin_payload_head(&mut self, kind: Kind, is_bare: bool, at: u64)
         requires early { at < 2 ^ 18 }
-        ensures stands { (task : Task) (known : Known) → Shows task (headers_told known.headers []) self.old → known.payload ≡ []
+        ensures stands { (task : Task) (known : Known)
+            → Shows task (headers_told known.headers []) self.old → known.payload ≡ []
             → HoldsKey task known self.old kind → known.headers.protected ≡ self.old.protected.items
-            → is_bare ≡ (length known.headers.protected_pairs == 0) → HashesFor self.old.hashing known.chosen []
-            → StandsFor task [] at self.new (λ z. payload_head (rules_of H D task) known.headers known.chosen at z) }
+            → is_bare ≡ (length known.headers.protected_pairs == 0)
+            → HashesFor self.old.hashing known.chosen []
+            → StandsFor task [] at self.new
+            (λ z. payload_head (rules_of H D task) known.headers known.chosen at z) }
     {
         self.head.clear();
         self.phase = Phase::PayloadHead(PayloadHead { kind, is_bare, at });
@@ -204,8 +207,10 @@ impl<'k, const H: usize, const D: usize> Reader<'k, H, D> {
     pub(crate) fn payload(&mut self, payload: Payload, piece: &[u8])
         requires phase { self.old.phase ≡ Phase.Payload payload }
         requires fits { length piece.now ≤ payload.left }
-        ensures stands { (task : Task) (B : List ℕ) (n : ℕ) (reading : List ℕ → Reading) → StandsFor task B n self.old reading
-            → StandsFor task (B ++ piece.now) (n + length piece.now) self.new (λ z. reading (piece.now ++ z)) }
+        ensures stands { (task : Task) (B : List ℕ) (n : ℕ) (reading : List ℕ → Reading)
+            → StandsFor task B n self.old reading
+            → StandsFor task (B ++ piece.now) (n + length piece.now) self.new
+            (λ z. reading (piece.now ++ z)) }
     {
         self.hashing.update(piece);
         let left = payload.left - piece.len() as u64;
@@ -228,7 +233,8 @@ impl<'k, const H: usize, const D: usize> Reader<'k, H, D> {
         // So many bytes fewer are wanted; once there are none, further bytes of the message are.
         ensures left { payload_want_of self.new.phase + length part.now ≡ detached.left }
         ensures further { is_open (status_at self.new.phase) ≡ true }
-        ensures complete { payload_want_of self.new.phase ≡ 0 → status_at self.new.phase ≡ Status.More }
+        ensures complete { payload_want_of self.new.phase ≡ 0 → status_at self.new.phase
+            ≡ Status.More }
         // Where it is the next one of what comes of the payload, the reading stays.
         ensures stands { (task : Task) (B more : List ℕ) (n : ℕ) (reading : List ℕ → Reading)
             → came_of task.setting.source ≡ (B ++ part.now) ++ more

@@ -50,7 +50,8 @@ fn take_payload<'k, const H: usize, const D: usize, K: Keys<'k>, P: Intake, S: S
     // It stops only for a failure in this call.
     ensures payload_failure { P.has_failed payload.new
         ≡ (P.has_failed payload.old || stops_for_intake result) }
-    ensures sink_failure { S.has_failed sink.new ≡ (S.has_failed sink.old || stops_for_sink result) }
+    ensures sink_failure { S.has_failed sink.new
+        ≡ (S.has_failed sink.old || stops_for_sink result) }
     ensures sure { (task : Task) (s B : List ℕ) → HasTaken task s B verifier.old
         → task.setting.payload_limit ≤ S.sure sink.old + length B → stops_for_sink result ≡ false }
 {
@@ -94,7 +95,8 @@ fn take_detached<'k, const H: usize, const D: usize, K: Keys<'k>, I: Intake, P: 
     requires goes_on { is_stopped verifier.old ≡ false }
     ensures takes { (task : Task) (s B : List ℕ) → HasTaken task s B verifier.old
         → is_detached_from task.setting.source ≡ true
-        → TakesDetached task s B (I.to_come message.old) (I.to_come message.new) (I.ended message.new)
+        → TakesDetached task s B (I.to_come message.old) (I.to_come message.new)
+        (I.ended message.new)
         (P.to_come payload.old) (P.to_come payload.new) (P.ended payload.new)
         (S.contents sink.old) (S.contents sink.new) (stop_in result) verifier.new }
     ensures stopped { is_stopped verifier.new ≡ is_err result }
@@ -111,7 +113,8 @@ fn take_detached<'k, const H: usize, const D: usize, K: Keys<'k>, I: Intake, P: 
     ensures intake_failure { EitherFails (stops_for_intake result)
         (I.has_failed message.old) (I.has_failed message.new)
         (P.has_failed payload.old) (P.has_failed payload.new) }
-    ensures sink_failure { S.has_failed sink.new ≡ (S.has_failed sink.old || stops_for_sink result) }
+    ensures sink_failure { S.has_failed sink.new
+        ≡ (S.has_failed sink.old || stops_for_sink result) }
     ensures sure { (task : Task) (s B : List ℕ) → HasTaken task s B verifier.old
         → is_detached_from task.setting.source ≡ true
         → task.setting.payload_limit ≤ S.sure sink.old → stops_for_sink result ≡ false }
@@ -165,19 +168,28 @@ pub fn verify_detached<
     requires detached { is_detached verifier.old ≡ true }
     // What was taken of the message and of the payload, the result, what the sink got, what the verifier gives, and the
     // status of the message.
-    ensures run { (setting : Setting) (s B : List ℕ) → HasTaken (to_verify setting) s B verifier.old →
-        (taken : List ℕ) × (came : List ℕ)
-        × DetachedRun (verifying H D (given (B ++ came) setting) (E.decides ec.now)) s B (I.to_come message.old) (I.to_come message.new) (I.ended message.new)
-        (P.to_come payload.old) (P.to_come payload.new) (P.ended payload.new) (S.contents sink.old) (S.contents sink.new) result taken came
-        × (bytes_taken verifier.new ≡ length (s ++ taken)) × Tells (to_verify (given (B ++ came) setting)) (s ++ taken) verifier.new
-        × (status_in verifier.new ≡ status_left result (reading (rules_of H D (to_verify (given (B ++ came) setting))) (s ++ taken))) }
+    ensures run { (setting : Setting) (s B : List ℕ) → HasTaken (to_verify setting) s B verifier.old
+        → (taken : List ℕ) × (came : List ℕ)
+        × DetachedRun (verifying H D (given (B ++ came) setting) (E.decides ec.now)) s B
+        (I.to_come message.old) (I.to_come message.new) (I.ended message.new)
+        (P.to_come payload.old) (P.to_come payload.new) (P.ended payload.new) (S.contents sink.old)
+        (S.contents sink.new) result taken came
+        × (bytes_taken verifier.new ≡ length (s ++ taken))
+        × Tells (to_verify (given (B ++ came) setting)) (s ++ taken) verifier.new
+        × (status_in verifier.new
+        ≡ status_left result
+        (reading (rules_of H D (to_verify (given (B ++ came) setting))) (s ++ taken))) }
     // (The payload so far, before the call, is that of the bytes so far.)
-    ensures before { (setting : Setting) (s B : List ℕ) → HasTaken (to_verify setting) s B verifier.old
+    ensures before { (setting : Setting) (s B : List ℕ)
+        → HasTaken (to_verify setting) s B verifier.old
         → (reading (rules_of H D (to_verify setting)) s).told.payload ≡ B }
     // Where the bytes to come of both are known to the contract, the verdict is that of all of them.
-    ensures answer { (setting : Setting) (s B bytes more : List ℕ) → HasTaken (to_verify setting) s B verifier.old
+    ensures answer { (setting : Setting) (s B bytes more : List ℕ)
+        → HasTaken (to_verify setting) s B verifier.old
         → I.to_come message.old ≡ Some bytes → P.to_come payload.old ≡ Some more
-        → IfOk result (λ verdict. verdict_of H D (given (B ++ more) setting) (E.decides ec.now) (s ++ bytes) ≡ decided verdict) }
+        → IfOk result
+        (λ verdict. verdict_of H D (given (B ++ more) setting) (E.decides ec.now) (s ++ bytes)
+        ≡ decided verdict) }
 
     // The answer is kept, and a kept one is answered again.
     ensures kept { kept_answer verifier.new ≡ Some (answered_again result) }
@@ -199,9 +211,11 @@ pub fn verify_detached<
     ensures intake_failure { EitherFails (stops_for_intake result)
         (I.has_failed message.old) (I.has_failed message.new)
         (P.has_failed payload.old) (P.has_failed payload.new) }
-    ensures sink_failure { S.has_failed sink.new ≡ (S.has_failed sink.old || stops_for_sink result) }
+    ensures sink_failure { S.has_failed sink.new
+        ≡ (S.has_failed sink.old || stops_for_sink result) }
     // A sink that is sure of every payload doesn't stop it.
-    ensures sure { (setting : Setting) (s B : List ℕ) → HasTaken (to_verify setting) s B verifier.old
+    ensures sure { (setting : Setting) (s B : List ℕ)
+        → HasTaken (to_verify setting) s B verifier.old
         → setting.payload_limit ≤ S.sure sink.old → stops_for_sink result ≡ false }
 {
     // Laws of messages that the proof cites.

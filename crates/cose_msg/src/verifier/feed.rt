@@ -49,7 +49,8 @@ impl<'k, const H: usize, const D: usize, S: Keys<'k>> Verifier<'k, H, D, S> {
     pub fn status(&self) -> Status
         ensures value { result ≡ status_in self.now }
         // It is that of the bytes so far, by definition.
-        ensures reads { (task : Task) (s B : List ℕ) → HasTaken task s B self.now → result ≡ status_of (message (rules_of H D task) s) }
+        ensures reads { (task : Task) (s B : List ℕ) → HasTaken task s B self.now
+            → result ≡ status_of (message (rules_of H D task) s) }
     {
         self.reader.waits();
         if self.stopped {
@@ -70,11 +71,13 @@ impl<'k, const H: usize, const D: usize, S: Keys<'k>> Verifier<'k, H, D, S> {
     pub fn want(&self) -> u64
         ensures value { result ≡ wanted_in self.now }
         // By definition, of the bytes so far.
-        ensures reads { (task : Task) (s B : List ℕ) → HasTaken task s B self.now → result ≡ (message (rules_of H D task) s).wanted }
+        ensures reads { (task : Task) (s B : List ℕ) → HasTaken task s B self.now
+            → result ≡ (message (rules_of H D task) s).wanted }
         ensures some { status_in self.now ≡ Status.More → 0 < result }
         ensures none { is_more (status_in self.now) ≡ false → result ≡ 0 }
         // Fewer bytes than that don't settle the message.
-        ensures early { (task : Task) (s B more : List ℕ) → HasTaken task s B self.now → length more < result
+        ensures early { (task : Task) (s B more : List ℕ) → HasTaken task s B self.now
+            → length more < result
             → (message (rules_of H D task) (s ++ more)).settled ≡ false }
     {
         self.reader.waits();
@@ -107,14 +110,19 @@ impl<'k, const H: usize, const D: usize, S: Keys<'k>> Verifier<'k, H, D, S> {
     /// stays.
     pub fn feed(&mut self, piece: &[u8]) -> Fed
         // Of the bytes so far, whatever cuts they came in, and the piece:
-        ensures uses { (task : Task) (s B : List ℕ) → HasTaken task s B self.old → Uses (rules_of H D task) s piece.now result.used }
+        ensures uses { (task : Task) (s B : List ℕ) → HasTaken task s B self.old
+            → Uses (rules_of H D task) s piece.now result.used }
         ensures taken { (task : Task) (s B : List ℕ) → HasTaken task s B self.old
-            → HasTaken task (s ++ take result.used piece.now) (B ++ payload_in result piece.now) self.new }
+            → HasTaken task (s ++ take result.used piece.now) (B ++ payload_in result piece.now)
+            self.new }
         ensures status { (task : Task) (s B : List ℕ) → HasTaken task s B self.old
-            → result.status ≡ status_of (message (rules_of H D task) (s ++ take result.used piece.now)) }
+            → result.status
+            ≡ status_of (message (rules_of H D task) (s ++ take result.used piece.now)) }
         ensures payload { (task : Task) (s B : List ℕ) → HasTaken task s B self.old
-            → (message (rules_of H D task) (s ++ take result.used piece.now)).told.payload ≡ (message (rules_of H D task) s).told.payload ++ payload_in result piece.now }
-        ensures tells { (task : Task) (s B : List ℕ) → HasTaken task s B self.old → Tells task (s ++ take result.used piece.now) self.new }
+            → (message (rules_of H D task) (s ++ take result.used piece.now)).told.payload
+            ≡ (message (rules_of H D task) s).told.payload ++ payload_in result piece.now }
+        ensures tells { (task : Task) (s B : List ℕ) → HasTaken task s B self.old
+            → Tells task (s ++ take result.used piece.now) self.new }
         // The payload's bytes are some of those that were used, or both places are 0.
         ensures fits { result.used ≤ length piece.now }
         ensures ordered { result.payload_from ≤ result.payload_to }
@@ -124,7 +132,8 @@ impl<'k, const H: usize, const D: usize, S: Keys<'k>> Verifier<'k, H, D, S> {
         ensures stands { result.status ≡ status_in self.new }
         ensures counted { bytes_taken self.new ≡ bytes_taken self.old + result.used }
         // Where no byte is wanted, nothing changes.
-        ensures again { is_more (status_in self.old) ≡ false → (result ≡ nothing_used (status_in self.old)) × (self.new ≡ self.old) }
+        ensures again { is_more (status_in self.old) ≡ false
+            → (result ≡ nothing_used (status_in self.old)) × (self.new ≡ self.old) }
         ensures inspects { is_inspecting self.new ≡ is_inspecting self.old }
         ensures detached { is_detached self.new ≡ is_detached self.old }
         ensures context { (task : Task) (s B : List ℕ) → HasTaken task s B self.old
@@ -170,13 +179,18 @@ impl<'k, const H: usize, const D: usize, S: Keys<'k>> Verifier<'k, H, D, S> {
     pub fn end(&mut self) -> Status
         ensures stands { result ≡ status_in self.new }
         ensures truncated { status_in self.old ≡ Status.More
-            → result ≡ Status.Refused (record { reason = Reason.Truncated; place = bytes_taken self.old }) }
+            → result
+            ≡ Status.Refused (record { reason = Reason.Truncated; place = bytes_taken self.old }) }
         ensures kept { status_in self.old ≡ Status.More
-            → kept_answer self.new ≡ Some (Ok (Verdict.Refused (record { reason = Reason.Truncated; place = bytes_taken self.old }))) }
+            → kept_answer self.new
+            ≡ Some (Ok
+            (Verdict.Refused
+            (record { reason = Reason.Truncated; place = bytes_taken self.old }))) }
         ensures awaiting { (task : Task) (s B : List ℕ) → HasTaken task s B self.old
             → status_in self.old ≡ Status.PayloadNext
             → result ≡ status_of_answer (message (rules_of H D task) s).answer }
-        ensures again { is_open (status_in self.old) ≡ false → (result ≡ status_in self.old) × (self.new ≡ self.old) }
+        ensures again { is_open (status_in self.old) ≡ false → (result ≡ status_in self.old)
+            × (self.new ≡ self.old) }
         ensures counts { bytes_taken self.new ≡ bytes_taken self.old }
         ensures inspects { is_inspecting self.new ≡ is_inspecting self.old }
         ensures detached { is_detached self.new ≡ is_detached self.old }
@@ -204,11 +218,14 @@ impl<'k, const H: usize, const D: usize, S: Keys<'k>> Verifier<'k, H, D, S> {
         requires complete { is_complete (status_in self.old) ≡ true }
         requires verifies { is_inspecting self.old ≡ false }
         // It is that of the bytes so far.
-        ensures answer { (setting : Setting) (s B : List ℕ) → HasTaken (to_verify setting) s B self.old
+        ensures answer { (setting : Setting) (s B : List ℕ)
+            → HasTaken (to_verify setting) s B self.old
             → verdict_of H D setting (E.decides ec.now) s ≡ decided result }
-        ensures status { (setting : Setting) (s B : List ℕ) → HasTaken (to_verify setting) s B self.old → status_in self.new ≡ Status.Complete }
+        ensures status { (setting : Setting) (s B : List ℕ)
+            → HasTaken (to_verify setting) s B self.old → status_in self.new ≡ Status.Complete }
         ensures kept { kept_answer self.new ≡ Some (Ok result) }
-        ensures again { (verdict : Verdict) → kept_answer self.old ≡ Some (Ok verdict) → (result ≡ verdict) × (self.new ≡ self.old) }
+        ensures again { (verdict : Verdict) → kept_answer self.old ≡ Some (Ok verdict)
+            → (result ≡ verdict) × (self.new ≡ self.old) }
         ensures counts { bytes_taken self.new ≡ bytes_taken self.old }
         ensures inspects { is_inspecting self.new ≡ false }
         ensures detached { is_detached self.new ≡ is_detached self.old }

@@ -6,8 +6,8 @@ use Rattle.cose_msg.proofs.make.put_payload.Given as goal
 abbrev pub invariant-pieces : goal.invariant-pieces
 invariant-pieces g l =
     Along l.length l.left (g.I.Intake.to_come l.initial.intake) (g.I.Intake.to_come l.intake)
-    (seen (g.S.Sink.contents l.initial.sink) (g.S.Sink.has_failed l.initial.sink) (g.S.Sink.sure l.initial.sink))
-    (seen (g.S.Sink.contents l.sink) (g.S.Sink.has_failed l.sink) (g.S.Sink.sure l.sink)) l.initial.running l.running
+    (seen g.S.Sink.contents g.S.Sink.has_failed g.S.Sink.sure l.initial.sink)
+    (seen g.S.Sink.contents g.S.Sink.has_failed g.S.Sink.sure l.sink) l.initial.running l.running
     × (g.I.Intake.has_failed l.intake ≡ g.I.Intake.has_failed l.initial.intake)
 
 abbrev pub decreases-pieces : goal.decreases-pieces
