@@ -17,7 +17,7 @@ use Rattle.cose_msg.specs.Reading.{Reading}
 use Rattle.cose_msg.specs.Run.{Grows, TakesUntilStop}
 use Rattle.cose_msg.specs.Shown.{Tells, shown_in, shown_of}
 use Rattle.cose_msg.specs.Source.{Source, attached, detached, stated_of, with_came}
-use Rattle.cose_msg.specs.Status.{is_open, payload_wanted_in, status_at, status_in, status_of}
+use Rattle.cose_msg.specs.Status.{is_open, payload_wanted_in, status_of_phase, status_in, status_of_reading}
 use Rattle.cose_msg.specs.Task.{Task, given_to, rules_of}
 use Rattle.cose_msg.specs.Reader.{HoldsIn, StandsFor}
 use Rattle.cose_msg.specs.Verifier.{setting_in}
@@ -120,7 +120,7 @@ module _ {H D : ℕ} {S : Type 0} {K : _} {task : Task} {s B : List ℕ} {beside
 pub record IsAsRead {H D : ℕ} {S : Type 0} {K : _} (task : Task) (s B : List ℕ) (v : Verifier H D S K) : Type 0 where
   pub told : (message (rules_of H D task) (s ++ [])).told.payload ≡ B
   pub shown : shown_of v ≡ shown_in task.setting (message (rules_of H D task) (s ++ []))
-  pub status : status_at v.reader.phase ≡ status_of (message (rules_of H D task) (s ++ []))
+  pub status : status_of_phase v.reader.phase ≡ status_of_reading (message (rules_of H D task) (s ++ []))
   pub wanted : (message (rules_of H D task) (s ++ [])).payload_wanted ≡ payload_want_of v.reader.phase
 
 module _ {H D : ℕ} {S : Type 0} {K : _} {task : Task} {s B : List ℕ} {v : Verifier H D S K} (h : HasTaken task s B v) (r : IsAsRead task s B v) where
@@ -130,8 +130,8 @@ module _ {H D : ℕ} {S : Type 0} {K : _} {task : Task} {s B : List ℕ} {v : Ve
   pub read_shown : Tells task s v
   read_shown = r.shown ∙ ap (shown_in task.setting) (without_more H D task s)
 
-  pub read_status : status_in v ≡ status_of (message (rules_of H D task) s)
-  read_status = rw h.goes_on (r.status ∙ ap status_of (without_more H D task s))
+  pub read_status : status_in v ≡ status_of_reading (message (rules_of H D task) s)
+  read_status = rw h.goes_on (r.status ∙ ap status_of_reading (without_more H D task s))
 
   pub read_wanted : (message (rules_of H D task) s).payload_wanted ≡ payload_wanted_in v
   read_wanted = ap (λ (t : Reading). t.payload_wanted) (sym (without_more H D task s)) ∙ r.wanted ∙ sym (wanted_by v h.goes_on)
@@ -200,5 +200,5 @@ wanted_is_open v some = elim (awaits_or_not v.reader.phase) [
   | inl none ↦ absurd (omega (arith, some, none_wanted v.stopped _ none))
   | inr w ↦ (
       let goes_on : v.stopped ≡ false = goes_on_of v.stopped _ some in
-      (goes_on, rw goes_on (ap (λ phase. is_open (status_at phase)) w.1)))
+      (goes_on, rw goes_on (ap (λ phase. is_open (status_of_phase phase)) w.1)))
 ]

@@ -29,7 +29,7 @@ use Rattle.cose_msg.specs.Phases.{headers_told}
 use Rattle.cose_msg.specs.Reading.{Reading, Told, settled}
 use Rattle.cose_msg.specs.Run.{SaysCount, inspection}
 use Rattle.cose_msg.specs.Shown.{SignInput, Shown, held_input, input_in, pairs_at, shown_in, shown_by, sign_input_in}
-use Rattle.cose_msg.specs.Status.{is_open, status_at}
+use Rattle.cose_msg.specs.Status.{is_open, status_of_phase}
 use Rattle.cose_msg.specs.Task.{Task, given_to, rules_of, to_inspect, to_verify}
 use Rattle.cose_msg.specs.Reader.{Counts, HoldsBucket, HoldsIn, IsSigned, Known, StandsFor, is_authentic, left_in, whole_of}
 use Rattle.cose_msg.proofs.PhaseCases.{unsettled_ends}
@@ -156,7 +156,7 @@ stands_inspected {H} {D} {task} {B} {n} {v} {reading} shown h e =
 -- ---- no answer yet
 
 module _ {H D : ℕ} (setting : Setting) (known : Known) (told : Told) (n : ℕ) (v : Reader H D) where
-  open_without_verdict : (phase : Phase) → HoldsIn (to_verify setting) known told n v phase → verdict_in phase ≡ None → awaits_decision phase ≡ false → is_open (status_at phase) ≡ true
+  open_without_verdict : (phase : Phase) → HoldsIn (to_verify setting) known told n v phase → verdict_in phase ≡ None → awaits_decision phase ≡ false → is_open (status_of_phase phase) ≡ true
   open_without_verdict (phases.Settled verdict) h none e = absurd cc
   open_without_verdict (phases.Decided verdict) h none e = absurd h
   open_without_verdict (phases.Shaped p) h none e = let clash : false ≡ true = h.1 in absurd cc
@@ -177,7 +177,7 @@ module _ {H D : ℕ} (setting : Setting) (known : Known) (told : Told) (n : ℕ)
   not_authentic (Refused refusal) h none = absurd cc
   not_authentic (Authentic kind alg payload taken) h none = let clash : true ≡ false = h.1 refl in absurd cc
 
-  open_without_shape : (phase : Phase) → HoldsIn (to_inspect setting) known told n v phase → inspected_in phase ≡ None → is_open (status_at phase) ≡ true
+  open_without_shape : (phase : Phase) → HoldsIn (to_inspect setting) known told n v phase → inspected_in phase ≡ None → is_open (status_of_phase phase) ≡ true
   open_without_shape (phases.Settled verdict) h none = absurd (not_authentic verdict h none)
   open_without_shape (phases.Decided verdict) h none = absurd h
   open_without_shape (phases.Shaped p) h none = absurd cc
@@ -194,13 +194,13 @@ module _ {H D : ℕ} (setting : Setting) (known : Known) (told : Told) (n : ℕ)
   open_without_shape (phases.AuthHead p) h none = refl
   open_without_shape (phases.Auth p) h none = refl
 
-pub stands_without_verdict : {H D : ℕ} {setting : Setting} {B : List ℕ} {n : ℕ} {v : Reader H D} {reading : List ℕ → Reading} → StandsFor (to_verify setting) B n v reading → verdict_in v.phase ≡ None → awaits_decision v.phase ≡ false → is_open (status_at v.phase) ≡ true
+pub stands_without_verdict : {H D : ℕ} {setting : Setting} {B : List ℕ} {n : ℕ} {v : Reader H D} {reading : List ℕ → Reading} → StandsFor (to_verify setting) B n v reading → verdict_in v.phase ≡ None → awaits_decision v.phase ≡ false → is_open (status_of_phase v.phase) ≡ true
 stands_without_verdict {H} {D} {setting} {B} {n} {v} {reading} h none e = open_without_verdict setting h.known h.told n v v.phase h.holds none e
 
-pub stands_without_shape : {H D : ℕ} {setting : Setting} {B : List ℕ} {n : ℕ} {v : Reader H D} {reading : List ℕ → Reading} → StandsFor (to_inspect setting) B n v reading → inspected_in v.phase ≡ None → is_open (status_at v.phase) ≡ true
+pub stands_without_shape : {H D : ℕ} {setting : Setting} {B : List ℕ} {n : ℕ} {v : Reader H D} {reading : List ℕ → Reading} → StandsFor (to_inspect setting) B n v reading → inspected_in v.phase ≡ None → is_open (status_of_phase v.phase) ≡ true
 stands_without_shape {H} {D} {setting} {B} {n} {v} {reading} h none = open_without_shape setting h.known h.told n v v.phase h.holds none
 
-pub open_shows_no_input : (phase : Phase) (held : Option SignInput) → is_open (status_at phase) ≡ true → input_in phase held ≡ None
+pub open_shows_no_input : (phase : Phase) (held : Option SignInput) → is_open (status_of_phase phase) ≡ true → input_in phase held ≡ None
 open_shows_no_input phases.FirstHead held e = refl
 open_shows_no_input (phases.TagHead p) held e = refl
 open_shows_no_input (phases.ArrayHead p) held e = refl
@@ -224,7 +224,7 @@ module _ {H D : ℕ} (task : Task) (known : Known) (told : Told) (n : ℕ) (v : 
   unfolding left here
   ended_unsettled phase h e = truncated_in task known told n v waits phase h e ∙ ap (refused Truncated) (sym (unsettled_ends phase n e))
 
-  ended_in : (phase : Phase) → HoldsIn task known told n v phase → IsNow task known told n v waits → is_open (status_at phase) ≡ true → (left task known told n v phase).answer ≡ refused Truncated (ends_at phase n)
+  ended_in : (phase : Phase) → HoldsIn task known told n v phase → IsNow task known told n v waits → is_open (status_of_phase phase) ≡ true → (left task known told n v phase).answer ≡ refused Truncated (ends_at phase n)
   unfolding left here
   ended_in (phases.Detached p) h now e = ap (λ (r : Reading). r.answer) (awaiting_in task known told n v waits p h now [])
   ended_in (phases.Settled (Authentic kind alg payload taken)) h now e = absurd cc
@@ -244,7 +244,7 @@ module _ {H D : ℕ} (task : Task) (known : Known) (told : Told) (n : ℕ) (v : 
   ended_in (phases.Shaped p) h now e = absurd cc
 
 -- A message of which bytes are wanted, or of whose payload, is Truncated where it ends.
-pub stands_ended : {H D : ℕ} {task : Task} {B : List ℕ} {n : ℕ} {v : Reader H D} {reading : List ℕ → Reading} → ItemWaits v → StandsFor task B n v reading → given_to B task ≡ task → is_open (status_at v.phase) ≡ true → (reading []).answer ≡ refused Truncated (ends_at v.phase n)
+pub stands_ended : {H D : ℕ} {task : Task} {B : List ℕ} {n : ℕ} {v : Reader H D} {reading : List ℕ → Reading} → ItemWaits v → StandsFor task B n v reading → given_to B task ≡ task → is_open (status_of_phase v.phase) ≡ true → (reading []).answer ≡ refused Truncated (ends_at v.phase n)
 unfolding left
 stands_ended {H} {D} {task} {B} {n} {v} {reading} waits h came e = ap (λ (r : Reading). r.answer) (h.left []) ∙ ended_in task h.known h.told n v waits v.phase h.holds (came_known task h.known B h.payload_known came) e
 
@@ -264,7 +264,7 @@ shown_alike : (p q : Option (List Pair)) (r t : Option (List Pair)) (x y : Optio
 shown_alike p q r t x y m n e f g h = rw (e, f, g, h) refl
 
 module _ {H D : ℕ} (task : Task) (known : Known) (told : Told) (n : ℕ) (v : Reader H D) (waits : ItemWaits v) where
-  open_input : (phase : Phase) → HoldsIn task known told n v phase → is_settled phase ≡ false → is_open (status_at phase) ≡ true → input_in phase (held_input v) ≡ sign_input_in task.setting.aad (left task known told n v phase).answer
+  open_input : (phase : Phase) → HoldsIn task known told n v phase → is_settled phase ≡ false → is_open (status_of_phase phase) ≡ true → input_in phase (held_input v) ≡ sign_input_in task.setting.aad (left task known told n v phase).answer
   unfolding left here
   open_input phase h unsettled e = open_shows_no_input phase (held_input v) e ∙ sym (ap (sign_input_in task.setting.aad) (truncated_in task known told n v waits phase h unsettled))
 

@@ -14,7 +14,7 @@ use Rattle.cose_msg.specs.declared.verdict.Verdict.TheVariants.{Authentic, Refus
 use Rattle.cose_msg.specs.Kept.{verdict_in}
 use Rattle.cose_msg.specs.Phase.{awaits_decision, ends_at, is_settled, payload_want_of, takes_bytes}
 use Rattle.cose_msg.specs.Shown.{SignInput, input_in}
-use Rattle.cose_msg.specs.Status.{is_payload_next, status_at}
+use Rattle.cose_msg.specs.Status.{is_payload_next, status_of_phase}
 
 -- In a phase that isn't settled and is no string, one byte is taken at a time.
 pub takes_byte : (phase : Phase) → ((p : Protected) → phase ≡ phases.Protected p → ⊥) → ((p : Unprotected) → phase ≡ phases.Unprotected p → ⊥) →
@@ -88,7 +88,7 @@ tells_no_input (phases.Decided verdict) held undecided none = absurd cc
 tells_no_input (phases.Settled verdict) held undecided none = refl
 tells_no_input (phases.Shaped p) held undecided none = refl
 
-pub more_is_unsettled : (phase : Phase) → status_at phase ≡ More → is_settled phase ≡ false
+pub more_is_unsettled : (phase : Phase) → status_of_phase phase ≡ More → is_settled phase ≡ false
 more_is_unsettled phases.FirstHead more = refl
 more_is_unsettled (phases.TagHead p) more = refl
 more_is_unsettled (phases.ArrayHead p) more = refl
@@ -162,10 +162,10 @@ pub unsettled_ends : (phase : Phase) (n : ℕ) → is_settled phase ≡ false �
 unsettled_ends phase n e = (not_awaiting phase (awaits_none is_settled false (λ p. true≢false) phase e)).1 n
 
 -- Where the status isn't that bytes of a detached payload are wanted, none are.
-pub none_wanted_else : (phase : Phase) → is_payload_next (status_at phase) ≡ false → payload_want_of phase ≡ 0
-none_wanted_else phase e = (not_awaiting phase (awaits_none (λ q. is_payload_next (status_at q)) false (λ p. true≢false) phase e)).0
+pub none_wanted_else : (phase : Phase) → is_payload_next (status_of_phase phase) ≡ false → payload_want_of phase ≡ 0
+none_wanted_else phase e = (not_awaiting phase (awaits_none (λ q. is_payload_next (status_of_phase q)) false (λ p. true≢false) phase e)).0
 
-pub unsettled_is_more : (phase : Phase) → is_settled phase ≡ false → status_at phase ≡ More
+pub unsettled_is_more : (phase : Phase) → is_settled phase ≡ false → status_of_phase phase ≡ More
 unsettled_is_more phases.FirstHead e = refl
 unsettled_is_more (phases.TagHead p) e = refl
 unsettled_is_more (phases.ArrayHead p) e = refl

@@ -16,21 +16,21 @@ use Rattle.cose_msg.specs.Kept.{HasTaken, answer_kept}
 use Rattle.cose_msg.specs.Message.{message}
 use Rattle.cose_msg.specs.Phase.{is_settled, payload_want_of}
 use Rattle.cose_msg.specs.Reading.{Reading, Told}
-use Rattle.cose_msg.specs.Status.{is_complete, is_open, status_at, status_in, status_left, status_of, status_of_answer}
+use Rattle.cose_msg.specs.Status.{is_complete, is_open, status_of_phase, status_in, status_left, status_of_reading, status_of_answer}
 use Rattle.cose_msg.specs.Task.{Task, rules_of}
 use Rattle.cose_msg.specs.Reader.{HoldsIn, Known, StandsFor, left_in}
 use Rattle.cose_msg.proofs.Decisions.{IsDone}
 use Rattle.cose_msg.proofs.Runs.{IsKept, kept_by, without_more}
 
-open_status : (reading : Reading) → reading.settled ≡ false → reading.payload_wanted ≡ 0 → More ≡ status_of reading
+open_status : (reading : Reading) → reading.settled ≡ false → reading.payload_wanted ≡ 0 → More ≡ status_of_reading reading
 open_status reading e none = rw (none, e) refl
 
 -- Bytes of a detached payload are wanted.
-awaiting_status : (reading : Reading) (missing : ℕ) → reading.payload_wanted ≡ missing → 0 < missing → PayloadNext ≡ status_of reading
+awaiting_status : (reading : Reading) (missing : ℕ) → reading.payload_wanted ≡ missing → 0 < missing → PayloadNext ≡ status_of_reading reading
 awaiting_status reading missing e some = rw (e, lt-ltb 0 missing some) refl
 
 module _ {H D : ℕ} (task : Task) (known : Known) (told : Told) (n : ℕ) (v : Reader H D) where
-  status_here : (phase : Phase) (reading : Reading) → HoldsIn task known told n v phase → reading ≡ left_in (rules_of H D task) known told v phase [] → reading.settled ≡ is_settled phase → reading.payload_wanted ≡ payload_want_of phase → status_at phase ≡ status_of reading
+  status_here : (phase : Phase) (reading : Reading) → HoldsIn task known told n v phase → reading ≡ left_in (rules_of H D task) known told v phase [] → reading.settled ≡ is_settled phase → reading.payload_wanted ≡ payload_want_of phase → status_of_phase phase ≡ status_of_reading reading
   status_here phases.FirstHead reading h e same none = open_status reading same none
   status_here (phases.TagHead p) reading h e same none = open_status reading same none
   status_here (phases.ArrayHead p) reading h e same none = open_status reading same none
@@ -42,17 +42,17 @@ module _ {H D : ℕ} (task : Task) (known : Known) (told : Told) (n : ℕ) (v : 
   status_here (phases.Detached p) reading h e same none = awaiting_status reading p.left none p.some_left
   status_here (phases.AuthHead p) reading h e same none = open_status reading same none
   status_here (phases.Auth p) reading h e same none = open_status reading same none
-  status_here (phases.Signed p) reading h e same none = sym (ap status_of e)
+  status_here (phases.Signed p) reading h e same none = sym (ap status_of_reading e)
   status_here (phases.Decided verdict) reading h e same none = absurd h
-  status_here (phases.Settled verdict) reading h e same none = sym (ap status_of e)
-  status_here (phases.Shaped p) reading h e same none = sym (ap status_of e)
+  status_here (phases.Settled verdict) reading h e same none = sym (ap status_of_reading e)
+  status_here (phases.Shaped p) reading h e same none = sym (ap status_of_reading e)
 
-pub stands_status : {H D : ℕ} {task : Task} {B : List ℕ} {n : ℕ} {v : Reader H D} {reading : List ℕ → Reading} → StandsFor task B n v reading → (reading []).settled ≡ is_settled v.phase → (reading []).payload_wanted ≡ payload_want_of v.phase → status_at v.phase ≡ status_of (reading [])
+pub stands_status : {H D : ℕ} {task : Task} {B : List ℕ} {n : ℕ} {v : Reader H D} {reading : List ℕ → Reading} → StandsFor task B n v reading → (reading []).settled ≡ is_settled v.phase → (reading []).payload_wanted ≡ payload_want_of v.phase → status_of_phase v.phase ≡ status_of_reading (reading [])
 stands_status {H} {D} {task} {B} {n} {v} {reading} h same none = status_here task h.known h.told n v v.phase (reading []) h.holds (h.left []) same none
 
 -- The status of the phase is that of all bytes that were taken.
-pub status_reads : {H D : ℕ} {S : Type 0} {K : _} {task : Task} {s B : List ℕ} {v : Verifier H D S K} {said : Status} → HasTaken task s B v → status_at v.reader.phase ≡ status_of (message (rules_of H D task) (s ++ [])) → status_at v.reader.phase ≡ said → said ≡ status_of (message (rules_of H D task) s)
-status_reads {H} {D} {S} {K} {task} {s} {B} {v} {said} h same is = sym is ∙ same ∙ ap status_of (without_more H D task s)
+pub status_reads : {H D : ℕ} {S : Type 0} {K : _} {task : Task} {s B : List ℕ} {v : Verifier H D S K} {said : Status} → HasTaken task s B v → status_of_phase v.reader.phase ≡ status_of_reading (message (rules_of H D task) (s ++ [])) → status_of_phase v.reader.phase ≡ said → said ≡ status_of_reading (message (rules_of H D task) s)
+status_reads {H} {D} {S} {K} {task} {s} {B} {v} {said} h same is = sym is ∙ same ∙ ap status_of_reading (without_more H D task s)
 
 -- A verifier that wants bytes hasn't stopped.
 pub wants_and_goes_on : (stopped : Bool) (wanted said : ℕ) → said ≡ cond stopped 0 wanted → (said ≡ 0 → ⊥) → stopped ≡ false
@@ -114,10 +114,10 @@ open_if true answer wants = let closed : is_open (status_of_answer answer) ≡ f
 open_if false answer wants = refl
 
 -- A message of which bytes are wanted, and none of a detached payload, isn't settled; and one that isn't settled wants bytes.
-pub open_unsettled : (reading : Reading) → reading.payload_wanted ≡ 0 → is_open (status_of reading) ≡ true → reading.settled ≡ false
+pub open_unsettled : (reading : Reading) → reading.payload_wanted ≡ 0 → is_open (status_of_reading reading) ≡ true → reading.settled ≡ false
 open_unsettled reading none wants = open_if reading.settled reading.answer (rw none at wants)
 
-pub unsettled_open : (reading : Reading) → reading.settled ≡ false → is_open (status_of reading) ≡ true
+pub unsettled_open : (reading : Reading) → reading.settled ≡ false → is_open (status_of_reading reading) ≡ true
 unsettled_open reading e = rw e (either_open (nat_lt 0 reading.payload_wanted))
 
 open_either : (awaits settled : Bool) (answer other : Answer) → is_open (cond awaits PayloadNext (cond settled (status_of_answer answer) More)) ≡ is_open (cond awaits PayloadNext (cond settled (status_of_answer other) More))
@@ -126,19 +126,19 @@ open_either false true answer other = answer_is_closed answer ∙ sym (answer_is
 open_either false false answer other = refl
 
 -- Whether bytes are wanted doesn't depend on the answer.
-pub open_as : (reading other : Reading) → reading.payload_wanted ≡ other.payload_wanted → reading.settled ≡ other.settled → is_open (status_of reading) ≡ is_open (status_of other)
+pub open_as : (reading other : Reading) → reading.payload_wanted ≡ other.payload_wanted → reading.settled ≡ other.settled → is_open (status_of_reading reading) ≡ is_open (status_of_reading other)
 open_as reading other wanted settled = rw (wanted, settled) (open_either (nat_lt 0 other.payload_wanted) other.settled reading.answer other.answer)
 
 -- The status of a settled message is that of its answer.
-pub settled_status : (reading : Reading) (said : Status) → said ≡ status_of reading → IsDone reading → said ≡ status_of_answer reading.answer
+pub settled_status : (reading : Reading) (said : Status) → said ≡ status_of_reading reading → IsDone reading → said ≡ status_of_answer reading.answer
 settled_status reading said e done = e ∙ rw (done.1, done.0) refl
 
-pub status_going : {H D : ℕ} {S : Type 0} {K : _} (v : Verifier H D S K) (said : Status) → v.stopped ≡ false → status_at v.reader.phase ≡ said → status_in v ≡ said
+pub status_going : {H D : ℕ} {S : Type 0} {K : _} (v : Verifier H D S K) (said : Status) → v.stopped ≡ false → status_of_phase v.reader.phase ≡ said → status_in v ≡ said
 status_going v said goes_on e = rw goes_on e
 
 -- ---- the status after a run
 
-pub left_by_kept : {A : Type 0} {H D : ℕ} {S : Type 0} {K : _} {task : Task} {s B : List ℕ} {v : Verifier H D S K} (answer : Option A) (result : Result A Stop) → HasTaken task s B v → status_at v.reader.phase ≡ status_of (message (rules_of H D task) (s ++ [])) → IsDone (message (rules_of H D task) (s ++ [])) →
+pub left_by_kept : {A : Type 0} {H D : ℕ} {S : Type 0} {K : _} {task : Task} {s B : List ℕ} {v : Verifier H D S K} (answer : Option A) (result : Result A Stop) → HasTaken task s B v → status_of_phase v.reader.phase ≡ status_of_reading (message (rules_of H D task) (s ++ [])) → IsDone (message (rules_of H D task) (s ++ [])) →
     answer_kept v.stopped answer ≡ Some result → status_in v ≡ status_left result (message (rules_of H D task) s)
 left_by_kept {A} {H} {D} {S} {K} {task} {s} {B} {v} answer result h same done kept =
     let going : answer_kept false answer ≡ Some result = rw h.goes_on at kept in

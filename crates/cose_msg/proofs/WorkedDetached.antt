@@ -8,7 +8,7 @@ use Rattle.cose_msg.specs.Answer.{Answer, refused}
 use Rattle.cose_msg.specs.Message.{verifying}
 use Rattle.cose_msg.specs.Reading.{Reading}
 use Rattle.cose_msg.specs.Source.{detached}
-use Rattle.cose_msg.specs.Status.{status_of}
+use Rattle.cose_msg.specs.Status.{status_of_reading}
 use Rattle.cose_msg.proofs.WorkedMessages.{hex, Gives, reading, verdict_in, under, never, plain}
 
 -- The verdict, where these bytes have come of a payload of so many.
@@ -80,7 +80,7 @@ empty_payload = refl
 abbrev fed : List ℕ → List ℕ → Status × ℕ × ℕ
 fed came bytes =
     let reading : Reading = reading (verifying 1024 4 (record (under plain) { source = detached came 2 }) never) bytes in
-    (status_of reading, reading.payload_wanted, reading.wanted)
+    (status_of_reading reading, reading.payload_wanted, reading.wanted)
 
 none_came : Gives (fed []) (
     (hex "d18443a10105a0", (More, 0, 1)) ∷

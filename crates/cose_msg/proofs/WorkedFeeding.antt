@@ -21,7 +21,7 @@ use Rattle.cose_msg.specs.Answer as answers
 use Rattle.cose_msg.specs.Feed.{Uses}
 use Rattle.cose_msg.specs.Message.{comparing, inspecting, message, structure}
 use Rattle.cose_msg.specs.Rules.{Rules}
-use Rattle.cose_msg.specs.Status.{status_of, status_of_answer}
+use Rattle.cose_msg.specs.Status.{status_of_reading, status_of_answer}
 use Rattle.cose_msg.proofs.WorkedMessages.{hex, any, Gives, reading, under, jefe, plain, point}
 
 abbrev mac_rules : Rules
@@ -36,7 +36,7 @@ shape_rules = inspecting 1024 4 (under [])
 -- ---- the status
 
 abbrev status : Rules → List ℕ → Status
-status rules bytes = status_of (reading rules bytes)
+status rules bytes = status_of_reading (reading rules bytes)
 
 abbrev refused : Reason → ℕ → Status
 refused reason place = statuses.Refused (record { reason = reason; place = place })

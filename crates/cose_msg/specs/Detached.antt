@@ -14,7 +14,7 @@ use Rattle.cose_msg.specs.Rules.{Rules}
 use Rattle.cose_msg.specs.Run.{Ends, Grows, IsAnswer, TakesUntilStop, stop_in}
 use Rattle.cose_msg.specs.Shown.{Tells}
 use Rattle.cose_msg.specs.Source.{stated_of}
-use Rattle.cose_msg.specs.Status.{is_open, status_of}
+use Rattle.cose_msg.specs.Status.{is_open, status_of_reading}
 use Rattle.cose_msg.specs.Task.{Task, given_to, rules_of}
 
 -- Bytes of both intakes are taken in their order, each once. Of the one that failed, if any, the bytes to come may be
@@ -33,7 +33,7 @@ EitherFails stops first first_after second second_after =
 
 -- Further bytes are wanted, of the message or of its payload.
 abbrev pub WantsMore : Reading → Type 0
-WantsMore reading = is_open (status_of reading) ≡ true
+WantsMore reading = is_open (status_of_reading reading) ≡ true
 
 -- All of the payload has come, unless its intake has ended and gives no further byte.
 pub record PayloadEnds (came : ℕ) (ended : Bool) (beside_after : Option (List ℕ)) (reading : Reading) : Type 0 where

@@ -27,8 +27,8 @@ status_of_answer (complete whole) = Complete
 status_of_answer (shaped kind payload auth taken) = Complete
 
 -- Further bytes are wanted until the message is settled, or until bytes of a detached payload are.
-abbrev pub status_of : Reading → Status
-status_of reading =
+abbrev pub status_of_reading : Reading → Status
+status_of_reading reading =
     if nat_lt 0 reading.payload_wanted then PayloadNext else
     if reading.settled then status_of_answer reading.answer else More
 
@@ -59,16 +59,16 @@ status_left (Err stop) reading = Stopped
 -- ---- of a verifier
 
 -- Deciding on a signature, either way, leaves the message complete.
-abbrev pub status_at : Phase → Status
-status_at (phases.Detached p) = PayloadNext
-status_at (phases.Signed p) = Complete
-status_at (phases.Decided verdict) = Complete
-status_at (phases.Settled verdict) = status_of_verdict verdict
-status_at (phases.Shaped p) = Complete
-status_at _ = More
+abbrev pub status_of_phase : Phase → Status
+status_of_phase (phases.Detached p) = PayloadNext
+status_of_phase (phases.Signed p) = Complete
+status_of_phase (phases.Decided verdict) = Complete
+status_of_phase (phases.Settled verdict) = status_of_verdict verdict
+status_of_phase (phases.Shaped p) = Complete
+status_of_phase _ = More
 
 abbrev pub status_in : {H D : ℕ} {S : Type 0} {K : _} → Verifier H D S K → Status
-status_in v = if v.stopped then Stopped else status_at v.reader.phase
+status_in v = if v.stopped then Stopped else status_of_phase v.reader.phase
 
 -- How many bytes are to come for certain. A verifier that has stopped wants none.
 abbrev pub wanted_in : {H D : ℕ} {S : Type 0} {K : _} → Verifier H D S K → ℕ

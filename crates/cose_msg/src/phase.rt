@@ -230,7 +230,7 @@ pub(crate) enum Phase {
 impl Phase {
     ghost use Rattle.std.specs.Prelude.{◌≡◌, false};
     ghost use Rattle.cose_msg.specs.Phase.{ends_at, is_settled, payload_want_of, want_of};
-    ghost use Rattle.cose_msg.specs.Status.{status_at};
+    ghost use Rattle.cose_msg.specs.Status.{status_of_phase};
 
     /// Whether no further byte of the message is wanted, or none before bytes of a detached payload.
     pub(crate) fn is_settled(&self) -> bool
@@ -285,7 +285,7 @@ impl Phase {
 
     /// The status of the message. Deciding on a signature, either way, leaves it complete.
     pub(crate) fn status(&self) -> Status
-        ensures { result ≡ status_at self.now }
+        ensures { result ≡ status_of_phase self.now }
     {
         match *self {
             Phase::Detached(_) => Status::PayloadNext,

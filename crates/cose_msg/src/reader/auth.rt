@@ -58,7 +58,7 @@ impl<'k, const H: usize, const D: usize> Reader<'k, H, D> {
     ghost use Rattle.cose_msg.specs.Answer.{Chosen as Found};
     ghost use Rattle.cose_msg.specs.declared.status.Status.{Status};
     ghost use Rattle.cose_msg.specs.Phase.{payload_want_of};
-    ghost use Rattle.cose_msg.specs.Status.{status_at};
+    ghost use Rattle.cose_msg.specs.Status.{status_of_phase};
     ghost use Rattle.cose_msg.specs.Phases.{auth_head, finish, headers_told, past_auth_head};
     ghost use Rattle.cose_msg.specs.Reading.{Reading};
     ghost use Rattle.cose_msg.specs.Task.{Task, rules_of};
@@ -77,7 +77,7 @@ impl<'k, const H: usize, const D: usize> Reader<'k, H, D> {
     /// The head of the tag or signature begins here, after a payload of this length.
     pub(crate) fn begin_auth_head(&mut self, kind: Kind, at: u64, payload: u64)
         requires early { at < 2 ^ 57 }
-        ensures further { status_at self.new.phase ≡ Status.More }
+        ensures further { status_of_phase self.new.phase ≡ Status.More }
         ensures unawaited { payload_want_of self.new.phase ≡ 0 }
         ensures stands { (task : Task) (known : Known)
             → Shows task (headers_told known.headers known.payload) self.old

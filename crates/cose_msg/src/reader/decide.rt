@@ -22,7 +22,7 @@ impl<'k, const H: usize, const D: usize> Reader<'k, H, D> {
     ghost use Rattle.cose_msg.specs.Run.{SaysCount, inspection};
     ghost use Rattle.cose_msg.specs.Shown.{held_by, shown_by, shown_in, sign_input_by};
     ghost use Rattle.cose_msg.specs.declared.status.Status.{Status};
-    ghost use Rattle.cose_msg.specs.Status.{is_open, status_at, status_of, status_of_answer};
+    ghost use Rattle.cose_msg.specs.Status.{is_open, status_of_phase, status_of_reading, status_of_answer};
     ghost use Rattle.cose_msg.specs.Task.{Task, given_to, to_inspect, to_verify};
 
     /// The verdict, once it is known.
@@ -68,7 +68,7 @@ impl<'k, const H: usize, const D: usize> Reader<'k, H, D> {
             → (reading []).told.payload ≡ B }
         ensures ended { (task : Task) (B : List ℕ) (n : ℕ) (reading : List ℕ → Reading)
             → StandsFor task B n self.now reading → given_to B task ≡ task
-            → is_open (status_at self.now.phase) ≡ true
+            → is_open (status_of_phase self.now.phase) ≡ true
             → (reading []).answer ≡ refused Reason.Truncated (ends_at self.now.phase n) }
         // What it shows so far is what the reading of these bytes shows.
         ensures shows { (task : Task) (B : List ℕ) (n : ℕ) (reading : List ℕ → Reading)
@@ -83,7 +83,7 @@ impl<'k, const H: usize, const D: usize> Reader<'k, H, D> {
         // So the status is that of these bytes.
         ensures status { (task : Task) (B : List ℕ) (n : ℕ) (reading : List ℕ → Reading)
             → StandsFor task B n self.now reading → given_to B task ≡ task
-            → status_at self.now.phase ≡ status_of (reading []) }
+            → status_of_phase self.now.phase ≡ status_of_reading (reading []) }
         // In the payload the next bytes are the payload's, as many as are left of it; after it none are.
         ensures grows { (task : Task) (B : List ℕ) (n : ℕ) (reading : List ℕ → Reading)
             (more : List ℕ)
@@ -170,7 +170,7 @@ impl<'k, const H: usize, const D: usize> Reader<'k, H, D> {
         ensures held { held_by self.new ≡ held_by self.old }
         ensures opened { opened_by self.new ≡ opened_by self.old }
         ensures complete { awaits_decision self.old.phase ≡ true
-            → status_at self.new.phase ≡ Status.Complete }
+            → status_of_phase self.new.phase ≡ Status.Complete }
         ensures answer { (setting : Setting) (B : List ℕ) (reading : List ℕ → Reading)
             → StandsFor (to_verify setting) B taken self.old reading
             → given_to B (to_verify setting) ≡ to_verify setting
@@ -182,7 +182,7 @@ impl<'k, const H: usize, const D: usize> Reader<'k, H, D> {
         ensures status { (setting : Setting) (B : List ℕ) (reading : List ℕ → Reading)
             → StandsFor (to_verify setting) B taken self.old reading
             → given_to B (to_verify setting) ≡ to_verify setting
-            → status_at self.new.phase ≡ status_of_answer (reading []).answer }
+            → status_of_phase self.new.phase ≡ status_of_answer (reading []).answer }
         // Where no byte was taken, the only change is that the message is Truncated at 0.
         ensures untouched { taken ≡ 0 → IsUntouched self.old → IsUntouched self.new }
     {
@@ -225,7 +225,7 @@ impl<'k, const H: usize, const D: usize> Reader<'k, H, D> {
         ensures status { (setting : Setting) (B : List ℕ) (reading : List ℕ → Reading)
             → StandsFor (to_inspect setting) B taken self.old reading
             → given_to B (to_inspect setting) ≡ to_inspect setting
-            → status_at self.new.phase ≡ status_of_answer (reading []).answer }
+            → status_of_phase self.new.phase ≡ status_of_answer (reading []).answer }
         ensures untouched { taken ≡ 0 → IsUntouched self.old → IsUntouched self.new }
     {
         self.waits();

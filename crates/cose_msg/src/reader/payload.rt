@@ -67,7 +67,7 @@ impl<'k, const H: usize, const D: usize> Reader<'k, H, D> {
     ghost use Rattle.cose_msg.specs.Reader.{HoldsKey, IsAtPayload, Known, Shows, StandsFor};
     ghost use Rattle.cose_msg.specs.declared.status.Status.{Status};
     ghost use Rattle.cose_msg.specs.Phase.{payload_want_of};
-    ghost use Rattle.cose_msg.specs.Status.{is_open, status_at};
+    ghost use Rattle.cose_msg.specs.Status.{is_open, status_of_phase};
     ghost use Rattle.cose_msg.specs.Source.{IsStated, attached, came_of, detached};
 
     /// The payload's head begins here.
@@ -232,8 +232,8 @@ impl<'k, const H: usize, const D: usize> Reader<'k, H, D> {
         requires fits { length part.now ≤ detached.left }
         // So many bytes fewer are wanted; once there are none, further bytes of the message are.
         ensures left { payload_want_of self.new.phase + length part.now ≡ detached.left }
-        ensures further { is_open (status_at self.new.phase) ≡ true }
-        ensures complete { payload_want_of self.new.phase ≡ 0 → status_at self.new.phase
+        ensures further { is_open (status_of_phase self.new.phase) ≡ true }
+        ensures complete { payload_want_of self.new.phase ≡ 0 → status_of_phase self.new.phase
             ≡ Status.More }
         // Where it is the next one of what comes of the payload, the reading stays.
         ensures stands { (task : Task) (B more : List ℕ) (n : ℕ) (reading : List ℕ → Reading)

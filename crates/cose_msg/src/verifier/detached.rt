@@ -11,7 +11,7 @@ impl<'k, const H: usize, const D: usize, S: Keys<'k>> Verifier<'k, H, D, S> {
     ghost use Rattle.cose_msg.specs.Message.{message};
     ghost use Rattle.cose_msg.specs.Shown.{Tells, held};
     ghost use Rattle.cose_msg.specs.declared.status.Status.{Status};
-    ghost use Rattle.cose_msg.specs.Status.{is_open, is_payload_next, payload_wanted_in, status_in, status_of};
+    ghost use Rattle.cose_msg.specs.Status.{is_open, is_payload_next, payload_wanted_in, status_in, status_of_reading};
     ghost use Rattle.cose_msg.specs.Task.{Task, given_to, rules_of};
     ghost use Rattle.cose_msg.specs.Verifier.{is_detached, opened, setting_in};
 
@@ -45,7 +45,8 @@ impl<'k, const H: usize, const D: usize, S: Keys<'k>> Verifier<'k, H, D, S> {
             self.new }
         ensures status { (task : Task) (s B : List ℕ) → HasTaken task s B self.old
             → status_in self.new
-            ≡ status_of (message (rules_of H D (given_to (B ++ take result piece.now) task)) s) }
+            ≡ status_of_reading
+            (message (rules_of H D (given_to (B ++ take result piece.now) task)) s) }
         ensures tells { (task : Task) (s B : List ℕ) → HasTaken task s B self.old
             → Tells (given_to (B ++ take result piece.now) task) s self.new }
         // So many fewer are wanted then. Where none is, bytes of the message are.

@@ -41,7 +41,7 @@ impl<'k, const H: usize, const D: usize, S: Keys<'k>> Verifier<'k, H, D, S> {
     ghost use Rattle.cose_msg.specs.Message.{Setting, message, verdict_of};
     ghost use Rattle.cose_msg.specs.Phase.{is_settled, want_of};
     ghost use Rattle.cose_msg.specs.Shown.{Tells, held, shown_of};
-    ghost use Rattle.cose_msg.specs.Status.{is_complete, is_more, is_open, status_in, status_of, status_of_answer, wanted_in};
+    ghost use Rattle.cose_msg.specs.Status.{is_complete, is_more, is_open, status_in, status_of_reading, status_of_answer, wanted_in};
     ghost use Rattle.cose_msg.specs.Task.{Task, rules_of, to_verify};
     ghost use Rattle.cose_msg.specs.Verifier.{is_detached, opened, setting_in};
 
@@ -50,7 +50,7 @@ impl<'k, const H: usize, const D: usize, S: Keys<'k>> Verifier<'k, H, D, S> {
         ensures value { result ≡ status_in self.now }
         // It is that of the bytes so far, by definition.
         ensures reads { (task : Task) (s B : List ℕ) → HasTaken task s B self.now
-            → result ≡ status_of (message (rules_of H D task) s) }
+            → result ≡ status_of_reading (message (rules_of H D task) s) }
     {
         self.reader.waits();
         if self.stopped {
@@ -117,7 +117,7 @@ impl<'k, const H: usize, const D: usize, S: Keys<'k>> Verifier<'k, H, D, S> {
             self.new }
         ensures status { (task : Task) (s B : List ℕ) → HasTaken task s B self.old
             → result.status
-            ≡ status_of (message (rules_of H D task) (s ++ take result.used piece.now)) }
+            ≡ status_of_reading (message (rules_of H D task) (s ++ take result.used piece.now)) }
         ensures payload { (task : Task) (s B : List ℕ) → HasTaken task s B self.old
             → (message (rules_of H D task) (s ++ take result.used piece.now)).told.payload
             ≡ (message (rules_of H D task) s).told.payload ++ payload_in result piece.now }

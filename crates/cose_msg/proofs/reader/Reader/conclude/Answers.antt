@@ -5,7 +5,7 @@ use Rattle.cose_msg.specs.Laws.{then_verified}
 use Rattle.cose_msg.specs.declared.status.Status.TheVariants.{Complete}
 use Rattle.cose_msg.specs.Phase.{awaits_decision, is_settled, payload_want_of}
 use Rattle.cose_msg.specs.Shown.{held_input, sign_input_by}
-use Rattle.cose_msg.specs.Status.{status_at, status_of}
+use Rattle.cose_msg.specs.Status.{status_of_phase, status_of_reading}
 use Rattle.cose_msg.specs.Task.{to_verify}
 use Rattle.cose_msg.specs.Reader.{Counts}
 use Rattle.cose_msg.proofs.PhaseCases.{known_is_decided, tells_no_input, unsigned_is_undecided}
@@ -29,7 +29,7 @@ returns-in-Some-clause-status g c = λ setting B reading h came.
 pub returns-in-Signed-clause-status : goal.returns-in-Signed-clause-status
 returns-in-Signed-clause-status g c = λ setting B reading h came.
     let settles : IsDone (reading []) = (c.waits.ensures.settled (to_verify setting) B _ reading h came ∙ ap is_settled c.in-Signed.is, c.waits.ensures.payload_wanted (to_verify setting) B _ reading h came ∙ ap payload_want_of c.in-Signed.is) in
-    let complete : Complete ≡ status_of (reading []) = sym (ap status_at c.in-Signed.is) ∙ c.waits.ensures.status (to_verify setting) B _ reading h came in
+    let complete : Complete ≡ status_of_reading (reading []) = sym (ap status_of_phase c.in-Signed.is) ∙ c.waits.ensures.status (to_verify setting) B _ reading h came in
     settled_status (reading []) Complete complete settles
 
 pub returns-in-Signed-clause-answer : goal.returns-in-Signed-clause-answer

@@ -2,7 +2,7 @@ use Rattle.std.proofs.Common.{◌≡◌, true, false, refl, sym, ap, ◌∙◌, 
 use Rattle.std.proofs.lemmas.Grind.{common_steps}
 use Rattle.cose_msg.specs.Phase.{ends_at}
 use Rattle.cose_msg.specs.Reading.{Reading}
-use Rattle.cose_msg.specs.Status.{is_open, status_at, status_of_answer}
+use Rattle.cose_msg.specs.Status.{is_open, status_of_phase, status_of_answer}
 use Rattle.cose_msg.specs.Shown.{held_input}
 use Rattle.cose_msg.proofs.Decisions.{open_shows_no_input}
 use Rattle.cose_msg.proofs.PhaseCases.{more_is_unsettled, unsettled_ends}
@@ -38,7 +38,7 @@ returns-in-More-clause-kept g c = λ more.
 pub returns-in-More-clause-awaiting : goal.returns-in-More-clause-awaiting
 returns-in-More-clause-awaiting g c = λ task s B h awaits.
     let phase = c.args.self.now.reader.phase in
-    let opened : is_open (status_at phase) ≡ true = open_unless_stopped c.args.self.now.stopped (status_at phase) (ap is_open awaits) in
+    let opened : is_open (status_of_phase phase) ≡ true = open_unless_stopped c.args.self.now.stopped (status_of_phase phase) (ap is_open awaits) in
     let ended = c.waits.ensures.ended task B _ _ h.so_far h.came opened in
     rw (c.truncate.ensures.same, c.ends_at-place.ensures ∙ ap (ends_at phase) h.counted) (sym (ap status_of_answer (ap (λ (r : Reading). r.answer) (sym (without_more g.row.H g.row.D task s)) ∙ ended)))
 
@@ -53,7 +53,7 @@ returns-in-More-clause-context g c = rw c.truncate.ensures.terms refl
 pub returns-in-More-clause-shown : goal.returns-in-More-clause-shown
 returns-in-More-clause-shown g c =
     let now = c.args.self.now in
-    let opened = open_unless_stopped now.stopped (status_at now.reader.phase) (ap is_open (sym c.status.ensures.value) ∙ either_is_open c.status.result c.in-More.is) in
+    let opened = open_unless_stopped now.stopped (status_of_phase now.reader.phase) (ap is_open (sym c.status.ensures.value) ∙ either_is_open c.status.result c.in-More.is) in
     c.truncate.ensures.shown (open_shows_no_input now.reader.phase (held_input now.reader) opened)
 
 pub invariant_of-self-clause-untouched : goal.invariant_of-self-clause-untouched

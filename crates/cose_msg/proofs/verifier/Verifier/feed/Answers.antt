@@ -1,7 +1,7 @@
 use Rattle.std.specs.Prelude.{◌==◌}
 use Rattle.std.proofs.Common.{rules, ◌≡◌, ◌+◌, ◌<◌, ◌≤◌, ℕ, true, false, List, length, refl, sym, ap, ◌∙◌, arith}
 use Rattle.cose_msg.specs.Phase.{in_payload, want_of}
-use Rattle.cose_msg.specs.Status.{status_of}
+use Rattle.cose_msg.specs.Status.{status_of_reading}
 use Rattle.cose_msg.specs.Task.{Task}
 use Rattle.cose_msg.proofs.Feeds.{at_start, chosen_within, fits_in, goes_on, goes_past, in_order, is_behind, knows_payload, part_extended, stepped, tells_now, uses_all, uses_none}
 use Rattle.cose_msg.proofs.Runs.{without_more}
@@ -20,7 +20,7 @@ returns-then-want-eq0-clause-uses g c = λ task s B h.
 
 pub returns-then-want-eq0-clause-status : goal.returns-then-want-eq0-clause-status
 returns-then-want-eq0-clause-status g c = λ task s B h.
-    c.status.ensures.reads task s B h ∙ ap status_of (sym (without_more g.row.H g.row.D task s))
+    c.status.ensures.reads task s B h ∙ ap status_of_reading (sym (without_more g.row.H g.row.D task s))
 
 pub returns-then-want-eq0-clause-tells : goal.returns-then-want-eq0-clause-tells
 returns-then-want-eq0-clause-tells g c = λ task s B h. c.waits.ensures.shows task B _ _ h.so_far h.came

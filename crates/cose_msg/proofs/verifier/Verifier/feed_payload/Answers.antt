@@ -3,7 +3,7 @@ use Rattle.cose_msg.specs.Kept.{HasTaken}
 use Rattle.cose_msg.specs.Reader.{SoFar}
 use Rattle.cose_msg.specs.Shown.{shown_in}
 use Rattle.cose_msg.specs.Phase.{payload_want_of}
-use Rattle.cose_msg.specs.Status.{payload_wanted_in, status_of}
+use Rattle.cose_msg.specs.Status.{payload_wanted_in, status_of_reading}
 use Rattle.cose_msg.specs.Task.{Task, given_to}
 use Rattle.cose_msg.proofs.Given.{came_more, given_again, now_given, stands_beside}
 use Rattle.cose_msg.proofs.Runs.{without_more}
@@ -33,7 +33,7 @@ returns-in-Detached-clause-taken g c = λ task s B h.
 pub returns-in-Detached-clause-status : goal.returns-in-Detached-clause-status
 returns-in-Detached-clause-status g c = λ task s B h.
     let now = returns-in-Detached-clause-taken g c task s B h in
-    rw h.goes_on (c.waits.ensures.status _ _ _ _ now.so_far now.came ∙ ap status_of (without_more g.row.H g.row.D _ s))
+    rw h.goes_on (c.waits.ensures.status _ _ _ _ now.so_far now.came ∙ ap status_of_reading (without_more g.row.H g.row.D _ s))
 
 pub returns-in-Detached-clause-tells : goal.returns-in-Detached-clause-tells
 returns-in-Detached-clause-tells g c = λ task s B h.
