@@ -1,5 +1,6 @@
 -- The job of some arguments prints what they ask for.
-use Rattle.std.proofs.Common.{◌≡◌, ℕ, ℤ, List, Option, Bor, option_map, refl, subst}
+use Rattle.std.proofs.Common.{◌≡◌, ℕ, ℤ, List, Option, Some, Bor, length, option_map, take, refl, subst}
+use Rattle.std.proofs.Math.Seq.{take-length}
 use Rattle.cose_map.specs.Key.View.{contents}
 use Rattle.cose_msg.specs.declared.context.Wanted.{Wanted}
 use Rattle.cosecmd.specs.declared.job.Job.TheVariants.{Show, Verify, Cwt, Digest, Make}
@@ -9,7 +10,8 @@ use Rattle.cosecmd.specs.declared.words.Make.{Make as MakeWords}
 use Rattle.cosecmd.specs.declared.words.Request.{Request}
 use Rattle.cosecmd.specs.declared.words.Request.TheVariants as asks
 use Rattle.cosecmd.specs.declared.words.Verify.{Verify as VerifyWords}
-use Rattle.cosecmd.specs.Printed.{EndsWith, Output, printed}
+use Rattle.cosecmd.specs.declared.job.FileJob.{FileJob}
+use Rattle.cosecmd.specs.Printed.{EndsWith, Output, printed, verified_with}
 use Rattle.cosecmd.specs.Words.{admitted_for, asked_for, digested_for, made_for, verified_for}
 
 -- A run that ends with one output ends with an equal one.
@@ -38,6 +40,12 @@ pub make_words : (words : MakeWords) (key aad : Bor (List ℕ)) (kid : Option (B
 unfolding printed
 make_words words key aad kid bytes k a v = rw (k, a, v) refl
 
-pub show_words : (request : Request) (wanted : Wanted) (bytes : List ℕ) → request ≡ asks.Show wanted → printed (Show wanted) bytes ≡ asked_for request bytes
+pub show_words : (request : Request) (wanted : Wanted) (payload : Option (List ℕ)) (bytes : List ℕ) → request ≡ asks.Show wanted → printed (Show wanted) bytes ≡ asked_for request payload bytes
 unfolding printed
-show_words request wanted bytes is = rw is refl
+show_words request wanted payload bytes is = rw is refl
+
+-- ---- a payload in a file
+
+pub file_words : (words : VerifyWords) (job : FileJob) (payload bytes : List ℕ) → job.keys.now ≡ words.keys.items → job.aad.now ≡ words.aad.items → job.wanted ≡ words.wanted →
+    option_map contents job.vouch ≡ option_map (λ word. word.items) words.vouch → job.length ≡ length payload → verified_with job (take job.length payload) bytes ≡ verified_for words (Some payload) bytes
+file_words words job payload bytes k a w v n = rw (k, a, w, v, n, take-length payload) refl

@@ -4,6 +4,7 @@ pub mod Digests
 pub mod Failures
 pub mod KeyFiles
 pub mod Makings
+pub mod PayloadFiles
 pub mod Replies
 pub mod Shows
 pub mod Trailing

@@ -18,6 +18,15 @@ abbrev pub fails_by_input : {A : Type 0} → Result A Fault → Bool
 fails_by_input (Ok answer) = false
 fails_by_input (Err fault) = is_of_input fault
 
+-- Whether the fault says that a file failed.
+abbrev pub is_of_file : Fault → Bool
+is_of_file (faults.File option) = true
+is_of_file _ = false
+
+abbrev pub fails_by_file : {A : Type 0} → Result A Fault → Bool
+fails_by_file (Ok answer) = false
+fails_by_file (Err fault) = is_of_file fault
+
 abbrev pub fault_in : {A : Type 0} → Result A Fault → Option Fault
 fault_in (Ok answer) = None
 fault_in (Err fault) = Some fault

@@ -1,6 +1,8 @@
 pub mod Admitted
 pub mod Faults
 pub mod Job
+pub mod Payload
+pub mod PayloadFile
 pub mod Printed
 pub mod Vouch
 pub mod Words

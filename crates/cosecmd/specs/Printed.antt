@@ -35,6 +35,7 @@ use Rattle.cose_cwt.specs.Admission.{PolicyValue}
 use Rattle.cose_cwt.specs.Claims.Audience.{text_value}
 use Rattle.cose_cwt.specs.Token.{Outcome}
 use Rattle.cosecmd.specs.Admitted.{input_token, outcome_status, outcome_text, program_policy}
+use Rattle.cosecmd.specs.declared.job.FileJob.{FileJob}
 use Rattle.cosecmd.specs.declared.job.Job.{Job}
 use Rattle.cosecmd.specs.declared.job.Job.TheVariants.{Show, Verify, Cwt, Digest, Make}
 use Rattle.cosecmd.specs.declared.reply.Reply.{Reply}
@@ -139,6 +140,11 @@ output_of (shaped kind payload auth taken) = none_said
 abbrev pub verified_under : Read (List KeyValue) → List ℕ → Wanted → Option (List ℕ) → Option (List ℕ) → List ℕ → Output
 verified_under (Ok keys) aad wanted vouch payload bytes = output_of (input_answer (with_payload payload (program_setting keys aad wanted)) (vouching vouch) bytes)
 verified_under (Err refusal) aad wanted vouch payload bytes = fault_of_keys refusal
+
+-- The same for a job whose payload comes from a file, and has these bytes.
+abbrev pub verified_with : FileJob → List ℕ → List ℕ → Output
+verified_with job payload bytes =
+    verified_under (program_keys job.keys.now) job.aad.now job.wanted (option_map contents job.vouch) (Some payload) bytes
 
 -- A token is verified as a message is, with a payload of at most 4,096 bytes.
 abbrev pub token_setting : List KeyValue → List ℕ → Wanted → Setting

@@ -1,8 +1,9 @@
 -- What is printed for the arguments of a command, and how it ends: the output of the job that these arguments ask for.
-use Rattle.std.specs.Prelude.{ℕ, List, Option, option_map, string_bytes}
+use Rattle.std.specs.Prelude.{ℕ, List, Option, Some, None, option_map, string_bytes}
 use Rattle.cose_cwt.specs.Claims.Audience.{text_value}
 use Rattle.cose_map.specs.Key.{key_of}
 use Rattle.cosecmd.specs.Admitted.{program_policy}
+use Rattle.cosecmd.specs.Payload.{detached_in}
 use Rattle.cosecmd.specs.Printed.{Output, admitted_under, digested_under, made_under, program_keys, shown, verified_under}
 use Rattle.cosecmd.specs.declared.words.Cwt.{Cwt}
 use Rattle.cosecmd.specs.declared.words.Digest.{Digest}
@@ -27,11 +28,20 @@ abbrev pub made_for : Make → List ℕ → Output
 made_for words bytes =
     made_under (key_of (record { bytes = words.key.items; place = 0 })) words.alg words.length (option_map (λ word. word.items) words.kid) words.aad.items bytes
 
--- Help, the version and what is wrong with the line are printed as they are.
-abbrev pub asked_for : Request → List ℕ → Output
-asked_for (asks.Show wanted) bytes = shown wanted bytes
-asked_for (asks.Verify words payload) bytes = verified_for words (option_map (λ payload. payload.items) payload) bytes
-asked_for (asks.Cwt words) bytes = admitted_for words bytes
-asked_for (asks.Digest words) bytes = digested_for words bytes
-asked_for (asks.Make words) bytes = made_for words bytes
-asked_for (asks.Print reply) bytes = record { text = string_bytes reply.text; status = reply.status }
+-- The detached payload that the arguments of `verify` name, as far as it is known. No other command has one.
+abbrev pub payload_for : (List ℕ → Option (List ℕ)) → Request → Option (Option (List ℕ))
+payload_for content (asks.Verify words payload) = detached_in content payload
+payload_for content (asks.Show wanted) = Some None
+payload_for content (asks.Cwt words) = Some None
+payload_for content (asks.Digest words) = Some None
+payload_for content (asks.Make words) = Some None
+payload_for content (asks.Print reply) = Some None
+
+-- With this detached payload, where there is one. Help, the version and what is wrong with the line are printed as they are.
+abbrev pub asked_for : Request → Option (List ℕ) → List ℕ → Output
+asked_for (asks.Show wanted) payload bytes = shown wanted bytes
+asked_for (asks.Verify words from) payload bytes = verified_for words payload bytes
+asked_for (asks.Cwt words) payload bytes = admitted_for words bytes
+asked_for (asks.Digest words) payload bytes = digested_for words bytes
+asked_for (asks.Make words) payload bytes = made_for words bytes
+asked_for (asks.Print reply) payload bytes = record { text = string_bytes reply.text; status = reply.status }

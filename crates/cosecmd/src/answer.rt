@@ -1,8 +1,8 @@
 //! What the program answers to a job, over any reader and writer.
 
-ghost use Rattle.std.specs.Prelude.{◌≡◌, ◌≤◌, ℕ, List, Some, length as length_of};
+ghost use Rattle.std.specs.Prelude.{◌≡◌, ◌≤◌, ℕ, List, Some, length as length_of, take};
 ghost use Rattle.cosecmd.specs.Job.{aad_of};
-ghost use Rattle.cosecmd.specs.Printed.{EndsWith, Prints, printed};
+ghost use Rattle.cosecmd.specs.Printed.{EndsWith, Prints, printed, verified_with};
 
 mod cwt;
 mod digest;
@@ -10,7 +10,7 @@ mod make;
 mod show;
 mod verify;
 
-use crate::job::Job;
+use crate::job::{FileJob, Job};
 use crate::print::{print_fault, print_reply};
 use crate::reply::Status;
 use cwt::{cwt_reply, policy_of};
@@ -19,7 +19,7 @@ use make::make_message;
 use show::show_reply;
 use std::alloc::Global;
 use std::io::{Read, Write};
-use verify::verify_reply;
+use verify::{verify_reply, verify_reply_with_file};
 
 /// Does a job, and says how the run ends.
 #[tactic(auto, unfolding(crate::specs::Printed::printed))]
@@ -90,4 +90,27 @@ pub fn answer<R: Read, W: Write>(alloc: Global, job: &Job, input: &mut R, output
         EndsWith (printed job.now bytes) (W.contents output.old) (W.contents output.new) result }
 {
     status_of(alloc, job, input, output).code()
+}
+
+/// Does the job `verify` with a payload that comes from a reader, next to the message: its first bytes, as many as the job states.
+///
+/// Of `payload` it reads nothing before the message's nil, in pieces of at most 4,096 bytes, and nothing after the stated length.
+/// In all else it is as [`answer`]: an error of `payload`, and an end before the stated length, is a fault, and no verdict.
+pub fn answer_with_payload_file<P: Read, R: Read, W: Write>(
+    alloc: Global,
+    job: &FileJob,
+    payload: &mut P,
+    input: &mut R,
+    output: &mut W,
+) -> u8
+    requires external { length_of job.now.aad.now ≤ 65535 }
+    ensures status { result ≤ 2 }
+    // Unless there is a fault, it prints the output for the stated bytes of the payload and all that the input gives, and
+    // ends with its status.
+    ensures printed { (bytes more : List ℕ) → R.remaining input.old ≡ Some bytes →
+        P.remaining payload.old ≡ Some more → job.now.length ≤ length_of more →
+        EndsWith (verified_with job.now (take job.now.length more) bytes) (W.contents output.old) (W.contents output.new) result }
+{
+    let reply = verify_reply_with_file(alloc, job, payload, input);
+    print_reply(alloc, reply, output).code()
 }

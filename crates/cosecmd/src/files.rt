@@ -1,14 +1,15 @@
-//! The files that options name, where a key or a key set is in a file.
+//! The files that options name, where a key, a key set or a payload is in a file.
 
-ghost use Rattle.std.specs.Prelude.{◌≡◌, ◌≢◌, ◌⊎◌, ℕ, List, Option, Some, None, IfErr, IfOk, take};
+ghost use Rattle.std.specs.Prelude.{◌≡◌, ◌≢◌, ◌⊎◌, ℕ, List, Option, Some, None, IfErr, IfOk, length, take};
+ghost use Rattle.std.specs.Fs.{IsFile, file_type, metadata_len};
 ghost use Rattle.std.specs.IoError.{error_kind};
 ghost use Rattle.cosecmd.specs.Printed.{program_keys};
 
 use crate::fault::Fault;
 use std::alloc::Global;
-use std::fs::File;
-use std::io;
+use std::fs::{File, Metadata};
 use std::io::{Error, ErrorKind, Read};
+use std::{fs, io};
 
 /// The most bytes of a file that are read. A key set of so many is refused.
 const MOST: usize = 65_536;
@@ -26,6 +27,12 @@ pub trait NamedFiles {
     fn open(&self, name: &str) -> io::Result<Self::File>
         ensures { (bytes : List ℕ) → content self.now name.now ≡ Some bytes →
             IfOk result (λ file. Self.File.remaining file ≡ Some bytes) };
+
+    /// Opens the file of this name, to be read from its first byte, and returns the number of its bytes too. A file that
+    /// has no such number is an error.
+    fn open_with_length(&self, name: &str) -> io::Result<(Self::File, u64)>
+        ensures { (bytes : List ℕ) → content self.now name.now ≡ Some bytes →
+            IfOk result (λ opened. (Self.File.remaining opened.0 ≡ Some bytes) × (opened.1 ≡ length bytes)) };
 }
 
 /// The files of the process. Their bytes aren't known to the contract.
@@ -37,6 +44,25 @@ impl NamedFiles for HostRuntime {
     fn open(&self, name: &str) -> io::Result<File> {
         File::open(self, name)
     }
+
+    fn open_with_length(&self, name: &str) -> io::Result<(File, u64)> {
+        // To open a pipe would be to wait for its writer.
+        length_of_regular(&fs::metadata(self, name)?)?;
+        let file = File::open(self, name)?;
+        let length = length_of_regular(&file.metadata()?)?;
+        Ok((file, length))
+    }
+}
+
+/// The number of bytes of a regular file. Of a directory, a pipe or a device it is unknown.
+fn length_of_regular(metadata: &Metadata) -> io::Result<u64>
+    ensures length { IfOk result (λ length. length ≡ metadata_len metadata.now) }
+    ensures regular { IfOk result (λ _. IsFile (file_type metadata.now)) }
+{
+    if metadata.is_file() {
+        return Ok(metadata.len());
+    }
+    Err(Error::from(ErrorKind::InvalidInput))
 }
 
 /// No files: none can be opened.
@@ -49,6 +75,10 @@ impl NamedFiles for NoFiles {
     ghost content = { λ _ _. None };
 
     fn open(&self, _name: &str) -> io::Result<&'static [u8]> {
+        Err(Error::from(ErrorKind::NotFound))
+    }
+
+    fn open_with_length(&self, _name: &str) -> io::Result<(&'static [u8], u64)> {
         Err(Error::from(ErrorKind::NotFound))
     }
 }

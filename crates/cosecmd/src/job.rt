@@ -61,3 +61,18 @@ pub enum Job<'j> {
         aad: &'j [u8],
     },
 }
+
+/// What a run is asked to do that verifies the message on the input with a payload from a file.
+#[derive(Clone, Copy)]
+pub struct FileJob<'j> {
+    /// The bytes of the key set (RFC 9052 section 7).
+    pub keys: &'j [u8],
+    /// The externally supplied data (RFC 9052 section 4.3).
+    pub aad: &'j [u8],
+    /// The kinds of messages that are wanted.
+    pub wanted: Wanted,
+    /// The argument of `--vouch`, where there is one.
+    pub vouch: Option<&'j [u8]>,
+    /// The number of bytes of the detached payload (RFC 9052 sections 4.2 and 6.2).
+    pub length: u64,
+}

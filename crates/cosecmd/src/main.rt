@@ -12,6 +12,7 @@ mod files;
 mod job;
 mod line;
 mod mistake;
+mod payload_file;
 mod print;
 mod reply;
 mod run;

@@ -1,16 +1,18 @@
 //! A run of the program: its arguments, and then its job.
 
-ghost use Rattle.std.specs.Prelude.{◌≡◌, ◌≤◌, ℕ, List, Some, option_map};
+ghost use Rattle.std.specs.Prelude.{◌≡◌, ◌≤◌, ℕ, List, Option, Some, option_map};
 ghost use Rattle.cose_map.specs.Key.View.{contents};
+ghost use Rattle.cosecmd.specs.Payload.{detached_in};
 ghost use Rattle.cosecmd.specs.Printed.{EndsWith};
-ghost use Rattle.cosecmd.specs.Words.{admitted_for, asked_for, digested_for, made_for, verified_for};
+ghost use Rattle.cosecmd.specs.Words.{admitted_for, asked_for, digested_for, made_for, payload_for, verified_for};
 
-use crate::answer::answer;
+use crate::answer::{answer, answer_with_payload_file};
+use crate::fault::Fault;
 use crate::files::{NamedFiles, NoFiles};
-use crate::job::Job;
+use crate::job::{FileJob, Job};
 use crate::print::{print, print_fault};
 use crate::reply::Reply;
-use crate::words::{Cwt, Digest, Make, Request, Verify, request_of};
+use crate::words::{Cwt, Digest, Make, Payload, Request, Verify, request_of};
 use std::alloc::Global;
 use std::io::{Read, Write};
 
@@ -24,26 +26,56 @@ fn slice_of(word: &Option<Vec<u8>>) -> Option<&[u8]>
     }
 }
 
-/// The job of the command `verify`.
+/// The job of the command `verify`, where the payload is in the message, or is these bytes.
 fn answer_verify<R: Read, W: Write>(
     alloc: Global,
     words: &Verify,
-    payload: &Option<Vec<u8>>,
+    payload: Option<&[u8]>,
     input: &mut R,
     output: &mut W,
 ) -> u8
     ensures status { result ≤ 2 }
     ensures printed { (bytes : List ℕ) → R.remaining input.old ≡ Some bytes →
-        EndsWith (verified_for words.now (option_map (λ payload. payload.items) payload.now) bytes) (W.contents output.old) (W.contents output.new) result }
+        EndsWith (verified_for words.now (option_map contents payload.entry) bytes) (W.contents output.old) (W.contents output.new) result }
 {
     let job = Job::Verify {
         keys: words.keys.as_slice(),
         aad: words.aad.as_slice(),
         wanted: words.wanted,
         vouch: slice_of(&words.vouch),
-        payload: slice_of(payload),
+        payload,
     };
     answer(alloc, &job, input, output)
+}
+
+/// The job of the command `verify`, where the payload is in the file of this name.
+fn answer_verify_with_file<F: NamedFiles, R: Read, W: Write>(
+    alloc: Global,
+    files: &F,
+    words: &Verify,
+    name: &str,
+    input: &mut R,
+    output: &mut W,
+) -> u8
+    ensures status { result ≤ 2 }
+    ensures printed { (bytes payload : List ℕ) → R.remaining input.old ≡ Some bytes →
+        F.content files.now name.now ≡ Some payload →
+        EndsWith (verified_for words.now (Some payload) bytes) (W.contents output.old) (W.contents output.new) result }
+{
+    let (mut file, length) = match files.open_with_length(name) {
+        Ok(opened) => opened,
+        Err(error) => {
+            return print_fault(alloc, Fault::file("payload-file", &error), output).code();
+        }
+    };
+    let job = FileJob {
+        keys: words.keys.as_slice(),
+        aad: words.aad.as_slice(),
+        wanted: words.wanted,
+        vouch: slice_of(&words.vouch),
+        length,
+    };
+    answer_with_payload_file(alloc, &job, &mut file, input, output)
 }
 
 /// The job of the command `cwt`.
@@ -100,22 +132,49 @@ fn answer_make<R: Read, W: Write>(alloc: Global, words: &Make, input: &mut R, ou
     answer(alloc, &job, input, output)
 }
 
-/// Does what the arguments ask for, and returns how the run ends.
-fn answer_request<R: Read, W: Write>(
+/// Does what the arguments of `verify` ask for.
+fn answer_verify_request<F: NamedFiles, R: Read, W: Write>(
     alloc: Global,
+    files: &F,
+    words: &Verify,
+    payload: &Payload,
+    input: &mut R,
+    output: &mut W,
+) -> u8
+    ensures status { result ≤ 2 }
+    ensures printed { (bytes : List ℕ) (detached : Option (List ℕ)) → R.remaining input.old ≡ Some bytes →
+        detached_in (F.content files.now) payload.entry.now ≡ Some detached →
+        EndsWith (verified_for words.now detached bytes) (W.contents output.old) (W.contents output.new) result }
+{
+    match payload {
+        Payload::InMessage => answer_verify(alloc, words, None, input, output),
+        Payload::Bytes(bytes) => {
+            answer_verify(alloc, words, Some(bytes.as_slice()), input, output)
+        }
+        Payload::File(name) => { answer_verify_with_file(alloc, files, words, name, input, output) }
+    }
+}
+
+/// Does what the arguments ask for, and returns how the run ends.
+fn answer_request<F: NamedFiles, R: Read, W: Write>(
+    alloc: Global,
+    files: &F,
     request: &Request,
     input: &mut R,
     output: &mut W,
 ) -> u8
     ensures status { result ≤ 2 }
-    // Unless there is a fault, it prints the output for these arguments and all that the reader gives, and ends with
-    // its status.
-    ensures printed { (bytes : List ℕ) → R.remaining input.old ≡ Some bytes →
-        EndsWith (asked_for request.entry.now bytes) (W.contents output.old) (W.contents output.new) result }
+    // Unless there is a fault, it prints the output for these arguments, for the payload that they name, if any, and for
+    // all that the reader gives, and ends with its status.
+    ensures printed { (bytes : List ℕ) (payload : Option (List ℕ)) → R.remaining input.old ≡ Some bytes →
+        payload_for (F.content files.now) request.entry.now ≡ Some payload →
+        EndsWith (asked_for request.entry.now payload bytes) (W.contents output.old) (W.contents output.new) result }
 {
     match request {
         Request::Show(wanted) => answer(alloc, &Job::Show { wanted: *wanted }, input, output),
-        Request::Verify { words, payload } => answer_verify(alloc, words, payload, input, output),
+        Request::Verify { words, payload } => {
+            answer_verify_request(alloc, files, words, payload, input, output)
+        }
         Request::Cwt(words) => answer_cwt(alloc, words, input, output),
         Request::Digest(words) => answer_digest(alloc, words, input, output),
         Request::Make(words) => answer_make(alloc, words, input, output),
@@ -137,12 +196,13 @@ pub fn run<'a, R: Read, W: Write>(
 
 /// Runs the program: `words` are the arguments of the command line, the first of them the program's name. The message,
 /// or the payload of which one is made, comes from `input`; every line goes to `output`, a fault's too, and so does a
-/// message that is made. The keys come from the arguments, or from the file that an option names.
+/// message that is made. The keys come from the arguments, or from the file that an option names, and so does a detached
+/// payload, which is read from its file while the message is verified.
 ///
 /// The exit status is 0 for a message that is authentic, shown or made, or whose digest is printed, and for a token
 /// that is admitted (and for help and the version), 1 for a message or a token that is refused, and 2 where there is no
-/// answer and no whole message: the command line is wrong, the file of the keys can't be read, the keys are refused, a
-/// request for memory is refused, or the input or the output fails.
+/// answer and no whole message: the command line is wrong, a file of the keys or of the payload can't be read, the keys are
+/// refused, a request for memory is refused, or the input or the output fails.
 pub fn run_with_files<'a, F: NamedFiles, R: Read, W: Write>(
     alloc: Global,
     words: &'a [&'a str],
@@ -153,7 +213,7 @@ pub fn run_with_files<'a, F: NamedFiles, R: Read, W: Write>(
     ensures { result ≤ 2 }
 {
     match request_of(alloc, files, words) {
-        Ok(request) => answer_request(alloc, &request, input, output),
+        Ok(request) => answer_request(alloc, files, &request, input, output),
         Err(fault) => print_fault(alloc, fault, output).code(),
     }
 }

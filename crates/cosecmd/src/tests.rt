@@ -15,6 +15,7 @@ mod making;
 mod messages;
 mod mistakes;
 mod options;
+mod payload_files;
 mod payloads;
 mod replaced;
 mod rows;

@@ -3,6 +3,7 @@
 ghost use Rattle.std.specs.Prelude.{◌≡◌, ◌≤◌, ℕ, List, Some, IfOk, codes, length as length_of};
 ghost use Rattle.clap.specs.Matches.{first_value, found_of};
 ghost use Rattle.cosecmd.specs.Printed.{program_keys};
+ghost use Rattle.cosecmd.specs.Payload.{IsFile};
 
 use crate::fault::Fault;
 use crate::files::{NamedFiles, key_bytes, key_set_bytes};
@@ -115,6 +116,17 @@ pub struct Make {
     ghost external: { length_of aad.items ≤ 65535 },
 }
 
+/// Where the payload of the message is.
+#[derive(Drop)]
+pub enum Payload<'w> {
+    /// In the message.
+    InMessage,
+    /// It is these bytes, and the message has nil in its place.
+    Bytes(Vec<u8>),
+    /// In the file of this name, and the message has nil in its place.
+    File(&'w str),
+}
+
 /// What the arguments ask for.
 #[derive(Drop)]
 pub enum Request<'w> {
@@ -124,8 +136,8 @@ pub enum Request<'w> {
     Verify {
         /// Those of its arguments that `cwt` has too.
         words: Verify,
-        /// The detached payload, where there is one.
-        payload: Option<Vec<u8>>,
+        /// The payload.
+        payload: Payload<'w>,
     },
     /// To admit a token.
     Cwt(Cwt<'w>),
@@ -201,6 +213,17 @@ fn payload_option<'a>(alloc: Global) -> Arg<'a> {
         .help(
             "The payload of a message that has nil in its place (detached: RFC 9052 sections 4.2 and 6.2)",
         )
+}
+
+/// The option of the detached payload's file.
+fn payload_file_option<'a>(alloc: Global) -> Result<Arg<'a>, AllocError> {
+    Arg::new(alloc, "payload-file")
+        .long("payload-file")
+        .value_name("PATH")
+        .help(
+            "The regular file that has the bytes of the payload, in place of --payload; it is read while the message is verified",
+        )
+        .conflicts_with("payload")
 }
 
 /// The option of the current time.
@@ -296,7 +319,8 @@ fn verify_line<'a>(alloc: Global) -> Result<Command<'a>, AllocError> {
         .arg(aad_option(alloc))?
         .arg(kind_option(alloc))?
         .arg(vouch_option(alloc))?
-        .arg(payload_option(alloc))
+        .arg(payload_option(alloc))?
+        .arg(payload_file_option(alloc)?)
 }
 
 /// The command `cwt` and its options.
@@ -474,14 +498,35 @@ fn verify_of<F: NamedFiles>(
     })
 }
 
+/// The payload where the arguments name no file of it.
+fn payload_in_line<'a>(alloc: Global, matches: &ArgMatches) -> Result<Payload<'a>, Fault> {
+    match optional_bytes_of(alloc, matches, "payload")? {
+        Some(bytes) => Ok(Payload::Bytes(bytes)),
+        None => Ok(Payload::InMessage),
+    }
+}
+
+/// Where the arguments say that the payload is. A file isn't opened yet.
+fn payload_of<'a>(alloc: Global, matches: &ArgMatches<'a>) -> Result<Payload<'a>, Fault>
+    // Where a file is named, the payload is in this file.
+    ensures file { (name : List ℕ) →
+        first_value (found_of matches.now) (codes "payload-file") ≡ Some name →
+        IfOk result (IsFile name) }
+{
+    match matches.get_str("payload-file") {
+        Some(name) => Ok(Payload::File(name)),
+        None => payload_in_line(alloc, matches),
+    }
+}
+
 /// What the arguments of `verify` ask for. The payload goes last, as help lists it.
 fn verify_request<'a, F: NamedFiles>(
     alloc: Global,
     files: &F,
-    matches: &ArgMatches,
+    matches: &ArgMatches<'a>,
 ) -> Result<Request<'a>, Fault> {
     let words = verify_of(alloc, files, matches)?;
-    let payload = optional_bytes_of(alloc, matches, "payload")?;
+    let payload = payload_of(alloc, matches)?;
     Ok(Request::Verify { words, payload })
 }
 

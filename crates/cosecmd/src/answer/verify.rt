@@ -1,18 +1,21 @@
 //! The verdict of the job `verify`, and the reply that prints it.
 
-ghost use Rattle.std.specs.Prelude.{◌≡◌, ◌≤◌, ◌↔◌, ◌||◌, ℕ, List, Some, Ok, Err, IfErr, IfOk, is_err, length, option_map};
+ghost use Rattle.std.specs.Prelude.{◌≡◌, ◌≤◌, ◌↔◌, ◌||◌, ℕ, false, List, Some, Ok, Err, IfErr, IfOk, is_err, length, option_map, take};
 ghost use Rattle.cose_head.specs.declared.refusal.Refusal.{Refusal};
 ghost use Rattle.cose_map.specs.Key.View.{contents};
 ghost use Rattle.cose_map.specs.KeyTable.{keys as usable};
 ghost use Rattle.cose_msg.specs.Answer.{decided};
+ghost use Rattle.cose_msg.specs.Detached.{EitherFails};
 ghost use Rattle.cose_msg.specs.Verifier.{setting_of};
 ghost use Rattle.cose_msg.specs.declared.verdict.Verdict.{Verdict};
-ghost use Rattle.cosecmd.specs.Faults.{fails_by_input};
-ghost use Rattle.cosecmd.specs.Printed.{Says, input_answer, trailing_refusal, program_keys, program_setting, said_of, verified_under, followed_by, with_payload};
+ghost use Rattle.cosecmd.specs.Faults.{fails_by_file, fails_by_input};
+ghost use Rattle.cosecmd.specs.Printed.{Says, input_answer, trailing_refusal, program_keys, program_setting, said_of, verified_under, verified_with, followed_by, with_payload};
 ghost use Rattle.cosecmd.specs.Vouch.{vouching};
 
 use crate::fault::Fault;
+use crate::job::FileJob;
 use crate::line::Line;
+use crate::payload_file::PayloadFile;
 use crate::reply::{Reply, Status};
 use crate::vouch::Vouch;
 use cose_msg::{
@@ -133,8 +136,46 @@ fn input_verdict<'j, I: Intake>(
     }
 }
 
+/// The verdict of all that an intake gives, which has nil in the place of the payload. The payload has so many bytes, and they
+/// come from an intake of their own.
+fn detached_verdict<'j, I: Intake, P: Intake>(
+    context: Context<'j, KeyTable<'j, KEYS>>,
+    vouch: &Vouch<'j>,
+    payload_length: u64,
+    payload: &mut P,
+    intake: &mut I,
+) -> Result<Verdict, Fault>
+    requires external { length context.aad.now ≤ 65535 }
+    ensures verdict { (bytes more : List ℕ) → I.to_come intake.old ≡ Some bytes →
+        P.to_come payload.old ≡ Some more → length more ≡ payload_length →
+        IfOk result (λ verdict. input_answer (with_payload (Some more) (setting_of usable context.entry))
+        (vouching (option_map contents vouch.now.word)) bytes ≡ decided verdict) }
+    ensures fault { IfErr result (λ fault. fault ≡ Fault.Input) }
+    // One of the intakes has failed in this call, where there is no verdict, and otherwise none.
+    ensures failure { EitherFails (is_err result)
+        (I.has_failed intake.old) (I.has_failed intake.new)
+        (P.has_failed payload.old) (P.has_failed payload.new) }
+{
+    let mut verifier = Verifier::<HEADER, NESTING, KeyTable<'_, KEYS>>::detached(
+        context,
+        payload_length,
+    );
+    let verdict = verify_detached::<CHUNK, HEADER, NESTING, _, _, _, _, _>(
+        &mut verifier,
+        intake,
+        payload,
+        &mut Nothing,
+        vouch,
+    );
+    match verdict {
+        Ok(verdict) => whole_verdict(verdict, intake),
+        // The sink `Nothing` never fails, and a new verifier hasn't stopped.
+        Err(_) => Err(Fault::Input),
+    }
+}
+
 /// The verdict of all that an intake gives, which has nil in the place of the payload. The payload's bytes are these.
-fn detached_verdict<'j, I: Intake>(
+fn verdict_with_bytes<'j, I: Intake>(
     context: Context<'j, KeyTable<'j, KEYS>>,
     vouch: &Vouch<'j>,
     payload: &[u8],
@@ -148,23 +189,8 @@ fn detached_verdict<'j, I: Intake>(
     ensures failure { I.has_failed intake.new ≡ (I.has_failed intake.old || is_err result) }
 {
     let payload_length = payload.len() as u64;
-    let mut verifier = Verifier::<HEADER, NESTING, KeyTable<'_, KEYS>>::detached(
-        context,
-        payload_length,
-    );
     let mut payload_intake = SliceIntake::new(payload, CHUNK);
-    let verdict = verify_detached::<CHUNK, HEADER, NESTING, _, _, _, _, _>(
-        &mut verifier,
-        intake,
-        &mut payload_intake,
-        &mut Nothing,
-        vouch,
-    );
-    match verdict {
-        Ok(verdict) => whole_verdict(verdict, intake),
-        // A slice and the sink `Nothing` never fail, and a new verifier hasn't stopped.
-        Err(_) => Err(Fault::Input),
-    }
+    detached_verdict(context, vouch, payload_length, &mut payload_intake, intake)
 }
 
 /// The verdict of all that an intake gives: with a payload, where the message has nil in its place, and otherwise alone.
@@ -182,7 +208,7 @@ fn verdict_of_input<'j, I: Intake>(
     ensures failure { I.has_failed intake.new ≡ (I.has_failed intake.old || is_err result) }
 {
     match payload {
-        Some(payload) => detached_verdict(context, vouch, payload, intake),
+        Some(payload) => verdict_with_bytes(context, vouch, payload, intake),
         None => input_verdict(context, vouch, intake),
     }
 }
@@ -234,4 +260,54 @@ pub fn verify_reply<R: Read>(
 {
     let mut intake = ReadIntake::new(input);
     verified_reply(alloc, keys, aad, wanted, vouch, payload, &mut intake)
+}
+
+/// The reply to the message of an intake whose payload comes from a file: the key set is read before either is asked.
+fn reply_with_file<I: Intake, R: Read>(
+    alloc: Global,
+    job: &FileJob,
+    payload: &mut PayloadFile<R>,
+    intake: &mut I,
+) -> Result<Reply, Fault>
+    requires external { length job.now.aad.now ≤ 65535 }
+    requires sound { ⟦<PayloadFile<R> as Intake>⟧.has_failed payload.old ≡ false }
+    ensures says { (bytes more : List ℕ) → I.to_come intake.old ≡ Some bytes →
+        ⟦<PayloadFile<R> as Intake>⟧.to_come payload.old ≡ Some more → length more ≡ job.now.length →
+        IfOk result (Says (verified_with job.now more bytes)) }
+    ensures keys { (refusal : Refusal) →
+        program_keys job.now.keys.now ≡ Err refusal ↔ result ≡ Err (Fault.Keys refusal) }
+    // Its fault is that the file failed, or the input, exactly where it failed in this call.
+    ensures file { ⟦<PayloadFile<R> as Intake>⟧.has_failed payload.new ≡ fails_by_file result }
+    ensures input { I.has_failed intake.new ≡ (I.has_failed intake.old || fails_by_input result) }
+{
+    let keys = match KeyTable::<KEYS>::read(job.keys) {
+        Ok(keys) => keys,
+        Err(refusal) => return Err(Fault::Keys(refusal)),
+    };
+    let context = program_context(keys, job.aad, job.wanted);
+    let vouch = Vouch { word: job.vouch };
+    match detached_verdict(context, &vouch, job.length, payload, intake) {
+        Ok(verdict) => reply_of(alloc, verdict),
+        Err(_) if payload.has_failed() => Err(Fault::File("payload-file")),
+        Err(_) => Err(Fault::Input),
+    }
+}
+
+/// The reply to the job `verify`, where the payload comes from a reader. Its bytes after the stated length are left unread.
+pub fn verify_reply_with_file<P: Read, R: Read>(
+    alloc: Global,
+    job: &FileJob,
+    payload: &mut P,
+    input: &mut R,
+) -> Result<Reply, Fault>
+    requires external { length job.now.aad.now ≤ 65535 }
+    ensures says { (bytes more : List ℕ) → R.remaining input.old ≡ Some bytes →
+        P.remaining payload.old ≡ Some more → job.now.length ≤ length more →
+        IfOk result (Says (verified_with job.now (take job.now.length more) bytes)) }
+    ensures keys { (refusal : Refusal) →
+        program_keys job.now.keys.now ≡ Err refusal ↔ result ≡ Err (Fault.Keys refusal) }
+{
+    let mut intake = ReadIntake::new(input);
+    let mut payload_file = PayloadFile::new(payload, job.length);
+    reply_with_file(alloc, job, &mut payload_file, &mut intake)
 }

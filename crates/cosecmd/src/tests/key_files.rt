@@ -31,19 +31,30 @@ const MAKE: &[&str] = &["make", "--alg", "5", "--length", "2", "--key-file", FIL
 
 /// One file, which gives a byte in each read and fails at one of them.
 #[derive(Clone, Copy)]
-struct OneFile<'f> {
-    name: &'f str,
-    bytes: &'f [u8],
-    fails_at: usize,
+pub struct OneFile<'f> {
+    /// Its name.
+    pub name: &'f str,
+    /// Its bytes.
+    pub bytes: &'f [u8],
+    /// The number of its bytes when it is opened.
+    pub length: u64,
+    /// The number of the read that fails, the first being 1.
+    pub fails_at: usize,
 }
 
-/// The file with these bytes, none of whose reads fails.
-fn file<'f>(bytes: &'f [u8]) -> OneFile<'f> {
+/// The file of this name with these bytes, none of whose reads fails.
+pub fn named<'f>(name: &'f str, bytes: &'f [u8]) -> OneFile<'f> {
     OneFile {
-        name: FILE,
+        name,
         bytes,
+        length: bytes.len() as u64,
         fails_at: 0,
     }
+}
+
+/// The file of the keys.
+fn file<'f>(bytes: &'f [u8]) -> OneFile<'f> {
+    named(FILE, bytes)
 }
 
 impl<'f> NamedFiles for OneFile<'f> {
@@ -61,25 +72,40 @@ impl<'f> NamedFiles for OneFile<'f> {
             fails_at: self.fails_at,
         })
     }
+
+    fn open_with_length(&self, name: &str) -> io::Result<(FailingReader<'f>, u64)> {
+        Ok((self.open(name)?, self.length))
+    }
 }
 
-/// A run with these arguments and this file writes these bytes, and ends with this status. With status 2 it has read
-/// nothing of its input.
-fn writes(
+/// A run with these arguments and this file writes these bytes, and ends with this status. It returns what it leaves of the
+/// input.
+pub fn leaves<'i>(
+    rt: &(impl Abort + Alloc<A = Global>),
+    arguments: &[&str],
+    file: OneFile,
+    mut input: &'i [u8],
+    (bytes, status): (&[u8], u8),
+) -> Result<&'i [u8], AllocError> {
+    let mut words = Vec::new(rt.alloc());
+    words.push("cosecmd")?;
+    words.extend_from_slice(arguments)?;
+    let mut output = Vec::new(rt.alloc());
+    let ended = run_with_files(rt.alloc(), words.as_slice(), &file, &mut input, &mut output);
+    assert_eq!(rt; output.as_slice(), bytes, "{arguments:?}");
+    assert_eq!(rt; ended, status, "{arguments:?}");
+    Ok(input)
+}
+
+/// The same. With status 2 it has read nothing of its input.
+pub fn writes(
     rt: &(impl Abort + Alloc<A = Global>),
     arguments: &[&str],
     file: OneFile,
     input: &[u8],
     (bytes, status): (&[u8], u8),
 ) -> Result<(), AllocError> {
-    let mut words = Vec::new(rt.alloc());
-    words.push("cosecmd")?;
-    words.extend_from_slice(arguments)?;
-    let mut left = input;
-    let mut output = Vec::new(rt.alloc());
-    let ended = run_with_files(rt.alloc(), words.as_slice(), &file, &mut left, &mut output);
-    assert_eq!(rt; output.as_slice(), bytes, "{arguments:?}");
-    assert_eq!(rt; ended, status, "{arguments:?}");
+    let left = leaves(rt, arguments, file, input, (bytes, status))?;
     assert!(rt; status < 2 || left.len() == input.len(), "{arguments:?}");
     Ok(())
 }
@@ -130,9 +156,8 @@ fn says_which_file_fails(rt: HostRuntime) -> Result<(), Fail> {
     for (arguments, text) in rows {
         for (name, fails_at) in files {
             let file = OneFile {
-                name,
-                bytes: KEY_SET,
                 fails_at,
+                ..named(name, KEY_SET)
             };
             writes(&rt, arguments, file, b"hi", (text, 2))?;
         }

@@ -76,10 +76,8 @@ fn verifies_a_payload_of_no_byte(rt: HostRuntime) -> Result<(), Fail> {
     Ok(())
 }
 
-/// A payload of more bytes than are taken at once.
-#[test]
-fn verifies_a_long_payload(rt: HostRuntime) -> Result<(), Fail> {
-    let alloc = rt.alloc();
+/// A payload of more bytes than are taken at once, and the COSE_Mac0 of 42 bytes that has nil in its place.
+pub fn detached_long(alloc: Global) -> Result<([u8; 5_000], Vec<u8>), AllocError> {
     let payload = [0x5a; 5_000];
     let structure = joined(
         alloc,
@@ -87,6 +85,13 @@ fn verifies_a_long_payload(rt: HostRuntime) -> Result<(), Fail> {
     )?;
     let tag = hmac(KEY, structure.as_slice());
     let bytes = joined(alloc, &[FRONT, b"\xf6\x58\x20", &tag])?;
+    Ok((payload, bytes))
+}
+
+#[test]
+fn verifies_a_long_payload(rt: HostRuntime) -> Result<(), Fail> {
+    let alloc = rt.alloc();
+    let (payload, bytes) = detached_long(alloc)?;
     let word = hex::encode(alloc, payload.as_slice())?;
     let verify = ["verify", "--keys", KEYS, "--payload", word.as_str()];
     let authentic = "authentic mac0 alg 5 payload 5000 taken 42\n";

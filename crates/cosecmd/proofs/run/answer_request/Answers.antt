@@ -2,4 +2,4 @@ use Rattle.cosecmd.proofs.Asked.{ends_with, show_words}
 use Rattle.cosecmd.proofs.run.answer_request.Goals as goal
 
 pub returns-in-Show-clause-printed : goal.returns-in-Show-clause-printed
-returns-in-Show-clause-printed g c = λ bytes e. ends_with _ _ _ (show_words c.args.request.now c.in-Show.wanted bytes c.in-Show.is) (c.answer.ensures.printed bytes e)
+returns-in-Show-clause-printed g c = λ bytes payload e known. ends_with _ _ _ (show_words c.args.request.now c.in-Show.wanted payload bytes c.in-Show.is) (c.answer.ensures.printed bytes e)

@@ -1,0 +1,16 @@
+-- Where the arguments say that the payload is.
+use Rattle.std.specs.Prelude.{◌≡◌, ℕ, List, Option, Some, None, option_map}
+use Rattle.cosecmd.specs.declared.words.Payload.{Payload}
+use Rattle.cosecmd.specs.declared.words.Payload.TheVariants.{InMessage, Bytes, File}
+
+-- It is in the file of this name.
+abbrev pub IsFile : List ℕ → Payload → Type 0
+IsFile name InMessage = ⊥
+IsFile name (Bytes payload) = ⊥
+IsFile name (File file) = file.now ≡ name
+
+-- The detached payload, where there is one, as far as it is known: that of a file where the content of the file is.
+abbrev pub detached_in : (List ℕ → Option (List ℕ)) → Payload → Option (Option (List ℕ))
+detached_in content InMessage = Some None
+detached_in content (Bytes payload) = Some (Some payload.items)
+detached_in content (File name) = option_map Some (content name.now)
