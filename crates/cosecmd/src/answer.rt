@@ -25,7 +25,8 @@ use verify::{verify_reply, verify_reply_with_file};
 #[tactic(auto, unfolding(crate::specs::Printed::printed))]
 fn status_of<R: Read, W: Write>(alloc: Global, job: &Job, input: &mut R, output: &mut W) -> Status
     requires external { length_of (aad_of job.now) ≤ 65535 }
-    ensures prints { (bytes : List ℕ) → R.remaining input.old ≡ Some bytes → Prints (printed job.now bytes) (W.contents output.old) (W.contents output.new) result }
+    ensures prints { (bytes : List ℕ) → R.remaining input.old ≡ Some bytes
+        → Prints (printed job.now bytes) (W.contents output.old) (W.contents output.new) result }
 {
     match job {
         Job::Show { wanted } => {
@@ -109,7 +110,8 @@ pub fn answer_with_payload_file<P: Read, R: Read, W: Write>(
     // ends with its status.
     ensures printed { (bytes more : List ℕ) → R.remaining input.old ≡ Some bytes →
         P.remaining payload.old ≡ Some more → job.now.length ≤ length_of more →
-        EndsWith (verified_with job.now (take job.now.length more) bytes) (W.contents output.old) (W.contents output.new) result }
+        EndsWith (verified_with job.now (take job.now.length more) bytes) (W.contents output.old)
+        (W.contents output.new) result }
 {
     let reply = verify_reply_with_file(alloc, job, payload, input);
     print_reply(alloc, reply, output).code()

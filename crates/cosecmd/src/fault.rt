@@ -65,7 +65,8 @@ impl Fault {
     /// The fault of an option whose file couldn't be opened or read.
     pub fn file(option: &'static str, error: &io::Error) -> Fault
         ensures memory { error_kind error.now ≡ ErrorKind.OutOfMemory → result ≡ Fault.Memory }
-        ensures file { error_kind error.now ≢ ErrorKind.OutOfMemory → result ≡ Fault.File option.entry }
+        ensures file { error_kind error.now ≢ ErrorKind.OutOfMemory
+            → result ≡ Fault.File option.entry }
     {
         match error.kind() {
             ErrorKind::OutOfMemory => Fault::Memory,

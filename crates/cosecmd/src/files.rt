@@ -32,7 +32,8 @@ pub trait NamedFiles {
     /// has no such number is an error.
     fn open_with_length(&self, name: &str) -> io::Result<(Self::File, u64)>
         ensures { (bytes : List ℕ) → content self.now name.now ≡ Some bytes →
-            IfOk result (λ opened. (Self.File.remaining opened.0 ≡ Some bytes) × (opened.1 ≡ length bytes)) };
+            IfOk result (λ opened. (Self.File.remaining opened.0 ≡ Some bytes)
+            × (opened.1 ≡ length bytes)) };
 }
 
 /// The files of the process. Their bytes aren't known to the contract.
@@ -104,7 +105,8 @@ pub fn key_set_bytes<F: NamedFiles>(
 ) -> Result<Vec<u8>, Fault>
     ensures keys { (bytes : List ℕ) → F.content files.now name.now ≡ Some bytes →
         IfOk result (λ read. program_keys read.items ≡ program_keys bytes) }
-    ensures fault { IfErr result (λ fault. (fault ≡ Fault.Memory) ⊎ (fault ≡ Fault.File option.entry)) }
+    ensures fault { IfErr result (λ fault. (fault ≡ Fault.Memory)
+        ⊎ (fault ≡ Fault.File option.entry)) }
 {
     match first_bytes(alloc, files, name) {
         Ok(bytes) => Ok(bytes),
@@ -121,7 +123,8 @@ pub fn key_bytes<F: NamedFiles>(
 ) -> Result<Vec<u8>, Fault>
     ensures whole { (bytes : List ℕ) → F.content files.now name.now ≡ Some bytes →
         IfOk result (λ read. read.items ≡ bytes) }
-    ensures fault { IfErr result (λ fault. (fault ≡ Fault.Memory) ⊎ (fault ≡ Fault.File option.entry)) }
+    ensures fault { IfErr result (λ fault. (fault ≡ Fault.Memory)
+        ⊎ (fault ≡ Fault.File option.entry)) }
 {
     match first_bytes(alloc, files, name) {
         Ok(bytes) if bytes.len() < MOST => Ok(bytes),

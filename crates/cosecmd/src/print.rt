@@ -13,7 +13,8 @@ use std::io::Write;
 /// failed.
 pub fn print<W: Write>(output: &mut W, text: &str, status: Status) -> Status
     ensures status { result ≢ Status.Fault → result ≡ status }
-    ensures written { result ≢ Status.Fault → Appends (W.contents output.old) (W.contents output.new) text.now }
+    ensures written { result ≢ Status.Fault
+        → Appends (W.contents output.old) (W.contents output.new) text.now }
 {
     match output.write_all(text.as_bytes()) {
         Ok(()) => status,
@@ -33,7 +34,8 @@ pub fn print_fault<W: Write>(alloc: Global, fault: Fault, output: &mut W) -> Sta
 
 /// Writes the text of a reply, or the line of a fault.
 pub fn print_reply<W: Write>(alloc: Global, reply: Result<Reply, Fault>, output: &mut W) -> Status
-    ensures { (said : Output) → IfOk reply (Says said) → Prints said (W.contents output.old) (W.contents output.new) result }
+    ensures { (said : Output) → IfOk reply (Says said)
+        → Prints said (W.contents output.old) (W.contents output.new) result }
 {
     match reply {
         Ok(Reply { status, text }) => print(output, text.as_str(), status),

@@ -19,7 +19,8 @@ pub struct Vouch<'v> {
 
 /// What follows a piece in an argument that begins with it.
 fn behind<'w>(word: &'w [u8], piece: &[u8]) -> Option<&'w [u8]>
-    ensures { (rest : List ℕ) → bytes_eq word.entry.now (piece.now ++ rest) ≡ is_then (option_map contents result) rest }
+    ensures { (rest : List ℕ) → bytes_eq word.entry.now (piece.now ++ rest)
+        ≡ is_then (option_map contents result) rest }
 {
     word.strip_prefix(piece)
 }
@@ -48,7 +49,8 @@ pub fn word_for(
     digest: &[u8],
     signature: &[u8],
 ) -> Result<Vec<u8>, AllocError>
-    ensures { IfOk result (λ word. word.items ≡ word_under (key_value key.now).material digest.now signature.now) }
+    ensures { IfOk result (λ word. word.items
+        ≡ word_under (key_value key.now).material digest.now signature.now) }
 {
     let mut word = Vec::new(alloc);
     let Material::Ec { crv, x, y } = key.material else {

@@ -17,7 +17,8 @@ pub struct WriteSink<'w, W: Write> {
 impl<'w, W: Write> WriteSink<'w, W> {
     /// A sink that writes with this writer.
     pub fn new(writer: &'w mut W) -> Self
-        ensures contents { ⟦<WriteSink<'w, W> as Sink>⟧.contents result ≡ held_through writer.entry.ghost_name (W.contents writer.entry.now) }
+        ensures contents { ⟦<WriteSink<'w, W> as Sink>⟧.contents result
+            ≡ held_through writer.entry.ghost_name (W.contents writer.entry.now) }
         ensures not_failed { ⟦<WriteSink<'w, W> as Sink>⟧.has_failed result ≡ false }
     {
         WriteSink {
@@ -28,7 +29,8 @@ impl<'w, W: Write> WriteSink<'w, W> {
 
     /// The writer, with all that it got.
     pub fn into_writer(self) -> &'w mut W
-        ensures { held_through result.ghost_name (W.contents result.now) ≡ ⟦<WriteSink<'w, W> as Sink>⟧.contents self.entry }
+        ensures { held_through result.ghost_name (W.contents result.now)
+            ≡ ⟦<WriteSink<'w, W> as Sink>⟧.contents self.entry }
     {
         self.writer
     }

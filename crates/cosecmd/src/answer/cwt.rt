@@ -37,7 +37,8 @@ const CLAIMS: usize = 4_096;
 
 /// What a token has to meet: where there is a text and the token names an audience, the token is for that text.
 pub fn policy_of<'j>(now: i64, leeway: u32, aud: &'j Option<&'j str>) -> Policy<'j>
-    ensures { policy_value result ≡ program_policy now leeway (option_map text_value aud.entry.now) }
+    ensures { policy_value result
+        ≡ program_policy now leeway (option_map text_value aud.entry.now) }
 {
     let audience = match aud {
         Some(text) => Audience::Mine(slice::from_ref(text)),
@@ -57,7 +58,9 @@ fn push_bytes(
     name: &str,
     bytes: Option<&[u8]>,
 ) -> Result<(), Fault>
-    ensures lines { IfOk result (λ _. string_bytes lines.new ≡ string_bytes lines.old ++ where_present (bytes_line name.now) (option_map contents bytes.entry)) }
+    ensures lines { IfOk result (λ _. string_bytes lines.new
+        ≡ string_bytes lines.old ++ where_present (bytes_line name.now)
+        (option_map contents bytes.entry)) }
     ensures fault { IfErr result (λ fault. fault ≡ Fault.Memory) }
 {
     let Some(bytes) = bytes else {
@@ -81,7 +84,9 @@ fn bytes_of(text: Option<&str>) -> Option<&[u8]>
 
 /// Appends a line for each text of an audience.
 fn push_audience(alloc: Global, lines: &mut String, texts: Auds) -> Result<(), Fault>
-    ensures lines { IfOk result (λ _. string_bytes lines.new ≡ string_bytes lines.old ++ concat (map (bytes_line (codes "aud")) (texts_left texts.entry))) }
+    ensures lines { IfOk result (λ _. string_bytes lines.new
+        ≡ string_bytes lines.old ++ concat
+        (map (bytes_line (codes "aud")) (texts_left texts.entry))) }
     ensures fault { IfErr result (λ fault. fault ≡ Fault.Memory) }
 {
     'texts: for text in texts {
@@ -92,7 +97,8 @@ fn push_audience(alloc: Global, lines: &mut String, texts: Auds) -> Result<(), F
 
 /// Appends the line of a date, where there is one.
 fn push_date(alloc: Global, lines: &mut String, name: &str, date: Option<i128>) -> Result<(), Fault>
-    ensures lines { IfOk result (λ _. string_bytes lines.new ≡ string_bytes lines.old ++ where_present (date_line name.now) date) }
+    ensures lines { IfOk result (λ _. string_bytes lines.new
+        ≡ string_bytes lines.old ++ where_present (date_line name.now) date) }
     ensures fault { IfErr result (λ fault. fault ≡ Fault.Memory) }
 {
     let Some(date) = date else {
@@ -105,7 +111,8 @@ fn push_date(alloc: Global, lines: &mut String, name: &str, date: Option<i128>) 
 
 /// Appends the line of a public key, where there is one: its curve, x, and y or the sign of y.
 fn push_key(alloc: Global, lines: &mut String, key: Option<Key>) -> Result<(), Fault>
-    ensures lines { IfOk result (λ _. string_bytes lines.new ≡ string_bytes lines.old ++ where_present key_line (option_map key_value key.entry)) }
+    ensures lines { IfOk result (λ _. string_bytes lines.new
+        ≡ string_bytes lines.old ++ where_present key_line (option_map key_value key.entry)) }
     ensures fault { IfErr result (λ fault. fault ≡ Fault.Memory) }
 {
     let Some(key) = key else {
@@ -128,7 +135,9 @@ fn push_key(alloc: Global, lines: &mut String, key: Option<Key>) -> Result<(), F
 
 /// Appends the lines of a confirmation, where there is one: those of the key and of its identifier.
 fn push_confirmation(alloc: Global, lines: &mut String, cnf: Option<Cnf>) -> Result<(), Fault>
-    ensures lines { IfOk result (λ _. string_bytes lines.new ≡ string_bytes lines.old ++ where_present confirmation_lines (option_map cnf_value cnf.entry)) }
+    ensures lines { IfOk result (λ _. string_bytes lines.new
+        ≡ string_bytes lines.old ++ where_present confirmation_lines
+        (option_map cnf_value cnf.entry)) }
     ensures fault { IfErr result (λ fault. fault ≡ Fault.Memory) }
 {
     let Some(Cnf { key, kid }) = cnf else {
@@ -140,7 +149,8 @@ fn push_confirmation(alloc: Global, lines: &mut String, cnf: Option<Cnf>) -> Res
 
 /// Appends the lines of the registered claims, in the order of their labels, and those of the confirmation.
 fn push_claims(alloc: Global, lines: &mut String, claims: &Claims) -> Result<(), Fault>
-    ensures lines { IfOk result (λ _. string_bytes lines.new ≡ string_bytes lines.old ++ claims_lines (claims_value claims.now)) }
+    ensures lines { IfOk result (λ _. string_bytes lines.new
+        ≡ string_bytes lines.old ++ claims_lines (claims_value claims.now)) }
     ensures fault { IfErr result (λ fault. fault ≡ Fault.Memory) }
 {
     push_bytes(alloc, lines, "iss", bytes_of(claims.iss()))?;
@@ -211,11 +221,15 @@ fn whole_token<'a, 'j, I: Intake>(
     requires none_taken { bytes_taken verifier.old ≡ 0 }
     requires cwt { (setting_in verifier.old).cwt ≡ true }
     requires payload_limit { (setting_in verifier.old).payload_limit ≤ 4096 }
-    ensures whole { (setting : Setting) (bytes : List ℕ) → HasTaken (to_verify setting) [] [] verifier.old → I.to_come intake.old ≡ Some bytes →
-        UnlessStopped (claims_seen result) (claims_seen result ≡ input_token setting (vouching (option_map contents vouch.now.word)) (policy_value policy.entry.now) bytes) }
+    ensures whole { (setting : Setting) (bytes : List ℕ)
+        → HasTaken (to_verify setting) [] [] verifier.old → I.to_come intake.old ≡ Some bytes →
+        UnlessStopped (claims_seen result) (claims_seen result
+        ≡ input_token setting (vouching (option_map contents vouch.now.word))
+        (policy_value policy.entry.now) bytes) }
     // It stops exactly where the intake failed in this call.
     ensures failure { (setting : Setting) → HasTaken (to_verify setting) [] [] verifier.old →
-        I.has_failed intake.new ≡ (I.has_failed intake.old || is_some (stop_in (claims_seen result))) }
+        I.has_failed intake.new
+        ≡ (I.has_failed intake.old || is_some (stop_in (claims_seen result))) }
 {
     // The law that the proof cites for the place of a further byte: a verdict stays when bytes follow.
     settled_stays();

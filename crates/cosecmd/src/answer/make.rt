@@ -29,7 +29,10 @@ pub fn make_message<R: Read, W: Write>(
     output: &mut W,
 ) -> Result<Status, Fault>
     ensures makes { (bytes : List ℕ) → R.remaining input.old ≡ Some bytes →
-        IfOk result (Prints (made_under (key_of (record { bytes = key.now; place = 0 })) alg length (option_map contents kid.entry) aad.now bytes) (W.contents output.old) (W.contents output.new)) }
+        IfOk result
+        (Prints (made_under (key_of (record { bytes = key.now; place = 0 })) alg length
+        (option_map contents kid.entry) aad.now bytes) (W.contents output.old)
+        (W.contents output.new)) }
     ensures fault { fault_in result ≡
         fault_of_making (key_of (record { bytes = key.now; place = 0 })) alg
         (option_map contents kid.entry) aad.now length }

@@ -36,7 +36,8 @@ fn push_pairs(
     name: &str,
     bucket: Option<Bucket>,
 ) -> Result<(), Fault>
-    ensures lines { IfOk result (λ _. string_bytes text.new ≡ string_bytes text.old ++ bucket_lines name.now (option_map bucket_pairs bucket.entry)) }
+    ensures lines { IfOk result (λ _. string_bytes text.new
+        ≡ string_bytes text.old ++ bucket_lines name.now (option_map bucket_pairs bucket.entry)) }
     ensures fault { IfErr result (λ fault. fault ≡ Fault.Memory) }
 {
     let Some(bucket) = bucket else {
@@ -57,7 +58,9 @@ fn shape_reply(
     shape: Shape,
     verifier: &Verifier<HEADER, NESTING>,
 ) -> Result<Reply, Fault>
-    ensures says { IfOk result (Says (shape_said shape.kind shape.payload shape.auth shape.taken (protected_of verifier.now) (unprotected_of verifier.now))) }
+    ensures says { IfOk result
+        (Says (shape_said shape.kind shape.payload shape.auth shape.taken
+        (protected_of verifier.now) (unprotected_of verifier.now))) }
     ensures fault { IfErr result (λ fault. fault ≡ Fault.Memory) }
 {
     let Shape {

@@ -91,8 +91,10 @@ pub fn program_context<'j, S: Keys<'j>>(keys: S, aad: &'j [u8], wanted: Wanted) 
 /// The verdict of the whole input: after an authentic message, a further byte makes it `Trailing`.
 pub fn whole_verdict<I: Intake>(verdict: Verdict, intake: &mut I) -> Result<Verdict, Fault>
     // After a refused message no byte is looked for.
-    ensures refused { (refusal : Refusal) → verdict ≡ Verdict.Refused refusal → result ≡ Ok verdict }
-    ensures unread { (refusal : Refusal) → verdict ≡ Verdict.Refused refusal → intake.new ≡ intake.old }
+    ensures refused { (refusal : Refusal) → verdict ≡ Verdict.Refused refusal
+        → result ≡ Ok verdict }
+    ensures unread { (refusal : Refusal) → verdict ≡ Verdict.Refused refusal
+        → intake.new ≡ intake.old }
 
     // After an authentic one no byte may follow.
     ensures whole { (rest : List ℕ) → I.to_come intake.old ≡ Some rest →
@@ -148,7 +150,8 @@ fn detached_verdict<'j, I: Intake, P: Intake>(
     requires external { length context.aad.now ≤ 65535 }
     ensures verdict { (bytes more : List ℕ) → I.to_come intake.old ≡ Some bytes →
         P.to_come payload.old ≡ Some more → length more ≡ payload_length →
-        IfOk result (λ verdict. input_answer (with_payload (Some more) (setting_of usable context.entry))
+        IfOk result
+        (λ verdict. input_answer (with_payload (Some more) (setting_of usable context.entry))
         (vouching (option_map contents vouch.now.word)) bytes ≡ decided verdict) }
     ensures fault { IfErr result (λ fault. fault ≡ Fault.Input) }
     // One of the intakes has failed in this call, where there is no verdict, and otherwise none.
@@ -183,7 +186,8 @@ fn verdict_with_bytes<'j, I: Intake>(
 ) -> Result<Verdict, Fault>
     requires external { length context.aad.now ≤ 65535 }
     ensures verdict { (bytes : List ℕ) → I.to_come intake.old ≡ Some bytes →
-        IfOk result (λ verdict. input_answer (with_payload (Some payload.now) (setting_of usable context.entry))
+        IfOk result
+        (λ verdict. input_answer (with_payload (Some payload.now) (setting_of usable context.entry))
         (vouching (option_map contents vouch.now.word)) bytes ≡ decided verdict) }
     ensures fault { IfErr result (λ fault. fault ≡ Fault.Input) }
     ensures failure { I.has_failed intake.new ≡ (I.has_failed intake.old || is_err result) }
@@ -202,7 +206,9 @@ fn verdict_of_input<'j, I: Intake>(
 ) -> Result<Verdict, Fault>
     requires external { length context.aad.now ≤ 65535 }
     ensures verdict { (bytes : List ℕ) → I.to_come intake.old ≡ Some bytes →
-        IfOk result (λ verdict. input_answer (with_payload (option_map contents payload.entry) (setting_of usable context.entry))
+        IfOk result
+        (λ verdict. input_answer
+        (with_payload (option_map contents payload.entry) (setting_of usable context.entry))
         (vouching (option_map contents vouch.now.word)) bytes ≡ decided verdict) }
     ensures fault { IfErr result (λ fault. fault ≡ Fault.Input) }
     ensures failure { I.has_failed intake.new ≡ (I.has_failed intake.old || is_err result) }
@@ -272,8 +278,8 @@ fn reply_with_file<I: Intake, R: Read>(
     requires external { length job.now.aad.now ≤ 65535 }
     requires sound { ⟦<PayloadFile<R> as Intake>⟧.has_failed payload.old ≡ false }
     ensures says { (bytes more : List ℕ) → I.to_come intake.old ≡ Some bytes →
-        ⟦<PayloadFile<R> as Intake>⟧.to_come payload.old ≡ Some more → length more ≡ job.now.length →
-        IfOk result (Says (verified_with job.now more bytes)) }
+        ⟦<PayloadFile<R> as Intake>⟧.to_come payload.old ≡ Some more → length more ≡ job.now.length
+        → IfOk result (Says (verified_with job.now more bytes)) }
     ensures keys { (refusal : Refusal) →
         program_keys job.now.keys.now ≡ Err refusal ↔ result ≡ Err (Fault.Keys refusal) }
     // Its fault is that the file failed, or the input, exactly where it failed in this call.
