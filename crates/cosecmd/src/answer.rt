@@ -109,7 +109,8 @@ pub fn answer_with_payload_file<P: Read, R: Read, W: Write>(
     // ends with its status.
     ensures printed { (bytes more : List ℕ) → R.remaining input.old ≡ Some bytes →
         P.remaining payload.old ≡ Some more → job.now.length ≤ length_of more →
-        EndsWith (verified_with job.now (take job.now.length more) bytes) (W.contents output.old) (W.contents output.new) result }
+        EndsWith (verified_with job.now (take job.now.length more) bytes)
+        (W.contents output.old) (W.contents output.new) result }
 {
     let reply = verify_reply_with_file(alloc, job, payload, input);
     print_reply(alloc, reply, output).code()

@@ -32,7 +32,8 @@ pub trait NamedFiles {
     /// has no such number is an error.
     fn open_with_length(&self, name: &str) -> io::Result<(Self::File, u64)>
         ensures { (bytes : List ℕ) → content self.now name.now ≡ Some bytes →
-            IfOk result (λ opened. (Self.File.remaining opened.0 ≡ Some bytes) × (opened.1 ≡ length bytes)) };
+            IfOk result (λ opened. (Self.File.remaining opened.0 ≡ Some bytes)
+            × (opened.1 ≡ length bytes)) };
 }
 
 /// The files of the process. Their bytes aren't known to the contract.

@@ -21,7 +21,8 @@ impl<R: Read> PayloadFile<R> {
 
     /// An intake of the first `length` bytes that the reader gives.
     pub fn new(reader: R, length: u64) -> Self
-        ensures told { ⟦<PayloadFile<R> as Intake>⟧.to_come result ≡ counted length (R.remaining reader) }
+        ensures told { ⟦<PayloadFile<R> as Intake>⟧.to_come result
+            ≡ counted length (R.remaining reader) }
         ensures left { left_of result ≡ length }
         ensures not_failed { ⟦<PayloadFile<R> as Intake>⟧.has_failed result ≡ false }
     {
@@ -63,8 +64,10 @@ impl<R: Read> Intake for PayloadFile<R> {
     fn take(&mut self, into: &mut [u8]) -> Result<usize, IntakeFault>
         requires { 0 < length into.old }
         ensures within { IfOk result (λ n. n ≤ length into.new) }
-        ensures bytes { Takes (⟦<PayloadFile<R> as Intake>⟧.to_come self.old) (⟦<PayloadFile<R> as Intake>⟧.to_come self.new) result into.new }
-        ensures failure { ⟦<PayloadFile<R> as Intake>⟧.has_failed self.new ≡ marks (⟦<PayloadFile<R> as Intake>⟧.has_failed self.old) result }
+        ensures bytes { Takes (⟦<PayloadFile<R> as Intake>⟧.to_come self.old)
+            (⟦<PayloadFile<R> as Intake>⟧.to_come self.new) result into.new }
+        ensures failure { ⟦<PayloadFile<R> as Intake>⟧.has_failed self.new
+            ≡ marks (⟦<PayloadFile<R> as Intake>⟧.has_failed self.old) result }
         ensures end { ⟦<PayloadFile<R> as Intake>⟧.ended self.new ≡ is_end result }
         // Whatever the reader gives, it ends only after all of the stated bytes.
         ensures counts { IfOk result (λ n. left_of self.new + n ≡ left_of self.old) }

@@ -36,7 +36,8 @@ fn answer_verify<R: Read, W: Write>(
 ) -> u8
     ensures status { result ≤ 2 }
     ensures printed { (bytes : List ℕ) → R.remaining input.old ≡ Some bytes →
-        EndsWith (verified_for words.now (option_map contents payload.entry) bytes) (W.contents output.old) (W.contents output.new) result }
+        EndsWith (verified_for words.now (option_map contents payload.entry) bytes)
+        (W.contents output.old) (W.contents output.new) result }
 {
     let job = Job::Verify {
         keys: words.keys.as_slice(),
@@ -60,7 +61,8 @@ fn answer_verify_with_file<F: NamedFiles, R: Read, W: Write>(
     ensures status { result ≤ 2 }
     ensures printed { (bytes payload : List ℕ) → R.remaining input.old ≡ Some bytes →
         F.content files.now name.now ≡ Some payload →
-        EndsWith (verified_for words.now (Some payload) bytes) (W.contents output.old) (W.contents output.new) result }
+        EndsWith (verified_for words.now (Some payload) bytes)
+        (W.contents output.old) (W.contents output.new) result }
 {
     let (mut file, length) = match files.open_with_length(name) {
         Ok(opened) => opened,
@@ -142,9 +144,10 @@ fn answer_verify_request<F: NamedFiles, R: Read, W: Write>(
     output: &mut W,
 ) -> u8
     ensures status { result ≤ 2 }
-    ensures printed { (bytes : List ℕ) (detached : Option (List ℕ)) → R.remaining input.old ≡ Some bytes →
-        detached_in (F.content files.now) payload.entry.now ≡ Some detached →
-        EndsWith (verified_for words.now detached bytes) (W.contents output.old) (W.contents output.new) result }
+    ensures printed { (bytes : List ℕ) (detached : Option (List ℕ)) →
+        R.remaining input.old ≡ Some bytes → detached_in (F.content files.now) payload.entry.now ≡ Some detached →
+        EndsWith (verified_for words.now detached bytes)
+        (W.contents output.old) (W.contents output.new) result }
 {
     match payload {
         Payload::InMessage => answer_verify(alloc, words, None, input, output),
@@ -166,9 +169,10 @@ fn answer_request<F: NamedFiles, R: Read, W: Write>(
     ensures status { result ≤ 2 }
     // Unless there is a fault, it prints the output for these arguments, for the payload that they name, if any, and for
     // all that the reader gives, and ends with its status.
-    ensures printed { (bytes : List ℕ) (payload : Option (List ℕ)) → R.remaining input.old ≡ Some bytes →
-        payload_for (F.content files.now) request.entry.now ≡ Some payload →
-        EndsWith (asked_for request.entry.now payload bytes) (W.contents output.old) (W.contents output.new) result }
+    ensures printed { (bytes : List ℕ) (payload : Option (List ℕ)) →
+        R.remaining input.old ≡ Some bytes → payload_for (F.content files.now) request.entry.now ≡ Some payload →
+        EndsWith (asked_for request.entry.now payload bytes)
+        (W.contents output.old) (W.contents output.new) result }
 {
     match request {
         Request::Show(wanted) => answer(alloc, &Job::Show { wanted: *wanted }, input, output),

@@ -148,7 +148,8 @@ fn detached_verdict<'j, I: Intake, P: Intake>(
     requires external { length context.aad.now ≤ 65535 }
     ensures verdict { (bytes more : List ℕ) → I.to_come intake.old ≡ Some bytes →
         P.to_come payload.old ≡ Some more → length more ≡ payload_length →
-        IfOk result (λ verdict. input_answer (with_payload (Some more) (setting_of usable context.entry))
+        IfOk result (λ verdict. input_answer
+        (with_payload (Some more) (setting_of usable context.entry))
         (vouching (option_map contents vouch.now.word)) bytes ≡ decided verdict) }
     ensures fault { IfErr result (λ fault. fault ≡ Fault.Input) }
     // One of the intakes has failed in this call, where there is no verdict, and otherwise none.
@@ -183,7 +184,8 @@ fn verdict_with_bytes<'j, I: Intake>(
 ) -> Result<Verdict, Fault>
     requires external { length context.aad.now ≤ 65535 }
     ensures verdict { (bytes : List ℕ) → I.to_come intake.old ≡ Some bytes →
-        IfOk result (λ verdict. input_answer (with_payload (Some payload.now) (setting_of usable context.entry))
+        IfOk result (λ verdict. input_answer
+        (with_payload (Some payload.now) (setting_of usable context.entry))
         (vouching (option_map contents vouch.now.word)) bytes ≡ decided verdict) }
     ensures fault { IfErr result (λ fault. fault ≡ Fault.Input) }
     ensures failure { I.has_failed intake.new ≡ (I.has_failed intake.old || is_err result) }
@@ -272,8 +274,8 @@ fn reply_with_file<I: Intake, R: Read>(
     requires external { length job.now.aad.now ≤ 65535 }
     requires sound { ⟦<PayloadFile<R> as Intake>⟧.has_failed payload.old ≡ false }
     ensures says { (bytes more : List ℕ) → I.to_come intake.old ≡ Some bytes →
-        ⟦<PayloadFile<R> as Intake>⟧.to_come payload.old ≡ Some more → length more ≡ job.now.length →
-        IfOk result (Says (verified_with job.now more bytes)) }
+        ⟦<PayloadFile<R> as Intake>⟧.to_come payload.old ≡ Some more →
+        length more ≡ job.now.length → IfOk result (Says (verified_with job.now more bytes)) }
     ensures keys { (refusal : Refusal) →
         program_keys job.now.keys.now ≡ Err refusal ↔ result ≡ Err (Fault.Keys refusal) }
     // Its fault is that the file failed, or the input, exactly where it failed in this call.
