@@ -1,5 +1,5 @@
 -- Which fault a run ends with.
-use Rattle.std.specs.Prelude.{ℕ, Bool, true, false, List, Option, Some, None, Result, Ok, Err}
+use Rattle.std.specs.Prelude.{◌≡◌, ℕ, Bool, true, false, List, Option, Some, None, Result, Ok, Err, ⊤}
 use Rattle.cose_head.specs.declared.algorithm.Alg.{Alg}
 use Rattle.cose_map.specs.Key.Value.{KeyValue}
 use Rattle.cose_map.specs.Map.Read.{Read}
@@ -26,6 +26,11 @@ is_of_file _ = false
 abbrev pub fails_by_file : {A : Type 0} → Result A Fault → Bool
 fails_by_file (Ok answer) = false
 fails_by_file (Err fault) = is_of_file fault
+
+-- A fault of a file names this option.
+abbrev pub NamesOption : List ℕ → Fault → Type 0
+NamesOption name (faults.File option) = option.now ≡ name
+NamesOption name _ = ⊤
 
 abbrev pub fault_in : {A : Type 0} → Result A Fault → Option Fault
 fault_in (Ok answer) = None

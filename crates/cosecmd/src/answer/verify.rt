@@ -1,6 +1,6 @@
 //! The verdict of the job `verify`, and the reply that prints it.
 
-ghost use Rattle.std.specs.Prelude.{◌≡◌, ◌≤◌, ◌↔◌, ◌||◌, ℕ, false, List, Some, Ok, Err, IfErr, IfOk, is_err, length, option_map, take};
+ghost use Rattle.std.specs.Prelude.{◌≡◌, ◌≤◌, ◌↔◌, ◌||◌, ℕ, false, List, Some, Ok, Err, IfErr, IfOk, codes, is_err, length, option_map, take};
 ghost use Rattle.cose_head.specs.declared.refusal.Refusal.{Refusal};
 ghost use Rattle.cose_map.specs.Key.View.{contents};
 ghost use Rattle.cose_map.specs.KeyTable.{keys as usable};
@@ -8,7 +8,7 @@ ghost use Rattle.cose_msg.specs.Answer.{decided};
 ghost use Rattle.cose_msg.specs.Detached.{EitherFails};
 ghost use Rattle.cose_msg.specs.Verifier.{setting_of};
 ghost use Rattle.cose_msg.specs.declared.verdict.Verdict.{Verdict};
-ghost use Rattle.cosecmd.specs.Faults.{fails_by_file, fails_by_input};
+ghost use Rattle.cosecmd.specs.Faults.{NamesOption, fails_by_file, fails_by_input};
 ghost use Rattle.cosecmd.specs.Printed.{Says, input_answer, trailing_refusal, program_keys, program_setting, said_of, verified_under, verified_with, followed_by, with_payload};
 ghost use Rattle.cosecmd.specs.Vouch.{vouching};
 
@@ -284,6 +284,7 @@ fn reply_with_file<I: Intake, R: Read>(
         program_keys job.now.keys.now ≡ Err refusal ↔ result ≡ Err (Fault.Keys refusal) }
     // Its fault is that the file failed, or the input, exactly where it failed in this call.
     ensures file { ⟦<PayloadFile<R> as Intake>⟧.has_failed payload.new ≡ fails_by_file result }
+    ensures option { IfErr result (NamesOption (codes "payload-file")) }
     ensures input { I.has_failed intake.new ≡ (I.has_failed intake.old || fails_by_input result) }
 {
     let keys = match KeyTable::<KEYS>::read(job.keys) {
