@@ -308,48 +308,51 @@ fn show_line<'a>(alloc: Global) -> Result<Command<'a>, AllocError> {
         .arg(kind_option(alloc))
 }
 
+/// The options of the key set, of which one has to be there.
+fn with_keys<'a>(alloc: Global, command: Command<'a>) -> Result<Command<'a>, AllocError> {
+    command
+        .args(vec![in alloc; keys_option(alloc), keys_file_option(alloc)]?)?
+        .group(one_of(alloc, "key set", "keys", "keys-file")?)
+}
+
 /// The command `verify` and its options.
 fn verify_line<'a>(alloc: Global) -> Result<Command<'a>, AllocError> {
-    Command::new(alloc, "verify")
+    let verify = Command::new(alloc, "verify")
         .about("Verifies the COSE message on standard input and prints the verdict")
-        .after_help(NOTES)
-        .arg(keys_option(alloc))?
-        .arg(keys_file_option(alloc))?
-        .group(one_of(alloc, "key set", "keys", "keys-file")?)?
-        .arg(aad_option(alloc))?
-        .arg(kind_option(alloc))?
-        .arg(vouch_option(alloc))?
-        .arg(payload_option(alloc))?
+        .after_help(NOTES);
+    with_keys(alloc, verify)?
+        .args(vec![in alloc;
+            aad_option(alloc),
+            kind_option(alloc),
+            vouch_option(alloc),
+            payload_option(alloc),
+        ]?)?
         .arg(payload_file_option(alloc)?)
 }
 
 /// The command `cwt` and its options.
 fn cwt_line<'a>(alloc: Global) -> Result<Command<'a>, AllocError> {
-    Command::new(alloc, "cwt")
+    let cwt = Command::new(alloc, "cwt")
         .about("Admits the CBOR Web Token on standard input and prints its claims")
-        .after_help(CWT_NOTES)
-        .arg(keys_option(alloc))?
-        .arg(keys_file_option(alloc))?
-        .group(one_of(alloc, "key set", "keys", "keys-file")?)?
-        .arg(aad_option(alloc))?
-        .arg(kind_option(alloc))?
-        .arg(vouch_option(alloc))?
-        .arg(now_option(alloc))?
-        .arg(leeway_option(alloc))?
-        .arg(aud_option(alloc))
+        .after_help(CWT_NOTES);
+    with_keys(alloc, cwt)?.args(vec![in alloc;
+        aad_option(alloc),
+        kind_option(alloc),
+        vouch_option(alloc),
+        now_option(alloc),
+        leeway_option(alloc),
+        aud_option(alloc),
+    ]?)
 }
 
 /// The command `digest` and its options.
 fn digest_line<'a>(alloc: Global) -> Result<Command<'a>, AllocError> {
-    Command::new(alloc, "digest")
+    let digest = Command::new(alloc, "digest")
         .about(
             "Prints what the signature of the COSE_Sign1 on standard input has to be verified with",
         )
-        .after_help(DIGEST_NOTES)
-        .arg(keys_option(alloc))?
-        .arg(keys_file_option(alloc))?
-        .group(one_of(alloc, "key set", "keys", "keys-file")?)?
-        .arg(aad_option(alloc))
+        .after_help(DIGEST_NOTES);
+    with_keys(alloc, digest)?.arg(aad_option(alloc))
 }
 
 /// The command `make` and its options.
@@ -357,30 +360,63 @@ fn make_line<'a>(alloc: Global) -> Result<Command<'a>, AllocError> {
     Command::new(alloc, "make")
         .about("Makes a COSE_Mac0 of the payload on standard input and writes its bytes")
         .after_help(MAKE_NOTES)
-        .arg(alg_option(alloc))?
-        .arg(key_option(alloc))?
-        .arg(key_file_option(alloc))?
-        .group(one_of(alloc, "key bytes", "key", "key-file")?)?
-        .arg(length_option(alloc))?
-        .arg(kid_option(alloc))?
-        .arg(aad_option(alloc))
+        .args(vec![in alloc;
+            alg_option(alloc),
+            key_option(alloc),
+            key_file_option(alloc),
+            length_option(alloc),
+            kid_option(alloc),
+            aad_option(alloc),
+        ]?)?
+        .group(one_of(alloc, "key bytes", "key", "key-file")?)
+}
+
+/// The commands, in the order in which help lists them.
+#[derive(Clone, Copy)]
+enum Subcommand {
+    Show,
+    Verify,
+    Cwt,
+    Digest,
+    Make,
+}
+
+impl Subcommand {
+    /// All of them.
+    const ALL: [Subcommand; 5] = [
+        Subcommand::Show,
+        Subcommand::Verify,
+        Subcommand::Cwt,
+        Subcommand::Digest,
+        Subcommand::Make,
+    ];
+
+    /// The command and its options.
+    fn line<'a>(self, alloc: Global) -> Result<Command<'a>, AllocError> {
+        match self {
+            Subcommand::Show => show_line(alloc),
+            Subcommand::Verify => verify_line(alloc),
+            Subcommand::Cwt => cwt_line(alloc),
+            Subcommand::Digest => digest_line(alloc),
+            Subcommand::Make => make_line(alloc),
+        }
+    }
 }
 
 /// The commands and their options.
 fn line<'a>(alloc: Global) -> Result<Command<'a>, AllocError> {
-    Command::new(alloc, "cosecmd")
+    let mut line = Command::new(alloc, "cosecmd")
         .about(
             "Verifies COSE messages (RFC 9052) and CBOR Web Tokens (RFC 8392) that come on standard input, and makes COSE_Mac0",
         )
         .version(VERSION)
         .after_help(NOTES)
         .subcommand_required(true)
-        .arg_required_else_help(true)
-        .subcommand(show_line(alloc)?)?
-        .subcommand(verify_line(alloc)?)?
-        .subcommand(cwt_line(alloc)?)?
-        .subcommand(digest_line(alloc)?)?
-        .subcommand(make_line(alloc)?)
+        .arg_required_else_help(true);
+    for subcommand in Subcommand::ALL {
+        line = line.subcommand(subcommand.line(alloc)?)?;
+    }
+    Ok(line)
 }
 
 /// The text of a line that is refused, which repeats none of its arguments, or the help or version that it asks for.
