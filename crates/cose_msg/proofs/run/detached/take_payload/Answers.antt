@@ -1,4 +1,5 @@
 use Rattle.std.proofs.Common.{◌≡◌, ℕ, ◌+◌, ◌<◌, ◌≤◌, List, ◌++◌, length, take, drop, refl, sym, ◌∙◌, arith, length-append}
+use Rattle.std.proofs.lemmas.Grind.{common_steps}
 use Rattle.std.proofs.lemmas.List.{length-drop, length-take}
 use Rattle.std.proofs.KnownBytes.{Consumes-nil}
 use Rattle.cose_msg.specs.Status.{payload_wanted_in}
@@ -109,3 +110,117 @@ pieces-preserved g c =
       c.put.ensures.failure ∙ marks_nothing _ c.put.result done ∙ c.pieces.invariant.6,
       room,
     )
+
+pub waits-requires : goal.waits-requires
+waits-requires g c = grind (arith, common_steps)
+
+pub min-asked-requires : goal.min-asked-requires
+min-asked-requires g c = grind (arith, common_steps)
+
+pub take-requires : goal.take-requires
+take-requires g c = grind (arith, common_steps)
+
+pub waits-requires-in-pieces : goal.waits-requires-in-pieces
+waits-requires-in-pieces g c = grind (arith, common_steps)
+
+pub put-requires : goal.put-requires
+put-requires g c = grind (arith, common_steps)
+
+pub stop-requires : goal.stop-requires
+stop-requires g c = grind (arith, common_steps)
+
+pub stop-requires-then-is_err : goal.stop-requires-then-is_err
+stop-requires-then-is_err g c = grind (arith, common_steps)
+
+pub returns-then-asked-eq0-clause-stopped : goal.returns-then-asked-eq0-clause-stopped
+returns-then-asked-eq0-clause-stopped g c = cc
+
+pub returns-then-asked-eq0-clause-inspects : goal.returns-then-asked-eq0-clause-inspects
+returns-then-asked-eq0-clause-inspects g c = cc
+
+pub returns-then-asked-eq0-clause-held : goal.returns-then-asked-eq0-clause-held
+returns-then-asked-eq0-clause-held g c = grind (arith, common_steps)
+
+pub returns-then-asked-eq0-clause-opened : goal.returns-then-asked-eq0-clause-opened
+returns-then-asked-eq0-clause-opened g c = grind (arith, common_steps)
+
+pub returns-then-asked-eq0-clause-once : goal.returns-then-asked-eq0-clause-once
+returns-then-asked-eq0-clause-once g c = grind (arith, common_steps)
+
+pub returns-then-asked-eq0-clause-sure : goal.returns-then-asked-eq0-clause-sure
+returns-then-asked-eq0-clause-sure g c = grind (arith, common_steps)
+
+pub returns-in-Err-clause-stopped : goal.returns-in-Err-clause-stopped
+returns-in-Err-clause-stopped g c = cc
+
+pub returns-in-Err-clause-inspects : goal.returns-in-Err-clause-inspects
+returns-in-Err-clause-inspects g c = cc
+
+pub returns-in-Err-clause-held : goal.returns-in-Err-clause-held
+returns-in-Err-clause-held g c = grind (arith, common_steps)
+
+pub returns-in-Err-clause-opened : goal.returns-in-Err-clause-opened
+returns-in-Err-clause-opened g c = grind (arith, common_steps)
+
+pub returns-in-Err-clause-once : goal.returns-in-Err-clause-once
+returns-in-Err-clause-once g c = grind (arith, common_steps)
+
+pub returns-in-Err-clause-sure : goal.returns-in-Err-clause-sure
+returns-in-Err-clause-sure g c = grind (arith, common_steps)
+
+pub returns-then-count-eq0-clause-stopped : goal.returns-then-count-eq0-clause-stopped
+returns-then-count-eq0-clause-stopped g c = cc
+
+pub returns-then-count-eq0-clause-inspects : goal.returns-then-count-eq0-clause-inspects
+returns-then-count-eq0-clause-inspects g c = cc
+
+pub returns-then-count-eq0-clause-held : goal.returns-then-count-eq0-clause-held
+returns-then-count-eq0-clause-held g c = grind (arith, common_steps)
+
+pub returns-then-count-eq0-clause-opened : goal.returns-then-count-eq0-clause-opened
+returns-then-count-eq0-clause-opened g c = grind (arith, common_steps)
+
+pub returns-then-count-eq0-clause-once : goal.returns-then-count-eq0-clause-once
+returns-then-count-eq0-clause-once g c = grind (arith, common_steps)
+
+pub returns-then-count-eq0-clause-sure : goal.returns-then-count-eq0-clause-sure
+returns-then-count-eq0-clause-sure g c = grind (arith, common_steps)
+
+pub returns-then-is_err-clause-stopped : goal.returns-then-is_err-clause-stopped
+returns-then-is_err-clause-stopped g c = cc
+
+pub returns-then-is_err-clause-inspects : goal.returns-then-is_err-clause-inspects
+returns-then-is_err-clause-inspects g c = cc
+
+pub returns-then-is_err-clause-held : goal.returns-then-is_err-clause-held
+returns-then-is_err-clause-held g c = grind (arith, common_steps)
+
+pub returns-then-is_err-clause-opened : goal.returns-then-is_err-clause-opened
+returns-then-is_err-clause-opened g c = grind (arith, common_steps)
+
+pub returns-then-is_err-clause-once : goal.returns-then-is_err-clause-once
+returns-then-is_err-clause-once g c = grind (arith, common_steps)
+
+pub returns-then-asked-eq0-clause-detached : goal.returns-then-asked-eq0-clause-detached
+returns-then-asked-eq0-clause-detached g c = c.pieces.invariant.4
+
+pub returns-then-asked-eq0-clause-sink_failure : goal.returns-then-asked-eq0-clause-sink_failure
+returns-then-asked-eq0-clause-sink_failure g c = c.pieces.invariant.6 ∙ unfailed _ _ refl
+
+pub returns-then-count-eq0-clause-detached : goal.returns-then-count-eq0-clause-detached
+returns-then-count-eq0-clause-detached g c = c.pieces.invariant.4
+
+pub returns-then-count-eq0-clause-sink_failure : goal.returns-then-count-eq0-clause-sink_failure
+returns-then-count-eq0-clause-sink_failure g c = c.pieces.invariant.6 ∙ unfailed _ _ refl
+
+pub returns-in-Err-clause-detached : goal.returns-in-Err-clause-detached
+returns-in-Err-clause-detached g c = c.stop.ensures.detached ∙ c.pieces.invariant.4
+
+pub returns-then-is_err-clause-detached : goal.returns-then-is_err-clause-detached
+returns-then-is_err-clause-detached g c = c.stop-then-is_err.ensures.detached ∙ c.feed_payload.ensures.detached ∙ c.pieces.invariant.4
+
+pub returns-in-Err-clause-sink_failure : goal.returns-in-Err-clause-sink_failure
+returns-in-Err-clause-sink_failure g c = c.pieces.invariant.6 ∙ unfailed _ _ refl
+
+pub returns-then-asked-eq0-clause-payload_failure : goal.returns-then-asked-eq0-clause-payload_failure
+returns-then-asked-eq0-clause-payload_failure g c = c.pieces.invariant.5 ∙ unfailed _ _ refl
