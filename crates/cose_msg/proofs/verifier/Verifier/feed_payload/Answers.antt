@@ -1,4 +1,5 @@
 use Rattle.std.proofs.Common.{◌≡◌, ℕ, List, [], ◌++◌, length, take, sym, ap, subst, ◌∙◌, append_assoc, arith}
+use Rattle.std.proofs.lemmas.Grind.{common_steps}
 use Rattle.cose_msg.specs.Kept.{HasTaken}
 use Rattle.cose_msg.specs.Reader.{SoFar}
 use Rattle.cose_msg.specs.Shown.{shown_in}
@@ -57,3 +58,27 @@ returns-in_default g c =
 
 pub invariant_of-self-clause-untouched : goal.invariant_of-self-clause-untouched
 invariant_of-self-clause-untouched g c = λ none. absurd (untouched_awaits_none c.args.self.now.reader (c.args.self.now.untouched none) c.in-Detached.detached c.in-Detached.is)
+
+pub min-count-requires : goal.min-count-requires
+min-count-requires g c = grind (arith, common_steps)
+
+pub detached_piece-requires : goal.detached_piece-requires
+detached_piece-requires g c = grind (arith, common_steps)
+
+pub waits-requires : goal.waits-requires
+waits-requires g c = grind (arith, common_steps)
+
+pub returns-in-Detached-clause-counts : goal.returns-in-Detached-clause-counts
+returns-in-Detached-clause-counts g c = grind (arith, common_steps)
+
+pub returns-in-Detached-clause-inspects : goal.returns-in-Detached-clause-inspects
+returns-in-Detached-clause-inspects g c = grind (arith, common_steps)
+
+pub returns-in-Detached-clause-detached : goal.returns-in-Detached-clause-detached
+returns-in-Detached-clause-detached g c = grind (arith, common_steps)
+
+pub returns-in-Detached-clause-held : goal.returns-in-Detached-clause-held
+returns-in-Detached-clause-held g c = grind (arith, common_steps)
+
+pub returns-in-Detached-clause-opened : goal.returns-in-Detached-clause-opened
+returns-in-Detached-clause-opened g c = grind (arith, common_steps)

@@ -1,4 +1,5 @@
-use Rattle.std.proofs.Common.{ap, ◌∙◌, sym}
+use Rattle.std.proofs.Common.{arith, ap, ◌∙◌, sym}
+use Rattle.std.proofs.lemmas.Grind.{common_steps}
 use Rattle.cose_msg.specs.Reading.{Reading}
 use Rattle.cose_msg.proofs.PhaseCases.{none_wanted_else}
 use Rattle.cose_msg.proofs.Runs.{without_more}
@@ -11,3 +12,27 @@ returns-clause-reads g c = λ task s B h.
 pub returns-clause-none : goal.returns-clause-none
 returns-clause-none g c = λ other.
     c.payload_wanted.ensures ∙ none_wanted_else c.args.self.now.reader.phase (rw c.if-self.false at other)
+
+pub waits-requires : goal.waits-requires
+waits-requires g c = grind (arith, common_steps)
+
+pub returns-then-self-clause-value : goal.returns-then-self-clause-value
+returns-then-self-clause-value g c = grind (arith, common_steps)
+
+pub returns-then-self-clause-reads : goal.returns-then-self-clause-reads
+returns-then-self-clause-reads g c = grind (arith, common_steps)
+
+pub returns-then-self-clause-some : goal.returns-then-self-clause-some
+returns-then-self-clause-some g c = grind (arith, common_steps)
+
+pub returns-then-self-clause-none : goal.returns-then-self-clause-none
+returns-then-self-clause-none g c = grind (arith, common_steps)
+
+pub payload_wanted-requires : goal.payload_wanted-requires
+payload_wanted-requires g c = grind (arith, common_steps)
+
+pub returns-clause-value : goal.returns-clause-value
+returns-clause-value g c = grind (arith, common_steps)
+
+pub returns-clause-some : goal.returns-clause-some
+returns-clause-some g c = grind (arith, common_steps)
