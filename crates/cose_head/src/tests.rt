@@ -37,73 +37,72 @@ enum Meaning {
     Simple(u64),
 }
 
-fn int_of(meaning: Meaning) -> Option<i128> {
-    match meaning {
-        Meaning::Int(value) => Some(value),
-        _ => None,
+impl Meaning {
+    /// What the getters of the item return.
+    fn values(self) -> (Option<i128>, Option<&'static [u8]>, Option<&'static str>) {
+        match self {
+            Meaning::Int(value) => (Some(value), None, None),
+            Meaning::Bytes(content) => (None, Some(content), None),
+            Meaning::Text(content) => (None, None, Some(content)),
+            _ => (None, None, None),
+        }
     }
-}
 
-fn bytes_of(meaning: Meaning) -> Option<&'static [u8]> {
-    match meaning {
-        Meaning::Bytes(content) => Some(content),
-        _ => None,
+    /// Whether the item is a text, a float, an array and a map.
+    fn tests(self) -> [bool; 4] {
+        match self {
+            Meaning::Text(_) => [true, false, false, false],
+            Meaning::Float => [false, true, false, false],
+            Meaning::Array => [false, false, true, false],
+            Meaning::Map => [false, false, false, true],
+            _ => [false; 4],
+        }
     }
-}
 
-fn text_of(meaning: Meaning) -> Option<&'static str> {
-    match meaning {
-        Meaning::Text(content) => Some(content),
-        _ => None,
+    /// The truth value.
+    fn truth(self) -> Option<bool> {
+        match self {
+            Meaning::Bool(value) => Some(value),
+            _ => None,
+        }
     }
-}
 
-fn bool_of(meaning: Meaning) -> Option<bool> {
-    match meaning {
-        Meaning::Bool(value) => Some(value),
-        _ => None,
+    /// The major type and the argument, where the item is a tag or a simple value.
+    fn head(self) -> Option<(u8, u64)> {
+        match self {
+            Meaning::Tag(number) => Some((6, number)),
+            Meaning::Simple(number) => Some((7, number)),
+            _ => None,
+        }
     }
 }
 
 /// Each getter returns what the item of these bytes is, or that it isn't that.
 fn expect_meaning(rt: &impl Abort, bytes: &[u8], want: Meaning) {
     let item = ItemRef::read(bytes, 0, 2).expect(rt, "one item");
-    assert_eq!(rt; item.as_int(), int_of(want), "of {bytes:?}");
-    assert_eq!(rt; item.as_bytes(), bytes_of(want), "of {bytes:?}");
-    assert_eq!(rt; item.as_text(), text_of(want), "of {bytes:?}");
-    assert_eq!(rt; item.as_bool(), bool_of(want), "of {bytes:?}");
-    assert_eq!(rt;
+    let values = (item.as_int(), item.as_bytes(), item.as_text());
+    assert_eq!(rt; values, want.values(), "of {bytes:?}");
+    let tests = [
         item.is_text(),
-        matches!(want, Meaning::Text(_)),
-        "of {bytes:?}"
-    );
-    assert_eq!(rt;
         item.is_float(),
-        matches!(want, Meaning::Float),
-        "of {bytes:?}"
-    );
-    assert_eq!(rt;
         item.is_array(),
-        matches!(want, Meaning::Array),
+        item.is_map(),
+    ];
+    assert_eq!(rt;
+        (item.as_bool(), tests),
+        (want.truth(), want.tests()),
         "of {bytes:?}"
     );
-    assert_eq!(rt; item.is_map(), matches!(want, Meaning::Map), "of {bytes:?}");
-    let head = item.head();
-    match want {
-        Meaning::Tag(number) => assert_eq!(rt; (head.major, head.arg), (6, number), "of {bytes:?}"),
-        Meaning::Simple(number) => assert_eq!(rt;
-            (head.major, head.arg),
-            (7, number),
-            "of {bytes:?}"
-        ),
-        _ => {}
+    if let Some(parts) = want.head() {
+        let head = item.head();
+        assert_eq!(rt; (head.major, head.arg), parts, "of {bytes:?}");
     }
 }
 
 // The definite lengths of RFC 8949 appendix A: the bytes, their nesting, and what the item is.
 #[test]
 fn reads_the_examples_of_the_standard(rt: HostRuntime) {
-    let rows: [(&[u8], usize, Meaning); 70] = [
+    const ROWS: &[(&[u8], usize, Meaning)] = &[
         (b"\x00", 0, Meaning::Int(0)),
         (b"\x01", 0, Meaning::Int(1)),
         (b"\x0a", 0, Meaning::Int(10)),
@@ -219,7 +218,7 @@ fn reads_the_examples_of_the_standard(rt: HostRuntime) {
             Meaning::Map,
         ),
     ];
-    for (bytes, depth, meaning) in rows {
+    for &(bytes, depth, meaning) in ROWS {
         assert_eq!(rt;
             read_item(bytes, bytes.len(), 2),
             whole(bytes.len(), depth),
@@ -259,7 +258,7 @@ fn refuses_indefinite_lengths(rt: HostRuntime) {
 
 #[test]
 fn writes_shortest_heads(rt: HostRuntime) {
-    let rows: [(u64, &[u8]); 8] = [
+    const ROWS: &[(u64, &[u8])] = &[
         (23, b"\x57"),
         (24, b"\x58\x18"),
         (255, b"\x58\xff"),
@@ -269,7 +268,7 @@ fn writes_shortest_heads(rt: HostRuntime) {
         (4294967295, b"\x5a\xff\xff\xff\xff"),
         (4294967296, b"\x5b\x00\x00\x00\x01\x00\x00\x00\x00"),
     ];
-    for (length, want) in rows {
+    for &(length, want) in ROWS {
         assert_eq!(rt; write_head(2, length).as_slice(), want, "of {length}");
     }
 }
@@ -393,57 +392,58 @@ fn writes_a_refusal(rt: HostRuntime) -> Result<(), AllocError> {
     Ok(())
 }
 
+/// Each reason's number and name.
+const NUMBERS: &[(u8, &str, Reason)] = &[
+    (1, "Truncated", Reason::Truncated),
+    (2, "Reserved", Reason::Reserved),
+    (3, "Indefinite", Reason::Indefinite),
+    (4, "BadSimple", Reason::BadSimple),
+    (5, "TooDeep", Reason::TooDeep),
+    (6, "PastRoom", Reason::PastRoom),
+    (7, "WrongTag", Reason::WrongTag),
+    (8, "Encrypted", Reason::Encrypted),
+    (9, "SeveralParties", Reason::SeveralParties),
+    (10, "NotFour", Reason::NotFour),
+    (11, "WrongType", Reason::WrongType),
+    (12, "NotMap", Reason::NotMap),
+    (13, "BadLabel", Reason::BadLabel),
+    (14, "DuplicateLabel", Reason::DuplicateLabel),
+    (15, "BothBuckets", Reason::BothBuckets),
+    (16, "BadValue", Reason::BadValue),
+    (17, "CritUnprotected", Reason::CritUnprotected),
+    (18, "CritAbsent", Reason::CritAbsent),
+    (19, "CritUnknown", Reason::CritUnknown),
+    (20, "BothIvs", Reason::BothIvs),
+    (21, "NoAlg", Reason::NoAlg),
+    (22, "UnknownAlg", Reason::UnknownAlg),
+    (23, "AlgUnprotected", Reason::AlgUnprotected),
+    (24, "NoKey", Reason::NoKey),
+    (25, "AmbiguousKey", Reason::AmbiguousKey),
+    (26, "Detached", Reason::Detached),
+    (27, "BadAuthLength", Reason::BadAuthLength),
+    (28, "BadAuth", Reason::BadAuth),
+    (29, "PayloadTooLong", Reason::PayloadTooLong),
+    (30, "CwtTagAlone", Reason::CwtTagAlone),
+    (31, "BadKeySet", Reason::BadKeySet),
+    (32, "UnknownKey", Reason::UnknownKey),
+    (33, "FloatDate", Reason::FloatDate),
+    (34, "TaggedDate", Reason::TaggedDate),
+    (35, "Expired", Reason::Expired),
+    (36, "NotYet", Reason::NotYet),
+    (37, "WrongAudience", Reason::WrongAudience),
+    (38, "EncryptedKey", Reason::EncryptedKey),
+    (39, "PlainKey", Reason::PlainKey),
+    (40, "BadConfirmation", Reason::BadConfirmation),
+    (41, "NestedCwt", Reason::NestedCwt),
+    (42, "Trailing", Reason::Trailing),
+    (43, "Attached", Reason::Attached),
+];
+
 // Each reason's number and name, which never change.
 #[test]
 fn numbers_and_names_reasons(rt: HostRuntime) {
-    let rows: [(u8, &str, Reason); 43] = [
-        (1, "Truncated", Reason::Truncated),
-        (2, "Reserved", Reason::Reserved),
-        (3, "Indefinite", Reason::Indefinite),
-        (4, "BadSimple", Reason::BadSimple),
-        (5, "TooDeep", Reason::TooDeep),
-        (6, "PastRoom", Reason::PastRoom),
-        (7, "WrongTag", Reason::WrongTag),
-        (8, "Encrypted", Reason::Encrypted),
-        (9, "SeveralParties", Reason::SeveralParties),
-        (10, "NotFour", Reason::NotFour),
-        (11, "WrongType", Reason::WrongType),
-        (12, "NotMap", Reason::NotMap),
-        (13, "BadLabel", Reason::BadLabel),
-        (14, "DuplicateLabel", Reason::DuplicateLabel),
-        (15, "BothBuckets", Reason::BothBuckets),
-        (16, "BadValue", Reason::BadValue),
-        (17, "CritUnprotected", Reason::CritUnprotected),
-        (18, "CritAbsent", Reason::CritAbsent),
-        (19, "CritUnknown", Reason::CritUnknown),
-        (20, "BothIvs", Reason::BothIvs),
-        (21, "NoAlg", Reason::NoAlg),
-        (22, "UnknownAlg", Reason::UnknownAlg),
-        (23, "AlgUnprotected", Reason::AlgUnprotected),
-        (24, "NoKey", Reason::NoKey),
-        (25, "AmbiguousKey", Reason::AmbiguousKey),
-        (26, "Detached", Reason::Detached),
-        (27, "BadAuthLength", Reason::BadAuthLength),
-        (28, "BadAuth", Reason::BadAuth),
-        (29, "PayloadTooLong", Reason::PayloadTooLong),
-        (30, "CwtTagAlone", Reason::CwtTagAlone),
-        (31, "BadKeySet", Reason::BadKeySet),
-        (32, "UnknownKey", Reason::UnknownKey),
-        (33, "FloatDate", Reason::FloatDate),
-        (34, "TaggedDate", Reason::TaggedDate),
-        (35, "Expired", Reason::Expired),
-        (36, "NotYet", Reason::NotYet),
-        (37, "WrongAudience", Reason::WrongAudience),
-        (38, "EncryptedKey", Reason::EncryptedKey),
-        (39, "PlainKey", Reason::PlainKey),
-        (40, "BadConfirmation", Reason::BadConfirmation),
-        (41, "NestedCwt", Reason::NestedCwt),
-        (42, "Trailing", Reason::Trailing),
-        (43, "Attached", Reason::Attached),
-    ];
-    for (number, name, reason) in rows {
-        assert_eq!(rt; reason.number(), number);
-        assert!(rt; reason.name() == name, "of {number}");
+    for (number, name, reason) in NUMBERS {
+        assert_eq!(rt; (reason.number(), reason.name()), (*number, *name));
     }
 }
 

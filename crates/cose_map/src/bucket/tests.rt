@@ -11,119 +11,99 @@ fn refusal(reason: Reason, place: u64) -> Refusal {
     Refusal { reason, place }
 }
 
+/// Bytes from this place on are refused as a bucket.
+fn expect_refusal(rt: &impl Abort, bytes: &[u8], at: u8, want: Refusal) {
+    let refused = Bucket::read(bytes, u64::from(at), 4).err();
+    assert_eq!(rt; refused, Some(want), "of {bytes:?}");
+}
+
 #[test]
 fn refuses_labels(rt: HostRuntime) {
-    let rows: [(&[u8], u64, Refusal); 12] = [
+    const ROWS: &[(&[u8], u8, Reason, u64)] = &[
         // Not labels: text strings that aren't UTF-8, and what is neither an integer nor a text string.
-        (b"\xa1\x61\xff\x00", 0, refusal(Reason::BadLabel, 1)),
-        (b"\xa1\x40\x00", 6, refusal(Reason::BadLabel, 7)),
-        (b"\xa1\x80\x00", 0, refusal(Reason::BadLabel, 1)),
-        (b"\xa1\xa0\x00", 0, refusal(Reason::BadLabel, 1)),
-        (b"\xa1\xc1\x01\x00", 0, refusal(Reason::BadLabel, 1)),
-        (b"\xa1\xf4\x00", 0, refusal(Reason::BadLabel, 1)),
-        (b"\xa1\xf6\x00", 0, refusal(Reason::BadLabel, 1)),
-        (b"\xa1\xf9\x00\x00\x00", 0, refusal(Reason::BadLabel, 1)),
+        (b"\xa1\x61\xff\x00", 0, Reason::BadLabel, 1),
+        (b"\xa1\x40\x00", 6, Reason::BadLabel, 7),
+        (b"\xa1\x80\x00", 0, Reason::BadLabel, 1),
+        (b"\xa1\xa0\x00", 0, Reason::BadLabel, 1),
+        (b"\xa1\xc1\x01\x00", 0, Reason::BadLabel, 1),
+        (b"\xa1\xf4\x00", 0, Reason::BadLabel, 1),
+        (b"\xa1\xf6\x00", 0, Reason::BadLabel, 1),
+        (b"\xa1\xf9\x00\x00\x00", 0, Reason::BadLabel, 1),
         // A label twice, by value.
-        (
-            b"\xa2\x20\x00\x38\x00\x00",
-            0,
-            refusal(Reason::DuplicateLabel, 3),
-        ),
-        (
-            b"\xa2\x01\x05\x18\x01\x05",
-            3,
-            refusal(Reason::DuplicateLabel, 6),
-        ),
+        (b"\xa2\x20\x00\x38\x00\x00", 0, Reason::DuplicateLabel, 3),
+        (b"\xa2\x01\x05\x18\x01\x05", 3, Reason::DuplicateLabel, 6),
         (
             b"\xa3\x02\x81\x01\x01\x05\x02\x81\x01",
             0,
-            refusal(Reason::DuplicateLabel, 6),
+            Reason::DuplicateLabel,
+            6,
         ),
         (
             b"\xa3\x61\x62\x00\x61\x61\x00\x61\x62\x00",
             0,
-            refusal(Reason::DuplicateLabel, 7),
+            Reason::DuplicateLabel,
+            7,
         ),
     ];
-    for (bytes, at, want) in rows {
-        assert_eq!(rt;
-            Bucket::read(bytes, at, 4).err(),
-            Some(want),
-            "of {bytes:?}"
-        );
+    for &(bytes, at, reason, place) in ROWS {
+        expect_refusal(&rt, bytes, at, Refusal { reason, place });
     }
 }
 
 #[test]
 fn refuses_values(rt: HostRuntime) {
-    let rows: [(&[u8], u64, Refusal); 17] = [
+    const ROWS: &[(&[u8], u8, Reason, u64)] = &[
         // alg
-        (b"\xa1\x01\x40", 0, refusal(Reason::BadValue, 2)),
-        (b"\xa1\x01\x61\xff", 0, refusal(Reason::BadValue, 2)),
+        (b"\xa1\x01\x40", 0, Reason::BadValue, 2),
+        (b"\xa1\x01\x61\xff", 0, Reason::BadValue, 2),
         // crit
-        (b"\xa2\x01\x05\x02\x80", 0, refusal(Reason::BadValue, 4)),
-        (b"\xa1\x02\x01", 0, refusal(Reason::BadValue, 2)),
-        (b"\xa1\x02\xa1\x01\x01", 0, refusal(Reason::BadValue, 2)),
-        (b"\xa1\x02\x81\x40", 0, refusal(Reason::BadValue, 2)),
-        (b"\xa1\x02\x82\x01\x40", 0, refusal(Reason::BadValue, 2)),
-        (b"\xa1\x02\x81\x61\xff", 0, refusal(Reason::BadValue, 2)),
+        (b"\xa2\x01\x05\x02\x80", 0, Reason::BadValue, 4),
+        (b"\xa1\x02\x01", 0, Reason::BadValue, 2),
+        (b"\xa1\x02\xa1\x01\x01", 0, Reason::BadValue, 2),
+        (b"\xa1\x02\x81\x40", 0, Reason::BadValue, 2),
+        (b"\xa1\x02\x82\x01\x40", 0, Reason::BadValue, 2),
+        (b"\xa1\x02\x81\x61\xff", 0, Reason::BadValue, 2),
         // The type of the content.
-        (b"\xa1\x03\x20", 0, refusal(Reason::BadValue, 2)),
-        (b"\xa1\x03\x40", 0, refusal(Reason::BadValue, 2)),
-        (b"\xa1\x03\x61\xff", 0, refusal(Reason::BadValue, 2)),
+        (b"\xa1\x03\x20", 0, Reason::BadValue, 2),
+        (b"\xa1\x03\x40", 0, Reason::BadValue, 2),
+        (b"\xa1\x03\x61\xff", 0, Reason::BadValue, 2),
         // kid
-        (b"\xa1\x04\x00", 6, refusal(Reason::BadValue, 8)),
-        (b"\xa1\x04\x60", 0, refusal(Reason::BadValue, 2)),
+        (b"\xa1\x04\x00", 6, Reason::BadValue, 8),
+        (b"\xa1\x04\x60", 0, Reason::BadValue, 2),
         // IV and Partial IV
-        (b"\xa1\x05\x00", 0, refusal(Reason::BadValue, 2)),
-        (b"\xa1\x05\x60", 0, refusal(Reason::BadValue, 2)),
-        (b"\xa1\x06\x00", 0, refusal(Reason::BadValue, 2)),
-        (b"\xa1\x06\x60", 0, refusal(Reason::BadValue, 2)),
+        (b"\xa1\x05\x00", 0, Reason::BadValue, 2),
+        (b"\xa1\x05\x60", 0, Reason::BadValue, 2),
+        (b"\xa1\x06\x00", 0, Reason::BadValue, 2),
+        (b"\xa1\x06\x60", 0, Reason::BadValue, 2),
     ];
-    for (bytes, at, want) in rows {
-        assert_eq!(rt;
-            Bucket::read(bytes, at, 4).err(),
-            Some(want),
-            "of {bytes:?}"
-        );
+    for &(bytes, at, reason, place) in ROWS {
+        expect_refusal(&rt, bytes, at, Refusal { reason, place });
     }
 }
 
 #[test]
 fn refuses_in_order(rt: HostRuntime) {
-    let rows: [(&[u8], u64, Refusal); 14] = [
+    const ROWS: &[(&[u8], u8, Reason, u64)] = &[
         // The item is read first.
-        (b"\xa2\x0a\x00\x0a\x41", 0, refusal(Reason::PastRoom, 4)),
-        (b"\xa2\x01\x05", 3, refusal(Reason::PastRoom, 3)),
-        (
-            b"\xa1\x0a\x81\x81\x81\x81\x00",
-            6,
-            refusal(Reason::TooDeep, 11),
-        ),
-        (b"\xbf\xff", 3, refusal(Reason::Indefinite, 3)),
-        (b"\xa1\x01\x1c", 0, refusal(Reason::Reserved, 2)),
-        (b"\xa1\x01\xf8\x10", 0, refusal(Reason::BadSimple, 2)),
+        (b"\xa2\x0a\x00\x0a\x41", 0, Reason::PastRoom, 4),
+        (b"\xa2\x01\x05", 3, Reason::PastRoom, 3),
+        (b"\xa1\x0a\x81\x81\x81\x81\x00", 6, Reason::TooDeep, 11),
+        (b"\xbf\xff", 3, Reason::Indefinite, 3),
+        (b"\xa1\x01\x1c", 0, Reason::Reserved, 2),
+        (b"\xa1\x01\xf8\x10", 0, Reason::BadSimple, 2),
         // Then bytes after it are refused, and then what isn't a map.
-        (b"\xa1\x01\x05\x00", 3, refusal(Reason::Trailing, 6)),
-        (b"\x80\x00", 3, refusal(Reason::Trailing, 4)),
-        (b"\xa1\x04\x00\x00", 0, refusal(Reason::Trailing, 3)),
-        (b"\x80", 3, refusal(Reason::NotMap, 3)),
-        (b"\x00", 0, refusal(Reason::NotMap, 0)),
-        (b"\xc1\xa0", 0, refusal(Reason::NotMap, 0)),
+        (b"\xa1\x01\x05\x00", 3, Reason::Trailing, 6),
+        (b"\x80\x00", 3, Reason::Trailing, 4),
+        (b"\xa1\x04\x00\x00", 0, Reason::Trailing, 3),
+        (b"\x80", 3, Reason::NotMap, 3),
+        (b"\x00", 0, Reason::NotMap, 0),
+        (b"\xc1\xa0", 0, Reason::NotMap, 0),
         // Then the pairs, one after another, each label before its value.
-        (b"\xa2\x04\x00\x40\x00", 0, refusal(Reason::BadValue, 2)),
-        (
-            b"\xa2\x04\x41\x00\x04\x00",
-            0,
-            refusal(Reason::DuplicateLabel, 4),
-        ),
+        (b"\xa2\x04\x00\x40\x00", 0, Reason::BadValue, 2),
+        (b"\xa2\x04\x41\x00\x04\x00", 0, Reason::DuplicateLabel, 4),
     ];
-    for (bytes, at, want) in rows {
-        assert_eq!(rt;
-            Bucket::read(bytes, at, 4).err(),
-            Some(want),
-            "of {bytes:?}"
-        );
+    for &(bytes, at, reason, place) in ROWS {
+        expect_refusal(&rt, bytes, at, Refusal { reason, place });
     }
 }
 
@@ -247,176 +227,200 @@ fn gives_a_text_for_alg(rt: HostRuntime) {
     assert!(rt; read.crit().is_none());
 }
 
+/// A protected bucket from place 3 on and an unprotected one from the place `at` on have this fault together, where what
+/// follows them is at the place `after`.
+fn expect_fault(rt: &impl Abort, first: &[u8], second: &[u8], at: u8, after: u64, want: Refusal) {
+    let protected = bucket(rt, first, 3);
+    let unprotected = bucket(rt, second, u64::from(at));
+    assert_eq!(rt;
+        check_pair(&protected, &unprotected, &[], after),
+        Err(want),
+        "of {first:?} and {second:?}"
+    );
+}
+
 #[test]
 fn finds_labels_in_both(rt: HostRuntime) {
-    let rows: [(&[u8], &[u8], u64, Refusal); 6] = [
+    const ROWS: &[(&[u8], u8, &[u8], u64, Reason, u64)] = &[
         // A label in both buckets; where it is also that of crit, the smaller number has precedence.
         (
             b"\xa2\x01\x05\x02\x81\x01",
+            9,
             b"\xa1\x02\x81\x01",
             13,
-            refusal(Reason::BothBuckets, 10),
+            Reason::BothBuckets,
+            10,
         ),
         (
             b"\xa1\x01\x05",
+            6,
             b"\xa1\x01\x05",
             9,
-            refusal(Reason::BothBuckets, 7),
+            Reason::BothBuckets,
+            7,
         ),
         // crit in the unprotected bucket.
         (
             b"\xa1\x01\x05",
+            6,
             b"\xa1\x02\x81\x01",
             10,
-            refusal(Reason::CritUnprotected, 7),
+            Reason::CritUnprotected,
+            7,
         ),
         // Of several faults the one at the least place.
         (
             b"\xa2\x01\x05\x02\x81\x04",
+            9,
             b"\xa1\x01\x05",
             12,
-            refusal(Reason::CritAbsent, 8),
+            Reason::CritAbsent,
+            8,
         ),
         (
             b"\xa2\x01\x05\x04\x41\x07",
+            9,
             b"\xa2\x04\x41\x07\x01\x05",
             15,
-            refusal(Reason::BothBuckets, 10),
+            Reason::BothBuckets,
+            10,
         ),
         (
             b"\xa1\x05\x41\x00",
+            7,
             b"\xa2\x05\x41\x00\x06\x41\x00",
             14,
-            refusal(Reason::BothBuckets, 8),
+            Reason::BothBuckets,
+            8,
         ),
     ];
-    for (first, second, after, want) in rows {
-        let protected = bucket(&rt, first, 3);
-        let unprotected = bucket(&rt, second, 3 + first.len() as u64);
-        assert_eq!(rt;
-            check_pair(&protected, &unprotected, &[], after),
-            Err(want),
-            "of {first:?} and {second:?}"
-        );
+    for &(first, at, second, after, reason, place) in ROWS {
+        expect_fault(&rt, first, second, at, after, Refusal { reason, place });
     }
 }
 
 #[test]
 fn finds_labels_of_crit_that_are_absent(rt: HostRuntime) {
-    let rows: [(&[u8], &[u8], u64, Refusal); 3] = [
+    const ROWS: &[(&[u8], u8, &[u8], u64, Reason, u64)] = &[
         // A label that the protected bucket lacks.
         (
             b"\xa2\x01\x05\x02\x81\x18\x2a",
+            10,
             b"\xa0",
             11,
-            refusal(Reason::CritAbsent, 8),
+            Reason::CritAbsent,
+            8,
         ),
         (
             b"\xa2\x01\x05\x02\x81\x04",
+            9,
             b"\xa1\x04\x41\x07",
             13,
-            refusal(Reason::CritAbsent, 8),
+            Reason::CritAbsent,
+            8,
         ),
         (
             b"\xa2\x01\x05\x02\x82\x01\x18\x2a",
+            11,
             b"\xa0",
             12,
-            refusal(Reason::CritAbsent, 9),
+            Reason::CritAbsent,
+            9,
         ),
     ];
-    for (first, second, after, want) in rows {
-        let protected = bucket(&rt, first, 3);
-        let unprotected = bucket(&rt, second, 3 + first.len() as u64);
-        assert_eq!(rt;
-            check_pair(&protected, &unprotected, &[], after),
-            Err(want),
-            "of {first:?} and {second:?}"
-        );
+    for &(first, at, second, after, reason, place) in ROWS {
+        expect_fault(&rt, first, second, at, after, Refusal { reason, place });
     }
 }
 
 #[test]
 fn finds_labels_of_crit_that_nobody_knows(rt: HostRuntime) {
-    let rows: [(&[u8], &[u8], u64, Refusal); 5] = [
+    const ROWS: &[(&[u8], u8, &[u8], u64, Reason, u64)] = &[
         // 1 to 6 are understood, and 7, 0, -1 and text strings are not.
         (
             b"\xa3\x01\x05\x02\x81\x18\x2a\x18\x2a\x00",
+            13,
             b"\xa0",
             14,
-            refusal(Reason::CritUnknown, 8),
+            Reason::CritUnknown,
+            8,
         ),
         (
             b"\xa3\x01\x05\x02\x81\x07\x07\x00",
+            11,
             b"\xa0",
             12,
-            refusal(Reason::CritUnknown, 8),
+            Reason::CritUnknown,
+            8,
         ),
         (
             b"\xa2\x00\x00\x02\x81\x00",
+            9,
             b"\xa0",
             10,
-            refusal(Reason::CritUnknown, 8),
+            Reason::CritUnknown,
+            8,
         ),
         (
             b"\xa2\x20\x00\x02\x81\x20",
+            9,
             b"\xa0",
             10,
-            refusal(Reason::CritUnknown, 8),
+            Reason::CritUnknown,
+            8,
         ),
         (
             b"\xa2\x61\x31\x00\x02\x81\x61\x31",
+            11,
             b"\xa0",
             12,
-            refusal(Reason::CritUnknown, 9),
+            Reason::CritUnknown,
+            9,
         ),
     ];
-    for (first, second, after, want) in rows {
-        let protected = bucket(&rt, first, 3);
-        let unprotected = bucket(&rt, second, 3 + first.len() as u64);
-        assert_eq!(rt;
-            check_pair(&protected, &unprotected, &[], after),
-            Err(want),
-            "of {first:?} and {second:?}"
-        );
+    for &(first, at, second, after, reason, place) in ROWS {
+        expect_fault(&rt, first, second, at, after, Refusal { reason, place });
     }
 }
 
 #[test]
 fn finds_both_ivs(rt: HostRuntime) {
-    let rows: [(&[u8], &[u8], u64, Refusal); 4] = [
+    const ROWS: &[(&[u8], u8, &[u8], u64, Reason, u64)] = &[
         (
             b"\xa2\x01\x05\x05\x41\x00",
+            9,
             b"\xa1\x06\x41\x00",
             13,
-            refusal(Reason::BothIvs, 13),
+            Reason::BothIvs,
+            13,
         ),
         (
             b"\xa1\x06\x41\x00",
+            7,
             b"\xa1\x05\x41\x00",
             11,
-            refusal(Reason::BothIvs, 11),
+            Reason::BothIvs,
+            11,
         ),
         (
             b"\xa2\x05\x41\x00\x06\x41\x00",
+            10,
             b"\xa0",
             11,
-            refusal(Reason::BothIvs, 11),
+            Reason::BothIvs,
+            11,
         ),
         (
             b"\xa0",
+            4,
             b"\xa2\x05\x41\x00\x06\x41\x00",
             11,
-            refusal(Reason::BothIvs, 11),
+            Reason::BothIvs,
+            11,
         ),
     ];
-    for (first, second, after, want) in rows {
-        let protected = bucket(&rt, first, 3);
-        let unprotected = bucket(&rt, second, 3 + first.len() as u64);
-        assert_eq!(rt;
-            check_pair(&protected, &unprotected, &[], after),
-            Err(want),
-            "of {first:?} and {second:?}"
-        );
+    for &(first, at, second, after, reason, place) in ROWS {
+        expect_fault(&rt, first, second, at, after, Refusal { reason, place });
     }
 }
 

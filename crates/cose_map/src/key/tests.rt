@@ -6,11 +6,17 @@ use super::*;
 use crate::key::material::Y;
 use cose_head::Reason;
 use std::alloc::Global;
+use std::process::Abort;
 use std::test::Fail;
+
+/// Bytes from place 7 on are refused as a key.
+fn expect_refusal(rt: &impl Abort, bytes: &[u8], want: Refusal) {
+    assert_eq!(rt; Key::read(bytes, 7).err(), Some(want), "of {bytes:?}");
+}
 
 #[test]
 fn refuses_at_the_first_fault(rt: HostRuntime) {
-    let rows: [(&[u8], Reason, u64); 21] = [
+    const ROWS: &[(&[u8], Reason, u64)] = &[
         // First it must be an item of a nesting of at most 8, and a map.
         (b"", Reason::PastRoom, 7),
         (b"\x80", Reason::NotMap, 7),
@@ -48,29 +54,27 @@ fn refuses_at_the_first_fault(rt: HostRuntime) {
         (b"\xa2\x01\x01\x20\x06", Reason::UnknownKey, 7),
         (b"\xa1\x01\x61\xff", Reason::UnknownKey, 7),
     ];
-    for (bytes, reason, place) in rows {
-        let refused = Key::read(bytes, 7).err();
-        assert_eq!(rt; refused, Some(Refusal { reason, place }), "of {bytes:?}");
+    for &(bytes, reason, place) in ROWS {
+        expect_refusal(&rt, bytes, Refusal { reason, place });
     }
 }
 
 #[test]
 fn refuses_symmetric_keys(rt: HostRuntime) {
-    let rows: [(&[u8], Reason, u64); 4] = [
+    const ROWS: &[(&[u8], Reason, u64)] = &[
         (b"\xa1\x01\x04", Reason::BadValue, 7),
         (b"\xa2\x01\x04\x20\x06", Reason::BadValue, 11),
         (b"\xa2\x01\x04\x20\x61\x61", Reason::BadValue, 11),
         (b"\xa2\x01\x04\x20\x40", Reason::BadValue, 11),
     ];
-    for (bytes, reason, place) in rows {
-        let refused = Key::read(bytes, 7).err();
-        assert_eq!(rt; refused, Some(Refusal { reason, place }), "of {bytes:?}");
+    for &(bytes, reason, place) in ROWS {
+        expect_refusal(&rt, bytes, Refusal { reason, place });
     }
 }
 
 #[test]
 fn refuses_keys_on_curves(rt: HostRuntime) {
-    let rows: [(&[u8], Reason, u64); 21] = [
+    const ROWS: &[(&[u8], Reason, u64)] = &[
         // crv
         (b"\xa1\x01\x02", Reason::BadValue, 7),
         (b"\xa2\x01\x02\x20\x40", Reason::BadValue, 11),
@@ -146,9 +150,8 @@ fn refuses_keys_on_curves(rt: HostRuntime) {
             50,
         ),
     ];
-    for (bytes, reason, place) in rows {
-        let refused = Key::read(bytes, 7).err();
-        assert_eq!(rt; refused, Some(Refusal { reason, place }), "of {bytes:?}");
+    for &(bytes, reason, place) in ROWS {
+        expect_refusal(&rt, bytes, Refusal { reason, place });
     }
 }
 
@@ -200,10 +203,15 @@ fn is_read(curve: u8, length: u8) -> bool
 #[test]
 fn reads_points_on_each_curve(rt: HostRuntime) {
     for length in 24..70 {
-        assert_eq!(rt; is_read(1, length), length == 32, "P-256, {length} bytes");
-        assert_eq!(rt; is_read(2, length), length == 48, "P-384, {length} bytes");
-        assert_eq!(rt; is_read(3, length), length == 66, "P-521, {length} bytes");
-        assert!(rt; !is_read(4, length), "curve 4, {length} bytes");
+        let are_read = [
+            is_read(1, length),
+            is_read(2, length),
+            is_read(3, length),
+            is_read(4, length),
+        ];
+        // P-256, P-384, P-521, and a curve that isn't known.
+        let want = [length == 32, length == 48, length == 66, false];
+        assert_eq!(rt; are_read, want, "{length} bytes");
     }
 }
 
