@@ -9,9 +9,10 @@ mod tokens;
 
 ghost use Rattle.std.specs.Prelude.{◌≡◌, ◌≤◌, IfSome, length, true};
 
-use crate::{Audience, Policy};
+use crate::{Audience, Claims, Policy};
 use cose_map::{Reason, Refusal};
 use cose_msg::{Context, KeySet, Wanted};
+use std::process::Abort;
 
 /// The claims of RFC 8392 appendix A.1. The places of the values of their labels 1 to 7 are 2, 25, 32, 59, 65, 71 and
 /// 77.
@@ -77,4 +78,12 @@ fn at(now: i64, leeway: u32) -> Policy<'static> {
 
 fn refusal(reason: Reason, place: u64) -> Refusal {
     Refusal { reason, place }
+}
+
+/// Checks that the claims of each row are refused, with its reason and its place.
+fn refuses(rt: &impl Abort, rows: &[(&[u8], Reason, u64)]) {
+    for &(bytes, reason, place) in rows {
+        let want = Some(refusal(reason, place));
+        assert_eq!(rt; Claims::read(bytes, 4).err(), want, "of {bytes:?}");
+    }
 }

@@ -26,7 +26,7 @@ fn mine<'p>(texts: &'p [&'p str], now: i64) -> Policy<'p> {
 /// the audience.
 #[test]
 fn judges_in_order(rt: HostRuntime) {
-    let rows: [(i64, &[u8], Reason, u64); 12] = [
+    const ROWS: &[(i64, &[u8], Reason, u64)] = &[
         (0, b"\xa2\x04\x00\x01\x00", Reason::BadValue, 4),
         (0, b"\xa2\x03\x61\x61\x01\x00", Reason::BadValue, 5),
         (0, b"\xa2\x04\x00\x08\xa1\x02\x80", Reason::EncryptedKey, 5),
@@ -40,7 +40,7 @@ fn judges_in_order(rt: HostRuntime) {
         (0, b"\xa2\x05\x01\x03\x61\x61", Reason::NotYet, 2),
         (0, b"\xa3\x03\x61\x61\x05\x01\x04\x00", Reason::Expired, 7),
     ];
-    for (now, bytes, reason, place) in rows {
+    for &(now, bytes, reason, place) in ROWS {
         let want = Some(refusal(reason, place));
         assert_eq!(rt; refused(bytes, &mine(&["b"], now)), want, "of {bytes:?}");
     }
@@ -58,28 +58,11 @@ fn admits_whenever_issued(rt: HostRuntime) {
     }
 }
 
-/// The leeway is added to exp, and to the current time for nbf; dates and the current time have a sign.
-#[test]
-fn adds_the_leeway(rt: HostRuntime) {
-    let expired = Some(refusal(Reason::Expired, 2));
-    let not_yet = Some(refusal(Reason::NotYet, 2));
-    let rows: [(i64, u32, &[u8], Option<Refusal>); 14] = [
-        (4, 0, b"\xa1\x04\x05", None),
-        (5, 0, b"\xa1\x04\x05", expired),
-        (6, 2, b"\xa1\x04\x05", None),
-        (7, 2, b"\xa1\x04\x05", expired),
-        (5, 0, b"\xa1\x05\x05", None),
-        (4, 0, b"\xa1\x05\x05", not_yet),
-        (3, 2, b"\xa1\x05\x05", None),
-        (2, 2, b"\xa1\x05\x05", not_yet),
-        (-2, 0, b"\xa1\x04\x20", None),
-        (-1, 0, b"\xa1\x04\x20", expired),
-        (-1, 1, b"\xa1\x04\x20", None),
-        (-1, 0, b"\xa1\x05\x20", None),
-        (-2, 0, b"\xa1\x05\x20", not_yet),
-        (-2, 1, b"\xa1\x05\x20", None),
-    ];
-    for (now, leeway, bytes, want) in rows {
+/// Checks whether the claims of each row are admitted at a time with a leeway, or refused at their first value with a
+/// reason.
+fn judges(rt: &impl Abort, rows: &[(i64, u32, &[u8], Option<Reason>)]) {
+    for &(now, leeway, bytes, reason) in rows {
+        let want = reason.map(|reason| refusal(reason, 2));
         assert_eq!(rt;
             refused(bytes, &at(now, leeway)),
             want,
@@ -88,20 +71,45 @@ fn adds_the_leeway(rt: HostRuntime) {
     }
 }
 
+/// The leeway is added to exp, and to the current time for nbf; dates and the current time have a sign.
+#[test]
+fn adds_the_leeway(rt: HostRuntime) {
+    const ROWS: &[(i64, u32, &[u8], Option<Reason>)] = &[
+        (4, 0, b"\xa1\x04\x05", None),
+        (5, 0, b"\xa1\x04\x05", Some(Reason::Expired)),
+        (6, 2, b"\xa1\x04\x05", None),
+        (7, 2, b"\xa1\x04\x05", Some(Reason::Expired)),
+        (5, 0, b"\xa1\x05\x05", None),
+        (4, 0, b"\xa1\x05\x05", Some(Reason::NotYet)),
+        (3, 2, b"\xa1\x05\x05", None),
+        (2, 2, b"\xa1\x05\x05", Some(Reason::NotYet)),
+        (-2, 0, b"\xa1\x04\x20", None),
+        (-1, 0, b"\xa1\x04\x20", Some(Reason::Expired)),
+        (-1, 1, b"\xa1\x04\x20", None),
+        (-1, 0, b"\xa1\x05\x20", None),
+        (-2, 0, b"\xa1\x05\x20", Some(Reason::NotYet)),
+        (-2, 1, b"\xa1\x05\x20", None),
+    ];
+    judges(&rt, ROWS);
+}
+
 /// The sums have no limit: the latest and the earliest current time, the greatest leeway, and dates on both sides of each sum.
 #[test]
 fn adds_beyond_64_bits(rt: HostRuntime) {
-    let expired = Some(refusal(Reason::Expired, 2));
-    let not_yet = Some(refusal(Reason::NotYet, 2));
-    let rows: [(i64, u32, &[u8], Option<Refusal>); 20] = [
+    const ROWS: &[(i64, u32, &[u8], Option<Reason>)] = &[
         (4_294_967_294, u32::MAX, b"\xa1\x04\x00", None),
-        (4_294_967_295, u32::MAX, b"\xa1\x04\x00", expired),
+        (
+            4_294_967_295,
+            u32::MAX,
+            b"\xa1\x04\x00",
+            Some(Reason::Expired),
+        ),
         (0, u32::MAX, b"\xa1\x05\x1a\xff\xff\xff\xff", None),
         (
             0,
             u32::MAX,
             b"\xa1\x05\x1b\x00\x00\x00\x01\x00\x00\x00\x00",
-            not_yet,
+            Some(Reason::NotYet),
         ),
         (
             i64::MAX - 1,
@@ -113,7 +121,7 @@ fn adds_beyond_64_bits(rt: HostRuntime) {
             i64::MAX,
             0,
             b"\xa1\x04\x1b\x7f\xff\xff\xff\xff\xff\xff\xff",
-            expired,
+            Some(Reason::Expired),
         ),
         (
             i64::MAX,
@@ -137,7 +145,7 @@ fn adds_beyond_64_bits(rt: HostRuntime) {
             i64::MAX,
             0,
             b"\xa1\x05\x1b\x80\x00\x00\x00\x00\x00\x00\x00",
-            not_yet,
+            Some(Reason::NotYet),
         ),
         (
             i64::MAX,
@@ -149,7 +157,7 @@ fn adds_beyond_64_bits(rt: HostRuntime) {
             i64::MAX,
             u32::MAX,
             b"\xa1\x05\x1b\x80\x00\x00\x00\xff\xff\xff\xff",
-            not_yet,
+            Some(Reason::NotYet),
         ),
         (
             i64::MIN,
@@ -167,13 +175,13 @@ fn adds_beyond_64_bits(rt: HostRuntime) {
             i64::MIN,
             1,
             b"\xa1\x04\x3b\x80\x00\x00\x00\x00\x00\x00\x00",
-            expired,
+            Some(Reason::Expired),
         ),
         (
             i64::MIN,
             0,
             b"\xa1\x04\x3b\x7f\xff\xff\xff\xff\xff\xff\xff",
-            expired,
+            Some(Reason::Expired),
         ),
         (
             i64::MIN,
@@ -185,7 +193,7 @@ fn adds_beyond_64_bits(rt: HostRuntime) {
             i64::MIN,
             0,
             b"\xa1\x05\x3b\x7f\xff\xff\xff\xff\xff\xff\xfe",
-            not_yet,
+            Some(Reason::NotYet),
         ),
         (
             i64::MIN,
@@ -197,16 +205,10 @@ fn adds_beyond_64_bits(rt: HostRuntime) {
             i64::MIN,
             u32::MAX,
             b"\xa1\x05\x3b\x7f\xff\xff\xfe\xff\xff\xff\xff",
-            not_yet,
+            Some(Reason::NotYet),
         ),
     ];
-    for (now, leeway, bytes, want) in rows {
-        assert_eq!(rt;
-            refused(bytes, &at(now, leeway)),
-            want,
-            "of {bytes:?} at {now}"
-        );
-    }
+    judges(&rt, ROWS);
 }
 
 /// Checks that these claims are admitted, or refused with `want`, under a policy that has these text strings.

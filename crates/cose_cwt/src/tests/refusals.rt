@@ -1,7 +1,7 @@
 //! The rules and orders of claims. Each row would have another answer if its rule were another.
 
 use crate::Claims;
-use crate::tests::refusal;
+use crate::tests::refuses;
 use cose_map::Reason;
 use std::test::Fail;
 
@@ -9,7 +9,7 @@ use std::test::Fail;
 /// and a byte after it over what the item is.
 #[test]
 fn reads_one_whole_item(rt: HostRuntime) {
-    let rows: [(&[u8], Reason, u64); 8] = [
+    const ROWS: &[(&[u8], Reason, u64)] = &[
         (b"\xa1\x01", Reason::PastRoom, 0),
         (b"\xa1\x01\x61", Reason::PastRoom, 2),
         (b"\xa1\x18\x64\x81\x81\x81\x81\x00", Reason::TooDeep, 6),
@@ -19,17 +19,14 @@ fn reads_one_whole_item(rt: HostRuntime) {
         (b"\xa1\x01\x00\x00", Reason::Trailing, 3),
         (b"\xa1\x40\x00\x00", Reason::Trailing, 3),
     ];
-    for (bytes, reason, place) in rows {
-        let want = Some(refusal(reason, place));
-        assert_eq!(rt; Claims::read(bytes, 4).err(), want, "of {bytes:?}");
-    }
+    refuses(&rt, ROWS);
 }
 
 /// Seven tags are those of a token, however wide their heads are and whatever their content is; items with the tags
 /// next to them aren't maps.
 #[test]
 fn refuses_tokens_in_tokens(rt: HostRuntime) {
-    let rows: [(&[u8], Reason, u64); 19] = [
+    const ROWS: &[(&[u8], Reason, u64)] = &[
         (b"\xd0\x00", Reason::NestedCwt, 0),
         (b"\xd1\x00", Reason::NestedCwt, 0),
         (b"\xd2\x00", Reason::NestedCwt, 0),
@@ -50,16 +47,13 @@ fn refuses_tokens_in_tokens(rt: HostRuntime) {
         (b"\x10", Reason::NotMap, 0),
         (b"\x18\x3d", Reason::NotMap, 0),
     ];
-    for (bytes, reason, place) in rows {
-        let want = Some(refusal(reason, place));
-        assert_eq!(rt; Claims::read(bytes, 4).err(), want, "of {bytes:?}");
-    }
+    refuses(&rt, ROWS);
 }
 
 /// A pair has precedence over the next, and a label over its value.
 #[test]
 fn reads_pairs_in_order(rt: HostRuntime) {
-    let rows: [(&[u8], Reason, u64); 7] = [
+    const ROWS: &[(&[u8], Reason, u64)] = &[
         (b"\xa2\x01\x00\x40\x00", Reason::BadValue, 2),
         (b"\xa2\x40\x00\x01\x00", Reason::BadLabel, 1),
         (b"\xa1\x61\xff\x00", Reason::BadLabel, 1),
@@ -68,15 +62,12 @@ fn reads_pairs_in_order(rt: HostRuntime) {
         (b"\xa3\x04\x00\x04\x00\x01\x00", Reason::DuplicateLabel, 3),
         (b"\xa1\x18\x04\xf9\x3c\x00", Reason::FloatDate, 3),
     ];
-    for (bytes, reason, place) in rows {
-        let want = Some(refusal(reason, place));
-        assert_eq!(rt; Claims::read(bytes, 4).err(), want, "of {bytes:?}");
-    }
+    refuses(&rt, ROWS);
 }
 
 #[test]
 fn wants_texts(rt: HostRuntime) {
-    let rows: [(&[u8], Reason, u64); 15] = [
+    const ROWS: &[(&[u8], Reason, u64)] = &[
         (b"\xa1\x01\x00", Reason::BadValue, 2),
         (b"\xa1\x01\x40", Reason::BadValue, 2),
         (b"\xa1\x01\x61\xff", Reason::BadValue, 2),
@@ -93,16 +84,13 @@ fn wants_texts(rt: HostRuntime) {
         (b"\xa1\x03\x81\x81\x61\x61", Reason::BadValue, 2),
         (b"\xa1\x03\x82\x61\x61\x61\xff", Reason::BadValue, 2),
     ];
-    for (bytes, reason, place) in rows {
-        let want = Some(refusal(reason, place));
-        assert_eq!(rt; Claims::read(bytes, 4).err(), want, "of {bytes:?}");
-    }
+    refuses(&rt, ROWS);
 }
 
 /// A float isn't a date, whatever its width.
 #[test]
 fn wants_no_floats(rt: HostRuntime) {
-    let rows: [(&[u8], Reason, u64); 9] = [
+    const ROWS: &[(&[u8], Reason, u64)] = &[
         (b"\xa1\x04\xf9\x3c\x00", Reason::FloatDate, 2),
         (b"\xa1\x04\xfa\x3f\x80\x00\x00", Reason::FloatDate, 2),
         (
@@ -125,16 +113,13 @@ fn wants_no_floats(rt: HostRuntime) {
             2,
         ),
     ];
-    for (bytes, reason, place) in rows {
-        let want = Some(refusal(reason, place));
-        assert_eq!(rt; Claims::read(bytes, 4).err(), want, "of {bytes:?}");
-    }
+    refuses(&rt, ROWS);
 }
 
 /// The tag 1 has a reason of its own, whatever its content is and however wide its head is.
 #[test]
 fn wants_no_tagged_dates(rt: HostRuntime) {
-    let rows: [(&[u8], Reason, u64); 8] = [
+    const ROWS: &[(&[u8], Reason, u64)] = &[
         (b"\xa1\x04\xc1\x00", Reason::TaggedDate, 2),
         (b"\xa1\x05\xc1\x00", Reason::TaggedDate, 2),
         (b"\xa1\x06\xc1\x00", Reason::TaggedDate, 2),
@@ -144,15 +129,12 @@ fn wants_no_tagged_dates(rt: HostRuntime) {
         (b"\xa1\x04\xc2\x41\x00", Reason::BadValue, 2),
         (b"\xa1\x04\xc3\x41\x00", Reason::BadValue, 2),
     ];
-    for (bytes, reason, place) in rows {
-        let want = Some(refusal(reason, place));
-        assert_eq!(rt; Claims::read(bytes, 4).err(), want, "of {bytes:?}");
-    }
+    refuses(&rt, ROWS);
 }
 
 #[test]
 fn wants_integers(rt: HostRuntime) {
-    let rows: [(&[u8], Reason, u64); 9] = [
+    const ROWS: &[(&[u8], Reason, u64)] = &[
         (b"\xa1\x04\x60", Reason::BadValue, 2),
         (b"\xa1\x05\x60", Reason::BadValue, 2),
         (b"\xa1\x06\x60", Reason::BadValue, 2),
@@ -163,57 +145,45 @@ fn wants_integers(rt: HostRuntime) {
         (b"\xa1\x04\xf6", Reason::BadValue, 2),
         (b"\xa1\x04\xf8\x20", Reason::BadValue, 2),
     ];
-    for (bytes, reason, place) in rows {
-        let want = Some(refusal(reason, place));
-        assert_eq!(rt; Claims::read(bytes, 4).err(), want, "of {bytes:?}");
-    }
+    refuses(&rt, ROWS);
 }
 
 #[test]
 fn wants_bytes(rt: HostRuntime) {
-    let rows: [(&[u8], Reason, u64); 2] = [
+    const ROWS: &[(&[u8], Reason, u64)] = &[
         (b"\xa1\x07\x00", Reason::BadValue, 2),
         (b"\xa1\x07\x60", Reason::BadValue, 2),
     ];
-    for (bytes, reason, place) in rows {
-        let want = Some(refusal(reason, place));
-        assert_eq!(rt; Claims::read(bytes, 4).err(), want, "of {bytes:?}");
-    }
+    refuses(&rt, ROWS);
 }
 
 #[test]
 fn wants_a_map(rt: HostRuntime) {
-    let rows: [(&[u8], Reason, u64); 4] = [
+    const ROWS: &[(&[u8], Reason, u64)] = &[
         (b"\xa1\x08\x00", Reason::BadValue, 2),
         (b"\xa1\x08\x80", Reason::BadValue, 2),
         (b"\xa1\x08\xc1\xa0", Reason::BadValue, 2),
         (b"\xa1\x08\xa1\x03\x60", Reason::BadValue, 4),
     ];
-    for (bytes, reason, place) in rows {
-        let want = Some(refusal(reason, place));
-        assert_eq!(rt; Claims::read(bytes, 4).err(), want, "of {bytes:?}");
-    }
+    refuses(&rt, ROWS);
 }
 
 /// Every claim has precedence over every fault of the confirmation.
 #[test]
 fn reads_claims_before_the_confirmation(rt: HostRuntime) {
-    let rows: [(&[u8], Reason, u64); 4] = [
+    const ROWS: &[(&[u8], Reason, u64)] = &[
         (b"\xa2\x08\xa1\x02\x80\x01\x00", Reason::BadValue, 6),
         (b"\xa2\x08\xa1\x02\x80\x40\x00", Reason::BadLabel, 5),
         (b"\xa2\x08\xa1\x40\x00\x01\x00", Reason::BadValue, 6),
         (b"\xa2\x08\xa1\x02\x80\x08\x80", Reason::DuplicateLabel, 5),
     ];
-    for (bytes, reason, place) in rows {
-        let want = Some(refusal(reason, place));
-        assert_eq!(rt; Claims::read(bytes, 4).err(), want, "of {bytes:?}");
-    }
+    refuses(&rt, ROWS);
 }
 
 /// The labels of a confirmation have precedence over its values, in their order.
 #[test]
 fn reads_labels_of_members_first(rt: HostRuntime) {
-    let rows: [(&[u8], Reason, u64); 8] = [
+    const ROWS: &[(&[u8], Reason, u64)] = &[
         (
             b"\xa1\x08\xa3\x03\x00\x03\x00\x40\x00",
             Reason::DuplicateLabel,
@@ -235,16 +205,13 @@ fn reads_labels_of_members_first(rt: HostRuntime) {
             10,
         ),
     ];
-    for (bytes, reason, place) in rows {
-        let want = Some(refusal(reason, place));
-        assert_eq!(rt; Claims::read(bytes, 4).err(), want, "of {bytes:?}");
-    }
+    refuses(&rt, ROWS);
 }
 
 /// A key next to an encrypted key has precedence over either of them, and an encrypted key over the identifier.
 #[test]
 fn refuses_encrypted_keys(rt: HostRuntime) {
-    let rows: [(&[u8], Reason, u64); 7] = [
+    const ROWS: &[(&[u8], Reason, u64)] = &[
         (
             b"\xa1\x08\xa2\x01\xa2\x01\x04\x20\x41\x61\x02\x80",
             Reason::BadConfirmation,
@@ -261,16 +228,13 @@ fn refuses_encrypted_keys(rt: HostRuntime) {
         (b"\xa1\x08\xa1\x02\x00", Reason::EncryptedKey, 3),
         (b"\xa1\x08\xa1\x18\x02\x00", Reason::EncryptedKey, 3),
     ];
-    for (bytes, reason, place) in rows {
-        let want = Some(refusal(reason, place));
-        assert_eq!(rt; Claims::read(bytes, 4).err(), want, "of {bytes:?}");
-    }
+    refuses(&rt, ROWS);
 }
 
 /// A fault of the key has precedence over the key being symmetric, and both have precedence over the identifier.
 #[test]
 fn refuses_plain_keys(rt: HostRuntime) {
-    let rows: [(&[u8], Reason, u64); 12] = [
+    const ROWS: &[(&[u8], Reason, u64)] = &[
         (b"\xa1\x08\xa1\x01\x00", Reason::BadConfirmation, 4),
         (b"\xa1\x08\xa1\x01\x80", Reason::BadConfirmation, 4),
         (b"\xa1\x08\xa1\x01\xa0", Reason::BadConfirmation, 4),
@@ -308,16 +272,13 @@ fn refuses_plain_keys(rt: HostRuntime) {
             6,
         ),
     ];
-    for (bytes, reason, place) in rows {
-        let want = Some(refusal(reason, place));
-        assert_eq!(rt; Claims::read(bytes, 4).err(), want, "of {bytes:?}");
-    }
+    refuses(&rt, ROWS);
 }
 
 /// Other claims and members are ignored, also those whose labels are next to the known ones.
 #[test]
 fn ignores_others(rt: HostRuntime) {
-    let rows: [&[u8]; 13] = [
+    const ROWS: &[&[u8]] = &[
         b"\xa1\x18\x64\x81\x81\x81\x00",
         b"\xa1\x18\x64\xd8\x3d\x00",
         b"\xa1\x00\x60",
@@ -332,7 +293,7 @@ fn ignores_others(rt: HostRuntime) {
         b"\xa1\x08\xa1\x22\x60",
         b"\xa1\x08\xa1\x61\x31\x60",
     ];
-    for bytes in rows {
+    for &bytes in ROWS {
         assert_eq!(rt; Claims::read(bytes, 4).err(), None, "of {bytes:?}");
     }
 }

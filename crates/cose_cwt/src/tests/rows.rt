@@ -1,6 +1,6 @@
 //! Claims and their admission, without a message around them.
 
-use crate::tests::{CLAIMS, at, refusal};
+use crate::tests::{CLAIMS, at, refusal, refuses};
 use crate::{Audience, Claims, Policy};
 use cose_map::{Material, Reason, Refusal, Y};
 use std::process::Abort;
@@ -8,63 +8,42 @@ use std::test::Fail;
 
 #[test]
 fn refuses_claims(rt: HostRuntime) {
-    let rows: [(&[u8], Refusal); 22] = [
-        (b"", refusal(Reason::PastRoom, 0)),
-        (b"\x00", refusal(Reason::NotMap, 0)),
-        (b"\xbf", refusal(Reason::Indefinite, 0)),
-        (
-            b"\xbb\xff\xff\xff\xff\xff\xff\xff\xff",
-            refusal(Reason::PastRoom, 0),
-        ),
-        (
-            b"\xa1\x18\x64\x81\x81\x81\x81\x00",
-            refusal(Reason::TooDeep, 6),
-        ),
+    const ROWS: &[(&[u8], Reason, u64)] = &[
+        (b"", Reason::PastRoom, 0),
+        (b"\x00", Reason::NotMap, 0),
+        (b"\xbf", Reason::Indefinite, 0),
+        (b"\xbb\xff\xff\xff\xff\xff\xff\xff\xff", Reason::PastRoom, 0),
+        (b"\xa1\x18\x64\x81\x81\x81\x81\x00", Reason::TooDeep, 6),
         // A byte after the item has precedence.
-        (b"\xd8\x3d\x00\x00", refusal(Reason::Trailing, 3)),
-        (b"\xd8\x3d\x00", refusal(Reason::NestedCwt, 0)),
-        (b"\xd1\x00", refusal(Reason::NestedCwt, 0)),
-        (b"\xa1\x40\x00", refusal(Reason::BadLabel, 1)),
-        (
-            b"\xa2\x04\x00\x18\x04\x00",
-            refusal(Reason::DuplicateLabel, 3),
-        ),
-        (b"\xa1\x01\x61\xff", refusal(Reason::BadValue, 2)),
-        (b"\xa1\x03\x80", refusal(Reason::BadValue, 2)),
-        (b"\xa1\x04\xf9\x3c\x00", refusal(Reason::FloatDate, 2)),
-        (
-            b"\xa1\x04\xc1\x1a\x56\x12\xae\xb0",
-            refusal(Reason::TaggedDate, 2),
-        ),
+        (b"\xd8\x3d\x00\x00", Reason::Trailing, 3),
+        (b"\xd8\x3d\x00", Reason::NestedCwt, 0),
+        (b"\xd1\x00", Reason::NestedCwt, 0),
+        (b"\xa1\x40\x00", Reason::BadLabel, 1),
+        (b"\xa2\x04\x00\x18\x04\x00", Reason::DuplicateLabel, 3),
+        (b"\xa1\x01\x61\xff", Reason::BadValue, 2),
+        (b"\xa1\x03\x80", Reason::BadValue, 2),
+        (b"\xa1\x04\xf9\x3c\x00", Reason::FloatDate, 2),
+        (b"\xa1\x04\xc1\x1a\x56\x12\xae\xb0", Reason::TaggedDate, 2),
         // Confirmations.
-        (b"\xa1\x08\xa1\x02\x80", refusal(Reason::EncryptedKey, 3)),
-        (
-            b"\xa1\x08\xa2\x01\xa0\x02\x80",
-            refusal(Reason::BadConfirmation, 2),
-        ),
-        (
-            b"\xa1\x08\xa1\x01\xa1\x01\x01",
-            refusal(Reason::BadConfirmation, 4),
-        ),
+        (b"\xa1\x08\xa1\x02\x80", Reason::EncryptedKey, 3),
+        (b"\xa1\x08\xa2\x01\xa0\x02\x80", Reason::BadConfirmation, 2),
+        (b"\xa1\x08\xa1\x01\xa1\x01\x01", Reason::BadConfirmation, 4),
         (
             b"\xa1\x08\xa1\x01\xa2\x01\x04\x20\x41\x61",
-            refusal(Reason::PlainKey, 4),
+            Reason::PlainKey,
+            4,
         ),
-        (b"\xa1\x08\xa1\x03\x00", refusal(Reason::BadValue, 4)),
-        (
-            b"\xa1\x08\xa2\x03\x00\x03\x00",
-            refusal(Reason::DuplicateLabel, 5),
-        ),
-        (b"\xa1\x08\x00", refusal(Reason::BadValue, 2)),
+        (b"\xa1\x08\xa1\x03\x00", Reason::BadValue, 4),
+        (b"\xa1\x08\xa2\x03\x00\x03\x00", Reason::DuplicateLabel, 5),
+        (b"\xa1\x08\x00", Reason::BadValue, 2),
         // The claims have precedence over the confirmation, wherever it is in the map.
         (
             b"\xa2\x08\xa1\x01\xa2\x01\x04\x20\x41\x61\x01\x00",
-            refusal(Reason::BadValue, 11),
+            Reason::BadValue,
+            11,
         ),
     ];
-    for (bytes, want) in rows {
-        assert_eq!(rt; Claims::read(bytes, 4).err(), Some(want), "of {bytes:?}");
-    }
+    refuses(&rt, ROWS);
 }
 
 /// The refusal, where the claims aren't admitted.
@@ -100,11 +79,13 @@ fn adds_without_limit(rt: HostRuntime) {
     let latest = b"\xa1\x04\x1b\xff\xff\xff\xff\xff\xff\xff\xff";
     let earliest = b"\xa1\x05\x3b\xff\xff\xff\xff\xff\xff\xff\xff";
     let long_ago = b"\xa1\x04\x3b\xff\xff\xff\xff\xff\xff\xff\xff";
-    assert_eq!(rt; admission(latest, &at(i64::MAX, 0)), Ok(()));
-    assert_eq!(rt; admission(earliest, &at(i64::MIN, 0)), Ok(()));
     assert_eq!(rt;
-        admission(long_ago, &at(0, u32::MAX)),
-        Err(refusal(Reason::Expired, 2))
+        [
+            admission(latest, &at(i64::MAX, 0)),
+            admission(earliest, &at(i64::MIN, 0)),
+            admission(long_ago, &at(0, u32::MAX))
+        ],
+        [Ok(()), Ok(()), Err(refusal(Reason::Expired, 2))]
     );
 }
 
@@ -131,42 +112,50 @@ fn admits_its_audience(rt: HostRuntime) {
         audience: Audience::Mine(&["other"]),
     };
     assert_eq!(rt;
-        admission(CLAIMS, &mine),
-        Err(refusal(Reason::WrongAudience, 32))
+        (admission(CLAIMS, &mine), admission(b"\xa0", &mine)),
+        (Err(refusal(Reason::WrongAudience, 32)), Ok(()))
     );
-    assert_eq!(rt; admission(b"\xa0", &mine), Ok(()));
 }
 
 #[test]
 fn gives_what_claims_say(rt: HostRuntime) -> Result<(), Fail> {
     let claims = Claims::read(CLAIMS, 4)?;
-    assert_eq!(rt; claims.iss(), Some("coap://as.example.com"));
-    assert_eq!(rt; claims.sub(), Some("erikw"));
     let mut auds = claims.auds();
-    assert_eq!(rt; auds.next(), Some("coap://light.example.com"));
-    assert_eq!(rt; auds.next(), None);
-    assert!(rt; claims.aud_has("coap://light.example.com"));
-    assert!(rt; !claims.aud_has("coap://light.example.co"));
-    assert_eq!(rt; claims.exp(), Some(1_444_064_944));
-    assert_eq!(rt; claims.nbf(), Some(1_443_944_944));
-    assert_eq!(rt; claims.iat(), Some(1_443_944_944));
+    assert_eq!(rt;
+        [claims.iss(), claims.sub(), auds.next(), auds.next()],
+        [
+            Some("coap://as.example.com"),
+            Some("erikw"),
+            Some("coap://light.example.com"),
+            None
+        ]
+    );
+    let dates = [
+        Some(1_444_064_944),
+        Some(1_443_944_944),
+        Some(1_443_944_944),
+    ];
+    assert_eq!(rt; [claims.exp(), claims.nbf(), claims.iat()], dates);
     assert_eq!(rt; claims.cti(), Some(b"\x0b\x71".as_slice()));
-    assert!(rt; claims.cnf().is_none());
-    assert!(rt; claims.cnf_set().is_none());
+    assert_eq!(rt;
+        [
+            claims.aud_has("coap://light.example.com"),
+            claims.aud_has("coap://light.example.co"),
+            claims.cnf().is_some(),
+            claims.cnf_set().is_some()
+        ],
+        [true, false, false, false]
+    );
     Ok(())
 }
 
 #[test]
 fn gives_nothing_of_unknown_claims(rt: HostRuntime) -> Result<(), Fail> {
     let claims = Claims::read(b"\xa1\x18\x64\xf9\x3c\x00", 4)?;
-    assert_eq!(rt; claims.iss(), None);
-    assert_eq!(rt; claims.sub(), None);
-    assert_eq!(rt; claims.auds().next(), None);
-    assert_eq!(rt; claims.exp(), None);
-    assert_eq!(rt; claims.nbf(), None);
-    assert_eq!(rt; claims.iat(), None);
-    assert_eq!(rt; claims.cti(), None);
-    assert!(rt; claims.cnf().is_none());
+    let texts = [claims.iss(), claims.sub(), claims.auds().next()];
+    let dates = [claims.exp(), claims.nbf(), claims.iat()];
+    assert_eq!(rt; (texts, dates), ([None; 3], [None; 3]));
+    assert_eq!(rt; (claims.cti(), claims.cnf().is_some()), (None, false));
     Ok(())
 }
 
@@ -174,13 +163,17 @@ fn gives_nothing_of_unknown_claims(rt: HostRuntime) -> Result<(), Fail> {
 fn gives_the_confirmation(rt: HostRuntime) -> Result<(), Fail> {
     let by_kid = Claims::read(b"\xa1\x08\xa1\x03\x411", 4)?;
     match by_kid.cnf() {
-        Some(cnf) => {
-            assert_eq!(rt; cnf.kid, Some(b"1".as_slice()));
-            assert!(rt; cnf.key.is_none());
-        }
+        Some(cnf) => assert_eq!(rt;
+            (cnf.kid, cnf.key.is_some(), by_kid.cnf_set().is_some()),
+            (Some(b"1".as_slice()), false, false)
+        ),
         None => panic!(rt; "a confirmation without a key"),
     }
-    assert!(rt; by_kid.cnf_set().is_none());
+    Ok(())
+}
+
+#[test]
+fn gives_the_confirmed_key(rt: HostRuntime) -> Result<(), Fail> {
     let by_sign = b"\xa1\x08\xa1\x01\xa4\x01\x02\x20\x01\x21\x58\x20\
         abcdefghijklmnopqrstuvwxyzABCDEF\x22\xf5";
     let by_key = Claims::read(by_sign, 4)?;
@@ -191,11 +184,10 @@ fn gives_the_confirmation(rt: HostRuntime) -> Result<(), Fail> {
                 x,
                 y: Y::Sign(odd),
             },
-        ) => {
-            assert_eq!(rt; crv, 1);
-            assert_eq!(rt; x, b"abcdefghijklmnopqrstuvwxyzABCDEF".as_slice());
-            assert!(rt; odd);
-        }
+        ) => assert_eq!(rt;
+            (crv, x, odd),
+            (1, b"abcdefghijklmnopqrstuvwxyzABCDEF".as_slice(), true)
+        ),
         _ => panic!(rt; "no point"),
     }
     assert_eq!(rt; by_key.cnf_set().map(|keys| keys.count()), Some(1));
