@@ -8,6 +8,24 @@ use cose_msg::{KeySet, Never, Status, Wanted, verify};
 use std::process::Abort;
 use std::test::Fail;
 
+/// A verifier that is fed the message as it was asked for wants as many bytes at each call, or `most` where it wants more, and
+/// completes the message.
+fn wants_what_was_asked(rt: &impl Abort, keys: KeySet, bytes: &[u8], asked: &[usize], most: usize) {
+    let mut fed = verifier(keys, Wanted::Tagged);
+    let mut rest = bytes;
+    for count in asked {
+        assert_eq!(rt;
+            *count as u64,
+            fed.want().min(most as u64),
+            "in chunks of {most}"
+        );
+        let (piece, after) = rest.split_at((*count).min(rest.len()));
+        fed.feed(piece);
+        rest = after;
+    }
+    assert_eq!(rt; fed.status(), Status::Complete, "in chunks of {most}");
+}
+
 /// In chunks of `C` bytes, each call asks for as many bytes as a verifier wants that was fed the bytes before, and for
 /// at most `C`. The sink gets no longer pieces.
 fn asks_within<const C: usize>(rt: &impl Abort, keys: KeySet, bytes: &[u8])
@@ -18,17 +36,12 @@ fn asks_within<const C: usize>(rt: &impl Abort, keys: KeySet, bytes: &[u8])
     let mut sink = NotingSink::new();
     let mut asking = verifier(keys, Wanted::Tagged);
     let verdict = verify::<C, 1024, 4, _, _, _, _>(&mut asking, &mut intake, &mut sink, &Never);
-    assert_eq!(rt; verdict, Ok(authentic(44)), "in chunks of {C}");
-    assert_eq!(rt; sink.longest(), C.min(2), "in chunks of {C}");
-    let mut fed = verifier(keys, Wanted::Tagged);
-    let mut rest = bytes;
-    for asked in intake.asked() {
-        assert_eq!(rt; *asked as u64, fed.want().min(C as u64), "in chunks of {C}");
-        let (piece, after) = rest.split_at((*asked).min(rest.len()));
-        fed.feed(piece);
-        rest = after;
-    }
-    assert_eq!(rt; fed.status(), Status::Complete, "in chunks of {C}");
+    assert_eq!(rt;
+        (verdict, sink.longest()),
+        (Ok(authentic(44)), C.min(2)),
+        "in chunks of {C}"
+    );
+    wants_what_was_asked(rt, keys, bytes, intake.asked(), C);
 }
 
 #[test]

@@ -88,9 +88,12 @@ fn stays_stopped<const H: usize>(
         payload_to: 0,
         status: Status::Stopped,
     };
-    assert_eq!(rt; verifier.feed(bytes), nothing, "after {taken}");
-    assert_eq!(rt; verifier.end(), Status::Stopped, "after {taken}");
-    assert_eq!(rt; (verifier.taken(), verifier.want()), (taken, 0));
+    let fed = verifier.feed(bytes);
+    let ended = verifier.end();
+    assert_eq!(rt;
+        (fed, ended, verifier.taken(), verifier.want()),
+        (nothing, Status::Stopped, taken, 0)
+    );
 }
 
 impl<E: EcVerifier> Case<'_, E> {
@@ -103,12 +106,14 @@ impl<E: EcVerifier> Case<'_, E> {
     {
         verifier.reset();
         let new = Verifier::<H, 4>::new(context(self.keys));
-        assert_eq!(rt; said(verifier), said(&new));
+        let (reset, fresh) = (said(verifier), said(&new));
         let mut intake = SliceIntake::new(self.bytes, 64);
         let mut store = Store::<128>::new();
         let verdict = answer(verifier, &mut intake, &mut store, &self.ec);
-        assert_eq!(rt; verdict, Ok(self.verdict));
-        assert_eq!(rt; store.bytes(), self.payload);
+        assert_eq!(rt;
+            (reset, verdict, store.bytes()),
+            (fresh, Ok(self.verdict), self.payload)
+        );
     }
 
     /// In pieces of each length the message is authentic, and all of it is taken.
@@ -125,10 +130,9 @@ impl<E: EcVerifier> Case<'_, E> {
                 &mut Nothing,
                 &self.ec,
             );
-            assert_eq!(rt; verdict, Ok(self.verdict), "in pieces of {cut}");
             assert_eq!(rt;
-                verifier.taken(),
-                self.bytes.len() as u64,
+                (verdict, verifier.taken()),
+                (Ok(self.verdict), self.bytes.len() as u64),
                 "in pieces of {cut}"
             );
         }
@@ -147,12 +151,19 @@ impl<E: EcVerifier> Case<'_, E> {
         let mut verifier = Verifier::<H, 4>::new(context(self.keys));
         let mut intake = SliceIntake::new(front, 64);
         let verdict = answer(&mut verifier, &mut intake, &mut Nothing, &self.ec);
-        assert_eq!(rt; verdict, Ok(Verdict::Refused(refusal)));
-        assert_eq!(rt; verifier.taken(), refusal.place);
+        let taken = verifier.taken();
         verifier.reset();
         verifier.feed(front);
-        assert_eq!(rt; verifier.end(), Status::Refused(refusal));
-        assert_eq!(rt; verifier.taken(), refusal.place);
+        let ended = verifier.end();
+        assert_eq!(rt;
+            (verdict, taken, ended, verifier.taken()),
+            (
+                Ok(Verdict::Refused(refusal)),
+                refusal.place,
+                Status::Refused(refusal),
+                refusal.place,
+            )
+        );
     }
 
     /// The message, a byte at each call, and an intake that fails at the call of this number.
@@ -164,10 +175,11 @@ impl<E: EcVerifier> Case<'_, E> {
         let mut intake = FailingIntake::new(self.bytes, fails_at);
         let mut store = Store::<128>::new();
         let stop = answer(&mut verifier, &mut intake, &mut store, &self.ec);
-        assert_eq!(rt; stop, Err(Stop::Intake), "at call {fails_at}");
         let again = answer(&mut verifier, &mut intake, &mut store, &self.ec);
-        assert_eq!(rt; again, Err(Stop::Again), "at call {fails_at}");
-        assert_eq!(rt; intake.takes(), fails_at);
+        assert_eq!(rt;
+            (stop, again, intake.takes()),
+            (Err(Stop::Intake), Err(Stop::Again), fails_at)
+        );
         let taken = (fails_at as u64).saturating_sub(1);
         stays_stopped(rt, &mut verifier, self.bytes, taken);
         self.authenticates_anew(rt, &mut verifier);
@@ -182,14 +194,15 @@ impl<E: EcVerifier> Case<'_, E> {
         let mut intake = SliceIntake::new(self.bytes, 64);
         let mut sink = FailingSink::<128>::new(fails_at);
         let stop = answer(&mut verifier, &mut intake, &mut sink, &self.ec);
-        assert_eq!(rt; stop, Err(Stop::Sink), "at call {fails_at}");
         let again = answer(&mut verifier, &mut intake, &mut sink, &self.ec);
-        assert_eq!(rt; again, Err(Stop::Again), "at call {fails_at}");
         let held = self
             .payload
             .get(..fails_at.saturating_sub(1))
             .unwrap_or(&[]);
-        assert_eq!(rt; (sink.puts(), sink.bytes()), (fails_at, held));
+        assert_eq!(rt;
+            (stop, again, sink.puts(), sink.bytes()),
+            (Err(Stop::Sink), Err(Stop::Again), fails_at, held)
+        );
         let taken = self.payload_at.saturating_add(fails_at as u64);
         stays_stopped(rt, &mut verifier, self.bytes, taken);
         self.authenticates_anew(rt, &mut verifier);
@@ -213,9 +226,10 @@ impl<E: EcVerifier> Case<'_, E> {
         let mut intake = FailingIntake::new(self.bytes, self.bytes.len().saturating_add(1));
         let mut sink = FailingSink::<128>::new(self.payload.len().saturating_add(1));
         let verdict = answer(&mut verifier, &mut intake, &mut sink, &self.ec);
-        assert_eq!(rt; verdict, Ok(self.verdict));
-        let calls = (self.bytes.len(), self.payload.len());
-        assert_eq!(rt; (intake.takes(), sink.puts()), calls);
+        assert_eq!(rt;
+            (verdict, intake.takes(), sink.puts()),
+            (Ok(self.verdict), self.bytes.len(), self.payload.len())
+        );
     }
 }
 
@@ -335,10 +349,13 @@ fn tells_what_is_open_where_the_intake_fails(rt: HostRuntime) -> Result<(), Fail
         let mut verifier = verifier(keys, Wanted::Tagged);
         let mut intake = FailingIntake::new(bytes, fails_at);
         let stop = answer(&mut verifier, &mut intake, &mut Store::<16>::new(), &Never);
-        assert_eq!(rt; stop, Err(Stop::Intake), "at call {fails_at}");
-        assert_eq!(rt; verifier.open_items(), open_items, "at call {fails_at}");
+        let open = verifier.open_items();
         verifier.reset();
-        assert_eq!(rt; verifier.open_items(), 0);
+        assert_eq!(rt;
+            (stop, open, verifier.open_items()),
+            (Err(Stop::Intake), open_items, 0),
+            "at call {fails_at}"
+        );
     }
     Ok(())
 }
