@@ -302,16 +302,12 @@ fn reads_bytes_that_are_one_item(rt: HostRuntime) {
         (b"", 9, 0, Some((Reason::PastRoom, 9))),
     ];
     for (bytes, at, depth, refused) in rows {
-        match (ItemRef::read(bytes, at, depth), refused) {
-            (Ok(item), None) => {
-                assert_eq!(rt; item.bytes, bytes);
-                assert_eq!(rt; item.place, at);
-            }
-            (Err(refusal), Some((reason, place))) => {
-                assert_eq!(rt; refusal, Refusal { reason, place }, "of {bytes:?}");
-            }
-            _ => assert!(rt; false, "of {bytes:?}"),
-        }
+        let read = ItemRef::read(bytes, at, depth).map(|item| (item.bytes, item.place));
+        let want = match refused {
+            None => Ok((bytes, at)),
+            Some((reason, place)) => Err(Refusal { reason, place }),
+        };
+        assert_eq!(rt; read, want, "of {bytes:?}");
     }
 }
 
@@ -326,17 +322,18 @@ fn gives_children_with_their_places(rt: HostRuntime) {
         (7, 2, Some(42)),
         (9, 6, None),
     ];
-    for (place, length, number) in rows {
+    for row in rows {
         let child = children.next().expect(&rt, "a child");
-        assert_eq!(rt; child.place, place);
-        assert_eq!(rt; child.bytes.len(), length);
-        assert_eq!(rt; child.as_int(), number);
+        assert_eq!(rt; (child.place, child.bytes.len(), child.as_int()), row);
     }
-    assert!(rt; children.next().is_none());
     let tag = item_of(&rt, b"\xc1\x80");
-    assert!(rt; Items::new(tag.bytes, tag.place).is_none());
-    assert!(rt; Items::of(&tag).next().is_none());
-    assert!(rt; Items::none().next().is_none());
+    let are_none = [
+        children.next().is_none(),
+        Items::new(tag.bytes, tag.place).is_none(),
+        Items::of(&tag).next().is_none(),
+        Items::none().next().is_none(),
+    ];
+    assert_eq!(rt; are_none, [true; 4]);
 }
 
 // The item, and of a CBOR tag its number, and the place and the length of what it encloses.
@@ -351,34 +348,33 @@ fn gives_what_a_tag_encloses(rt: HostRuntime) {
     ];
     for (bytes, want) in rows {
         let item = ItemRef::read(bytes, 3, 3).expect(&rt, "one item");
-        match (item.as_tag(), want) {
-            (Some((number, enclosed)), Some(found)) => {
-                assert_eq!(rt;
-                    (number, enclosed.place, enclosed.bytes.len()),
-                    found,
-                    "of {bytes:?}"
-                );
-            }
-            (None, None) => {}
-            _ => assert!(rt; false, "of {bytes:?}"),
-        }
+        let found = item.as_tag().map(|(number, enclosed)| (
+            number,
+            enclosed.place,
+            enclosed.bytes.len(),
+        ));
+        assert_eq!(rt; found, want, "of {bytes:?}");
     }
 }
 
 #[test]
 fn tells_what_an_item_is(rt: HostRuntime) {
-    assert_eq!(rt; item_of(&rt, b"\x61\x61").as_text(), Some("a"));
-    assert_eq!(rt; item_of(&rt, b"\x61\xff").as_text(), None);
-    assert!(rt; item_of(&rt, b"\x61\xff").is_text());
+    let text = item_of(&rt, b"\x61\x61");
+    let other = item_of(&rt, b"\x61\xff");
     assert_eq!(rt;
-        item_of(&rt, b"\x41\xff").as_bytes(),
-        Some(b"\xff".as_slice())
+        (text.as_text(), other.as_text(), other.is_text()),
+        (Some("a"), None, true)
     );
-    assert!(rt; item_of(&rt, b"\xf9\x3c\x00").is_float());
-    assert!(rt; !item_of(&rt, b"\xf6").is_float());
-    assert!(rt; item_of(&rt, b"\x80").is_array());
-    assert!(rt; item_of(&rt, b"\xa0").is_map());
-    assert_eq!(rt; item_of(&rt, b"\xc1\x00").head().arg, 1);
+    let bytes = item_of(&rt, b"\x41\xff").as_bytes();
+    let argument = item_of(&rt, b"\xc1\x00").head().arg;
+    assert_eq!(rt; (bytes, argument), (Some(b"\xff".as_slice()), 1));
+    let tests = [
+        item_of(&rt, b"\xf9\x3c\x00").is_float(),
+        item_of(&rt, b"\xf6").is_float(),
+        item_of(&rt, b"\x80").is_array(),
+        item_of(&rt, b"\xa0").is_map(),
+    ];
+    assert_eq!(rt; tests, [true, false, true, true]);
 }
 
 #[test]
@@ -454,42 +450,32 @@ fn does_what_the_example_says(rt: HostRuntime) {
     let mut children = Items::of(&map);
     let label = children.next().expect(&rt, "a label");
     let value = children.next().expect(&rt, "a value");
-    assert_eq!(rt; (label.as_int(), label.place), (Some(1), 4));
-    assert_eq!(rt; (value.as_int(), value.place), (Some(5), 5));
+    let label = (label.as_int(), label.place);
+    let value = (value.as_int(), value.place);
+    assert_eq!(rt; (label, value), ((Some(1), 4), (Some(5), 5)));
 
     let trailing = Refusal {
         reason: Reason::Trailing,
         place: 6,
     };
-    match ItemRef::read(b"\xa1\x01\x05\x00", 3, 8) {
-        Ok(_) => assert!(rt; false, "a byte too many"),
-        Err(refusal) => assert_eq!(rt; refusal, trailing),
-    }
+    let refused = ItemRef::read(b"\xa1\x01\x05\x00", 3, 8).err();
+    assert_eq!(rt; refused, Some(trailing));
 
     let mut walker: Walker<8> = Walker::new(3);
-    assert_eq!(rt; walker.put(0xa1), Step::Going);
-    assert_eq!(rt; walker.put(0x01), Step::Going);
-    assert_eq!(rt; walker.put(0x05), Step::Done);
+    let steps = [walker.put(0xa1), walker.put(0x01), walker.put(0x05)];
+    assert_eq!(rt; steps, [Step::Going, Step::Going, Step::Done]);
 }
 
 #[test]
 fn shows_no_bytes_of_items(rt: HostRuntime) -> Result<(), Fail> {
     // A key {1: 2, -4: h'64'}: of an item, of what is left of its children after the first, and of a value, the bytes are hidden.
     let key = ItemRef::read(b"\xa2\x01\x02\x23\x41\x64", 7, 2).or(Err("no item"))?;
-    let shown = format!(in rt.alloc(); "{key:?}")?;
-    assert_eq!(rt; shown.as_str(), "ItemRef { bytes: 6 bytes, place: 7 }");
-
     let mut children = Items::of(&key);
     let label = children.next();
-    let shown = format!(in rt.alloc(); "{label:?}")?;
+    let shown = format!(in rt.alloc(); "{key:?}, {label:?}, {children:?}")?;
     assert_eq!(rt;
         shown.as_str(),
-        "Some(ItemRef { bytes: 1 bytes, place: 8 })"
-    );
-    let shown = format!(in rt.alloc(); "{children:?}")?;
-    assert_eq!(rt;
-        shown.as_str(),
-        "Items { rest: 4 bytes, place: 9, left: 3 }"
+        "ItemRef { bytes: 6 bytes, place: 7 }, Some(ItemRef { bytes: 1 bytes, place: 8 }), Items { rest: 4 bytes, place: 9, left: 3 }"
     );
     Ok(())
 }

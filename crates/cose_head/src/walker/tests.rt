@@ -73,8 +73,11 @@ fn answers_as_reading(rt: HostRuntime) {
             1 => walked(&mut parent, bytes),
             _ => walked(&mut nested, bytes),
         };
-        assert_eq!(rt; after, going, "{bytes:?} in {room}");
-        assert_eq!(rt; step, step_of(answer), "{bytes:?} in {room}");
+        assert_eq!(rt;
+            (after, step),
+            (going, step_of(answer)),
+            "{bytes:?} in {room}"
+        );
     }
 }
 
@@ -118,28 +121,31 @@ fn passes_bytes_of_the_open_string(rt: HostRuntime) {
     for (put, room, piece, used, step, want, open_items) in table {
         let mut walker: Walker<1> = Walker::new(room);
         let _going = count_going(&mut walker, put);
-        assert_eq!(rt; walker.pass(piece), used, "{piece:?} after {put:?}");
-        assert_eq!(rt; walker.step(), step, "{piece:?} after {put:?}");
-        assert_eq!(rt; walker.want(), want, "{piece:?} after {put:?}");
-        assert_eq!(rt; walker.open_items(), open_items, "{piece:?} after {put:?}");
+        let taken = walker.pass(piece);
+        assert_eq!(rt;
+            (taken, walker.step(), walker.want(), walker.open_items()),
+            (used, step, want, open_items),
+            "{piece:?} after {put:?}"
+        );
     }
 }
 
 #[test]
 fn tells_what_is_open(rt: HostRuntime) {
     let mut walker: Walker<2> = Walker::new(3);
-    assert_eq!(rt; count_going(&mut walker, b"\x81\x81"), 2);
-    assert_eq!(rt; walker.open_items(), 2);
-    assert_eq!(rt; walker.want(), 1);
-    assert_eq!(rt; walker.put(0x00), Step::Done);
-    assert_eq!(rt; walker.open_items(), 0);
-    assert_eq!(rt; walker.want(), 0);
+    let going = count_going(&mut walker, b"\x81\x81");
+    assert_eq!(rt; (going, walker.open_items(), walker.want()), (2, 2, 1));
+    let step = walker.put(0x00);
+    assert_eq!(rt;
+        (step, walker.open_items(), walker.want()),
+        (Step::Done, 0, 0)
+    );
 }
 
 #[test]
 fn wants_the_rest_of_a_string(rt: HostRuntime) {
     let mut walker: Walker<1> = Walker::new(5);
-    assert_eq!(rt; walker.want(), 1);
-    assert_eq!(rt; count_going(&mut walker, b"\x44\x01"), 2);
-    assert_eq!(rt; walker.want(), 3);
+    let before = walker.want();
+    let going = count_going(&mut walker, b"\x44\x01");
+    assert_eq!(rt; (before, going, walker.want()), (1, 2, 3));
 }
