@@ -298,7 +298,7 @@ fn ignores_others(rt: HostRuntime) {
     }
 }
 
-/// Text strings and byte strings may be empty, and dates have a sign.
+/// Text strings may be empty, also those of an array of audiences.
 #[test]
 fn gives_the_least_values(rt: HostRuntime) -> Result<(), Fail> {
     assert_eq!(rt; Claims::read(b"\xa1\x01\x60", 4)?.iss(), Some(""));
@@ -308,16 +308,31 @@ fn gives_the_least_values(rt: HostRuntime) -> Result<(), Fail> {
         Claims::read(b"\xa1\x03\x81\x60", 4)?.auds().next(),
         Some("")
     );
-    assert_eq!(rt; Claims::read(b"\xa1\x04\x00", 4)?.exp(), Some(0));
-    assert_eq!(rt; Claims::read(b"\xa1\x04\x20", 4)?.exp(), Some(-1));
-    assert_eq!(rt; Claims::read(b"\xa1\x05\x00", 4)?.nbf(), Some(0));
-    assert_eq!(rt; Claims::read(b"\xa1\x05\x20", 4)?.nbf(), Some(-1));
-    assert_eq!(rt; Claims::read(b"\xa1\x06\x00", 4)?.iat(), Some(0));
-    assert_eq!(rt; Claims::read(b"\xa1\x06\x20", 4)?.iat(), Some(-1));
-    assert_eq!(rt;
-        Claims::read(b"\xa1\x07\x40", 4)?.cti(),
-        Some(b"".as_slice())
-    );
+    Ok(())
+}
+
+/// The dates of the claims: exp, nbf and iat.
+fn dates(bytes: &[u8]) -> Option<[Option<i128>; 3]> {
+    let claims = Claims::read(bytes, 4).ok()?;
+    Some([claims.exp(), claims.nbf(), claims.iat()])
+}
+
+/// Dates have a sign, and the identifier may be empty.
+#[test]
+fn gives_the_least_dates(rt: HostRuntime) -> Result<(), Fail> {
+    const DATES: &[(&[u8], [Option<i128>; 3])] = &[
+        (b"\xa1\x04\x00", [Some(0), None, None]),
+        (b"\xa1\x04\x20", [Some(-1), None, None]),
+        (b"\xa1\x05\x00", [None, Some(0), None]),
+        (b"\xa1\x05\x20", [None, Some(-1), None]),
+        (b"\xa1\x06\x00", [None, None, Some(0)]),
+        (b"\xa1\x06\x20", [None, None, Some(-1)]),
+    ];
+    for &(bytes, want) in DATES {
+        assert_eq!(rt; dates(bytes), Some(want), "of {bytes:?}");
+    }
+    let identified = Claims::read(b"\xa1\x07\x40", 4)?;
+    assert_eq!(rt; identified.cti(), Some(b"".as_slice()));
     Ok(())
 }
 

@@ -48,16 +48,20 @@ fn expiry(key_set: &[u8], token: &[u8], policy: &Policy<'_>) -> Result<Option<i1
     Ok(claims.exp())
 }
 
+/// Checks that a token that is cut after `count` bytes is truncated there.
+fn is_truncated(rt: &impl Abort, front: &[u8], count: usize) {
+    let truncated = refusal(Reason::Truncated, count as u64);
+    assert_eq!(rt;
+        expiry(KEY_SET, front, &at(1_444_064_943, 0)),
+        Err(CwtStop::Message(truncated)),
+        "{count} bytes"
+    );
+}
+
 #[test]
 fn is_truncated_at_each_cut(rt: HostRuntime) {
     for count in 0..TOKEN.len() {
-        let front = TOKEN.get(..count).unwrap_or(&[]);
-        let truncated = refusal(Reason::Truncated, count as u64);
-        assert_eq!(rt;
-            expiry(KEY_SET, front, &at(1_444_064_943, 0)),
-            Err(CwtStop::Message(truncated)),
-            "{count} bytes"
-        );
+        is_truncated(&rt, TOKEN.get(..count).unwrap_or(&[]), count);
     }
 }
 
@@ -75,14 +79,13 @@ fn admits_a_token_within_its_dates(rt: HostRuntime) {
         (1_444_064_945, 1, expired),
     ];
     for (now, leeway, want) in rows {
+        let policy = at(now, leeway);
         assert_eq!(rt;
-            expiry(KEY_SET, TOKEN, &at(now, leeway)),
-            want,
-            "at {now} with {leeway}"
-        );
-        assert_eq!(rt;
-            expiry(RFC_KEY, RFC_TOKEN, &at(now, leeway)),
-            want,
+            (
+                expiry(KEY_SET, TOKEN, &policy),
+                expiry(RFC_KEY, RFC_TOKEN, &policy)
+            ),
+            (want, want),
             "at {now} with {leeway}"
         );
     }
@@ -120,11 +123,7 @@ fn hands_out_no_claims_of_a_refused_message(rt: HostRuntime) {
 #[test]
 fn refuses_a_token_that_is_cut(rt: HostRuntime) {
     for length in 0..TOKEN.len() {
-        let truncated = Err(CwtStop::Message(refusal(Reason::Truncated, length as u64)));
-        assert_eq!(rt;
-            expiry(KEY_SET, &TOKEN[..length], &at(1_444_064_943, 0)),
-            truncated
-        );
+        is_truncated(&rt, &TOKEN[..length], length);
     }
 }
 
