@@ -182,8 +182,11 @@ fn prints(
     status: u8,
 ) -> Result<(), AllocError> {
     let (output, ended, _left) = ran(rt.alloc(), arguments, input)?;
-    assert_eq!(rt; output.as_slice(), text.as_bytes(), "{arguments:?}: {text}");
-    assert_eq!(rt; ended, status, "{arguments:?}: {text}");
+    assert_eq!(rt;
+        (output.as_slice(), ended),
+        (text.as_bytes(), status),
+        "{arguments:?}: {text}"
+    );
     Ok(())
 }
 

@@ -20,10 +20,8 @@ pub fn feed_all(
         let (piece, after) = rest.split_at(cut.min(rest.len()));
         let fed = verifier.feed(piece);
         let payload = fed.payload_of(piece);
-        if !payload.is_empty() {
-            assert!(rt; store.put(payload).is_ok());
-        }
-        assert!(rt; verifier.held() <= 2 * 1024 + 512);
+        let kept = payload.is_empty() || store.put(payload).is_ok();
+        assert_eq!(rt; (kept, verifier.held() <= 2_560), (true, true));
         rest = after;
     }
     verifier.status()
@@ -32,8 +30,7 @@ pub fn feed_all(
 /// Feeds a piece that is used whole. At most twice the room of a header bucket and 512 bytes are held.
 fn feed_whole(rt: &impl Abort, verifier: &mut Verifier<1024, 4>, piece: &[u8]) -> Fed {
     let fed = verifier.feed(piece);
-    assert_eq!(rt; fed.used, piece.len());
-    assert!(rt; verifier.held() <= 2_560);
+    assert_eq!(rt; (fed.used, verifier.held() <= 2_560), (piece.len(), true));
     fed
 }
 
@@ -70,15 +67,16 @@ fn completes_in_pieces(
 ) {
     let mut verifier = verifier(keys, Wanted::Tagged);
     let front = feed_pieces(rt, &mut verifier, FRONT, cut);
-    assert_eq!(rt; front, 0, "in pieces of {cut}");
     for _i in 0..1_000 {
         let payload = feed_pieces(rt, &mut verifier, block, cut);
         assert_eq!(rt; payload, 10_000, "in pieces of {cut}");
     }
     let rest = feed_pieces(rt, &mut verifier, auth, cut);
-    assert_eq!(rt; rest, 0, "in pieces of {cut}");
-    assert_eq!(rt; verifier.status(), Status::Complete, "in pieces of {cut}");
-    assert_eq!(rt; verifier.taken(), 10_000_046, "in pieces of {cut}");
+    assert_eq!(rt;
+        (front, rest, verifier.status(), verifier.taken()),
+        (0, 0, Status::Complete, 10_000_046),
+        "in pieces of {cut}"
+    );
 }
 
 #[test]
@@ -152,8 +150,7 @@ fn wants_what_is_left_of_a_string(rt: HostRuntime) -> Result<(), Fail> {
     for (taken, wanted) in rows {
         let mut verifier = verifier(keys, Wanted::Tagged);
         let fed = verifier.feed(bytes.get(..taken).unwrap_or(&[]));
-        assert_eq!(rt; fed.used, taken);
-        assert_eq!(rt; verifier.want(), wanted, "after {taken} bytes");
+        assert_eq!(rt; (fed.used, verifier.want()), (taken, wanted));
     }
     Ok(())
 }

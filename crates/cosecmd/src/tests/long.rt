@@ -45,8 +45,9 @@ fn authenticates_a_long_payload(rt: HostRuntime) -> Result<(), Fail> {
         payload: 10_000_000,
         taken: 10_000_046,
     };
-    assert_eq!(rt; verdict, Ok(authentic));
-    assert_eq!(rt; verifier.taken(), 10_000_046);
-    assert!(rt; verifier.held() <= 2_560);
+    assert_eq!(rt;
+        (verdict, verifier.taken(), verifier.held() <= 2_560),
+        (Ok(authentic), 10_000_046, true)
+    );
     Ok(())
 }

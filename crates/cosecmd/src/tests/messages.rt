@@ -29,8 +29,11 @@ fn takes_the_message_in_any_pieces(rt: HostRuntime) -> Result<(), Fail> {
         let mut intake = SliceIntake::new(bytes.as_slice(), cut);
         let mut store = Store::<16>::new();
         let verdict = verdict_of(keys, &mut intake, &mut store);
-        assert_eq!(rt; verdict, Ok(authentic(44)), "in pieces of {cut}");
-        assert_eq!(rt; store.bytes(), b"hi".as_slice(), "in pieces of {cut}");
+        assert_eq!(rt;
+            (verdict, store.bytes()),
+            (Ok(authentic(44)), b"hi".as_slice()),
+            "in pieces of {cut}"
+        );
     }
     Ok(())
 }
@@ -40,10 +43,9 @@ pub fn answers_read(rt: &impl Abort, keys: KeySet, bytes: &[u8], verdict: Verdic
     let mut reader = bytes;
     let mut store = Store::<16>::new();
     let answer = verdict_of(keys, &mut ReadIntake::new(&mut reader), &mut store);
-    assert_eq!(rt; answer, Ok(verdict), "{bytes:?}");
     assert_eq!(rt;
-        bytes.len(),
-        reader.len().saturating_add(taken),
+        (answer, bytes.len()),
+        (Ok(verdict), reader.len().saturating_add(taken)),
         "{bytes:?}"
     );
 }
@@ -136,8 +138,11 @@ fn chooses_the_key_behind_the_front(rt: HostRuntime) -> Result<(), Fail> {
         let mut reader = bytes.as_slice();
         let mut store = Store::<16>::new();
         let answer = verdict_of(set, &mut ReadIntake::new(&mut reader), &mut store);
-        assert_eq!(rt; answer, Ok(refused(reason, 7)), "under {keys}");
-        assert_eq!(rt; reader.len(), 37, "under {keys}");
+        assert_eq!(rt;
+            (answer, reader.len()),
+            (Ok(refused(reason, 7)), 37),
+            "under {keys}"
+        );
     }
     Ok(())
 }
@@ -149,11 +154,10 @@ fn stops_where_the_store_is_full(rt: HostRuntime) -> Result<(), Fail> {
     let mut store = Store::<1>::new();
     let mut intake = SliceIntake::new(bytes.as_slice(), 1);
     let answer = verdict_of(keys, &mut intake, &mut store);
-    assert_eq!(rt; answer, Err(Stop::Sink));
-    assert_eq!(rt; store.bytes(), b"h".as_slice());
+    assert_eq!(rt; (answer, store.bytes()), (Err(Stop::Sink), b"h".as_slice()));
     // After a failure it takes nothing, not even a piece that would fit.
-    assert!(rt; Store::<4>::new().put(b"four").is_ok());
-    assert!(rt; store.put(b"i").is_err());
-    assert_eq!(rt; store.bytes(), b"h".as_slice());
+    let fits = Store::<4>::new().put(b"four").is_ok();
+    let fails = store.put(b"i").is_err();
+    assert_eq!(rt; (fits, fails, store.bytes()), (true, true, b"h".as_slice()));
     Ok(())
 }

@@ -20,6 +20,19 @@ fn outcome(keys: KeySet, bytes: &[u8; 44], cut: usize) -> (Result<Verdict, Stop>
     (verdict, verifier.taken())
 }
 
+/// The bytes have this outcome in pieces of each length.
+fn is_alike_in_pieces(
+    rt: &impl Abort,
+    keys: KeySet,
+    bytes: &[u8; 44],
+    whole: (Result<Verdict, Stop>, u64),
+) {
+    for cut in 1..=9usize {
+        let answer = outcome(keys, bytes, cut);
+        assert_eq!(rt; answer, whole, "{bytes:?} in pieces of {cut}");
+    }
+}
+
 /// With another byte at this place, the message is refused, and in the same way in each cut.
 fn refuses_each_at(rt: &impl Abort, keys: KeySet, bytes: &[u8; 44], place: usize)
     requires { place < 44 }
@@ -30,10 +43,7 @@ fn refuses_each_at(rt: &impl Abort, keys: KeySet, bytes: &[u8; 44], place: usize
         let whole = outcome(keys, &replaced, 64);
         let is_authentic = matches!(whole.0, Ok(Verdict::Authentic { .. }));
         assert_eq!(rt; is_authentic, value == bytes[place], "{value} at {place}");
-        for cut in 1..=9usize {
-            let answer = outcome(keys, &replaced, cut);
-            assert_eq!(rt; answer, whole, "{value} at {place} in pieces of {cut}");
-        }
+        is_alike_in_pieces(rt, keys, &replaced, whole);
     }
 }
 

@@ -44,8 +44,11 @@ pub fn answers_in_pieces(
 {
     let mut store = Store::<16>::new();
     let answer = verified_in_pieces(verifier, bytes, cut, &mut store);
-    assert_eq!(rt; answer, Ok(verdict), "{bytes:?} in pieces of {cut}");
-    assert_eq!(rt; verifier.taken(), taken, "{bytes:?} in pieces of {cut}");
+    assert_eq!(rt;
+        (answer, verifier.taken()),
+        (Ok(verdict), taken),
+        "{bytes:?} in pieces of {cut}"
+    );
 }
 
 /// Bytes that are fed in pieces of at most `cut` bytes, and then end, result in this status, and this many of them are
@@ -60,8 +63,12 @@ pub fn ends_in_pieces(
 ) {
     let mut store = Store::<16>::new();
     feed_all(rt, verifier, bytes, cut, &mut store);
-    assert_eq!(rt; verifier.end(), status, "{bytes:?} in pieces of {cut}");
-    assert_eq!(rt; verifier.taken(), taken, "{bytes:?} in pieces of {cut}");
+    let ended = verifier.end();
+    assert_eq!(rt;
+        (ended, verifier.taken()),
+        (status, taken),
+        "{bytes:?} in pieces of {cut}"
+    );
 }
 
 /// These bytes are refused under these keys for this reason at this place, after this many of them.
@@ -208,11 +215,9 @@ fn authenticates_in_pieces(
     let mut verifier = verifier(*keys, row.wanted);
     let mut store = Store::<16>::new();
     let verdict = verified_in_pieces(&mut verifier, message, cut, &mut store);
-    assert_eq!(rt; verdict, Ok(authentic), "{front} in pieces of {cut}");
-    assert_eq!(rt; verifier.taken(), row.taken, "{front} in pieces of {cut}");
     assert_eq!(rt;
-        store.bytes(),
-        b"hi".as_slice(),
+        (verdict, verifier.taken(), store.bytes()),
+        (Ok(authentic), row.taken, b"hi".as_slice()),
         "{front} in pieces of {cut}"
     );
     completes_in_pieces(rt, keys, row, message, cut);
@@ -225,11 +230,9 @@ fn completes_in_pieces(rt: &impl Abort, keys: &KeySet, row: &Row, message: &[u8]
     let mut verifier = verifier(*keys, row.wanted);
     let mut store = Store::<16>::new();
     let status = feed_all(rt, &mut verifier, message, cut, &mut store);
-    assert_eq!(rt; status, Status::Complete, "{front} in pieces of {cut}");
-    assert_eq!(rt; verifier.taken(), row.taken, "{front} in pieces of {cut}");
     assert_eq!(rt;
-        store.bytes(),
-        b"hi".as_slice(),
+        (status, verifier.taken(), store.bytes()),
+        (Status::Complete, row.taken, b"hi".as_slice()),
         "{front} in pieces of {cut}"
     );
 }

@@ -126,8 +126,11 @@ fn counts_what_is_authentic(rt: HostRuntime) -> Result<(), Fail> {
     let good = message(rt.alloc())?;
     let bad = good.get(..43).unwrap_or(&[]);
     let messages: [&[u8]; 3] = [good.as_slice(), bad, good.as_slice()];
-    assert_eq!(rt; count_authentic(&table, &messages), 2);
-    assert_eq!(rt; count_authentic(&table, &[bad]), 0);
+    let counts = (
+        count_authentic(&table, &messages),
+        count_authentic(&table, &[bad]),
+    );
+    assert_eq!(rt; counts, (2, 0));
     Ok(())
 }
 
@@ -153,17 +156,14 @@ fn gives_the_payload_of_a_message_in_memory(rt: HostRuntime) -> Result<(), Fail>
 #[test]
 fn hands_out_what_is_authentic(rt: HostRuntime) -> Result<(), Fail> {
     let mut bytes = message(rt.alloc())?;
-    assert_eq!(rt; payload_length(KEY_SET, bytes.as_slice()), Ok(2));
+    let whole = payload_length(KEY_SET, bytes.as_slice());
+    let without_keys = payload_length(&[0x80], bytes.as_slice());
     let bad_set = Refusal {
         reason: Reason::BadKeySet,
         place: 0,
     };
-    assert_eq!(rt;
-        payload_length(&[0x80], bytes.as_slice()),
-        Err(Problem::Keys(bad_set))
-    );
     bytes.push(0)?;
-    assert_eq!(rt; payload_length(KEY_SET, bytes.as_slice()), Ok(2));
+    let followed = payload_length(KEY_SET, bytes.as_slice());
     if let Some(byte) = bytes.get_mut(43) {
         *byte ^= 1;
     }
@@ -171,9 +171,15 @@ fn hands_out_what_is_authentic(rt: HostRuntime) -> Result<(), Fail> {
         reason: Reason::BadAuth,
         place: 10,
     };
+    let changed = payload_length(KEY_SET, bytes.as_slice());
     assert_eq!(rt;
-        payload_length(KEY_SET, bytes.as_slice()),
-        Err(Problem::Message(bad_auth))
+        [whole, without_keys, followed, changed],
+        [
+            Ok(2),
+            Err(Problem::Keys(bad_set)),
+            Ok(2),
+            Err(Problem::Message(bad_auth)),
+        ]
     );
     Ok(())
 }
@@ -323,8 +329,7 @@ fn hears<E: EcVerifier>(
     let mut line = Line { bytes, last: 0 };
     let mut handler = Store::<16>::new();
     let heard = listen(&mut verifier, &mut line, &mut handler, ec);
-    assert_eq!(rt; heard, Ok(verdict));
-    assert_eq!(rt; handler.bytes(), payload);
+    assert_eq!(rt; (heard, handler.bytes()), (Ok(verdict), payload));
 }
 
 #[test]
@@ -433,8 +438,7 @@ fn updates_an_image(rt: HostRuntime) -> Result<(), Fail> {
             &mut slot,
             &Never,
         );
-        assert_eq!(rt; updated, Ok(verdict));
-        assert_eq!(rt; slot.bytes(), bytes);
+        assert_eq!(rt; (updated, slot.bytes()), (Ok(verdict), bytes));
     }
     Ok(())
 }
@@ -493,14 +497,18 @@ fn is_authentic(key_set: &[u8], tag: &[u8]) -> Result<bool, Refusal> {
 #[test]
 fn authenticates_by_the_libraries_alone(rt: HostRuntime) -> Result<(), Fail> {
     let mut tag = hmac(KEY, STRUCTURE);
-    assert_eq!(rt; is_authentic(KEY_SET, &tag), Ok(true));
+    let right = is_authentic(KEY_SET, &tag);
+    let without_keys = is_authentic(&[0xa0], &tag);
+    let short = is_authentic(KEY_SET, cut(&tag));
     let no_key = Refusal {
         reason: Reason::NoKey,
         place: 7,
     };
-    assert_eq!(rt; is_authentic(&[0xa0], &tag), Err(no_key));
-    assert_eq!(rt; is_authentic(KEY_SET, cut(&tag)), Ok(false));
     tag[0] ^= 1;
-    assert_eq!(rt; is_authentic(KEY_SET, &tag), Ok(false));
+    let changed = is_authentic(KEY_SET, &tag);
+    assert_eq!(rt;
+        [right, without_keys, short, changed],
+        [Ok(true), Err(no_key), Ok(false), Ok(false)]
+    );
     Ok(())
 }
