@@ -22,6 +22,24 @@ const MAKE: &[&str] = &[
     "cosecmd", "make", "--alg", "5", "--key", KEYS, "--length", "2",
 ];
 
+/// What a run with these words prints, its exit status, and the number of its reads, over a reader that fails at the read
+/// of this number.
+fn ran_until(
+    rt: &impl Alloc<A = Global>,
+    words: &[&str],
+    bytes: &[u8],
+    fails_at: usize,
+) -> (Vec<u8>, u8, usize) {
+    let mut reader = FailingReader {
+        bytes,
+        reads: 0,
+        fails_at,
+    };
+    let mut output = Vec::new(rt.alloc());
+    let status = run(rt.alloc(), &*words, &mut reader, &mut output);
+    (output, status, reader.reads)
+}
+
 /// A run with these arguments over a reader that fails at any of the reads of this message, or at the one after them, prints
 /// `fault input` and ends with 2.
 fn says_at_each_read(
@@ -32,23 +50,13 @@ fn says_at_each_read(
     let mut words = Vec::new(rt.alloc());
     words.push("cosecmd")?;
     words.extend_from_slice(arguments)?;
+    let fault = b"fault input\n".as_slice();
     for fails_at in 1..=message.len().saturating_add(1) {
-        let mut reader = FailingReader {
-            bytes: message,
-            reads: 0,
-            fails_at,
-        };
-        let mut output = Vec::new(rt.alloc());
-        let status = run(rt.alloc(), words.as_slice(), &mut reader, &mut output);
+        let (output, status, reads) = ran_until(rt, words.as_slice(), message, fails_at);
         assert_eq!(rt;
-            output.as_slice(),
-            b"fault input\n".as_slice(),
-            "{arguments:?} at read {fails_at}"
-        );
-        assert_eq!(rt;
-            (status, reader.reads),
-            (2, fails_at),
-            "{arguments:?} at read {fails_at}"
+            (output.as_slice(), status, reads),
+            (fault, 2, fails_at),
+            "{arguments:?}"
         );
     }
     Ok(())
@@ -85,15 +93,12 @@ fn reads_no_more(
     ends: (&str, u8),
 ) {
     let (text, status) = ends;
-    let mut reader = FailingReader {
-        bytes,
-        reads: 0,
-        fails_at: reads.saturating_add(1),
-    };
-    let mut output = Vec::new(rt.alloc());
-    let ended = run(rt.alloc(), &*words, &mut reader, &mut output);
-    assert_eq!(rt; output.as_slice(), text.as_bytes(), "{words:?}");
-    assert_eq!(rt; (ended, reader.reads), (status, reads), "{words:?}: {text}");
+    let (output, ended, seen) = ran_until(rt, words, bytes, reads.saturating_add(1));
+    assert_eq!(rt;
+        (output.as_slice(), ended, seen),
+        (text.as_bytes(), status, reads),
+        "{words:?}"
+    );
 }
 
 #[test]
@@ -141,55 +146,33 @@ fn judges_the_keys_before_it_reads(rt: HostRuntime) {
 
 #[test]
 fn reads_once_more_behind_admitted_claims_alone(rt: HostRuntime) -> Result<(), Fail> {
-    let alloc = rt.alloc();
-    let token = example(alloc)?;
+    let token = example(rt.alloc())?;
     // 123 reads take the token, and the next one fails.
     let rows: [(&str, &str, u8, usize); 2] = [
         ("1444064943", "fault input\n", 2, 124),
         ("1444064944", "refused claims Expired at 59\n", 1, 123),
     ];
     for (now, text, status, reads) in rows {
-        let mut reader = FailingReader {
-            bytes: token.as_slice(),
-            reads: 0,
-            fails_at: 124,
-        };
-        let mut output = Vec::new(alloc);
         let words = ["cosecmd", "cwt", "--keys", KEYS, "--now", now];
-        let ended = run(alloc, words.as_slice(), &mut reader, &mut output);
-        assert_eq!(rt; output.as_slice(), text.as_bytes());
-        assert_eq!(rt; (ended, reader.reads), (status, reads), "at {now}");
+        let (output, ended, seen) = ran_until(&rt, words.as_slice(), token.as_slice(), 124);
+        assert_eq!(rt;
+            (output.as_slice(), ended, seen),
+            (text.as_bytes(), status, reads),
+            "at {now}"
+        );
     }
     Ok(())
 }
 
 #[test]
 fn writes_no_line_where_the_payload_failed(rt: HostRuntime) -> Result<(), Fail> {
-    let alloc = rt.alloc();
-    let bytes = message(alloc)?;
-    // With the second byte of the payload the output is one byte longer.
-    for fails_at in 1..=2 {
-        let mut reader = FailingReader {
-            bytes: b"hi",
-            reads: 0,
-            fails_at,
-        };
-        let mut output = Vec::new(alloc);
-        let status = run(alloc, MAKE, &mut reader, &mut output);
-        let front = bytes.get(..fails_at.saturating_add(7)).unwrap_or(&[]);
-        assert_eq!(rt; output.as_slice(), front, "at read {fails_at}");
-        assert_eq!(rt; (status, reader.reads), (2, fails_at), "at read {fails_at}");
+    let bytes = message(rt.alloc())?;
+    // With the second byte of the payload the output is one byte longer. After the payload nothing is read.
+    for (fails_at, ends) in [(1, (8, 2, 1)), (2, (9, 2, 2)), (3, (44, 0, 2))] {
+        let (output, status, reads) = ran_until(&rt, MAKE, b"hi", fails_at);
+        assert_eq!(rt; (output.len(), status, reads), ends, "at read {fails_at}");
+        assert!(rt; bytes.starts_with(output.as_slice()), "at read {fails_at}");
     }
-    // After the payload nothing is read.
-    let mut reader = FailingReader {
-        bytes: b"hi",
-        reads: 0,
-        fails_at: 3,
-    };
-    let mut output = Vec::new(alloc);
-    let status = run(alloc, MAKE, &mut reader, &mut output);
-    assert_eq!(rt; output.as_slice(), bytes.as_slice());
-    assert_eq!(rt; (status, reader.reads), (0, 2));
     Ok(())
 }
 
@@ -219,12 +202,9 @@ fn stops_at_write(
         );
         return false;
     }
+    let held = writer.held.as_slice();
     assert!(rt;
-        text.starts_with(writer.held.as_slice()),
-        "{words:?} at write {fails_at}"
-    );
-    assert!(rt;
-        writer.held.len() < text.len(),
+        text.starts_with(held) && held.len() < text.len(),
         "{words:?} at write {fails_at}"
     );
     assert_eq!(rt; (ended, writer.writes), (2, fails_at), "{words:?}");
@@ -268,14 +248,21 @@ fn ends_with_two_where_the_output_failed(rt: HostRuntime) -> Result<(), Fail> {
     let cwt = ["cwt", "--keys", KEYS, "--now", "1444064943"];
     let late = ["cwt", "--keys", KEYS, "--now", "1444064944"];
     let digest = ["digest", "--keys", point.as_str()];
-    stops_at_each_write(&rt, &["verify", "--keys", KEYS], made.as_slice())?;
-    stops_at_each_write(&rt, &["verify", "--keys", KEYS], b"")?;
-    stops_at_each_write(&rt, &["verify", "--keys", "zz"], b"")?;
-    stops_at_each_write(&rt, &["show"], made.as_slice())?;
-    stops_at_each_write(&rt, digest.as_slice(), signed.as_slice())?;
-    stops_at_each_write(&rt, cwt.as_slice(), token.as_slice())?;
-    stops_at_each_write(&rt, late.as_slice(), token.as_slice())?;
-    stops_at_each_write(&rt, make.as_slice(), b"hi")?;
-    stops_at_each_write(&rt, make.as_slice(), b"h")?;
-    stops_at_each_write(&rt, &["--help"], b"")
+    let verify = ["verify", "--keys", KEYS];
+    let rows: [(&[&str], &[u8]); 10] = [
+        (&verify, &made),
+        (&verify, b""),
+        (&["verify", "--keys", "zz"], b""),
+        (&["show"], &made),
+        (&digest, &signed),
+        (&cwt, &token),
+        (&late, &token),
+        (&make, b"hi"),
+        (&make, b"h"),
+        (&["--help"], b""),
+    ];
+    for (arguments, input) in rows {
+        stops_at_each_write(&rt, arguments, input)?;
+    }
+    Ok(())
 }
