@@ -40,6 +40,23 @@ fn ran_until(
     (output, status, reader.reads)
 }
 
+/// A run over a reader that fails at the read of this number prints this text, and ends with this status after this many
+/// reads.
+fn ends(
+    rt: &(impl Abort + Alloc<A = Global>),
+    words: &[&str],
+    bytes: &[u8],
+    fails_at: usize,
+    (text, status, reads): (&str, u8, usize),
+) {
+    let (output, ended, seen) = ran_until(rt, words, bytes, fails_at);
+    assert_eq!(rt;
+        (output.as_slice(), ended, seen),
+        (text.as_bytes(), status, reads),
+        "{words:?}"
+    );
+}
+
 /// A run with these arguments over a reader that fails at any of the reads of this message, or at the one after them, prints
 /// `fault input` and ends with 2.
 fn says_at_each_read(
@@ -50,14 +67,9 @@ fn says_at_each_read(
     let mut words = Vec::new(rt.alloc());
     words.push("cosecmd")?;
     words.extend_from_slice(arguments)?;
-    let fault = b"fault input\n".as_slice();
     for fails_at in 1..=message.len().saturating_add(1) {
-        let (output, status, reads) = ran_until(rt, words.as_slice(), message, fails_at);
-        assert_eq!(rt;
-            (output.as_slice(), status, reads),
-            (fault, 2, fails_at),
-            "{arguments:?}"
-        );
+        let fault = ("fault input\n", 2, fails_at);
+        ends(rt, words.as_slice(), message, fails_at, fault);
     }
     Ok(())
 }
@@ -90,15 +102,10 @@ fn reads_no_more(
     words: &[&str],
     bytes: &[u8],
     reads: usize,
-    ends: (&str, u8),
+    (text, status): (&str, u8),
 ) {
-    let (text, status) = ends;
-    let (output, ended, seen) = ran_until(rt, words, bytes, reads.saturating_add(1));
-    assert_eq!(rt;
-        (output.as_slice(), ended, seen),
-        (text.as_bytes(), status, reads),
-        "{words:?}"
-    );
+    let fails_at = reads.saturating_add(1);
+    ends(rt, words, bytes, fails_at, (text, status, reads));
 }
 
 #[test]
@@ -154,11 +161,12 @@ fn reads_once_more_behind_admitted_claims_alone(rt: HostRuntime) -> Result<(), F
     ];
     for (now, text, status, reads) in rows {
         let words = ["cosecmd", "cwt", "--keys", KEYS, "--now", now];
-        let (output, ended, seen) = ran_until(&rt, words.as_slice(), token.as_slice(), 124);
-        assert_eq!(rt;
-            (output.as_slice(), ended, seen),
-            (text.as_bytes(), status, reads),
-            "at {now}"
+        ends(
+            &rt,
+            words.as_slice(),
+            token.as_slice(),
+            124,
+            (text, status, reads),
         );
     }
     Ok(())
@@ -248,21 +256,14 @@ fn ends_with_two_where_the_output_failed(rt: HostRuntime) -> Result<(), Fail> {
     let cwt = ["cwt", "--keys", KEYS, "--now", "1444064943"];
     let late = ["cwt", "--keys", KEYS, "--now", "1444064944"];
     let digest = ["digest", "--keys", point.as_str()];
-    let verify = ["verify", "--keys", KEYS];
-    let rows: [(&[&str], &[u8]); 10] = [
-        (&verify, &made),
-        (&verify, b""),
-        (&["verify", "--keys", "zz"], b""),
-        (&["show"], &made),
-        (&digest, &signed),
-        (&cwt, &token),
-        (&late, &token),
-        (&make, b"hi"),
-        (&make, b"h"),
-        (&["--help"], b""),
-    ];
-    for (arguments, input) in rows {
-        stops_at_each_write(&rt, arguments, input)?;
-    }
-    Ok(())
+    stops_at_each_write(&rt, &["verify", "--keys", KEYS], made.as_slice())?;
+    stops_at_each_write(&rt, &["verify", "--keys", KEYS], b"")?;
+    stops_at_each_write(&rt, &["verify", "--keys", "zz"], b"")?;
+    stops_at_each_write(&rt, &["show"], made.as_slice())?;
+    stops_at_each_write(&rt, digest.as_slice(), signed.as_slice())?;
+    stops_at_each_write(&rt, cwt.as_slice(), token.as_slice())?;
+    stops_at_each_write(&rt, late.as_slice(), token.as_slice())?;
+    stops_at_each_write(&rt, make.as_slice(), b"hi")?;
+    stops_at_each_write(&rt, make.as_slice(), b"h")?;
+    stops_at_each_write(&rt, &["--help"], b"")
 }
