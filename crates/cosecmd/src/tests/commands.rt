@@ -2,6 +2,8 @@
 
 use crate::tests::cwt::made;
 use crate::tests::{FRONT, KEY, KEYS, PAYLOAD, hmac, joined, prints, ran};
+use std::alloc::Global;
+use std::process::Abort;
 use std::test::Fail;
 
 #[test]
@@ -13,8 +15,7 @@ fn makes_with_external_data(rt: HostRuntime) -> Result<(), Fail> {
         "make", "--alg", "5", "--key", KEYS, "--length", "2", "--aad", "01",
     ];
     let (made, status, _left) = ran(rt.alloc(), make.as_slice(), b"hi")?;
-    assert_eq!(rt; made.as_slice(), message.as_slice());
-    assert_eq!(rt; status, 0);
+    assert_eq!(rt; (made.as_slice(), status), (message.as_slice(), 0));
     let authentic = ("authentic mac0 alg 5 payload 2 taken 44\n", 0);
     let refused = ("refused BadAuth at 10\n", 1);
     let rows: [(&[&str], (&str, u8)); 4] = [
@@ -112,13 +113,30 @@ fn takes_the_whole_range_of_dates(rt: HostRuntime) -> Result<(), Fail> {
     Ok(())
 }
 
+/// What the help of the program and that of `verify` end with.
+const VERIFIED: &str = "\nExit status: 0 authentic, 1 refused, \
+    2 no verdict (command line, keys, memory, input or output).\n";
+
+/// A run with these arguments prints a text that ends with this, and ends with 0.
+fn ends_with(
+    rt: &(impl Abort + Alloc<A = Global>),
+    arguments: &[&str],
+    statuses: &str,
+) -> Result<(), Fail> {
+    let (output, ended, _left) = ran(rt.alloc(), arguments, b"")?;
+    let text = output.as_slice();
+    assert!(rt;
+        text.ends_with(statuses.as_bytes()) && ended == 0,
+        "{arguments:?}"
+    );
+    Ok(())
+}
+
 #[test]
 fn names_its_exit_statuses(rt: HostRuntime) -> Result<(), Fail> {
-    let verified = "\nExit status: 0 authentic, 1 refused, \
-        2 no verdict (command line, keys, memory, input or output).\n";
-    let rows: [(&[&str], &str); 6] = [
-        (&["--help"], verified),
-        (&["verify", "--help"], verified),
+    const ROWS: &[(&[&str], &str)] = &[
+        (&["--help"], VERIFIED),
+        (&["verify", "--help"], VERIFIED),
         (
             &["show", "--help"],
             "\nExit status: 0 shown, 1 refused, 2 no answer (command line, memory, input or output).\n",
@@ -139,11 +157,8 @@ fn names_its_exit_statuses(rt: HostRuntime) -> Result<(), Fail> {
             (command line, key, memory, input or output): drop what was written.\n",
         ),
     ];
-    for (arguments, statuses) in rows {
-        let (output, ended, _left) = ran(rt.alloc(), arguments, b"")?;
-        let text = str::from_utf8(output.as_slice()).or(Err("no text"))?;
-        assert!(rt; text.ends_with(statuses), "{text}");
-        assert_eq!(rt; ended, 0, "{text}");
+    for &(arguments, statuses) in ROWS {
+        ends_with(&rt, arguments, statuses)?;
     }
     Ok(())
 }
@@ -151,10 +166,11 @@ fn names_its_exit_statuses(rt: HostRuntime) -> Result<(), Fail> {
 #[test]
 fn helps_where_nothing_is_asked_for(rt: HostRuntime) -> Result<(), Fail> {
     let (help, helped, _left) = ran(rt.alloc(), &["--help"], b"")?;
-    assert_eq!(rt; helped, 0);
-    assert!(rt; help.as_slice().starts_with(b"Verifies COSE messages"));
     let (output, status, _left) = ran(rt.alloc(), &[], b"")?;
-    assert_eq!(rt; output.as_slice(), help.as_slice());
-    assert_eq!(rt; status, 2);
+    assert_eq!(rt;
+        (output.as_slice(), helped, status),
+        (help.as_slice(), 0, 2)
+    );
+    assert!(rt; help.as_slice().starts_with(b"Verifies COSE messages"));
     Ok(())
 }

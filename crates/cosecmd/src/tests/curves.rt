@@ -1,7 +1,7 @@
 //! Signatures on the curves P-384 and P-521: ES384 and ES512 (RFC 9053 section 2.1).
 
 use crate::tests::cwt::admits;
-use crate::tests::{KEYS, MEMBER_Y, point, prints, signed};
+use crate::tests::{KEYS, prints, signed};
 use std::alloc::{AllocError, Global};
 use std::process::Abort;
 use std::test::Fail;
@@ -68,6 +68,26 @@ fn rest_of_word(alloc: Global, by: &Signed, y: &str) -> Result<String, AllocErro
     format!(in alloc; "{digest}{signature}{x}{y}")
 }
 
+/// Under these keys `verify` finds the message authentic with this argument of `--vouch`, and refuses it with the number
+/// of another curve, and without the option.
+fn verifies(
+    rt: &(impl Abort + Alloc<A = Global>),
+    by: &Signed,
+    keys: &str,
+    message: &[u8],
+    rest: &str,
+) -> Result<(), Fail> {
+    let word = format!(in rt.alloc(); "0{}{rest}", by.curve)?;
+    let other = format!(in rt.alloc(); "01{rest}")?;
+    let refused = ("refused BadAuth at 9\n", 1);
+    for (word, (text, status)) in [(&word, (by.authentic, 0)), (&other, refused)] {
+        let verify = ["verify", "--keys", keys, "--vouch", word.as_str()];
+        prints(rt, verify.as_slice(), message, text, status)?;
+    }
+    prints(rt, &["verify", "--keys", keys], message, refused.0, 1)?;
+    Ok(())
+}
+
 /// Under the key with this member y, whose bytes are these, `digest` prints what vouches for the signature. With that
 /// `verify` finds the message authentic, and with the number of another curve it doesn't.
 fn vouches(
@@ -80,18 +100,9 @@ fn vouches(
     let keys = key(alloc, by, member)?;
     let message = signed(alloc, by.front, signature(by.size))?;
     let rest = rest_of_word(alloc, by, y)?;
-    let word = format!(in alloc; "0{}{rest}", by.curve)?;
-    let other = format!(in alloc; "01{rest}")?;
-    let text = format!(in alloc; "vouch {word}\n")?;
-    let message = message.as_slice();
-    prints(rt, &["digest", "--keys", &keys], message, &text, 0)?;
-    let vouched = ["verify", "--keys", &keys, "--vouch", &word];
-    prints(rt, &vouched, message, by.authentic, 0)?;
-    let refused = "refused BadAuth at 9\n";
-    let vouched = ["verify", "--keys", &keys, "--vouch", &other];
-    prints(rt, &vouched, message, refused, 1)?;
-    prints(rt, &["verify", "--keys", &keys], message, refused, 1)?;
-    Ok(())
+    let text = format!(in alloc; "vouch 0{}{rest}\n", by.curve)?;
+    prints(rt, &["digest", "--keys", &keys], &message, &text, 0)?;
+    verifies(rt, by, &keys, &message, &rest)
 }
 
 #[test]
@@ -108,72 +119,73 @@ fn vouches_on_each_curve(rt: HostRuntime) -> Result<(), Fail> {
     Ok(())
 }
 
+/// `verify` and `digest` refuse the message that begins so, under the key of this one.
+fn refuses(
+    rt: &(impl Abort + Alloc<A = Global>),
+    front: &str,
+    by: &Signed,
+    text: &str,
+) -> Result<(), Fail> {
+    let keys = key(rt.alloc(), by, "f5")?;
+    let message = signed(rt.alloc(), front, signature(66))?;
+    prints(rt, &["verify", "--keys", &keys], &message, text, 1)?;
+    prints(rt, &["digest", "--keys", &keys], &message, text, 1)?;
+    Ok(())
+}
+
 #[test]
 fn refuses_other_keys_and_lengths(rt: HostRuntime) -> Result<(), Fail> {
-    let on_p_256 = point(rt.alloc(), MEMBER_Y)?;
-    let on_p_384 = key(rt.alloc(), &BY_ES384, "f5")?;
-    let on_p_521 = key(rt.alloc(), &BY_ES512, "f5")?;
     // A coordinate of P-384 has 48 bytes.
     let short = Signed {
         head: "5820",
         size: 32,
         ..BY_ES384
     };
-    let short = key(rt.alloc(), &short, "f5")?;
-    let rows: [(&str, &str, &str); 8] = [
+    let on_p_256 = Signed {
+        curve: "1",
+        ..short
+    };
+    let rows: [(&str, &Signed, &str); 8] = [
         (BY_ES384.front, &on_p_256, "refused NoKey at 8\n"),
-        (BY_ES384.front, &on_p_521, "refused NoKey at 8\n"),
+        (BY_ES384.front, &BY_ES512, "refused NoKey at 8\n"),
         (BY_ES384.front, &short, "refused NoKey at 8\n"),
-        (BY_ES512.front, &on_p_384, "refused NoKey at 8\n"),
-        ("d28443a10126a0405840", &on_p_384, "refused NoKey at 7\n"),
+        (BY_ES512.front, &BY_ES384, "refused NoKey at 8\n"),
+        ("d28443a10126a0405840", &BY_ES384, "refused NoKey at 7\n"),
         (
             "d28444a1013822a0405840",
-            &on_p_384,
+            &BY_ES384,
             "refused BadAuthLength at 9\n",
         ),
         (
             "d28444a1013823a0405880",
-            &on_p_521,
+            &BY_ES512,
             "refused BadAuthLength at 9\n",
         ),
         (
             "d28443a10127a0405840",
-            &on_p_384,
+            &BY_ES384,
             "refused UnknownAlg at 7\n",
         ),
     ];
-    for (front, keys, text) in rows {
-        let message = signed(rt.alloc(), front, signature(66))?;
-        prints(
-            &rt,
-            &["verify", "--keys", keys],
-            message.as_slice(),
-            text,
-            1,
-        )?;
-        prints(
-            &rt,
-            &["digest", "--keys", keys],
-            message.as_slice(),
-            text,
-            1,
-        )?;
+    for (front, by, text) in rows {
+        refuses(&rt, front, by, text)?;
     }
     Ok(())
 }
 
+/// The key of this point, with both coordinates, is printed where claims confirm it.
+fn prints_confirmed(rt: &(impl Abort + Alloc<A = Global>), by: &Signed) -> Result<(), Fail> {
+    let alloc = rt.alloc();
+    let x = coordinate(alloc, 0x11, by.size)?;
+    let y = coordinate(alloc, 0x22, by.size)?;
+    let member = format!(in alloc; "{}{y}", by.head)?;
+    let claims = format!(in alloc; "a108a101{}", key(alloc, by, &member)?)?;
+    let line = format!(in alloc; "cnf key {} {x} {y}\n", by.curve)?;
+    admits(rt, &["cwt", "--keys", KEYS, "--now", "0"], &claims, &line)
+}
+
 #[test]
 fn prints_confirmed_keys_on_each_curve(rt: HostRuntime) -> Result<(), Fail> {
-    let alloc = rt.alloc();
-    for by in [&BY_ES384, &BY_ES512] {
-        let (x, y) = (
-            coordinate(alloc, 0x11, by.size)?,
-            coordinate(alloc, 0x22, by.size)?,
-        );
-        let member = format!(in alloc; "{}{y}", by.head)?;
-        let claims = format!(in alloc; "a108a101{}", key(alloc, by, &member)?)?;
-        let line = format!(in alloc; "cnf key {} {x} {y}\n", by.curve)?;
-        admits(&rt, &["cwt", "--keys", KEYS, "--now", "0"], &claims, &line)?;
-    }
-    Ok(())
+    prints_confirmed(&rt, &BY_ES384)?;
+    prints_confirmed(&rt, &BY_ES512)
 }

@@ -119,8 +119,9 @@ fn admits_within_the_dates(rt: HostRuntime) -> Result<(), Fail> {
     ];
     for (now, leeway, (text, status)) in rows {
         let cwt = ["cwt", "--keys", KEYS, "--now", now, "--leeway", leeway];
-        prints(&rt, cwt.as_slice(), token.as_slice(), text, status)?;
-        prints(&rt, cwt.as_slice(), tagged.as_slice(), text, status)?;
+        for token in [&token, &tagged] {
+            prints(&rt, cwt.as_slice(), token.as_slice(), text, status)?;
+        }
     }
     let cwt = ["cwt", "--keys", KEYS, "--now", LAST];
     prints(&rt, cwt.as_slice(), token.as_slice(), LINES, 0)?;
@@ -167,7 +168,7 @@ fn admits_its_audience(rt: HostRuntime) -> Result<(), Fail> {
 
 #[test]
 fn refuses_claims(rt: HostRuntime) -> Result<(), Fail> {
-    let rows: [(&str, &str); 13] = [
+    const ROWS: &[(&str, &str)] = &[
         ("", "claims PastRoom at 0"),
         ("a000", "claims Trailing at 1"),
         ("00", "claims NotMap at 0"),
@@ -183,7 +184,7 @@ fn refuses_claims(rt: HostRuntime) -> Result<(), Fail> {
         ("a108a10300", "claims BadValue at 4"),
     ];
     let cwt = ["cwt", "--keys", KEYS, "--now", "9223372036854775807"];
-    for (claims, refusal) in rows {
+    for &(claims, refusal) in ROWS {
         let token = token_of(rt.alloc(), claims)?;
         refuses(&rt, cwt.as_slice(), token.as_slice(), refusal)?;
     }
@@ -192,7 +193,7 @@ fn refuses_claims(rt: HostRuntime) -> Result<(), Fail> {
 
 #[test]
 fn prints_what_claims_say(rt: HostRuntime) -> Result<(), Fail> {
-    let rows: [(&str, &str); 10] = [
+    const ROWS: &[(&str, &str)] = &[
         ("a0", ""),
         ("a11864f93c00", ""),
         ("a10160", "iss \n"),
@@ -217,7 +218,7 @@ fn prints_what_claims_say(rt: HostRuntime) -> Result<(), Fail> {
         "--leeway",
         "4294967295",
     ];
-    for (claims, lines) in rows {
+    for &(claims, lines) in ROWS {
         admits(&rt, cwt.as_slice(), claims, lines)?;
     }
     Ok(())
@@ -282,15 +283,40 @@ fn limits_the_payload(rt: HostRuntime) -> Result<(), Fail> {
     Ok(())
 }
 
+/// The token with its last byte changed.
+fn forged(alloc: Global) -> Result<Vec<u8>, Fail> {
+    let mut token = example(alloc)?;
+    if let Some(byte) = token.get_mut(122) {
+        *byte ^= 1;
+    }
+    Ok(token)
+}
+
+/// The token and a byte after it.
+fn longer(alloc: Global) -> Result<Vec<u8>, Fail> {
+    let mut token = example(alloc)?;
+    token.push(0xff)?;
+    Ok(token)
+}
+
+/// A run at this time, with the arguments after it, gives this refusal of the token.
+fn refuses_at(
+    rt: &(impl Abort + Alloc<A = Global>),
+    words: &[&str],
+    token: &[u8],
+    refusal: &str,
+) -> Result<(), AllocError> {
+    let mut cwt = Vec::new(rt.alloc());
+    cwt.extend_from_slice(&["cwt", "--keys", KEYS, "--now"])?;
+    cwt.extend_from_slice(words)?;
+    refuses(rt, cwt.as_slice(), token, refusal)
+}
+
 #[test]
 fn refuses_messages(rt: HostRuntime) -> Result<(), Fail> {
     let token = example(rt.alloc())?;
-    let mut forged = example(rt.alloc())?;
-    if let Some(byte) = forged.get_mut(122) {
-        *byte ^= 1;
-    }
-    let mut longer = example(rt.alloc())?;
-    longer.push(0xff)?;
+    let forged = forged(rt.alloc())?;
+    let longer = longer(rt.alloc())?;
     let late = "1444064944";
     let rows: [(&[&str], &[u8], &str); 9] = [
         (&[LAST], b"", "message Truncated at 0"),
@@ -310,10 +336,7 @@ fn refuses_messages(rt: HostRuntime) -> Result<(), Fail> {
         ),
     ];
     for (words, token, refusal) in rows {
-        let mut cwt = Vec::new(rt.alloc());
-        cwt.extend_from_slice(&["cwt", "--keys", KEYS, "--now"])?;
-        cwt.extend_from_slice(words)?;
-        refuses(&rt, cwt.as_slice(), token, refusal)?;
+        refuses_at(&rt, words, token, refusal)?;
     }
     Ok(())
 }
@@ -386,9 +409,22 @@ fn takes_keys_for_tokens(rt: HostRuntime) -> Result<(), Fail> {
     Ok(())
 }
 
+/// A run with these arguments prints an error that has this part, and ends with 2.
+fn refuses_line(
+    rt: &(impl Abort + Alloc<A = Global>),
+    arguments: &[&str],
+    part: &str,
+) -> Result<(), Fail> {
+    let (output, ended, _left) = ran(rt.alloc(), arguments, b"")?;
+    let text = str::from_utf8(output.as_slice()).or(Err("no text"))?;
+    let is_error = text.starts_with("error: ") && text.contains(part);
+    assert!(rt; is_error && ended == 2, "{ended}: {text}");
+    Ok(())
+}
+
 #[test]
 fn refuses_lines_without_a_moment(rt: HostRuntime) -> Result<(), Fail> {
-    let rows: [(&[&str], &str); 9] = [
+    const ROWS: &[(&[&str], &str)] = &[
         (&["cwt", "--keys", KEYS], "--now <N>"),
         (&["cwt", "--now", "0"], "--keys <HEX>"),
         (
@@ -427,14 +463,8 @@ fn refuses_lines_without_a_moment(rt: HostRuntime) -> Result<(), Fail> {
             "--aud <TEXT>",
         ),
     ];
-    for (arguments, part) in rows {
-        let (output, ended, _left) = ran(rt.alloc(), arguments, b"")?;
-        let text = str::from_utf8(output.as_slice()).or(Err("no text"))?;
-        assert!(rt;
-            text.starts_with("error: ") && text.contains(part),
-            "{text}"
-        );
-        assert_eq!(rt; ended, 2, "{text}");
+    for &(arguments, part) in ROWS {
+        refuses_line(&rt, arguments, part)?;
     }
     Ok(())
 }

@@ -26,6 +26,23 @@ pub fn digest_and_signature(alloc: Global, structure: &str) -> Result<String, Fa
     Ok(hex::encode(alloc, bytes.as_slice())?)
 }
 
+/// With this argument of `--vouch` the signature of the message passes `verify`.
+fn passes(
+    rt: &(impl Abort + Alloc<A = Global>),
+    keys: &str,
+    message: &[u8],
+    aad: &str,
+    word: &str,
+) -> Result<(), Fail> {
+    let taken = message.len();
+    let text = format!(in rt.alloc(); "authentic sign1 alg -7 payload 0 taken {taken}\n")?;
+    let verify = [
+        "verify", "--keys", keys, "--aad", aad, "--kind", "sign1", "--vouch", word,
+    ];
+    prints(rt, verify.as_slice(), message, text.as_str(), 0)?;
+    Ok(())
+}
+
 /// For the message with this beginning, under the key with this member y, the program prints the digest of this structure
 /// and this y. With the printed argument of `--vouch` the signature passes `verify`.
 fn tells(
@@ -44,27 +61,7 @@ fn tells(
     let told = format!(in alloc; "vouch {word}\n")?;
     let words = ["digest", "--keys", keys.as_str(), "--aad", aad];
     prints(rt, words.as_slice(), message.as_slice(), told.as_str(), 0)?;
-    let taken = message.len();
-    let authentic = format!(in alloc; "authentic sign1 alg -7 payload 0 taken {taken}\n")?;
-    let words = [
-        "verify",
-        "--keys",
-        keys.as_str(),
-        "--aad",
-        aad,
-        "--kind",
-        "sign1",
-        "--vouch",
-        word.as_str(),
-    ];
-    prints(
-        rt,
-        words.as_slice(),
-        message.as_slice(),
-        authentic.as_str(),
-        0,
-    )?;
-    Ok(())
+    passes(rt, &keys, &message, aad, &word)
 }
 
 #[test]

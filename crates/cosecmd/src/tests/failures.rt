@@ -22,6 +22,41 @@ const MAKE: &[&str] = &[
     "cosecmd", "make", "--alg", "5", "--key", KEYS, "--length", "2",
 ];
 
+/// What a run with these words prints, its exit status, and the number of its reads, over a reader that fails at the read
+/// of this number.
+fn ran_until(
+    rt: &impl Alloc<A = Global>,
+    words: &[&str],
+    bytes: &[u8],
+    fails_at: usize,
+) -> (Vec<u8>, u8, usize) {
+    let mut reader = FailingReader {
+        bytes,
+        reads: 0,
+        fails_at,
+    };
+    let mut output = Vec::new(rt.alloc());
+    let status = run(rt.alloc(), &*words, &mut reader, &mut output);
+    (output, status, reader.reads)
+}
+
+/// A run over a reader that fails at the read of this number prints this text, and ends with this status after this many
+/// reads.
+fn ends(
+    rt: &(impl Abort + Alloc<A = Global>),
+    words: &[&str],
+    bytes: &[u8],
+    fails_at: usize,
+    (text, status, reads): (&str, u8, usize),
+) {
+    let (output, ended, seen) = ran_until(rt, words, bytes, fails_at);
+    assert_eq!(rt;
+        (output.as_slice(), ended, seen),
+        (text.as_bytes(), status, reads),
+        "{words:?}"
+    );
+}
+
 /// A run with these arguments over a reader that fails at any of the reads of this message, or at the one after them, prints
 /// `fault input` and ends with 2.
 fn says_at_each_read(
@@ -33,23 +68,8 @@ fn says_at_each_read(
     words.push("cosecmd")?;
     words.extend_from_slice(arguments)?;
     for fails_at in 1..=message.len().saturating_add(1) {
-        let mut reader = FailingReader {
-            bytes: message,
-            reads: 0,
-            fails_at,
-        };
-        let mut output = Vec::new(rt.alloc());
-        let status = run(rt.alloc(), words.as_slice(), &mut reader, &mut output);
-        assert_eq!(rt;
-            output.as_slice(),
-            b"fault input\n".as_slice(),
-            "{arguments:?} at read {fails_at}"
-        );
-        assert_eq!(rt;
-            (status, reader.reads),
-            (2, fails_at),
-            "{arguments:?} at read {fails_at}"
-        );
+        let fault = ("fault input\n", 2, fails_at);
+        ends(rt, words.as_slice(), message, fails_at, fault);
     }
     Ok(())
 }
@@ -82,18 +102,10 @@ fn reads_no_more(
     words: &[&str],
     bytes: &[u8],
     reads: usize,
-    ends: (&str, u8),
+    (text, status): (&str, u8),
 ) {
-    let (text, status) = ends;
-    let mut reader = FailingReader {
-        bytes,
-        reads: 0,
-        fails_at: reads.saturating_add(1),
-    };
-    let mut output = Vec::new(rt.alloc());
-    let ended = run(rt.alloc(), &*words, &mut reader, &mut output);
-    assert_eq!(rt; output.as_slice(), text.as_bytes(), "{words:?}");
-    assert_eq!(rt; (ended, reader.reads), (status, reads), "{words:?}: {text}");
+    let fails_at = reads.saturating_add(1);
+    ends(rt, words, bytes, fails_at, (text, status, reads));
 }
 
 #[test]
@@ -141,55 +153,34 @@ fn judges_the_keys_before_it_reads(rt: HostRuntime) {
 
 #[test]
 fn reads_once_more_behind_admitted_claims_alone(rt: HostRuntime) -> Result<(), Fail> {
-    let alloc = rt.alloc();
-    let token = example(alloc)?;
+    let token = example(rt.alloc())?;
     // 123 reads take the token, and the next one fails.
     let rows: [(&str, &str, u8, usize); 2] = [
         ("1444064943", "fault input\n", 2, 124),
         ("1444064944", "refused claims Expired at 59\n", 1, 123),
     ];
     for (now, text, status, reads) in rows {
-        let mut reader = FailingReader {
-            bytes: token.as_slice(),
-            reads: 0,
-            fails_at: 124,
-        };
-        let mut output = Vec::new(alloc);
         let words = ["cosecmd", "cwt", "--keys", KEYS, "--now", now];
-        let ended = run(alloc, words.as_slice(), &mut reader, &mut output);
-        assert_eq!(rt; output.as_slice(), text.as_bytes());
-        assert_eq!(rt; (ended, reader.reads), (status, reads), "at {now}");
+        ends(
+            &rt,
+            words.as_slice(),
+            token.as_slice(),
+            124,
+            (text, status, reads),
+        );
     }
     Ok(())
 }
 
 #[test]
 fn writes_no_line_where_the_payload_failed(rt: HostRuntime) -> Result<(), Fail> {
-    let alloc = rt.alloc();
-    let bytes = message(alloc)?;
-    // With the second byte of the payload the output is one byte longer.
-    for fails_at in 1..=2 {
-        let mut reader = FailingReader {
-            bytes: b"hi",
-            reads: 0,
-            fails_at,
-        };
-        let mut output = Vec::new(alloc);
-        let status = run(alloc, MAKE, &mut reader, &mut output);
-        let front = bytes.get(..fails_at.saturating_add(7)).unwrap_or(&[]);
-        assert_eq!(rt; output.as_slice(), front, "at read {fails_at}");
-        assert_eq!(rt; (status, reader.reads), (2, fails_at), "at read {fails_at}");
+    let bytes = message(rt.alloc())?;
+    // With the second byte of the payload the output is one byte longer. After the payload nothing is read.
+    for (fails_at, ends) in [(1, (8, 2, 1)), (2, (9, 2, 2)), (3, (44, 0, 2))] {
+        let (output, status, reads) = ran_until(&rt, MAKE, b"hi", fails_at);
+        assert_eq!(rt; (output.len(), status, reads), ends, "at read {fails_at}");
+        assert!(rt; bytes.starts_with(output.as_slice()), "at read {fails_at}");
     }
-    // After the payload nothing is read.
-    let mut reader = FailingReader {
-        bytes: b"hi",
-        reads: 0,
-        fails_at: 3,
-    };
-    let mut output = Vec::new(alloc);
-    let status = run(alloc, MAKE, &mut reader, &mut output);
-    assert_eq!(rt; output.as_slice(), bytes.as_slice());
-    assert_eq!(rt; (status, reader.reads), (0, 2));
     Ok(())
 }
 
@@ -219,12 +210,9 @@ fn stops_at_write(
         );
         return false;
     }
+    let held = writer.held.as_slice();
     assert!(rt;
-        text.starts_with(writer.held.as_slice()),
-        "{words:?} at write {fails_at}"
-    );
-    assert!(rt;
-        writer.held.len() < text.len(),
+        text.starts_with(held) && held.len() < text.len(),
         "{words:?} at write {fails_at}"
     );
     assert_eq!(rt; (ended, writer.writes), (2, fails_at), "{words:?}");

@@ -5,10 +5,11 @@ ghost use Rattle.std.specs.Prelude.{None};
 use crate::files::NamedFiles;
 use crate::run::run_with_files;
 use crate::tests::cwt::made;
+use crate::tests::digests::{SIGNATURE, digest_and_signature};
 use crate::tests::streams::FailingReader;
 use crate::tests::{
-    FRONT, KEY_SET, KEYS, PAYLOAD, SIGNED, STRUCTURE, X, Y, hmac, joined, message, point_set,
-    prints, signed, signed_digest,
+    FRONT, KEY_SET, KEYS, PAYLOAD, SIGNED, SIGNED_STRUCTURE, STRUCTURE, X, Y, hmac, joined,
+    message, point_set, prints, signed,
 };
 use sha2::{Digest, Sha256};
 use std::alloc::{AllocError, Global};
@@ -92,8 +93,11 @@ pub fn leaves<'i>(
     words.extend_from_slice(arguments)?;
     let mut output = Vec::new(rt.alloc());
     let ended = run_with_files(rt.alloc(), words.as_slice(), &file, &mut input, &mut output);
-    assert_eq!(rt; output.as_slice(), bytes, "{arguments:?}");
-    assert_eq!(rt; ended, status, "{arguments:?}");
+    assert_eq!(rt;
+        (output.as_slice(), ended),
+        (bytes, status),
+        "{arguments:?}"
+    );
     Ok(input)
 }
 
@@ -110,21 +114,26 @@ pub fn writes(
     Ok(())
 }
 
+/// `digest` takes the key of a point from the file.
+fn takes_a_point(rt: &(impl Abort + Alloc<A = Global>)) -> Result<(), Fail> {
+    let alloc = rt.alloc();
+    let point = point_set(alloc)?;
+    let message = signed(alloc, SIGNED, SIGNATURE)?;
+    let asked = digest_and_signature(alloc, SIGNED_STRUCTURE)?;
+    let vouch = format!(in alloc; "vouch 01{asked}{X}{Y}\n")?;
+    writes(rt, DIGEST, file(&point), &message, (vouch.as_bytes(), 0))?;
+    Ok(())
+}
+
 #[test]
 fn takes_keys_from_a_file(rt: HostRuntime) -> Result<(), Fail> {
-    let alloc = rt.alloc();
-    let mac = message(alloc)?;
-    let token = made(alloc, b"\xa0")?;
-    let signature = signed(alloc, SIGNED, &[0x5a; 64])?;
-    let point = point_set(alloc)?;
-    let digest = hex::encode(alloc, signed_digest(alloc)?.as_slice())?;
-    let signed = hex::encode(alloc, [0x5a; 64].as_slice())?;
-    let vouch = format!(in alloc; "vouch 01{digest}{signed}{X}{Y}\n")?;
+    let mac = message(rt.alloc())?;
+    let token = made(rt.alloc(), b"\xa0")?;
+    takes_a_point(&rt)?;
     let authentic = b"authentic mac0 alg 5 payload 2 taken 44\n";
-    let rows: [(&[&str], &[u8], &[u8], (&[u8], u8)); 7] = [
+    let rows: [(&[&str], &[u8], &[u8], (&[u8], u8)); 6] = [
         (VERIFY, KEY_SET, &mac, (authentic, 0)),
         (CWT, KEY_SET, &token, (b"admitted\n", 0)),
-        (DIGEST, &point, &signature, (vouch.as_bytes(), 0)),
         (MAKE, KEY_SET, b"hi", (&mac, 0)),
         (VERIFY, b"\x80", &mac, (b"fault keys BadKeySet at 0\n", 2)),
         (MAKE, b"\x80", b"hi", (b"fault key NotMap at 0\n", 2)),

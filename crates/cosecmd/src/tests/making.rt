@@ -1,6 +1,7 @@
 //! Messages that the program makes: their bytes, what the arguments and the input have wrong, and what `verify` prints
 //! for them.
 
+use crate::tests::payloads::refuses_line;
 use crate::tests::runs::verifies;
 use crate::tests::{KEYS, message, ran};
 use std::alloc::{AllocError, Global};
@@ -17,28 +18,36 @@ fn faults(
     text: &str,
 ) -> Result<(), AllocError> {
     let (output, status, left) = ran(rt.alloc(), arguments, b"hi")?;
-    assert_eq!(rt; output.as_slice(), text.as_bytes(), "{arguments:?}");
     // Nothing was read.
-    assert_eq!(rt; (status, left.len()), (2, 2), "{arguments:?}");
+    assert_eq!(rt;
+        (output.as_slice(), status, left.len()),
+        (text.as_bytes(), 2, 2),
+        "{arguments:?}"
+    );
+    Ok(())
+}
+
+/// Making the message of a payload of two bytes from this input writes these bytes, ends with this status, and leaves
+/// this of the input.
+fn makes(
+    rt: &(impl Abort + Alloc<A = Global>),
+    input: &[u8],
+    ends: (&[u8], u8, &[u8]),
+) -> Result<(), Fail> {
+    let make = ["make", "--alg", "5", "--key", KEYS, "--length", "2"];
+    let (output, status, left) = ran(rt.alloc(), make.as_slice(), input)?;
+    assert_eq!(rt; (output.as_slice(), status, left), ends);
     Ok(())
 }
 
 #[test]
 fn makes_the_message(rt: HostRuntime) -> Result<(), Fail> {
-    let make = ["make", "--alg", "5", "--key", KEYS, "--length", "2"];
     let whole = message(rt.alloc())?;
-    let (output, status, left) = ran(rt.alloc(), make.as_slice(), b"hi")?;
-    assert_eq!(rt; output.as_slice(), whole.as_slice());
-    assert_eq!(rt; (status, left.len()), (0, 0));
+    makes(&rt, b"hi", (&whole, 0, b""))?;
     // What follows the payload is left unread.
-    let (output, status, left) = ran(rt.alloc(), make.as_slice(), b"hi there")?;
-    assert_eq!(rt; output.as_slice(), whole.as_slice());
-    assert_eq!(rt; (status, left), (0, b" there".as_slice()));
+    makes(&rt, b"hi there", (&whole, 0, b" there"))?;
     // The input is a byte short.
-    let (output, status, left) = ran(rt.alloc(), make.as_slice(), b"h")?;
-    assert_eq!(rt; output.as_slice(), whole.get(..9).unwrap_or(&[]));
-    assert_eq!(rt; (status, left.len()), (2, 0));
-    Ok(())
+    makes(&rt, b"h", (whole.get(..9).unwrap_or(&[]), 2, b""))
 }
 
 #[test]
@@ -118,13 +127,15 @@ fn limits_the_identifier(rt: HostRuntime) -> Result<(), Fail> {
     let (output, status) = identified(rt.alloc(), KEYS, LONGEST)?;
     assert_eq!(rt; (output.len(), status), (302, 0));
     let longer = LONGEST.saturating_add(2);
-    let (output, status) = identified(rt.alloc(), KEYS, longer)?;
-    assert_eq!(rt; output.as_slice(), b"fault make TooLong\n".as_slice());
-    assert_eq!(rt; status, 2);
     // The key is looked at first.
-    let (output, status) = identified(rt.alloc(), "a30104030420444a656665", longer)?;
-    assert_eq!(rt; output.as_slice(), b"fault make WrongKey\n".as_slice());
-    assert_eq!(rt; status, 2);
+    let rows: [(&str, &[u8]); 2] = [
+        (KEYS, b"fault make TooLong\n"),
+        ("a30104030420444a656665", b"fault make WrongKey\n"),
+    ];
+    for (key, text) in rows {
+        let (output, status) = identified(rt.alloc(), key, longer)?;
+        assert_eq!(rt; (output.as_slice(), status), (text, 2));
+    }
     Ok(())
 }
 
@@ -169,9 +180,7 @@ fn refuses_lines_without_a_message(rt: HostRuntime) -> Result<(), Fail> {
         ],
     ];
     for make in rows {
-        let (output, status, left) = ran(rt.alloc(), make, b"hi")?;
-        assert_eq!(rt; (status, left.len()), (2, 2), "{make:?}");
-        assert!(rt; output.as_slice().starts_with(b"error: "), "{make:?}");
+        refuses_line(&rt, make, b"error: ")?;
     }
     // The greatest length is one that the program takes: it begins the message, and the input ends.
     let make = [

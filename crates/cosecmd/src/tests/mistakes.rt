@@ -1,7 +1,7 @@
 //! Arguments that are refused: what is printed names the option that was expected, and repeats no argument, which may be a key
 //! that lacks its option.
 
-use crate::tests::ran;
+use crate::tests::prints;
 use std::test::Fail;
 
 /// A key set of the key `Jefe`.
@@ -37,7 +37,7 @@ const TWO_KEYS: &str =
 
 #[test]
 fn names_the_option_without_the_argument(rt: HostRuntime) -> Result<(), Fail> {
-    let rows: [(&[&str], &str); 16] = [
+    const ROWS: &[(&[&str], &str)] = &[
         (&["verify", KEYS], NO_OPTION),
         (&["verify", "--keys", KEYS, KEYS], NO_OPTION),
         (&["verify", "--a2010420444a656665"], NO_OPTION),
@@ -77,11 +77,8 @@ fn names_the_option_without_the_argument(rt: HostRuntime) -> Result<(), Fail> {
         (&["verify", "--keys", KEYS, "--keys-file", KEYS], TWO_SETS),
         (&["make", "--key-file", KEYS, "--key", KEYS], TWO_KEYS),
     ];
-    for (arguments, expected) in rows {
-        let (output, status, _left) = ran(rt.alloc(), arguments, b"")?;
-        let text = str::from_utf8(output.as_slice()).or(Err("no text"))?;
-        assert_eq!(rt; text, expected, "{arguments:?}");
-        assert_eq!(rt; status, 2, "{arguments:?}");
+    for &(arguments, expected) in ROWS {
+        prints(&rt, arguments, b"", expected, 2)?;
     }
     Ok(())
 }

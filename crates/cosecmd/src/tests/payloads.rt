@@ -1,9 +1,9 @@
 //! The option `--payload`: messages whose payload is detached (RFC 9052 sections 4.2 and 6.2).
 
+use crate::tests::digests::digest_and_signature;
 use crate::tests::{
     FRONT, KEY, KEYS, MEMBER_Y, STRUCTURE, X, Y, hmac, joined, message, point, prints, ran,
 };
-use sha2::{Digest, Sha256};
 use std::alloc::{AllocError, Global};
 use std::process::Abort;
 use std::test::Fail;
@@ -14,17 +14,29 @@ pub fn detached(alloc: Global) -> Result<Vec<u8>, AllocError> {
     joined(alloc, &[FRONT, b"\xf6\x58\x20", &tag])
 }
 
+/// The same with the last byte of its tag changed.
+pub fn changed(alloc: Global) -> Result<Vec<u8>, AllocError> {
+    let mut bytes = detached(alloc)?;
+    if let Some(byte) = bytes.get_mut(41) {
+        *byte ^= 1;
+    }
+    Ok(bytes)
+}
+
+/// The same with a byte after it.
+pub fn longer(alloc: Global) -> Result<Vec<u8>, AllocError> {
+    let mut bytes = detached(alloc)?;
+    bytes.push(0xff)?;
+    Ok(bytes)
+}
+
 #[test]
 fn verifies_under_a_payload(rt: HostRuntime) -> Result<(), Fail> {
     let alloc = rt.alloc();
     let attached = message(alloc)?;
     let bytes = detached(alloc)?;
-    let mut changed = detached(alloc)?;
-    if let Some(byte) = changed.get_mut(41) {
-        *byte ^= 1;
-    }
-    let mut longer = detached(alloc)?;
-    longer.push(0xff)?;
+    let changed = changed(alloc)?;
+    let longer = longer(alloc)?;
     let shorter = bytes.get(..41).unwrap_or(&[]);
     let with = ["verify", "--keys", KEYS, "--payload", "6869"];
     let without = ["verify", "--keys", KEYS];
@@ -101,10 +113,8 @@ fn verifies_a_long_payload(rt: HostRuntime) -> Result<(), Fail> {
 
 /// The argument of `--vouch` for the signature of 64 bytes 5a over the payload `hi` (RFC 9052 section 4.4).
 fn vouch(alloc: Global) -> Result<String, Fail> {
-    let digest = Sha256::digest(b"\x84\x6aSignature1\x43\xa1\x01\x26\x40\x42hi");
-    let digest = hex::encode(alloc, digest.as_slice())?;
-    let signature = hex::encode(alloc, [0x5a; 64].as_slice())?;
-    Ok(format!(in alloc; "01{digest}{signature}{X}{Y}")?)
+    let asked = digest_and_signature(alloc, "846a5369676e61747572653143a1012640426869")?;
+    Ok(format!(in alloc; "01{asked}{X}{Y}")?)
 }
 
 /// With this argument of `--vouch` and this payload, that signature's message is answered so.
@@ -140,6 +150,18 @@ fn vouches_for_a_payload_that_is_passed(rt: HostRuntime) -> Result<(), Fail> {
     Ok(())
 }
 
+/// A run with these arguments prints a text that begins so, ends with 2, and has read nothing.
+pub fn refuses_line(
+    rt: &(impl Abort + Alloc<A = Global>),
+    arguments: &[&str],
+    begins: &[u8],
+) -> Result<(), AllocError> {
+    let (output, status, left) = ran(rt.alloc(), arguments, b"hi")?;
+    let is_refused = output.as_slice().starts_with(begins) && status == 2;
+    assert!(rt; is_refused && left.len() == 2, "{arguments:?}: {status}");
+    Ok(())
+}
+
 #[test]
 fn is_an_option_of_verify_alone(rt: HostRuntime) -> Result<(), Fail> {
     let rows: [&[&str]; 3] = [
@@ -148,12 +170,7 @@ fn is_an_option_of_verify_alone(rt: HostRuntime) -> Result<(), Fail> {
         &["show", "--payload", "6869"],
     ];
     for arguments in rows {
-        let (output, status, _left) = ran(rt.alloc(), arguments, b"")?;
-        assert!(rt;
-            output.as_slice().starts_with(b"error: unexpected argument"),
-            "{arguments:?}"
-        );
-        assert_eq!(rt; status, 2, "{arguments:?}");
+        refuses_line(&rt, arguments, b"error: unexpected argument")?;
     }
     Ok(())
 }

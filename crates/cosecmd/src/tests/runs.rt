@@ -5,6 +5,9 @@ use std::alloc::{AllocError, Global};
 use std::process::Abort;
 use std::test::Fail;
 
+/// What is printed for the message.
+const AUTHENTIC: &str = "authentic mac0 alg 5 payload 2 taken 44\n";
+
 /// `verify` under these keys prints this text for the message, and ends with this status.
 pub fn verifies(
     rt: &(impl Abort + Alloc<A = Global>),
@@ -20,18 +23,17 @@ pub fn verifies(
 #[test]
 fn prints_the_verdict(rt: HostRuntime) -> Result<(), Fail> {
     let message = message(rt.alloc())?;
-    let authentic = "authentic mac0 alg 5 payload 2 taken 44\n";
-    let rows: [(&str, &str, u8); 8] = [
-        (KEYS, authentic, 0),
-        ("A2010420444A656665", authentic, 0),
-        ("a201042058044a656665", authentic, 0),
+    const ROWS: &[(&str, &str, u8)] = &[
+        (KEYS, AUTHENTIC, 0),
+        ("A2010420444A656665", AUTHENTIC, 0),
+        ("a201042058044a656665", AUTHENTIC, 0),
         ("zz", "fault line keys\n", 2),
         ("a20", "fault line keys\n", 2),
         (" a2010420444a656665", "fault line keys\n", 2),
         ("a2010420444a656665 ", "fault line keys\n", 2),
         ("0xa2010420444a656665", "fault line keys\n", 2),
     ];
-    for (keys, text, status) in rows {
+    for &(keys, text, status) in ROWS {
         verifies(&rt, keys, message.as_slice(), text, status)?;
     }
     let longer = joined(rt.alloc(), &[message.as_slice(), b"\xff"])?;
@@ -43,8 +45,7 @@ fn prints_the_verdict(rt: HostRuntime) -> Result<(), Fail> {
 #[test]
 fn takes_a_key_set(rt: HostRuntime) -> Result<(), Fail> {
     let message = message(rt.alloc())?;
-    let authentic = "authentic mac0 alg 5 payload 2 taken 44\n";
-    let rows: [(&str, &str, u8); 19] = [
+    const ROWS: &[(&str, &str, u8)] = &[
         // the set is refused
         ("", "fault keys PastRoom at 0\n", 2),
         ("80", "fault keys BadKeySet at 0\n", 2),
@@ -64,26 +65,39 @@ fn takes_a_key_set(rt: HostRuntime) -> Result<(), Fail> {
         ("a0", "refused NoKey at 7\n", 1),
         ("8100", "refused NoKey at 7\n", 1),
         ("a30104030420444a656665", "refused NoKey at 7\n", 1),
-        ("a30104030520444a656665", authentic, 0),
-        ("a3010404810a20444a656665", authentic, 0),
+        ("a30104030520444a656665", AUTHENTIC, 0),
+        ("a3010404810a20444a656665", AUTHENTIC, 0),
         ("a3010404810920444a656665", "refused NoKey at 7\n", 1),
         (
             "82a2010420444a656665a201042041aa",
             "refused AmbiguousKey at 7\n",
             1,
         ),
-        ("82a2010420444a656665a201012006", authentic, 0),
-        ("81a2010420444a656665", authentic, 0),
+        ("82a2010420444a656665a201012006", AUTHENTIC, 0),
+        ("81a2010420444a656665", AUTHENTIC, 0),
     ];
-    for (keys, text, status) in rows {
+    for &(keys, text, status) in ROWS {
         verifies(&rt, keys, message.as_slice(), text, status)?;
     }
     Ok(())
 }
 
+/// A run with these arguments prints a text with this part, and ends with this status.
+fn says(
+    rt: &(impl Abort + Alloc<A = Global>),
+    arguments: &[&str],
+    part: &str,
+    status: u8,
+) -> Result<(), Fail> {
+    let (output, ended, _left) = ran(rt.alloc(), arguments, b"")?;
+    let text = str::from_utf8(output.as_slice()).or(Err("no text"))?;
+    assert!(rt; text.contains(part) && ended == status, "{ended}: {text}");
+    Ok(())
+}
+
 #[test]
 fn explains_its_line(rt: HostRuntime) -> Result<(), Fail> {
-    let rows: [(&[&str], &str, u8); 11] = [
+    const ROWS: &[(&[&str], &str, u8)] = &[
         (&["--help"], "Usage: cosecmd <COMMAND>", 0),
         (&["--help"], "0 authentic, 1 refused, 2 no verdict", 0),
         (&["--help"], "no prefix and no spaces", 0),
@@ -104,11 +118,8 @@ fn explains_its_line(rt: HostRuntime) -> Result<(), Fail> {
         ),
         (&["sign"], "unrecognized subcommand\n", 2),
     ];
-    for (arguments, part, status) in rows {
-        let (output, ended, _left) = ran(rt.alloc(), arguments, b"")?;
-        let text = str::from_utf8(output.as_slice()).or(Err("no text"))?;
-        assert!(rt; text.contains(part), "{text}");
-        assert_eq!(rt; ended, status, "{text}");
+    for &(arguments, part, status) in ROWS {
+        says(&rt, arguments, part, status)?;
     }
     Ok(())
 }

@@ -9,13 +9,14 @@ use std::test::Fail;
 
 /// A complete message gets this verdict, and stays complete.
 fn decides(rt: &impl Abort, verifier: &mut Verifier<1024, 4>, asked: &Asked, holds: bool) {
-    assert_eq!(rt; verifier.status(), Status::Complete);
     if verifier.is_complete() && !verifier.is_inspecting() {
-        assert_eq!(rt; verifier.verdict(asked), decision(holds));
+        let before = verifier.status();
+        let answers = (before, verifier.verdict(asked), verifier.status());
+        let complete = Status::Complete;
+        assert_eq!(rt; answers, (complete, decision(holds), complete));
     } else {
         panic!(rt; "the message isn't complete");
     }
-    assert_eq!(rt; verifier.status(), Status::Complete);
 }
 
 /// The same, where the message is fed in pieces. Once it is decided, no `EcVerifier` is asked again.
@@ -59,8 +60,11 @@ fn asks_about_the_signature(rt: HostRuntime) -> Result<(), Fail> {
                 &mut store,
                 &asked,
             );
-            assert_eq!(rt; answer, Ok(decision(says)), "in pieces of {cut}");
-            assert_eq!(rt; verifier.taken(), 74, "in pieces of {cut}");
+            assert_eq!(rt;
+                (answer, verifier.taken()),
+                (Ok(decision(says)), 74),
+                "in pieces of {cut}"
+            );
             decides_fed(&rt, keys, bytes.as_slice(), cut, &asked);
         }
     }
@@ -92,7 +96,6 @@ fn verifies_a_signature_without_its_tag(rt: HostRuntime) -> Result<(), Fail> {
         payload: 0,
         taken: 73,
     };
-    assert_eq!(rt; answer, Ok(authentic));
-    assert_eq!(rt; verifier.taken(), 73);
+    assert_eq!(rt; (answer, verifier.taken()), (Ok(authentic), 73));
     Ok(())
 }
