@@ -9,10 +9,12 @@ use std::process::Abort;
 fn takes(rt: &impl Abort, intake: &mut ReadIntake<FailingReader>, reads: usize, piece: &[u8]) {
     let count = piece.len();
     let mut into = [0; 8];
-    assert_eq!(rt; intake.take(&mut into), Ok(count), "in call {reads}");
-    assert_eq!(rt; into.get(..count), Some(piece), "in call {reads}");
-    assert_eq!(rt; intake.reader.reads, reads);
-    assert_eq!(rt; (intake.failed, intake.ended), (false, count == 0));
+    let taken = intake.take(&mut into);
+    let state = (intake.failed, intake.ended);
+    assert_eq!(rt;
+        (taken, into.get(..count), intake.reader.reads, state),
+        (Ok(count), Some(piece), reads, (false, count == 0))
+    );
 }
 
 #[test]
@@ -36,11 +38,10 @@ fn takes_no_more_than_fit(rt: HostRuntime) {
     let mut intake = ReadIntake::new(FailingReader::new(b"abcd", 0));
     for byte in [b'a', b'b', b'c', b'd'] {
         let mut into = [0];
-        assert_eq!(rt; intake.take(&mut into), Ok(1));
-        assert_eq!(rt; into, [byte]);
+        assert_eq!(rt; (intake.take(&mut into), into), (Ok(1), [byte]));
     }
-    assert_eq!(rt; intake.take(&mut [0]), Ok(0));
-    assert_eq!(rt; intake.reader.reads, 5);
+    let last = intake.take(&mut [0]);
+    assert_eq!(rt; (last, intake.reader.reads), (Ok(0), 5));
 }
 
 /// The next call gives this answer, and afterwards the intake has this state: whether it has failed, and whether it has
@@ -51,8 +52,8 @@ fn answers(
     answer: Result<usize, IntakeFault>,
     state: (bool, bool),
 ) {
-    assert_eq!(rt; intake.take(&mut [0; 8]), answer, "then {state:?}");
-    assert_eq!(rt; (intake.failed, intake.ended), state, "after {answer:?}");
+    let taken = intake.take(&mut [0; 8]);
+    assert_eq!(rt; (taken, (intake.failed, intake.ended)), (answer, state));
 }
 
 #[test]

@@ -70,9 +70,11 @@ fn makes_in_pieces<const C: usize>(
         length,
         &mut sink,
     );
-    assert_eq!(rt; count, Ok(message.len() as u64));
-    assert_eq!(rt; sink.bytes(), message);
-    assert_eq!(rt; intake.take(&mut [7, 7]), Ok(1));
+    let left = intake.take(&mut [7, 7]);
+    assert_eq!(rt;
+        (count, sink.bytes(), left),
+        (Ok(message.len() as u64), message, Ok(1))
+    );
 }
 
 /// The same in pieces of one byte, and of more bytes than there are.
@@ -132,9 +134,11 @@ fn refuses_with(
         length,
         &mut sink,
     );
-    assert_eq!(rt; answer, Err(fault));
-    assert!(rt; sink.bytes().is_empty());
-    assert_eq!(rt; intake.take(&mut [7, 7]), Ok(2));
+    let left = intake.take(&mut [7, 7]);
+    assert_eq!(rt;
+        (answer, sink.bytes(), left),
+        (Err(fault), b"".as_slice(), Ok(2))
+    );
 }
 
 #[test]
@@ -220,11 +224,11 @@ fn takes_chunks<const C: usize>(rt: &impl Abort)
         &mut sink,
     );
     // Nine bytes before the payload's content, and the tag with its head after it.
-    assert_eq!(rt; answer, Ok(9 + 200 + 9));
-    assert_eq!(rt; intake.most, C.min(200));
+    assert_eq!(rt;
+        (answer, intake.most, sink.sum, sink.bytes()),
+        (Ok(9 + 200 + 9), C.min(200), 218, long_message().as_slice())
+    );
     assert!(rt; sink.most <= C.min(200).max(8));
-    assert_eq!(rt; sink.sum, 218);
-    assert_eq!(rt; sink.bytes(), long_message().as_slice());
 }
 
 #[test]
@@ -249,8 +253,10 @@ fn says_that_the_payload_is_short(rt: HostRuntime) {
         2,
         &mut sink,
     );
-    assert_eq!(rt; answer, Err(MakeFault::ShortPayload));
-    assert_eq!(rt; sink.bytes(), &MAC0[..9]);
+    assert_eq!(rt;
+        (answer, sink.bytes()),
+        (Err(MakeFault::ShortPayload), &MAC0[..9])
+    );
 }
 
 #[test]
@@ -267,8 +273,10 @@ fn says_that_the_intake_failed(rt: HostRuntime) {
         2,
         &mut sink,
     );
-    assert_eq!(rt; answer, Err(MakeFault::Intake));
-    assert_eq!(rt; sink.bytes(), &MAC0[..9]);
+    assert_eq!(rt;
+        (answer, sink.bytes()),
+        (Err(MakeFault::Intake), &MAC0[..9])
+    );
 }
 
 /// Keeps this many bytes, also a prefix of a piece, and fails at the next.
@@ -316,7 +324,9 @@ fn leaves_a_front_where_the_sink_fails(rt: HostRuntime) {
             2,
             &mut sink,
         );
-        assert_eq!(rt; answer, Err(MakeFault::Sink));
-        assert_eq!(rt; sink.held.as_slice(), &MAC0[..limit]);
+        assert_eq!(rt;
+            (answer, sink.held.as_slice()),
+            (Err(MakeFault::Sink), &MAC0[..limit])
+        );
     }
 }

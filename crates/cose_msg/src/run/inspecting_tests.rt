@@ -41,13 +41,13 @@ fn inspects_a_shape(rt: HostRuntime) {
         auth: 32,
         taken: 44,
     };
-    assert_eq!(rt; shape, Ok(wanted));
-    assert_eq!(rt; verifier.is_inspecting(), true);
-    assert_eq!(rt; verifier.held(), 256 + 3 + 1);
-    assert_eq!(rt; verifier.open_items(), 0);
-    assert_eq!(rt; verifier.sign_input().is_none(), true);
+    let state = (verifier.is_inspecting(), verifier.sign_input().is_none());
+    let kept = (verifier.held(), verifier.open_items());
     let again = inspected(&mut verifier, &mut intake);
-    assert_eq!(rt; again, Ok(wanted));
+    assert_eq!(rt;
+        (shape, state, kept, again),
+        (Ok(wanted), (true, true), (256 + 3 + 1, 0), Ok(wanted))
+    );
     verifier.reset();
     assert_eq!(rt; verifier.held(), 256);
 }
@@ -65,8 +65,7 @@ fn refuses_a_tag_that_is_too_long(rt: HostRuntime) {
         reason: Reason::BadAuthLength,
         place: 10,
     });
-    assert_eq!(rt; refused, Ok(wanted));
-    assert_eq!(rt; verifier.taken(), 15);
+    assert_eq!(rt; (refused, verifier.taken()), (Ok(wanted), 15));
 }
 
 #[test]
@@ -79,8 +78,7 @@ fn refuses_to_inspect_a_payload_over_its_limit(rt: HostRuntime) {
         reason: Reason::PayloadTooLong,
         place: 7,
     });
-    assert_eq!(rt; refused, Ok(wanted));
-    assert_eq!(rt; verifier.taken(), 8);
+    assert_eq!(rt; (refused, verifier.taken()), (Ok(wanted), 8));
 }
 
 #[test]
@@ -93,14 +91,17 @@ fn shows_the_buckets_after_a_refusal(rt: HostRuntime) {
         reason: Reason::BadAuth,
         place: 10,
     });
-    assert_eq!(rt; verdict, Ok(refused));
-    assert_eq!(rt; verifier.unprotected().is_some(), true);
+    let shown = verifier.unprotected().is_some();
+    assert_eq!(rt; (verdict, shown), (Ok(refused), true));
     let Some(protected) = verifier.protected() else {
         assert!(rt; false);
         return;
     };
-    assert_eq!(rt; protected.alg(), Some(Label::Int(5)));
-    assert_eq!(rt; verifier.held(), 256 + 3 + 1 + 32);
+    let alg = protected.alg();
+    assert_eq!(rt;
+        (alg, verifier.held()),
+        (Some(Label::Int(5)), 256 + 3 + 1 + 32)
+    );
 }
 
 #[test]
@@ -111,9 +112,11 @@ fn shows_no_bucket_that_was_refused(rt: HostRuntime) {
         reason: Reason::BadLabel,
         place: 7,
     });
-    assert_eq!(rt; verdict, Ok(refused));
-    assert_eq!(rt; verifier.protected().is_some(), true);
-    assert_eq!(rt; verifier.unprotected().is_none(), true);
+    let shown = (
+        verifier.protected().is_some(),
+        verifier.unprotected().is_some(),
+    );
+    assert_eq!(rt; (verdict, shown), (Ok(refused), (true, false)));
 }
 
 #[test]
@@ -124,10 +127,12 @@ fn counts_open_items(rt: HostRuntime) {
         reason: Reason::Truncated,
         place: 10,
     });
-    assert_eq!(rt; verdict, Ok(truncated));
-    assert_eq!(rt; verifier.open_items(), 3);
+    let open = verifier.open_items();
     verifier.reset();
-    assert_eq!(rt; verifier.open_items(), 0);
+    assert_eq!(rt;
+        (verdict, open, verifier.open_items()),
+        (Ok(truncated), 3, 0)
+    );
 }
 
 #[test]
@@ -144,6 +149,5 @@ fn hands_out_what_a_signature_is_verified_with(rt: HostRuntime) {
         assert!(rt; false);
         return;
     };
-    assert_eq!(rt; digest.len(), 32);
-    assert_eq!(rt; signature, &SIGN1[10..]);
+    assert_eq!(rt; (digest.len(), signature), (32, &SIGN1[10..]));
 }

@@ -23,11 +23,12 @@ fn verifies_at<const C: usize, const H: usize, const D: usize>(rt: &impl Abort)
         &mut sink,
         &Never,
     );
-    assert_eq!(rt; verdict, Ok(AUTHENTIC));
-    assert_eq!(rt; sink.bytes(), b"hi".as_slice());
-    assert_eq!(rt; sink.sum, 2);
     // It asks for what is left of a string, as far as a chunk holds it.
-    assert_eq!(rt; (intake.most, sink.most), (C.min(32), C.min(2)));
+    let most = (C.min(32), C.min(2));
+    assert_eq!(rt;
+        (verdict, sink.bytes(), sink.sum, (intake.most, sink.most)),
+        (Ok(AUTHENTIC), b"hi".as_slice(), 2, most)
+    );
 }
 
 #[test]
@@ -55,7 +56,6 @@ fn takes_a_string_of_the_unprotected_header_at_once(rt: HostRuntime) {
         payload: 2,
         taken: 51,
     };
-    assert_eq!(rt; verdict, Ok(authentic));
     // The heads have nine bytes, and four strings have the others.
-    assert_eq!(rt; intake.takes, 9 + 4);
+    assert_eq!(rt; (verdict, intake.takes), (Ok(authentic), 9 + 4));
 }

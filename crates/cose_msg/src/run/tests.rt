@@ -1,6 +1,8 @@
 //! Runs over the token of RFC 8392 appendix A.4, a COSE_Mac0 under the CWT tag, in pieces of several lengths.
 
-ghost use Rattle.std.specs.Prelude.{◌<◌, ◌≤◌, IfSome, length};
+ghost use Rattle.std.specs.Prelude.{◌≡◌, ◌<◌, ◌≤◌, IfSome, false, length};
+ghost use Rattle.cose_msg.specs.Kept.{is_inspecting};
+ghost use Rattle.cose_msg.specs.Verifier.{is_detached};
 
 use crate::samples::FailingReader;
 use crate::{
@@ -68,9 +70,10 @@ fn verifies_in_pieces(rt: &impl Abort, cut: usize)
         &mut sink,
         &Never,
     );
-    assert_eq!(rt; verdict, Ok(AUTHENTIC));
-    assert_eq!(rt; sink.bytes(), &TOKEN[25..105]);
-    assert_eq!(rt; intake.take(&mut [7, 7]), Ok(1));
+    assert_eq!(rt;
+        (verdict, sink.bytes(), intake.take(&mut [7, 7])),
+        (Ok(AUTHENTIC), &TOKEN[25..105], Ok(1))
+    );
 }
 
 #[test]
@@ -94,24 +97,35 @@ fn says_each_stop_once(rt: HostRuntime) {
         &mut Nothing,
         &Never,
     );
-    assert_eq!(rt; stop, Err(Stop::Intake));
     let again = verify::<64, 32, 4, _, ReadIntake<FailingReader>, Nothing, Never>(
         &mut verifier,
         &mut failing,
         &mut Nothing,
         &Never,
     );
-    assert_eq!(rt; again, Err(Stop::Again));
     verifier.reset();
     let mut small: Store<79> = Store::new();
     let mut intake = SliceIntake::new(TOKEN, 64);
-    let stop = verify::<64, 32, 4, _, SliceIntake, Store<79>, Never>(
+    let full = verify::<64, 32, 4, _, SliceIntake, Store<79>, Never>(
         &mut verifier,
         &mut intake,
         &mut small,
         &Never,
     );
-    assert_eq!(rt; stop, Err(Stop::Sink));
+    assert_eq!(rt;
+        [stop, again, full],
+        [Err(Stop::Intake), Err(Stop::Again), Err(Stop::Sink)]
+    );
+}
+
+/// What `verify` answers for the bytes of this intake.
+fn verdict_on(verifier: &mut Verifier<32, 4>, intake: &mut SliceIntake) -> Result<Verdict, Stop>
+    requires verifies { is_inspecting verifier.old ≡ false }
+    requires attached { is_detached verifier.old ≡ false }
+    ensures verifies { is_inspecting verifier.new ≡ false }
+    ensures attached { is_detached verifier.new ≡ false }
+{
+    verify::<64, 32, 4, _, SliceIntake, Nothing, Never>(verifier, intake, &mut Nothing, &Never)
 }
 
 #[test]
@@ -123,27 +137,10 @@ fn keeps_a_verdict(rt: HostRuntime) {
         reason: Reason::Truncated,
         place: 113,
     }));
-    let verdict = verify::<64, 32, 4, _, SliceIntake, Nothing, Never>(
-        &mut verifier,
-        &mut half,
-        &mut Nothing,
-        &Never,
-    );
-    assert_eq!(rt; verdict, truncated);
+    let first = verdict_on(&mut verifier, &mut half);
     let mut whole = SliceIntake::new(TOKEN, 64);
-    let verdict = verify::<64, 32, 4, _, SliceIntake, Nothing, Never>(
-        &mut verifier,
-        &mut whole,
-        &mut Nothing,
-        &Never,
-    );
-    assert_eq!(rt; verdict, truncated);
+    let kept = verdict_on(&mut verifier, &mut whole);
     verifier.reset();
-    let verdict = verify::<64, 32, 4, _, SliceIntake, Nothing, Never>(
-        &mut verifier,
-        &mut whole,
-        &mut Nothing,
-        &Never,
-    );
-    assert_eq!(rt; verdict, Ok(AUTHENTIC));
+    let other = verdict_on(&mut verifier, &mut whole);
+    assert_eq!(rt; [first, kept, other], [truncated, truncated, Ok(AUTHENTIC)]);
 }

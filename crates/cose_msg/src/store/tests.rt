@@ -13,8 +13,8 @@ fn holds_what_fits(rt: HostRuntime) {
         (b"e", Err(SinkFault), b"abcd"),
     ];
     for (piece, answer, held) in rows {
-        assert_eq!(rt; store.put(piece), answer, "{piece:?}");
-        assert_eq!(rt; store.bytes(), held, "{piece:?}");
+        let put = store.put(piece);
+        assert_eq!(rt; (put, store.bytes()), (answer, held), "{piece:?}");
     }
 }
 
@@ -31,8 +31,12 @@ fn takes_nothing_after_a_failure(rt: HostRuntime) {
         (b"e", Err(SinkFault)),
     ];
     for (piece, answer) in rows {
-        assert_eq!(rt; store.put(piece), answer, "{piece:?}");
-        assert_eq!(rt; store.bytes(), b"abc".as_slice(), "{piece:?}");
+        let put = store.put(piece);
+        assert_eq!(rt;
+            (put, store.bytes()),
+            (answer, b"abc".as_slice()),
+            "{piece:?}"
+        );
     }
 }
 

@@ -95,9 +95,11 @@ fn has_the_verdict_of_both_in_pieces_of_every_size(rt: HostRuntime) {
             let mut verifier = detached_under_jefe(length, limit).expect(&rt, "a verifier");
             let mut store = Store::<2>::new();
             let result = verdict_of(&mut verifier, message, payload, cut, &mut store);
-            assert_eq!(rt; result, Ok(verdict), "pieces of {cut}");
-            assert_eq!(rt; verifier.taken(), taken);
-            assert_eq!(rt; store.bytes(), came);
+            assert_eq!(rt;
+                (result, verifier.taken(), store.bytes()),
+                (Ok(verdict), taken, came),
+                "pieces of {cut}"
+            );
         }
     }
 }
@@ -117,9 +119,9 @@ fn is_truncated_where_either_intake_ends(rt: HostRuntime) {
                 &mut store,
             );
             let place = if came < 2 { count.min(7) } else { count };
-            assert_eq!(rt; end, Ok(refused(Reason::Truncated, place as u64)));
             let kept = verdict_of(&mut verifier, &message, b"hi", 64, &mut store);
-            assert_eq!(rt; kept, end);
+            let truncated = Ok(refused(Reason::Truncated, place as u64));
+            assert_eq!(rt; (end, kept), (truncated, truncated));
         }
     }
 }
@@ -139,7 +141,6 @@ fn stops_at(rt: &impl Abort, message_fails_at: usize, payload_fails_at: usize) -
         &mut store,
         &Never,
     );
-    assert_eq!(rt; stop, Err(Stop::Intake));
     let again = verify_detached::<1, 16, 1, _, _, _, _, _>(
         &mut verifier,
         &mut message,
@@ -147,14 +148,18 @@ fn stops_at(rt: &impl Abort, message_fails_at: usize, payload_fails_at: usize) -
         &mut store,
         &Never,
     );
-    assert_eq!(rt; again, Err(Stop::Again));
-    assert_eq!(rt; verifier.feed(&bytes).status, Status::Stopped);
-    assert_eq!(rt; verifier.payload_wanted(), 0);
+    let stopped = (verifier.feed(&bytes).status, verifier.payload_wanted());
     let took = (verifier.taken(), store.bytes().len());
     verifier.reset();
     let mut all = Store::<2>::new();
     let verdict = verdict_of(&mut verifier, &bytes, b"hi", 64, &mut all);
-    assert_eq!(rt; verdict, Ok(AUTHENTIC));
+    assert_eq!(rt;
+        ([stop, again, verdict], stopped),
+        (
+            [Err(Stop::Intake), Err(Stop::Again), Ok(AUTHENTIC)],
+            (Status::Stopped, 0)
+        )
+    );
     took
 }
 
@@ -174,9 +179,10 @@ fn stops_where_the_sink_fails(rt: HostRuntime) {
     let mut verifier = detached_under_jefe(2, 2).expect(&rt, "a verifier");
     let mut store = Store::<1>::new();
     let stop = verdict_of(&mut verifier, &nil_mac0(), b"hi", 1, &mut store);
-    assert_eq!(rt; stop, Err(Stop::Sink));
-    assert_eq!(rt; store.bytes(), b"h".as_slice());
-    assert_eq!(rt; verifier.taken(), 8);
+    assert_eq!(rt;
+        (stop, store.bytes(), verifier.taken()),
+        (Err(Stop::Sink), b"h".as_slice(), 8)
+    );
 }
 
 #[test]
@@ -193,42 +199,52 @@ fn takes_and_puts_no_more_than_a_chunk(rt: HostRuntime) {
         &mut sink,
         &Never,
     );
-    assert_eq!(rt; verdict, Ok(AUTHENTIC));
     // It asks for what is left of the payload, once, and not for a byte after it.
-    assert_eq!(rt; (payload.most, payload.takes), (2, 1));
-    assert_eq!(rt; (message.most, sink.most, sink.sum), (7, 2, 2));
-    assert_eq!(rt; payload.take(&mut [0; 10]), Ok(10));
+    let asked = (payload.most, payload.takes);
+    let moved = (message.most, sink.most, sink.sum);
+    let left = payload.take(&mut [0; 10]);
+    assert_eq!(rt;
+        (verdict, asked, moved, left),
+        (Ok(AUTHENTIC), (2, 1), (7, 2, 2), Ok(10))
+    );
+}
+
+/// Verifies a message and its payload over intakes that are watched. Returns the verdict, and how many times each intake was
+/// asked, the message's first.
+fn asked(
+    verifier: &mut Verifier<'static, 16, 1>,
+    message: &[u8],
+    payload: &[u8],
+) -> (Result<Verdict, Stop>, usize, usize)
+    requires detached { is_detached verifier.old ≡ true }
+    ensures { is_detached verifier.new ≡ true }
+{
+    let mut message = WatchedIntake::new(message);
+    let mut payload = WatchedIntake::new(payload);
+    let verdict = verify_detached::<64, 16, 1, _, _, _, _, _>(
+        verifier,
+        &mut message,
+        &mut payload,
+        &mut Nothing,
+        &Never,
+    );
+    (verdict, message.takes, payload.takes)
 }
 
 #[test]
 fn asks_no_intake_again_once_all_is_there(rt: HostRuntime) {
     let bytes = nil_mac0();
     let mut verifier = detached_under_jefe(2, 2).expect(&rt, "a verifier");
-    let mut message = WatchedIntake::new(&bytes[..7]);
-    let mut payload = WatchedIntake::new(b"hi");
-    let verdict = verify_detached::<64, 16, 1, _, _, _, _, _>(
-        &mut verifier,
-        &mut message,
-        &mut payload,
-        &mut Nothing,
-        &Never,
-    );
-    assert_eq!(rt; verdict, Ok(refused(Reason::Truncated, 7)));
-    // Five heads and a string, and the end, once. Of the payload nothing before the nil.
-    assert_eq!(rt; (message.takes, payload.takes), (6, 0));
+    let short_message = asked(&mut verifier, &bytes[..7], b"hi");
     verifier.reset();
-    let mut message = WatchedIntake::new(&bytes);
-    let mut payload = WatchedIntake::new(b"h");
-    let verdict = verify_detached::<64, 16, 1, _, _, _, _, _>(
-        &mut verifier,
-        &mut message,
-        &mut payload,
-        &mut Nothing,
-        &Never,
-    );
-    assert_eq!(rt; verdict, Ok(refused(Reason::Truncated, 7)));
+    let short_payload = asked(&mut verifier, &bytes, b"h");
+    let truncated = Ok(refused(Reason::Truncated, 7));
+    // Five heads and a string, and the end, once. Of the payload nothing before the nil.
     // Of the message nothing after the nil.
-    assert_eq!(rt; (message.takes, payload.takes), (6, 2));
+    assert_eq!(rt;
+        (short_message, short_payload),
+        ((truncated, 6, 0), (truncated, 6, 2))
+    );
 }
 
 #[test]
@@ -241,15 +257,17 @@ fn goes_on_with_what_was_fed(rt: HostRuntime) {
         payload_to: 0,
         status: Status::PayloadNext,
     };
-    assert_eq!(rt; verifier.feed(&bytes), at_nil);
+    let fed = verifier.feed(&bytes);
+    let mut taken = 0usize;
     if verifier.payload_wanted() > 0 {
-        assert_eq!(rt; verifier.feed_payload(b"h"), 1);
+        taken = verifier.feed_payload(b"h");
     }
     let mut store = Store::<2>::new();
     let verdict = verdict_of(&mut verifier, &bytes[8..], b"i", 64, &mut store);
-    assert_eq!(rt; verdict, Ok(AUTHENTIC));
-    assert_eq!(rt; store.bytes(), b"i".as_slice());
-    assert_eq!(rt; verifier.status(), Status::Complete);
+    assert_eq!(rt;
+        (fed, taken, verdict, store.bytes(), verifier.status()),
+        (at_nil, 1, Ok(AUTHENTIC), b"i".as_slice(), Status::Complete)
+    );
 }
 
 #[test]
@@ -321,6 +339,5 @@ fn verifies_a_message_of_another_implementation(rt: HostRuntime) {
         payload: 1024,
         taken: 62,
     };
-    assert_eq!(rt; verdict, Ok(authentic));
-    assert_eq!(rt; store.bytes(), image.as_slice());
+    assert_eq!(rt; (verdict, store.bytes()), (Ok(authentic), image.as_slice()));
 }

@@ -41,18 +41,20 @@ const fn refused(reason: Reason, place: u64) -> Status {
 fn awaits_the_payload_at_the_nil(rt: HostRuntime) {
     let message = nil_mac0();
     let mut verifier = detached_under_jefe(2, 2).expect(&rt, "a verifier");
-    assert_eq!(rt; verifier.is_detached(), true);
     let at_nil = Fed {
         used: 8,
         payload_from: 0,
         payload_to: 0,
         status: Status::PayloadNext,
     };
-    assert_eq!(rt; verifier.payload_wanted(), 0);
-    assert_eq!(rt; verifier.feed(&message), at_nil);
-    assert_eq!(rt; verifier.payload_wanted(), 2);
-    assert_eq!(rt; verifier.want(), 0);
-    assert_eq!(rt; verifier.feed(&message[8..]), Fed { used: 0, ..at_nil });
+    let before = (verifier.is_detached(), verifier.payload_wanted());
+    let first = verifier.feed(&message);
+    let wanted = (verifier.payload_wanted(), verifier.want());
+    let again = verifier.feed(&message[8..]);
+    assert_eq!(rt;
+        (before, first, wanted, again),
+        ((true, 0), at_nil, (2, 0), Fed { used: 0, ..at_nil })
+    );
 }
 
 #[test]
@@ -67,12 +69,11 @@ fn takes_as_many_bytes_as_are_stated(rt: HostRuntime) {
         }
         assert_eq!(rt; verifier.payload_wanted(), left);
     }
-    assert_eq!(rt; verifier.status(), Status::More);
-    assert_eq!(rt; verifier.want(), 1);
+    let before = (verifier.status(), verifier.want());
     let fed = verifier.feed(&message[8..]);
     assert_eq!(rt;
-        (fed.used, fed.payload_to, fed.status),
-        (34, 0, Status::Complete)
+        (before, fed.used, fed.payload_to, fed.status),
+        ((Status::More, 1), 34, 0, Status::Complete)
     );
 }
 
@@ -121,12 +122,12 @@ fn has_the_same_status_in_pieces_of_every_size(rt: HostRuntime) {
     for (message, payload, length, limit, status, taken) in rows {
         for size in [1usize, 2, 7, 64] {
             let mut verifier = detached_under_jefe(length, limit).expect(&rt, "a verifier");
+            let end = fed(&mut verifier, message, payload, size);
             assert_eq!(rt;
-                fed(&mut verifier, message, payload, size),
-                status,
+                (end, verifier.taken()),
+                (status, taken),
                 "pieces of {size}"
             );
-            assert_eq!(rt; verifier.taken(), taken);
         }
     }
 }
@@ -137,9 +138,10 @@ fn is_truncated_where_either_ends(rt: HostRuntime) {
     for count in 0..42usize {
         let mut verifier = detached_under_jefe(2, 2).expect(&rt, "a verifier");
         let end = fed(&mut verifier, &message[..count], b"hi", 64);
-        assert_eq!(rt; end, refused(Reason::Truncated, count as u64));
         verifier.reset();
         let early = fed(&mut verifier, &message[..count], b"h", 64);
-        assert_eq!(rt; early, refused(Reason::Truncated, count.min(7) as u64));
+        let at_message = refused(Reason::Truncated, count as u64);
+        let at_either = refused(Reason::Truncated, count.min(7) as u64);
+        assert_eq!(rt; (end, early), (at_message, at_either));
     }
 }

@@ -67,15 +67,14 @@ fn takes_pieces_as_they_come(rt: HostRuntime) {
         let fed = verifier.feed(piece);
         assert_eq!(rt; fed, wanted);
     }
-    assert_eq!(rt; verifier.taken(), 44);
-    assert_eq!(rt; verifier.is_complete(), true);
-    assert_eq!(rt; verifier.end(), Status::Complete);
+    let taken = (verifier.taken(), verifier.is_complete());
+    assert_eq!(rt; (taken, verifier.end()), ((44, true), Status::Complete));
 }
 
 #[test]
 fn wants_what_is_left_of_a_string(rt: HostRuntime) {
     // After this many bytes: heads and the unprotected bucket want one, strings what is left of them.
-    let rows: [(usize, u64); 11] = [
+    const ROWS: &[(usize, u64)] = &[
         (0, 1),
         (2, 1),
         (3, 3),
@@ -88,28 +87,30 @@ fn wants_what_is_left_of_a_string(rt: HostRuntime) {
         (12, 32),
         (44, 0),
     ];
-    for (taken, wanted) in rows {
+    for &(taken, wanted) in ROWS {
         let mut verifier = under_jefe::<16, 1>().expect(&rt, "a verifier");
         let fed = verifier.feed(&MAC0[..taken.min(WHOLE)]);
-        assert_eq!(rt; fed.used, taken);
-        assert_eq!(rt; verifier.want(), wanted, "after {taken} bytes");
+        assert_eq!(rt; (fed.used, verifier.want()), (taken, wanted));
     }
+}
+
+/// The verifier answers this for the piece, and then wants so many bytes.
+fn feeds(rt: &impl Abort, verifier: &mut Verifier<16, 1>, piece: &[u8], fed: Fed, want: u64) {
+    assert_eq!(rt; (verifier.feed(piece), verifier.want()), (fed, want));
 }
 
 #[test]
 fn wants_what_is_left_of_an_unprotected_string(rt: HostRuntime) {
     let mut verifier = under_jefe::<16, 1>().expect(&rt, "a verifier");
     let message = mac0_with_kid();
-    assert_eq!(rt; verifier.feed(&message[..9]), more(9));
-    assert_eq!(rt; verifier.want(), 5);
-    assert_eq!(rt; verifier.feed(&message[9..10]), more(1));
-    assert_eq!(rt; verifier.want(), 4);
+    feeds(&rt, &mut verifier, &message[..9], more(9), 5);
+    feeds(&rt, &mut verifier, &message[9..10], more(1), 4);
     let rest = Fed {
         payload_from: 5,
         payload_to: 7,
         ..complete(41)
     };
-    assert_eq!(rt; verifier.feed(&message[10..]), rest);
+    feeds(&rt, &mut verifier, &message[10..], rest, 0);
     assert_eq!(rt; verifier.taken(), 51);
 }
 
@@ -132,11 +133,13 @@ fn comes_to_the_same_in_every_cut(rt: HostRuntime) {
         let (front, rest) = message.split_at(cut);
         let first = feed_into(&mut verifier, front, &mut store);
         let last = feed_into(&mut verifier, rest, &mut store);
-        assert_eq!(rt; first.used, cut.min(WHOLE), "cut at {cut}");
-        assert_eq!(rt; last.used, WHOLE.saturating_sub(cut), "cut at {cut}");
-        assert_eq!(rt; last.status, Status::Complete, "cut at {cut}");
-        assert_eq!(rt; store.bytes(), b"hi".as_slice(), "cut at {cut}");
-        assert_eq!(rt; verifier.taken(), 44, "cut at {cut}");
+        let used = (first.used, last.used);
+        let wanted = (cut.min(WHOLE), WHOLE.saturating_sub(cut));
+        assert_eq!(rt;
+            (used, last.status, store.bytes(), verifier.taken()),
+            (wanted, Status::Complete, b"hi".as_slice(), 44),
+            "cut at {cut}"
+        );
     }
 }
 
@@ -152,8 +155,12 @@ fn takes_bytes_one_by_one(rt: HostRuntime) {
         } else {
             Status::More
         };
-        assert_eq!(rt; (fed.used, fed.status), (1, status), "byte {place}");
-        assert_eq!(rt; verifier.held() <= 32 + 512, true, "byte {place}");
+        let is_within = verifier.held() <= 32 + 512;
+        assert_eq!(rt;
+            (fed.used, fed.status, is_within),
+            (1, status, true),
+            "byte {place}"
+        );
     }
     assert_eq!(rt; store.bytes(), b"hi".as_slice());
 }
@@ -163,7 +170,7 @@ fn goes_on_by_verify(rt: HostRuntime) {
     let mut verifier = under_jefe::<16, 1>().expect(&rt, "a verifier");
     let message = mac0_and_more();
     let (front, rest) = message.split_at(9);
-    assert_eq!(rt; verifier.feed(front).status, Status::More);
+    let status = verifier.feed(front).status;
     let mut intake = SliceIntake::new(rest, 64);
     let mut store = Store::<2>::new();
     let verdict = verify::<64, 16, 1, _, SliceIntake, Store<2>, Never>(
@@ -172,9 +179,15 @@ fn goes_on_by_verify(rt: HostRuntime) {
         &mut store,
         &Never,
     );
-    assert_eq!(rt; verdict, Ok(AUTHENTIC));
-    assert_eq!(rt; store.bytes(), b"i".as_slice());
-    assert_eq!(rt; verifier.status(), Status::Complete);
+    assert_eq!(rt;
+        (status, verdict, store.bytes(), verifier.status()),
+        (
+            Status::More,
+            Ok(AUTHENTIC),
+            b"i".as_slice(),
+            Status::Complete
+        )
+    );
 }
 
 #[test]
@@ -200,13 +213,22 @@ fn refuses_with_the_byte_that_settles(rt: HostRuntime) {
     for (message, reason, place, used) in rows {
         let mut verifier = under_jefe::<16, 1>().expect(&rt, "a verifier");
         let refused = Status::Refused(Refusal { reason, place });
-        let fed = verifier.feed(message);
-        assert_eq!(rt; (fed.used, fed.status), (used, refused));
-        assert_eq!(rt; verifier.want(), 0);
+        let first = verifier.feed(message);
+        let want = verifier.want();
         // It stays so.
-        assert_eq!(rt; verifier.end(), refused);
-        let fed = verifier.feed(message);
-        assert_eq!(rt; (fed.used, fed.status), (0, refused));
+        let end = verifier.end();
+        let again = verifier.feed(message);
+        assert_eq!(rt;
+            (
+                first.used,
+                first.status,
+                want,
+                end,
+                again.used,
+                again.status
+            ),
+            (used, refused, 0, refused, 0, refused)
+        );
     }
 }
 
@@ -214,12 +236,14 @@ fn refuses_with_the_byte_that_settles(rt: HostRuntime) {
 fn ends_where_no_byte_follows(rt: HostRuntime) {
     for taken in [0, 9, 43] {
         let mut verifier = under_jefe::<16, 1>().expect(&rt, "a verifier");
-        let fed = verifier.feed(&MAC0[..taken]);
-        assert_eq!(rt; (fed.used, fed.status), (taken, Status::More));
+        let front = verifier.feed(&MAC0[..taken]);
         let refused = Status::Refused(truncated(verifier.taken()));
-        assert_eq!(rt; verifier.end(), refused);
-        let fed = verifier.feed(MAC0);
-        assert_eq!(rt; (fed.used, fed.status), (0, refused));
+        let end = verifier.end();
+        let whole = verifier.feed(MAC0);
+        assert_eq!(rt;
+            (front.used, front.status, end, whole.used, whole.status),
+            (taken, Status::More, refused, 0, refused)
+        );
         assert_eq!(rt; verifier.taken(), taken as u64);
     }
 }
@@ -234,20 +258,18 @@ fn stays_stopped(rt: HostRuntime) {
         &mut Nothing,
         &Never,
     );
-    assert_eq!(rt; stop, Err(Stop::Intake));
     let fed = verifier.feed(MAC0);
-    assert_eq!(rt; (fed.used, fed.status), (0, Status::Stopped));
-    assert_eq!(rt; verifier.want(), 0);
-    assert_eq!(rt; verifier.end(), Status::Stopped);
-    verifier.reset();
     assert_eq!(rt;
-        verifier.feed(&mac0_and_more()),
-        Fed {
-            payload_from: 8,
-            payload_to: 10,
-            ..complete(44)
-        }
+        (stop, fed.used, fed.status, verifier.want(), verifier.end()),
+        (Err(Stop::Intake), 0, Status::Stopped, 0, Status::Stopped)
     );
+    verifier.reset();
+    let whole = Fed {
+        payload_from: 8,
+        payload_to: 10,
+        ..complete(44)
+    };
+    feeds(&rt, &mut verifier, &mac0_and_more(), whole, 0);
 }
 
 /// The verdict on the COSE_Sign1, where its signature holds and where it doesn't.
@@ -277,16 +299,15 @@ fn decides_on_a_signature_once(rt: HostRuntime) {
             return;
         }
         let verdict = verifier.verdict(&Says { holds });
-        assert_eq!(rt; verdict, decision(holds));
-        assert_eq!(rt; verifier.end(), Status::Complete);
+        let end = verifier.end();
+        assert_eq!(rt; (verdict, end), (decision(holds), Status::Complete));
         if !verifier.is_complete() {
             return;
         }
         // Whichever `EcVerifier` is passed now, the verdict is kept.
         let verdict = verifier.verdict(&Says { holds: !holds });
-        assert_eq!(rt; verdict, decision(holds));
         let fed = verifier.feed(SIGN1);
-        assert_eq!(rt; fed, complete(0));
+        assert_eq!(rt; (verdict, fed), (decision(holds), complete(0)));
     }
 }
 
@@ -362,8 +383,10 @@ fn is_complete_behind_a_signature_that_is_refused(rt: HostRuntime) {
     let context = context_of(CURVE_KEY, 64).expect(&rt, "a context");
     let mut verifier: Verifier<16, 1> = Verifier::new(context);
     let verdict = verified(&mut verifier, SIGN1, false);
-    assert_eq!(rt; verdict, Ok(decision(false)));
-    assert_eq!(rt; verifier.status(), Status::Complete);
+    assert_eq!(rt;
+        (verdict, verifier.status()),
+        (Ok(decision(false)), Status::Complete)
+    );
 }
 
 #[test]
@@ -382,9 +405,14 @@ fn is_refused_behind_verify(rt: HostRuntime) {
         let mut verifier = under_jefe::<16, 1>().expect(&rt, "a verifier");
         let refusal = Refusal { reason, place };
         let verdict = verified(&mut verifier, bytes, true);
-        assert_eq!(rt; verdict, Ok(Verdict::Refused(refusal)));
-        assert_eq!(rt; verifier.status(), Status::Refused(refusal));
-        assert_eq!(rt; verifier.is_complete(), false);
+        assert_eq!(rt;
+            (verdict, verifier.status(), verifier.is_complete()),
+            (
+                Ok(Verdict::Refused(refusal)),
+                Status::Refused(refusal),
+                false
+            )
+        );
     }
 }
 
@@ -393,8 +421,7 @@ fn completes_what_is_inspected(rt: HostRuntime) {
     let context = context_of(b"\xa0", 64).expect(&rt, "a context");
     let mut verifier: Verifier<16, 1> = Verifier::inspecting(context);
     let fed = verifier.feed(SIGN1);
-    assert_eq!(rt; fed, complete(74));
-    assert_eq!(rt; verifier.is_inspecting(), true);
+    assert_eq!(rt; (fed, verifier.is_inspecting()), (complete(74), true));
 }
 
 #[test]
@@ -402,8 +429,7 @@ fn takes_a_piece_of_any_length(rt: HostRuntime) {
     let context = context_of(JEFE, 100_000).expect(&rt, "a context");
     let mut verifier: Verifier<16, 1> = Verifier::new(context);
     let front = b"\xd1\x84\x43\xa1\x01\x05\xa0\x5a\x00\x01\x86\xa0";
-    assert_eq!(rt; verifier.feed(front), more(12));
-    assert_eq!(rt; verifier.want(), 100_000);
+    feeds(&rt, &mut verifier, front, more(12), 100_000);
     let payload = [0u8; 100_000];
     let fed = verifier.feed(&payload);
     let whole = Fed {
@@ -412,10 +438,8 @@ fn takes_a_piece_of_any_length(rt: HostRuntime) {
         payload_to: 100_000,
         status: Status::More,
     };
-    assert_eq!(rt; fed, whole);
-    assert_eq!(rt; verifier.held(), 256 + 3 + 1);
-    assert_eq!(rt; verifier.feed(b"\x58\x20"), more(2));
-    assert_eq!(rt; verifier.want(), 32);
+    assert_eq!(rt; (fed, verifier.held()), (whole, 256 + 3 + 1));
+    feeds(&rt, &mut verifier, b"\x58\x20", more(2), 32);
 }
 
 /// The message is complete at these limits.
@@ -427,9 +451,12 @@ fn completes_at<const H: usize, const D: usize>(rt: &impl Abort)
     let mut verifier = under_jefe::<H, D>().expect(rt, "a verifier");
     let message = mac0_and_more();
     let (front, rest) = message.split_at(9);
-    assert_eq!(rt; verifier.feed(front).status, Status::More);
-    assert_eq!(rt; verifier.feed(rest).status, Status::Complete);
-    assert_eq!(rt; verifier.held(), 256 + 3 + 1 + 32);
+    let status = verifier.feed(front).status;
+    let end = verifier.feed(rest).status;
+    assert_eq!(rt;
+        (status, end, verifier.held()),
+        (Status::More, Status::Complete, 256 + 3 + 1 + 32)
+    );
 }
 
 #[test]
