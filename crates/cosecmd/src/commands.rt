@@ -1,0 +1,382 @@
+//! The commands of the program and their options, as tables, and what clap gets of them.
+
+use clap::{Arg, ArgGroup, Command, value_parser};
+use std::alloc::{AllocError, Global};
+
+/// The version of the program, which `--version` prints.
+const VERSION: &str = "0.1.0";
+
+/// What help says below the options.
+const NOTES: &str =
+    "HMAC is computed here; for ECDSA (ES256, ES384, ES512) the digest is computed, and --vouch decides; no curve \
+arithmetic is included.
+Arguments in hexadecimal have an even number of digits, no prefix and no spaces.
+Exit status: 0 authentic, 1 refused, 2 no verdict (command line, keys, memory, input or output).";
+
+/// What help says below the options of `make`.
+const MAKE_NOTES: &str =
+    "Arguments in hexadecimal have an even number of digits, no prefix and no spaces.
+The message has its tag, 17, and its shortest spelling. It is written while the payload is read.
+Exit status: 0 made, 2 not or not whole (command line, key, memory, input or output): drop what was written.";
+
+/// What help says below the options of `digest`.
+const DIGEST_NOTES: &str =
+    "For ECDSA (ES256, ES384, ES512) the digest is computed here; no curve arithmetic is included.
+Arguments in hexadecimal have an even number of digits, no prefix and no spaces.
+It prints the argument of `verify --vouch`: the curve of the key in one byte, the digest of the structure that is signed, \
+the signature, x and y. The signature isn't verified yet: pass this argument to `verify` only where another program has \
+verified it.
+Exit status: 0 printed, 1 refused, 2 no answer (command line, keys, memory, input or output).";
+
+/// What help says below the options of `show`.
+const SHOW_NOTES: &str =
+    "It prints the shape of the message, and a line for each pair of the protected and of the unprotected header, \
+in the order of the message: the bytes of the label and of the value in hexadecimal. Nothing of it is authenticated.
+Exit status: 0 shown, 1 refused, 2 no answer (command line, memory, input or output).";
+
+/// What help says below the options of `cwt`.
+const CWT_NOTES: &str =
+    "HMAC is computed here; for ECDSA (ES256, ES384, ES512) the digest is computed, and --vouch decides; no curve \
+arithmetic is included.
+Arguments in hexadecimal have an even number of digits, no prefix and no spaces.
+It prints `admitted`, and then a line for each registered claim and for each text of the audience: texts and bytes in \
+hexadecimal, dates in seconds since 1970; of a confirmation the key (curve, x, y) and its identifier.
+Exit status: 0 admitted, 1 refused, 2 no answer (command line, keys, memory, input or output).";
+
+/// The values of `--kind`, the kinds of messages that are wanted.
+const KINDS: &[&str] = &["mac0", "sign1", "tagged"];
+
+/// A payload has fewer bytes.
+const PAYLOAD: i64 = 1 << 56;
+
+/// What the argument of an option is.
+#[derive(Clone, Copy)]
+enum Value {
+    /// A text, or bytes in hexadecimal, which are read later.
+    Text,
+    /// The kind of a message.
+    Kind,
+    /// A time, in seconds since 1970.
+    Time,
+    /// A number of seconds.
+    Seconds,
+    /// The number of an HMAC algorithm (RFC 9053 section 3.1).
+    Mac,
+    /// The number of bytes of a payload.
+    Length,
+}
+
+/// Whether an option has to be there.
+#[derive(Clone, Copy)]
+enum Presence {
+    /// It may be left out.
+    Optional,
+    /// It has to be there.
+    Required,
+    /// Where it is left out, its argument is this one.
+    Default(&'static str),
+    /// It may be left out, and has to be where the option of this name is there.
+    Without(&'static str),
+}
+
+/// An option, which has one argument.
+#[derive(Clone, Copy)]
+struct CommandOption {
+    /// Its name, without its dashes.
+    name: &'static str,
+    /// What help calls its argument.
+    argument: &'static str,
+    /// What its argument is.
+    value: Value,
+    /// Whether it has to be there.
+    presence: Presence,
+    /// What help says of it.
+    help: &'static str,
+}
+
+/// Two options of which one has to be there, and not both.
+#[derive(Clone, Copy)]
+struct OneOf {
+    /// What clap calls the two.
+    name: &'static str,
+    /// The name of the first.
+    option: &'static str,
+    /// The name of the other.
+    other: &'static str,
+}
+
+/// A command.
+#[derive(Clone, Copy)]
+struct Subcommand {
+    /// Its name.
+    name: &'static str,
+    /// What help says of it.
+    about: &'static str,
+    /// What help says below its options.
+    notes: &'static str,
+    /// Its options, in the order in which help lists them.
+    options: &'static [CommandOption],
+    /// Its options of which one has to be there.
+    one_of: Option<OneOf>,
+}
+
+/// The key set.
+const KEYS: CommandOption = CommandOption {
+    name: "keys",
+    argument: "HEX",
+    value: Value::Text,
+    presence: Presence::Optional,
+    help: "The key set (RFC 9052 section 7)",
+};
+
+/// The key set's file.
+const KEYS_FILE: CommandOption = CommandOption {
+    name: "keys-file",
+    argument: "PATH",
+    value: Value::Text,
+    presence: Presence::Optional,
+    help: "The file that has the bytes of the key set, in place of --keys",
+};
+
+/// The externally supplied data.
+const AAD: CommandOption = CommandOption {
+    name: "aad",
+    argument: "HEX",
+    value: Value::Text,
+    presence: Presence::Optional,
+    help: "The externally supplied data (RFC 9052 section 4.3), at most 65,535 bytes",
+};
+
+/// The kind of message.
+const KIND: CommandOption = CommandOption {
+    name: "kind",
+    argument: "KIND",
+    value: Value::Kind,
+    presence: Presence::Default("tagged"),
+    help: "The kind of message; with `tagged` either kind, as its tag says",
+};
+
+/// The signature that is good.
+const VOUCH: CommandOption = CommandOption {
+    name: "vouch",
+    argument: "HEX",
+    value: Value::Text,
+    presence: Presence::Optional,
+    help: "The one signature that is good: curve, digest, signature, x and y, as `digest` prints them; without it none is good",
+};
+
+/// The detached payload.
+const DETACHED: CommandOption = CommandOption {
+    name: "payload",
+    argument: "HEX",
+    value: Value::Text,
+    presence: Presence::Optional,
+    help: "The payload of a message that has nil in its place (detached: RFC 9052 sections 4.2 and 6.2)",
+};
+
+/// The detached payload's file.
+const PAYLOAD_FILE: CommandOption = CommandOption {
+    name: "payload-file",
+    argument: "PATH",
+    value: Value::Text,
+    presence: Presence::Without("payload"),
+    help: "The regular file that has the bytes of the payload, in place of --payload; it is read while the message is verified",
+};
+
+/// The current time.
+const NOW: CommandOption = CommandOption {
+    name: "now",
+    argument: "N",
+    value: Value::Time,
+    presence: Presence::Required,
+    help: "The current time, in seconds since 1970; the program reads no clock",
+};
+
+/// The leeway.
+const LEEWAY: CommandOption = CommandOption {
+    name: "leeway",
+    argument: "N",
+    value: Value::Seconds,
+    presence: Presence::Default("0"),
+    help: "By how many seconds the clocks of issuer and reader may differ",
+};
+
+/// The audience.
+const AUD: CommandOption = CommandOption {
+    name: "aud",
+    argument: "TEXT",
+    value: Value::Text,
+    presence: Presence::Optional,
+    help: "The audience that a token has to name, where it names one; without this option the audience isn't compared",
+};
+
+/// The algorithm.
+const ALG: CommandOption = CommandOption {
+    name: "alg",
+    argument: "N",
+    value: Value::Mac,
+    presence: Presence::Required,
+    help: "The algorithm: HMAC 256/64 (4), 256/256 (5), 384/384 (6) or 512/512 (7)",
+};
+
+/// The key.
+const KEY: CommandOption = CommandOption {
+    name: "key",
+    argument: "HEX",
+    value: Value::Text,
+    presence: Presence::Optional,
+    help: "The key, one symmetric COSE_Key (RFC 9052 section 7)",
+};
+
+/// The key's file.
+const KEY_FILE: CommandOption = CommandOption {
+    name: "key-file",
+    argument: "PATH",
+    value: Value::Text,
+    presence: Presence::Optional,
+    help: "The file that has the bytes of the key, at most 65,535, in place of --key",
+};
+
+/// The payload's length.
+const LENGTH: CommandOption = CommandOption {
+    name: "length",
+    argument: "N",
+    value: Value::Length,
+    presence: Presence::Required,
+    help: "The number of bytes of the payload, below 2^56; fewer on standard input end with status 2, and what follows them is left unread",
+};
+
+/// The key's identifier.
+const KID: CommandOption = CommandOption {
+    name: "kid",
+    argument: "HEX",
+    value: Value::Text,
+    presence: Presence::Optional,
+    help: "The identifier of the key that the message names, at most 255 bytes; without it the message names none",
+};
+
+/// The key set, or its file.
+const KEY_SET: Option<OneOf> = Some(OneOf {
+    name: "key set",
+    option: "keys",
+    other: "keys-file",
+});
+
+/// The key, or its file.
+const KEY_BYTES: Option<OneOf> = Some(OneOf {
+    name: "key bytes",
+    option: "key",
+    other: "key-file",
+});
+
+/// The commands, in the order in which help lists them.
+const COMMANDS: &[Subcommand] = &[
+    Subcommand {
+        name: "show",
+        about: "Shows the shape and the headers of the COSE message on standard input, under no key",
+        notes: SHOW_NOTES,
+        options: &[KIND],
+        one_of: None,
+    },
+    Subcommand {
+        name: "verify",
+        about: "Verifies the COSE message on standard input and prints the verdict",
+        notes: NOTES,
+        options: &[KEYS, KEYS_FILE, AAD, KIND, VOUCH, DETACHED, PAYLOAD_FILE],
+        one_of: KEY_SET,
+    },
+    Subcommand {
+        name: "cwt",
+        about: "Admits the CBOR Web Token on standard input and prints its claims",
+        notes: CWT_NOTES,
+        options: &[KEYS, KEYS_FILE, AAD, KIND, VOUCH, NOW, LEEWAY, AUD],
+        one_of: KEY_SET,
+    },
+    Subcommand {
+        name: "digest",
+        about: "Prints what the signature of the COSE_Sign1 on standard input has to be verified with",
+        notes: DIGEST_NOTES,
+        options: &[KEYS, KEYS_FILE, AAD],
+        one_of: KEY_SET,
+    },
+    Subcommand {
+        name: "make",
+        about: "Makes a COSE_Mac0 of the payload on standard input and writes its bytes",
+        notes: MAKE_NOTES,
+        options: &[ALG, KEY, KEY_FILE, LENGTH, KID, AAD],
+        one_of: KEY_BYTES,
+    },
+];
+
+impl Value {
+    /// The option, which takes such an argument.
+    fn limits<'a>(self, arg: Arg<'a>) -> Arg<'a> {
+        match self {
+            Value::Text => arg,
+            Value::Kind => arg.value_parser(KINDS),
+            Value::Time => arg.value_parser(value_parser!(i64).range(0..)),
+            Value::Seconds => arg.value_parser(value_parser!(u32)),
+            Value::Mac => arg.value_parser(value_parser!(u8).range(4..=7)),
+            Value::Length => arg.value_parser(value_parser!(u64).range(0..PAYLOAD)),
+        }
+    }
+}
+
+impl CommandOption {
+    /// The option as clap takes it.
+    fn arg<'a>(self, alloc: Global) -> Result<Arg<'a>, AllocError> {
+        let arg = Arg::new(alloc, self.name)
+            .long(self.name)
+            .value_name(self.argument)
+            .help(self.help);
+        let arg = self.value.limits(arg);
+        match self.presence {
+            Presence::Optional => Ok(arg),
+            Presence::Required => Ok(arg.required(true)),
+            Presence::Default(argument) => Ok(arg.default_value(argument)),
+            Presence::Without(other) => arg.conflicts_with(other),
+        }
+    }
+}
+
+impl OneOf {
+    /// The two options as clap takes them.
+    fn group<'a>(self, alloc: Global) -> Result<ArgGroup<'a>, AllocError> {
+        ArgGroup::new(alloc, self.name)
+            .required(true)
+            .arg(self.option)?
+            .arg(self.other)
+    }
+}
+
+impl Subcommand {
+    /// The command as clap takes it.
+    fn command<'a>(self, alloc: Global) -> Result<Command<'a>, AllocError> {
+        let mut command = Command::new(alloc, self.name)
+            .about(self.about)
+            .after_help(self.notes);
+        for option in self.options {
+            command = command.arg(option.arg(alloc)?)?;
+        }
+        match self.one_of {
+            Some(one_of) => command.group(one_of.group(alloc)?),
+            None => Ok(command),
+        }
+    }
+}
+
+/// The commands and their options.
+pub fn line<'a>(alloc: Global) -> Result<Command<'a>, AllocError> {
+    let mut line = Command::new(alloc, "cosecmd")
+        .about(
+            "Verifies COSE messages (RFC 9052) and CBOR Web Tokens (RFC 8392) that come on standard input, and makes COSE_Mac0",
+        )
+        .version(VERSION)
+        .after_help(NOTES)
+        .subcommand_required(true)
+        .arg_required_else_help(true);
+    for subcommand in COMMANDS {
+        line = line.subcommand(subcommand.command(alloc)?)?;
+    }
+    Ok(line)
+}
