@@ -1,4 +1,4 @@
-use Rattle.std.proofs.Common.{[], length}
+use Rattle.std.proofs.Common.{[]}
 use Rattle.cose_map.specs.KeyTable.{keys as usable}
 use Rattle.cose_msg.specs.Verifier.{detaching, setting_of}
 use Rattle.cosecmd.proofs.Trailing.{verdict_of_whole}

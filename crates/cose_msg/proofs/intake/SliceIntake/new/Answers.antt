@@ -1,0 +1,15 @@
+use Rattle.std.proofs.Common.{arith}
+use Rattle.std.proofs.lemmas.Grind.{common_steps}
+use Rattle.cose_msg.proofs.intake.SliceIntake.new.Goals as goal
+
+pub returns-clause-cut : goal.returns-clause-cut
+returns-clause-cut c = grind (arith, common_steps)
+
+pub returns-clause-told : goal.returns-clause-told
+returns-clause-told c = grind (arith, common_steps)
+
+pub returns-clause-not_failed : goal.returns-clause-not_failed
+returns-clause-not_failed c = grind (arith, common_steps)
+
+pub returns-clause-not_ended : goal.returns-clause-not_ended
+returns-clause-not_ended c = grind (arith, common_steps)

@@ -1,0 +1,24 @@
+use Rattle.std.proofs.Common.{arith}
+use Rattle.std.proofs.lemmas.Grind.{common_steps}
+use Rattle.cose_msg.proofs.verifier.Verifier.detached.Goals as goal
+
+pub returns-clause-none_taken : goal.returns-clause-none_taken
+returns-clause-none_taken g c = grind (arith, common_steps)
+
+pub returns-clause-tells : goal.returns-clause-tells
+returns-clause-tells g c = grind (arith, common_steps)
+
+pub returns-clause-status : goal.returns-clause-status
+returns-clause-status g c = grind (arith, common_steps)
+
+pub returns-clause-held : goal.returns-clause-held
+returns-clause-held g c = grind (arith, common_steps)
+
+pub returns-clause-context : goal.returns-clause-context
+returns-clause-context g c = grind (arith, common_steps)
+
+pub returns-clause-inspects : goal.returns-clause-inspects
+returns-clause-inspects g c = grind (arith, common_steps)
+
+pub returns-clause-detached : goal.returns-clause-detached
+returns-clause-detached g c = grind (arith, common_steps)
