@@ -1,0 +1,12 @@
+use Rattle.std.proofs.Common.{arith}
+use Rattle.std.proofs.lemmas.Grind.{common_steps}
+use Rattle.cose_head.proofs.head.Head.child_count.Goals as goal
+
+pub returns-in-4 : goal.returns-in-4
+returns-in-4 c = grind (arith, common_steps)
+
+pub returns-in-5 : goal.returns-in-5
+returns-in-5 c = grind (arith, common_steps)
+
+pub returns-in_default : goal.returns-in_default
+returns-in_default c = grind (arith, common_steps)
