@@ -231,7 +231,7 @@ fn reads_the_examples_of_the_standard(rt: HostRuntime) {
 // The indefinite lengths of RFC 8949 appendix A.
 #[test]
 fn refuses_indefinite_lengths(rt: HostRuntime) {
-    let rows: [(&[u8], u64); 11] = [
+    const ROWS: &[(&[u8], u64)] = &[
         (b"\x5f\x42\x01\x02\x43\x03\x04\x05\xff", 0),
         (b"\x7f\x65\x73\x74\x72\x65\x61\x64\x6d\x69\x6e\x67\xff", 0),
         (b"\x9f\xff", 0),
@@ -247,7 +247,7 @@ fn refuses_indefinite_lengths(rt: HostRuntime) {
         (b"\x82\x61\x61\xbf\x61\x62\x61\x63\xff", 3),
         (b"\xbf\x63\x46\x75\x6e\xf5\x63\x41\x6d\x74\x21\xff", 0),
     ];
-    for (bytes, place) in rows {
+    for &(bytes, place) in ROWS {
         assert_eq!(rt;
             read_item(bytes, bytes.len(), 2),
             refused(Reason::Indefinite, place),
@@ -275,8 +275,8 @@ fn writes_shortest_heads(rt: HostRuntime) {
 
 #[test]
 fn counts_missing_argument_bytes(rt: HostRuntime) {
-    let rows: [(&[u8], usize); 3] = [(b"", 1), (b"\x19", 2), (b"\x19\x01", 1)];
-    for (bytes, missing) in rows {
+    const ROWS: &[(&[u8], usize)] = &[(b"", 1), (b"\x19", 2), (b"\x19\x01", 1)];
+    for &(bytes, missing) in ROWS {
         assert_eq!(rt; parse_head(bytes), HeadStep::More(missing), "of {bytes:?}");
     }
 }
@@ -289,7 +289,7 @@ fn item_of<'a>(rt: &impl Abort, bytes: &'a [u8]) -> ItemRef<'a> {
 // Bytes, the place of the first and the nesting that is allowed; and the refusal, where they aren't one item.
 #[test]
 fn reads_bytes_that_are_one_item(rt: HostRuntime) {
-    let rows: [(&[u8], u64, usize, Option<(Reason, u64)>); 10] = [
+    const ROWS: &[(&[u8], u64, usize, Option<(Reason, u64)>)] = &[
         (b"\x00", 9, 0, None),
         (b"\x81\x80", 9, 2, None),
         (b"\x81\x80", 9, 1, Some((Reason::TooDeep, 10))),
@@ -301,7 +301,7 @@ fn reads_bytes_that_are_one_item(rt: HostRuntime) {
         (b"\x44\x01", 9, 0, Some((Reason::PastRoom, 9))),
         (b"", 9, 0, Some((Reason::PastRoom, 9))),
     ];
-    for (bytes, at, depth, refused) in rows {
+    for &(bytes, at, depth, refused) in ROWS {
         let read = ItemRef::read(bytes, at, depth).map(|item| (item.bytes, item.place));
         let want = match refused {
             None => Ok((bytes, at)),
@@ -316,13 +316,13 @@ fn gives_children_with_their_places(rt: HostRuntime) {
     let bytes = b"\xa2\x01\x38\x00\x18\x2a\x82\x61\x61\xf9\x3c\x00";
     let map = ItemRef::read(bytes, 3, 2).expect(&rt, "one item");
     let mut children = Items::new(map.bytes, map.place).expect(&rt, "a map");
-    let rows: [(u64, usize, Option<i128>); 4] = [
+    const ROWS: &[(u64, usize, Option<i128>)] = &[
         (4, 1, Some(1)),
         (5, 2, Some(-1)),
         (7, 2, Some(42)),
         (9, 6, None),
     ];
-    for row in rows {
+    for &row in ROWS {
         let child = children.next().expect(&rt, "a child");
         assert_eq!(rt; (child.place, child.bytes.len(), child.as_int()), row);
     }
@@ -339,14 +339,14 @@ fn gives_children_with_their_places(rt: HostRuntime) {
 // The item, and of a CBOR tag its number, and the place and the length of what it encloses.
 #[test]
 fn gives_what_a_tag_encloses(rt: HostRuntime) {
-    let rows: [(&[u8], Option<(u64, u64, usize)>); 5] = [
+    const ROWS: &[(&[u8], Option<(u64, u64, usize)>)] = &[
         (b"\xc1\x1a\x51\x4b\x67\xb0", Some((1, 4, 5))),
         (b"\xd8\x20\x61\x61", Some((32, 5, 2))),
         (b"\xd9\x00\x10\xd2\x80", Some((16, 6, 2))),
         (b"\xa1\x01\x02", None),
         (b"\xe6", None),
     ];
-    for (bytes, want) in rows {
+    for &(bytes, want) in ROWS {
         let item = ItemRef::read(bytes, 3, 3).expect(&rt, "one item");
         let found = item.as_tag().map(|(number, enclosed)| (
             number,

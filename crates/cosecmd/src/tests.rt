@@ -38,6 +38,7 @@ use cose_msg::{
 };
 use sha2::{Digest, Sha256};
 use std::alloc::{AllocError, Global};
+use std::fmt::Debug;
 use std::process::Abort;
 use std::test::Fail;
 
@@ -158,6 +159,14 @@ fn verified_in_pieces(
     verify::<128, 1024, 4, _, _, _, _>(verifier, &mut intake, store, &Never)
 }
 
+/// The program's name and these arguments.
+fn words_of<'w>(alloc: Global, arguments: &[&'w str]) -> Result<Vec<&'w str>, AllocError> {
+    let mut words = Vec::new(alloc);
+    words.push("cosecmd")?;
+    words.extend_from_slice(arguments)?;
+    Ok(words)
+}
+
 /// What a run with these arguments after the program's name writes for the input, its exit status, and what it leaves of the
 /// input.
 fn ran<'i>(
@@ -165,12 +174,19 @@ fn ran<'i>(
     arguments: &[&str],
     mut input: &'i [u8],
 ) -> Result<(Vec<u8>, u8, &'i [u8]), AllocError> {
-    let mut words = Vec::new(alloc);
-    words.push("cosecmd")?;
-    words.extend_from_slice(arguments)?;
+    let words = words_of(alloc, arguments)?;
     let mut output = Vec::new(alloc);
     let status = run(alloc, words.as_slice(), &mut input, &mut output);
     Ok((output, status, input))
+}
+
+/// The same, where memory is never refused.
+fn outcome<'i>(
+    rt: &(impl Abort + Alloc<A = Global>),
+    arguments: &[&str],
+    input: &'i [u8],
+) -> (Vec<u8>, u8, &'i [u8]) {
+    ran(rt.alloc(), arguments, input).expect(rt, "memory")
 }
 
 /// A run with these arguments prints this text for the input, and ends with this status.
@@ -180,14 +196,15 @@ fn prints(
     input: &[u8],
     text: &str,
     status: u8,
-) -> Result<(), AllocError> {
-    let (output, ended, _left) = ran(rt.alloc(), arguments, input)?;
-    assert_eq!(rt;
-        (output.as_slice(), ended),
-        (text.as_bytes(), status),
-        "{arguments:?}: {text}"
-    );
-    Ok(())
+) {
+    let (output, ended, _left) = outcome(rt, arguments, input);
+    let seen = (output.as_slice(), ended);
+    is(rt, &arguments, seen, (text.as_bytes(), status));
+}
+
+/// What is seen in a case is what is wanted there.
+fn is<T: PartialEq + Debug + Drop, C: Debug>(rt: &impl Abort, case: &C, seen: T, wanted: T) {
+    assert_eq!(rt; seen, wanted, "{case:?}");
 }
 
 /// Several pieces, one after another.

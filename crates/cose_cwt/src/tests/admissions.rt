@@ -49,11 +49,11 @@ fn judges_in_order(rt: HostRuntime) {
 /// iat has no rule.
 #[test]
 fn admits_whenever_issued(rt: HostRuntime) {
-    let rows: [&[u8]; 2] = [
+    const ROWS: &[&[u8]] = &[
         b"\xa1\x06\x1b\x7f\xff\xff\xff\xff\xff\xff\xff",
         b"\xa1\x06\x20",
     ];
-    for bytes in rows {
+    for &bytes in ROWS {
         assert_eq!(rt; refused(bytes, &at(0, 0)), None, "of {bytes:?}");
     }
 }

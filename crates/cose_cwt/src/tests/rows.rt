@@ -205,7 +205,7 @@ fn confirmed(bytes: &[u8]) -> Option<(u8, usize)> {
 
 #[test]
 fn gives_points_on_each_curve(rt: HostRuntime) {
-    let rows: [(&[u8], Option<(u8, usize)>); 4] = [
+    const ROWS: &[(&[u8], Option<(u8, usize)>)] = &[
         (
             b"\xa1\x08\xa1\x01\xa4\x01\x02\x20\x02\x21\x58\x30\
             012345678901234567890123456789012345678901234567\x22\xf5",
@@ -228,7 +228,7 @@ fn gives_points_on_each_curve(rt: HostRuntime) {
             None,
         ),
     ];
-    for (bytes, want) in rows {
+    for &(bytes, want) in ROWS {
         assert_eq!(rt; confirmed(bytes), want, "of {bytes:?}");
     }
 }

@@ -27,7 +27,7 @@ fn sees_a_bit_that_differs_anywhere(rt: HostRuntime) {
 
 #[test]
 fn sees_that_nothing_differs(rt: HostRuntime) {
-    let rows: [(&[u8], &[u8]); 6] = [
+    const ROWS: &[(&[u8], &[u8])] = &[
         (b"", b""),
         (b"\x00", b"\x00"),
         (
@@ -38,20 +38,20 @@ fn sees_that_nothing_differs(rt: HostRuntime) {
         (&[0x01; 48], &[0x01; 48]),
         (&[0x5a; 64], &COMPUTED),
     ];
-    for (received, computed) in rows {
+    for &(received, computed) in ROWS {
         assert!(rt; same_bytes(received, computed), "{received:?}");
     }
 }
 
 #[test]
 fn sees_that_lengths_differ(rt: HostRuntime) {
-    let rows: [(&[u8], &[u8]); 4] = [
+    const ROWS: &[(&[u8], &[u8])] = &[
         (b"", b"\x00"),
         (b"\x01\x02\x03\x04", b"\x01\x02\x03\x04\x05\x06\x07\x08"),
         (b"\x02\x03\x04", b"\x01\x02\x03\x04"),
         (b"\x00\x00", b"\x00\x00\x00"),
     ];
-    for (shorter, longer) in rows {
+    for &(shorter, longer) in ROWS {
         assert!(rt; !same_bytes(shorter, longer), "{shorter:?} and {longer:?}");
         assert!(rt; !same_bytes(longer, shorter), "{longer:?} and {shorter:?}");
     }

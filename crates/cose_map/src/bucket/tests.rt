@@ -109,7 +109,7 @@ fn refuses_in_order(rt: HostRuntime) {
 
 #[test]
 fn reads_buckets(rt: HostRuntime) {
-    let rows: [(&[u8], usize); 20] = [
+    const ROWS: &[(&[u8], usize)] = &[
         (b"", 0),
         (b"\xa0", 0),
         // The forms of the six parameters.
@@ -136,7 +136,7 @@ fn reads_buckets(rt: HostRuntime) {
         (b"\xa2\x20\x00\x00\x00", 2),
         (b"\xb8\x01\x01\x05", 1),
     ];
-    for (bytes, count) in rows {
+    for &(bytes, count) in ROWS {
         let mut pairs = bucket(&rt, bytes, 0).pairs();
         for _pair in 0..count {
             assert!(rt; pairs.next().is_some(), "too few pairs of {bytes:?}");
@@ -426,7 +426,7 @@ fn finds_both_ivs(rt: HostRuntime) {
 
 #[test]
 fn finds_no_fault_of_both(rt: HostRuntime) {
-    let rows: [(&[u8], &[u8]); 4] = [
+    const ROWS: &[(&[u8], &[u8])] = &[
         (b"", b""),
         // Each of the labels 1 to 6 is understood.
         (
@@ -437,7 +437,7 @@ fn finds_no_fault_of_both(rt: HostRuntime) {
         // One IV, and other labels in the other bucket.
         (b"\xa1\x05\x40", b"\xa1\x04\x40"),
     ];
-    for (first, second) in rows {
+    for &(first, second) in ROWS {
         let protected = bucket(&rt, first, 3);
         let unprotected = bucket(&rt, second, 40);
         assert_eq!(rt;

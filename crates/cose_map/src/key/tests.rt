@@ -157,7 +157,7 @@ fn refuses_keys_on_curves(rt: HostRuntime) {
 
 #[test]
 fn reads_keys(rt: HostRuntime) {
-    let rows: [&[u8]; 13] = [
+    const ROWS: &[&[u8]] = &[
         b"\xa2\x01\x04\x20\x41\x61",
         b"\xa2\x01\x18\x04\x20\x41\x61",
         // Any alg that is an integer or a text string, any operations, any Base IV.
@@ -178,7 +178,7 @@ fn reads_keys(rt: HostRuntime) {
         b"\xa6\x01\x02\x20\x01\x21\x58\x20\
             01234567890123456789012345678901\x22\xf5\x23\x41\x00\x24\x00",
     ];
-    for bytes in rows {
+    for &bytes in ROWS {
         assert!(rt; Key::read(bytes, 7).is_ok(), "{bytes:?} is refused");
     }
 }

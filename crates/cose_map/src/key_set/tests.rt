@@ -24,7 +24,7 @@ fn counted(bytes: &[u8]) -> Result<usize, Refusal> {
 
 #[test]
 fn reads_key_sets(rt: HostRuntime) {
-    let rows: [(&[u8], Result<usize, Refusal>); 13] = [
+    const ROWS: &[(&[u8], Result<usize, Refusal>)] = &[
         (b"\xa0", Ok(0)),
         (b"\x81\x00", Ok(0)),
         (PLAIN, Ok(1)),
@@ -45,7 +45,7 @@ fn reads_key_sets(rt: HostRuntime) {
         (b"\x81\xa1\x01\x04", Ok(0)),
         (b"\xa1\x01\x04", Ok(0)),
     ];
-    for (bytes, want) in rows {
+    for &(bytes, want) in ROWS {
         assert_eq!(rt; counted(bytes), want, "of {bytes:?}");
     }
 }
@@ -169,7 +169,7 @@ fn finds_by_the_algorithm(rt: HostRuntime) {
 
 #[test]
 fn finds_the_one_key_that_fits(rt: HostRuntime) {
-    let rows: [(&[u8], Result<(&[u8], i128), Reason>); 5] = [
+    const ROWS: &[(&[u8], Result<(&[u8], i128), Reason>)] = &[
         (
             b"\x82\xa3\x01\x04\x02\x411\x20\x41a\xa3\x01\x04\x02\x411\x20\x41b",
             Err(Reason::AmbiguousKey),
@@ -189,7 +189,7 @@ fn finds_the_one_key_that_fits(rt: HostRuntime) {
         ),
         (PLAIN, Ok((b"Jefe", 5))),
     ];
-    for (bytes, want) in rows {
+    for &(bytes, want) in ROWS {
         assert_eq!(rt;
             found(bytes, Some(Label::Int(5)), None, Some(b"1")),
             want,

@@ -49,7 +49,7 @@ fn refusal<'k>(reason: Reason, place: u64) -> Result<(usize, Found<'k>), Refusal
 
 #[test]
 fn finds_as_the_set_does(rt: HostRuntime) -> Result<(), Fail> {
-    let rows: [(&[u8], Found); 6] = [
+    const ROWS: &[(&[u8], Found)] = &[
         (b"\xa0", Err(Reason::NoKey)),
         (b"\x81\x00", Err(Reason::NoKey)),
         (SECRET, Ok((b"a", 5))),
@@ -67,7 +67,7 @@ fn finds_as_the_set_does(rt: HostRuntime) -> Result<(), Fail> {
             Ok((b"a", 5)),
         ),
     ];
-    for (bytes, want) in rows {
+    for &(bytes, want) in ROWS {
         let set = KeySet::read(bytes)?;
         assert_eq!(rt; found(&set), want, "in the set {bytes:?}");
         let table = KeyTable::<2>::read(bytes)?;

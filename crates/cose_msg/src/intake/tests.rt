@@ -20,7 +20,7 @@ fn takes(rt: &impl Abort, intake: &mut ReadIntake<FailingReader>, reads: usize, 
 #[test]
 fn reads_once_in_a_call(rt: HostRuntime) {
     let mut intake = ReadIntake::new(FailingReader::new(b"abcdefgh", 0));
-    let rows: [(usize, &[u8]); 6] = [
+    const ROWS: &[(usize, &[u8])] = &[
         (1, b"abc"),
         (2, b"def"),
         (3, b"gh"),
@@ -28,7 +28,7 @@ fn reads_once_in_a_call(rt: HostRuntime) {
         (5, b""),
         (6, b""),
     ];
-    for (reads, piece) in rows {
+    for &(reads, piece) in ROWS {
         takes(&rt, &mut intake, reads, piece);
     }
 }

@@ -5,14 +5,14 @@ use crate::{Sink, SinkFault, Store};
 #[test]
 fn holds_what_fits(rt: HostRuntime) {
     let mut store: Store<4> = Store::new();
-    let rows: [(&[u8], Result<(), SinkFault>, &[u8]); 5] = [
+    const ROWS: &[(&[u8], Result<(), SinkFault>, &[u8])] = &[
         (b"a", Ok(()), b"a"),
         (b"bcd", Ok(()), b"abcd"),
         (b"e", Err(SinkFault), b"abcd"),
         (b"efghi", Err(SinkFault), b"abcd"),
         (b"e", Err(SinkFault), b"abcd"),
     ];
-    for (piece, answer, held) in rows {
+    for &(piece, answer, held) in ROWS {
         let put = store.put(piece);
         assert_eq!(rt; (put, store.bytes()), (answer, held), "{piece:?}");
     }
@@ -22,7 +22,7 @@ fn holds_what_fits(rt: HostRuntime) {
 fn takes_nothing_after_a_failure(rt: HostRuntime) {
     let mut store: Store<4> = Store::new();
     assert_eq!(rt; store.bytes(), b"".as_slice());
-    let rows: [(&[u8], Result<(), SinkFault>); 4] = [
+    const ROWS: &[(&[u8], Result<(), SinkFault>)] = &[
         (b"abc", Ok(())),
         // one byte too many, and nothing of it is kept
         (b"de", Err(SinkFault)),
@@ -30,7 +30,7 @@ fn takes_nothing_after_a_failure(rt: HostRuntime) {
         (b"d", Err(SinkFault)),
         (b"e", Err(SinkFault)),
     ];
-    for (piece, answer) in rows {
+    for &(piece, answer) in ROWS {
         let put = store.put(piece);
         assert_eq!(rt;
             (put, store.bytes()),

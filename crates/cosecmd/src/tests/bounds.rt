@@ -3,7 +3,7 @@
 ghost use Rattle.std.specs.Prelude.{◌≤◌};
 
 use crate::tests::streams::{NotingIntake, NotingSink};
-use crate::tests::{authentic, key_set, message, verifier};
+use crate::tests::{authentic, is, key_set, message, verifier};
 use cose_msg::{KeySet, Never, Status, Wanted, verify};
 use std::process::Abort;
 use std::test::Fail;
@@ -14,16 +14,12 @@ fn wants_what_was_asked(rt: &impl Abort, keys: KeySet, bytes: &[u8], asked: &[us
     let mut fed = verifier(keys, Wanted::Tagged);
     let mut rest = bytes;
     for count in asked {
-        assert_eq!(rt;
-            *count as u64,
-            fed.want().min(most as u64),
-            "in chunks of {most}"
-        );
+        is(rt, &most, *count as u64, fed.want().min(most as u64));
         let (piece, after) = rest.split_at((*count).min(rest.len()));
         fed.feed(piece);
         rest = after;
     }
-    assert_eq!(rt; fed.status(), Status::Complete, "in chunks of {most}");
+    is(rt, &most, fed.status(), Status::Complete);
 }
 
 /// In chunks of `C` bytes, each call asks for as many bytes as a verifier wants that was fed the bytes before, and for
@@ -36,10 +32,11 @@ fn asks_within<const C: usize>(rt: &impl Abort, keys: KeySet, bytes: &[u8])
     let mut sink = NotingSink::new();
     let mut asking = verifier(keys, Wanted::Tagged);
     let verdict = verify::<C, 1024, 4, _, _, _, _>(&mut asking, &mut intake, &mut sink, &Never);
-    assert_eq!(rt;
+    is(
+        rt,
+        &C,
         (verdict, sink.longest()),
         (Ok(authentic(44)), C.min(2)),
-        "in chunks of {C}"
     );
     wants_what_was_asked(rt, keys, bytes, intake.asked(), C);
 }

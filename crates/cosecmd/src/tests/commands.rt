@@ -1,7 +1,7 @@
 //! What each option of a command changes in what is made, verified and admitted, and the help where the line asks for nothing.
 
 use crate::tests::cwt::made;
-use crate::tests::{FRONT, KEY, KEYS, PAYLOAD, hmac, joined, prints, ran};
+use crate::tests::{FRONT, KEY, KEYS, PAYLOAD, hmac, joined, outcome, prints};
 use std::alloc::Global;
 use std::process::Abort;
 use std::test::Fail;
@@ -14,18 +14,18 @@ fn makes_with_external_data(rt: HostRuntime) -> Result<(), Fail> {
     let make = [
         "make", "--alg", "5", "--key", KEYS, "--length", "2", "--aad", "01",
     ];
-    let (made, status, _left) = ran(rt.alloc(), make.as_slice(), b"hi")?;
+    let (made, status, _left) = outcome(&rt, make.as_slice(), b"hi");
     assert_eq!(rt; (made.as_slice(), status), (message.as_slice(), 0));
-    let authentic = ("authentic mac0 alg 5 payload 2 taken 44\n", 0);
-    let refused = ("refused BadAuth at 10\n", 1);
-    let rows: [(&[&str], (&str, u8)); 4] = [
-        (&["verify", "--keys", KEYS, "--aad", "01"], authentic),
-        (&["verify", "--keys", KEYS], refused),
-        (&["verify", "--keys", KEYS, "--aad", ""], refused),
-        (&["verify", "--keys", KEYS, "--aad", "02"], refused),
+    const AUTHENTIC: (&str, u8) = ("authentic mac0 alg 5 payload 2 taken 44\n", 0);
+    const REFUSED: (&str, u8) = ("refused BadAuth at 10\n", 1);
+    const ROWS: &[(&[&str], (&str, u8))] = &[
+        (&["verify", "--keys", KEYS, "--aad", "01"], AUTHENTIC),
+        (&["verify", "--keys", KEYS], REFUSED),
+        (&["verify", "--keys", KEYS, "--aad", ""], REFUSED),
+        (&["verify", "--keys", KEYS, "--aad", "02"], REFUSED),
     ];
-    for (arguments, (text, status)) in rows {
-        prints(&rt, arguments, made.as_slice(), text, status)?;
+    for &(arguments, (text, status)) in ROWS {
+        prints(&rt, arguments, made.as_slice(), text, status);
     }
     Ok(())
 }
@@ -47,27 +47,27 @@ fn admits_a_kind(rt: HostRuntime) -> Result<(), Fail> {
     ];
     for (kind, token, (text, status)) in rows {
         let arguments = ["cwt", "--keys", KEYS, "--now", "0", "--kind", kind];
-        prints(&rt, arguments.as_slice(), token, text, status)?;
+        prints(&rt, arguments.as_slice(), token, text, status);
     }
     // Without the option the kind is the one that the tag gives.
     let arguments = ["cwt", "--keys", KEYS, "--now", "0"];
-    prints(&rt, arguments.as_slice(), untagged, wrong_tag.0, 1)?;
+    prints(&rt, arguments.as_slice(), untagged, wrong_tag.0, 1);
     Ok(())
 }
 
 #[test]
 fn takes_the_whole_range_of_dates(rt: HostRuntime) -> Result<(), Fail> {
-    let expired = ("refused claims Expired at 2\n", 1);
-    let not_yet = ("refused claims NotYet at 2\n", 1);
+    const EXPIRED: (&str, u8) = ("refused claims Expired at 2\n", 1);
+    const NOT_YET: (&str, u8) = ("refused claims NotYet at 2\n", 1);
     // exp 0 and nbf 2^32 at the greatest leeway, exp and nbf 2^63 - 1 without one.
-    let rows: [(&[u8], &str, &str, (&str, u8)); 8] = [
+    const ROWS: &[(&[u8], &str, &str, (&str, u8))] = &[
         (
             b"\xa1\x04\0",
             "4294967294",
             "4294967295",
             ("admitted\nexp 0\n", 0),
         ),
-        (b"\xa1\x04\0", "4294967295", "4294967295", expired),
+        (b"\xa1\x04\0", "4294967295", "4294967295", EXPIRED),
         (
             b"\xa1\x05\x1b\0\0\0\x01\0\0\0\0",
             "1",
@@ -78,7 +78,7 @@ fn takes_the_whole_range_of_dates(rt: HostRuntime) -> Result<(), Fail> {
             b"\xa1\x05\x1b\0\0\0\x01\0\0\0\0",
             "0",
             "4294967295",
-            not_yet,
+            NOT_YET,
         ),
         (
             b"\xa1\x04\x1b\x7f\xff\xff\xff\xff\xff\xff\xff",
@@ -90,7 +90,7 @@ fn takes_the_whole_range_of_dates(rt: HostRuntime) -> Result<(), Fail> {
             b"\xa1\x04\x1b\x7f\xff\xff\xff\xff\xff\xff\xff",
             "9223372036854775807",
             "0",
-            expired,
+            EXPIRED,
         ),
         (
             b"\xa1\x05\x1b\x7f\xff\xff\xff\xff\xff\xff\xff",
@@ -102,13 +102,13 @@ fn takes_the_whole_range_of_dates(rt: HostRuntime) -> Result<(), Fail> {
             b"\xa1\x05\x1b\x7f\xff\xff\xff\xff\xff\xff\xff",
             "9223372036854775806",
             "0",
-            not_yet,
+            NOT_YET,
         ),
     ];
-    for (claims, now, leeway, (text, status)) in rows {
+    for &(claims, now, leeway, (text, status)) in ROWS {
         let token = made(rt.alloc(), claims)?;
         let arguments = ["cwt", "--keys", KEYS, "--now", now, "--leeway", leeway];
-        prints(&rt, arguments.as_slice(), token.as_slice(), text, status)?;
+        prints(&rt, arguments.as_slice(), token.as_slice(), text, status);
     }
     Ok(())
 }
@@ -118,22 +118,17 @@ const VERIFIED: &str = "\nExit status: 0 authentic, 1 refused, \
     2 no verdict (command line, keys, memory, input or output).\n";
 
 /// A run with these arguments prints a text that ends with this, and ends with 0.
-fn ends_with(
-    rt: &(impl Abort + Alloc<A = Global>),
-    arguments: &[&str],
-    statuses: &str,
-) -> Result<(), Fail> {
-    let (output, ended, _left) = ran(rt.alloc(), arguments, b"")?;
+fn ends_with(rt: &(impl Abort + Alloc<A = Global>), arguments: &[&str], statuses: &str) {
+    let (output, ended, _left) = outcome(rt, arguments, b"");
     let text = output.as_slice();
     assert!(rt;
         text.ends_with(statuses.as_bytes()) && ended == 0,
         "{arguments:?}"
     );
-    Ok(())
 }
 
 #[test]
-fn names_its_exit_statuses(rt: HostRuntime) -> Result<(), Fail> {
+fn names_its_exit_statuses(rt: HostRuntime) {
     const ROWS: &[(&[&str], &str)] = &[
         (&["--help"], VERIFIED),
         (&["verify", "--help"], VERIFIED),
@@ -158,19 +153,17 @@ fn names_its_exit_statuses(rt: HostRuntime) -> Result<(), Fail> {
         ),
     ];
     for &(arguments, statuses) in ROWS {
-        ends_with(&rt, arguments, statuses)?;
+        ends_with(&rt, arguments, statuses);
     }
-    Ok(())
 }
 
 #[test]
-fn helps_where_nothing_is_asked_for(rt: HostRuntime) -> Result<(), Fail> {
-    let (help, helped, _left) = ran(rt.alloc(), &["--help"], b"")?;
-    let (output, status, _left) = ran(rt.alloc(), &[], b"")?;
+fn helps_where_nothing_is_asked_for(rt: HostRuntime) {
+    let (help, helped, _left) = outcome(&rt, &["--help"], b"");
+    let (output, status, _left) = outcome(&rt, &[], b"");
     assert_eq!(rt;
         (output.as_slice(), helped, status),
         (help.as_slice(), 0, 2)
     );
     assert!(rt; help.as_slice().starts_with(b"Verifies COSE messages"));
-    Ok(())
 }

@@ -1,7 +1,7 @@
 //! Tokens that the program admits or refuses: the claims of RFC 8392, its example, and confirmations of RFC 8747.
 
 use crate::tests::digests::{SIGNATURE, digest_and_signature};
-use crate::tests::{KEYS, MEMBER_Y, X, Y, point, prints, ran, signed};
+use crate::tests::{KEYS, MEMBER_Y, X, Y, is, outcome, point, prints, ran, signed};
 use std::alloc::{AllocError, Global};
 use std::process::Abort;
 use std::test::Fail;
@@ -74,15 +74,9 @@ fn with_cwt_tag(alloc: Global, token: &[u8]) -> Result<Vec<u8>, Fail> {
 }
 
 /// A run with these arguments gives this refusal of the token.
-fn refuses(
-    rt: &(impl Abort + Alloc<A = Global>),
-    arguments: &[&str],
-    token: &[u8],
-    refusal: &str,
-) -> Result<(), AllocError> {
-    let alloc = rt.alloc();
-    let text = format!(in alloc; "refused {refusal}\n")?;
-    prints(rt, arguments, token, text.as_str(), 1)
+fn refuses(rt: &(impl Abort + Alloc<A = Global>), arguments: &[&str], token: &[u8], refusal: &str) {
+    let text = format!(in rt.alloc(); "refused {refusal}\n").expect(rt, "memory");
+    prints(rt, arguments, token, text.as_str(), 1);
 }
 
 /// A run with these arguments admits the token of these claims, and prints these lines for them.
@@ -95,7 +89,7 @@ pub fn admits(
     let alloc = rt.alloc();
     let token = token_of(alloc, claims)?;
     let text = format!(in alloc; "admitted\n{lines}")?;
-    prints(rt, arguments, token.as_slice(), text.as_str(), 0)?;
+    prints(rt, arguments, token.as_slice(), text.as_str(), 0);
     Ok(())
 }
 
@@ -104,27 +98,27 @@ fn admits_within_the_dates(rt: HostRuntime) -> Result<(), Fail> {
     let token = example(rt.alloc())?;
     assert_eq!(rt; token.len(), 123);
     let tagged = with_cwt_tag(rt.alloc(), token.as_slice())?;
-    let admitted = (LINES, 0);
-    let expired = ("refused claims Expired at 59\n", 1);
-    let not_yet = ("refused claims NotYet at 65\n", 1);
-    let rows: [(&str, &str, (&str, u8)); 8] = [
-        ("1444064943", "0", admitted),
-        ("1444064944", "0", expired),
-        ("1443944944", "0", admitted),
-        ("1443944943", "0", not_yet),
-        ("1444064944", "1", admitted),
-        ("1444064945", "1", expired),
-        ("1443944943", "1", admitted),
-        ("1443944942", "1", not_yet),
+    const ADMITTED: (&str, u8) = (LINES, 0);
+    const EXPIRED: (&str, u8) = ("refused claims Expired at 59\n", 1);
+    const NOT_YET: (&str, u8) = ("refused claims NotYet at 65\n", 1);
+    const ROWS: &[(&str, &str, (&str, u8))] = &[
+        ("1444064943", "0", ADMITTED),
+        ("1444064944", "0", EXPIRED),
+        ("1443944944", "0", ADMITTED),
+        ("1443944943", "0", NOT_YET),
+        ("1444064944", "1", ADMITTED),
+        ("1444064945", "1", EXPIRED),
+        ("1443944943", "1", ADMITTED),
+        ("1443944942", "1", NOT_YET),
     ];
-    for (now, leeway, (text, status)) in rows {
+    for &(now, leeway, (text, status)) in ROWS {
         let cwt = ["cwt", "--keys", KEYS, "--now", now, "--leeway", leeway];
         for token in [&token, &tagged] {
-            prints(&rt, cwt.as_slice(), token.as_slice(), text, status)?;
+            prints(&rt, cwt.as_slice(), token.as_slice(), text, status);
         }
     }
     let cwt = ["cwt", "--keys", KEYS, "--now", LAST];
-    prints(&rt, cwt.as_slice(), token.as_slice(), LINES, 0)?;
+    prints(&rt, cwt.as_slice(), token.as_slice(), LINES, 0);
     Ok(())
 }
 
@@ -133,35 +127,35 @@ fn admits_the_example_of_the_standard(rt: HostRuntime) -> Result<(), Fail> {
     let alloc = rt.alloc();
     let digits = format!(in alloc; "{RFC_FRONT}{CLAIMS}{RFC_TAG}")?;
     let token = bytes_of(alloc, digits.as_str())?;
-    let rows: [(&str, &str, u8); 3] = [
+    const ROWS: &[(&str, &str, u8)] = &[
         ("1444064943", LINES, 0),
         ("1444064944", "refused claims Expired at 59\n", 1),
         ("1443944943", "refused claims NotYet at 65\n", 1),
     ];
-    for (now, text, status) in rows {
+    for &(now, text, status) in ROWS {
         let cwt = ["cwt", "--keys", RFC_KEY, "--now", now];
-        prints(&rt, cwt.as_slice(), token.as_slice(), text, status)?;
+        prints(&rt, cwt.as_slice(), token.as_slice(), text, status);
     }
     Ok(())
 }
 
 #[test]
 fn admits_its_audience(rt: HostRuntime) -> Result<(), Fail> {
-    let others = ("refused claims WrongAudience at 2\n", 1);
-    let rows: [(&str, &str, (&str, u8)); 7] = [
+    const OTHERS: (&str, u8) = ("refused claims WrongAudience at 2\n", 1);
+    const ROWS: &[(&str, &str, (&str, u8))] = &[
         (CLAIMS, "coap://light.example.com", (LINES, 0)),
         (CLAIMS, "other", ("refused claims WrongAudience at 32\n", 1)),
         ("a1038261616162", "b", ("admitted\naud 61\naud 62\n", 0)),
-        ("a1038261616162", "c", others),
+        ("a1038261616162", "c", OTHERS),
         ("a1036161", "a", ("admitted\naud 61\n", 0)),
-        ("a1036161", "", others),
+        ("a1036161", "", OTHERS),
         // No audience is named.
         ("a0", "c", ("admitted\n", 0)),
     ];
-    for (claims, aud, (text, status)) in rows {
+    for &(claims, aud, (text, status)) in ROWS {
         let token = token_of(rt.alloc(), claims)?;
         let cwt = ["cwt", "--keys", KEYS, "--now", LAST, "--aud", aud];
-        prints(&rt, cwt.as_slice(), token.as_slice(), text, status)?;
+        prints(&rt, cwt.as_slice(), token.as_slice(), text, status);
     }
     Ok(())
 }
@@ -186,7 +180,7 @@ fn refuses_claims(rt: HostRuntime) -> Result<(), Fail> {
     let cwt = ["cwt", "--keys", KEYS, "--now", "9223372036854775807"];
     for &(claims, refusal) in ROWS {
         let token = token_of(rt.alloc(), claims)?;
-        refuses(&rt, cwt.as_slice(), token.as_slice(), refusal)?;
+        refuses(&rt, cwt.as_slice(), token.as_slice(), refusal);
     }
     Ok(())
 }
@@ -242,13 +236,13 @@ fn prints_the_key(
 
 #[test]
 fn prints_a_confirmed_key(rt: HostRuntime) -> Result<(), Fail> {
-    let rows: [(&str, &str, &str, &str); 4] = [
+    const ROWS: &[(&str, &str, &str, &str)] = &[
         ("a108a101", MEMBER_Y, Y, ""),
         ("a108a101", "f5", "true", ""),
         ("a108a101", "f4", "false", ""),
         ("a108a203413101", MEMBER_Y, Y, "cnf kid 31\n"),
     ];
-    for (front, member, y, kid) in rows {
+    for &(front, member, y, kid) in ROWS {
         prints_the_key(&rt, front, member, y, kid)?;
     }
     Ok(())
@@ -276,10 +270,10 @@ fn limits_the_payload(rt: HostRuntime) -> Result<(), Fail> {
         text.push_str("61")?;
     }
     text.push_str("\n")?;
-    prints(&rt, cwt.as_slice(), longest.as_slice(), text.as_str(), 0)?;
+    prints(&rt, cwt.as_slice(), longest.as_slice(), text.as_str(), 0);
     let longer = made(alloc, issued(alloc, 4_092)?.as_slice())?;
     let refusal = "message PayloadTooLong at 7";
-    refuses(&rt, cwt.as_slice(), longer.as_slice(), refusal)?;
+    refuses(&rt, cwt.as_slice(), longer.as_slice(), refusal);
     Ok(())
 }
 
@@ -309,7 +303,8 @@ fn refuses_at(
     let mut cwt = Vec::new(rt.alloc());
     cwt.extend_from_slice(&["cwt", "--keys", KEYS, "--now"])?;
     cwt.extend_from_slice(words)?;
-    refuses(rt, cwt.as_slice(), token, refusal)
+    refuses(rt, cwt.as_slice(), token, refusal);
+    Ok(())
 }
 
 #[test]
@@ -347,11 +342,11 @@ fn refuses_tokens_behind_the_cwt_tag(rt: HostRuntime) -> Result<(), Fail> {
     let mut tagged = with_cwt_tag(rt.alloc(), token.as_slice())?;
     let cwt = ["cwt", "--keys", KEYS, "--now", LAST, "--aud", "other"];
     let refusal = "claims WrongAudience at 32";
-    refuses(&rt, cwt.as_slice(), tagged.as_slice(), refusal)?;
+    refuses(&rt, cwt.as_slice(), tagged.as_slice(), refusal);
     tagged.push(0xff)?;
     let cwt = ["cwt", "--keys", KEYS, "--now", LAST];
     let refusal = "message Trailing at 125";
-    refuses(&rt, cwt.as_slice(), tagged.as_slice(), refusal)?;
+    refuses(&rt, cwt.as_slice(), tagged.as_slice(), refusal);
     Ok(())
 }
 
@@ -373,17 +368,17 @@ fn vouches_for_a_signed_token(rt: HostRuntime) -> Result<(), Fail> {
     let keys = point(rt.alloc(), "f5")?;
     let word = vouching(rt.alloc())?;
     let cwt = ["cwt", "--keys", &keys, "--now", "0", "--vouch", &word];
-    prints(&rt, cwt.as_slice(), token.as_slice(), "admitted\n", 0)?;
+    prints(&rt, cwt.as_slice(), token.as_slice(), "admitted\n", 0);
     let cwt = ["cwt", "--keys", &keys, "--now", "0"];
     let refusal = "message BadAuth at 9";
-    refuses(&rt, cwt.as_slice(), token.as_slice(), refusal)?;
+    refuses(&rt, cwt.as_slice(), token.as_slice(), refusal);
     Ok(())
 }
 
 #[test]
 fn takes_keys_for_tokens(rt: HostRuntime) -> Result<(), Fail> {
     let token = example(rt.alloc())?;
-    let rows: [(&[&str], &str, u8); 7] = [
+    const ROWS: &[(&[&str], &str, u8)] = &[
         (&["--keys", "80"], "fault keys BadKeySet at 0\n", 2),
         (&["--keys", ""], "fault keys PastRoom at 0\n", 2),
         (&["--keys", "a0"], "refused message NoKey at 7\n", 1),
@@ -400,30 +395,25 @@ fn takes_keys_for_tokens(rt: HostRuntime) -> Result<(), Fail> {
         (&["--vouch", "zz", "--keys", "80"], "fault line vouch\n", 2),
         (&["--keys", "A2010420444A656665"], LINES, 0),
     ];
-    for (words, text, status) in rows {
+    for &(words, text, status) in ROWS {
         let mut cwt = Vec::new(rt.alloc());
         cwt.extend_from_slice(&["cwt", "--now", LAST])?;
         cwt.extend_from_slice(words)?;
-        prints(&rt, cwt.as_slice(), token.as_slice(), text, status)?;
+        prints(&rt, cwt.as_slice(), token.as_slice(), text, status);
     }
     Ok(())
 }
 
 /// A run with these arguments prints an error that has this part, and ends with 2.
-fn refuses_line(
-    rt: &(impl Abort + Alloc<A = Global>),
-    arguments: &[&str],
-    part: &str,
-) -> Result<(), Fail> {
-    let (output, ended, _left) = ran(rt.alloc(), arguments, b"")?;
-    let text = str::from_utf8(output.as_slice()).or(Err("no text"))?;
+fn refuses_line(rt: &(impl Abort + Alloc<A = Global>), arguments: &[&str], part: &str) {
+    let (output, ended, _left) = outcome(rt, arguments, b"");
+    let text = str::from_utf8(output.as_slice()).unwrap_or("");
     let is_error = text.starts_with("error: ") && text.contains(part);
-    assert!(rt; is_error && ended == 2, "{ended}: {text}");
-    Ok(())
+    is(rt, &text, (is_error, ended), (true, 2));
 }
 
 #[test]
-fn refuses_lines_without_a_moment(rt: HostRuntime) -> Result<(), Fail> {
+fn refuses_lines_without_a_moment(rt: HostRuntime) {
     const ROWS: &[(&[&str], &str)] = &[
         (&["cwt", "--keys", KEYS], "--now <N>"),
         (&["cwt", "--now", "0"], "--keys <HEX>"),
@@ -464,7 +454,6 @@ fn refuses_lines_without_a_moment(rt: HostRuntime) -> Result<(), Fail> {
         ),
     ];
     for &(arguments, part) in ROWS {
-        refuses_line(&rt, arguments, part)?;
+        refuses_line(&rt, arguments, part);
     }
-    Ok(())
 }

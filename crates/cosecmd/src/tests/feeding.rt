@@ -1,7 +1,7 @@
 //! Messages that are fed in pieces, and the results.
 
 use crate::tests::long::{FRONT, auth_of};
-use crate::tests::{KEY, STRUCTURE, counted, hmac, joined, key_set, message, verifier};
+use crate::tests::{KEY, STRUCTURE, counted, hmac, is, joined, key_set, message, verifier};
 use cose_msg::{Fed, KeySet, Sink, Status, Store, Verifier, Wanted};
 use std::process::Abort;
 use std::test::Fail;
@@ -21,7 +21,7 @@ pub fn feed_all(
         let fed = verifier.feed(piece);
         let payload = fed.payload_of(piece);
         let kept = payload.is_empty() || store.put(payload).is_ok();
-        assert_eq!(rt; (kept, verifier.held() <= 2_560), (true, true));
+        is(rt, &cut, (kept, verifier.held() <= 2_560), (true, true));
         rest = after;
     }
     verifier.status()
@@ -30,7 +30,8 @@ pub fn feed_all(
 /// Feeds a piece that is used whole. At most twice the room of a header bucket and 512 bytes are held.
 fn feed_whole(rt: &impl Abort, verifier: &mut Verifier<1024, 4>, piece: &[u8]) -> Fed {
     let fed = verifier.feed(piece);
-    assert_eq!(rt; (fed.used, verifier.held() <= 2_560), (piece.len(), true));
+    let seen = (fed.used, verifier.held() <= 2_560);
+    is(rt, &piece, seen, (piece.len(), true));
     fed
 }
 
@@ -69,13 +70,14 @@ fn completes_in_pieces(
     let front = feed_pieces(rt, &mut verifier, FRONT, cut);
     for _i in 0..1_000 {
         let payload = feed_pieces(rt, &mut verifier, block, cut);
-        assert_eq!(rt; payload, 10_000, "in pieces of {cut}");
+        is(rt, &cut, payload, 10_000);
     }
     let rest = feed_pieces(rt, &mut verifier, auth, cut);
-    assert_eq!(rt;
+    is(
+        rt,
+        &cut,
         (front, rest, verifier.status(), verifier.taken()),
         (0, 0, Status::Complete, 10_000_046),
-        "in pieces of {cut}"
     );
 }
 
@@ -104,7 +106,7 @@ fn completes_a_long_payload_in_short_pieces(rt: HostRuntime) -> Result<(), Fail>
 /// Feeding the next piece gives this result.
 fn takes(rt: &impl Abort, verifier: &mut Verifier<1024, 4>, piece: &[u8], wanted: Fed) {
     let fed = verifier.feed(piece);
-    assert_eq!(rt; fed, wanted, "{piece:?}");
+    is(rt, &piece, fed, wanted);
 }
 
 /// This many bytes of a piece are used, none of them of the payload.
@@ -146,8 +148,8 @@ fn takes_pieces_as_they_come(rt: HostRuntime) -> Result<(), Fail> {
 fn wants_what_is_left_of_a_string(rt: HostRuntime) -> Result<(), Fail> {
     let keys = key_set().ok_or("no keys")?;
     let bytes = message(rt.alloc())?;
-    let rows: [(usize, u64); 2] = [(8, 2), (12, 32)];
-    for (taken, wanted) in rows {
+    const ROWS: &[(usize, u64)] = &[(8, 2), (12, 32)];
+    for &(taken, wanted) in ROWS {
         let mut verifier = verifier(keys, Wanted::Tagged);
         let fed = verifier.feed(bytes.get(..taken).unwrap_or(&[]));
         assert_eq!(rt; (fed.used, verifier.want()), (taken, wanted));

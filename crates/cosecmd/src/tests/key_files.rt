@@ -8,8 +8,8 @@ use crate::tests::cwt::made;
 use crate::tests::digests::{SIGNATURE, digest_and_signature};
 use crate::tests::streams::FailingReader;
 use crate::tests::{
-    FRONT, KEY_SET, KEYS, PAYLOAD, SIGNED, SIGNED_STRUCTURE, STRUCTURE, X, Y, hmac, joined,
-    message, point_set, prints, signed,
+    FRONT, KEY_SET, KEYS, PAYLOAD, SIGNED, SIGNED_STRUCTURE, STRUCTURE, X, Y, hmac, is, joined,
+    message, point_set, prints, signed, words_of,
 };
 use sha2::{Digest, Sha256};
 use std::alloc::{AllocError, Global};
@@ -87,18 +87,12 @@ pub fn leaves<'i>(
     file: OneFile,
     mut input: &'i [u8],
     (bytes, status): (&[u8], u8),
-) -> Result<&'i [u8], AllocError> {
-    let mut words = Vec::new(rt.alloc());
-    words.push("cosecmd")?;
-    words.extend_from_slice(arguments)?;
+) -> &'i [u8] {
+    let words = words_of(rt.alloc(), arguments).expect(rt, "memory");
     let mut output = Vec::new(rt.alloc());
     let ended = run_with_files(rt.alloc(), words.as_slice(), &file, &mut input, &mut output);
-    assert_eq!(rt;
-        (output.as_slice(), ended),
-        (bytes, status),
-        "{arguments:?}"
-    );
-    Ok(input)
+    is(rt, &arguments, (output.as_slice(), ended), (bytes, status));
+    input
 }
 
 /// The same. With status 2 it has read nothing of its input.
@@ -108,10 +102,14 @@ pub fn writes(
     file: OneFile,
     input: &[u8],
     (bytes, status): (&[u8], u8),
-) -> Result<(), AllocError> {
-    let left = leaves(rt, arguments, file, input, (bytes, status))?;
-    assert!(rt; status < 2 || left.len() == input.len(), "{arguments:?}");
-    Ok(())
+) {
+    let left = leaves(rt, arguments, file, input, (bytes, status));
+    is(
+        rt,
+        &arguments,
+        status < 2 || left.len() == input.len(),
+        true,
+    );
 }
 
 /// `digest` takes the key of a point from the file.
@@ -121,7 +119,7 @@ fn takes_a_point(rt: &(impl Abort + Alloc<A = Global>)) -> Result<(), Fail> {
     let message = signed(alloc, SIGNED, SIGNATURE)?;
     let asked = digest_and_signature(alloc, SIGNED_STRUCTURE)?;
     let vouch = format!(in alloc; "vouch 01{asked}{X}{Y}\n")?;
-    writes(rt, DIGEST, file(&point), &message, (vouch.as_bytes(), 0))?;
+    writes(rt, DIGEST, file(&point), &message, (vouch.as_bytes(), 0));
     Ok(())
 }
 
@@ -146,13 +144,13 @@ fn takes_keys_from_a_file(rt: HostRuntime) -> Result<(), Fail> {
         ),
     ];
     for (arguments, keys, input, ends) in rows {
-        writes(&rt, arguments, file(keys), input, ends)?;
+        writes(&rt, arguments, file(keys), input, ends);
     }
     Ok(())
 }
 
 #[test]
-fn says_which_file_fails(rt: HostRuntime) -> Result<(), Fail> {
+fn says_which_file_fails(rt: HostRuntime) {
     let keys_file = b"fault file keys-file\n".as_slice();
     let rows: [(&[&str], &[u8]); 4] = [
         (VERIFY, keys_file),
@@ -168,15 +166,14 @@ fn says_which_file_fails(rt: HostRuntime) -> Result<(), Fail> {
                 fails_at,
                 ..named(name, KEY_SET)
             };
-            writes(&rt, arguments, file, b"hi", (text, 2))?;
+            writes(&rt, arguments, file, b"hi", (text, 2));
         }
     }
-    prints(&rt, VERIFY, b"", "fault file keys-file\n", 2)?;
-    Ok(())
+    prints(&rt, VERIFY, b"", "fault file keys-file\n", 2);
 }
 
 #[test]
-fn reads_a_file_in_its_options_place(rt: HostRuntime) -> Result<(), Fail> {
+fn reads_a_file_in_its_options_place(rt: HostRuntime) {
     let verify = ["verify", "--aad", "zz", "--keys-file", FILE];
     let make = [
         "make",
@@ -200,9 +197,8 @@ fn reads_a_file_in_its_options_place(rt: HostRuntime) -> Result<(), Fail> {
         (&make, file(b"\x80"), b"fault line kid\n"),
     ];
     for (arguments, file, text) in rows {
-        writes(&rt, arguments, file, b"hi", (text, 2))?;
+        writes(&rt, arguments, file, b"hi", (text, 2));
     }
-    Ok(())
 }
 
 /// The key of a secret of this many bytes, each of them 0, and then further bytes.
@@ -215,34 +211,44 @@ fn long_key(alloc: Global, count: u16, more: &[u8]) -> Result<Vec<u8>, AllocErro
     Ok(key)
 }
 
+const NO_KEY: (&[u8], u8) = (b"fault file key-file\n", 2);
+
+/// A file of these bytes, the next read of which after 65,536 bytes would fail.
+fn endless<'f>(bytes: &'f [u8]) -> OneFile<'f> {
+    OneFile {
+        fails_at: 65_537,
+        ..file(bytes)
+    }
+}
+
 #[test]
 fn reads_so_much_of_a_file(rt: HostRuntime) -> Result<(), Fail> {
-    let alloc = rt.alloc();
-    let longest = long_key(alloc, 65_528, b"")?;
-    let longer = long_key(alloc, 65_529, b"")?;
-    let followed = long_key(alloc, 65_528, b"\0")?;
-    assert_eq!(rt; (longest.len(), longer.len()), (65_535, 65_536));
+    let longest = long_key(rt.alloc(), 65_528, b"")?;
+    let longer = long_key(rt.alloc(), 65_529, b"")?;
+    let lengths = (longest.len(), longer.len());
+    is(&rt, &"lengths", lengths, (65_535, 65_536));
+    let truncated = (b"refused Truncated at 0\n".as_slice(), 1);
+    writes(&rt, VERIFY, file(&longest), b"", truncated);
+    let no_set = (b"fault keys BadKeySet at 0\n".as_slice(), 2);
+    writes(&rt, VERIFY, endless(&longer), b"", no_set);
+    writes(&rt, MAKE, endless(&longer), b"hi", NO_KEY);
+    Ok(())
+}
+
+#[test]
+fn makes_with_the_longest_key_in_a_file(rt: HostRuntime) -> Result<(), Fail> {
+    let longest = long_key(rt.alloc(), 65_528, b"")?;
     // A secret that is longer than a block of the hash is replaced by its digest (RFC 2104 section 2).
     let secret = Sha256::digest(longest.get(7..).unwrap_or(&[]));
-    let made = joined(alloc, &[FRONT, PAYLOAD, &hmac(&secret, STRUCTURE)])?;
-    // The next read after 65,536 bytes would fail.
-    let endless = OneFile {
-        fails_at: 65_537,
-        ..file(&longer)
-    };
-    let no_set = (b"fault keys BadKeySet at 0\n".as_slice(), 2);
-    let no_key = (b"fault file key-file\n".as_slice(), 2);
-    writes(
-        &rt,
-        VERIFY,
-        file(&longest),
-        b"",
-        (b"refused Truncated at 0\n", 1),
-    )?;
-    writes(&rt, VERIFY, endless, b"", no_set)?;
-    writes(&rt, MAKE, file(&longest), b"hi", (&made, 0))?;
-    writes(&rt, MAKE, endless, b"hi", no_key)?;
-    // A byte follows the key.
-    writes(&rt, MAKE, file(&followed), b"hi", no_key)?;
+    let tag = hmac(&secret, STRUCTURE);
+    let made = joined(rt.alloc(), &[FRONT, PAYLOAD, &tag])?;
+    writes(&rt, MAKE, file(&longest), b"hi", (&made, 0));
+    Ok(())
+}
+
+#[test]
+fn reads_no_key_with_a_byte_after_it(rt: HostRuntime) -> Result<(), Fail> {
+    let followed = long_key(rt.alloc(), 65_528, b"\0")?;
+    writes(&rt, MAKE, file(&followed), b"hi", NO_KEY);
     Ok(())
 }

@@ -3,7 +3,7 @@
 
 use crate::tests::payloads::refuses_line;
 use crate::tests::runs::verifies;
-use crate::tests::{KEYS, message, ran};
+use crate::tests::{KEYS, is, message, outcome};
 use std::alloc::{AllocError, Global};
 use std::process::Abort;
 use std::test::Fail;
@@ -12,47 +12,39 @@ use std::test::Fail;
 const LONGEST: usize = 510;
 
 /// A run with these arguments writes this and ends with 2.
-fn faults(
-    rt: &(impl Abort + Alloc<A = Global>),
-    arguments: &[&str],
-    text: &str,
-) -> Result<(), AllocError> {
-    let (output, status, left) = ran(rt.alloc(), arguments, b"hi")?;
+fn faults(rt: &(impl Abort + Alloc<A = Global>), arguments: &[&str], text: &str) {
+    let (output, status, left) = outcome(rt, arguments, b"hi");
     // Nothing was read.
-    assert_eq!(rt;
+    is(
+        rt,
+        &arguments,
         (output.as_slice(), status, left.len()),
         (text.as_bytes(), 2, 2),
-        "{arguments:?}"
     );
-    Ok(())
 }
 
 /// Making the message of a payload of two bytes from this input writes these bytes, ends with this status, and leaves
 /// this of the input.
-fn makes(
-    rt: &(impl Abort + Alloc<A = Global>),
-    input: &[u8],
-    ends: (&[u8], u8, &[u8]),
-) -> Result<(), Fail> {
+fn makes(rt: &(impl Abort + Alloc<A = Global>), input: &[u8], ends: (&[u8], u8, &[u8])) {
     let make = ["make", "--alg", "5", "--key", KEYS, "--length", "2"];
-    let (output, status, left) = ran(rt.alloc(), make.as_slice(), input)?;
-    assert_eq!(rt; (output.as_slice(), status, left), ends);
-    Ok(())
+    let (output, status, left) = outcome(rt, make.as_slice(), input);
+    is(rt, &input, (output.as_slice(), status, left), ends);
 }
 
 #[test]
 fn makes_the_message(rt: HostRuntime) -> Result<(), Fail> {
     let whole = message(rt.alloc())?;
-    makes(&rt, b"hi", (&whole, 0, b""))?;
+    makes(&rt, b"hi", (&whole, 0, b""));
     // What follows the payload is left unread.
-    makes(&rt, b"hi there", (&whole, 0, b" there"))?;
+    makes(&rt, b"hi there", (&whole, 0, b" there"));
     // The input is a byte short.
-    makes(&rt, b"h", (whole.get(..9).unwrap_or(&[]), 2, b""))
+    makes(&rt, b"h", (whole.get(..9).unwrap_or(&[]), 2, b""));
+    Ok(())
 }
 
 #[test]
-fn makes_as_many_bytes_as_are_wanted(rt: HostRuntime) -> Result<(), Fail> {
-    let rows: [(&[&str], &[u8], usize); 5] = [
+fn makes_as_many_bytes_as_are_wanted(rt: HostRuntime) {
+    const ROWS: &[(&[&str], &[u8], usize)] = &[
         (
             &[
                 "make", "--alg", "5", "--key", KEYS, "--length", "2", "--kid", "31",
@@ -84,16 +76,15 @@ fn makes_as_many_bytes_as_are_wanted(rt: HostRuntime) -> Result<(), Fail> {
             46,
         ),
     ];
-    for (make, input, count) in rows {
-        let (output, status, _left) = ran(rt.alloc(), make, input)?;
-        assert_eq!(rt; (output.len(), status), (count, 0), "{make:?}");
+    for &(make, input, count) in ROWS {
+        let (output, status, _left) = outcome(&rt, make, input);
+        is(&rt, &make, (output.len(), status), (count, 0));
     }
-    Ok(())
 }
 
 #[test]
-fn says_which_argument_is_at_fault(rt: HostRuntime) -> Result<(), Fail> {
-    let rows: [(&str, &str, &str); 6] = [
+fn says_which_argument_is_at_fault(rt: HostRuntime) {
+    const ROWS: &[(&str, &str, &str)] = &[
         ("4", "a30104030520444a656665", "fault make WrongKey\n"),
         ("5", "a3010404810a204161", "fault make WrongKey\n"),
         ("5", "zz", "fault line key\n"),
@@ -101,64 +92,58 @@ fn says_which_argument_is_at_fault(rt: HostRuntime) -> Result<(), Fail> {
         ("5", "a201012006", "fault key UnknownKey at 0\n"),
         ("5", "a2010420444a65666500", "fault key Trailing at 9\n"),
     ];
-    for (alg, key, text) in rows {
+    for &(alg, key, text) in ROWS {
         let make = ["make", "--alg", alg, "--key", key, "--length", "2"];
-        faults(&rt, make.as_slice(), text)?;
+        faults(&rt, make.as_slice(), text);
     }
-    Ok(())
 }
 
 /// What is written for the message `hi` under this key and an identifier of this many digits, and how the run ends.
-fn identified(alloc: Global, key: &str, digits: usize) -> Result<(Vec<u8>, u8), Fail> {
-    let mut word = Vec::new(alloc);
-    for _i in 0..digits {
-        word.push(b'6')?;
-    }
-    let kid = str::from_utf8(word.as_slice()).or(Err("no text"))?;
+fn identified(rt: &(impl Abort + Alloc<A = Global>), key: &str, digits: usize) -> (Vec<u8>, u8) {
+    let sixes = [b'6'; 512];
+    let kid = str::from_utf8(sixes.get(..digits).unwrap_or(&[])).unwrap_or("");
     let make = [
         "make", "--alg", "5", "--key", key, "--length", "2", "--kid", kid,
     ];
-    let (output, status, _left) = ran(alloc, make.as_slice(), b"hi")?;
-    Ok((output, status))
+    let (output, status, _left) = outcome(rt, make.as_slice(), b"hi");
+    (output, status)
 }
 
 #[test]
-fn limits_the_identifier(rt: HostRuntime) -> Result<(), Fail> {
-    let (output, status) = identified(rt.alloc(), KEYS, LONGEST)?;
-    assert_eq!(rt; (output.len(), status), (302, 0));
+fn limits_the_identifier(rt: HostRuntime) {
+    let (output, status) = identified(&rt, KEYS, LONGEST);
+    is(&rt, &LONGEST, (output.len(), status), (302, 0));
     let longer = LONGEST.saturating_add(2);
     // The key is looked at first.
-    let rows: [(&str, &[u8]); 2] = [
+    const ROWS: &[(&str, &[u8])] = &[
         (KEYS, b"fault make TooLong\n"),
         ("a30104030420444a656665", b"fault make WrongKey\n"),
     ];
-    for (key, text) in rows {
-        let (output, status) = identified(rt.alloc(), key, longer)?;
-        assert_eq!(rt; (output.as_slice(), status), (text, 2));
+    for &(key, text) in ROWS {
+        let (output, status) = identified(&rt, key, longer);
+        is(&rt, &key, (output.as_slice(), status), (text, 2));
     }
-    Ok(())
 }
 
 #[test]
-fn reads_the_words_of_make_in_order(rt: HostRuntime) -> Result<(), Fail> {
-    let rows: [(&str, &str, &str, &str); 4] = [
+fn reads_the_words_of_make_in_order(rt: HostRuntime) {
+    const ROWS: &[(&str, &str, &str, &str)] = &[
         ("zz", "zz", "zz", "fault line key\n"),
         ("80", "zz", "zz", "fault line kid\n"),
         ("80", "31", "zz", "fault line aad\n"),
         ("80", "31", "", "fault key NotMap at 0\n"),
     ];
-    for (key, kid, aad, text) in rows {
+    for &(key, kid, aad, text) in ROWS {
         let make = [
             "make", "--aad", aad, "--kid", kid, "--length", "2", "--key", key, "--alg", "5",
         ];
-        faults(&rt, make.as_slice(), text)?;
+        faults(&rt, make.as_slice(), text);
     }
-    Ok(())
 }
 
 #[test]
-fn refuses_lines_without_a_message(rt: HostRuntime) -> Result<(), Fail> {
-    let rows: [&[&str]; 9] = [
+fn refuses_lines_without_a_message(rt: HostRuntime) {
+    const ROWS: &[&[&str]] = &[
         &["make", "--key", KEYS, "--length", "2"],
         &["make", "--alg", "5", "--length", "2"],
         &["make", "--alg", "5", "--key", KEYS],
@@ -179,8 +164,8 @@ fn refuses_lines_without_a_message(rt: HostRuntime) -> Result<(), Fail> {
             "make", "--alg", "5", "--key", KEYS, "--length", "2", "--vouch", "00",
         ],
     ];
-    for make in rows {
-        refuses_line(&rt, make, b"error: ")?;
+    for &make in ROWS {
+        refuses_line(&rt, make, b"error: ");
     }
     // The greatest length is one that the program takes: it begins the message, and the input ends.
     let make = [
@@ -192,7 +177,7 @@ fn refuses_lines_without_a_message(rt: HostRuntime) -> Result<(), Fail> {
         "--length",
         "72057594037927935",
     ];
-    let (output, status, _left) = ran(rt.alloc(), make.as_slice(), b"")?;
+    let (output, status, _left) = outcome(&rt, make.as_slice(), b"");
     assert_eq!(rt;
         (output.as_slice(), status),
         (
@@ -200,34 +185,25 @@ fn refuses_lines_without_a_message(rt: HostRuntime) -> Result<(), Fail> {
             2
         )
     );
-    Ok(())
 }
 
-/// The message that is made of this payload by this algorithm, with this key identifier.
+/// The message that is made of this payload by this algorithm, with this key identifier, or without one where it is empty.
 fn made(
     rt: &(impl Abort + Alloc<A = Global>),
     alg: &str,
-    kid: Option<&str>,
+    kid: &str,
     payload: &[u8],
 ) -> Result<Vec<u8>, AllocError> {
-    let alloc = rt.alloc();
     let count = payload.len();
-    let length = format!(in alloc; "{count}")?;
-    let mut make = Vec::new(alloc);
-    make.extend_from_slice(&[
-        "make",
-        "--alg",
-        alg,
-        "--key",
-        KEYS,
-        "--length",
-        length.as_str(),
-    ])?;
-    if let Some(kid) = kid {
-        make.extend_from_slice(&["--kid", kid])?;
-    }
-    let (made, status, _left) = ran(alloc, make.as_slice(), payload)?;
-    assert_eq!(rt; status, 0, "alg {alg}, {count} bytes");
+    let length = format!(in rt.alloc(); "{count}")?;
+    let length = length.as_str();
+    let make = [
+        "make", "--alg", alg, "--key", KEYS, "--length", length, "--kid", kid,
+    ];
+    // Without an identifier its option is left out.
+    let words = if kid.is_empty() { 7 } else { 9 };
+    let (made, status, _left) = outcome(rt, &make[..words], payload);
+    is(rt, &(alg, count), status, 0);
     Ok(made)
 }
 
@@ -235,7 +211,7 @@ fn made(
 fn goes_round(
     rt: &(impl Abort + Alloc<A = Global>),
     alg: &str,
-    kid: Option<&str>,
+    kid: &str,
     payload: &[u8],
     others: usize,
 ) -> Result<(), AllocError> {
@@ -244,7 +220,8 @@ fn goes_round(
     let count = payload.len();
     let taken = count.saturating_add(others);
     let line = format!(in alloc; "authentic mac0 alg {alg} payload {count} taken {taken}\n")?;
-    verifies(rt, KEYS, made.as_slice(), line.as_str(), 0)
+    verifies(rt, KEYS, made.as_slice(), line.as_str(), 0);
+    Ok(())
 }
 
 #[test]
@@ -269,8 +246,8 @@ fn makes_what_is_authentic(rt: HostRuntime) -> Result<(), Fail> {
             let payload = payload.get(..count).unwrap_or(&[]);
             let others = auth.saturating_add(head);
             // Tag, array, protected header, and an empty unprotected one or {4: h'31'}.
-            goes_round(&rt, alg, None, payload, others.saturating_add(7))?;
-            goes_round(&rt, alg, Some("31"), payload, others.saturating_add(10))?;
+            goes_round(&rt, alg, "", payload, others.saturating_add(7))?;
+            goes_round(&rt, alg, "31", payload, others.saturating_add(10))?;
         }
     }
     Ok(())

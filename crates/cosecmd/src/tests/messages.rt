@@ -2,7 +2,7 @@
 
 use crate::tests::rows::refuses_fed;
 use crate::tests::{
-    FRONT, KEY, STRUCTURE, authentic, cut, hmac, joined, key_set, message, refused, verifier,
+    FRONT, KEY, STRUCTURE, authentic, cut, hmac, is, joined, key_set, message, refused, verifier,
 };
 use cose_msg::{
     Intake, KeySet, Never, ReadIntake, Reason, Refusal, Sink, SliceIntake, Stop, Store, Verdict,
@@ -29,10 +29,11 @@ fn takes_the_message_in_any_pieces(rt: HostRuntime) -> Result<(), Fail> {
         let mut intake = SliceIntake::new(bytes.as_slice(), cut);
         let mut store = Store::<16>::new();
         let verdict = verdict_of(keys, &mut intake, &mut store);
-        assert_eq!(rt;
+        is(
+            &rt,
+            &cut,
             (verdict, store.bytes()),
             (Ok(authentic(44)), b"hi".as_slice()),
-            "in pieces of {cut}"
         );
     }
     Ok(())
@@ -43,10 +44,11 @@ pub fn answers_read(rt: &impl Abort, keys: KeySet, bytes: &[u8], verdict: Verdic
     let mut reader = bytes;
     let mut store = Store::<16>::new();
     let answer = verdict_of(keys, &mut ReadIntake::new(&mut reader), &mut store);
-    assert_eq!(rt;
+    is(
+        rt,
+        &bytes,
         (answer, bytes.len()),
         (Ok(verdict), reader.len().saturating_add(taken)),
-        "{bytes:?}"
     );
 }
 
@@ -105,7 +107,7 @@ fn compares_tags(rt: HostRuntime) -> Result<(), Fail> {
 
 #[test]
 fn refuses_other_heads(rt: HostRuntime) -> Result<(), Fail> {
-    let rows: [(&str, (Reason, u64, usize)); 9] = [
+    const ROWS: &[(&str, (Reason, u64, usize))] = &[
         ("4268", (Reason::Truncated, 9, 9)),
         ("5fff", (Reason::Indefinite, 7, 8)),
         ("5b010000000000000000", (Reason::PayloadTooLong, 7, 16)),
@@ -117,32 +119,36 @@ fn refuses_other_heads(rt: HostRuntime) -> Result<(), Fail> {
         ("5900", (Reason::Truncated, 9, 9)),
         ("42686960", (Reason::WrongType, 10, 11)),
     ];
-    for (payload, answer) in rows {
+    for &(payload, answer) in ROWS {
         let bytes = hex::decode(rt.alloc(), payload).or(Err("no hexadecimal"))?;
         refuses(&rt, bytes.as_slice(), b"", answer)?;
     }
     Ok(())
 }
 
+/// Under this key set the message is refused for this reason before its payload.
+fn refuses_under(
+    rt: &(impl Abort + Alloc<A = Global>),
+    keys: &str,
+    message: &[u8],
+    reason: Reason,
+) -> Result<(), Fail> {
+    let set = hex::decode(rt.alloc(), keys).or(Err("no hexadecimal"))?;
+    let set = KeySet::read(set.as_slice()).or(Err("no key set"))?;
+    answers_read(rt, set, message, refused(reason, 7), 7);
+    Ok(())
+}
+
 #[test]
 fn chooses_the_key_behind_the_front(rt: HostRuntime) -> Result<(), Fail> {
     let bytes = message(rt.alloc())?;
-    let rows: [(&str, Reason); 3] = [
+    const ROWS: &[(&str, Reason)] = &[
         ("a0", Reason::NoKey),
         ("a30104030420444a656665", Reason::NoKey),
         ("82a2010420444a656665a201042041aa", Reason::AmbiguousKey),
     ];
-    for (keys, reason) in rows {
-        let set = hex::decode(rt.alloc(), keys).or(Err("no hexadecimal"))?;
-        let set = KeySet::read(set.as_slice()).or(Err("no key set"))?;
-        let mut reader = bytes.as_slice();
-        let mut store = Store::<16>::new();
-        let answer = verdict_of(set, &mut ReadIntake::new(&mut reader), &mut store);
-        assert_eq!(rt;
-            (answer, reader.len()),
-            (Ok(refused(reason, 7)), 37),
-            "under {keys}"
-        );
+    for &(keys, reason) in ROWS {
+        refuses_under(&rt, keys, bytes.as_slice(), reason)?;
     }
     Ok(())
 }

@@ -13,16 +13,16 @@ fn authenticates_external_data(rt: HostRuntime) -> Result<(), Fail> {
     let structure = b"\x84\x64MAC0\x43\xa1\x01\x05\x42\x01\x02\x42hi";
     let tag = hmac(KEY, structure);
     let bytes = joined(rt.alloc(), &[FRONT, PAYLOAD, &tag])?;
-    let authentic = "authentic mac0 alg 5 payload 2 taken 44\n";
-    let refused = "refused BadAuth at 10\n";
-    let rows: [(&[&str], &str, u8); 4] = [
-        (&["verify", "--keys", KEYS, "--aad", "0102"], authentic, 0),
-        (&["verify", "--keys", KEYS, "--aad", "0103"], refused, 1),
-        (&["verify", "--keys", KEYS, "--aad", ""], refused, 1),
-        (&["verify", "--keys", KEYS], refused, 1),
+    const AUTHENTIC: &str = "authentic mac0 alg 5 payload 2 taken 44\n";
+    const REFUSED: &str = "refused BadAuth at 10\n";
+    const ROWS: &[(&[&str], &str, u8)] = &[
+        (&["verify", "--keys", KEYS, "--aad", "0102"], AUTHENTIC, 0),
+        (&["verify", "--keys", KEYS, "--aad", "0103"], REFUSED, 1),
+        (&["verify", "--keys", KEYS, "--aad", ""], REFUSED, 1),
+        (&["verify", "--keys", KEYS], REFUSED, 1),
     ];
-    for (verify, text, status) in rows {
-        prints(&rt, verify, bytes.as_slice(), text, status)?;
+    for &(verify, text, status) in ROWS {
+        prints(&rt, verify, bytes.as_slice(), text, status);
     }
     Ok(())
 }
@@ -40,7 +40,7 @@ fn prints_with(
     }
     let word = str::from_utf8(digits.as_slice()).or(Err("no text"))?;
     let verify = ["verify", "--keys", KEYS, "--aad", word];
-    prints(rt, verify.as_slice(), b"", text, status)?;
+    prints(rt, verify.as_slice(), b"", text, status);
     Ok(())
 }
 
@@ -79,7 +79,7 @@ fn wants_a_kind(rt: HostRuntime) -> Result<(), Fail> {
     ];
     for (kind, bytes, text, status) in rows {
         let verify = ["verify", "--keys", KEYS, "--kind", kind];
-        prints(&rt, verify.as_slice(), bytes, text, status)?;
+        prints(&rt, verify.as_slice(), bytes, text, status);
     }
     Ok(())
 }
@@ -97,14 +97,8 @@ struct Word<'w> {
     more: &'w str,
 }
 
-/// What is printed for the signed message under the point with this member y and this argument of `--vouch`.
-fn vouches(
-    rt: &(impl Abort + Alloc<A = Global>),
-    member: &str,
-    word: &Word,
-    (text, status): (&str, u8),
-) -> Result<(), Fail> {
-    let alloc = rt.alloc();
+/// The argument in hexadecimal.
+fn argument_of(alloc: Global, word: &Word) -> Result<String, Fail> {
     let digest = hex::encode(alloc, signed_digest(alloc)?.as_slice())?;
     let signature = hex::encode(alloc, [0x5a; 64].as_slice())?;
     let (first, second) = if word.is_swapped {
@@ -113,17 +107,27 @@ fn vouches(
         (digest.as_str(), signature.as_str())
     };
     let (curve, rest, more) = (word.curve, word.rest, word.more);
-    let vouch = format!(in alloc; "{curve}{first}{second}{X}{rest}{more}")?;
-    let keys = point(alloc, member)?;
-    let bytes = signed(alloc, SIGNED, &[0x5a; 64])?;
-    let verify = ["verify", "--keys", &keys, "--vouch", &vouch];
-    prints(rt, verify.as_slice(), bytes.as_slice(), text, status)?;
+    Ok(format!(in alloc; "{curve}{first}{second}{X}{rest}{more}")?)
+}
+
+/// What is printed for the signed message under the point with this member y and this argument of `--vouch`.
+fn vouches(
+    rt: &(impl Abort + Alloc<A = Global>),
+    member: &str,
+    word: &Word,
+    (text, status): (&str, u8),
+) -> Result<(), Fail> {
+    let vouch = argument_of(rt.alloc(), word)?;
+    let keys = point(rt.alloc(), member)?;
+    let bytes = signed(rt.alloc(), SIGNED, &[0x5a; 64])?;
+    let verify = ["verify", "--keys", keys.as_str(), "--vouch", vouch.as_str()];
+    prints(rt, verify.as_slice(), bytes.as_slice(), text, status);
     Ok(())
 }
 
 #[test]
 fn vouches_for_a_signature(rt: HostRuntime) -> Result<(), Fail> {
-    let rows: [(&str, (&str, bool, &str, &str), (&str, u8)); 9] = [
+    const ROWS: &[(&str, (&str, bool, &str, &str), (&str, u8))] = &[
         (MEMBER_Y, ("01", false, Y, ""), AUTHENTIC),
         ("f5", ("01", false, "01", ""), AUTHENTIC),
         ("f4", ("01", false, "00", ""), AUTHENTIC),
@@ -134,7 +138,7 @@ fn vouches_for_a_signature(rt: HostRuntime) -> Result<(), Fail> {
         (MEMBER_Y, ("02", false, Y, ""), REFUSED),
         (MEMBER_Y, ("01", true, Y, ""), REFUSED),
     ];
-    for (member, (curve, is_swapped, rest, more), printed) in rows {
+    for &(member, (curve, is_swapped, rest, more), printed) in ROWS {
         let word = Word {
             curve,
             is_swapped,
@@ -152,15 +156,15 @@ fn refuses_a_signature_that_nothing_vouches_for(rt: HostRuntime) -> Result<(), F
     let keys = point(rt.alloc(), MEMBER_Y)?;
     let bytes = signed(rt.alloc(), SIGNED, &[0x5a; 64])?;
     let empty = ["verify", "--keys", keys.as_str(), "--vouch", ""];
-    prints(&rt, empty.as_slice(), bytes.as_slice(), text, status)?;
+    prints(&rt, empty.as_slice(), bytes.as_slice(), text, status);
     let none = ["verify", "--keys", keys.as_str()];
-    prints(&rt, none.as_slice(), bytes.as_slice(), text, status)?;
+    prints(&rt, none.as_slice(), bytes.as_slice(), text, status);
     Ok(())
 }
 
 #[test]
-fn reads_its_words_in_order(rt: HostRuntime) -> Result<(), Fail> {
-    let rows: [(&[&str], &str); 6] = [
+fn reads_its_words_in_order(rt: HostRuntime) {
+    const ROWS: &[(&[&str], &str)] = &[
         (
             &["verify", "--vouch", "zz", "--aad", "zz", "--keys", "zz"],
             "fault line keys\n",
@@ -183,8 +187,7 @@ fn reads_its_words_in_order(rt: HostRuntime) -> Result<(), Fail> {
         ),
         (&["verify", "--keys", "80"], "fault keys BadKeySet at 0\n"),
     ];
-    for (verify, text) in rows {
-        prints(&rt, verify, b"", text, 2)?;
+    for &(verify, text) in ROWS {
+        prints(&rt, verify, b"", text, 2);
     }
-    Ok(())
 }

@@ -4,7 +4,7 @@ use crate::run::run_with_files;
 use crate::tests::key_files::{OneFile, leaves, named, writes};
 use crate::tests::payloads::{changed, detached, detached_long, longer, refuses_line};
 use crate::tests::streams::FailingReader;
-use crate::tests::{FRONT, KEY, KEYS, hmac, joined, message, prints};
+use crate::tests::{FRONT, KEY, KEYS, hmac, is, joined, message, prints, words_of};
 use std::test::Fail;
 
 /// The name of the file.
@@ -41,7 +41,7 @@ fn verifies_under_a_payload_file(rt: HostRuntime) -> Result<(), Fail> {
         (b"", (b"refused Truncated at 0\n", 1)),
     ];
     for (bytes, ends) in rows {
-        writes(&rt, VERIFY, file(b"hi"), bytes, ends)?;
+        writes(&rt, VERIFY, file(b"hi"), bytes, ends);
     }
     Ok(())
 }
@@ -49,7 +49,7 @@ fn verifies_under_a_payload_file(rt: HostRuntime) -> Result<(), Fail> {
 #[test]
 fn authenticates_the_bytes_of_the_file(rt: HostRuntime) -> Result<(), Fail> {
     let bytes = detached(rt.alloc())?;
-    let rows: [(&[u8], (&[u8], u8)); 6] = [
+    const ROWS: &[(&[u8], (&[u8], u8))] = &[
         (b"hi", AUTHENTIC),
         (b"hh", BAD_AUTH),
         (b"h", BAD_AUTH),
@@ -59,8 +59,8 @@ fn authenticates_the_bytes_of_the_file(rt: HostRuntime) -> Result<(), Fail> {
         // Digits are bytes of the payload like any others.
         (b"6869", BAD_AUTH),
     ];
-    for (payload, ends) in rows {
-        writes(&rt, VERIFY, file(payload), &bytes, ends)?;
+    for &(payload, ends) in ROWS {
+        writes(&rt, VERIFY, file(payload), &bytes, ends);
     }
     // It has grown since it was opened.
     for payload in [b"hi\0".as_slice(), b"hi and more"] {
@@ -68,7 +68,7 @@ fn authenticates_the_bytes_of_the_file(rt: HostRuntime) -> Result<(), Fail> {
             length: 2,
             ..file(payload)
         };
-        writes(&rt, VERIFY, longer, &bytes, AUTHENTIC)?;
+        writes(&rt, VERIFY, longer, &bytes, AUTHENTIC);
     }
     Ok(())
 }
@@ -85,7 +85,7 @@ fn verifies_a_file_of_no_byte(rt: HostRuntime) -> Result<(), Fail> {
             fails_at,
             ..file(b"")
         };
-        writes(&rt, VERIFY, empty, &bytes, authentic)?;
+        writes(&rt, VERIFY, empty, &bytes, authentic);
     }
     Ok(())
 }
@@ -95,57 +95,66 @@ fn verifies_a_file_of_no_byte(rt: HostRuntime) -> Result<(), Fail> {
 fn verifies_a_long_file(rt: HostRuntime) -> Result<(), Fail> {
     let (payload, bytes) = detached_long(rt.alloc())?;
     let authentic = b"authentic mac0 alg 5 payload 5000 taken 42\n";
-    writes(&rt, VERIFY, file(&payload), &bytes, (authentic, 0))?;
+    writes(&rt, VERIFY, file(&payload), &bytes, (authentic, 0));
     // A byte is missing in the end.
     let shorter = OneFile {
         bytes: payload.get(..4_999).unwrap_or(&[]),
         ..file(&payload)
     };
-    leaves(&rt, VERIFY, shorter, &bytes, FAULT)?;
+    leaves(&rt, VERIFY, shorter, &bytes, FAULT);
     Ok(())
+}
+
+/// Files that fail: a read of their two bytes does, or they end before their length.
+const FAILING: &[(&[u8], u64, usize)] = &[(b"hi", 2, 1), (b"hi", 2, 2), (b"hi", 3, 0), (b"", 1, 0)];
+
+/// A file of these bytes and this length, a read of which fails, or none.
+fn failing(&(payload, length, fails_at): &(&'static [u8], u64, usize)) -> OneFile<'static> {
+    OneFile {
+        length,
+        fails_at,
+        ..file(payload)
+    }
 }
 
 #[test]
 fn gives_no_verdict_where_the_file_fails(rt: HostRuntime) -> Result<(), Fail> {
-    let alloc = rt.alloc();
-    let bytes = detached(alloc)?;
-    let front = joined(alloc, &[FRONT, b"\xf6"])?;
-    let attached = message(alloc)?;
-    // No message, whole or not, is given a verdict: a read of the two bytes fails, or the file ends before its length.
-    let short: (&[u8], u64, usize) = (b"hi", 3, 0);
-    let files = [(b"hi".as_slice(), 2, 1), (b"hi", 2, 2), short, (b"", 1, 0)];
-    for (payload, length, fails_at) in files {
-        let failing = OneFile {
-            length,
-            fails_at,
-            ..file(payload)
-        };
-        leaves(&rt, VERIFY, failing, &bytes, FAULT)?;
-        leaves(&rt, VERIFY, failing, &front, FAULT)?;
-        // Before the message's nil the file isn't read.
-        let rows: [(&[u8], (&[u8], u8)); 4] = [
-            (b"", (b"refused Truncated at 0\n", 1)),
-            (FRONT, (b"refused Truncated at 7\n", 1)),
-            (&attached, (b"refused Attached at 7\n", 1)),
-            (b"\x84", (b"refused WrongTag at 0\n", 1)),
-        ];
-        for (bytes, ends) in rows {
-            writes(&rt, VERIFY, failing, bytes, ends)?;
-        }
+    let bytes = detached(rt.alloc())?;
+    let front = joined(rt.alloc(), &[FRONT, b"\xf6"])?;
+    // Not on a whole message, and not on one that ends with its nil.
+    for row in FAILING {
+        leaves(&rt, VERIFY, failing(row), &bytes, FAULT);
+        leaves(&rt, VERIFY, failing(row), &front, FAULT);
     }
-    // After the stated length it isn't read.
-    let failing = OneFile {
-        fails_at: 3,
-        ..file(b"hi")
-    };
-    writes(&rt, VERIFY, failing, &bytes, AUTHENTIC)?;
-    writes(
-        &rt,
-        VERIFY,
-        failing,
-        &front,
-        (b"refused Truncated at 8\n", 1),
-    )?;
+    Ok(())
+}
+
+#[test]
+fn reads_no_file_before_the_nil(rt: HostRuntime) -> Result<(), Fail> {
+    let attached = message(rt.alloc())?;
+    const ROWS: &[(&[u8], (&[u8], u8))] = &[
+        (b"", (b"refused Truncated at 0\n", 1)),
+        (FRONT, (b"refused Truncated at 7\n", 1)),
+        (b"\x84", (b"refused WrongTag at 0\n", 1)),
+    ];
+    for row in FAILING {
+        for &(bytes, ends) in ROWS {
+            writes(&rt, VERIFY, failing(row), bytes, ends);
+        }
+        let refused = (b"refused Attached at 7\n".as_slice(), 1);
+        writes(&rt, VERIFY, failing(row), &attached, refused);
+    }
+    Ok(())
+}
+
+#[test]
+fn reads_no_file_after_its_length(rt: HostRuntime) -> Result<(), Fail> {
+    let bytes = detached(rt.alloc())?;
+    let front = joined(rt.alloc(), &[FRONT, b"\xf6"])?;
+    let third = failing(&(b"hi", 2, 3));
+    writes(&rt, VERIFY, third, &bytes, AUTHENTIC);
+    let refused = (b"refused Truncated at 8\n".as_slice(), 1);
+    writes(&rt, VERIFY, third, &front, refused);
     Ok(())
 }
 
@@ -155,14 +164,14 @@ fn opens_the_file_before_the_message(rt: HostRuntime) -> Result<(), Fail> {
     let missing = named("other", b"hi");
     // What can't be opened is no file of any message's payload.
     for bytes in [bytes.as_slice(), b"", b"\xff"] {
-        writes(&rt, VERIFY, missing, bytes, FAULT)?;
+        writes(&rt, VERIFY, missing, bytes, FAULT);
     }
-    prints(&rt, VERIFY, b"", "fault file payload-file\n", 2)?;
+    prints(&rt, VERIFY, b"", "fault file payload-file\n", 2);
     Ok(())
 }
 
 #[test]
-fn opens_the_file_in_its_options_place(rt: HostRuntime) -> Result<(), Fail> {
+fn opens_the_file_in_its_options_place(rt: HostRuntime) {
     let missing = named("other", b"hi");
     let file_option = "--payload-file";
     let keys = ["verify", file_option, FILE, "--keys", "zz"];
@@ -179,9 +188,8 @@ fn opens_the_file_in_its_options_place(rt: HostRuntime) -> Result<(), Fail> {
         (&refused, file(b"hi"), (b"fault keys BadKeySet at 0\n", 2)),
     ];
     for (arguments, file, ends) in rows {
-        writes(&rt, arguments, file, b"hi", ends)?;
+        writes(&rt, arguments, file, b"hi", ends);
     }
-    Ok(())
 }
 
 /// A run whose input fails at one of its reads, each of which gives a byte, and whose file of the payload fails at one too.
@@ -189,9 +197,7 @@ fn opens_the_file_in_its_options_place(rt: HostRuntime) -> Result<(), Fail> {
 fn tells_the_file_from_the_input(rt: HostRuntime) -> Result<(), Fail> {
     let alloc = rt.alloc();
     let bytes = detached(alloc)?;
-    let mut words = Vec::new(alloc);
-    words.push("cosecmd")?;
-    words.extend_from_slice(VERIFY)?;
+    let words = words_of(alloc, VERIFY)?;
     let input = b"fault input\n".as_slice();
     let (payload, whole) = (FAULT.0, AUTHENTIC.0);
     // The message's nil is its eighth byte. Of both that fail the first one that is read counts.
@@ -223,13 +229,13 @@ fn tells_the_file_from_the_input(rt: HostRuntime) -> Result<(), Fail> {
             &mut reader,
             &mut output,
         );
-        assert_eq!(rt; output.as_slice(), text, "{input_fails_at} {fails_at}");
+        is(&rt, &(input_fails_at, fails_at), output.as_slice(), text);
     }
     Ok(())
 }
 
 #[test]
-fn is_an_option_of_verify_alone(rt: HostRuntime) -> Result<(), Fail> {
+fn is_an_option_of_verify_alone(rt: HostRuntime) {
     let both = "error: the argument '--payload <HEX>' cannot be used with '--payload-file <PATH>'";
     let rows: [(&[&str], &str); 6] = [
         (
@@ -284,7 +290,6 @@ fn is_an_option_of_verify_alone(rt: HostRuntime) -> Result<(), Fail> {
         ),
     ];
     for (arguments, begins) in rows {
-        refuses_line(&rt, arguments, begins.as_bytes())?;
+        refuses_line(&rt, arguments, begins.as_bytes());
     }
-    Ok(())
 }

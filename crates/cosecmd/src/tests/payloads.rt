@@ -2,7 +2,7 @@
 
 use crate::tests::digests::digest_and_signature;
 use crate::tests::{
-    FRONT, KEY, KEYS, MEMBER_Y, STRUCTURE, X, Y, hmac, joined, message, point, prints, ran,
+    FRONT, KEY, KEYS, MEMBER_Y, STRUCTURE, X, Y, hmac, is, joined, message, outcome, point, prints,
 };
 use std::alloc::{AllocError, Global};
 use std::process::Abort;
@@ -51,7 +51,7 @@ fn verifies_under_a_payload(rt: HostRuntime) -> Result<(), Fail> {
         (&with, b"", "refused Truncated at 0\n", 1),
     ];
     for (arguments, bytes, text, status) in rows {
-        prints(&rt, arguments, bytes, text, status)?;
+        prints(&rt, arguments, bytes, text, status);
     }
     Ok(())
 }
@@ -59,20 +59,20 @@ fn verifies_under_a_payload(rt: HostRuntime) -> Result<(), Fail> {
 #[test]
 fn authenticates_the_payload_that_is_passed(rt: HostRuntime) -> Result<(), Fail> {
     let detached = detached(rt.alloc())?;
-    let refused = ("refused BadAuth at 8\n", 1);
-    let rows: [(&str, (&str, u8)); 7] = [
+    const REFUSED: (&str, u8) = ("refused BadAuth at 8\n", 1);
+    const ROWS: &[(&str, (&str, u8))] = &[
         ("6869", ("authentic mac0 alg 5 payload 2 taken 42\n", 0)),
-        ("6868", refused),
-        ("68", refused),
-        ("686900", refused),
+        ("6868", REFUSED),
+        ("68", REFUSED),
+        ("686900", REFUSED),
         // The payload of no byte, whose length is 0.
-        ("", refused),
+        ("", REFUSED),
         ("zz", ("fault line payload\n", 2)),
         ("686", ("fault line payload\n", 2)),
     ];
-    for (payload, (text, status)) in rows {
+    for &(payload, (text, status)) in ROWS {
         let verify = ["verify", "--keys", KEYS, "--payload", payload];
-        prints(&rt, verify.as_slice(), detached.as_slice(), text, status)?;
+        prints(&rt, verify.as_slice(), detached.as_slice(), text, status);
     }
     Ok(())
 }
@@ -84,7 +84,7 @@ fn verifies_a_payload_of_no_byte(rt: HostRuntime) -> Result<(), Fail> {
     let bytes = joined(rt.alloc(), &[FRONT, b"\xf6\x58\x20", &tag])?;
     let verify = ["verify", "--keys", KEYS, "--payload", ""];
     let authentic = "authentic mac0 alg 5 payload 0 taken 42\n";
-    prints(&rt, verify.as_slice(), bytes.as_slice(), authentic, 0)?;
+    prints(&rt, verify.as_slice(), bytes.as_slice(), authentic, 0);
     Ok(())
 }
 
@@ -107,7 +107,7 @@ fn verifies_a_long_payload(rt: HostRuntime) -> Result<(), Fail> {
     let word = hex::encode(alloc, payload.as_slice())?;
     let verify = ["verify", "--keys", KEYS, "--payload", word.as_str()];
     let authentic = "authentic mac0 alg 5 payload 5000 taken 42\n";
-    prints(&rt, verify.as_slice(), bytes.as_slice(), authentic, 0)?;
+    prints(&rt, verify.as_slice(), bytes.as_slice(), authentic, 0);
     Ok(())
 }
 
@@ -123,10 +123,10 @@ fn answers_signed<'w>(
     vouch: &'w str,
     payload: &'w str,
     (text, status): (&str, u8),
-) -> Result<(), AllocError> {
+) {
     let front: &[u8] = b"\xd2\x84\x43\xa1\x01\x26\xa0\xf6\x58\x40";
-    let bytes = joined(rt.alloc(), &[front, &[0x5a; 64]])?;
-    let keys = point(rt.alloc(), MEMBER_Y)?;
+    let bytes = joined(rt.alloc(), &[front, &[0x5a; 64]]).expect(rt, "memory");
+    let keys = point(rt.alloc(), MEMBER_Y).expect(rt, "memory");
     let verify = [
         "verify",
         "--keys",
@@ -136,7 +136,7 @@ fn answers_signed<'w>(
         "--payload",
         payload,
     ];
-    prints(rt, verify.as_slice(), bytes.as_slice(), text, status)
+    prints(rt, verify.as_slice(), bytes.as_slice(), text, status);
 }
 
 #[test]
@@ -144,33 +144,32 @@ fn vouches_for_a_payload_that_is_passed(rt: HostRuntime) -> Result<(), Fail> {
     let good = vouch(rt.alloc())?;
     let authentic = ("authentic sign1 alg -7 payload 2 taken 74\n", 0);
     let refused = ("refused BadAuth at 8\n", 1);
-    answers_signed(&rt, good.as_str(), "6869", authentic)?;
-    answers_signed(&rt, good.as_str(), "6868", refused)?;
-    answers_signed(&rt, "", "6869", refused)?;
+    answers_signed(&rt, good.as_str(), "6869", authentic);
+    answers_signed(&rt, good.as_str(), "6868", refused);
+    answers_signed(&rt, "", "6869", refused);
     Ok(())
 }
 
 /// A run with these arguments prints a text that begins so, ends with 2, and has read nothing.
-pub fn refuses_line(
-    rt: &(impl Abort + Alloc<A = Global>),
-    arguments: &[&str],
-    begins: &[u8],
-) -> Result<(), AllocError> {
-    let (output, status, left) = ran(rt.alloc(), arguments, b"hi")?;
-    let is_refused = output.as_slice().starts_with(begins) && status == 2;
-    assert!(rt; is_refused && left.len() == 2, "{arguments:?}: {status}");
-    Ok(())
+pub fn refuses_line(rt: &(impl Abort + Alloc<A = Global>), arguments: &[&str], begins: &[u8]) {
+    let (output, status, left) = outcome(rt, arguments, b"hi");
+    let begins_so = output.as_slice().starts_with(begins);
+    is(
+        rt,
+        &arguments,
+        (begins_so, status, left.len()),
+        (true, 2, 2),
+    );
 }
 
 #[test]
-fn is_an_option_of_verify_alone(rt: HostRuntime) -> Result<(), Fail> {
-    let rows: [&[&str]; 3] = [
+fn is_an_option_of_verify_alone(rt: HostRuntime) {
+    const ROWS: &[&[&str]] = &[
         &["cwt", "--keys", KEYS, "--now", "0", "--payload", "6869"],
         &["digest", "--keys", KEYS, "--payload", "6869"],
         &["show", "--payload", "6869"],
     ];
-    for arguments in rows {
-        refuses_line(&rt, arguments, b"error: unexpected argument")?;
+    for &arguments in ROWS {
+        refuses_line(&rt, arguments, b"error: unexpected argument");
     }
-    Ok(())
 }

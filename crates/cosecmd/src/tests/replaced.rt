@@ -2,7 +2,7 @@
 
 ghost use Rattle.std.specs.Prelude.{◌<◌};
 
-use crate::tests::{key_set, message, verifier};
+use crate::tests::{is, key_set, message, verifier};
 use cose_msg::{KeySet, Never, Nothing, SliceIntake, Stop, Verdict, Wanted, verify};
 use std::process::Abort;
 use std::test::Fail;
@@ -29,7 +29,7 @@ fn is_alike_in_pieces(
 ) {
     for cut in 1..=9usize {
         let answer = outcome(keys, bytes, cut);
-        assert_eq!(rt; answer, whole, "{bytes:?} in pieces of {cut}");
+        is(rt, &(bytes, cut), answer, whole);
     }
 }
 
@@ -42,7 +42,7 @@ fn refuses_each_at(rt: &impl Abort, keys: KeySet, bytes: &[u8; 44], place: usize
         replaced[place] = value;
         let whole = outcome(keys, &replaced, 64);
         let is_authentic = matches!(whole.0, Ok(Verdict::Authentic { .. }));
-        assert_eq!(rt; is_authentic, value == bytes[place], "{value} at {place}");
+        is(rt, &(value, place), is_authentic, value == bytes[place]);
         is_alike_in_pieces(rt, keys, &replaced, whole);
     }
 }

@@ -7,7 +7,7 @@ ghost use Rattle.cose_msg.specs.Verifier.{is_detached};
 use crate::tests::feeding::feed_all;
 use crate::tests::messages::answers_read;
 use crate::tests::tables::answers_under_table;
-use crate::tests::{KEY, KEYS, hmac, refused, verified_in_pieces, verifier};
+use crate::tests::{KEY, KEYS, hmac, is, refused, verified_in_pieces, verifier};
 use cose_msg::{Alg, KeySet, Kind, Reason, Refusal, Status, Store, Verdict, Verifier, Wanted};
 use std::alloc::Global;
 use std::process::Abort;
@@ -44,10 +44,11 @@ pub fn answers_in_pieces(
 {
     let mut store = Store::<16>::new();
     let answer = verified_in_pieces(verifier, bytes, cut, &mut store);
-    assert_eq!(rt;
+    is(
+        rt,
+        &(bytes, cut),
         (answer, verifier.taken()),
         (Ok(verdict), taken),
-        "{bytes:?} in pieces of {cut}"
     );
 }
 
@@ -64,10 +65,11 @@ pub fn ends_in_pieces(
     let mut store = Store::<16>::new();
     feed_all(rt, verifier, bytes, cut, &mut store);
     let ended = verifier.end();
-    assert_eq!(rt;
+    is(
+        rt,
+        &(bytes, cut),
         (ended, verifier.taken()),
         (status, taken),
-        "{bytes:?} in pieces of {cut}"
     );
 }
 
@@ -92,7 +94,7 @@ fn refuses(
 
 #[test]
 fn refuses_what_stands_first(rt: HostRuntime) -> Result<(), Fail> {
-    let rows: [(&str, (Reason, u64, usize)); 14] = [
+    const ROWS: &[(&str, (Reason, u64, usize))] = &[
         ("", (Reason::Truncated, 0, 0)),
         ("d0", (Reason::Encrypted, 0, 1)),
         ("d862", (Reason::SeveralParties, 0, 2)),
@@ -109,7 +111,7 @@ fn refuses_what_stands_first(rt: HostRuntime) -> Result<(), Fail> {
         ("d18446a2010518010500", (Reason::DuplicateLabel, 6, 9)),
         ("d18443a10105a04268", (Reason::Truncated, 9, 9)),
     ];
-    for (bytes, answer) in rows {
+    for &(bytes, answer) in ROWS {
         refuses(&rt, KEYS, bytes, answer)?;
     }
     Ok(())
@@ -117,7 +119,7 @@ fn refuses_what_stands_first(rt: HostRuntime) -> Result<(), Fail> {
 
 #[test]
 fn refuses_headers(rt: HostRuntime) -> Result<(), Fail> {
-    let rows: [(&str, (Reason, u64, usize)); 13] = [
+    const ROWS: &[(&str, (Reason, u64, usize))] = &[
         ("d18443a10105a1010500", (Reason::BothBuckets, 7, 9)),
         (
             "d18446a20105028101a102810100",
@@ -141,7 +143,7 @@ fn refuses_headers(rt: HostRuntime) -> Result<(), Fail> {
         ("d18443a10105a20a000a0042", (Reason::DuplicateLabel, 9, 11)),
         ("d18443a10105a20a000a", (Reason::Truncated, 10, 10)),
     ];
-    for (bytes, answer) in rows {
+    for &(bytes, answer) in ROWS {
         refuses(&rt, KEYS, bytes, answer)?;
     }
     Ok(())
@@ -149,13 +151,13 @@ fn refuses_headers(rt: HostRuntime) -> Result<(), Fail> {
 
 #[test]
 fn refuses_where_no_one_key_fits(rt: HostRuntime) -> Result<(), Fail> {
-    let rows: [(&str, &str, (Reason, u64, usize)); 4] = [
+    const ROWS: &[(&str, &str, (Reason, u64, usize))] = &[
         (KEYS, UNPROTECTED, (Reason::AlgUnprotected, 7, 7)),
         (KEYS, "d18442b800a1010542", (Reason::AlgUnprotected, 8, 8)),
         (KEYS, "d18440a042", (Reason::NoAlg, 4, 4)),
         (BOTH_FIT, WITH_KID, (Reason::AmbiguousKey, 10, 10)),
     ];
-    for (keys, bytes, answer) in rows {
+    for &(keys, bytes, answer) in ROWS {
         refuses(&rt, keys, bytes, answer)?;
     }
     Ok(())
@@ -198,13 +200,7 @@ const fn tagged<'a>(keys: &'a str, front: &'a str, structure: &'a str, taken: u6
 }
 
 /// The message is authentic in pieces of at most this length, and the sink holds its payload.
-fn authenticates_in_pieces(
-    rt: &impl Abort,
-    keys: &KeySet,
-    row: &Row,
-    message: &[u8],
-    cut: usize,
-) -> Result<(), Fail> {
+fn authenticates_in_pieces(rt: &impl Abort, keys: &KeySet, row: &Row, message: &[u8], cut: usize) {
     let front = row.front;
     let authentic = Verdict::Authentic {
         kind: Kind::Mac0,
@@ -215,13 +211,13 @@ fn authenticates_in_pieces(
     let mut verifier = verifier(*keys, row.wanted);
     let mut store = Store::<16>::new();
     let verdict = verified_in_pieces(&mut verifier, message, cut, &mut store);
-    assert_eq!(rt;
+    is(
+        rt,
+        &(front, cut),
         (verdict, verifier.taken(), store.bytes()),
         (Ok(authentic), row.taken, b"hi".as_slice()),
-        "{front} in pieces of {cut}"
     );
     completes_in_pieces(rt, keys, row, message, cut);
-    Ok(())
 }
 
 /// The same, where the pieces are fed.
@@ -230,10 +226,11 @@ fn completes_in_pieces(rt: &impl Abort, keys: &KeySet, row: &Row, message: &[u8]
     let mut verifier = verifier(*keys, row.wanted);
     let mut store = Store::<16>::new();
     let status = feed_all(rt, &mut verifier, message, cut, &mut store);
-    assert_eq!(rt;
+    is(
+        rt,
+        &(front, cut),
         (status, verifier.taken(), store.bytes()),
         (Status::Complete, row.taken, b"hi".as_slice()),
-        "{front} in pieces of {cut}"
     );
 }
 
@@ -260,7 +257,7 @@ fn authenticates(rt: &(impl Abort + Alloc<A = Global>), row: Row) -> Result<(), 
     message.push(0xff)?;
     let keys = KeySet::read(set.as_slice()).or(Err("no key set"))?;
     for cut in [1, 2, 3, 4, 5, 6, 7, 8, 9, 64] {
-        authenticates_in_pieces(rt, &keys, &row, message.as_slice(), cut)?;
+        authenticates_in_pieces(rt, &keys, &row, message.as_slice(), cut);
     }
     ends_early(rt, &keys, &row, message.as_slice());
     Ok(())
@@ -297,16 +294,16 @@ fn ends_early(rt: &impl Abort, keys: &KeySet, row: &Row, message: &[u8]) {
 
 #[test]
 fn takes_heads_of_any_width(rt: HostRuntime) -> Result<(), Fail> {
-    let wide = "db00000000000000119b00000000000000045b0000000000000003a10105a0\
+    const WIDE: &str = "db00000000000000119b00000000000000045b0000000000000003a10105a0\
         5b000000000000000268695b0000000000000020";
-    let rows: [Row; 4] = [
-        tagged(KEYS, "d18443a10105a04268695820", WITH_5, 44),
-        tagged(KEYS, "d18443a10105a059000268695820", WITH_5, 46),
-        tagged(KEYS, "d8118443a10105a04268695820", WITH_5, 45),
-        tagged(KEYS, wide, WITH_5, 83),
+    const ROWS: &[(&str, u64)] = &[
+        ("d18443a10105a04268695820", 44),
+        ("d18443a10105a059000268695820", 46),
+        ("d8118443a10105a04268695820", 45),
+        (WIDE, 83),
     ];
-    for row in rows {
-        authenticates(&rt, row)?;
+    for &(front, taken) in ROWS {
+        authenticates(&rt, tagged(KEYS, front, WITH_5, taken))?;
     }
     authenticates(
         &rt,
@@ -319,14 +316,14 @@ fn takes_heads_of_any_width(rt: HostRuntime) -> Result<(), Fail> {
 
 #[test]
 fn authenticates_by_the_headers(rt: HostRuntime) -> Result<(), Fail> {
-    let rows: [Row; 4] = [
-        tagged(FOR_5, UNPROTECTED, WITH_NONE, 44),
-        tagged(FOR_5, "d18442b800a101054268695820", WITH_NONE, 45),
-        tagged(FOR_5, "d18440a04268695820", WITH_NONE, 41),
-        tagged(KEYS, "d18443a10105a10a818181004268695820", WITH_5, 49),
+    const ROWS: &[(&str, &str, &str, u64)] = &[
+        (FOR_5, UNPROTECTED, WITH_NONE, 44),
+        (FOR_5, "d18442b800a101054268695820", WITH_NONE, 45),
+        (FOR_5, "d18440a04268695820", WITH_NONE, 41),
+        (KEYS, "d18443a10105a10a818181004268695820", WITH_5, 49),
     ];
-    for row in rows {
-        authenticates(&rt, row)?;
+    for &(keys, front, structure, taken) in ROWS {
+        authenticates(&rt, tagged(keys, front, structure, taken))?;
     }
     authenticates(
         &rt,

@@ -2,7 +2,7 @@
 
 use crate::tests::feeding::feed_all;
 use crate::tests::streams::Asked;
-use crate::tests::{SIGNED, counted, decision, point_set, signed, signed_digest, verifier};
+use crate::tests::{SIGNED, counted, decision, is, point_set, signed, signed_digest, verifier};
 use cose_msg::{Alg, KeySet, Kind, SliceIntake, Status, Store, Verdict, Verifier, Wanted, verify};
 use std::process::Abort;
 use std::test::Fail;
@@ -33,6 +33,18 @@ fn decides_fed(rt: &impl Abort, keys: KeySet, bytes: &[u8], cut: usize, asked: &
     decides(rt, &mut verifier, &other, asked.says);
 }
 
+/// In pieces of at most this many bytes the message gets the verdict that is said of its signature, whether it is verified or
+/// fed.
+fn asks_in_pieces(rt: &impl Abort, keys: KeySet, bytes: &[u8], cut: usize, asked: &Asked) {
+    let mut verifier = verifier(keys, Wanted::Tagged);
+    let mut intake = SliceIntake::new(bytes, cut.max(1));
+    let mut store = Store::<16>::new();
+    let answer = verify::<128, 1024, 4, _, _, _, _>(&mut verifier, &mut intake, &mut store, asked);
+    let seen = (answer, verifier.taken());
+    is(rt, &cut, seen, (Ok(decision(asked.says)), 74));
+    decides_fed(rt, keys, bytes, cut, asked);
+}
+
 #[test]
 fn asks_about_the_signature(rt: HostRuntime) -> Result<(), Fail> {
     let alloc = rt.alloc();
@@ -51,21 +63,7 @@ fn asks_about_the_signature(rt: HostRuntime) -> Result<(), Fail> {
             says,
         };
         for cut in [1usize, 2, 7, 64] {
-            let mut verifier = verifier(keys, Wanted::Tagged);
-            let mut intake = SliceIntake::new(bytes.as_slice(), cut.max(1));
-            let mut store = Store::<16>::new();
-            let answer = verify::<128, 1024, 4, _, _, _, _>(
-                &mut verifier,
-                &mut intake,
-                &mut store,
-                &asked,
-            );
-            assert_eq!(rt;
-                (answer, verifier.taken()),
-                (Ok(decision(says)), 74),
-                "in pieces of {cut}"
-            );
-            decides_fed(&rt, keys, bytes.as_slice(), cut, &asked);
+            asks_in_pieces(&rt, keys, bytes.as_slice(), cut, &asked);
         }
     }
     Ok(())

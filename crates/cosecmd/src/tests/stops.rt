@@ -7,8 +7,8 @@ ghost use Rattle.cose_msg.specs.Verifier.{is_detached};
 use crate::tests::cwt::example;
 use crate::tests::streams::{Asked, FailingIntake, FailingSink};
 use crate::tests::{
-    KEY, SIGNED, authentic, context, decision, hmac, joined, key_set, message, point_set, signed,
-    signed_digest, verifier,
+    KEY, SIGNED, authentic, context, decision, hmac, is, joined, key_set, message, point_set,
+    signed, signed_digest, verifier,
 };
 use cose_msg::{
     Alg, EcVerifier, Fed, Intake, KeySet, Kind, Never, Nothing, Reason, Refusal, Sink, SliceIntake,
@@ -90,10 +90,8 @@ fn stays_stopped<const H: usize>(
     };
     let fed = verifier.feed(bytes);
     let ended = verifier.end();
-    assert_eq!(rt;
-        (fed, ended, verifier.taken(), verifier.want()),
-        (nothing, Status::Stopped, taken, 0)
-    );
+    let seen = (fed, ended, verifier.taken(), verifier.want());
+    is(rt, &taken, seen, (nothing, Status::Stopped, taken, 0));
 }
 
 impl<E: EcVerifier> Case<'_, E> {
@@ -110,10 +108,8 @@ impl<E: EcVerifier> Case<'_, E> {
         let mut intake = SliceIntake::new(self.bytes, 64);
         let mut store = Store::<128>::new();
         let verdict = answer(verifier, &mut intake, &mut store, &self.ec);
-        assert_eq!(rt;
-            (reset, verdict, store.bytes()),
-            (fresh, Ok(self.verdict), self.payload)
-        );
+        let seen = (reset, verdict, store.bytes());
+        is(rt, &"anew", seen, (fresh, Ok(self.verdict), self.payload));
     }
 
     /// In pieces of each length the message is authentic, and all of it is taken.
@@ -130,11 +126,8 @@ impl<E: EcVerifier> Case<'_, E> {
                 &mut Nothing,
                 &self.ec,
             );
-            assert_eq!(rt;
-                (verdict, verifier.taken()),
-                (Ok(self.verdict), self.bytes.len() as u64),
-                "in pieces of {cut}"
-            );
+            let seen = (verdict, verifier.taken());
+            is(rt, &cut, seen, (Ok(self.verdict), self.bytes.len() as u64));
         }
     }
 
@@ -155,15 +148,11 @@ impl<E: EcVerifier> Case<'_, E> {
         verifier.reset();
         verifier.feed(front);
         let ended = verifier.end();
-        assert_eq!(rt;
-            (verdict, taken, ended, verifier.taken()),
-            (
-                Ok(Verdict::Refused(refusal)),
-                refusal.place,
-                Status::Refused(refusal),
-                refusal.place,
-            )
-        );
+        let verdicts = (verdict, ended);
+        let truncated = (Ok(Verdict::Refused(refusal)), Status::Refused(refusal));
+        is(rt, &count, verdicts, truncated);
+        let places = (taken, verifier.taken());
+        is(rt, &count, places, (refusal.place, refusal.place));
     }
 
     /// The message, a byte at each call, and an intake that fails at the call of this number.
@@ -176,10 +165,9 @@ impl<E: EcVerifier> Case<'_, E> {
         let mut store = Store::<128>::new();
         let stop = answer(&mut verifier, &mut intake, &mut store, &self.ec);
         let again = answer(&mut verifier, &mut intake, &mut store, &self.ec);
-        assert_eq!(rt;
-            (stop, again, intake.takes()),
-            (Err(Stop::Intake), Err(Stop::Again), fails_at)
-        );
+        let seen = (stop, again, intake.takes());
+        let stops = (Err(Stop::Intake), Err(Stop::Again), fails_at);
+        is(rt, &fails_at, seen, stops);
         let taken = (fails_at as u64).saturating_sub(1);
         stays_stopped(rt, &mut verifier, self.bytes, taken);
         self.authenticates_anew(rt, &mut verifier);
@@ -199,10 +187,9 @@ impl<E: EcVerifier> Case<'_, E> {
             .payload
             .get(..fails_at.saturating_sub(1))
             .unwrap_or(&[]);
-        assert_eq!(rt;
-            (stop, again, sink.puts(), sink.bytes()),
-            (Err(Stop::Sink), Err(Stop::Again), fails_at, held)
-        );
+        let seen = (stop, again, sink.puts(), sink.bytes());
+        let stops = (Err(Stop::Sink), Err(Stop::Again), fails_at, held);
+        is(rt, &fails_at, seen, stops);
         let taken = self.payload_at.saturating_add(fails_at as u64);
         stays_stopped(rt, &mut verifier, self.bytes, taken);
         self.authenticates_anew(rt, &mut verifier);
@@ -226,10 +213,9 @@ impl<E: EcVerifier> Case<'_, E> {
         let mut intake = FailingIntake::new(self.bytes, self.bytes.len().saturating_add(1));
         let mut sink = FailingSink::<128>::new(self.payload.len().saturating_add(1));
         let verdict = answer(&mut verifier, &mut intake, &mut sink, &self.ec);
-        assert_eq!(rt;
-            (verdict, intake.takes(), sink.puts()),
-            (Ok(self.verdict), self.bytes.len(), self.payload.len())
-        );
+        let seen = (verdict, intake.takes(), sink.puts());
+        let wanted = (Ok(self.verdict), self.bytes.len(), self.payload.len());
+        is(rt, &"without a failure", seen, wanted);
     }
 }
 
@@ -327,7 +313,7 @@ fn stops_a_message_whose_headers_fill_their_room(rt: HostRuntime) -> Result<(), 
 fn tells_what_is_open_where_the_intake_fails(rt: HostRuntime) -> Result<(), Fail> {
     let keys = key_set().ok_or("no keys")?;
     let bytes = b"\xd1\x84\x43\xa1\x01\x05\xa2\x0a\x81\x81\x42hi\x0b\xc1\x00\x42";
-    let rows: [(usize, usize); 12] = [
+    const ROWS: &[(usize, usize)] = &[
         // Before the unprotected bucket.
         (1, 0),
         (7, 0),
@@ -345,16 +331,17 @@ fn tells_what_is_open_where_the_intake_fails(rt: HostRuntime) -> Result<(), Fail
         (17, 0),
         (18, 0),
     ];
-    for (fails_at, open_items) in rows {
+    for &(fails_at, open_items) in ROWS {
         let mut verifier = verifier(keys, Wanted::Tagged);
         let mut intake = FailingIntake::new(bytes, fails_at);
         let stop = answer(&mut verifier, &mut intake, &mut Store::<16>::new(), &Never);
         let open = verifier.open_items();
         verifier.reset();
-        assert_eq!(rt;
+        is(
+            &rt,
+            &fails_at,
             (stop, open, verifier.open_items()),
             (Err(Stop::Intake), open_items, 0),
-            "at call {fails_at}"
         );
     }
     Ok(())

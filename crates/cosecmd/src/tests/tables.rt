@@ -1,6 +1,6 @@
 //! Messages under tables of keys: how many usable keys a table takes, and that it finds what the key set finds.
 
-use crate::tests::{context, message, prints, refused};
+use crate::tests::{context, is, message, prints, refused};
 use cose_msg::{KeyTable, Never, Reason, Refusal, SliceIntake, Store, Verdict, Verifier, verify};
 use std::alloc::Global;
 use std::process::Abort;
@@ -19,7 +19,7 @@ pub fn answers_under_table(rt: &impl Abort, set: &[u8], bytes: &[u8], verdict: V
     let mut intake = SliceIntake::new(bytes, 64);
     let mut store = Store::<16>::new();
     let answer = verify::<128, 1024, 4, _, _, _, _>(&mut verifier, &mut intake, &mut store, &Never);
-    assert_eq!(rt; answer, Ok(verdict), "{bytes:?}");
+    is(rt, &bytes, answer, Ok(verdict));
 }
 
 /// A key set in hexadecimal: this head, this many keys whose secret is `a`, and another one.
@@ -32,39 +32,58 @@ fn set_of(alloc: Global, head: &str, count: usize, last: &str) -> Result<String,
     Ok(set)
 }
 
+/// Under such a key set `verify` prints this for the message, and ends with this status.
+fn verifies_under(
+    rt: &(impl Abort + Alloc<A = Global>),
+    (head, count, last): (&str, usize, &str),
+    message: &[u8],
+    (text, status): (&str, u8),
+) -> Result<(), Fail> {
+    let set = set_of(rt.alloc(), head, count, last)?;
+    let words = ["verify", "--keys", set.as_str()];
+    prints(rt, words.as_slice(), message, text, status);
+    Ok(())
+}
+
 #[test]
 fn takes_sixteen_usable_keys(rt: HostRuntime) -> Result<(), Fail> {
-    let alloc = rt.alloc();
-    let bytes = message(alloc)?;
-    let rows: [(&str, usize, &str, &str, u8); 3] = [
+    let bytes = message(rt.alloc())?;
+    const ROWS: &[(&str, usize, &str, &str, u8)] = &[
         ("90", 16, "", "refused AmbiguousKey at 7\n", 1),
         ("91", 17, "", "fault keys BadKeySet at 0\n", 2),
         ("91", 16, UNUSABLE, "refused AmbiguousKey at 7\n", 1),
     ];
-    for (head, count, last, text, status) in rows {
-        let set = set_of(alloc, head, count, last)?;
-        let words = ["verify", "--keys", set.as_str()];
-        prints(&rt, words.as_slice(), bytes.as_slice(), text, status)?;
+    for &(head, count, last, text, status) in ROWS {
+        verifies_under(&rt, (head, count, last), bytes.as_slice(), (text, status))?;
+    }
+    Ok(())
+}
+
+/// The bytes of such a key set.
+fn bytes_of_set(alloc: Global, head: &str, count: usize, last: &str) -> Result<Vec<u8>, Fail> {
+    let set = set_of(alloc, head, count, last)?;
+    Ok(hex::decode(alloc, set.as_str()).or(Err("no hexadecimal"))?)
+}
+
+#[test]
+fn finds_what_a_set_finds(rt: HostRuntime) -> Result<(), Fail> {
+    let bytes = message(rt.alloc())?;
+    let verdict = refused(Reason::AmbiguousKey, 7);
+    const SETS: &[(&str, &str)] = &[("90", ""), ("91", UNUSABLE)];
+    for &(head, last) in SETS {
+        let set = bytes_of_set(rt.alloc(), head, 16, last)?;
+        answers_under_table(&rt, set.as_slice(), bytes.as_slice(), verdict);
     }
     Ok(())
 }
 
 #[test]
-fn finds_what_a_set_finds(rt: HostRuntime) -> Result<(), Fail> {
-    let alloc = rt.alloc();
-    let bytes = message(alloc)?;
-    for (head, count, last) in [("90", 16usize, ""), ("91", 16, UNUSABLE)] {
-        let set = set_of(alloc, head, count, last)?;
-        let set = hex::decode(alloc, set.as_str()).or(Err("no hexadecimal"))?;
-        let verdict = refused(Reason::AmbiguousKey, 7);
-        answers_under_table(&rt, set.as_slice(), bytes.as_slice(), verdict);
-    }
-    let set = set_of(alloc, "91", 17, "")?;
-    let set = hex::decode(alloc, set.as_str()).or(Err("no hexadecimal"))?;
-    let full = Some(Refusal {
+fn refuses_a_seventeenth_usable_key(rt: HostRuntime) -> Result<(), Fail> {
+    let set = bytes_of_set(rt.alloc(), "91", 17, "")?;
+    let full = Refusal {
         reason: Reason::BadKeySet,
         place: 0,
-    });
-    assert_eq!(rt; KeyTable::<16>::read(set.as_slice()).err(), full);
+    };
+    assert_eq!(rt; KeyTable::<16>::read(set.as_slice()).err(), Some(full));
     Ok(())
 }

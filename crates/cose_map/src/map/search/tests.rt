@@ -7,7 +7,7 @@ use std::process::Abort;
 
 #[test]
 fn finds_labels_in_any_order(rt: HostRuntime) {
-    let rows: [(&[u8], &[u8], u64); 3] = [
+    const ROWS: &[(&[u8], &[u8], u64)] = &[
         // In increasing order in both.
         (
             b"\xa3\x01\x05\x04\x41\x00\x05\x41\x00",
@@ -23,7 +23,7 @@ fn finds_labels_in_any_order(rt: HostRuntime) {
             105,
         ),
     ];
-    for (first, second, place) in rows {
+    for &(first, second, place) in ROWS {
         let want = Refusal {
             reason: Reason::BothBuckets,
             place,

@@ -1,4 +1,5 @@
 use Rattle.std.proofs.Common.{◌≤◌, sym, ◌∙◌, arith}
+use Rattle.std.proofs.lemmas.Grind.{common_steps}
 use Rattle.std.proofs.lemmas.List.{length-take}
 use Rattle.cose_msg.proofs.Runs.{first_of, is_done, marks_nothing, promise_kept, put_done, put_failed}
 use Rattle.cose_msg.proofs.Streaming.{first_is_taken, goes_on, marks_failure, sink_failed}
@@ -25,3 +26,45 @@ returns-then-is_err-clause-streams g c =
           (put_failed _ _ _ c.put.result failed c.put.ensures.bytes) (c.put.ensures.failure ∙ marks_failure _ c.put.result failed)
           (λ sure. is_done c.put.result failed (c.put.ensures.promised sure)),
     )
+
+pub pieces-init : goal.pieces-init
+pieces-init g c = grind (arith, common_steps)
+
+pub returns-then-left-eq0-clause-streams : goal.returns-then-left-eq0-clause-streams
+returns-then-left-eq0-clause-streams g c = grind (arith, common_steps)
+
+pub returns-then-left-eq0-clause-intake_failure : goal.returns-then-left-eq0-clause-intake_failure
+returns-then-left-eq0-clause-intake_failure g c = grind (arith, common_steps)
+
+pub min-asked-requires : goal.min-asked-requires
+min-asked-requires g c = grind (arith, common_steps)
+
+pub take-requires : goal.take-requires
+take-requires g c = grind (arith, common_steps)
+
+pub returns-in-Err-clause-streams : goal.returns-in-Err-clause-streams
+returns-in-Err-clause-streams g c = grind (arith, common_steps)
+
+pub returns-in-Err-clause-intake_failure : goal.returns-in-Err-clause-intake_failure
+returns-in-Err-clause-intake_failure g c = grind (arith, common_steps)
+
+pub returns-then-count-eq0-clause-streams : goal.returns-then-count-eq0-clause-streams
+returns-then-count-eq0-clause-streams g c = grind (arith, common_steps)
+
+pub shared_whole_as_front-piece : goal.shared_whole_as_front-piece
+shared_whole_as_front-piece g c = grind (arith, common_steps)
+
+pub overflow_sub-left : goal.overflow_sub-left
+overflow_sub-left g c = grind (arith, common_steps)
+
+pub update-requires : goal.update-requires
+update-requires g c = grind (arith, common_steps)
+
+pub put-requires : goal.put-requires
+put-requires g c = grind (arith, common_steps)
+
+pub returns-then-is_err-clause-intake_failure : goal.returns-then-is_err-clause-intake_failure
+returns-then-is_err-clause-intake_failure g c = grind (arith, common_steps)
+
+pub pieces-smaller : goal.pieces-smaller
+pieces-smaller g c = grind (arith, common_steps)

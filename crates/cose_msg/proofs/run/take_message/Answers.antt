@@ -269,3 +269,15 @@ returns-then-count-eq0-clause-beside g c = λ task s B h detached. (refl, put_no
 pub returns-then-is_err-clause-beside : goal.returns-then-is_err-clause-beside
 returns-then-is_err-clause-beside g c = λ task s B h detached.
     absurd (none_apart (c.pieces.invariant.0 task s B h).stands.so_far detached (sym c.is_in_payload-in_payload.ensures ∙ c.if-in_payload.true))
+
+pub slice_bounds-take-end : goal.slice_bounds-take-end
+slice_bounds-take-end g c = grind (arith, common_steps)
+
+pub slice_bounds-take-end-in-pieces : goal.slice_bounds-take-end-in-pieces
+slice_bounds-take-end-in-pieces g c = grind (arith, common_steps)
+
+pub slice_bounds-piece-end : goal.slice_bounds-piece-end
+slice_bounds-piece-end g c = grind (arith, common_steps)
+
+pub slice_bounds-piece-end-in-pieces : goal.slice_bounds-piece-end-in-pieces
+slice_bounds-piece-end-in-pieces g c = grind (arith, common_steps)

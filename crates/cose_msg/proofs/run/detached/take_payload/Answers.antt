@@ -224,3 +224,24 @@ returns-in-Err-clause-sink_failure g c = c.pieces.invariant.6 ∙ unfailed _ _ r
 
 pub returns-then-asked-eq0-clause-payload_failure : goal.returns-then-asked-eq0-clause-payload_failure
 returns-then-asked-eq0-clause-payload_failure g c = c.pieces.invariant.5 ∙ unfailed _ _ refl
+
+pub payload_wanted-requires : goal.payload_wanted-requires
+payload_wanted-requires g c κs = grind (arith, common_steps)
+
+pub slice_bounds-take-end : goal.slice_bounds-take-end
+slice_bounds-take-end g c = grind (arith, common_steps)
+
+pub slice_bounds-take-end-in-pieces : goal.slice_bounds-take-end-in-pieces
+slice_bounds-take-end-in-pieces g c = grind (arith, common_steps)
+
+pub slice_bounds-piece-end : goal.slice_bounds-piece-end
+slice_bounds-piece-end g c = grind (arith, common_steps)
+
+pub slice_bounds-piece-end-in-pieces : goal.slice_bounds-piece-end-in-pieces
+slice_bounds-piece-end-in-pieces g c = grind (arith, common_steps)
+
+pub feed_payload-requires : goal.feed_payload-requires
+feed_payload-requires g c κs = grind (arith, common_steps)
+
+pub pieces-smaller : goal.pieces-smaller
+pieces-smaller g c = grind (arith, common_steps)

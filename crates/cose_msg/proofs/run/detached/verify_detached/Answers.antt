@@ -1,4 +1,5 @@
-use Rattle.std.proofs.Common.{◌++◌, refl, sym, ap, ◌∙◌}
+use Rattle.std.proofs.Common.{◌++◌, refl, sym, ap, ◌∙◌, arith}
+use Rattle.std.proofs.lemmas.Grind.{common_steps}
 use Rattle.std.specs.Prelude.{is_err}
 use Rattle.cose_msg.specs.Kept.{verdict_in}
 use Rattle.cose_msg.specs.Message.{given}
@@ -82,3 +83,90 @@ returns-in-Err-clause-context g c = λ setting s B h. c.take_detached.ensures.co
 
 pub returns-in-Err-clause-sure : goal.returns-in-Err-clause-sure
 returns-in-Err-clause-sure g c = λ setting s B h enough. rw c.in-Err.is at (c.take_detached.ensures.sure (to_verify setting) s B h (is_of_detached h c.requires.detached) enough)
+
+pub settled_stays-requires : goal.settled_stays-requires
+settled_stays-requires g c = grind (arith, common_steps)
+
+pub nothing_stands_after_the_bytes-requires : goal.nothing_stands_after_the_bytes-requires
+nothing_stands_after_the_bytes-requires g c = grind (arith, common_steps)
+
+pub deciding_goes_last-requires : goal.deciding_goes_last-requires
+deciding_goes_last-requires g c = grind (arith, common_steps)
+
+pub payload_stays-requires : goal.payload_stays-requires
+payload_stays-requires g c = grind (arith, common_steps)
+
+pub waits-requires : goal.waits-requires
+waits-requires g c = grind (arith, common_steps)
+
+pub kept_answer-requires : goal.kept_answer-requires
+kept_answer-requires g c κs = grind (arith, common_steps)
+
+pub returns-in-Some-clause-again : goal.returns-in-Some-clause-again
+returns-in-Some-clause-again g c = grind (arith, common_steps)
+
+pub returns-in-Some-clause-inspects : goal.returns-in-Some-clause-inspects
+returns-in-Some-clause-inspects g c = grind (arith, common_steps)
+
+pub returns-in-Some-clause-detached : goal.returns-in-Some-clause-detached
+returns-in-Some-clause-detached g c = grind (arith, common_steps)
+
+pub returns-in-Some-clause-held : goal.returns-in-Some-clause-held
+returns-in-Some-clause-held g c = grind (arith, common_steps)
+
+pub returns-in-Some-clause-opened : goal.returns-in-Some-clause-opened
+returns-in-Some-clause-opened g c = grind (arith, common_steps)
+
+pub conclude-requires : goal.conclude-requires
+conclude-requires g c κs = grind (arith, common_steps)
+
+pub returns-in-Ok-clause-kept : goal.returns-in-Ok-clause-kept
+returns-in-Ok-clause-kept g c = grind (arith, common_steps)
+
+pub returns-in-Ok-clause-again : goal.returns-in-Ok-clause-again
+returns-in-Ok-clause-again g c = grind (arith, common_steps)
+
+pub returns-in-Ok-clause-stopped : goal.returns-in-Ok-clause-stopped
+returns-in-Ok-clause-stopped g c = grind (arith, common_steps)
+
+pub returns-in-Ok-clause-inspects : goal.returns-in-Ok-clause-inspects
+returns-in-Ok-clause-inspects g c = grind (arith, common_steps)
+
+pub returns-in-Ok-clause-detached : goal.returns-in-Ok-clause-detached
+returns-in-Ok-clause-detached g c = grind (arith, common_steps)
+
+pub returns-in-Ok-clause-held : goal.returns-in-Ok-clause-held
+returns-in-Ok-clause-held g c = grind (arith, common_steps)
+
+pub returns-in-Ok-clause-opened : goal.returns-in-Ok-clause-opened
+returns-in-Ok-clause-opened g c = grind (arith, common_steps)
+
+pub returns-in-Ok-clause-sink_failure : goal.returns-in-Ok-clause-sink_failure
+returns-in-Ok-clause-sink_failure g c = grind (arith, common_steps)
+
+pub returns-in-Ok-clause-sure : goal.returns-in-Ok-clause-sure
+returns-in-Ok-clause-sure g c = grind (arith, common_steps)
+
+pub returns-in-Err-clause-kept : goal.returns-in-Err-clause-kept
+returns-in-Err-clause-kept g c = grind (arith, common_steps)
+
+pub returns-in-Err-clause-again : goal.returns-in-Err-clause-again
+returns-in-Err-clause-again g c = grind (arith, common_steps)
+
+pub returns-in-Err-clause-stopped : goal.returns-in-Err-clause-stopped
+returns-in-Err-clause-stopped g c = grind (arith, common_steps)
+
+pub returns-in-Err-clause-inspects : goal.returns-in-Err-clause-inspects
+returns-in-Err-clause-inspects g c = grind (arith, common_steps)
+
+pub returns-in-Err-clause-detached : goal.returns-in-Err-clause-detached
+returns-in-Err-clause-detached g c = grind (arith, common_steps)
+
+pub returns-in-Err-clause-held : goal.returns-in-Err-clause-held
+returns-in-Err-clause-held g c = grind (arith, common_steps)
+
+pub returns-in-Err-clause-opened : goal.returns-in-Err-clause-opened
+returns-in-Err-clause-opened g c = grind (arith, common_steps)
+
+pub returns-in-Err-clause-sink_failure : goal.returns-in-Err-clause-sink_failure
+returns-in-Err-clause-sink_failure g c = grind (arith, common_steps)

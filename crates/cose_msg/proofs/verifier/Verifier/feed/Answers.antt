@@ -1,4 +1,5 @@
 use Rattle.std.specs.Prelude.{◌==◌}
+use Rattle.std.proofs.lemmas.Grind.{common_steps}
 use Rattle.std.proofs.Common.{rules, ◌≡◌, ◌+◌, ◌<◌, ◌≤◌, ℕ, true, false, List, length, refl, sym, ap, ◌∙◌, arith}
 use Rattle.cose_msg.specs.Phase.{in_payload, want_of}
 use Rattle.cose_msg.specs.Status.{status_of_reading}
@@ -131,3 +132,114 @@ take_piece-requires g c κs =
         ),
       ),
     )
+
+pub messages_are_bounded-requires : goal.messages_are_bounded-requires
+messages_are_bounded-requires g c = grind (arith, common_steps)
+
+pub waits-requires : goal.waits-requires
+waits-requires g c = grind (arith, common_steps)
+
+pub want-requires : goal.want-requires
+want-requires g c κs = grind (arith, common_steps)
+
+pub status-requires : goal.status-requires
+status-requires g c κs = grind (arith, common_steps)
+
+pub returns-then-want-eq0-clause-taken : goal.returns-then-want-eq0-clause-taken
+returns-then-want-eq0-clause-taken g c = grind (arith, common_steps)
+
+pub returns-then-want-eq0-clause-payload : goal.returns-then-want-eq0-clause-payload
+returns-then-want-eq0-clause-payload g c = grind (arith, common_steps)
+
+pub returns-then-want-eq0-clause-fits : goal.returns-then-want-eq0-clause-fits
+returns-then-want-eq0-clause-fits g c = grind (arith, common_steps)
+
+pub returns-then-want-eq0-clause-ordered : goal.returns-then-want-eq0-clause-ordered
+returns-then-want-eq0-clause-ordered g c = grind (arith, common_steps)
+
+pub returns-then-want-eq0-clause-among : goal.returns-then-want-eq0-clause-among
+returns-then-want-eq0-clause-among g c = grind (arith, common_steps)
+
+pub returns-then-want-eq0-clause-none : goal.returns-then-want-eq0-clause-none
+returns-then-want-eq0-clause-none g c = grind (arith, common_steps)
+
+pub returns-then-want-eq0-clause-stands : goal.returns-then-want-eq0-clause-stands
+returns-then-want-eq0-clause-stands g c = grind (arith, common_steps)
+
+pub returns-then-want-eq0-clause-counted : goal.returns-then-want-eq0-clause-counted
+returns-then-want-eq0-clause-counted g c = grind (arith, common_steps)
+
+pub returns-then-want-eq0-clause-again : goal.returns-then-want-eq0-clause-again
+returns-then-want-eq0-clause-again g c = grind (arith, common_steps)
+
+pub returns-then-want-eq0-clause-inspects : goal.returns-then-want-eq0-clause-inspects
+returns-then-want-eq0-clause-inspects g c = grind (arith, common_steps)
+
+pub returns-then-want-eq0-clause-detached : goal.returns-then-want-eq0-clause-detached
+returns-then-want-eq0-clause-detached g c = grind (arith, common_steps)
+
+pub returns-then-want-eq0-clause-context : goal.returns-then-want-eq0-clause-context
+returns-then-want-eq0-clause-context g c = grind (arith, common_steps)
+
+pub returns-then-want-eq0-clause-held : goal.returns-then-want-eq0-clause-held
+returns-then-want-eq0-clause-held g c = grind (arith, common_steps)
+
+pub returns-then-want-eq0-clause-opened : goal.returns-then-want-eq0-clause-opened
+returns-then-want-eq0-clause-opened g c = grind (arith, common_steps)
+
+pub waits-requires-in-pieces : goal.waits-requires-in-pieces
+waits-requires-in-pieces g c = grind (arith, common_steps)
+
+pub slice_bounds-rest-count : goal.slice_bounds-rest-count
+slice_bounds-rest-count g c = grind (arith, common_steps)
+
+pub slice_bounds-rest-start : goal.slice_bounds-rest-start
+slice_bounds-rest-start g c = grind (arith, common_steps)
+
+pub slice_bounds-rest-end : goal.slice_bounds-rest-end
+slice_bounds-rest-end g c = grind (arith, common_steps)
+
+pub step-count-requires : goal.step-count-requires
+step-count-requires g c κs = grind (arith, common_steps)
+
+pub status-requires-then-count-eq0 : goal.status-requires-then-count-eq0
+status-requires-then-count-eq0 g c κs = grind (arith, common_steps)
+
+pub returns-then-count-eq0-clause-fits : goal.returns-then-count-eq0-clause-fits
+returns-then-count-eq0-clause-fits g c = grind (arith, common_steps)
+
+pub returns-then-count-eq0-clause-ordered : goal.returns-then-count-eq0-clause-ordered
+returns-then-count-eq0-clause-ordered g c = grind (arith, common_steps)
+
+pub returns-then-count-eq0-clause-among : goal.returns-then-count-eq0-clause-among
+returns-then-count-eq0-clause-among g c = grind (arith, common_steps)
+
+pub returns-then-count-eq0-clause-stands : goal.returns-then-count-eq0-clause-stands
+returns-then-count-eq0-clause-stands g c = grind (arith, common_steps)
+
+pub returns-then-count-eq0-clause-counted : goal.returns-then-count-eq0-clause-counted
+returns-then-count-eq0-clause-counted g c = grind (arith, common_steps)
+
+pub returns-then-count-eq0-clause-inspects : goal.returns-then-count-eq0-clause-inspects
+returns-then-count-eq0-clause-inspects g c = grind (arith, common_steps)
+
+pub returns-then-count-eq0-clause-held : goal.returns-then-count-eq0-clause-held
+returns-then-count-eq0-clause-held g c = grind (arith, common_steps)
+
+pub returns-then-count-eq0-clause-opened : goal.returns-then-count-eq0-clause-opened
+returns-then-count-eq0-clause-opened g c = grind (arith, common_steps)
+
+pub is_in_payload-requires : goal.is_in_payload-requires
+is_in_payload-requires g c = grind (arith, common_steps)
+
+pub extended-payload-requires : goal.extended-payload-requires
+extended-payload-requires g c = grind (arith, common_steps)
+
+pub slice_bounds-take_piece-end : goal.slice_bounds-take_piece-end
+slice_bounds-take_piece-end g c = grind (arith, common_steps)
+
+pub overflow_add-used : goal.overflow_add-used
+overflow_add-used g c = grind (arith, common_steps)
+
+pub pieces-smaller : goal.pieces-smaller
+pieces-smaller g c = grind (arith, common_steps)

@@ -82,3 +82,6 @@ returns-in-Detached-clause-held g c = grind (arith, common_steps)
 
 pub returns-in-Detached-clause-opened : goal.returns-in-Detached-clause-opened
 returns-in-Detached-clause-opened g c = grind (arith, common_steps)
+
+pub slice_bounds-detached_piece-end : goal.slice_bounds-detached_piece-end
+slice_bounds-detached_piece-end g c = grind (arith, common_steps)

@@ -1,0 +1,24 @@
+use Rattle.std.proofs.Common.{arith}
+use Rattle.std.proofs.lemmas.Grind.{common_steps}
+use Rattle.cose_msg.proofs.hashing.Hashing.front.Goals as goal
+
+pub structure_front-requires : goal.structure_front-requires
+structure_front-requires c = grind (arith, common_steps)
+
+pub returns-in-Running-clause-appended : goal.returns-in-Running-clause-appended
+returns-in-Running-clause-appended c = grind (arith, common_steps)
+
+pub returns-in-Running-clause-front : goal.returns-in-Running-clause-front
+returns-in-Running-clause-front c = grind (arith, common_steps)
+
+pub returns-clause-appended : goal.returns-clause-appended
+returns-clause-appended c = grind (arith, common_steps)
+
+pub returns-clause-front : goal.returns-clause-front
+returns-clause-front c = grind (arith, common_steps)
+
+pub returns-2-clause-appended : goal.returns-2-clause-appended
+returns-2-clause-appended c = grind (arith, common_steps)
+
+pub returns-2-clause-front : goal.returns-2-clause-front
+returns-2-clause-front c = grind (arith, common_steps)
