@@ -250,10 +250,23 @@ fn stops_at_write(
     );
 }
 
-/// The same for each write that the run makes where none fails, and for the one after the last.
+/// A run with these words writes this into a writer that takes all at once, and ends with this status.
+fn writes_at_once(
+    rt: &(impl Abort + Alloc<A = Global>),
+    words: &[&str],
+    input: &[u8],
+    (text, status): (&[u8], u8),
+) {
+    let (output, ended, _reads) = ran_until(rt, words, input, 0);
+    is(rt, &words, (output.as_slice(), ended), (text, status));
+}
+
+/// The same for each write that the run makes where none fails, and for the one after the last. The text in pieces of eight
+/// bytes is the one that is written at once.
 fn stops_at_each_write(rt: &(impl Abort + Alloc<A = Global>), words: &[&str], input: &[u8]) {
     let (text, status, writes) = written_until(rt, words, input, 0, false);
     assert!(rt; 0 < writes, "{words:?}");
+    writes_at_once(rt, words, input, (text.as_slice(), status));
     let whole = (text.as_slice(), status, writes);
     for fails_at in 1..=writes.saturating_add(1) {
         stops_at_write(rt, words, input, whole, fails_at, false);
