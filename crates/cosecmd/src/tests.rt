@@ -40,7 +40,6 @@ use sha2::{Digest, Sha256};
 use std::alloc::{AllocError, Global};
 use std::fmt::Debug;
 use std::process::Abort;
-use std::test::Fail;
 
 /// The key, `Jefe` (RFC 4231 section 4.3).
 const KEY: &[u8] = b"Jefe";
@@ -116,8 +115,8 @@ fn cut(tag: &[u8; 32]) -> &[u8] {
 }
 
 /// The keys of that set.
-fn key_set() -> Option<KeySet<'static>> {
-    KeySet::read(KEY_SET).ok()
+fn key_set(rt: &impl Abort) -> KeySet<'static> {
+    KeySet::read(KEY_SET).expect(rt, "a key set")
 }
 
 /// The context of these keys: nothing is known in addition to the CWT tag.
@@ -207,42 +206,47 @@ fn is<T: PartialEq + Debug + Drop, C: Debug>(rt: &impl Abort, case: &C, seen: T,
     assert_eq!(rt; seen, wanted, "{case:?}");
 }
 
+/// The bytes that digits spell.
+fn bytes_of(rt: &(impl Abort + Alloc<A = Global>), digits: &str) -> Vec<u8> {
+    hex::decode(rt.alloc(), digits).expect(rt, "hexadecimal")
+}
+
 /// Several pieces, one after another.
-fn joined(alloc: Global, pieces: &[&[u8]]) -> Result<Vec<u8>, AllocError> {
-    let mut bytes = Vec::new(alloc);
+fn joined(rt: &(impl Abort + Alloc<A = Global>), pieces: &[&[u8]]) -> Vec<u8> {
+    let mut bytes = Vec::new(rt.alloc());
     for piece in pieces {
-        bytes.extend_from_slice(piece)?;
+        bytes.extend_from_slice(piece).expect(rt, "memory");
     }
-    Ok(bytes)
+    bytes
 }
 
 /// The message of 44 bytes.
-fn message(alloc: Global) -> Result<Vec<u8>, AllocError> {
+fn message(rt: &(impl Abort + Alloc<A = Global>)) -> Vec<u8> {
     let tag = hmac(KEY, STRUCTURE);
-    joined(alloc, &[FRONT, PAYLOAD, &tag])
+    joined(rt, &[FRONT, PAYLOAD, &tag])
 }
 
 /// The key of the point with that x, and y as a member of the key.
-fn point(alloc: Global, y: &str) -> Result<String, AllocError> {
-    format!(in alloc; "a401022001215820{X}22{y}")
+fn point(rt: &(impl Abort + Alloc<A = Global>), y: &str) -> String {
+    format!(in rt.alloc(); "a401022001215820{X}22{y}").expect(rt, "memory")
 }
 
 /// The key set of the point with both coordinates.
-fn point_set(alloc: Global) -> Result<Vec<u8>, Fail> {
-    Ok(hex::decode(alloc, point(alloc, MEMBER_Y)?.as_str()).or(Err("no hexadecimal"))?)
+fn point_set(rt: &(impl Abort + Alloc<A = Global>)) -> Vec<u8> {
+    bytes_of(rt, point(rt, MEMBER_Y).as_str())
 }
 
 /// A COSE_Sign1 of this beginning and this signature.
-fn signed(alloc: Global, front: &str, signature: &[u8]) -> Result<Vec<u8>, Fail> {
-    let mut bytes = hex::decode(alloc, front).or(Err("no hexadecimal"))?;
-    bytes.extend_from_slice(signature)?;
-    Ok(bytes)
+fn signed(rt: &(impl Abort + Alloc<A = Global>), front: &str, signature: &[u8]) -> Vec<u8> {
+    let mut bytes = bytes_of(rt, front);
+    bytes.extend_from_slice(signature).expect(rt, "memory");
+    bytes
 }
 
 /// The digest that the signature of the COSE_Sign1 of an empty payload is of.
-fn signed_digest(alloc: Global) -> Result<[u8; 32], Fail> {
-    let structure = hex::decode(alloc, SIGNED_STRUCTURE).or(Err("no hexadecimal"))?;
-    Ok(Sha256::digest(structure.as_slice()))
+fn signed_digest(rt: &(impl Abort + Alloc<A = Global>)) -> [u8; 32] {
+    let structure = bytes_of(rt, SIGNED_STRUCTURE);
+    Sha256::digest(structure.as_slice())
 }
 
 /// The verdict on a COSE_Mac0 of the payload `hi` by HMAC 256/256, which took this many bytes.

@@ -6,7 +6,6 @@ use crate::tests::streams::{NotingIntake, NotingSink};
 use crate::tests::{authentic, is, key_set, message, verifier};
 use cose_msg::{KeySet, Never, Status, Wanted, verify};
 use std::process::Abort;
-use std::test::Fail;
 
 /// A verifier that is fed the message as it was asked for wants as many bytes at each call, or `most` where it wants more, and
 /// completes the message.
@@ -42,12 +41,11 @@ fn asks_within<const C: usize>(rt: &impl Abort, keys: KeySet, bytes: &[u8])
 }
 
 #[test]
-fn asks_for_no_more_than_is_wanted(rt: HostRuntime) -> Result<(), Fail> {
-    let bytes = message(rt.alloc())?;
-    let keys = key_set().ok_or("no keys")?;
+fn asks_for_no_more_than_is_wanted(rt: HostRuntime) {
+    let bytes = message(&rt);
+    let keys = key_set(&rt);
     asks_within::<1>(&rt, keys, bytes.as_slice());
     asks_within::<3>(&rt, keys, bytes.as_slice());
     asks_within::<16>(&rt, keys, bytes.as_slice());
     asks_within::<4_096>(&rt, keys, bytes.as_slice());
-    Ok(())
 }

@@ -1,21 +1,31 @@
 //! What each option of a command changes in what is made, verified and admitted, and the help where the line asks for nothing.
 
 use crate::tests::cwt::made;
-use crate::tests::{FRONT, KEY, KEYS, PAYLOAD, hmac, joined, outcome, prints};
+use crate::tests::{FRONT, KEY, KEYS, PAYLOAD, hmac, is, joined, outcome, prints};
 use std::alloc::Global;
 use std::process::Abort;
-use std::test::Fail;
+
+/// The message of 44 bytes with the external data `01`.
+fn message_with_data(rt: &(impl Abort + Alloc<A = Global>)) -> Vec<u8> {
+    // The MAC_structure of the payload `hi` (RFC 9052 section 6.3).
+    let tag = hmac(KEY, b"\x84\x64MAC0\x43\xa1\x01\x05\x41\x01\x42hi");
+    joined(rt, &[FRONT, PAYLOAD, &tag])
+}
 
 #[test]
-fn makes_with_external_data(rt: HostRuntime) -> Result<(), Fail> {
-    // The MAC_structure of the payload `hi` with the external data `01` (RFC 9052 section 6.3).
-    let tag = hmac(KEY, b"\x84\x64MAC0\x43\xa1\x01\x05\x41\x01\x42hi");
-    let message = joined(rt.alloc(), &[FRONT, PAYLOAD, &tag])?;
-    let make = [
+fn makes_with_external_data(rt: HostRuntime) {
+    let message = message_with_data(&rt);
+    const MAKE: &[&str] = &[
         "make", "--alg", "5", "--key", KEYS, "--length", "2", "--aad", "01",
     ];
-    let (made, status, _left) = outcome(&rt, make.as_slice(), b"hi");
-    assert_eq!(rt; (made.as_slice(), status), (message.as_slice(), 0));
+    let (made, status, _left) = outcome(&rt, MAKE, b"hi");
+    let seen = (made.as_slice(), status);
+    is(&rt, &MAKE, seen, (message.as_slice(), 0));
+}
+
+#[test]
+fn verifies_with_external_data(rt: HostRuntime) {
+    let message = message_with_data(&rt);
     const AUTHENTIC: (&str, u8) = ("authentic mac0 alg 5 payload 2 taken 44\n", 0);
     const REFUSED: (&str, u8) = ("refused BadAuth at 10\n", 1);
     const ROWS: &[(&[&str], (&str, u8))] = &[
@@ -25,38 +35,43 @@ fn makes_with_external_data(rt: HostRuntime) -> Result<(), Fail> {
         (&["verify", "--keys", KEYS, "--aad", "02"], REFUSED),
     ];
     for &(arguments, (text, status)) in ROWS {
-        prints(&rt, arguments, made.as_slice(), text, status);
+        prints(&rt, arguments, message.as_slice(), text, status);
     }
-    Ok(())
 }
 
 #[test]
-fn admits_a_kind(rt: HostRuntime) -> Result<(), Fail> {
-    let tagged = made(rt.alloc(), b"\xa0")?;
-    let untagged = tagged.get(1..).unwrap_or(&[]);
-    assert_eq!(rt; (tagged.len(), untagged.len()), (43, 42));
-    let admitted = ("admitted\n", 0);
-    let wrong_tag = ("refused message WrongTag at 0\n", 1);
-    let rows: [(&str, &[u8], (&str, u8)); 6] = [
-        ("mac0", untagged, admitted),
-        ("mac0", &tagged, admitted),
-        ("tagged", untagged, wrong_tag),
-        ("tagged", &tagged, admitted),
-        ("sign1", untagged, ("refused message UnknownAlg at 6\n", 1)),
-        ("sign1", &tagged, wrong_tag),
+fn admits_a_kind(rt: HostRuntime) {
+    let token = made(&rt, b"\xa0");
+    is(&rt, &token, token.len(), 43);
+    const ADMITTED: (&str, u8) = ("admitted\n", 0);
+    const WRONG_TAG: (&str, u8) = ("refused message WrongTag at 0\n", 1);
+    const UNKNOWN_ALG: (&str, u8) = ("refused message UnknownAlg at 6\n", 1);
+    // The kind, and how many bytes are left out: none, or the one of the tag.
+    const ROWS: &[(&str, usize, (&str, u8))] = &[
+        ("mac0", 1, ADMITTED),
+        ("mac0", 0, ADMITTED),
+        ("tagged", 1, WRONG_TAG),
+        ("tagged", 0, ADMITTED),
+        ("sign1", 1, UNKNOWN_ALG),
+        ("sign1", 0, WRONG_TAG),
     ];
-    for (kind, token, (text, status)) in rows {
+    for &(kind, left_out, (text, status)) in ROWS {
+        let token = token.get(left_out..).unwrap_or(&[]);
         let arguments = ["cwt", "--keys", KEYS, "--now", "0", "--kind", kind];
         prints(&rt, arguments.as_slice(), token, text, status);
     }
-    // Without the option the kind is the one that the tag gives.
-    let arguments = ["cwt", "--keys", KEYS, "--now", "0"];
-    prints(&rt, arguments.as_slice(), untagged, wrong_tag.0, 1);
-    Ok(())
 }
 
 #[test]
-fn takes_the_whole_range_of_dates(rt: HostRuntime) -> Result<(), Fail> {
+fn admits_the_kind_of_the_tag_without_the_option(rt: HostRuntime) {
+    let token = made(&rt, b"\xa0");
+    let untagged = token.get(1..).unwrap_or(&[]);
+    const CWT: &[&str] = &["cwt", "--keys", KEYS, "--now", "0"];
+    prints(&rt, CWT, untagged, "refused message WrongTag at 0\n", 1);
+}
+
+#[test]
+fn takes_the_whole_range_of_dates(rt: HostRuntime) {
     const EXPIRED: (&str, u8) = ("refused claims Expired at 2\n", 1);
     const NOT_YET: (&str, u8) = ("refused claims NotYet at 2\n", 1);
     // exp 0 and nbf 2^32 at the greatest leeway, exp and nbf 2^63 - 1 without one.
@@ -106,11 +121,10 @@ fn takes_the_whole_range_of_dates(rt: HostRuntime) -> Result<(), Fail> {
         ),
     ];
     for &(claims, now, leeway, (text, status)) in ROWS {
-        let token = made(rt.alloc(), claims)?;
+        let token = made(&rt, claims);
         let arguments = ["cwt", "--keys", KEYS, "--now", now, "--leeway", leeway];
         prints(&rt, arguments.as_slice(), token.as_slice(), text, status);
     }
-    Ok(())
 }
 
 /// What the help of the program and that of `verify` end with.
@@ -120,11 +134,8 @@ const VERIFIED: &str = "\nExit status: 0 authentic, 1 refused, \
 /// A run with these arguments prints a text that ends with this, and ends with 0.
 fn ends_with(rt: &(impl Abort + Alloc<A = Global>), arguments: &[&str], statuses: &str) {
     let (output, ended, _left) = outcome(rt, arguments, b"");
-    let text = output.as_slice();
-    assert!(rt;
-        text.ends_with(statuses.as_bytes()) && ended == 0,
-        "{arguments:?}"
-    );
+    let ends = output.as_slice().ends_with(statuses.as_bytes());
+    is(rt, &arguments, (ends, ended), (true, 0));
 }
 
 #[test]
@@ -157,13 +168,18 @@ fn names_its_exit_statuses(rt: HostRuntime) {
     }
 }
 
+/// What a run with these arguments prints, which ends with this status.
+fn printed(rt: &(impl Abort + Alloc<A = Global>), arguments: &[&str], status: u8) -> Vec<u8> {
+    let (output, ended, _left) = outcome(rt, arguments, b"");
+    is(rt, &arguments, ended, status);
+    output
+}
+
 #[test]
 fn helps_where_nothing_is_asked_for(rt: HostRuntime) {
-    let (help, helped, _left) = outcome(&rt, &["--help"], b"");
-    let (output, status, _left) = outcome(&rt, &[], b"");
-    assert_eq!(rt;
-        (output.as_slice(), helped, status),
-        (help.as_slice(), 0, 2)
-    );
-    assert!(rt; help.as_slice().starts_with(b"Verifies COSE messages"));
+    let help = printed(&rt, &["--help"], 0);
+    let output = printed(&rt, &[], 2);
+    is(&rt, &"", output.as_slice(), help.as_slice());
+    let begins = help.as_slice().starts_with(b"Verifies COSE messages");
+    is(&rt, &"--help", begins, true);
 }

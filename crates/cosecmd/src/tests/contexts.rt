@@ -1,10 +1,10 @@
 //! What the context of a message changes: the labels that are understood, the CWT tag, the limit of the payload.
 
 use crate::tests::rows::{answers_in_pieces, ends_in_pieces};
-use crate::tests::{KEY, authentic, context, hmac, key_set, refused};
+use crate::tests::{KEY, authentic, bytes_of, context, hmac, key_set, refused};
 use cose_msg::{Context, KeySet, Label, Reason, Status, Verdict, Verifier, Wanted};
+use std::alloc::Global;
 use std::process::Abort;
-use std::test::Fail;
 
 /// The beginning of a message whose protected header is {1: 5, 2: [42], 42: 0}.
 const CRITICAL: &str = "d1844aa301050281182a182a00a0";
@@ -54,65 +54,65 @@ fn comes_to(rt: &impl Abort, context: Context, bytes: &[u8], verdict: Verdict, t
     }
 }
 
-#[test]
-fn refuses_in_a_context(rt: HostRuntime) -> Result<(), Fail> {
-    let keys = key_set().ok_or("no keys")?;
-    let understood = [Label::Int(42)];
-    let rows: [(Context, &str, Verdict, u64); 6] = [
-        (context(keys), CRITICAL, refused(Reason::CritUnknown, 8), 14),
-        (
-            knowing(keys, &understood),
-            CRITICAL,
-            refused(Reason::Truncated, 14),
-            14,
-        ),
-        (
-            knowing(keys, &understood),
-            "d1844aa301050281182a182a00a0f600",
-            refused(Reason::Detached, 14),
-            15,
-        ),
-        (without_cwt(keys), "d83d84", refused(Reason::WrongTag, 0), 2),
-        (
-            limited(keys, 1),
-            "d18443a10105a042686958",
-            refused(Reason::PayloadTooLong, 7),
-            8,
-        ),
-        (
-            limited(keys, 1),
-            "d18443a10105a04168",
-            refused(Reason::Truncated, 9),
-            9,
-        ),
-    ];
-    for (context, bytes, verdict, taken) in rows {
-        let bytes = hex::decode(rt.alloc(), bytes).or(Err("no hexadecimal"))?;
-        comes_to(&rt, context, bytes.as_slice(), verdict, taken);
-    }
-    Ok(())
+/// In this context the bytes that these digits spell are refused for this reason at this place, after this many of them.
+fn refuses(
+    rt: &(impl Abort + Alloc<A = Global>),
+    context: Context,
+    digits: &str,
+    (reason, place, taken): (Reason, u64, u64),
+) {
+    let bytes = bytes_of(rt, digits);
+    comes_to(rt, context, bytes.as_slice(), refused(reason, place), taken);
 }
 
 #[test]
-fn authenticates_in_a_context(rt: HostRuntime) -> Result<(), Fail> {
-    let keys = key_set().ok_or("no keys")?;
+fn refuses_what_the_application_does_not_understand(rt: HostRuntime) {
+    let keys = key_set(&rt);
+    refuses(&rt, context(keys), CRITICAL, (Reason::CritUnknown, 8, 14));
     let understood = [Label::Int(42)];
+    let knowing = knowing(keys, &understood);
+    refuses(&rt, knowing, CRITICAL, (Reason::Truncated, 14, 14));
+    let detached = "d1844aa301050281182a182a00a0f600";
+    refuses(&rt, knowing, detached, (Reason::Detached, 14, 15));
+}
+
+#[test]
+fn refuses_in_a_context(rt: HostRuntime) {
+    let keys = key_set(&rt);
+    let untagged = without_cwt(keys);
+    refuses(&rt, untagged, "d83d84", (Reason::WrongTag, 0, 2));
+    let limited = limited(keys, 1);
+    let longer = "d18443a10105a042686958";
+    refuses(&rt, limited, longer, (Reason::PayloadTooLong, 7, 8));
+    let longest = "d18443a10105a04168";
+    refuses(&rt, limited, longest, (Reason::Truncated, 9, 9));
+}
+
+/// In this context the message that begins so is authentic, with the MAC of this structure, and has this many bytes.
+fn authenticates(
+    rt: &(impl Abort + Alloc<A = Global>),
+    context: Context,
+    front: &str,
+    structure: &str,
+    taken: u64,
+) {
+    let structure = bytes_of(rt, structure);
+    let tag = hmac(KEY, structure.as_slice());
+    let mut bytes = bytes_of(rt, front);
+    bytes.extend_from_slice(&tag).expect(rt, "memory");
+    comes_to(rt, context, bytes.as_slice(), authentic(taken), taken);
+}
+
+#[test]
+fn authenticates_in_a_context(rt: HostRuntime) {
+    let keys = key_set(&rt);
+    let understood = [Label::Int(42)];
+    let critical = "d1844aa301050281182a182a00a04268695820";
+    let structure = "84644d4143304aa301050281182a182a0040426869";
+    authenticates(&rt, knowing(keys, &understood), critical, structure, 51);
     let plain = "84644d41433043a1010540426869";
-    let rows: [(Context, &str, &str, u64); 3] = [
-        (
-            knowing(keys, &understood),
-            "d1844aa301050281182a182a00a04268695820",
-            "84644d4143304aa301050281182a182a0040426869",
-            51,
-        ),
-        (context(keys), "d83dd18443a10105a04268695820", plain, 46),
-        (limited(keys, 2), "d18443a10105a04268695820", plain, 44),
-    ];
-    for (context, front, structure, taken) in rows {
-        let structure = hex::decode(rt.alloc(), structure).or(Err("no hexadecimal"))?;
-        let mut bytes = hex::decode(rt.alloc(), front).or(Err("no hexadecimal"))?;
-        bytes.extend_from_slice(&hmac(KEY, structure.as_slice()))?;
-        comes_to(&rt, context, bytes.as_slice(), authentic(taken), taken);
-    }
-    Ok(())
+    let in_cwt = "d83dd18443a10105a04268695820";
+    authenticates(&rt, context(keys), in_cwt, plain, 46);
+    let front = "d18443a10105a04268695820";
+    authenticates(&rt, limited(keys, 2), front, plain, 44);
 }

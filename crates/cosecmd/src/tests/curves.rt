@@ -2,9 +2,8 @@
 
 use crate::tests::cwt::admits;
 use crate::tests::{KEYS, prints, signed};
-use std::alloc::{AllocError, Global};
+use std::alloc::Global;
 use std::process::Abort;
-use std::test::Fail;
 
 /// A COSE_Sign1 of an empty payload, and the curve of its key.
 #[derive(Clone, Copy)]
@@ -67,22 +66,22 @@ fn signature(size: usize) -> &'static [u8] {
 }
 
 /// A coordinate whose bytes are all this one, in hexadecimal.
-fn coordinate(alloc: Global, byte: u8, size: usize) -> Result<String, AllocError> {
-    hex::encode(alloc, [byte; 66].get(..size).unwrap_or(&[]))
+fn coordinate(rt: &(impl Abort + Alloc<A = Global>), byte: u8, size: usize) -> String {
+    hex::encode(rt.alloc(), [byte; 66].get(..size).unwrap_or(&[])).expect(rt, "memory")
 }
 
 /// The key of a point on the curve, with this member y.
-fn key(alloc: Global, by: &Signed, y: &str) -> Result<String, AllocError> {
-    let x = coordinate(alloc, 0x11, by.size)?;
-    format!(in alloc; "a40102200{}21{}{x}22{y}", by.curve, by.head)
+fn key(rt: &(impl Abort + Alloc<A = Global>), by: &Signed, y: &str) -> String {
+    let x = coordinate(rt, 0x11, by.size);
+    format!(in rt.alloc(); "a40102200{}21{}{x}22{y}", by.curve, by.head).expect(rt, "memory")
 }
 
 /// What vouches for the signature, after the curve: the digest, the signature, x, and these bytes of y.
-fn rest_of_word(alloc: Global, by: &Signed, y: &str) -> Result<String, AllocError> {
+fn rest_of_word(rt: &(impl Abort + Alloc<A = Global>), by: &Signed, y: &str) -> String {
     let digest = by.digest;
-    let signature = hex::encode(alloc, signature(by.size))?;
-    let x = coordinate(alloc, 0x11, by.size)?;
-    format!(in alloc; "{digest}{signature}{x}{y}")
+    let signature = hex::encode(rt.alloc(), signature(by.size)).expect(rt, "memory");
+    let x = coordinate(rt, 0x11, by.size);
+    format!(in rt.alloc(); "{digest}{signature}{x}{y}").expect(rt, "memory")
 }
 
 /// Under these keys `verify` finds the message authentic with this argument of `--vouch`, and refuses it with the number
@@ -93,65 +92,54 @@ fn verifies(
     keys: &str,
     message: &[u8],
     rest: &str,
-) -> Result<(), Fail> {
-    let word = format!(in rt.alloc(); "0{}{rest}", by.curve)?;
-    let other = format!(in rt.alloc(); "01{rest}")?;
+) {
+    let word = format!(in rt.alloc(); "0{}{rest}", by.curve).expect(rt, "memory");
+    let other = format!(in rt.alloc(); "01{rest}").expect(rt, "memory");
     let refused = ("refused BadAuth at 9\n", 1);
     for (word, (text, status)) in [(&word, (by.authentic, 0)), (&other, refused)] {
         let verify = ["verify", "--keys", keys, "--vouch", word.as_str()];
         prints(rt, verify.as_slice(), message, text, status);
     }
     prints(rt, &["verify", "--keys", keys], message, refused.0, 1);
-    Ok(())
 }
 
 /// Under the key with this member y, whose bytes are these, `digest` prints what vouches for the signature. With that
 /// `verify` finds the message authentic, and with the number of another curve it doesn't.
-fn vouches(
-    rt: &(impl Abort + Alloc<A = Global>),
-    by: &Signed,
-    member: &str,
-    y: &str,
-) -> Result<(), Fail> {
+fn vouches(rt: &(impl Abort + Alloc<A = Global>), by: &Signed, member: &str, y: &str) {
     let alloc = rt.alloc();
-    let keys = key(alloc, by, member)?;
-    let message = signed(alloc, by.front, signature(by.size))?;
-    let rest = rest_of_word(alloc, by, y)?;
-    let text = format!(in alloc; "vouch 0{}{rest}\n", by.curve)?;
+    let keys = key(rt, by, member);
+    let message = signed(rt, by.front, signature(by.size));
+    let rest = rest_of_word(rt, by, y);
+    let text = format!(in alloc; "vouch 0{}{rest}\n", by.curve).expect(rt, "memory");
     prints(rt, &["digest", "--keys", &keys], &message, &text, 0);
     verifies(rt, by, &keys, &message, &rest)
 }
 
 #[test]
-fn vouches_on_each_curve(rt: HostRuntime) -> Result<(), Fail> {
+fn vouches_on_each_curve(rt: HostRuntime) {
     for (by, digits) in [(&BY_ES384, 482), (&BY_ES512, 658)] {
-        let y = coordinate(rt.alloc(), 0x22, by.size)?;
-        let member = format!(in rt.alloc(); "{}{y}", by.head)?;
-        let word = format!(in rt.alloc(); "0{}{}", by.curve, rest_of_word(rt.alloc(), by, &y)?)?;
+        let y = coordinate(&rt, 0x22, by.size);
+        let member = format!(in rt.alloc(); "{}{y}", by.head).expect(&rt, "memory");
+        let word = format!(in rt.alloc(); "0{}{}", by.curve, rest_of_word(&rt, by, &y)).expect(
+            &rt, "memory",
+        );
         assert_eq!(rt; word.len(), digits);
-        vouches(&rt, by, &member, &y)?;
-        vouches(&rt, by, "f5", "01")?;
-        vouches(&rt, by, "f4", "00")?;
+        vouches(&rt, by, &member, &y);
+        vouches(&rt, by, "f5", "01");
+        vouches(&rt, by, "f4", "00");
     }
-    Ok(())
 }
 
 /// `verify` and `digest` refuse the message that begins so, under the key of this one.
-fn refuses(
-    rt: &(impl Abort + Alloc<A = Global>),
-    front: &str,
-    by: &Signed,
-    text: &str,
-) -> Result<(), Fail> {
-    let keys = key(rt.alloc(), by, "f5")?;
-    let message = signed(rt.alloc(), front, signature(66))?;
+fn refuses(rt: &(impl Abort + Alloc<A = Global>), front: &str, by: &Signed, text: &str) {
+    let keys = key(rt, by, "f5");
+    let message = signed(rt, front, signature(66));
     prints(rt, &["verify", "--keys", &keys], &message, text, 1);
     prints(rt, &["digest", "--keys", &keys], &message, text, 1);
-    Ok(())
 }
 
 #[test]
-fn refuses_other_keys_and_lengths(rt: HostRuntime) -> Result<(), Fail> {
+fn refuses_other_keys_and_lengths(rt: HostRuntime) {
     const ROWS: &[(&str, &Signed, &str)] = &[
         (WITH_ES384, &ON_P_256, "refused NoKey at 8\n"),
         (WITH_ES384, &BY_ES512, "refused NoKey at 8\n"),
@@ -175,24 +163,23 @@ fn refuses_other_keys_and_lengths(rt: HostRuntime) -> Result<(), Fail> {
         ),
     ];
     for &(front, by, text) in ROWS {
-        refuses(&rt, front, by, text)?;
+        refuses(&rt, front, by, text);
     }
-    Ok(())
 }
 
 /// The key of this point, with both coordinates, is printed where claims confirm it.
-fn prints_confirmed(rt: &(impl Abort + Alloc<A = Global>), by: &Signed) -> Result<(), Fail> {
+fn prints_confirmed(rt: &(impl Abort + Alloc<A = Global>), by: &Signed) {
     let alloc = rt.alloc();
-    let x = coordinate(alloc, 0x11, by.size)?;
-    let y = coordinate(alloc, 0x22, by.size)?;
-    let member = format!(in alloc; "{}{y}", by.head)?;
-    let claims = format!(in alloc; "a108a101{}", key(alloc, by, &member)?)?;
-    let line = format!(in alloc; "cnf key {} {x} {y}\n", by.curve)?;
+    let x = coordinate(rt, 0x11, by.size);
+    let y = coordinate(rt, 0x22, by.size);
+    let member = format!(in alloc; "{}{y}", by.head).expect(rt, "memory");
+    let claims = format!(in alloc; "a108a101{}", key(rt, by, &member)).expect(rt, "memory");
+    let line = format!(in alloc; "cnf key {} {x} {y}\n", by.curve).expect(rt, "memory");
     admits(rt, &["cwt", "--keys", KEYS, "--now", "0"], &claims, &line)
 }
 
 #[test]
-fn prints_confirmed_keys_on_each_curve(rt: HostRuntime) -> Result<(), Fail> {
-    prints_confirmed(&rt, &BY_ES384)?;
+fn prints_confirmed_keys_on_each_curve(rt: HostRuntime) {
+    prints_confirmed(&rt, &BY_ES384);
     prints_confirmed(&rt, &BY_ES512)
 }

@@ -1,10 +1,9 @@
 //! Tokens that the program admits or refuses: the claims of RFC 8392, its example, and confirmations of RFC 8747.
 
 use crate::tests::digests::{SIGNATURE, digest_and_signature};
-use crate::tests::{KEYS, MEMBER_Y, X, Y, is, outcome, point, prints, ran, signed};
-use std::alloc::{AllocError, Global};
+use crate::tests::{KEYS, MEMBER_Y, X, Y, bytes_of, is, outcome, point, prints, ran, signed};
+use std::alloc::Global;
 use std::process::Abort;
-use std::test::Fail;
 
 /// The claims of RFC 8392 appendix A.1. The values of exp and nbf are at 59 and 65, that of aud at 32.
 const CLAIMS: &str =
@@ -34,15 +33,10 @@ const RFC_TAG: &str = "48093101ef6d789200";
 const RFC_KEY: &str = "a4205820403697de87af64611c1d32a05dab0fe1fcb715a86ab435f1ec99192d79569388\
     0104024c53796d6d65747269633235360304";
 
-/// The bytes that digits spell.
-fn bytes_of(alloc: Global, digits: &str) -> Result<Vec<u8>, Fail> {
-    Ok(hex::decode(alloc, digits).or(Err("no hexadecimal"))?)
-}
-
 /// The token that `make` makes of these claims, by HMAC 256/256 under the key `Jefe`.
-pub fn made(alloc: Global, claims: &[u8]) -> Result<Vec<u8>, Fail> {
+pub fn made(rt: &(impl Abort + Alloc<A = Global>), claims: &[u8]) -> Vec<u8> {
     let count = claims.len();
-    let length = format!(in alloc; "{count}")?;
+    let length = format!(in rt.alloc(); "{count}").expect(rt, "memory");
     let make = [
         "make",
         "--alg",
@@ -52,25 +46,25 @@ pub fn made(alloc: Global, claims: &[u8]) -> Result<Vec<u8>, Fail> {
         "--length",
         length.as_str(),
     ];
-    let (token, _status, _left) = ran(alloc, make.as_slice(), claims)?;
-    Ok(token)
+    let (token, _status, _left) = ran(rt.alloc(), make.as_slice(), claims).expect(rt, "memory");
+    token
 }
 
 /// The token of claims that are given in hexadecimal.
-fn token_of(alloc: Global, claims: &str) -> Result<Vec<u8>, Fail> {
-    made(alloc, bytes_of(alloc, claims)?.as_slice())
+fn token_of(rt: &(impl Abort + Alloc<A = Global>), claims: &str) -> Vec<u8> {
+    made(rt, bytes_of(rt, claims).as_slice())
 }
 
 /// The token of the claims of RFC 8392.
-pub fn example(alloc: Global) -> Result<Vec<u8>, Fail> {
-    token_of(alloc, CLAIMS)
+pub fn example(rt: &(impl Abort + Alloc<A = Global>)) -> Vec<u8> {
+    token_of(rt, CLAIMS)
 }
 
 /// The token after the CWT tag (RFC 8392 section 6).
-fn with_cwt_tag(alloc: Global, token: &[u8]) -> Result<Vec<u8>, Fail> {
-    let mut tagged = bytes_of(alloc, "d83d")?;
-    tagged.extend_from_slice(token)?;
-    Ok(tagged)
+fn with_cwt_tag(rt: &(impl Abort + Alloc<A = Global>), token: &[u8]) -> Vec<u8> {
+    let mut tagged = bytes_of(rt, "d83d");
+    tagged.extend_from_slice(token).expect(rt, "memory");
+    tagged
 }
 
 /// A run with these arguments gives this refusal of the token.
@@ -85,19 +79,18 @@ pub fn admits(
     arguments: &[&str],
     claims: &str,
     lines: &str,
-) -> Result<(), Fail> {
+) {
     let alloc = rt.alloc();
-    let token = token_of(alloc, claims)?;
-    let text = format!(in alloc; "admitted\n{lines}")?;
+    let token = token_of(rt, claims);
+    let text = format!(in alloc; "admitted\n{lines}").expect(rt, "memory");
     prints(rt, arguments, token.as_slice(), text.as_str(), 0);
-    Ok(())
 }
 
 #[test]
-fn admits_within_the_dates(rt: HostRuntime) -> Result<(), Fail> {
-    let token = example(rt.alloc())?;
+fn admits_within_the_dates(rt: HostRuntime) {
+    let token = example(&rt);
     assert_eq!(rt; token.len(), 123);
-    let tagged = with_cwt_tag(rt.alloc(), token.as_slice())?;
+    let tagged = with_cwt_tag(&rt, token.as_slice());
     const ADMITTED: (&str, u8) = (LINES, 0);
     const EXPIRED: (&str, u8) = ("refused claims Expired at 59\n", 1);
     const NOT_YET: (&str, u8) = ("refused claims NotYet at 65\n", 1);
@@ -119,14 +112,13 @@ fn admits_within_the_dates(rt: HostRuntime) -> Result<(), Fail> {
     }
     let cwt = ["cwt", "--keys", KEYS, "--now", LAST];
     prints(&rt, cwt.as_slice(), token.as_slice(), LINES, 0);
-    Ok(())
 }
 
 #[test]
-fn admits_the_example_of_the_standard(rt: HostRuntime) -> Result<(), Fail> {
+fn admits_the_example_of_the_standard(rt: HostRuntime) {
     let alloc = rt.alloc();
-    let digits = format!(in alloc; "{RFC_FRONT}{CLAIMS}{RFC_TAG}")?;
-    let token = bytes_of(alloc, digits.as_str())?;
+    let digits = format!(in alloc; "{RFC_FRONT}{CLAIMS}{RFC_TAG}").expect(&rt, "memory");
+    let token = bytes_of(&rt, digits.as_str());
     const ROWS: &[(&str, &str, u8)] = &[
         ("1444064943", LINES, 0),
         ("1444064944", "refused claims Expired at 59\n", 1),
@@ -136,11 +128,10 @@ fn admits_the_example_of_the_standard(rt: HostRuntime) -> Result<(), Fail> {
         let cwt = ["cwt", "--keys", RFC_KEY, "--now", now];
         prints(&rt, cwt.as_slice(), token.as_slice(), text, status);
     }
-    Ok(())
 }
 
 #[test]
-fn admits_its_audience(rt: HostRuntime) -> Result<(), Fail> {
+fn admits_its_audience(rt: HostRuntime) {
     const OTHERS: (&str, u8) = ("refused claims WrongAudience at 2\n", 1);
     const ROWS: &[(&str, &str, (&str, u8))] = &[
         (CLAIMS, "coap://light.example.com", (LINES, 0)),
@@ -153,15 +144,14 @@ fn admits_its_audience(rt: HostRuntime) -> Result<(), Fail> {
         ("a0", "c", ("admitted\n", 0)),
     ];
     for &(claims, aud, (text, status)) in ROWS {
-        let token = token_of(rt.alloc(), claims)?;
+        let token = token_of(&rt, claims);
         let cwt = ["cwt", "--keys", KEYS, "--now", LAST, "--aud", aud];
         prints(&rt, cwt.as_slice(), token.as_slice(), text, status);
     }
-    Ok(())
 }
 
 #[test]
-fn refuses_claims(rt: HostRuntime) -> Result<(), Fail> {
+fn refuses_claims(rt: HostRuntime) {
     const ROWS: &[(&str, &str)] = &[
         ("", "claims PastRoom at 0"),
         ("a000", "claims Trailing at 1"),
@@ -179,14 +169,13 @@ fn refuses_claims(rt: HostRuntime) -> Result<(), Fail> {
     ];
     let cwt = ["cwt", "--keys", KEYS, "--now", "9223372036854775807"];
     for &(claims, refusal) in ROWS {
-        let token = token_of(rt.alloc(), claims)?;
+        let token = token_of(&rt, claims);
         refuses(&rt, cwt.as_slice(), token.as_slice(), refusal);
     }
-    Ok(())
 }
 
 #[test]
-fn prints_what_claims_say(rt: HostRuntime) -> Result<(), Fail> {
+fn prints_what_claims_say(rt: HostRuntime) {
     const ROWS: &[(&str, &str)] = &[
         ("a0", ""),
         ("a11864f93c00", ""),
@@ -213,9 +202,8 @@ fn prints_what_claims_say(rt: HostRuntime) -> Result<(), Fail> {
         "4294967295",
     ];
     for &(claims, lines) in ROWS {
-        admits(&rt, cwt.as_slice(), claims, lines)?;
+        admits(&rt, cwt.as_slice(), claims, lines);
     }
-    Ok(())
 }
 
 /// For the token that confirms the key with this member y, after these bytes, this y is printed, and then this line.
@@ -225,17 +213,17 @@ fn prints_the_key(
     member: &str,
     y: &str,
     kid: &str,
-) -> Result<(), Fail> {
+) {
     let alloc = rt.alloc();
-    let key = point(alloc, member)?;
-    let claims = format!(in alloc; "{front}{key}")?;
-    let lines = format!(in alloc; "cnf key 1 {X} {y}\n{kid}")?;
+    let key = point(rt, member);
+    let claims = format!(in alloc; "{front}{key}").expect(rt, "memory");
+    let lines = format!(in alloc; "cnf key 1 {X} {y}\n{kid}").expect(rt, "memory");
     let cwt = ["cwt", "--keys", KEYS, "--now", "0"];
     admits(rt, cwt.as_slice(), claims.as_str(), lines.as_str())
 }
 
 #[test]
-fn prints_a_confirmed_key(rt: HostRuntime) -> Result<(), Fail> {
+fn prints_a_confirmed_key(rt: HostRuntime) {
     const ROWS: &[(&str, &str, &str, &str)] = &[
         ("a108a101", MEMBER_Y, Y, ""),
         ("a108a101", "f5", "true", ""),
@@ -243,111 +231,124 @@ fn prints_a_confirmed_key(rt: HostRuntime) -> Result<(), Fail> {
         ("a108a203413101", MEMBER_Y, Y, "cnf kid 31\n"),
     ];
     for &(front, member, y, kid) in ROWS {
-        prints_the_key(&rt, front, member, y, kid)?;
+        prints_the_key(&rt, front, member, y, kid);
     }
-    Ok(())
 }
 
 /// Claims with an issuer of this many letters `a`, at least 256.
-fn issued(alloc: Global, letters: u16) -> Result<Vec<u8>, AllocError> {
-    let mut claims = Vec::new(alloc);
-    claims.extend_from_slice(b"\xa1\x01\x79")?;
-    claims.extend_from_slice(&letters.to_be_bytes())?;
+fn issued(rt: &(impl Abort + Alloc<A = Global>), letters: u16) -> Vec<u8> {
+    let mut claims = Vec::new(rt.alloc());
+    claims
+        .extend_from_slice(b"\xa1\x01\x79")
+        .expect(rt, "memory");
+    claims
+        .extend_from_slice(&letters.to_be_bytes())
+        .expect(rt, "memory");
     for _i in 0..letters {
-        claims.push(b'a')?;
+        claims.push(b'a').expect(rt, "memory");
     }
-    Ok(claims)
+    claims
+}
+
+/// What is printed for such a token.
+fn admitted_issuer(rt: &(impl Abort + Alloc<A = Global>), letters: u16) -> String {
+    let mut text = format!(in rt.alloc(); "admitted\niss ").expect(rt, "memory");
+    for _i in 0..letters {
+        text.push_str("61").expect(rt, "memory");
+    }
+    text.push_str("\n").expect(rt, "memory");
+    text
 }
 
 #[test]
-fn limits_the_payload(rt: HostRuntime) -> Result<(), Fail> {
-    let alloc = rt.alloc();
-    let cwt = ["cwt", "--keys", KEYS, "--now", "0"];
+fn limits_the_payload(rt: HostRuntime) {
+    const CWT: &[&str] = &["cwt", "--keys", KEYS, "--now", "0"];
     // 4,096 bytes, and then 4,097.
-    let longest = made(alloc, issued(alloc, 4_091)?.as_slice())?;
-    let mut text = format!(in alloc; "admitted\niss ")?;
-    for _i in 0..4_091 {
-        text.push_str("61")?;
-    }
-    text.push_str("\n")?;
-    prints(&rt, cwt.as_slice(), longest.as_slice(), text.as_str(), 0);
-    let longer = made(alloc, issued(alloc, 4_092)?.as_slice())?;
-    let refusal = "message PayloadTooLong at 7";
-    refuses(&rt, cwt.as_slice(), longer.as_slice(), refusal);
-    Ok(())
+    let longest = made(&rt, issued(&rt, 4_091).as_slice());
+    let text = admitted_issuer(&rt, 4_091);
+    prints(&rt, CWT, longest.as_slice(), text.as_str(), 0);
+    let longer = made(&rt, issued(&rt, 4_092).as_slice());
+    refuses(&rt, CWT, longer.as_slice(), "message PayloadTooLong at 7");
 }
 
 /// The token with its last byte changed.
-fn forged(alloc: Global) -> Result<Vec<u8>, Fail> {
-    let mut token = example(alloc)?;
+fn forged(rt: &(impl Abort + Alloc<A = Global>)) -> Vec<u8> {
+    let mut token = example(rt);
     if let Some(byte) = token.get_mut(122) {
         *byte ^= 1;
     }
-    Ok(token)
+    token
 }
 
 /// The token and a byte after it.
-fn longer(alloc: Global) -> Result<Vec<u8>, Fail> {
-    let mut token = example(alloc)?;
-    token.push(0xff)?;
-    Ok(token)
+fn longer(rt: &(impl Abort + Alloc<A = Global>)) -> Vec<u8> {
+    let mut token = example(rt);
+    token.push(0xff).expect(rt, "memory");
+    token
 }
 
 /// A run at this time, with the arguments after it, gives this refusal of the token.
-fn refuses_at(
-    rt: &(impl Abort + Alloc<A = Global>),
-    words: &[&str],
-    token: &[u8],
-    refusal: &str,
-) -> Result<(), AllocError> {
+fn refuses_at(rt: &(impl Abort + Alloc<A = Global>), words: &[&str], token: &[u8], refusal: &str) {
     let mut cwt = Vec::new(rt.alloc());
-    cwt.extend_from_slice(&["cwt", "--keys", KEYS, "--now"])?;
-    cwt.extend_from_slice(words)?;
+    cwt.extend_from_slice(&["cwt", "--keys", KEYS, "--now"])
+        .expect(rt, "memory");
+    cwt.extend_from_slice(words).expect(rt, "memory");
     refuses(rt, cwt.as_slice(), token, refusal);
-    Ok(())
 }
 
+/// A second later.
+const LATE: &str = "1444064944";
+
 #[test]
-fn refuses_messages(rt: HostRuntime) -> Result<(), Fail> {
-    let token = example(rt.alloc())?;
-    let forged = forged(rt.alloc())?;
-    let longer = longer(rt.alloc())?;
-    let late = "1444064944";
-    let rows: [(&[&str], &[u8], &str); 9] = [
-        (&[LAST], b"", "message Truncated at 0"),
-        (&[LAST], b"\xd8\x3d\x84", "message CwtTagAlone at 2"),
-        (&[LAST], &forged, "message BadAuth at 89"),
-        // Also where the claims would be refused.
-        (&[late], &forged, "message BadAuth at 89"),
-        (&[LAST, "--aad", "00"], &token, "message BadAuth at 89"),
-        (&[LAST, "--kind", "sign1"], &token, "message WrongTag at 0"),
-        (&[LAST], &longer, "message Trailing at 123"),
-        // After claims that are refused no byte is looked for.
-        (&[late], &longer, "claims Expired at 59"),
-        (
-            &[LAST, "--aud", "other"],
-            &longer,
-            "claims WrongAudience at 32",
-        ),
+fn refuses_messages(rt: HostRuntime) {
+    let token = example(&rt);
+    const ROWS: &[(&[&str], usize, &str)] = &[
+        (&[LAST], 0, "message Truncated at 0"),
+        (&[LAST, "--aad", "00"], 123, "message BadAuth at 89"),
+        (&[LAST, "--kind", "sign1"], 123, "message WrongTag at 0"),
     ];
-    for (words, token, refusal) in rows {
-        refuses_at(&rt, words, token, refusal)?;
+    for &(words, count, refusal) in ROWS {
+        let token = token.get(..count).unwrap_or(&[]);
+        refuses_at(&rt, words, token, refusal);
     }
-    Ok(())
+    let refusal = "message CwtTagAlone at 2";
+    refuses_at(&rt, &[LAST], b"\xd8\x3d\x84", refusal);
 }
 
 #[test]
-fn refuses_tokens_behind_the_cwt_tag(rt: HostRuntime) -> Result<(), Fail> {
-    let token = example(rt.alloc())?;
-    let mut tagged = with_cwt_tag(rt.alloc(), token.as_slice())?;
+fn refuses_forged_tokens(rt: HostRuntime) {
+    let forged = forged(&rt);
+    // Also where the claims would be refused.
+    for now in [LAST, LATE] {
+        refuses_at(&rt, &[now], &forged, "message BadAuth at 89");
+    }
+}
+
+#[test]
+fn refuses_what_follows_a_token(rt: HostRuntime) {
+    let longer = longer(&rt);
+    const ROWS: &[(&[&str], &str)] = &[
+        (&[LAST], "message Trailing at 123"),
+        // After claims that are refused no byte is looked for.
+        (&[LATE], "claims Expired at 59"),
+        (&[LAST, "--aud", "other"], "claims WrongAudience at 32"),
+    ];
+    for &(words, refusal) in ROWS {
+        refuses_at(&rt, words, &longer, refusal);
+    }
+}
+
+#[test]
+fn refuses_tokens_behind_the_cwt_tag(rt: HostRuntime) {
+    let token = example(&rt);
+    let mut tagged = with_cwt_tag(&rt, token.as_slice());
     let cwt = ["cwt", "--keys", KEYS, "--now", LAST, "--aud", "other"];
     let refusal = "claims WrongAudience at 32";
     refuses(&rt, cwt.as_slice(), tagged.as_slice(), refusal);
-    tagged.push(0xff)?;
+    tagged.push(0xff).expect(&rt, "memory");
     let cwt = ["cwt", "--keys", KEYS, "--now", LAST];
     let refusal = "message Trailing at 125";
     refuses(&rt, cwt.as_slice(), tagged.as_slice(), refusal);
-    Ok(())
 }
 
 /// A COSE_Sign1 whose payload is the empty map, up to the signature.
@@ -357,27 +358,26 @@ const SIGNED_TOKEN: &str = "d28443a10126a041a05840";
 const TOKEN_STRUCTURE: &str = "846a5369676e61747572653143a101264041a0";
 
 /// The argument of `--vouch` for its signature under the key whose y is odd.
-fn vouching(alloc: Global) -> Result<String, Fail> {
-    let asked = digest_and_signature(alloc, TOKEN_STRUCTURE)?;
-    Ok(format!(in alloc; "01{asked}{X}01")?)
+fn vouching(rt: &(impl Abort + Alloc<A = Global>)) -> String {
+    let asked = digest_and_signature(rt, TOKEN_STRUCTURE);
+    format!(in rt.alloc(); "01{asked}{X}01").expect(rt, "memory")
 }
 
 #[test]
-fn vouches_for_a_signed_token(rt: HostRuntime) -> Result<(), Fail> {
-    let token = signed(rt.alloc(), SIGNED_TOKEN, SIGNATURE)?;
-    let keys = point(rt.alloc(), "f5")?;
-    let word = vouching(rt.alloc())?;
+fn vouches_for_a_signed_token(rt: HostRuntime) {
+    let token = signed(&rt, SIGNED_TOKEN, SIGNATURE);
+    let keys = point(&rt, "f5");
+    let word = vouching(&rt);
     let cwt = ["cwt", "--keys", &keys, "--now", "0", "--vouch", &word];
     prints(&rt, cwt.as_slice(), token.as_slice(), "admitted\n", 0);
     let cwt = ["cwt", "--keys", &keys, "--now", "0"];
     let refusal = "message BadAuth at 9";
     refuses(&rt, cwt.as_slice(), token.as_slice(), refusal);
-    Ok(())
 }
 
 #[test]
-fn takes_keys_for_tokens(rt: HostRuntime) -> Result<(), Fail> {
-    let token = example(rt.alloc())?;
+fn takes_keys_for_tokens(rt: HostRuntime) {
+    let token = example(&rt);
     const ROWS: &[(&[&str], &str, u8)] = &[
         (&["--keys", "80"], "fault keys BadKeySet at 0\n", 2),
         (&["--keys", ""], "fault keys PastRoom at 0\n", 2),
@@ -397,11 +397,11 @@ fn takes_keys_for_tokens(rt: HostRuntime) -> Result<(), Fail> {
     ];
     for &(words, text, status) in ROWS {
         let mut cwt = Vec::new(rt.alloc());
-        cwt.extend_from_slice(&["cwt", "--now", LAST])?;
-        cwt.extend_from_slice(words)?;
+        cwt.extend_from_slice(&["cwt", "--now", LAST])
+            .expect(&rt, "memory");
+        cwt.extend_from_slice(words).expect(&rt, "memory");
         prints(&rt, cwt.as_slice(), token.as_slice(), text, status);
     }
-    Ok(())
 }
 
 /// A run with these arguments prints an error that has this part, and ends with 2.

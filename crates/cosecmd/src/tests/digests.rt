@@ -1,10 +1,11 @@
 //! What the program prints that a signature is verified with.
 
-use crate::tests::{KEYS, MEMBER_Y, SIGNED, SIGNED_STRUCTURE, X, Y, point, prints, signed};
+use crate::tests::{
+    FRONT, KEYS, MEMBER_Y, SIGNED, SIGNED_STRUCTURE, X, Y, bytes_of, point, prints, signed,
+};
 use sha2::{Digest, Sha256};
 use std::alloc::Global;
 use std::process::Abort;
-use std::test::Fail;
 
 /// The same message without its tag, and after the tag of a CWT too, up to the signature.
 const UNTAGGED: &str = "8443a10126a0405840";
@@ -18,12 +19,14 @@ const SIGNED_STRUCTURE_WITH_DATA: &str = "846a5369676e61747572653143a10126410140
 pub const SIGNATURE: &[u8] = &[0x5a; 64];
 
 /// The digest of a structure, and then the signature, in hexadecimal.
-pub fn digest_and_signature(alloc: Global, structure: &str) -> Result<String, Fail> {
-    let structure = hex::decode(alloc, structure).or(Err("no hexadecimal"))?;
-    let mut bytes = Vec::new(alloc);
-    bytes.extend_from_slice(&Sha256::digest(structure.as_slice()))?;
-    bytes.extend_from_slice(SIGNATURE)?;
-    Ok(hex::encode(alloc, bytes.as_slice())?)
+pub fn digest_and_signature(rt: &(impl Abort + Alloc<A = Global>), structure: &str) -> String {
+    let structure = bytes_of(rt, structure);
+    let mut bytes = Vec::new(rt.alloc());
+    bytes
+        .extend_from_slice(&Sha256::digest(structure.as_slice()))
+        .expect(rt, "memory");
+    bytes.extend_from_slice(SIGNATURE).expect(rt, "memory");
+    hex::encode(rt.alloc(), bytes.as_slice()).expect(rt, "memory")
 }
 
 /// With this argument of `--vouch` the signature of the message passes `verify`.
@@ -66,25 +69,23 @@ fn tells(
     aad: &'static str,
     structure: &'static str,
     y: &'static str,
-) -> Result<(), Fail> {
+) {
     let alloc = rt.alloc();
-    let keys = point(alloc, member)?;
-    let message = signed(alloc, front, SIGNATURE)?;
-    let asked = digest_and_signature(alloc, structure)?;
-    let word = format!(in alloc; "01{asked}{X}{y}")?;
+    let keys = point(rt, member);
+    let message = signed(rt, front, SIGNATURE);
+    let asked = digest_and_signature(rt, structure);
+    let word = format!(in alloc; "01{asked}{X}{y}").expect(rt, "memory");
     tells_word(rt, &keys, &message, aad, &word);
-    Ok(())
 }
 
 #[test]
-fn tells_what_is_verified(rt: HostRuntime) -> Result<(), Fail> {
-    tells(&rt, SIGNED, MEMBER_Y, "", SIGNED_STRUCTURE, Y)?;
-    tells(&rt, SIGNED, "f5", "", SIGNED_STRUCTURE, "01")?;
-    tells(&rt, SIGNED, "f4", "", SIGNED_STRUCTURE, "00")?;
-    tells(&rt, SIGNED, MEMBER_Y, "01", SIGNED_STRUCTURE_WITH_DATA, Y)?;
-    tells(&rt, UNTAGGED, MEMBER_Y, "", SIGNED_STRUCTURE, Y)?;
-    tells(&rt, IN_CWT, MEMBER_Y, "", SIGNED_STRUCTURE, Y)?;
-    Ok(())
+fn tells_what_is_verified(rt: HostRuntime) {
+    tells(&rt, SIGNED, MEMBER_Y, "", SIGNED_STRUCTURE, Y);
+    tells(&rt, SIGNED, "f5", "", SIGNED_STRUCTURE, "01");
+    tells(&rt, SIGNED, "f4", "", SIGNED_STRUCTURE, "00");
+    tells(&rt, SIGNED, MEMBER_Y, "01", SIGNED_STRUCTURE_WITH_DATA, Y);
+    tells(&rt, UNTAGGED, MEMBER_Y, "", SIGNED_STRUCTURE, Y);
+    tells(&rt, IN_CWT, MEMBER_Y, "", SIGNED_STRUCTURE, Y);
 }
 
 /// The example of a COSE_Sign1 in RFC 9052 appendix C.2.1, in hexadecimal, and the signature in it.
@@ -102,48 +103,78 @@ const EXAMPLE_X: &str = "bac5b11cad8f99f9c72b05cf4b9e26d244dc189f745228255a219a8
 
 const EXAMPLE_Y: &str = "20138bf82dc1b6d562be0fa54ab7804a3a64b6d72ccfed6b6fb6ed28bbfc117e";
 
-#[test]
-fn tells_of_the_standards_example(rt: HostRuntime) -> Result<(), Fail> {
-    let alloc = rt.alloc();
-    let example = format!(in alloc; "{EXAMPLE}{EXAMPLE_SIGNATURE}")?;
-    let message = hex::decode(alloc, example.as_str()).or(Err("no hexadecimal"))?;
-    let structure = hex::decode(alloc, EXAMPLE_STRUCTURE).or(Err("no hexadecimal"))?;
-    let digest = hex::encode(alloc, Sha256::digest(structure.as_slice()).as_slice())?;
-    let keys = format!(in alloc; "a50102024231312001215820{EXAMPLE_X}225820{EXAMPLE_Y}")?;
-    let word = format!(in alloc; "01{digest}{EXAMPLE_SIGNATURE}{EXAMPLE_X}{EXAMPLE_Y}")?;
-    let text = format!(in alloc; "vouch {word}\n")?;
-    let words = ["digest", "--keys", keys.as_str()];
-    prints(&rt, words.as_slice(), message.as_slice(), text.as_str(), 0);
-    let words = ["verify", "--keys", keys.as_str(), "--vouch", word.as_str()];
-    let authentic = "authentic sign1 alg -7 payload 20 taken 98\n";
-    prints(&rt, words.as_slice(), message.as_slice(), authentic, 0);
-    Ok(())
+/// The message of the example.
+fn example_message(rt: &(impl Abort + Alloc<A = Global>)) -> Vec<u8> {
+    let digits = format!(in rt.alloc(); "{EXAMPLE}{EXAMPLE_SIGNATURE}").expect(rt, "memory");
+    bytes_of(rt, digits.as_str())
+}
+
+/// The key of the example.
+fn example_key(rt: &(impl Abort + Alloc<A = Global>)) -> String {
+    let key = format!(in rt.alloc(); "a50102024231312001215820{EXAMPLE_X}225820{EXAMPLE_Y}");
+    key.expect(rt, "memory")
+}
+
+/// The argument of `--vouch` for the example.
+fn example_word(rt: &(impl Abort + Alloc<A = Global>)) -> String {
+    let structure = bytes_of(rt, EXAMPLE_STRUCTURE);
+    let digest = Sha256::digest(structure.as_slice());
+    let digest = hex::encode(rt.alloc(), digest.as_slice()).expect(rt, "memory");
+    let word = format!(in rt.alloc(); "01{digest}{EXAMPLE_SIGNATURE}{EXAMPLE_X}{EXAMPLE_Y}");
+    word.expect(rt, "memory")
 }
 
 #[test]
-fn tells_nothing_of_what_is_refused(rt: HostRuntime) -> Result<(), Fail> {
-    let alloc = rt.alloc();
-    let keys = point(alloc, MEMBER_Y)?;
-    let whole = signed(alloc, SIGNED, SIGNATURE)?;
-    let mut longer = signed(alloc, SIGNED, SIGNATURE)?;
-    longer.push(0)?;
-    let mac0 = hex::decode(alloc, "d18443a10105a0").or(Err("no hexadecimal"))?;
-    let cut = whole.as_slice().get(..73).unwrap_or(&[]);
-    let rows: [(&str, &[u8], &str, u8); 6] = [
-        (&keys, longer.as_slice(), "refused Trailing at 74\n", 1),
-        (&keys, cut, "refused Truncated at 73\n", 1),
-        (&keys, b"", "refused Truncated at 0\n", 1),
-        // A COSE_Mac0 has no signature.
-        (&keys, mac0.as_slice(), "refused WrongTag at 0\n", 1),
-        // No key of the set is one for signatures.
-        (KEYS, whole.as_slice(), "refused NoKey at 7\n", 1),
-        ("80", whole.as_slice(), "fault keys BadKeySet at 0\n", 2),
+fn tells_of_the_standards_example(rt: HostRuntime) {
+    let message = example_message(&rt);
+    let (key, word) = (example_key(&rt), example_word(&rt));
+    let text = format!(in rt.alloc(); "vouch {word}\n").expect(&rt, "memory");
+    let digest = ["digest", "--keys", key.as_str()];
+    prints(&rt, digest.as_slice(), message.as_slice(), text.as_str(), 0);
+}
+
+#[test]
+fn passes_on_the_standards_example(rt: HostRuntime) {
+    let message = example_message(&rt);
+    let (key, word) = (example_key(&rt), example_word(&rt));
+    let verify = ["verify", "--keys", key.as_str(), "--vouch", word.as_str()];
+    let authentic = "authentic sign1 alg -7 payload 20 taken 98\n";
+    prints(&rt, verify.as_slice(), message.as_slice(), authentic, 0);
+}
+
+#[test]
+fn tells_nothing_of_what_is_refused(rt: HostRuntime) {
+    let key = point(&rt, MEMBER_Y);
+    let mut longer = signed(&rt, SIGNED, SIGNATURE);
+    longer.push(0).expect(&rt, "memory");
+    // How many bytes of it come, of which 74 are the message.
+    const ROWS: &[(usize, &str)] = &[
+        (75, "refused Trailing at 74\n"),
+        (73, "refused Truncated at 73\n"),
+        (0, "refused Truncated at 0\n"),
     ];
-    for (keys, message, text, status) in rows {
-        let words = ["digest", "--keys", keys];
-        prints(&rt, words.as_slice(), message, text, status);
+    for &(count, text) in ROWS {
+        let words = ["digest", "--keys", key.as_str()];
+        let message = longer.get(..count).unwrap_or(&[]);
+        prints(&rt, words.as_slice(), message, text, 1);
     }
-    Ok(())
+    // A COSE_Mac0 has no signature.
+    let words = ["digest", "--keys", key.as_str()];
+    prints(&rt, words.as_slice(), FRONT, "refused WrongTag at 0\n", 1);
+}
+
+#[test]
+fn tells_nothing_under_other_keys(rt: HostRuntime) {
+    let message = signed(&rt, SIGNED, SIGNATURE);
+    const ROWS: &[(&str, &str, u8)] = &[
+        // No key of the set is one for signatures.
+        (KEYS, "refused NoKey at 7\n", 1),
+        ("80", "fault keys BadKeySet at 0\n", 2),
+    ];
+    for &(keys, text, status) in ROWS {
+        let words = ["digest", "--keys", keys];
+        prints(&rt, words.as_slice(), message.as_slice(), text, status);
+    }
 }
 
 #[test]

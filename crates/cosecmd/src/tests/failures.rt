@@ -7,7 +7,6 @@ use crate::tests::streams::{FailingReader, KeepingWriter};
 use crate::tests::{FRONT, KEYS, MEMBER_Y, SIGNED, is, joined, message, point, signed};
 use std::alloc::Global;
 use std::process::Abort;
-use std::test::Fail;
 
 const WORDS: &[&str] = &["cosecmd", "verify", "--keys", KEYS];
 
@@ -90,29 +89,26 @@ fn says_at_each_read(
 }
 
 #[test]
-fn says_that_the_input_failed(rt: HostRuntime) -> Result<(), Fail> {
-    let made = message(rt.alloc())?;
-    let detached = detached(rt.alloc())?;
+fn says_that_the_input_failed(rt: HostRuntime) {
+    let made = message(&rt);
+    let detached = detached(&rt);
     says_at_each_read(&rt, WORDS, made.as_slice(), 44);
     says_at_each_read(&rt, SHOW, made.as_slice(), 44);
     says_at_each_read(&rt, WITH_PAYLOAD, detached.as_slice(), 42);
-    Ok(())
 }
 
 #[test]
-fn says_that_the_input_of_a_token_failed(rt: HostRuntime) -> Result<(), Fail> {
-    let token = example(rt.alloc())?;
+fn says_that_the_input_of_a_token_failed(rt: HostRuntime) {
+    let token = example(&rt);
     says_at_each_read(&rt, ADMITTED, token.as_slice(), 123);
-    Ok(())
 }
 
 #[test]
-fn says_that_the_input_of_a_digest_failed(rt: HostRuntime) -> Result<(), Fail> {
-    let signed = signed(rt.alloc(), SIGNED, &[0x5a; 64])?;
-    let point = point(rt.alloc(), MEMBER_Y)?;
+fn says_that_the_input_of_a_digest_failed(rt: HostRuntime) {
+    let signed = signed(&rt, SIGNED, &[0x5a; 64]);
+    let point = point(&rt, MEMBER_Y);
     let words = ["cosecmd", "digest", "--keys", point.as_str()];
     says_at_each_read(&rt, words.as_slice(), signed.as_slice(), 74);
-    Ok(())
 }
 
 /// A run with these arguments prints this text, and ends with this status, after this many reads; the next one would
@@ -129,9 +125,9 @@ fn reads_no_more(
 }
 
 #[test]
-fn reads_nothing_behind_a_refusal(rt: HostRuntime) -> Result<(), Fail> {
+fn reads_nothing_behind_a_refusal(rt: HostRuntime) {
     let front: [&[u8]; 2] = [FRONT, b"\xf6\0"];
-    let detached = joined(rt.alloc(), front.as_slice())?;
+    let detached = joined(&rt, front.as_slice());
     const ROWS: &[(&[&str], &str, &str)] = &[
         (WORDS, "refused WrongType at 0\n", "refused Detached at 7\n"),
         (SHOW, "refused WrongType at 0\n", "refused Detached at 7\n"),
@@ -156,7 +152,6 @@ fn reads_nothing_behind_a_refusal(rt: HostRuntime) -> Result<(), Fail> {
         1,
         ("refused WrongTag at 0\n", 1),
     );
-    Ok(())
 }
 
 #[test]
@@ -172,8 +167,8 @@ fn judges_the_keys_before_it_reads(rt: HostRuntime) {
 }
 
 #[test]
-fn reads_once_more_behind_admitted_claims_alone(rt: HostRuntime) -> Result<(), Fail> {
-    let token = example(rt.alloc())?;
+fn reads_once_more_behind_admitted_claims_alone(rt: HostRuntime) {
+    let token = example(&rt);
     // 123 reads take the token, and the next one fails.
     const ROWS: &[(&str, &str, u8, usize)] = &[
         ("1444064943", "fault input\n", 2, 124),
@@ -189,19 +184,17 @@ fn reads_once_more_behind_admitted_claims_alone(rt: HostRuntime) -> Result<(), F
             (text, status, reads),
         );
     }
-    Ok(())
 }
 
 #[test]
-fn writes_no_line_where_the_payload_failed(rt: HostRuntime) -> Result<(), Fail> {
-    let bytes = message(rt.alloc())?;
+fn writes_no_line_where_the_payload_failed(rt: HostRuntime) {
+    let bytes = message(&rt);
     // With the second byte of the payload the output is one byte longer. After the payload nothing is read.
     for (fails_at, ends) in [(1, (8, 2, 1)), (2, (9, 2, 2)), (3, (44, 0, 2))] {
         let (output, status, reads) = ran_until(&rt, MAKE, b"hi", fails_at);
         is(&rt, &fails_at, (output.len(), status, reads), ends);
         assert!(rt; bytes.starts_with(output.as_slice()), "at read {fails_at}");
     }
-    Ok(())
 }
 
 /// What a run with these words writes where its write of this number fails, or takes none, its exit status, and the number of its
@@ -275,8 +268,8 @@ fn stops_at_each_write(rt: &(impl Abort + Alloc<A = Global>), words: &[&str], in
 }
 
 #[test]
-fn ends_with_two_where_the_output_failed(rt: HostRuntime) -> Result<(), Fail> {
-    let made = message(rt.alloc())?;
+fn ends_with_two_where_the_output_failed(rt: HostRuntime) {
+    let made = message(&rt);
     stops_at_each_write(&rt, WORDS, made.as_slice());
     stops_at_each_write(&rt, SHOW, made.as_slice());
     const ROWS: &[(&[&str], &[u8])] = &[
@@ -289,25 +282,22 @@ fn ends_with_two_where_the_output_failed(rt: HostRuntime) -> Result<(), Fail> {
     for &(words, input) in ROWS {
         stops_at_each_write(&rt, words, input);
     }
-    Ok(())
 }
 
 #[test]
-fn ends_with_two_where_the_output_of_a_token_failed(rt: HostRuntime) -> Result<(), Fail> {
-    let token = example(rt.alloc())?;
+fn ends_with_two_where_the_output_of_a_token_failed(rt: HostRuntime) {
+    let token = example(&rt);
     // It is admitted, and it has expired.
     for now in ["1444064943", "1444064944"] {
         let words = ["cosecmd", "cwt", "--keys", KEYS, "--now", now];
         stops_at_each_write(&rt, words.as_slice(), token.as_slice());
     }
-    Ok(())
 }
 
 #[test]
-fn ends_with_two_where_the_output_of_a_digest_failed(rt: HostRuntime) -> Result<(), Fail> {
-    let signed = signed(rt.alloc(), SIGNED, &[0x5a; 64])?;
-    let point = point(rt.alloc(), MEMBER_Y)?;
+fn ends_with_two_where_the_output_of_a_digest_failed(rt: HostRuntime) {
+    let signed = signed(&rt, SIGNED, &[0x5a; 64]);
+    let point = point(&rt, MEMBER_Y);
     let words = ["cosecmd", "digest", "--keys", point.as_str()];
     stops_at_each_write(&rt, words.as_slice(), signed.as_slice());
-    Ok(())
 }

@@ -4,7 +4,6 @@ use crate::tests::long::{FRONT, auth_of};
 use crate::tests::{KEY, STRUCTURE, counted, hmac, is, joined, key_set, message, verifier};
 use cose_msg::{Fed, KeySet, Sink, Status, Store, Verifier, Wanted};
 use std::process::Abort;
-use std::test::Fail;
 
 /// Feeds these bytes in pieces of at most `cut` bytes, and returns the status after them. The payload goes into the
 /// store.
@@ -82,25 +81,23 @@ fn completes_in_pieces(
 }
 
 #[test]
-fn completes_a_long_payload(rt: HostRuntime) -> Result<(), Fail> {
-    let keys = key_set().ok_or("no keys")?;
+fn completes_a_long_payload(rt: HostRuntime) {
+    let keys = key_set(&rt);
     let block: [u8; 10_000] = counted();
     let auth = auth_of(&block);
     for cut in [7, 64, 10_000] {
         completes_in_pieces(&rt, keys, &block, &auth, cut);
     }
-    Ok(())
 }
 
 #[test]
-fn completes_a_long_payload_in_short_pieces(rt: HostRuntime) -> Result<(), Fail> {
-    let keys = key_set().ok_or("no keys")?;
+fn completes_a_long_payload_in_short_pieces(rt: HostRuntime) {
+    let keys = key_set(&rt);
     let block: [u8; 10_000] = counted();
     let auth = auth_of(&block);
     for cut in [1, 2] {
         completes_in_pieces(&rt, keys, &block, &auth, cut);
     }
-    Ok(())
 }
 
 /// Feeding the next piece gives this result.
@@ -120,11 +117,11 @@ const fn used(used: usize, status: Status) -> Fed {
 }
 
 #[test]
-fn takes_pieces_as_they_come(rt: HostRuntime) -> Result<(), Fail> {
-    let keys = key_set().ok_or("no keys")?;
+fn takes_pieces_as_they_come(rt: HostRuntime) {
+    let keys = key_set(&rt);
     let mut verifier = verifier(keys, Wanted::Tagged);
     let tag = hmac(KEY, STRUCTURE);
-    let last = joined(rt.alloc(), &[b"\x20", &tag, b"\xff"])?;
+    let last = joined(&rt, &[b"\x20", &tag, b"\xff"]);
     let complete = Status::Complete;
     let second = Fed {
         payload_from: 4,
@@ -141,18 +138,16 @@ fn takes_pieces_as_they_come(rt: HostRuntime) -> Result<(), Fail> {
     takes(&rt, &mut verifier, last.as_slice(), used(33, complete));
     assert_eq!(rt; verifier.taken(), 44);
     takes(&rt, &mut verifier, b"\xff", used(0, complete));
-    Ok(())
 }
 
 #[test]
-fn wants_what_is_left_of_a_string(rt: HostRuntime) -> Result<(), Fail> {
-    let keys = key_set().ok_or("no keys")?;
-    let bytes = message(rt.alloc())?;
+fn wants_what_is_left_of_a_string(rt: HostRuntime) {
+    let keys = key_set(&rt);
+    let bytes = message(&rt);
     const ROWS: &[(usize, u64)] = &[(8, 2), (12, 32)];
     for &(taken, wanted) in ROWS {
         let mut verifier = verifier(keys, Wanted::Tagged);
         let fed = verifier.feed(bytes.get(..taken).unwrap_or(&[]));
         assert_eq!(rt; (fed.used, verifier.want()), (taken, wanted));
     }
-    Ok(())
 }

@@ -12,11 +12,10 @@ use crate::tests::{
     message, point_set, prints, signed, words_of,
 };
 use sha2::{Digest, Sha256};
-use std::alloc::{AllocError, Global};
+use std::alloc::Global;
 use std::io;
 use std::io::{Error, ErrorKind};
 use std::process::Abort;
-use std::test::Fail;
 
 /// The name of the file.
 const FILE: &str = "keys.cbor";
@@ -113,21 +112,20 @@ pub fn writes(
 }
 
 /// `digest` takes the key of a point from the file.
-fn takes_a_point(rt: &(impl Abort + Alloc<A = Global>)) -> Result<(), Fail> {
+fn takes_a_point(rt: &(impl Abort + Alloc<A = Global>)) {
     let alloc = rt.alloc();
-    let point = point_set(alloc)?;
-    let message = signed(alloc, SIGNED, SIGNATURE)?;
-    let asked = digest_and_signature(alloc, SIGNED_STRUCTURE)?;
-    let vouch = format!(in alloc; "vouch 01{asked}{X}{Y}\n")?;
+    let point = point_set(rt);
+    let message = signed(rt, SIGNED, SIGNATURE);
+    let asked = digest_and_signature(rt, SIGNED_STRUCTURE);
+    let vouch = format!(in alloc; "vouch 01{asked}{X}{Y}\n").expect(rt, "memory");
     writes(rt, DIGEST, file(&point), &message, (vouch.as_bytes(), 0));
-    Ok(())
 }
 
 #[test]
-fn takes_keys_from_a_file(rt: HostRuntime) -> Result<(), Fail> {
-    let mac = message(rt.alloc())?;
-    let token = made(rt.alloc(), b"\xa0")?;
-    takes_a_point(&rt)?;
+fn takes_keys_from_a_file(rt: HostRuntime) {
+    let mac = message(&rt);
+    let token = made(&rt, b"\xa0");
+    takes_a_point(&rt);
     let authentic = b"authentic mac0 alg 5 payload 2 taken 44\n";
     let rows: [(&[&str], &[u8], &[u8], (&[u8], u8)); 6] = [
         (VERIFY, KEY_SET, &mac, (authentic, 0)),
@@ -146,7 +144,6 @@ fn takes_keys_from_a_file(rt: HostRuntime) -> Result<(), Fail> {
     for (arguments, keys, input, ends) in rows {
         writes(&rt, arguments, file(keys), input, ends);
     }
-    Ok(())
 }
 
 #[test]
@@ -202,13 +199,13 @@ fn reads_a_file_in_its_options_place(rt: HostRuntime) {
 }
 
 /// The key of a secret of this many bytes, each of them 0, and then further bytes.
-fn long_key(alloc: Global, count: u16, more: &[u8]) -> Result<Vec<u8>, AllocError> {
-    let mut key = joined(alloc, &[b"\xa2\x01\x04\x20\x59", &count.to_be_bytes()])?;
+fn long_key(rt: &(impl Abort + Alloc<A = Global>), count: u16, more: &[u8]) -> Vec<u8> {
+    let mut key = joined(rt, &[b"\xa2\x01\x04\x20\x59", &count.to_be_bytes()]);
     for _i in 0..count {
-        key.push(0)?;
+        key.push(0).expect(rt, "memory");
     }
-    key.extend_from_slice(more)?;
-    Ok(key)
+    key.extend_from_slice(more).expect(rt, "memory");
+    key
 }
 
 const NO_KEY: (&[u8], u8) = (b"fault file key-file\n", 2);
@@ -222,9 +219,9 @@ fn endless<'f>(bytes: &'f [u8]) -> OneFile<'f> {
 }
 
 #[test]
-fn reads_so_much_of_a_file(rt: HostRuntime) -> Result<(), Fail> {
-    let longest = long_key(rt.alloc(), 65_528, b"")?;
-    let longer = long_key(rt.alloc(), 65_529, b"")?;
+fn reads_so_much_of_a_file(rt: HostRuntime) {
+    let longest = long_key(&rt, 65_528, b"");
+    let longer = long_key(&rt, 65_529, b"");
     let lengths = (longest.len(), longer.len());
     is(&rt, &"lengths", lengths, (65_535, 65_536));
     let truncated = (b"refused Truncated at 0\n".as_slice(), 1);
@@ -232,23 +229,20 @@ fn reads_so_much_of_a_file(rt: HostRuntime) -> Result<(), Fail> {
     let no_set = (b"fault keys BadKeySet at 0\n".as_slice(), 2);
     writes(&rt, VERIFY, endless(&longer), b"", no_set);
     writes(&rt, MAKE, endless(&longer), b"hi", NO_KEY);
-    Ok(())
 }
 
 #[test]
-fn makes_with_the_longest_key_in_a_file(rt: HostRuntime) -> Result<(), Fail> {
-    let longest = long_key(rt.alloc(), 65_528, b"")?;
+fn makes_with_the_longest_key_in_a_file(rt: HostRuntime) {
+    let longest = long_key(&rt, 65_528, b"");
     // A secret that is longer than a block of the hash is replaced by its digest (RFC 2104 section 2).
     let secret = Sha256::digest(longest.get(7..).unwrap_or(&[]));
     let tag = hmac(&secret, STRUCTURE);
-    let made = joined(rt.alloc(), &[FRONT, PAYLOAD, &tag])?;
+    let made = joined(&rt, &[FRONT, PAYLOAD, &tag]);
     writes(&rt, MAKE, file(&longest), b"hi", (&made, 0));
-    Ok(())
 }
 
 #[test]
-fn reads_no_key_with_a_byte_after_it(rt: HostRuntime) -> Result<(), Fail> {
-    let followed = long_key(rt.alloc(), 65_528, b"\0")?;
+fn reads_no_key_with_a_byte_after_it(rt: HostRuntime) {
+    let followed = long_key(&rt, 65_528, b"\0");
     writes(&rt, MAKE, file(&followed), b"hi", NO_KEY);
-    Ok(())
 }

@@ -4,7 +4,6 @@ use crate::tests::streams::LongIntake;
 use crate::tests::{KEY, counted, key_set, padded, sealed, verifier};
 use cose_msg::{Alg, Kind, Never, Nothing, Verdict, Wanted, verify};
 use sha2::Digest;
-use std::test::Fail;
 
 /// The message up to the payload's 10,000,000 bytes.
 pub const FRONT: &[u8] = b"\xd1\x84\x43\xa1\x01\x05\xa0\x5a\x00\x98\x96\x80";
@@ -27,8 +26,8 @@ pub fn auth_of(block: &[u8]) -> [u8; 34] {
 }
 
 #[test]
-fn authenticates_a_long_payload(rt: HostRuntime) -> Result<(), Fail> {
-    let keys = key_set().ok_or("no keys")?;
+fn authenticates_a_long_payload(rt: HostRuntime) {
+    let keys = key_set(&rt);
     let block: [u8; 10_000] = counted();
     let auth = auth_of(&block);
     let mut intake = LongIntake::new(FRONT, &block, 1_000, &auth);
@@ -49,5 +48,4 @@ fn authenticates_a_long_payload(rt: HostRuntime) -> Result<(), Fail> {
         (verdict, verifier.taken(), verifier.held() <= 2_560),
         (Ok(authentic), 10_000_046, true)
     );
-    Ok(())
 }

@@ -4,9 +4,8 @@
 use crate::tests::payloads::refuses_line;
 use crate::tests::runs::verifies;
 use crate::tests::{KEYS, is, message, outcome};
-use std::alloc::{AllocError, Global};
+use std::alloc::Global;
 use std::process::Abort;
-use std::test::Fail;
 
 /// 255 bytes of an identifier, in hexadecimal.
 const LONGEST: usize = 510;
@@ -32,14 +31,13 @@ fn makes(rt: &(impl Abort + Alloc<A = Global>), input: &[u8], ends: (&[u8], u8, 
 }
 
 #[test]
-fn makes_the_message(rt: HostRuntime) -> Result<(), Fail> {
-    let whole = message(rt.alloc())?;
+fn makes_the_message(rt: HostRuntime) {
+    let whole = message(&rt);
     makes(&rt, b"hi", (&whole, 0, b""));
     // What follows the payload is left unread.
     makes(&rt, b"hi there", (&whole, 0, b" there"));
     // The input is a byte short.
     makes(&rt, b"h", (whole.get(..9).unwrap_or(&[]), 2, b""));
-    Ok(())
 }
 
 #[test]
@@ -188,14 +186,9 @@ fn refuses_lines_without_a_message(rt: HostRuntime) {
 }
 
 /// The message that is made of this payload by this algorithm, with this key identifier, or without one where it is empty.
-fn made(
-    rt: &(impl Abort + Alloc<A = Global>),
-    alg: &str,
-    kid: &str,
-    payload: &[u8],
-) -> Result<Vec<u8>, AllocError> {
+fn made(rt: &(impl Abort + Alloc<A = Global>), alg: &str, kid: &str, payload: &[u8]) -> Vec<u8> {
     let count = payload.len();
-    let length = format!(in rt.alloc(); "{count}")?;
+    let length = format!(in rt.alloc(); "{count}").expect(rt, "memory");
     let length = length.as_str();
     let make = [
         "make", "--alg", alg, "--key", KEYS, "--length", length, "--kid", kid,
@@ -204,7 +197,7 @@ fn made(
     let words = if kid.is_empty() { 7 } else { 9 };
     let (made, status, _left) = outcome(rt, &make[..words], payload);
     is(rt, &(alg, count), status, 0);
-    Ok(made)
+    made
 }
 
 /// The message that is made so is authentic, and has this many bytes in addition to the payload.
@@ -214,18 +207,19 @@ fn goes_round(
     kid: &str,
     payload: &[u8],
     others: usize,
-) -> Result<(), AllocError> {
+) {
     let alloc = rt.alloc();
-    let made = made(rt, alg, kid, payload)?;
+    let made = made(rt, alg, kid, payload);
     let count = payload.len();
     let taken = count.saturating_add(others);
-    let line = format!(in alloc; "authentic mac0 alg {alg} payload {count} taken {taken}\n")?;
+    let line = format!(in alloc; "authentic mac0 alg {alg} payload {count} taken {taken}\n").expect(
+        rt, "memory",
+    );
     verifies(rt, KEYS, made.as_slice(), line.as_str(), 0);
-    Ok(())
 }
 
 #[test]
-fn makes_what_is_authentic(rt: HostRuntime) -> Result<(), Fail> {
+fn makes_what_is_authentic(rt: HostRuntime) {
     // The bytes of the tag with its head, and of the payload's head.
     let algorithms: [(&str, usize); 4] = [("4", 9), ("5", 34), ("6", 50), ("7", 66)];
     let lengths: [(usize, usize); 7] = [
@@ -239,16 +233,15 @@ fn makes_what_is_authentic(rt: HostRuntime) -> Result<(), Fail> {
     ];
     let mut payload = Vec::new(rt.alloc());
     for i in 0..65_536usize {
-        payload.push((i % 251) as u8)?;
+        payload.push((i % 251) as u8).expect(&rt, "memory");
     }
     for (alg, auth) in algorithms {
         for (count, head) in lengths {
             let payload = payload.get(..count).unwrap_or(&[]);
             let others = auth.saturating_add(head);
             // Tag, array, protected header, and an empty unprotected one or {4: h'31'}.
-            goes_round(&rt, alg, "", payload, others.saturating_add(7))?;
-            goes_round(&rt, alg, "31", payload, others.saturating_add(10))?;
+            goes_round(&rt, alg, "", payload, others.saturating_add(7));
+            goes_round(&rt, alg, "31", payload, others.saturating_add(10));
         }
     }
-    Ok(())
 }

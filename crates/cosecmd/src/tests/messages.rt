@@ -2,15 +2,15 @@
 
 use crate::tests::rows::refuses_fed;
 use crate::tests::{
-    FRONT, KEY, STRUCTURE, authentic, cut, hmac, is, joined, key_set, message, refused, verifier,
+    FRONT, KEY, STRUCTURE, authentic, bytes_of, cut, hmac, is, joined, key_set, message, refused,
+    verifier,
 };
 use cose_msg::{
     Intake, KeySet, Never, ReadIntake, Reason, Refusal, Sink, SliceIntake, Stop, Store, Verdict,
     Wanted, verify,
 };
-use std::alloc::{AllocError, Global};
+use std::alloc::Global;
 use std::process::Abort;
-use std::test::Fail;
 
 /// What `verify` answers under these keys.
 fn verdict_of<I: Intake, S: Sink>(
@@ -22,9 +22,9 @@ fn verdict_of<I: Intake, S: Sink>(
 }
 
 #[test]
-fn takes_the_message_in_any_pieces(rt: HostRuntime) -> Result<(), Fail> {
-    let bytes = message(rt.alloc())?;
-    let keys = key_set().ok_or("no keys")?;
+fn takes_the_message_in_any_pieces(rt: HostRuntime) {
+    let bytes = message(&rt);
+    let keys = key_set(&rt);
     for cut in [1, 2, 7, 64] {
         let mut intake = SliceIntake::new(bytes.as_slice(), cut);
         let mut store = Store::<16>::new();
@@ -36,7 +36,6 @@ fn takes_the_message_in_any_pieces(rt: HostRuntime) -> Result<(), Fail> {
             (Ok(authentic(44)), b"hi".as_slice()),
         );
     }
-    Ok(())
 }
 
 /// `verify` gives this verdict on bytes from a reader under these keys, and takes this many of them.
@@ -59,11 +58,10 @@ fn answers(
     tag: &[u8],
     verdict: Verdict,
     taken: usize,
-) -> Result<(), AllocError> {
-    let bytes = joined(rt.alloc(), &[FRONT, payload, tag])?;
-    let keys = key_set().expect(rt, "a key set");
+) {
+    let bytes = joined(rt, &[FRONT, payload, tag]);
+    let keys = key_set(rt);
     answers_read(rt, keys, bytes.as_slice(), verdict, taken);
-    Ok(())
 }
 
 /// The message is refused for this reason at this place, after this many of its bytes, also where they are fed in
@@ -73,13 +71,12 @@ fn refuses(
     payload: &[u8],
     tag: &[u8],
     answer: (Reason, u64, usize),
-) -> Result<(), AllocError> {
+) {
     let (reason, place, taken) = answer;
-    answers(rt, payload, tag, refused(reason, place), taken)?;
-    let bytes = joined(rt.alloc(), &[FRONT, payload, tag])?;
-    let keys = key_set().expect(rt, "a key set");
+    answers(rt, payload, tag, refused(reason, place), taken);
+    let bytes = joined(rt, &[FRONT, payload, tag]);
+    let keys = key_set(rt);
     refuses_fed(rt, keys, bytes.as_slice(), Refusal { reason, place }, taken);
-    Ok(())
 }
 
 /// The authentication tag with its last byte changed.
@@ -89,24 +86,23 @@ fn changed(mut tag: [u8; 32]) -> [u8; 32] {
 }
 
 #[test]
-fn compares_tags(rt: HostRuntime) -> Result<(), Fail> {
+fn compares_tags(rt: HostRuntime) {
     let tag = hmac(KEY, STRUCTURE);
     let other = changed(tag);
     let payload = b"\x42hi\x58\x20";
-    answers(&rt, payload, &tag, authentic(44), 44)?;
-    answers(&rt, b"\x59\x00\x02hi\x58\x20", &tag, authentic(46), 46)?;
-    refuses(&rt, payload, &other, (Reason::BadAuth, 10, 44))?;
+    answers(&rt, payload, &tag, authentic(44), 44);
+    answers(&rt, b"\x59\x00\x02hi\x58\x20", &tag, authentic(46), 46);
+    refuses(&rt, payload, &other, (Reason::BadAuth, 10, 44));
     let short = tag.get(..8).unwrap_or(&[]);
-    refuses(&rt, b"\x42hi\x48", short, (Reason::BadAuthLength, 10, 11))?;
-    refuses(&rt, payload, cut(&tag), (Reason::Truncated, 43, 43))?;
-    let mut longer = Vec::from_slice(rt.alloc(), &tag)?;
-    longer.push(0xff)?;
-    answers(&rt, payload, longer.as_slice(), authentic(44), 44)?;
-    Ok(())
+    refuses(&rt, b"\x42hi\x48", short, (Reason::BadAuthLength, 10, 11));
+    refuses(&rt, payload, cut(&tag), (Reason::Truncated, 43, 43));
+    let mut longer = Vec::from_slice(rt.alloc(), &tag).expect(&rt, "memory");
+    longer.push(0xff).expect(&rt, "memory");
+    answers(&rt, payload, longer.as_slice(), authentic(44), 44);
 }
 
 #[test]
-fn refuses_other_heads(rt: HostRuntime) -> Result<(), Fail> {
+fn refuses_other_heads(rt: HostRuntime) {
     const ROWS: &[(&str, (Reason, u64, usize))] = &[
         ("4268", (Reason::Truncated, 9, 9)),
         ("5fff", (Reason::Indefinite, 7, 8)),
@@ -120,10 +116,9 @@ fn refuses_other_heads(rt: HostRuntime) -> Result<(), Fail> {
         ("42686960", (Reason::WrongType, 10, 11)),
     ];
     for &(payload, answer) in ROWS {
-        let bytes = hex::decode(rt.alloc(), payload).or(Err("no hexadecimal"))?;
-        refuses(&rt, bytes.as_slice(), b"", answer)?;
+        let bytes = bytes_of(&rt, payload);
+        refuses(&rt, bytes.as_slice(), b"", answer);
     }
-    Ok(())
 }
 
 /// Under this key set the message is refused for this reason before its payload.
@@ -132,31 +127,29 @@ fn refuses_under(
     keys: &str,
     message: &[u8],
     reason: Reason,
-) -> Result<(), Fail> {
-    let set = hex::decode(rt.alloc(), keys).or(Err("no hexadecimal"))?;
-    let set = KeySet::read(set.as_slice()).or(Err("no key set"))?;
+) {
+    let set = bytes_of(rt, keys);
+    let set = KeySet::read(set.as_slice()).expect(rt, "a key set");
     answers_read(rt, set, message, refused(reason, 7), 7);
-    Ok(())
 }
 
 #[test]
-fn chooses_the_key_behind_the_front(rt: HostRuntime) -> Result<(), Fail> {
-    let bytes = message(rt.alloc())?;
+fn chooses_the_key_behind_the_front(rt: HostRuntime) {
+    let bytes = message(&rt);
     const ROWS: &[(&str, Reason)] = &[
         ("a0", Reason::NoKey),
         ("a30104030420444a656665", Reason::NoKey),
         ("82a2010420444a656665a201042041aa", Reason::AmbiguousKey),
     ];
     for &(keys, reason) in ROWS {
-        refuses_under(&rt, keys, bytes.as_slice(), reason)?;
+        refuses_under(&rt, keys, bytes.as_slice(), reason);
     }
-    Ok(())
 }
 
 #[test]
-fn stops_where_the_store_is_full(rt: HostRuntime) -> Result<(), Fail> {
-    let bytes = message(rt.alloc())?;
-    let keys = key_set().ok_or("no keys")?;
+fn stops_where_the_store_is_full(rt: HostRuntime) {
+    let bytes = message(&rt);
+    let keys = key_set(&rt);
     let mut store = Store::<1>::new();
     let mut intake = SliceIntake::new(bytes.as_slice(), 1);
     let answer = verdict_of(keys, &mut intake, &mut store);
@@ -165,5 +158,4 @@ fn stops_where_the_store_is_full(rt: HostRuntime) -> Result<(), Fail> {
     let fits = Store::<4>::new().put(b"four").is_ok();
     let fails = store.put(b"i").is_err();
     assert_eq!(rt; (fits, fails, store.bytes()), (true, true, b"h".as_slice()));
-    Ok(())
 }

@@ -2,7 +2,6 @@
 //! that lacks its option.
 
 use crate::tests::prints;
-use std::test::Fail;
 
 /// A key set of the key `Jefe`.
 const KEYS: &str = "a2010420444a656665";

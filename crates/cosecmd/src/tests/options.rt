@@ -6,13 +6,12 @@ use crate::tests::{
 };
 use std::alloc::Global;
 use std::process::Abort;
-use std::test::Fail;
 
 #[test]
-fn authenticates_external_data(rt: HostRuntime) -> Result<(), Fail> {
+fn authenticates_external_data(rt: HostRuntime) {
     let structure = b"\x84\x64MAC0\x43\xa1\x01\x05\x42\x01\x02\x42hi";
     let tag = hmac(KEY, structure);
-    let bytes = joined(rt.alloc(), &[FRONT, PAYLOAD, &tag])?;
+    let bytes = joined(&rt, &[FRONT, PAYLOAD, &tag]);
     const AUTHENTIC: &str = "authentic mac0 alg 5 payload 2 taken 44\n";
     const REFUSED: &str = "refused BadAuth at 10\n";
     const ROWS: &[(&[&str], &str, u8)] = &[
@@ -24,35 +23,28 @@ fn authenticates_external_data(rt: HostRuntime) -> Result<(), Fail> {
     for &(verify, text, status) in ROWS {
         prints(&rt, verify, bytes.as_slice(), text, status);
     }
-    Ok(())
 }
 
 /// With this many bytes of external data and no input a run prints this.
-fn prints_with(
-    rt: &(impl Abort + Alloc<A = Global>),
-    count: usize,
-    text: &str,
-    status: u8,
-) -> Result<(), Fail> {
+fn prints_with(rt: &(impl Abort + Alloc<A = Global>), count: usize, text: &str, status: u8) {
     let mut digits = Vec::new(rt.alloc());
     for _i in 0..count {
-        digits.extend_from_slice(b"00")?;
+        digits.extend_from_slice(b"00").expect(rt, "memory");
     }
-    let word = str::from_utf8(digits.as_slice()).or(Err("no text"))?;
+    let word = str::from_utf8(digits.as_slice()).expect(rt, "text");
     let verify = ["verify", "--keys", KEYS, "--aad", word];
     prints(rt, verify.as_slice(), b"", text, status);
-    Ok(())
 }
 
 #[test]
-fn limits_external_data(rt: HostRuntime) -> Result<(), Fail> {
-    prints_with(&rt, 65_535, "refused Truncated at 0\n", 1)?;
+fn limits_external_data(rt: HostRuntime) {
+    prints_with(&rt, 65_535, "refused Truncated at 0\n", 1);
     prints_with(&rt, 65_536, "fault line aad\n", 2)
 }
 
 #[test]
-fn wants_a_kind(rt: HostRuntime) -> Result<(), Fail> {
-    let tagged = message(rt.alloc())?;
+fn wants_a_kind(rt: HostRuntime) {
+    let tagged = message(&rt);
     let untagged = tagged.get(1..).unwrap_or(&[]);
     let rows: [(&str, &[u8], &str, u8); 6] = [
         (
@@ -81,7 +73,6 @@ fn wants_a_kind(rt: HostRuntime) -> Result<(), Fail> {
         let verify = ["verify", "--keys", KEYS, "--kind", kind];
         prints(&rt, verify.as_slice(), bytes, text, status);
     }
-    Ok(())
 }
 
 const AUTHENTIC: (&str, u8) = ("authentic sign1 alg -7 payload 0 taken 74\n", 0);
@@ -98,16 +89,16 @@ struct Word<'w> {
 }
 
 /// The argument in hexadecimal.
-fn argument_of(alloc: Global, word: &Word) -> Result<String, Fail> {
-    let digest = hex::encode(alloc, signed_digest(alloc)?.as_slice())?;
-    let signature = hex::encode(alloc, [0x5a; 64].as_slice())?;
+fn argument_of(rt: &(impl Abort + Alloc<A = Global>), word: &Word) -> String {
+    let digest = hex::encode(rt.alloc(), signed_digest(rt).as_slice()).expect(rt, "memory");
+    let signature = hex::encode(rt.alloc(), [0x5a; 64].as_slice()).expect(rt, "memory");
     let (first, second) = if word.is_swapped {
         (signature.as_str(), digest.as_str())
     } else {
         (digest.as_str(), signature.as_str())
     };
     let (curve, rest, more) = (word.curve, word.rest, word.more);
-    Ok(format!(in alloc; "{curve}{first}{second}{X}{rest}{more}")?)
+    format!(in rt.alloc(); "{curve}{first}{second}{X}{rest}{more}").expect(rt, "memory")
 }
 
 /// What is printed for the signed message under the point with this member y and this argument of `--vouch`.
@@ -116,17 +107,16 @@ fn vouches(
     member: &str,
     word: &Word,
     (text, status): (&str, u8),
-) -> Result<(), Fail> {
-    let vouch = argument_of(rt.alloc(), word)?;
-    let keys = point(rt.alloc(), member)?;
-    let bytes = signed(rt.alloc(), SIGNED, &[0x5a; 64])?;
+) {
+    let vouch = argument_of(rt, word);
+    let keys = point(rt, member);
+    let bytes = signed(rt, SIGNED, &[0x5a; 64]);
     let verify = ["verify", "--keys", keys.as_str(), "--vouch", vouch.as_str()];
     prints(rt, verify.as_slice(), bytes.as_slice(), text, status);
-    Ok(())
 }
 
 #[test]
-fn vouches_for_a_signature(rt: HostRuntime) -> Result<(), Fail> {
+fn vouches_for_a_signature(rt: HostRuntime) {
     const ROWS: &[(&str, (&str, bool, &str, &str), (&str, u8))] = &[
         (MEMBER_Y, ("01", false, Y, ""), AUTHENTIC),
         ("f5", ("01", false, "01", ""), AUTHENTIC),
@@ -145,21 +135,19 @@ fn vouches_for_a_signature(rt: HostRuntime) -> Result<(), Fail> {
             rest,
             more,
         };
-        vouches(&rt, member, &word, printed)?;
+        vouches(&rt, member, &word, printed);
     }
-    Ok(())
 }
 
 #[test]
-fn refuses_a_signature_that_nothing_vouches_for(rt: HostRuntime) -> Result<(), Fail> {
+fn refuses_a_signature_that_nothing_vouches_for(rt: HostRuntime) {
     let (text, status) = REFUSED;
-    let keys = point(rt.alloc(), MEMBER_Y)?;
-    let bytes = signed(rt.alloc(), SIGNED, &[0x5a; 64])?;
+    let keys = point(&rt, MEMBER_Y);
+    let bytes = signed(&rt, SIGNED, &[0x5a; 64]);
     let empty = ["verify", "--keys", keys.as_str(), "--vouch", ""];
     prints(&rt, empty.as_slice(), bytes.as_slice(), text, status);
     let none = ["verify", "--keys", keys.as_str()];
     prints(&rt, none.as_slice(), bytes.as_slice(), text, status);
-    Ok(())
 }
 
 #[test]

@@ -5,7 +5,6 @@ use crate::tests::key_files::{OneFile, leaves, named, writes};
 use crate::tests::payloads::{changed, detached, detached_long, longer, refuses_line};
 use crate::tests::streams::FailingReader;
 use crate::tests::{FRONT, KEY, KEYS, hmac, is, joined, message, prints, words_of};
-use std::test::Fail;
 
 /// The name of the file.
 const FILE: &str = "payload.bin";
@@ -25,12 +24,11 @@ fn file<'f>(bytes: &'f [u8]) -> OneFile<'f> {
 }
 
 #[test]
-fn verifies_under_a_payload_file(rt: HostRuntime) -> Result<(), Fail> {
-    let alloc = rt.alloc();
-    let attached = message(alloc)?;
-    let bytes = detached(alloc)?;
-    let changed = changed(alloc)?;
-    let longer = longer(alloc)?;
+fn verifies_under_a_payload_file(rt: HostRuntime) {
+    let attached = message(&rt);
+    let bytes = detached(&rt);
+    let changed = changed(&rt);
+    let longer = longer(&rt);
     let shorter = bytes.get(..41).unwrap_or(&[]);
     let rows: [(&[u8], (&[u8], u8)); 6] = [
         (&bytes, AUTHENTIC),
@@ -43,12 +41,11 @@ fn verifies_under_a_payload_file(rt: HostRuntime) -> Result<(), Fail> {
     for (bytes, ends) in rows {
         writes(&rt, VERIFY, file(b"hi"), bytes, ends);
     }
-    Ok(())
 }
 
 #[test]
-fn authenticates_the_bytes_of_the_file(rt: HostRuntime) -> Result<(), Fail> {
-    let bytes = detached(rt.alloc())?;
+fn authenticates_the_bytes_of_the_file(rt: HostRuntime) {
+    let bytes = detached(&rt);
     const ROWS: &[(&[u8], (&[u8], u8))] = &[
         (b"hi", AUTHENTIC),
         (b"hh", BAD_AUTH),
@@ -70,14 +67,13 @@ fn authenticates_the_bytes_of_the_file(rt: HostRuntime) -> Result<(), Fail> {
         };
         writes(&rt, VERIFY, longer, &bytes, AUTHENTIC);
     }
-    Ok(())
 }
 
 #[test]
-fn verifies_a_file_of_no_byte(rt: HostRuntime) -> Result<(), Fail> {
+fn verifies_a_file_of_no_byte(rt: HostRuntime) {
     // The MAC_structure of the empty payload (RFC 9052 section 6.3).
     let tag = hmac(KEY, b"\x84\x64MAC0\x43\xa1\x01\x05\x40\x40");
-    let bytes = joined(rt.alloc(), &[FRONT, b"\xf6\x58\x20", &tag])?;
+    let bytes = joined(&rt, &[FRONT, b"\xf6\x58\x20", &tag]);
     let authentic = (b"authentic mac0 alg 5 payload 0 taken 42\n".as_slice(), 0);
     // A file of no byte isn't read: there the first read would fail.
     for fails_at in [0, 1] {
@@ -87,13 +83,12 @@ fn verifies_a_file_of_no_byte(rt: HostRuntime) -> Result<(), Fail> {
         };
         writes(&rt, VERIFY, empty, &bytes, authentic);
     }
-    Ok(())
 }
 
 /// A payload of more bytes than are taken at once, and one byte in each read.
 #[test]
-fn verifies_a_long_file(rt: HostRuntime) -> Result<(), Fail> {
-    let (payload, bytes) = detached_long(rt.alloc())?;
+fn verifies_a_long_file(rt: HostRuntime) {
+    let (payload, bytes) = detached_long(&rt);
     let authentic = b"authentic mac0 alg 5 payload 5000 taken 42\n";
     writes(&rt, VERIFY, file(&payload), &bytes, (authentic, 0));
     // A byte is missing in the end.
@@ -102,7 +97,6 @@ fn verifies_a_long_file(rt: HostRuntime) -> Result<(), Fail> {
         ..file(&payload)
     };
     leaves(&rt, VERIFY, shorter, &bytes, FAULT);
-    Ok(())
 }
 
 /// Files that fail: a read of their two bytes does, or they end before their length.
@@ -118,20 +112,19 @@ fn failing(&(payload, length, fails_at): &(&'static [u8], u64, usize)) -> OneFil
 }
 
 #[test]
-fn gives_no_verdict_where_the_file_fails(rt: HostRuntime) -> Result<(), Fail> {
-    let bytes = detached(rt.alloc())?;
-    let front = joined(rt.alloc(), &[FRONT, b"\xf6"])?;
+fn gives_no_verdict_where_the_file_fails(rt: HostRuntime) {
+    let bytes = detached(&rt);
+    let front = joined(&rt, &[FRONT, b"\xf6"]);
     // Not on a whole message, and not on one that ends with its nil.
     for row in FAILING {
         leaves(&rt, VERIFY, failing(row), &bytes, FAULT);
         leaves(&rt, VERIFY, failing(row), &front, FAULT);
     }
-    Ok(())
 }
 
 #[test]
-fn reads_no_file_before_the_nil(rt: HostRuntime) -> Result<(), Fail> {
-    let attached = message(rt.alloc())?;
+fn reads_no_file_before_the_nil(rt: HostRuntime) {
+    let attached = message(&rt);
     const ROWS: &[(&[u8], (&[u8], u8))] = &[
         (b"", (b"refused Truncated at 0\n", 1)),
         (FRONT, (b"refused Truncated at 7\n", 1)),
@@ -144,60 +137,71 @@ fn reads_no_file_before_the_nil(rt: HostRuntime) -> Result<(), Fail> {
         let refused = (b"refused Attached at 7\n".as_slice(), 1);
         writes(&rt, VERIFY, failing(row), &attached, refused);
     }
-    Ok(())
 }
 
 #[test]
-fn reads_no_file_after_its_length(rt: HostRuntime) -> Result<(), Fail> {
-    let bytes = detached(rt.alloc())?;
-    let front = joined(rt.alloc(), &[FRONT, b"\xf6"])?;
+fn reads_no_file_after_its_length(rt: HostRuntime) {
+    let bytes = detached(&rt);
+    let front = joined(&rt, &[FRONT, b"\xf6"]);
     let third = failing(&(b"hi", 2, 3));
     writes(&rt, VERIFY, third, &bytes, AUTHENTIC);
     let refused = (b"refused Truncated at 8\n".as_slice(), 1);
     writes(&rt, VERIFY, third, &front, refused);
-    Ok(())
 }
 
 #[test]
-fn opens_the_file_before_the_message(rt: HostRuntime) -> Result<(), Fail> {
-    let bytes = detached(rt.alloc())?;
+fn opens_the_file_before_the_message(rt: HostRuntime) {
+    let bytes = detached(&rt);
     let missing = named("other", b"hi");
     // What can't be opened is no file of any message's payload.
     for bytes in [bytes.as_slice(), b"", b"\xff"] {
         writes(&rt, VERIFY, missing, bytes, FAULT);
     }
     prints(&rt, VERIFY, b"", "fault file payload-file\n", 2);
-    Ok(())
 }
 
 #[test]
 fn opens_the_file_in_its_options_place(rt: HostRuntime) {
-    let missing = named("other", b"hi");
-    let file_option = "--payload-file";
-    let keys = ["verify", file_option, FILE, "--keys", "zz"];
-    let keys_file = ["verify", file_option, FILE, "--keys-file", FILE];
-    let aad = ["verify", file_option, FILE, "--aad", "zz", "--keys", "80"];
-    let vouch = ["verify", file_option, FILE, "--vouch", "0", "--keys", "80"];
-    let refused = ["verify", file_option, FILE, "--keys", "80"];
-    let rows: [(&[&str], OneFile, (&[u8], u8)); 6] = [
-        (&keys, missing, (b"fault line keys\n", 2)),
-        (&keys_file, missing, (b"fault file keys-file\n", 2)),
-        (&aad, missing, (b"fault line aad\n", 2)),
-        (&vouch, missing, (b"fault line vouch\n", 2)),
-        (&refused, missing, FAULT),
-        (&refused, file(b"hi"), (b"fault keys BadKeySet at 0\n", 2)),
+    const OTHER: &str = "other";
+    const SET: (&[u8], u8) = (b"fault keys BadKeySet at 0\n", 2);
+    const OPTION: &str = "--payload-file";
+    // The name of the file that is there, the arguments after `--payload-file`, and what is printed.
+    const ROWS: &[(&str, &[&str], (&[u8], u8))] = &[
+        (OTHER, &["--keys", "zz"], (b"fault line keys\n", 2)),
+        (
+            OTHER,
+            &["--keys-file", FILE],
+            (b"fault file keys-file\n", 2),
+        ),
+        (
+            OTHER,
+            &["--aad", "zz", "--keys", "80"],
+            (b"fault line aad\n", 2),
+        ),
+        (
+            OTHER,
+            &["--vouch", "0", "--keys", "80"],
+            (b"fault line vouch\n", 2),
+        ),
+        (OTHER, &["--keys", "80"], FAULT),
+        (FILE, &["--keys", "80"], SET),
     ];
-    for (arguments, file, ends) in rows {
-        writes(&rt, arguments, file, b"hi", ends);
+    for &(name, rest, ends) in ROWS {
+        let mut arguments = Vec::new(rt.alloc());
+        arguments
+            .extend_from_slice(&["verify", OPTION, FILE])
+            .expect(&rt, "memory");
+        arguments.extend_from_slice(rest).expect(&rt, "memory");
+        writes(&rt, arguments.as_slice(), named(name, b"hi"), b"hi", ends);
     }
 }
 
 /// A run whose input fails at one of its reads, each of which gives a byte, and whose file of the payload fails at one too.
 #[test]
-fn tells_the_file_from_the_input(rt: HostRuntime) -> Result<(), Fail> {
+fn tells_the_file_from_the_input(rt: HostRuntime) {
     let alloc = rt.alloc();
-    let bytes = detached(alloc)?;
-    let words = words_of(alloc, VERIFY)?;
+    let bytes = detached(&rt);
+    let words = words_of(alloc, VERIFY).expect(&rt, "memory");
     let input = b"fault input\n".as_slice();
     let (payload, whole) = (FAULT.0, AUTHENTIC.0);
     // The message's nil is its eighth byte. Of both that fail the first one that is read counts.
@@ -231,7 +235,6 @@ fn tells_the_file_from_the_input(rt: HostRuntime) -> Result<(), Fail> {
         );
         is(&rt, &(input_fails_at, fails_at), output.as_slice(), text);
     }
-    Ok(())
 }
 
 #[test]

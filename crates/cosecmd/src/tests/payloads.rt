@@ -4,39 +4,37 @@ use crate::tests::digests::digest_and_signature;
 use crate::tests::{
     FRONT, KEY, KEYS, MEMBER_Y, STRUCTURE, X, Y, hmac, is, joined, message, outcome, point, prints,
 };
-use std::alloc::{AllocError, Global};
+use std::alloc::Global;
 use std::process::Abort;
-use std::test::Fail;
 
 /// The COSE_Mac0 of 42 bytes with nil in the place of the payload, `hi`.
-pub fn detached(alloc: Global) -> Result<Vec<u8>, AllocError> {
+pub fn detached(rt: &(impl Abort + Alloc<A = Global>)) -> Vec<u8> {
     let tag = hmac(KEY, STRUCTURE);
-    joined(alloc, &[FRONT, b"\xf6\x58\x20", &tag])
+    joined(rt, &[FRONT, b"\xf6\x58\x20", &tag])
 }
 
 /// The same with the last byte of its tag changed.
-pub fn changed(alloc: Global) -> Result<Vec<u8>, AllocError> {
-    let mut bytes = detached(alloc)?;
+pub fn changed(rt: &(impl Abort + Alloc<A = Global>)) -> Vec<u8> {
+    let mut bytes = detached(rt);
     if let Some(byte) = bytes.get_mut(41) {
         *byte ^= 1;
     }
-    Ok(bytes)
+    bytes
 }
 
 /// The same with a byte after it.
-pub fn longer(alloc: Global) -> Result<Vec<u8>, AllocError> {
-    let mut bytes = detached(alloc)?;
-    bytes.push(0xff)?;
-    Ok(bytes)
+pub fn longer(rt: &(impl Abort + Alloc<A = Global>)) -> Vec<u8> {
+    let mut bytes = detached(rt);
+    bytes.push(0xff).expect(rt, "memory");
+    bytes
 }
 
 #[test]
-fn verifies_under_a_payload(rt: HostRuntime) -> Result<(), Fail> {
-    let alloc = rt.alloc();
-    let attached = message(alloc)?;
-    let bytes = detached(alloc)?;
-    let changed = changed(alloc)?;
-    let longer = longer(alloc)?;
+fn verifies_under_a_payload(rt: HostRuntime) {
+    let attached = message(&rt);
+    let bytes = detached(&rt);
+    let changed = changed(&rt);
+    let longer = longer(&rt);
     let shorter = bytes.get(..41).unwrap_or(&[]);
     let with = ["verify", "--keys", KEYS, "--payload", "6869"];
     let without = ["verify", "--keys", KEYS];
@@ -53,12 +51,11 @@ fn verifies_under_a_payload(rt: HostRuntime) -> Result<(), Fail> {
     for (arguments, bytes, text, status) in rows {
         prints(&rt, arguments, bytes, text, status);
     }
-    Ok(())
 }
 
 #[test]
-fn authenticates_the_payload_that_is_passed(rt: HostRuntime) -> Result<(), Fail> {
-    let detached = detached(rt.alloc())?;
+fn authenticates_the_payload_that_is_passed(rt: HostRuntime) {
+    let detached = detached(&rt);
     const REFUSED: (&str, u8) = ("refused BadAuth at 8\n", 1);
     const ROWS: &[(&str, (&str, u8))] = &[
         ("6869", ("authentic mac0 alg 5 payload 2 taken 42\n", 0)),
@@ -74,47 +71,44 @@ fn authenticates_the_payload_that_is_passed(rt: HostRuntime) -> Result<(), Fail>
         let verify = ["verify", "--keys", KEYS, "--payload", payload];
         prints(&rt, verify.as_slice(), detached.as_slice(), text, status);
     }
-    Ok(())
 }
 
 #[test]
-fn verifies_a_payload_of_no_byte(rt: HostRuntime) -> Result<(), Fail> {
+fn verifies_a_payload_of_no_byte(rt: HostRuntime) {
     // The MAC_structure of the empty payload (RFC 9052 section 6.3).
     let tag = hmac(KEY, b"\x84\x64MAC0\x43\xa1\x01\x05\x40\x40");
-    let bytes = joined(rt.alloc(), &[FRONT, b"\xf6\x58\x20", &tag])?;
+    let bytes = joined(&rt, &[FRONT, b"\xf6\x58\x20", &tag]);
     let verify = ["verify", "--keys", KEYS, "--payload", ""];
     let authentic = "authentic mac0 alg 5 payload 0 taken 42\n";
     prints(&rt, verify.as_slice(), bytes.as_slice(), authentic, 0);
-    Ok(())
 }
 
 /// A payload of more bytes than are taken at once, and the COSE_Mac0 of 42 bytes that has nil in its place.
-pub fn detached_long(alloc: Global) -> Result<([u8; 5_000], Vec<u8>), AllocError> {
+pub fn detached_long(rt: &(impl Abort + Alloc<A = Global>)) -> ([u8; 5_000], Vec<u8>) {
     let payload = [0x5a; 5_000];
     let structure = joined(
-        alloc,
+        rt,
         &[b"\x84\x64MAC0\x43\xa1\x01\x05\x40\x59\x13\x88", &payload],
-    )?;
+    );
     let tag = hmac(KEY, structure.as_slice());
-    let bytes = joined(alloc, &[FRONT, b"\xf6\x58\x20", &tag])?;
-    Ok((payload, bytes))
+    let bytes = joined(rt, &[FRONT, b"\xf6\x58\x20", &tag]);
+    (payload, bytes)
 }
 
 #[test]
-fn verifies_a_long_payload(rt: HostRuntime) -> Result<(), Fail> {
+fn verifies_a_long_payload(rt: HostRuntime) {
     let alloc = rt.alloc();
-    let (payload, bytes) = detached_long(alloc)?;
-    let word = hex::encode(alloc, payload.as_slice())?;
+    let (payload, bytes) = detached_long(&rt);
+    let word = hex::encode(alloc, payload.as_slice()).expect(&rt, "memory");
     let verify = ["verify", "--keys", KEYS, "--payload", word.as_str()];
     let authentic = "authentic mac0 alg 5 payload 5000 taken 42\n";
     prints(&rt, verify.as_slice(), bytes.as_slice(), authentic, 0);
-    Ok(())
 }
 
 /// The argument of `--vouch` for the signature of 64 bytes 5a over the payload `hi` (RFC 9052 section 4.4).
-fn vouch(alloc: Global) -> Result<String, Fail> {
-    let asked = digest_and_signature(alloc, "846a5369676e61747572653143a1012640426869")?;
-    Ok(format!(in alloc; "01{asked}{X}{Y}")?)
+fn vouch(rt: &(impl Abort + Alloc<A = Global>)) -> String {
+    let asked = digest_and_signature(rt, "846a5369676e61747572653143a1012640426869");
+    format!(in rt.alloc(); "01{asked}{X}{Y}").expect(rt, "memory")
 }
 
 /// With this argument of `--vouch` and this payload, that signature's message is answered so.
@@ -125,8 +119,8 @@ fn answers_signed<'w>(
     (text, status): (&str, u8),
 ) {
     let front: &[u8] = b"\xd2\x84\x43\xa1\x01\x26\xa0\xf6\x58\x40";
-    let bytes = joined(rt.alloc(), &[front, &[0x5a; 64]]).expect(rt, "memory");
-    let keys = point(rt.alloc(), MEMBER_Y).expect(rt, "memory");
+    let bytes = joined(rt, &[front, &[0x5a; 64]]);
+    let keys = point(rt, MEMBER_Y);
     let verify = [
         "verify",
         "--keys",
@@ -140,14 +134,13 @@ fn answers_signed<'w>(
 }
 
 #[test]
-fn vouches_for_a_payload_that_is_passed(rt: HostRuntime) -> Result<(), Fail> {
-    let good = vouch(rt.alloc())?;
+fn vouches_for_a_payload_that_is_passed(rt: HostRuntime) {
+    let good = vouch(&rt);
     let authentic = ("authentic sign1 alg -7 payload 2 taken 74\n", 0);
     let refused = ("refused BadAuth at 8\n", 1);
     answers_signed(&rt, good.as_str(), "6869", authentic);
     answers_signed(&rt, good.as_str(), "6868", refused);
     answers_signed(&rt, "", "6869", refused);
-    Ok(())
 }
 
 /// A run with these arguments prints a text that begins so, ends with 2, and has read nothing.

@@ -5,7 +5,6 @@ ghost use Rattle.std.specs.Prelude.{◌<◌};
 use crate::tests::{is, key_set, message, verifier};
 use cose_msg::{KeySet, Never, Nothing, SliceIntake, Stop, Verdict, Wanted, verify};
 use std::process::Abort;
-use std::test::Fail;
 
 /// What `verify` answers for bytes that come in pieces of at most this many, and how many it takes.
 fn outcome(keys: KeySet, bytes: &[u8; 44], cut: usize) -> (Result<Verdict, Stop>, u64) {
@@ -48,15 +47,14 @@ fn refuses_each_at(rt: &impl Abort, keys: KeySet, bytes: &[u8; 44], place: usize
 }
 
 #[test]
-fn refuses_each_other_byte(rt: HostRuntime) -> Result<(), Fail> {
-    let made = message(rt.alloc())?;
+fn refuses_each_other_byte(rt: HostRuntime) {
+    let made = message(&rt);
     let mut bytes = [0; 44];
     for i in 0..44 {
-        bytes[i] = made.get(i).copied().ok_or("fewer bytes")?;
+        bytes[i] = made.get(i).copied().expect(&rt, "fewer bytes");
     }
-    let keys = key_set().ok_or("no keys")?;
+    let keys = key_set(&rt);
     for place in 0..44 {
         refuses_each_at(&rt, keys, &bytes, place);
     }
-    Ok(())
 }

@@ -7,11 +7,10 @@ ghost use Rattle.cose_msg.specs.Verifier.{is_detached};
 use crate::tests::feeding::feed_all;
 use crate::tests::messages::answers_read;
 use crate::tests::tables::answers_under_table;
-use crate::tests::{KEY, KEYS, hmac, is, refused, verified_in_pieces, verifier};
+use crate::tests::{KEY, KEYS, bytes_of, hmac, is, refused, verified_in_pieces, verifier};
 use cose_msg::{Alg, KeySet, Kind, Reason, Refusal, Status, Store, Verdict, Verifier, Wanted};
 use std::alloc::Global;
 use std::process::Abort;
-use std::test::Fail;
 
 /// The key `Jefe` for HMAC 256/256 alone.
 const FOR_5: &str = "a30104030520444a656665";
@@ -79,21 +78,20 @@ fn refuses(
     keys: &str,
     bytes: &str,
     answer: (Reason, u64, usize),
-) -> Result<(), Fail> {
-    let set = hex::decode(rt.alloc(), keys).or(Err("no hexadecimal"))?;
-    let message = hex::decode(rt.alloc(), bytes).or(Err("no hexadecimal"))?;
-    let keys = KeySet::read(set.as_slice()).or(Err("no key set"))?;
+) {
+    let set = bytes_of(rt, keys);
+    let message = bytes_of(rt, bytes);
+    let keys = KeySet::read(set.as_slice()).expect(rt, "a key set");
     let (reason, place, taken) = answer;
     let refusal = Refusal { reason, place };
     let verdict = Verdict::Refused(refusal);
     answers_read(rt, keys, message.as_slice(), verdict, taken);
     refuses_fed(rt, keys, message.as_slice(), refusal, taken);
     answers_under_table(rt, set.as_slice(), message.as_slice(), verdict);
-    Ok(())
 }
 
 #[test]
-fn refuses_what_stands_first(rt: HostRuntime) -> Result<(), Fail> {
+fn refuses_what_stands_first(rt: HostRuntime) {
     const ROWS: &[(&str, (Reason, u64, usize))] = &[
         ("", (Reason::Truncated, 0, 0)),
         ("d0", (Reason::Encrypted, 0, 1)),
@@ -112,13 +110,12 @@ fn refuses_what_stands_first(rt: HostRuntime) -> Result<(), Fail> {
         ("d18443a10105a04268", (Reason::Truncated, 9, 9)),
     ];
     for &(bytes, answer) in ROWS {
-        refuses(&rt, KEYS, bytes, answer)?;
+        refuses(&rt, KEYS, bytes, answer);
     }
-    Ok(())
 }
 
 #[test]
-fn refuses_headers(rt: HostRuntime) -> Result<(), Fail> {
+fn refuses_headers(rt: HostRuntime) {
     const ROWS: &[(&str, (Reason, u64, usize))] = &[
         ("d18443a10105a1010500", (Reason::BothBuckets, 7, 9)),
         (
@@ -144,13 +141,12 @@ fn refuses_headers(rt: HostRuntime) -> Result<(), Fail> {
         ("d18443a10105a20a000a", (Reason::Truncated, 10, 10)),
     ];
     for &(bytes, answer) in ROWS {
-        refuses(&rt, KEYS, bytes, answer)?;
+        refuses(&rt, KEYS, bytes, answer);
     }
-    Ok(())
 }
 
 #[test]
-fn refuses_where_no_one_key_fits(rt: HostRuntime) -> Result<(), Fail> {
+fn refuses_where_no_one_key_fits(rt: HostRuntime) {
     const ROWS: &[(&str, &str, (Reason, u64, usize))] = &[
         (KEYS, UNPROTECTED, (Reason::AlgUnprotected, 7, 7)),
         (KEYS, "d18442b800a1010542", (Reason::AlgUnprotected, 8, 8)),
@@ -158,9 +154,8 @@ fn refuses_where_no_one_key_fits(rt: HostRuntime) -> Result<(), Fail> {
         (BOTH_FIT, WITH_KID, (Reason::AmbiguousKey, 10, 10)),
     ];
     for &(keys, bytes, answer) in ROWS {
-        refuses(&rt, keys, bytes, answer)?;
+        refuses(&rt, keys, bytes, answer);
     }
-    Ok(())
 }
 
 /// The same, where the bytes are fed in pieces and then end.
@@ -236,31 +231,32 @@ fn completes_in_pieces(rt: &impl Abort, keys: &KeySet, row: &Row, message: &[u8]
 
 /// The message up to its tag, and then this many bytes of the MAC of this structure under this secret.
 fn with_tag(
-    alloc: Global,
+    rt: &(impl Abort + Alloc<A = Global>),
     front: &str,
     structure: &str,
     secret: &[u8],
     count: usize,
-) -> Result<Vec<u8>, Fail> {
-    let structure = hex::decode(alloc, structure).or(Err("no hexadecimal"))?;
+) -> Vec<u8> {
+    let structure = bytes_of(rt, structure);
     let tag = hmac(secret, structure.as_slice());
-    let mut message = hex::decode(alloc, front).or(Err("no hexadecimal"))?;
-    message.extend_from_slice(tag.get(..count).unwrap_or(&[]))?;
-    Ok(message)
+    let mut message = bytes_of(rt, front);
+    message
+        .extend_from_slice(tag.get(..count).unwrap_or(&[]))
+        .expect(rt, "memory");
+    message
 }
 
 /// The message is authentic in every cut.
-fn authenticates(rt: &(impl Abort + Alloc<A = Global>), row: Row) -> Result<(), Fail> {
-    let set = hex::decode(rt.alloc(), row.keys).or(Err("no hexadecimal"))?;
-    let mut message = with_tag(rt.alloc(), row.front, row.structure, row.secret, row.tag)?;
+fn authenticates(rt: &(impl Abort + Alloc<A = Global>), row: Row) {
+    let set = bytes_of(rt, row.keys);
+    let mut message = with_tag(rt, row.front, row.structure, row.secret, row.tag);
     // A byte after the message isn't taken.
-    message.push(0xff)?;
-    let keys = KeySet::read(set.as_slice()).or(Err("no key set"))?;
+    message.push(0xff).expect(rt, "memory");
+    let keys = KeySet::read(set.as_slice()).expect(rt, "a key set");
     for cut in [1, 2, 3, 4, 5, 6, 7, 8, 9, 64] {
         authenticates_in_pieces(rt, &keys, &row, message.as_slice(), cut);
     }
     ends_early(rt, &keys, &row, message.as_slice());
-    Ok(())
 }
 
 /// Each shorter prefix of the message is Truncated where it ends.
@@ -293,7 +289,7 @@ fn ends_early(rt: &impl Abort, keys: &KeySet, row: &Row, message: &[u8]) {
 }
 
 #[test]
-fn takes_heads_of_any_width(rt: HostRuntime) -> Result<(), Fail> {
+fn takes_heads_of_any_width(rt: HostRuntime) {
     const WIDE: &str = "db00000000000000119b00000000000000045b0000000000000003a10105a0\
         5b000000000000000268695b0000000000000020";
     const ROWS: &[(&str, u64)] = &[
@@ -303,7 +299,7 @@ fn takes_heads_of_any_width(rt: HostRuntime) -> Result<(), Fail> {
         (WIDE, 83),
     ];
     for &(front, taken) in ROWS {
-        authenticates(&rt, tagged(KEYS, front, WITH_5, taken))?;
+        authenticates(&rt, tagged(KEYS, front, WITH_5, taken));
     }
     authenticates(
         &rt,
@@ -315,7 +311,7 @@ fn takes_heads_of_any_width(rt: HostRuntime) -> Result<(), Fail> {
 }
 
 #[test]
-fn authenticates_by_the_headers(rt: HostRuntime) -> Result<(), Fail> {
+fn authenticates_by_the_headers(rt: HostRuntime) {
     const ROWS: &[(&str, &str, &str, u64)] = &[
         (FOR_5, UNPROTECTED, WITH_NONE, 44),
         (FOR_5, "d18442b800a101054268695820", WITH_NONE, 45),
@@ -323,7 +319,7 @@ fn authenticates_by_the_headers(rt: HostRuntime) -> Result<(), Fail> {
         (KEYS, "d18443a10105a10a818181004268695820", WITH_5, 49),
     ];
     for &(keys, front, structure, taken) in ROWS {
-        authenticates(&rt, tagged(keys, front, structure, taken))?;
+        authenticates(&rt, tagged(keys, front, structure, taken));
     }
     authenticates(
         &rt,
@@ -341,7 +337,7 @@ fn authenticates_by_the_headers(rt: HostRuntime) -> Result<(), Fail> {
 }
 
 #[test]
-fn authenticates_under_the_one_key_that_fits(rt: HostRuntime) -> Result<(), Fail> {
+fn authenticates_under_the_one_key_that_fits(rt: HostRuntime) {
     // The second key isn't for verifying, of another type, or no key since it has a label twice.
     for keys in [
         "82a30104024131204161a40104024131048109204162",
@@ -352,17 +348,16 @@ fn authenticates_under_the_one_key_that_fits(rt: HostRuntime) -> Result<(), Fail
             secret: b"a",
             ..tagged(keys, WITH_KID, WITH_5, 47)
         };
-        authenticates(&rt, one)?;
+        authenticates(&rt, one);
     }
-    Ok(())
 }
 
 #[test]
-fn refuses_a_tag_of_another_key(rt: HostRuntime) -> Result<(), Fail> {
+fn refuses_a_tag_of_another_key(rt: HostRuntime) {
     // A key without an identifier fits every identifier.
-    let set = hex::decode(rt.alloc(), KEYS).or(Err("no hexadecimal"))?;
-    let keys = KeySet::read(set.as_slice()).or(Err("no key set"))?;
-    let message = with_tag(rt.alloc(), WITH_KID, WITH_5, b"a", 32)?;
+    let set = bytes_of(&rt, KEYS);
+    let keys = KeySet::read(set.as_slice()).expect(&rt, "a key set");
+    let message = with_tag(&rt, WITH_KID, WITH_5, b"a", 32);
     for cut in [1usize, 2, 7, 64] {
         let mut verifier = verifier(keys, Wanted::Tagged);
         let verdict = refused(Reason::BadAuth, 13);
@@ -373,5 +368,4 @@ fn refuses_a_tag_of_another_key(rt: HostRuntime) -> Result<(), Fail> {
         place: 13,
     };
     refuses_fed(&rt, keys, message.as_slice(), refusal, 47);
-    Ok(())
 }

@@ -3,7 +3,6 @@
 use crate::tests::{KEYS, joined, message, outcome, prints};
 use std::alloc::Global;
 use std::process::Abort;
-use std::test::Fail;
 
 /// What is printed for the message.
 const AUTHENTIC: &str = "authentic mac0 alg 5 payload 2 taken 44\n";
@@ -21,8 +20,8 @@ pub fn verifies(
 }
 
 #[test]
-fn prints_the_verdict(rt: HostRuntime) -> Result<(), Fail> {
-    let message = message(rt.alloc())?;
+fn prints_the_verdict(rt: HostRuntime) {
+    let message = message(&rt);
     const ROWS: &[(&str, &str, u8)] = &[
         (KEYS, AUTHENTIC, 0),
         ("A2010420444A656665", AUTHENTIC, 0),
@@ -36,15 +35,14 @@ fn prints_the_verdict(rt: HostRuntime) -> Result<(), Fail> {
     for &(keys, text, status) in ROWS {
         verifies(&rt, keys, message.as_slice(), text, status);
     }
-    let longer = joined(rt.alloc(), &[message.as_slice(), b"\xff"])?;
+    let longer = joined(&rt, &[message.as_slice(), b"\xff"]);
     verifies(&rt, KEYS, longer.as_slice(), "refused Trailing at 44\n", 1);
     verifies(&rt, KEYS, b"", "refused Truncated at 0\n", 1);
-    Ok(())
 }
 
 #[test]
-fn takes_a_key_set(rt: HostRuntime) -> Result<(), Fail> {
-    let message = message(rt.alloc())?;
+fn takes_a_key_set(rt: HostRuntime) {
+    let message = message(&rt);
     const ROWS: &[(&str, &str, u8)] = &[
         // the set is refused
         ("", "fault keys PastRoom at 0\n", 2),
@@ -79,24 +77,17 @@ fn takes_a_key_set(rt: HostRuntime) -> Result<(), Fail> {
     for &(keys, text, status) in ROWS {
         verifies(&rt, keys, message.as_slice(), text, status);
     }
-    Ok(())
 }
 
 /// A run with these arguments prints a text with this part, and ends with this status.
-fn says(
-    rt: &(impl Abort + Alloc<A = Global>),
-    arguments: &[&str],
-    part: &str,
-    status: u8,
-) -> Result<(), Fail> {
+fn says(rt: &(impl Abort + Alloc<A = Global>), arguments: &[&str], part: &str, status: u8) {
     let (output, ended, _left) = outcome(rt, arguments, b"");
-    let text = str::from_utf8(output.as_slice()).or(Err("no text"))?;
+    let text = str::from_utf8(output.as_slice()).expect(rt, "text");
     assert!(rt; text.contains(part) && ended == status, "{ended}: {text}");
-    Ok(())
 }
 
 #[test]
-fn explains_its_line(rt: HostRuntime) -> Result<(), Fail> {
+fn explains_its_line(rt: HostRuntime) {
     const ROWS: &[(&[&str], &str, u8)] = &[
         (&["--help"], "Usage: cosecmd <COMMAND>", 0),
         (&["--help"], "0 authentic, 1 refused, 2 no verdict", 0),
@@ -119,7 +110,6 @@ fn explains_its_line(rt: HostRuntime) -> Result<(), Fail> {
         (&["sign"], "unrecognized subcommand\n", 2),
     ];
     for &(arguments, part, status) in ROWS {
-        says(&rt, arguments, part, status)?;
+        says(&rt, arguments, part, status);
     }
-    Ok(())
 }

@@ -1,20 +1,20 @@
 //! Messages that the program shows.
 
-use crate::tests::{KEYS, outcome, prints};
+use crate::tests::{KEYS, bytes_of, outcome, prints};
 use std::alloc::Global;
-use std::test::Fail;
+use std::process::Abort;
 
 /// The bytes of a message that ends with this many zeros.
-fn with_zeros(alloc: Global, front: &str, zeros: usize) -> Result<Vec<u8>, Fail> {
-    let mut bytes = hex::decode(alloc, front).or(Err("no hexadecimal"))?;
+fn with_zeros(rt: &(impl Abort + Alloc<A = Global>), front: &str, zeros: usize) -> Vec<u8> {
+    let mut bytes = bytes_of(rt, front);
     for _i in 0..zeros {
-        bytes.push(0)?;
+        bytes.push(0).expect(rt, "memory");
     }
-    Ok(bytes)
+    bytes
 }
 
 #[test]
-fn shows_the_headers(rt: HostRuntime) -> Result<(), Fail> {
+fn shows_the_headers(rt: HostRuntime) {
     const ROWS: &[(&str, &str, usize, &str)] = &[
         (
             "tagged",
@@ -63,15 +63,14 @@ fn shows_the_headers(rt: HostRuntime) -> Result<(), Fail> {
         ),
     ];
     for &(kind, front, zeros, text) in ROWS {
-        let message = with_zeros(rt.alloc(), front, zeros)?;
+        let message = with_zeros(&rt, front, zeros);
         let words = ["show", "--kind", kind];
         prints(&rt, words.as_slice(), message.as_slice(), text, 0);
     }
-    Ok(())
 }
 
 #[test]
-fn refuses_to_show(rt: HostRuntime) -> Result<(), Fail> {
+fn refuses_to_show(rt: HostRuntime) {
     const ROWS: &[(&str, &str)] = &[
         ("", "refused Truncated at 0\n"),
         ("d18443a10105a04040ff", "refused Trailing at 9\n"),
@@ -84,10 +83,9 @@ fn refuses_to_show(rt: HostRuntime) -> Result<(), Fail> {
         ("d18443a10105a0426869", "refused Truncated at 10\n"),
     ];
     for &(message, text) in ROWS {
-        let message = with_zeros(rt.alloc(), message, 0)?;
+        let message = with_zeros(&rt, message, 0);
         prints(&rt, ["show"].as_slice(), message.as_slice(), text, 1);
     }
-    Ok(())
 }
 
 #[test]

@@ -5,7 +5,6 @@ use crate::tests::streams::Asked;
 use crate::tests::{SIGNED, counted, decision, is, point_set, signed, signed_digest, verifier};
 use cose_msg::{Alg, KeySet, Kind, SliceIntake, Status, Store, Verdict, Verifier, Wanted, verify};
 use std::process::Abort;
-use std::test::Fail;
 
 /// A complete message gets this verdict, and stays complete.
 fn decides(rt: &impl Abort, verifier: &mut Verifier<1024, 4>, asked: &Asked, holds: bool) {
@@ -46,15 +45,14 @@ fn asks_in_pieces(rt: &impl Abort, keys: KeySet, bytes: &[u8], cut: usize, asked
 }
 
 #[test]
-fn asks_about_the_signature(rt: HostRuntime) -> Result<(), Fail> {
-    let alloc = rt.alloc();
-    let set = point_set(alloc)?;
-    let keys = KeySet::read(set.as_slice()).or(Err("no key set"))?;
-    let digest = signed_digest(alloc)?;
+fn asks_about_the_signature(rt: HostRuntime) {
+    let set = point_set(&rt);
+    let keys = KeySet::read(set.as_slice()).expect(&rt, "a key set");
+    let digest = signed_digest(&rt);
     let signature: [u8; 64] = counted();
-    let mut bytes = signed(alloc, SIGNED, &signature)?;
+    let mut bytes = signed(&rt, SIGNED, &signature);
     // A byte after the message isn't taken.
-    bytes.push(0xff)?;
+    bytes.push(0xff).expect(&rt, "memory");
     for says in [true, false] {
         // Asked about anything else it would answer the contrary.
         let asked = Asked {
@@ -66,17 +64,15 @@ fn asks_about_the_signature(rt: HostRuntime) -> Result<(), Fail> {
             asks_in_pieces(&rt, keys, bytes.as_slice(), cut, &asked);
         }
     }
-    Ok(())
 }
 
 #[test]
-fn verifies_a_signature_without_its_tag(rt: HostRuntime) -> Result<(), Fail> {
-    let alloc = rt.alloc();
-    let set = point_set(alloc)?;
-    let keys = KeySet::read(set.as_slice()).or(Err("no key set"))?;
-    let digest = signed_digest(alloc)?;
+fn verifies_a_signature_without_its_tag(rt: HostRuntime) {
+    let set = point_set(&rt);
+    let keys = KeySet::read(set.as_slice()).expect(&rt, "a key set");
+    let digest = signed_digest(&rt);
     let signature: [u8; 64] = counted();
-    let tagged = signed(alloc, SIGNED, &signature)?;
+    let tagged = signed(&rt, SIGNED, &signature);
     // The tag is no part of what is signed.
     let untagged = tagged.get(1..).unwrap_or(&[]);
     let asked = Asked {
@@ -95,5 +91,4 @@ fn verifies_a_signature_without_its_tag(rt: HostRuntime) -> Result<(), Fail> {
         taken: 73,
     };
     assert_eq!(rt; (answer, verifier.taken()), (Ok(authentic), 73));
-    Ok(())
 }

@@ -14,9 +14,8 @@ use cose_msg::{
     Alg, EcVerifier, Fed, Intake, KeySet, Kind, Never, Nothing, Reason, Refusal, Sink, SliceIntake,
     Status, Stop, Store, Verdict, Verifier, Wanted, verify,
 };
-use std::alloc::{AllocError, Global};
+use std::alloc::Global;
 use std::process::Abort;
-use std::test::Fail;
 
 /// The protected header of 16 bytes, and the unprotected header of 16 bytes.
 const PROTECTED: &[u8] = b"\xa2\x01\x05\x0a\x4b12345678901";
@@ -220,10 +219,10 @@ impl<E: EcVerifier> Case<'_, E> {
 }
 
 #[test]
-fn stops_a_mac0(rt: HostRuntime) -> Result<(), Fail> {
-    let bytes = message(rt.alloc())?;
+fn stops_a_mac0(rt: HostRuntime) {
+    let bytes = message(&rt);
     let case = Case {
-        keys: key_set().ok_or("no keys")?,
+        keys: key_set(&rt),
         ec: Never,
         bytes: bytes.as_slice(),
         verdict: authentic(44),
@@ -231,18 +230,16 @@ fn stops_a_mac0(rt: HostRuntime) -> Result<(), Fail> {
         payload_at: 8,
     };
     case.stops_at_each::<1024>(&rt);
-    Ok(())
 }
 
 #[test]
-fn stops_a_sign1(rt: HostRuntime) -> Result<(), Fail> {
-    let alloc = rt.alloc();
-    let set = point_set(alloc)?;
+fn stops_a_sign1(rt: HostRuntime) {
+    let set = point_set(&rt);
     let signature = [0x5a; 64];
-    let digest = signed_digest(alloc)?;
-    let bytes = signed(alloc, SIGNED, &signature)?;
+    let digest = signed_digest(&rt);
+    let bytes = signed(&rt, SIGNED, &signature);
     let case = Case {
-        keys: KeySet::read(set.as_slice()).or(Err("no key set"))?,
+        keys: KeySet::read(set.as_slice()).expect(&rt, "a key set"),
         ec: Asked {
             digest: &digest,
             signature: &signature,
@@ -254,14 +251,13 @@ fn stops_a_sign1(rt: HostRuntime) -> Result<(), Fail> {
         payload_at: 8,
     };
     case.stops_at_each::<1024>(&rt);
-    Ok(())
 }
 
 #[test]
-fn stops_a_token(rt: HostRuntime) -> Result<(), Fail> {
-    let bytes = example(rt.alloc())?;
+fn stops_a_token(rt: HostRuntime) {
+    let bytes = example(&rt);
     let case = Case {
-        keys: key_set().ok_or("no keys")?,
+        keys: key_set(&rt),
         ec: Never,
         bytes: bytes.as_slice(),
         verdict: Verdict::Authentic {
@@ -274,15 +270,14 @@ fn stops_a_token(rt: HostRuntime) -> Result<(), Fail> {
         payload_at: 9,
     };
     case.stops_at_each::<1024>(&rt);
-    Ok(())
 }
 
 /// The message of the payload `hi` with those headers.
-fn full_headers(alloc: Global) -> Result<Vec<u8>, AllocError> {
-    let structure = joined(alloc, &[b"\x84\x64MAC0\x50", PROTECTED, b"\x40\x42hi"])?;
+fn full_headers(rt: &(impl Abort + Alloc<A = Global>)) -> Vec<u8> {
+    let structure = joined(rt, &[b"\x84\x64MAC0\x50", PROTECTED, b"\x40\x42hi"]);
     let tag = hmac(KEY, structure.as_slice());
     joined(
-        alloc,
+        rt,
         &[
             b"\xd1\x84\x50",
             PROTECTED,
@@ -294,10 +289,10 @@ fn full_headers(alloc: Global) -> Result<Vec<u8>, AllocError> {
 }
 
 #[test]
-fn stops_a_message_whose_headers_fill_their_room(rt: HostRuntime) -> Result<(), Fail> {
-    let bytes = full_headers(rt.alloc())?;
+fn stops_a_message_whose_headers_fill_their_room(rt: HostRuntime) {
+    let bytes = full_headers(&rt);
     let case = Case {
-        keys: key_set().ok_or("no keys")?,
+        keys: key_set(&rt),
         ec: Never,
         bytes: bytes.as_slice(),
         verdict: authentic(72),
@@ -305,13 +300,12 @@ fn stops_a_message_whose_headers_fill_their_room(rt: HostRuntime) -> Result<(), 
         payload_at: 36,
     };
     case.stops_at_each::<16>(&rt);
-    Ok(())
 }
 
 /// How many items are open where the intake fails at the call of this number, each call before having given a byte.
 #[test]
-fn tells_what_is_open_where_the_intake_fails(rt: HostRuntime) -> Result<(), Fail> {
-    let keys = key_set().ok_or("no keys")?;
+fn tells_what_is_open_where_the_intake_fails(rt: HostRuntime) {
+    let keys = key_set(&rt);
     let bytes = b"\xd1\x84\x43\xa1\x01\x05\xa2\x0a\x81\x81\x42hi\x0b\xc1\x00\x42";
     const ROWS: &[(usize, usize)] = &[
         // Before the unprotected bucket.
@@ -344,5 +338,4 @@ fn tells_what_is_open_where_the_intake_fails(rt: HostRuntime) -> Result<(), Fail
             (Err(Stop::Intake), open_items, 0),
         );
     }
-    Ok(())
 }

@@ -20,10 +20,9 @@ use cose_msg::{
     Context, EcVerifier, Intake, Never, Nothing, Sink, SliceIntake, Status, Stop, Store, Verdict,
     Verified, Verifier, Wanted, verify, verify_slice,
 };
-use std::alloc::{AllocError, Global};
+use std::alloc::Global;
 use std::mem::size_of;
 use std::process::Abort;
-use std::test::Fail;
 
 /// Why there is no payload.
 #[derive(Clone, Copy, Debug, PartialEq, Eq)]
@@ -121,9 +120,9 @@ fn count_authentic<'k>(table: &'k KeyTable<'k, 16>, messages: &[&[u8]]) -> usize
 }
 
 #[test]
-fn counts_what_is_authentic(rt: HostRuntime) -> Result<(), Fail> {
-    let table = KeyTable::<16>::read(KEY_SET).or(Err("no table"))?;
-    let good = message(rt.alloc())?;
+fn counts_what_is_authentic(rt: HostRuntime) {
+    let table = KeyTable::<16>::read(KEY_SET).expect(&rt, "a table");
+    let good = message(&rt);
     let bad = good.get(..43).unwrap_or(&[]);
     let messages: [&[u8]; 3] = [good.as_slice(), bad, good.as_slice()];
     let counts = (
@@ -131,15 +130,13 @@ fn counts_what_is_authentic(rt: HostRuntime) -> Result<(), Fail> {
         count_authentic(&table, &[bad]),
     );
     assert_eq!(rt; counts, (2, 0));
-    Ok(())
 }
 
 #[test]
-fn gives_the_payload_of_a_message_in_memory(rt: HostRuntime) -> Result<(), Fail> {
-    let alloc = rt.alloc();
-    let whole = message(alloc)?;
+fn gives_the_payload_of_a_message_in_memory(rt: HostRuntime) {
+    let whole = message(&rt);
     assert_eq!(rt; payload_in(KEY_SET, whole.as_slice()), Ok(b"hi".as_slice()));
-    let longer = joined(alloc, &[whole.as_slice(), b"\xff"])?;
+    let longer = joined(&rt, &[whole.as_slice(), b"\xff"]);
     let trailing = Problem::Message(Refusal {
         reason: Reason::Trailing,
         place: 44,
@@ -150,19 +147,18 @@ fn gives_the_payload_of_a_message_in_memory(rt: HostRuntime) -> Result<(), Fail>
         place: 0,
     });
     assert_eq!(rt; payload_in(b"", whole.as_slice()), Err(no_keys));
-    Ok(())
 }
 
 #[test]
-fn hands_out_what_is_authentic(rt: HostRuntime) -> Result<(), Fail> {
-    let mut bytes = message(rt.alloc())?;
+fn hands_out_what_is_authentic(rt: HostRuntime) {
+    let mut bytes = message(&rt);
     let whole = payload_length(KEY_SET, bytes.as_slice());
     let without_keys = payload_length(&[0x80], bytes.as_slice());
     let bad_set = Refusal {
         reason: Reason::BadKeySet,
         place: 0,
     };
-    bytes.push(0)?;
+    bytes.push(0).expect(&rt, "memory");
     let followed = payload_length(KEY_SET, bytes.as_slice());
     if let Some(byte) = bytes.get_mut(43) {
         *byte ^= 1;
@@ -181,7 +177,6 @@ fn hands_out_what_is_authentic(rt: HostRuntime) -> Result<(), Fail> {
             Err(Problem::Message(bad_auth)),
         ]
     );
-    Ok(())
 }
 
 /// An intake that fails at its third call stops it so.
@@ -198,9 +193,9 @@ fn stops(rt: &impl Abort, verifier: &mut Verifier<1_024, 8>, bytes: &[u8], stop:
 }
 
 #[test]
-fn begins_again_after_a_stop(rt: HostRuntime) -> Result<(), Fail> {
-    let bytes = message(rt.alloc())?;
-    let mut verifier = Verifier::new(context(key_set().ok_or("no keys")?));
+fn begins_again_after_a_stop(rt: HostRuntime) {
+    let bytes = message(&rt);
+    let mut verifier = Verifier::new(context(key_set(&rt)));
     stops(&rt, &mut verifier, bytes.as_slice(), Stop::Intake);
     stops(&rt, &mut verifier, bytes.as_slice(), Stop::Again);
     verifier.reset();
@@ -208,7 +203,6 @@ fn begins_again_after_a_stop(rt: HostRuntime) -> Result<(), Fail> {
     let mut store = Store::new();
     let payload = payload_of(&mut verifier, &mut intake, &mut store);
     assert_eq!(rt; payload, Ok(b"hi".as_slice()));
-    Ok(())
 }
 
 /// What tokens are verified under: the CWT tag may come first, and the payload fits into a store of 4,096 bytes.
@@ -245,9 +239,9 @@ fn claims_of<'p>(
 }
 
 #[test]
-fn hands_out_claims_that_are_admitted(rt: HostRuntime) -> Result<(), Fail> {
-    let token = example(rt.alloc())?;
-    let keys = key_set().ok_or("no keys")?;
+fn hands_out_claims_that_are_admitted(rt: HostRuntime) {
+    let token = example(&rt);
+    let keys = key_set(&rt);
     let mut store = Store::new();
     match claims_of(keys, token.as_slice(), 1_444_065_003, &mut store) {
         Ok(claims) => assert_eq!(rt; claims.sub(), Some("erikw")),
@@ -260,7 +254,6 @@ fn hands_out_claims_that_are_admitted(rt: HostRuntime) -> Result<(), Fail> {
         place: 59,
     };
     assert_eq!(rt; late.err(), Some(CwtStop::Claims(expired)));
-    Ok(())
 }
 
 /// The device's side of a serial line, with a buffer of seven bytes that is emptied at each interrupt.
@@ -333,24 +326,22 @@ fn hears<E: EcVerifier>(
 }
 
 #[test]
-fn listens_to_a_line(rt: HostRuntime) -> Result<(), Fail> {
-    let keys = key_set().ok_or("no keys")?;
-    let bytes = message(rt.alloc())?;
+fn listens_to_a_line(rt: HostRuntime) {
+    let keys = key_set(&rt);
+    let bytes = message(&rt);
     hears(&rt, keys, bytes.as_slice(), &Never, authentic(44), b"hi");
     let truncated = refused(Reason::Truncated, 9);
     let front = bytes.as_slice().get(..9).unwrap_or(&[]);
     hears(&rt, keys, front, &Never, truncated, b"h");
-    Ok(())
 }
 
 #[test]
-fn decides_on_a_signature_from_a_line(rt: HostRuntime) -> Result<(), Fail> {
-    let alloc = rt.alloc();
-    let set = point_set(alloc)?;
-    let keys = KeySet::read(set.as_slice()).or(Err("no key set"))?;
-    let digest = signed_digest(alloc)?;
+fn decides_on_a_signature_from_a_line(rt: HostRuntime) {
+    let set = point_set(&rt);
+    let keys = KeySet::read(set.as_slice()).expect(&rt, "a key set");
+    let digest = signed_digest(&rt);
     let signature: [u8; 64] = counted();
-    let bytes = signed(alloc, SIGNED, &signature)?;
+    let bytes = signed(&rt, SIGNED, &signature);
     let knows = Asked {
         digest: &digest,
         signature: &signature,
@@ -358,7 +349,6 @@ fn decides_on_a_signature_from_a_line(rt: HostRuntime) -> Result<(), Fail> {
     };
     hears(&rt, keys, bytes.as_slice(), &knows, decision(true), b"");
     hears(&rt, keys, bytes.as_slice(), &Never, decision(false), b"");
-    Ok(())
 }
 
 /// The verdict on an image whose COSE message came before it, with nil for its payload. The image comes in pieces, which are
@@ -400,21 +390,20 @@ fn update<I: Intake, S: Sink, E: EcVerifier>(
 }
 
 /// The COSE_Mac0 of an image of 600 bytes, which isn't in it.
-fn message_of_image(alloc: Global, image: &[u8]) -> Result<Vec<u8>, AllocError> {
+fn message_of_image(rt: &(impl Abort + Alloc<A = Global>), image: &[u8]) -> Vec<u8> {
     let structure = joined(
-        alloc,
+        rt,
         &[b"\x84\x64MAC0\x43\xa1\x01\x05\x40\x59\x02\x58", image],
-    )?;
+    );
     let tag = hmac(KEY, structure.as_slice());
-    joined(alloc, &[FRONT, b"\xf6\x58\x20", &tag])
+    joined(rt, &[FRONT, b"\xf6\x58\x20", &tag])
 }
 
 #[test]
-fn updates_an_image(rt: HostRuntime) -> Result<(), Fail> {
-    let alloc = rt.alloc();
+fn updates_an_image(rt: HostRuntime) {
     let image: [u8; 600] = counted();
-    let message = message_of_image(alloc, &image)?;
-    let keys = key_set().ok_or("no keys")?;
+    let message = message_of_image(&rt, &image);
+    let keys = key_set(&rt);
     let rows: [(&[u8], Verdict); 2] = [
         (
             &image,
@@ -440,7 +429,6 @@ fn updates_an_image(rt: HostRuntime) -> Result<(), Fail> {
         );
         assert_eq!(rt; (updated, slot.bytes()), (Ok(verdict), bytes));
     }
-    Ok(())
 }
 
 #[test]

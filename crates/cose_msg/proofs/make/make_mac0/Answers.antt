@@ -74,12 +74,6 @@ returns-clause-answer g c = λ bytes none come intake sink.
     let r = returns-clause-makes g c refl in
     answered _ r.0 bytes r.1 come
 
-pub mac_has_its_length-requires : goal.mac_has_its_length-requires
-mac_has_its_length-requires g c = grind (arith, common_steps)
-
-pub secret_for-requires : goal.secret_for-requires
-secret_for-requires g c = grind (arith, common_steps)
-
 pub returns-in_default-clause-fault : goal.returns-in_default-clause-fault
 returns-in_default-clause-fault g c = grind (arith, common_steps)
 
@@ -101,9 +95,6 @@ returns-in_default-clause-sink_failure g c = grind (arith, common_steps)
 pub returns-in_default-clause-sure : goal.returns-in_default-clause-sure
 returns-in_default-clause-sure g c = grind (arith, common_steps)
 
-pub is_too_long-requires : goal.is_too_long-requires
-is_too_long-requires g c = grind (arith, common_steps)
-
 pub returns-then-is_too_long-clause-fault : goal.returns-then-is_too_long-clause-fault
 returns-then-is_too_long-clause-fault g c = grind (arith, common_steps)
 
@@ -119,26 +110,11 @@ returns-then-is_too_long-clause-answer g c = grind (arith, common_steps)
 pub returns-then-is_too_long-clause-sure : goal.returns-then-is_too_long-clause-sure
 returns-then-is_too_long-clause-sure g c = grind (arith, common_steps)
 
-pub protected_header-protected-requires : goal.protected_header-protected-requires
-protected_header-protected-requires g c = grind (arith, common_steps)
-
-pub hmac-running-requires : goal.hmac-running-requires
-hmac-running-requires g c = grind (arith, common_steps)
-
 pub slice_bounds-structure_front-end : goal.slice_bounds-structure_front-end
 slice_bounds-structure_front-end g c = grind (arith, common_steps)
 
-pub structure_front-requires : goal.structure_front-requires
-structure_front-requires g c = grind (arith, common_steps)
-
 pub slice_bounds-put_front-end : goal.slice_bounds-put_front-end
 slice_bounds-put_front-end g c = grind (arith, common_steps)
-
-pub put_front-requires-clause-protected : goal.put_front-requires-clause-protected
-put_front-requires-clause-protected g c = grind (arith, common_steps)
-
-pub put_front-requires-clause-kid : goal.put_front-requires-clause-kid
-put_front-requires-clause-kid g c = grind (arith, common_steps)
 
 pub returns-in_err-front-clause-fault : goal.returns-in_err-front-clause-fault
 returns-in_err-front-clause-fault g c = grind (arith, common_steps)
@@ -155,12 +131,6 @@ returns-in_err-front-clause-intake_failure g c = grind (arith, common_steps)
 pub returns-in_err-front-clause-sink_failure : goal.returns-in_err-front-clause-sink_failure
 returns-in_err-front-clause-sink_failure g c = grind (arith, common_steps)
 
-pub put_payload-requires-clause-some : goal.put_payload-requires-clause-some
-put_payload-requires-clause-some g c = grind (arith, common_steps)
-
-pub put_payload-requires-clause-limit : goal.put_payload-requires-clause-limit
-put_payload-requires-clause-limit g c = grind (arith, common_steps)
-
 pub returns-in_err-payload-clause-fault : goal.returns-in_err-payload-clause-fault
 returns-in_err-payload-clause-fault g c = grind (arith, common_steps)
 
@@ -172,15 +142,6 @@ returns-in_err-payload-clause-answer g c = grind (arith, common_steps)
 
 pub returns-in_err-payload-clause-sink_failure : goal.returns-in_err-payload-clause-sink_failure
 returns-in_err-payload-clause-sink_failure g c = grind (arith, common_steps)
-
-pub finish_mac-requires : goal.finish_mac-requires
-finish_mac-requires g c = grind (arith, common_steps)
-
-pub deref-requires : goal.deref-requires
-deref-requires g c = grind (arith, common_steps)
-
-pub put_byte_string-requires : goal.put_byte_string-requires
-put_byte_string-requires g c = grind (arith, common_steps)
 
 pub returns-in_err-auth-clause-fault : goal.returns-in_err-auth-clause-fault
 returns-in_err-auth-clause-fault g c = grind (arith, common_steps)

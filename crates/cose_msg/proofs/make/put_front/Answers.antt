@@ -26,35 +26,20 @@ returns-in_err-payload-clause-written g c =
     rw (p.1, p.2) (writes_one c.in_ok-tag.ensures.written (writes_one c.in_ok-array.ensures.written (
     writes_one c.in_ok-protected.ensures.written (writes_one c.in_ok-unprotected.ensures.written c.in_err-payload.ensures.written))))
 
-pub put_head-requires : goal.put_head-requires
-put_head-requires g c = grind (arith, common_steps)
-
 pub returns-in_err-tag-clause-written : goal.returns-in_err-tag-clause-written
 returns-in_err-tag-clause-written g c = grind (arith, common_steps)
 
 pub returns-in_err-tag-clause-short : goal.returns-in_err-tag-clause-short
 returns-in_err-tag-clause-short g c = grind (arith, common_steps)
 
-pub put_head-requires-2 : goal.put_head-requires-2
-put_head-requires-2 g c = grind (arith, common_steps)
-
 pub returns-in_err-array-clause-short : goal.returns-in_err-array-clause-short
 returns-in_err-array-clause-short g c = grind (arith, common_steps)
-
-pub put_byte_string-requires : goal.put_byte_string-requires
-put_byte_string-requires g c = grind (arith, common_steps)
 
 pub returns-in_err-protected-clause-short : goal.returns-in_err-protected-clause-short
 returns-in_err-protected-clause-short g c = grind (arith, common_steps)
 
-pub put_unprotected-requires : goal.put_unprotected-requires
-put_unprotected-requires g c = grind (arith, common_steps)
-
 pub returns-in_err-unprotected-clause-short : goal.returns-in_err-unprotected-clause-short
 returns-in_err-unprotected-clause-short g c = grind (arith, common_steps)
-
-pub put_head-requires-3 : goal.put_head-requires-3
-put_head-requires-3 g c = grind (arith, common_steps)
 
 pub returns-in_err-payload-clause-short : goal.returns-in_err-payload-clause-short
 returns-in_err-payload-clause-short g c = grind (arith, common_steps)

@@ -36,12 +36,6 @@ returns-then-left-eq0-clause-streams g c = grind (arith, common_steps)
 pub returns-then-left-eq0-clause-intake_failure : goal.returns-then-left-eq0-clause-intake_failure
 returns-then-left-eq0-clause-intake_failure g c = grind (arith, common_steps)
 
-pub min-asked-requires : goal.min-asked-requires
-min-asked-requires g c = grind (arith, common_steps)
-
-pub take-requires : goal.take-requires
-take-requires g c = grind (arith, common_steps)
-
 pub returns-in-Err-clause-streams : goal.returns-in-Err-clause-streams
 returns-in-Err-clause-streams g c = grind (arith, common_steps)
 
@@ -56,12 +50,6 @@ shared_whole_as_front-piece g c = grind (arith, common_steps)
 
 pub overflow_sub-left : goal.overflow_sub-left
 overflow_sub-left g c = grind (arith, common_steps)
-
-pub update-requires : goal.update-requires
-update-requires g c = grind (arith, common_steps)
-
-pub put-requires : goal.put-requires
-put-requires g c = grind (arith, common_steps)
 
 pub returns-then-is_err-clause-intake_failure : goal.returns-then-is_err-clause-intake_failure
 returns-then-is_err-clause-intake_failure g c = grind (arith, common_steps)

@@ -69,18 +69,6 @@ returns-in-Ok-clause-context g c = λ setting s B h. c.conclude_inspection.ensur
 pub returns-in-Err-clause-context : goal.returns-in-Err-clause-context
 returns-in-Err-clause-context g c = λ setting s B h. c.take_message.ensures.context (to_inspect setting) s B h
 
-pub settled_stays-requires : goal.settled_stays-requires
-settled_stays-requires g c = grind (arith, common_steps)
-
-pub nothing_stands_after_the_bytes-requires : goal.nothing_stands_after_the_bytes-requires
-nothing_stands_after_the_bytes-requires g c = grind (arith, common_steps)
-
-pub waits-requires : goal.waits-requires
-waits-requires g c = grind (arith, common_steps)
-
-pub kept_inspection-requires : goal.kept_inspection-requires
-kept_inspection-requires g c = grind (arith, common_steps)
-
 pub returns-in-Some-clause-kept : goal.returns-in-Some-clause-kept
 returns-in-Some-clause-kept g c = kept_again c.args.verifier.now.stopped (inspected_in c.args.verifier.now.reader.phase) c.in-Some.answer (sym c.kept_inspection.ensures ∙ c.in-Some.is)
 
@@ -107,12 +95,6 @@ returns-in-Some-clause-sink_failure g c = unfailed _ _ (kept_sink c.args.verifie
 
 pub returns-in-Some-clause-sure : goal.returns-in-Some-clause-sure
 returns-in-Some-clause-sure g c = λ setting s B h enough. kept_sink c.args.verifier.now.stopped (inspected_in c.args.verifier.now.reader.phase) c.in-Some.answer (sym c.kept_inspection.ensures ∙ c.in-Some.is)
-
-pub take_message-requires : goal.take_message-requires
-take_message-requires g c = grind (arith, common_steps)
-
-pub conclude_inspection-requires : goal.conclude_inspection-requires
-conclude_inspection-requires g c = grind (arith, common_steps)
 
 pub returns-in-Ok-clause-kept : goal.returns-in-Ok-clause-kept
 returns-in-Ok-clause-kept g c = grind (arith, common_steps)

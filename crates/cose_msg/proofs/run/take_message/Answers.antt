@@ -120,12 +120,6 @@ returns-then-is_err-clause-context g c = λ task s B h. c.stop-then-is_err.ensur
 pub messages_are_bounded-requires : goal.messages_are_bounded-requires
 messages_are_bounded-requires g c = cc
 
-pub waits-requires : goal.waits-requires
-waits-requires g c = grind (arith, common_steps)
-
-pub request-asked-requires : goal.request-asked-requires
-request-asked-requires g c = grind (arith, common_steps)
-
 pub returns-then-asked-eq0-clause-stopped : goal.returns-then-asked-eq0-clause-stopped
 returns-then-asked-eq0-clause-stopped g c = cc
 
@@ -146,12 +140,6 @@ returns-then-asked-eq0-clause-sink_failure g c = c.pieces.invariant.4 ∙ unfail
 
 pub returns-then-asked-eq0-clause-sure : goal.returns-then-asked-eq0-clause-sure
 returns-then-asked-eq0-clause-sure g c = grind (arith, common_steps)
-
-pub take-requires : goal.take-requires
-take-requires g c = grind (arith, common_steps)
-
-pub stop-requires : goal.stop-requires
-stop-requires g c = grind (arith, common_steps)
 
 pub returns-in-Err-clause-stopped : goal.returns-in-Err-clause-stopped
 returns-in-Err-clause-stopped g c = cc
@@ -191,18 +179,6 @@ returns-then-count-eq0-clause-sink_failure g c = c.pieces.invariant.4 ∙ unfail
 
 pub returns-then-count-eq0-clause-sure : goal.returns-then-count-eq0-clause-sure
 returns-then-count-eq0-clause-sure g c = grind (arith, common_steps)
-
-pub is_in_payload-in_payload-requires : goal.is_in_payload-in_payload-requires
-is_in_payload-in_payload-requires g c = grind (arith, common_steps)
-
-pub waits-requires-in-pieces : goal.waits-requires-in-pieces
-waits-requires-in-pieces g c = grind (arith, common_steps)
-
-pub put-requires : goal.put-requires
-put-requires g c = grind (arith, common_steps)
-
-pub stop-requires-then-is_err : goal.stop-requires-then-is_err
-stop-requires-then-is_err g c = grind (arith, common_steps)
 
 pub returns-then-is_err-clause-stopped : goal.returns-then-is_err-clause-stopped
 returns-then-is_err-clause-stopped g c = cc
@@ -281,3 +257,15 @@ slice_bounds-piece-end g c = grind (arith, common_steps)
 
 pub slice_bounds-piece-end-in-pieces : goal.slice_bounds-piece-end-in-pieces
 slice_bounds-piece-end-in-pieces g c = grind (arith, common_steps)
+
+pub waits-requires : goal.waits-requires
+waits-requires g c = grind (arith, common_steps)
+
+pub stop-requires : goal.stop-requires
+stop-requires g c = grind (arith, common_steps)
+
+pub waits-requires-in-pieces : goal.waits-requires-in-pieces
+waits-requires-in-pieces g c = grind (arith, common_steps)
+
+pub stop-requires-then-is_err : goal.stop-requires-then-is_err
+stop-requires-then-is_err g c = grind (arith, common_steps)

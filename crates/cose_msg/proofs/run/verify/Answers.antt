@@ -69,21 +69,6 @@ returns-in-Ok-clause-context g c = λ setting s B h. c.conclude.ensures.context 
 pub returns-in-Err-clause-context : goal.returns-in-Err-clause-context
 returns-in-Err-clause-context g c = λ setting s B h. c.take_message.ensures.context (to_verify setting) s B h
 
-pub settled_stays-requires : goal.settled_stays-requires
-settled_stays-requires g c = grind (arith, common_steps)
-
-pub nothing_stands_after_the_bytes-requires : goal.nothing_stands_after_the_bytes-requires
-nothing_stands_after_the_bytes-requires g c = grind (arith, common_steps)
-
-pub deciding_goes_last-requires : goal.deciding_goes_last-requires
-deciding_goes_last-requires g c = grind (arith, common_steps)
-
-pub waits-requires : goal.waits-requires
-waits-requires g c = grind (arith, common_steps)
-
-pub kept_answer-requires : goal.kept_answer-requires
-kept_answer-requires g c = grind (arith, common_steps)
-
 pub returns-in-Some-clause-kept : goal.returns-in-Some-clause-kept
 returns-in-Some-clause-kept g c = kept_again c.args.verifier.now.stopped (verdict_in c.args.verifier.now.reader.phase) c.in-Some.answer (sym c.kept_answer.ensures ∙ c.in-Some.is)
 
@@ -110,12 +95,6 @@ returns-in-Some-clause-sink_failure g c = unfailed _ _ (kept_sink c.args.verifie
 
 pub returns-in-Some-clause-sure : goal.returns-in-Some-clause-sure
 returns-in-Some-clause-sure g c = λ setting s B h enough. kept_sink c.args.verifier.now.stopped (verdict_in c.args.verifier.now.reader.phase) c.in-Some.answer (sym c.kept_answer.ensures ∙ c.in-Some.is)
-
-pub take_message-requires : goal.take_message-requires
-take_message-requires g c = grind (arith, common_steps)
-
-pub conclude-requires : goal.conclude-requires
-conclude-requires g c = grind (arith, common_steps)
 
 pub returns-in-Ok-clause-kept : goal.returns-in-Ok-clause-kept
 returns-in-Ok-clause-kept g c = grind (arith, common_steps)

@@ -2,9 +2,6 @@ use Rattle.std.proofs.Common.{arith}
 use Rattle.std.proofs.lemmas.Grind.{common_steps}
 use Rattle.cose_msg.proofs.hashing.Hashing.front.Goals as goal
 
-pub structure_front-requires : goal.structure_front-requires
-structure_front-requires c = grind (arith, common_steps)
-
 pub returns-in-Running-clause-appended : goal.returns-in-Running-clause-appended
 returns-in-Running-clause-appended c = grind (arith, common_steps)
 

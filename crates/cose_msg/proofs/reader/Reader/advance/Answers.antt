@@ -27,38 +27,8 @@ returns-in_default-2-clause-stands g c = λ task B n reading among st h.
     let byte : takes_bytes c.args.self.now.phase ≡ true = takes_byte c.args.self.now.phase c.in_default-2.not-Protected c.in_default-2.not-Unprotected c.in_default-2.not-Payload c.in_default-2.not-Auth (sym c.is_settled.ensures ∙ c.if-is_settled.false) in
     rw (grown_by_byte c.args.self.now.phase B (take 1 c.args.piece.now) byte, first_byte c.args.piece.now c.requires.some) (c.take_byte.ensures task B n reading st h)
 
-pub front_of-part-requires-clause-some : goal.front_of-part-requires-clause-some
-front_of-part-requires-clause-some g c = grind (arith, common_steps)
-
-pub front_of-part-requires-clause-most : goal.front_of-part-requires-clause-most
-front_of-part-requires-clause-most g c = grind (arith, common_steps)
-
-pub protected_piece-requires : goal.protected_piece-requires
-protected_piece-requires g c = grind (arith, common_steps)
-
-pub unprotected_piece-requires : goal.unprotected_piece-requires
-unprotected_piece-requires g c = grind (arith, common_steps)
-
-pub payload-requires : goal.payload-requires
-payload-requires g c = grind (arith, common_steps)
-
-pub front_of-part-requires-in-Auth-clause-some : goal.front_of-part-requires-in-Auth-clause-some
-front_of-part-requires-in-Auth-clause-some g c = grind (arith, common_steps)
-
-pub front_of-part-requires-in-Auth-clause-most : goal.front_of-part-requires-in-Auth-clause-most
-front_of-part-requires-in-Auth-clause-most g c = grind (arith, common_steps)
-
-pub auth-requires : goal.auth-requires
-auth-requires g c = grind (arith, common_steps)
-
-pub is_settled-requires : goal.is_settled-requires
-is_settled-requires g c = grind (arith, common_steps)
-
 pub bounds-piece-0 : goal.bounds-piece-0
 bounds-piece-0 g c = grind (arith, common_steps)
-
-pub take_byte-requires : goal.take_byte-requires
-take_byte-requires g c = grind (arith, common_steps)
 
 pub returns-in-Protected-clause-fits : goal.returns-in-Protected-clause-fits
 returns-in-Protected-clause-fits g c = grind (arith, common_steps)

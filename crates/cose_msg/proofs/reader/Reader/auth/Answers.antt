@@ -53,9 +53,6 @@ invariant_of-self g c = grind (arith, common_steps)
 pub overflow_add-auth : goal.overflow_add-auth
 overflow_add-auth g c = grind (arith, common_steps)
 
-pub finish-requires : goal.finish-requires
-finish-requires g c = grind (arith, common_steps)
-
 pub invariant_of-self-else-left-eq0 : goal.invariant_of-self-else-left-eq0
 invariant_of-self-else-left-eq0 g c = grind (arith, common_steps)
 

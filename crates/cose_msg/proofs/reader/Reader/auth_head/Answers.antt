@@ -45,17 +45,8 @@ returns-in-Got g c = record {
       (c.past_auth_head.ensures.stands task h.known (shows_as task c.args.self.now h.told (headers_told h.known.headers h.known.payload) inside.0 h.shows) inside.2 inside.3 inside.4);
 }
 
-pub take_bare_head_byte-requires : goal.take_bare_head_byte-requires
-take_bare_head_byte-requires g c = grind (arith, common_steps)
-
 pub invariant_of-self : goal.invariant_of-self
 invariant_of-self g c = grind (arith, common_steps)
 
-pub refuse-requires : goal.refuse-requires
-refuse-requires g c = grind (arith, common_steps)
-
 pub overflow_add-at : goal.overflow_add-at
 overflow_add-at g c = grind (arith, common_steps)
-
-pub past_auth_head-requires : goal.past_auth_head-requires
-past_auth_head-requires g c = grind (arith, common_steps)

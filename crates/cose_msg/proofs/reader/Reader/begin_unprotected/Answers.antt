@@ -27,14 +27,5 @@ walker_is_reading-requires g c = cc
 pub invariant_of-self : goal.invariant_of-self
 invariant_of-self g c = grind (arith, common_steps)
 
-pub clear-requires : goal.clear-requires
-clear-requires g c = grind (arith, common_steps)
-
-pub new-self-requires : goal.new-self-requires
-new-self-requires g c = grind (arith, common_steps)
-
-pub want-requires : goal.want-requires
-want-requires g c = grind (arith, common_steps)
-
 pub invariant_of-self-3 : goal.invariant_of-self-3
 invariant_of-self-3 g c = grind (arith, common_steps)

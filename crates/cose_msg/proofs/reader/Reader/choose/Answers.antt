@@ -43,35 +43,11 @@ returns-in-Err g c = λ task pairs others e among good found_good.
     let none : choice_for task.inspects task.setting (headers_of c.args.kind c.args.self.now.protected.items (bucket_pairs c.in_ok-protected.protected) (bucket_pairs c.in_ok-unprotected.unprotected)) ≡ Err c.in-Err.reason = chosen_among task _ (headers_of c.args.kind c.args.self.now.protected.items (bucket_pairs c.in_ok-protected.protected) (bucket_pairs c.in_ok-unprotected.unprotected)) among ∙ sym (c.in-Err.ensures c.args.self.now.protected.items) in
     rw (same, same_others, key_refused task (headers_of c.args.kind c.args.self.now.protected.items (bucket_pairs c.in_ok-protected.protected) (bucket_pairs c.in_ok-unprotected.unprotected)) (c.args.at + length c.args.self.now.unprotected.items) c.in-Err.reason fault none, c.len.ensures.value) refl
 
-pub as_slice-requires : goal.as_slice-requires
-as_slice-requires g c = grind (arith, common_steps)
-
-pub again-requires-clause-shallow : goal.again-requires-clause-shallow
-again-requires-clause-shallow g c = grind (arith, common_steps)
-
-pub again-requires-clause-in_range : goal.again-requires-clause-in_range
-again-requires-clause-in_range g c = grind (arith, common_steps)
-
-pub as_slice-requires-2 : goal.as_slice-requires-2
-as_slice-requires-2 g c = grind (arith, common_steps)
-
-pub again-requires-2-clause-shallow : goal.again-requires-2-clause-shallow
-again-requires-2-clause-shallow g c = grind (arith, common_steps)
-
-pub again-requires-2-clause-in_range : goal.again-requires-2-clause-in_range
-again-requires-2-clause-in_range g c = grind (arith, common_steps)
-
-pub len-requires : goal.len-requires
-len-requires g c = grind (arith, common_steps)
-
 pub overflow_add-place : goal.overflow_add-place
 overflow_add-place g c = grind (arith, common_steps)
 
 pub check_pair-requires : goal.check_pair-requires
 check_pair-requires g c = cc
-
-pub key_for-requires : goal.key_for-requires
-key_for-requires g c = grind (arith, common_steps)
 
 pub is_empty-requires : goal.is_empty-requires
 is_empty-requires g c = cc

@@ -59,29 +59,11 @@ returns-else-is_mac g c = record {
       };
 }
 
-pub finish-requires : goal.finish-requires
-finish-requires g c = grind (arith, common_steps)
-
-pub is_mac-requires : goal.is_mac-requires
-is_mac-requires g c = grind (arith, common_steps)
-
 pub invariant_of-self : goal.invariant_of-self
 invariant_of-self g c = grind (arith, common_steps)
 
-pub refuse-requires : goal.refuse-requires
-refuse-requires g c = grind (arith, common_steps)
-
 pub invariant_of-self-else-is_mac : goal.invariant_of-self-else-is_mac
 invariant_of-self-else-is_mac g c = grind (arith, common_steps)
-
-pub as_slice-received-requires : goal.as_slice-received-requires
-as_slice-received-requires g c = grind (arith, common_steps)
-
-pub result-computed-requires : goal.result-computed-requires
-result-computed-requires g c = grind (arith, common_steps)
-
-pub same_bytes-requires : goal.same_bytes-requires
-same_bytes-requires g c = grind (arith, common_steps)
 
 pub invariant_of-self-else-same_bytes : goal.invariant_of-self-else-same_bytes
 invariant_of-self-else-same_bytes g c = grind (arith, common_steps)

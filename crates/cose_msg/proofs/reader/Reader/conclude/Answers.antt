@@ -68,12 +68,6 @@ returns-in_default-phase g c =
       status = λ setting B reading h came. rw (same.phase, c.waits.ensures.ended (to_verify setting) B _ reading h came (stands_without_verdict h none undecided), same.same, c.ends_at-place.ensures) refl;
     }
 
-pub waits-requires : goal.waits-requires
-waits-requires g c = grind (arith, common_steps)
-
-pub known_verdict-requires : goal.known_verdict-requires
-known_verdict-requires g c = grind (arith, common_steps)
-
 pub returns-in-Some-clause-kept : goal.returns-in-Some-clause-kept
 returns-in-Some-clause-kept g c = sym c.known_verdict.ensures ∙ c.in-Some.is
 
@@ -92,14 +86,8 @@ returns-in-Some-clause-opened g c = cc
 pub returns-in-Some-clause-complete : goal.returns-in-Some-clause-complete
 returns-in-Some-clause-complete g c = λ awaits. absurd (known_is_decided c.args.self.now.phase c.in-Some.verdict (sym c.known_verdict.ensures ∙ c.in-Some.is) awaits)
 
-pub signed_verdict-verdict-requires : goal.signed_verdict-verdict-requires
-signed_verdict-verdict-requires g c = grind (arith, common_steps)
-
 pub invariant_of-self : goal.invariant_of-self
 invariant_of-self g c = grind (arith, common_steps)
-
-pub truncate-requires : goal.truncate-requires
-truncate-requires g c = grind (arith, common_steps)
 
 pub returns-in-Signed-clause-kept : goal.returns-in-Signed-clause-kept
 returns-in-Signed-clause-kept g c = cc

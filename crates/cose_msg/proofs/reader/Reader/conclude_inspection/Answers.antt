@@ -38,12 +38,3 @@ returns-in-None g c =
       status = λ setting B reading h came. rw (same.phase, c.waits.ensures.ended (to_inspect setting) B _ reading h came (stands_without_shape h none), same.same, c.ends_at-place.ensures) refl;
       untouched = λ none untouched. same.untouched (c.ends_at-place.ensures ∙ untouched_ends c.args.self.now c.args.taken untouched ∙ none) untouched;
     }
-
-pub waits-requires : goal.waits-requires
-waits-requires g c = grind (arith, common_steps)
-
-pub inspected-requires : goal.inspected-requires
-inspected-requires g c = grind (arith, common_steps)
-
-pub truncate-requires : goal.truncate-requires
-truncate-requires g c = grind (arith, common_steps)

@@ -27,11 +27,5 @@ returns-in-None g c = record {
       };
 }
 
-pub alg-requires : goal.alg-requires
-alg-requires g c = grind (arith, common_steps)
-
-pub compare-requires : goal.compare-requires
-compare-requires g c = grind (arith, common_steps)
-
 pub invariant_of-self : goal.invariant_of-self
 invariant_of-self g c = grind (arith, common_steps)

@@ -47,14 +47,5 @@ returns-in-Got g c = record {
       (c.past_first_head.ensures.stands task (shows_as task c.args.self.now h.told nothing_told inside.0 h.shows));
 }
 
-pub take_bare_head_byte-requires : goal.take_bare_head_byte-requires
-take_bare_head_byte-requires g c = grind (arith, common_steps)
-
 pub invariant_of-self : goal.invariant_of-self
 invariant_of-self g c = grind (arith, common_steps)
-
-pub refuse-requires : goal.refuse-requires
-refuse-requires g c = grind (arith, common_steps)
-
-pub past_first_head-requires : goal.past_first_head-requires
-past_first_head-requires g c = grind (arith, common_steps)

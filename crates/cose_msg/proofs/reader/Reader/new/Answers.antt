@@ -15,20 +15,5 @@ returns-clause-shown g c = λ task. rw c.new-3.ensures.open refl
 pub returns-clause-held : goal.returns-clause-held
 returns-clause-held g c = rw (c.new-4.ensures, c.new-5.ensures, c.new.ensures, c.new-2.ensures) refl
 
-pub new-requires : goal.new-requires
-new-requires g c = grind (arith, common_steps)
-
-pub new-requires-2 : goal.new-requires-2
-new-requires-2 g c = grind (arith, common_steps)
-
-pub new-requires-3 : goal.new-requires-3
-new-requires-3 g c = grind (arith, common_steps)
-
-pub new-requires-4 : goal.new-requires-4
-new-requires-4 g c = grind (arith, common_steps)
-
-pub new-requires-5 : goal.new-requires-5
-new-requires-5 g c = grind (arith, common_steps)
-
 pub invariant_of-result : goal.invariant_of-result
 invariant_of-result g c = grind (arith, common_steps)

@@ -45,23 +45,11 @@ returns-else-head-eq0 g c = record {
       };
 }
 
-pub alg-requires : goal.alg-requires
-alg-requires g c = grind (arith, common_steps)
-
 pub fault_of_auth-requires : goal.fault_of_auth-requires
 fault_of_auth-requires g c = cc
 
-pub refuse-requires : goal.refuse-requires
-refuse-requires g c = grind (arith, common_steps)
-
-pub clear-requires : goal.clear-requires
-clear-requires g c = grind (arith, common_steps)
-
 pub invariant_of-self : goal.invariant_of-self
 invariant_of-self g c = grind (arith, common_steps)
-
-pub finish-requires : goal.finish-requires
-finish-requires g c = grind (arith, common_steps)
 
 pub invariant_of-self-else-head-eq0 : goal.invariant_of-self-else-head-eq0
 invariant_of-self-else-head-eq0 g c = record {

@@ -33,20 +33,8 @@ returns-in-Err g c = record {
       (c.refuse.ensures task [] (c.args.at + length c.args.self.now.unprotected.items) (headers_told (headers_of c.args.kind c.args.self.now.protected.items pairs others) []) e refl);
 }
 
-pub len-requires : goal.len-requires
-len-requires g c = grind (arith, common_steps)
-
 pub overflow_add-after : goal.overflow_add-after
 overflow_add-after g c = grind (arith, common_steps)
 
-pub choose-requires : goal.choose-requires
-choose-requires g c = grind (arith, common_steps)
-
 pub invariant_of-self : goal.invariant_of-self
 invariant_of-self g c = grind (arith, common_steps)
-
-pub begin_payload_head-requires : goal.begin_payload_head-requires
-begin_payload_head-requires g c = grind (arith, common_steps)
-
-pub refuse-requires : goal.refuse-requires
-refuse-requires g c = grind (arith, common_steps)

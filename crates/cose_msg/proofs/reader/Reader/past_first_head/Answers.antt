@@ -47,23 +47,11 @@ returns-else-is_array g c = record {
 pub is_cwt_tag-requires : goal.is_cwt_tag-requires
 is_cwt_tag-requires g c = cc
 
-pub begin_tag_head-requires : goal.begin_tag_head-requires
-begin_tag_head-requires g c = grind (arith, common_steps)
-
 pub is_tag-requires : goal.is_tag-requires
 is_tag-requires g c = cc
 
 pub kind_of_tag-requires : goal.kind_of_tag-requires
 kind_of_tag-requires g c = cc
 
-pub past_tag-requires : goal.past_tag-requires
-past_tag-requires g c = grind (arith, common_steps)
-
 pub is_array-requires : goal.is_array-requires
 is_array-requires g c = cc
-
-pub past_untagged-requires : goal.past_untagged-requires
-past_untagged-requires g c = grind (arith, common_steps)
-
-pub refuse-requires : goal.refuse-requires
-refuse-requires g c = grind (arith, common_steps)

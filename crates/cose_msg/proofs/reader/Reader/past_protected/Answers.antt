@@ -24,23 +24,5 @@ returns-in-None g c = record {
       rw pairs.1 (rw c.len-length.ensures.value at (c.begin_unprotected.ensures.stands task pairs.0 e pairs.1));
 }
 
-pub len-length-requires : goal.len-length-requires
-len-length-requires g c = grind (arith, common_steps)
-
-pub as_slice-requires : goal.as_slice-requires
-as_slice-requires g c = grind (arith, common_steps)
-
-pub refusal_of-requires-clause-shallow : goal.refusal_of-requires-clause-shallow
-refusal_of-requires-clause-shallow g c = grind (arith, common_steps)
-
-pub refusal_of-requires-clause-in_range : goal.refusal_of-requires-clause-in_range
-refusal_of-requires-clause-in_range g c = grind (arith, common_steps)
-
-pub refuse-requires : goal.refuse-requires
-refuse-requires g c = grind (arith, common_steps)
-
 pub overflow_add-at : goal.overflow_add-at
 overflow_add-at g c = grind (arith, common_steps)
-
-pub begin_unprotected-requires : goal.begin_unprotected-requires
-begin_unprotected-requires g c = grind (arith, common_steps)

@@ -30,17 +30,8 @@ returns-else-head-eq0 g c = record {
   };
 }
 
-pub refuse-requires : goal.refuse-requires
-refuse-requires g c = grind (arith, common_steps)
-
-pub clear-requires : goal.clear-requires
-clear-requires g c = grind (arith, common_steps)
-
 pub invariant_of-self : goal.invariant_of-self
 invariant_of-self g c = grind (arith, common_steps)
-
-pub past_protected-requires : goal.past_protected-requires
-past_protected-requires g c = grind (arith, common_steps)
 
 pub invariant_of-self-else-head-eq0 : goal.invariant_of-self-else-head-eq0
 invariant_of-self-else-head-eq0 g c = record {

@@ -24,23 +24,8 @@ returns-in-None g c = record {
       rw others.1 (c.past_buckets.ensures.stands task pairs others.0 among (e.0, e.1, others.1, e.3) good others.1);
 }
 
-pub as_slice-requires : goal.as_slice-requires
-as_slice-requires g c = grind (arith, common_steps)
-
-pub refusal_of-requires-clause-shallow : goal.refusal_of-requires-clause-shallow
-refusal_of-requires-clause-shallow g c = grind (arith, common_steps)
-
-pub refusal_of-requires-clause-in_range : goal.refusal_of-requires-clause-in_range
-refusal_of-requires-clause-in_range g c = grind (arith, common_steps)
-
-pub refuse-requires : goal.refuse-requires
-refuse-requires g c = grind (arith, common_steps)
-
 pub invariant_of-self : goal.invariant_of-self
 invariant_of-self g c = grind (arith, common_steps)
 
 pub invariant_of-self-in-None : goal.invariant_of-self-in-None
 invariant_of-self-in-None g c = grind (arith, common_steps)
-
-pub past_buckets-requires : goal.past_buckets-requires
-past_buckets-requires g c = grind (arith, common_steps)

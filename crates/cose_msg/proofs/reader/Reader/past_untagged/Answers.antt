@@ -11,12 +11,3 @@ returns-in-Sign1 g c = record { stands = λ task e. rw c.in-Sign1.is (c.past_arr
 
 pub returns-in-Tagged : goal.returns-in-Tagged
 returns-in-Tagged g c = record { stands = λ task e. rw c.in-Tagged.is (c.refuse.ensures task [] c.args.at nothing_told e refl) }
-
-pub past_array_head-requires : goal.past_array_head-requires
-past_array_head-requires g c = grind (arith, common_steps)
-
-pub past_array_head-requires-in-Sign1 : goal.past_array_head-requires-in-Sign1
-past_array_head-requires-in-Sign1 g c = grind (arith, common_steps)
-
-pub refuse-requires : goal.refuse-requires
-refuse-requires g c = grind (arith, common_steps)

@@ -52,9 +52,6 @@ invariant_of-self g c = grind (arith, common_steps)
 pub overflow_add-payload : goal.overflow_add-payload
 overflow_add-payload g c = grind (arith, common_steps)
 
-pub begin_auth_head-requires : goal.begin_auth_head-requires
-begin_auth_head-requires g c = grind (arith, common_steps)
-
 pub invariant_of-self-else-left-eq0 : goal.invariant_of-self-else-left-eq0
 invariant_of-self-else-left-eq0 g c = grind (arith, common_steps)
 

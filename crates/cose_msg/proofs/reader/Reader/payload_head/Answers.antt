@@ -46,17 +46,8 @@ returns-in-Got g c = record {
       (c.past_payload_head.ensures.stands task h.known st (shows_as task c.args.self.now h.told (headers_told h.known.headers []) inside.0 h.shows) (h.payload_known ∙ sym none) inside.2 inside.3 inside.4 inside.5);
 }
 
-pub take_bare_head_byte-requires : goal.take_bare_head_byte-requires
-take_bare_head_byte-requires g c = grind (arith, common_steps)
-
 pub invariant_of-self : goal.invariant_of-self
 invariant_of-self g c = grind (arith, common_steps)
 
-pub refuse-requires : goal.refuse-requires
-refuse-requires g c = grind (arith, common_steps)
-
 pub overflow_add-at : goal.overflow_add-at
 overflow_add-at g c = grind (arith, common_steps)
-
-pub past_payload_head-requires : goal.past_payload_head-requires
-past_payload_head-requires g c = grind (arith, common_steps)

@@ -46,17 +46,8 @@ returns-in-Got g c = record {
       (c.past_protected_head.ensures.stands task (shows_as task c.args.self.now h.told nothing_told inside.0 h.shows));
 }
 
-pub take_bare_head_byte-requires : goal.take_bare_head_byte-requires
-take_bare_head_byte-requires g c = grind (arith, common_steps)
-
 pub invariant_of-self : goal.invariant_of-self
 invariant_of-self g c = grind (arith, common_steps)
 
-pub refuse-requires : goal.refuse-requires
-refuse-requires g c = grind (arith, common_steps)
-
 pub overflow_add-at : goal.overflow_add-at
 overflow_add-at g c = grind (arith, common_steps)
-
-pub past_protected_head-requires : goal.past_protected_head-requires
-past_protected_head-requires g c = grind (arith, common_steps)

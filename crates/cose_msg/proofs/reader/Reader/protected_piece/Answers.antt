@@ -37,17 +37,11 @@ returns-else-left-eq0 g c = record {
       };
 }
 
-pub append-requires : goal.append-requires
-append-requires g c = grind (arith, common_steps)
-
 pub overflow_sub-left : goal.overflow_sub-left
 overflow_sub-left g c = grind (arith, common_steps)
 
 pub invariant_of-self : goal.invariant_of-self
 invariant_of-self g c = grind (arith, common_steps)
-
-pub past_protected-requires : goal.past_protected-requires
-past_protected-requires g c = grind (arith, common_steps)
 
 pub invariant_of-self-else-left-eq0 : goal.invariant_of-self-else-left-eq0
 invariant_of-self-else-left-eq0 g c = grind (arith, common_steps)

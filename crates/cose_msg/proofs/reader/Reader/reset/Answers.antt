@@ -15,20 +15,5 @@ returns-clause-shown g c = λ task. rw c.new-self.ensures.open refl
 pub returns-clause-held : goal.returns-clause-held
 returns-clause-held g c = rw (c.clear.ensures, c.clear-2.ensures, c.clear-3.ensures, c.clear-4.ensures) refl
 
-pub clear-requires : goal.clear-requires
-clear-requires g c = grind (arith, common_steps)
-
-pub clear-requires-2 : goal.clear-requires-2
-clear-requires-2 g c = grind (arith, common_steps)
-
-pub clear-requires-3 : goal.clear-requires-3
-clear-requires-3 g c = grind (arith, common_steps)
-
-pub clear-requires-4 : goal.clear-requires-4
-clear-requires-4 g c = grind (arith, common_steps)
-
-pub new-self-requires : goal.new-self-requires
-new-self-requires g c = grind (arith, common_steps)
-
 pub invariant_of-self : goal.invariant_of-self
 invariant_of-self g c = grind (arith, common_steps)

@@ -50,20 +50,11 @@ returns-in-Got g c = record {
       (c.past_tag.ensures.stands task (shows_as task c.args.self.now h.told nothing_told inside.0 h.shows));
 }
 
-pub take_bare_head_byte-requires : goal.take_bare_head_byte-requires
-take_bare_head_byte-requires g c = grind (arith, common_steps)
-
 pub invariant_of-self : goal.invariant_of-self
 invariant_of-self g c = grind (arith, common_steps)
-
-pub refuse-requires : goal.refuse-requires
-refuse-requires g c = grind (arith, common_steps)
 
 pub cose_tag-kind-requires : goal.cose_tag-kind-requires
 cose_tag-kind-requires g c = cc
 
 pub overflow_add-at : goal.overflow_add-at
 overflow_add-at g c = grind (arith, common_steps)
-
-pub past_tag-requires : goal.past_tag-requires
-past_tag-requires g c = grind (arith, common_steps)

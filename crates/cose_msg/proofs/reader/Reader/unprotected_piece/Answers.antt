@@ -71,35 +71,8 @@ returns-in-Fault g c = record {
 pub invariant_of-self-clause-some_wanted : goal.invariant_of-self-clause-some_wanted
 invariant_of-self-clause-some_wanted g c = c.want.ensures.some (c.walk_on.ensures.step ∙ c.in-Going.is)
 
-pub read_stays-requires : goal.read_stays-requires
-read_stays-requires g c = grind (arith, common_steps)
-
-pub walker_is_reading-requires : goal.walker_is_reading-requires
-walker_is_reading-requires g c = grind (arith, common_steps)
-
-pub want-wanted-requires : goal.want-wanted-requires
-want-wanted-requires g c = grind (arith, common_steps)
-
-pub append-requires : goal.append-requires
-append-requires g c = grind (arith, common_steps)
-
-pub walk_on-requires : goal.walk_on-requires
-walk_on-requires g c = grind (arith, common_steps)
-
-pub want-requires : goal.want-requires
-want-requires g c = grind (arith, common_steps)
-
 pub invariant_of-self-in-Going : goal.invariant_of-self-in-Going
 invariant_of-self-in-Going g c = grind (arith, common_steps)
 
 pub invariant_of-self-in-Done : goal.invariant_of-self-in-Done
 invariant_of-self-in-Done g c = grind (arith, common_steps)
-
-pub past_unprotected-requires : goal.past_unprotected-requires
-past_unprotected-requires g c = grind (arith, common_steps)
-
-pub saturating_add-requires : goal.saturating_add-requires
-saturating_add-requires g c = grind (arith, common_steps)
-
-pub refuse-requires : goal.refuse-requires
-refuse-requires g c = grind (arith, common_steps)

@@ -45,15 +45,6 @@ returns-clause-grows g c = λ task B n reading more h is. stands_grows more h is
 pub returns-clause-fixed : goal.returns-clause-fixed
 returns-clause-fixed g c = λ task B n reading more h came is some. stands_fixed more h came is some
 
-pub want-wanted-requires : goal.want-wanted-requires
-want-wanted-requires g c = grind (arith, common_steps)
-
-pub held-held-requires : goal.held-held-requires
-held-held-requires g c = grind (arith, common_steps)
-
-pub open_items-opened-requires : goal.open_items-opened-requires
-open_items-opened-requires g c = grind (arith, common_steps)
-
 pub returns-clause-held : goal.returns-clause-held
 returns-clause-held g c = grind (arith, common_steps)
 

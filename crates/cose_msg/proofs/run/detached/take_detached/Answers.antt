@@ -1,3 +1,4 @@
+use Rattle.std.proofs.lemmas.Grind.{common_steps}
 use Rattle.std.proofs.Common.{◌≡◌, ◌<◌, ◌++◌, sym, ◌∙◌, arith}
 use Rattle.std.proofs.lemmas.Result.{err_from_is_err_and}
 use Rattle.cose_msg.specs.Message.{message}
@@ -84,3 +85,75 @@ returns-clause-sure g c = λ task s B h detached enough.
     let d = c.in_ok-take_message.ensures.drive task s B h in
     let b = c.in_ok-take_payload.ensures.brings task _ B (taken_alone (d.beside detached) d.stands.0) in
     (c.take_message-result.ensures.beside _ _ _ b.stands.0 (detached_given (B ++ b.came) task detached)).0
+
+pub returns-in_err-take_message-clause-stopped : goal.returns-in_err-take_message-clause-stopped
+returns-in_err-take_message-clause-stopped g c = grind (arith, common_steps)
+
+pub returns-in_err-take_message-clause-inspects : goal.returns-in_err-take_message-clause-inspects
+returns-in_err-take_message-clause-inspects g c = grind (arith, common_steps)
+
+pub returns-in_err-take_message-clause-detached : goal.returns-in_err-take_message-clause-detached
+returns-in_err-take_message-clause-detached g c = grind (arith, common_steps)
+
+pub returns-in_err-take_message-clause-held : goal.returns-in_err-take_message-clause-held
+returns-in_err-take_message-clause-held g c = grind (arith, common_steps)
+
+pub returns-in_err-take_message-clause-opened : goal.returns-in_err-take_message-clause-opened
+returns-in_err-take_message-clause-opened g c = grind (arith, common_steps)
+
+pub returns-in_err-take_message-clause-once : goal.returns-in_err-take_message-clause-once
+returns-in_err-take_message-clause-once g c = grind (arith, common_steps)
+
+pub returns-then-payload_wanted-eq0-clause-held : goal.returns-then-payload_wanted-eq0-clause-held
+returns-then-payload_wanted-eq0-clause-held g c = grind (arith, common_steps)
+
+pub returns-then-payload_wanted-eq0-clause-once : goal.returns-then-payload_wanted-eq0-clause-once
+returns-then-payload_wanted-eq0-clause-once g c = grind (arith, common_steps)
+
+pub returns-then-payload_wanted-eq0-clause-sure : goal.returns-then-payload_wanted-eq0-clause-sure
+returns-then-payload_wanted-eq0-clause-sure g c = grind (arith, common_steps)
+
+pub returns-in_err-take_payload-clause-stopped : goal.returns-in_err-take_payload-clause-stopped
+returns-in_err-take_payload-clause-stopped g c = grind (arith, common_steps)
+
+pub returns-in_err-take_payload-clause-inspects : goal.returns-in_err-take_payload-clause-inspects
+returns-in_err-take_payload-clause-inspects g c = grind (arith, common_steps)
+
+pub returns-in_err-take_payload-clause-detached : goal.returns-in_err-take_payload-clause-detached
+returns-in_err-take_payload-clause-detached g c = grind (arith, common_steps)
+
+pub returns-in_err-take_payload-clause-held : goal.returns-in_err-take_payload-clause-held
+returns-in_err-take_payload-clause-held g c = grind (arith, common_steps)
+
+pub returns-in_err-take_payload-clause-opened : goal.returns-in_err-take_payload-clause-opened
+returns-in_err-take_payload-clause-opened g c = grind (arith, common_steps)
+
+pub returns-in_err-take_payload-clause-once : goal.returns-in_err-take_payload-clause-once
+returns-in_err-take_payload-clause-once g c = grind (arith, common_steps)
+
+pub returns-then-payload_wanted-gt0-clause-held : goal.returns-then-payload_wanted-gt0-clause-held
+returns-then-payload_wanted-gt0-clause-held g c = grind (arith, common_steps)
+
+pub returns-then-payload_wanted-gt0-clause-once : goal.returns-then-payload_wanted-gt0-clause-once
+returns-then-payload_wanted-gt0-clause-once g c = grind (arith, common_steps)
+
+pub returns-then-payload_wanted-gt0-clause-sure : goal.returns-then-payload_wanted-gt0-clause-sure
+returns-then-payload_wanted-gt0-clause-sure g c = grind (arith, common_steps)
+
+pub returns-clause-stopped : goal.returns-clause-stopped
+returns-clause-stopped g c = grind (arith, common_steps)
+
+pub returns-clause-inspects : goal.returns-clause-inspects
+returns-clause-inspects g c = grind (arith, common_steps)
+
+pub returns-clause-detached : goal.returns-clause-detached
+returns-clause-detached g c = grind (arith, common_steps)
+
+pub returns-clause-held : goal.returns-clause-held
+returns-clause-held g c = grind (arith, common_steps)
+
+pub returns-clause-opened : goal.returns-clause-opened
+returns-clause-opened g c = grind (arith, common_steps)
+
+pub returns-clause-once : goal.returns-clause-once
+returns-clause-once g c = grind (arith, common_steps)

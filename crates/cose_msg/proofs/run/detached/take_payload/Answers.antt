@@ -111,27 +111,6 @@ pieces-preserved g c =
       room,
     )
 
-pub waits-requires : goal.waits-requires
-waits-requires g c = grind (arith, common_steps)
-
-pub min-asked-requires : goal.min-asked-requires
-min-asked-requires g c = grind (arith, common_steps)
-
-pub take-requires : goal.take-requires
-take-requires g c = grind (arith, common_steps)
-
-pub waits-requires-in-pieces : goal.waits-requires-in-pieces
-waits-requires-in-pieces g c = grind (arith, common_steps)
-
-pub put-requires : goal.put-requires
-put-requires g c = grind (arith, common_steps)
-
-pub stop-requires : goal.stop-requires
-stop-requires g c = grind (arith, common_steps)
-
-pub stop-requires-then-is_err : goal.stop-requires-then-is_err
-stop-requires-then-is_err g c = grind (arith, common_steps)
-
 pub returns-then-asked-eq0-clause-stopped : goal.returns-then-asked-eq0-clause-stopped
 returns-then-asked-eq0-clause-stopped g c = cc
 
@@ -225,9 +204,6 @@ returns-in-Err-clause-sink_failure g c = c.pieces.invariant.6 ∙ unfailed _ _ r
 pub returns-then-asked-eq0-clause-payload_failure : goal.returns-then-asked-eq0-clause-payload_failure
 returns-then-asked-eq0-clause-payload_failure g c = c.pieces.invariant.5 ∙ unfailed _ _ refl
 
-pub payload_wanted-requires : goal.payload_wanted-requires
-payload_wanted-requires g c κs = grind (arith, common_steps)
-
 pub slice_bounds-take-end : goal.slice_bounds-take-end
 slice_bounds-take-end g c = grind (arith, common_steps)
 
@@ -240,8 +216,17 @@ slice_bounds-piece-end g c = grind (arith, common_steps)
 pub slice_bounds-piece-end-in-pieces : goal.slice_bounds-piece-end-in-pieces
 slice_bounds-piece-end-in-pieces g c = grind (arith, common_steps)
 
-pub feed_payload-requires : goal.feed_payload-requires
-feed_payload-requires g c κs = grind (arith, common_steps)
-
 pub pieces-smaller : goal.pieces-smaller
 pieces-smaller g c = grind (arith, common_steps)
+
+pub waits-requires : goal.waits-requires
+waits-requires g c = grind (arith, common_steps)
+
+pub waits-requires-in-pieces : goal.waits-requires-in-pieces
+waits-requires-in-pieces g c = grind (arith, common_steps)
+
+pub stop-requires : goal.stop-requires
+stop-requires g c = grind (arith, common_steps)
+
+pub stop-requires-then-is_err : goal.stop-requires-then-is_err
+stop-requires-then-is_err g c = grind (arith, common_steps)

@@ -84,24 +84,6 @@ returns-in-Err-clause-context g c = λ setting s B h. c.take_detached.ensures.co
 pub returns-in-Err-clause-sure : goal.returns-in-Err-clause-sure
 returns-in-Err-clause-sure g c = λ setting s B h enough. rw c.in-Err.is at (c.take_detached.ensures.sure (to_verify setting) s B h (is_of_detached h c.requires.detached) enough)
 
-pub settled_stays-requires : goal.settled_stays-requires
-settled_stays-requires g c = grind (arith, common_steps)
-
-pub nothing_stands_after_the_bytes-requires : goal.nothing_stands_after_the_bytes-requires
-nothing_stands_after_the_bytes-requires g c = grind (arith, common_steps)
-
-pub deciding_goes_last-requires : goal.deciding_goes_last-requires
-deciding_goes_last-requires g c = grind (arith, common_steps)
-
-pub payload_stays-requires : goal.payload_stays-requires
-payload_stays-requires g c = grind (arith, common_steps)
-
-pub waits-requires : goal.waits-requires
-waits-requires g c = grind (arith, common_steps)
-
-pub kept_answer-requires : goal.kept_answer-requires
-kept_answer-requires g c κs = grind (arith, common_steps)
-
 pub returns-in-Some-clause-again : goal.returns-in-Some-clause-again
 returns-in-Some-clause-again g c = grind (arith, common_steps)
 
@@ -116,9 +98,6 @@ returns-in-Some-clause-held g c = grind (arith, common_steps)
 
 pub returns-in-Some-clause-opened : goal.returns-in-Some-clause-opened
 returns-in-Some-clause-opened g c = grind (arith, common_steps)
-
-pub conclude-requires : goal.conclude-requires
-conclude-requires g c κs = grind (arith, common_steps)
 
 pub returns-in-Ok-clause-kept : goal.returns-in-Ok-clause-kept
 returns-in-Ok-clause-kept g c = grind (arith, common_steps)

@@ -11,12 +11,6 @@ use Rattle.cose_msg.proofs.Statuses.{either_is_open, more_goes_on, more_unless_s
 use Rattle.cose_msg.proofs.Untouched.{untouched_ends}
 use Rattle.cose_msg.proofs.verifier.Verifier.end.Goals as goal
 
-pub waits-requires : goal.waits-requires
-waits-requires g c = grind (arith, common_steps)
-
-pub truncate-requires : goal.truncate-requires
-truncate-requires g c = grind (arith, common_steps)
-
 pub returns-in-More-clause-stands : goal.returns-in-More-clause-stands
 returns-in-More-clause-stands g c =
     let goes_on = open_goes_on c.args.self.now.stopped _ (ap is_open (sym c.status.ensures.value) ∙ either_is_open c.status.result c.in-More.is) in

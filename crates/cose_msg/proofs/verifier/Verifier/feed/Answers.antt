@@ -133,18 +133,6 @@ take_piece-requires g c κs =
       ),
     )
 
-pub messages_are_bounded-requires : goal.messages_are_bounded-requires
-messages_are_bounded-requires g c = grind (arith, common_steps)
-
-pub waits-requires : goal.waits-requires
-waits-requires g c = grind (arith, common_steps)
-
-pub want-requires : goal.want-requires
-want-requires g c κs = grind (arith, common_steps)
-
-pub status-requires : goal.status-requires
-status-requires g c κs = grind (arith, common_steps)
-
 pub returns-then-want-eq0-clause-taken : goal.returns-then-want-eq0-clause-taken
 returns-then-want-eq0-clause-taken g c = grind (arith, common_steps)
 
@@ -187,9 +175,6 @@ returns-then-want-eq0-clause-held g c = grind (arith, common_steps)
 pub returns-then-want-eq0-clause-opened : goal.returns-then-want-eq0-clause-opened
 returns-then-want-eq0-clause-opened g c = grind (arith, common_steps)
 
-pub waits-requires-in-pieces : goal.waits-requires-in-pieces
-waits-requires-in-pieces g c = grind (arith, common_steps)
-
 pub slice_bounds-rest-count : goal.slice_bounds-rest-count
 slice_bounds-rest-count g c = grind (arith, common_steps)
 
@@ -198,12 +183,6 @@ slice_bounds-rest-start g c = grind (arith, common_steps)
 
 pub slice_bounds-rest-end : goal.slice_bounds-rest-end
 slice_bounds-rest-end g c = grind (arith, common_steps)
-
-pub step-count-requires : goal.step-count-requires
-step-count-requires g c κs = grind (arith, common_steps)
-
-pub status-requires-then-count-eq0 : goal.status-requires-then-count-eq0
-status-requires-then-count-eq0 g c κs = grind (arith, common_steps)
 
 pub returns-then-count-eq0-clause-fits : goal.returns-then-count-eq0-clause-fits
 returns-then-count-eq0-clause-fits g c = grind (arith, common_steps)
@@ -228,12 +207,6 @@ returns-then-count-eq0-clause-held g c = grind (arith, common_steps)
 
 pub returns-then-count-eq0-clause-opened : goal.returns-then-count-eq0-clause-opened
 returns-then-count-eq0-clause-opened g c = grind (arith, common_steps)
-
-pub is_in_payload-requires : goal.is_in_payload-requires
-is_in_payload-requires g c = grind (arith, common_steps)
-
-pub extended-payload-requires : goal.extended-payload-requires
-extended-payload-requires g c = grind (arith, common_steps)
 
 pub slice_bounds-take_piece-end : goal.slice_bounds-take_piece-end
 slice_bounds-take_piece-end g c = grind (arith, common_steps)

@@ -59,15 +59,6 @@ returns-in_default g c =
 pub invariant_of-self-clause-untouched : goal.invariant_of-self-clause-untouched
 invariant_of-self-clause-untouched g c = λ none. absurd (untouched_awaits_none c.args.self.now.reader (c.args.self.now.untouched none) c.in-Detached.detached c.in-Detached.is)
 
-pub min-count-requires : goal.min-count-requires
-min-count-requires g c = grind (arith, common_steps)
-
-pub detached_piece-requires : goal.detached_piece-requires
-detached_piece-requires g c = grind (arith, common_steps)
-
-pub waits-requires : goal.waits-requires
-waits-requires g c = grind (arith, common_steps)
-
 pub returns-in-Detached-clause-counts : goal.returns-in-Detached-clause-counts
 returns-in-Detached-clause-counts g c = grind (arith, common_steps)
 

@@ -2,9 +2,6 @@ use Rattle.std.proofs.Common.{arith}
 use Rattle.std.proofs.lemmas.Grind.{common_steps}
 use Rattle.cose_msg.proofs.verifier.Verifier.inspecting.Goals as goal
 
-pub made-requires : goal.made-requires
-made-requires g c = grind (arith, common_steps)
-
 pub returns-clause-none_taken : goal.returns-clause-none_taken
 returns-clause-none_taken g c = grind (arith, common_steps)
 

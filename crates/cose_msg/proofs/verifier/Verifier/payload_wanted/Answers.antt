@@ -13,9 +13,6 @@ pub returns-clause-none : goal.returns-clause-none
 returns-clause-none g c = λ other.
     c.payload_wanted.ensures ∙ none_wanted_else c.args.self.now.reader.phase (rw c.if-self.false at other)
 
-pub waits-requires : goal.waits-requires
-waits-requires g c = grind (arith, common_steps)
-
 pub returns-then-self-clause-value : goal.returns-then-self-clause-value
 returns-then-self-clause-value g c = grind (arith, common_steps)
 
@@ -27,9 +24,6 @@ returns-then-self-clause-some g c = grind (arith, common_steps)
 
 pub returns-then-self-clause-none : goal.returns-then-self-clause-none
 returns-then-self-clause-none g c = grind (arith, common_steps)
-
-pub payload_wanted-requires : goal.payload_wanted-requires
-payload_wanted-requires g c = grind (arith, common_steps)
 
 pub returns-clause-value : goal.returns-clause-value
 returns-clause-value g c = grind (arith, common_steps)

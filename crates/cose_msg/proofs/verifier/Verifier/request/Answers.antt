@@ -2,9 +2,6 @@ use Rattle.std.proofs.Common.{arith}
 use Rattle.std.proofs.lemmas.Grind.{common_steps}
 use Rattle.cose_msg.proofs.verifier.Verifier.request.Goals as goal
 
-pub wanted-requires : goal.wanted-requires
-wanted-requires g c = grind (arith, common_steps)
-
 pub min-requires : goal.min-requires
 min-requires g c = cc
 

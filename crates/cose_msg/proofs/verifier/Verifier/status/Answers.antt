@@ -9,9 +9,6 @@ returns g c = record {
   reads = λ task s B h. status_reads h (c.waits.ensures.status task B _ _ h.so_far h.came) (sym c.status.ensures);
 }
 
-pub waits-requires : goal.waits-requires
-waits-requires g c = grind (arith, common_steps)
-
 pub returns-then-self-clause-value : goal.returns-then-self-clause-value
 returns-then-self-clause-value g c = grind (arith, common_steps)
 

@@ -20,9 +20,6 @@ returns-then-rest-eq0-clause-some g c = grind (arith, common_steps)
 pub min-requires : goal.min-requires
 min-requires g c = cc
 
-pub request-requires : goal.request-requires
-request-requires g c = grind (arith, common_steps)
-
 pub returns-clause-rest : goal.returns-clause-rest
 returns-clause-rest g c = grind (arith, common_steps)
 

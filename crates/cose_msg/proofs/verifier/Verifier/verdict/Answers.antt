@@ -16,18 +16,6 @@ pub returns-in-None-clause-answer : goal.returns-in-None-clause-answer
 returns-in-None-clause-answer g c = λ setting s B h.
     verdict_so_far c.deciding_goes_last.ensures.verifying g.row.H g.row.D setting (g.E.EcVerifier.decides c.args.ec.now) s c.conclude.result (c.conclude.ensures.answer setting _ _ (counted_stands h) h.came)
 
-pub deciding_goes_last-requires : goal.deciding_goes_last-requires
-deciding_goes_last-requires g c = grind (arith, common_steps)
-
-pub waits-requires : goal.waits-requires
-waits-requires g c = grind (arith, common_steps)
-
-pub known_verdict-requires : goal.known_verdict-requires
-known_verdict-requires g c = grind (arith, common_steps)
-
-pub conclude-requires : goal.conclude-requires
-conclude-requires g c = grind (arith, common_steps)
-
 pub returns-in-Some-clause-status : goal.returns-in-Some-clause-status
 returns-in-Some-clause-status g c = λ setting s B h. rw h.goes_on (complete_stays c.args.self.now.stopped _ h.goes_on c.requires.complete)
 

@@ -11,9 +11,6 @@ returns-clause-reads g c = λ task s B h. c.wanted.ensures.value ∙ sym (c.wait
 pub returns-clause-early : goal.returns-clause-early
 returns-clause-early g c = λ task s B more h lt. c.waits.ensures.open task B _ _ more h.so_far (let short : length more < want_of c.args.self.now.reader.phase = omega (arith, lt, c.wanted.ensures.value) in short)
 
-pub waits-requires : goal.waits-requires
-waits-requires g c = grind (arith, common_steps)
-
 pub returns-then-self-clause-value : goal.returns-then-self-clause-value
 returns-then-self-clause-value g c = cc
 
@@ -28,9 +25,6 @@ returns-then-self-clause-none g c = grind (arith, common_steps)
 
 pub returns-then-self-clause-early : goal.returns-then-self-clause-early
 returns-then-self-clause-early g c = grind (arith, common_steps)
-
-pub wanted-requires : goal.wanted-requires
-wanted-requires g c = grind (arith, common_steps)
 
 pub returns-clause-value : goal.returns-clause-value
 returns-clause-value g c = cc

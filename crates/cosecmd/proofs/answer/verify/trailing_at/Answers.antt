@@ -5,9 +5,6 @@ use Rattle.cosecmd.proofs.answer.verify.trailing_at.Goals as goal
 pub slice_bounds-take-end : goal.slice_bounds-take-end
 slice_bounds-take-end g c = grind (arith, common_steps)
 
-pub take-requires : goal.take-requires
-take-requires g c = grind (arith, common_steps)
-
 pub returns-in-Ok-eq0-clause-whole : goal.returns-in-Ok-eq0-clause-whole
 returns-in-Ok-eq0-clause-whole g c = grind (arith, common_steps)
 

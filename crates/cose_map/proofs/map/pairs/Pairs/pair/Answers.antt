@@ -5,12 +5,6 @@ use Rattle.cose_map.proofs.map.pairs.Pairs.pair.Goals as goal
 pub pairs-init : goal.pairs-init
 pairs-init c = grind (arith, common_steps)
 
-pub next-requires : goal.next-requires
-next-requires c = grind (arith, common_steps)
-
-pub is_same-requires : goal.is_same-requires
-is_same-requires c = grind (arith, common_steps)
-
 pub returns-then-is_same : goal.returns-then-is_same
 returns-then-is_same c = grind (arith, common_steps)
 
