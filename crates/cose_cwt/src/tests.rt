@@ -2,6 +2,7 @@
 
 mod admissions;
 mod example;
+mod messages;
 mod refusals;
 mod rows;
 mod stops;

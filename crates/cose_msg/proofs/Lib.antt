@@ -68,3 +68,4 @@ mod WorkedAdmission
 mod WorkedSettled
 mod WorkedFeeding
 mod WorkedSlices
+mod WorkedIntakes

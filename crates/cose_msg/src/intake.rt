@@ -132,6 +132,3 @@ impl<R: Read> Intake for ReadIntake<R> {
         }
     }
 }
-
-#[cfg(test)]
-mod tests;

@@ -87,8 +87,6 @@ mod make;
 mod phase;
 mod reader;
 mod run;
-#[cfg(test)]
-mod samples;
 mod sink;
 mod slice;
 mod status;

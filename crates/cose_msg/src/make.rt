@@ -264,6 +264,3 @@ pub fn make_mac0<const C: usize, I: Intake, S: Sink>(
     let auth = put_byte_string(sink, &running.finish_mac())?;
     Ok(front + payload + auth)
 }
-
-#[cfg(test)]
-mod tests;

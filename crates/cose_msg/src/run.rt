@@ -255,9 +255,3 @@ pub fn inspect<'k, const C: usize, const H: usize, const D: usize, K: Keys<'k>, 
 }
 
 pub mod detached;
-#[cfg(test)]
-mod inspecting_tests;
-#[cfg(test)]
-mod limits_tests;
-#[cfg(test)]
-mod tests;

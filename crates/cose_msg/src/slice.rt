@@ -69,6 +69,3 @@ pub fn verify_slice<'k, 'm, const H: usize, const D: usize, K: Keys<'k>, E: EcVe
         },
     }
 }
-
-#[cfg(test)]
-mod tests;

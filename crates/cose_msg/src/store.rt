@@ -79,6 +79,3 @@ impl<const L: usize> Sink for Store<L> {
         Ok(())
     }
 }
-
-#[cfg(test)]
-mod tests;

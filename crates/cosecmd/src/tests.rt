@@ -1,41 +1,23 @@
 //! Messages and runs whose answers come from the standards' equations, not from this program.
 
-mod bounds;
 mod commands;
-mod contexts;
 mod curves;
 mod cwt;
 mod digests;
 mod failures;
-mod feeding;
 mod key_files;
 mod limits;
-mod long;
 mod making;
-mod messages;
 mod mistakes;
 mod options;
 mod payload_files;
 mod payloads;
-mod replaced;
-mod rows;
 mod runs;
 mod showing;
-mod signatures;
-mod stops;
 mod streams;
 mod tables;
-mod using;
-
-ghost use Rattle.std.specs.Prelude.{◌≡◌, ◌≤◌, false, length};
-ghost use Rattle.cose_msg.specs.Kept.{is_inspecting};
-ghost use Rattle.cose_msg.specs.Verifier.{is_detached};
 
 use crate::run::run;
-use cose_msg::{
-    Alg, Context, KeySet, Keys, Kind, Never, Reason, Refusal, SliceIntake, Stop, Store, Verdict,
-    Verifier, Wanted, verify,
-};
 use sha2::{Digest, Sha256};
 use std::alloc::{AllocError, Global};
 use std::fmt::Debug;
@@ -98,64 +80,6 @@ fn hmac(key: &[u8], text: &[u8]) -> [u8; 32] {
     let mut inner = padded(key, 0x36);
     inner.update(text);
     sealed(key, inner)
-}
-
-/// Bytes that differ from their neighbors.
-fn counted<const N: usize>() -> [u8; N] {
-    let mut bytes = [0; N];
-    for i in 0..N {
-        bytes[i] = (i % 251) as u8;
-    }
-    bytes
-}
-
-/// The authentication tag without its last byte.
-fn cut(tag: &[u8; 32]) -> &[u8] {
-    &tag[..31]
-}
-
-/// The keys of that set.
-fn key_set(rt: &impl Abort) -> KeySet<'static> {
-    KeySet::read(KEY_SET).expect(rt, "a key set")
-}
-
-/// The context of these keys: nothing is known in addition to the CWT tag.
-fn context<'k, S: Keys<'k>>(keys: S) -> Context<'k, S>
-    ensures { length result.aad.now ≤ 65535 }
-{
-    Context {
-        keys,
-        aad: b"",
-        wanted: Wanted::Tagged,
-        cwt: true,
-        understood: &[],
-        payload_limit: (1 << 56) - 1,
-    }
-}
-
-/// A verifier under these keys.
-fn verifier(keys: KeySet, wanted: Wanted) -> Verifier<1024, 4>
-    ensures verifies { is_inspecting result ≡ false }
-    ensures attached { is_detached result ≡ false }
-{
-    Verifier::new(Context {
-        wanted,
-        ..context(keys)
-    })
-}
-
-/// What `verify` answers for bytes that come in pieces of at most this many. The payload goes into the store.
-fn verified_in_pieces(
-    verifier: &mut Verifier<1024, 4>,
-    bytes: &[u8],
-    cut: usize,
-    store: &mut Store<16>,
-) -> Result<Verdict, Stop>
-    requires verifies { is_inspecting verifier.old ≡ false }
-    requires attached { is_detached verifier.old ≡ false }
-{
-    let mut intake = SliceIntake::new(bytes, cut.max(1));
-    verify::<128, 1024, 4, _, _, _, _>(verifier, &mut intake, store, &Never)
 }
 
 /// The program's name and these arguments.
@@ -247,32 +171,4 @@ fn signed(rt: &(impl Abort + Alloc<A = Global>), front: &str, signature: &[u8]) 
 fn signed_digest(rt: &(impl Abort + Alloc<A = Global>)) -> [u8; 32] {
     let structure = bytes_of(rt, SIGNED_STRUCTURE);
     Sha256::digest(structure.as_slice())
-}
-
-/// The verdict on a COSE_Mac0 of the payload `hi` by HMAC 256/256, which took this many bytes.
-const fn authentic(taken: u64) -> Verdict {
-    Verdict::Authentic {
-        kind: Kind::Mac0,
-        alg: Alg::Hmac256,
-        payload: 2,
-        taken,
-    }
-}
-
-/// The verdict on a message that is refused.
-const fn refused(reason: Reason, place: u64) -> Verdict {
-    Verdict::Refused(Refusal { reason, place })
-}
-
-/// The verdict on the COSE_Sign1 of an empty payload, where its signature holds and where it doesn't.
-const fn decision(holds: bool) -> Verdict {
-    if holds {
-        return Verdict::Authentic {
-            kind: Kind::Sign1,
-            alg: Alg::Es256,
-            payload: 0,
-            taken: 74,
-        };
-    }
-    refused(Reason::BadAuth, 8)
 }

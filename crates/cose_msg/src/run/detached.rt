@@ -234,6 +234,3 @@ pub fn verify_detached<
         Err(stop) => Err(stop),
     }
 }
-
-#[cfg(test)]
-mod tests;

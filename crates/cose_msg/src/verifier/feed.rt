@@ -243,6 +243,3 @@ impl<'k, const H: usize, const D: usize, S: Keys<'k>> Verifier<'k, H, D, S> {
         }
     }
 }
-
-#[cfg(test)]
-mod tests;

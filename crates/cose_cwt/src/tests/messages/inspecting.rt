@@ -1,0 +1,153 @@
+//! What a verifier gives in addition to its answer, and messages that are only inspected.
+
+ghost use Rattle.std.specs.Prelude.{◌≡◌, false, true};
+ghost use Rattle.cose_msg.specs.Kept.{is_inspecting};
+ghost use Rattle.cose_msg.specs.Verifier.{is_detached};
+
+use crate::tests::messages::samples::{CURVE_KEY, MAC0, SIGN1, context_of, under_jefe};
+use cose_msg::{
+    Inspected, Kind, Label, Never, Nothing, Reason, Refusal, SliceIntake, Stop, Verdict, Verifier,
+    inspect, verify,
+};
+
+/// What `inspect` answers for the bytes of this intake.
+fn inspected(verifier: &mut Verifier<32, 4>, intake: &mut SliceIntake) -> Result<Inspected, Stop>
+    requires inspects { is_inspecting verifier.old ≡ true }
+    requires attached { is_detached verifier.old ≡ false }
+    ensures inspects { is_inspecting verifier.new ≡ true }
+    ensures attached { is_detached verifier.new ≡ false }
+{
+    inspect::<64, 32, 4, _, SliceIntake, Nothing>(verifier, intake, &mut Nothing)
+}
+
+/// What `verify` answers for these bytes.
+fn verified(verifier: &mut Verifier<32, 4>, bytes: &[u8]) -> Result<Verdict, Stop>
+    requires verifies { is_inspecting verifier.old ≡ false }
+    requires attached { is_detached verifier.old ≡ false }
+{
+    let mut intake = SliceIntake::new(bytes, 64);
+    verify::<64, 32, 4, _, SliceIntake, Nothing, Never>(verifier, &mut intake, &mut Nothing, &Never)
+}
+
+#[test]
+fn inspects_a_shape(rt: HostRuntime) {
+    let context = context_of(b"\xa0", 4_096).expect(&rt, "a context");
+    let mut verifier: Verifier<32, 4> = Verifier::inspecting(context);
+    let mut intake = SliceIntake::new(MAC0, 7);
+    let shape = inspected(&mut verifier, &mut intake);
+    let wanted = Inspected::Shape {
+        kind: Kind::Mac0,
+        payload: 2,
+        auth: 32,
+        taken: 44,
+    };
+    let state = (verifier.is_inspecting(), verifier.sign_input().is_none());
+    let kept = (verifier.held(), verifier.open_items());
+    let again = inspected(&mut verifier, &mut intake);
+    assert_eq!(rt;
+        (shape, state, kept, again),
+        (Ok(wanted), (true, true), (256 + 3 + 1, 0), Ok(wanted))
+    );
+    verifier.reset();
+    assert_eq!(rt; verifier.held(), 256);
+}
+
+#[test]
+fn refuses_a_tag_that_is_too_long(rt: HostRuntime) {
+    let context = context_of(b"\xa0", 4_096).expect(&rt, "a context");
+    let mut verifier: Verifier<32, 4> = Verifier::inspecting(context);
+    let mut intake = SliceIntake::new(
+        b"\xd1\x84\x43\xa1\x01\x05\xa0\x42\x68\x69\x5a\x00\x01\x00\x00\x00",
+        64,
+    );
+    let refused = inspected(&mut verifier, &mut intake);
+    let wanted = Inspected::Refused(Refusal {
+        reason: Reason::BadAuthLength,
+        place: 10,
+    });
+    assert_eq!(rt; (refused, verifier.taken()), (Ok(wanted), 15));
+}
+
+#[test]
+fn refuses_to_inspect_a_payload_over_its_limit(rt: HostRuntime) {
+    let context = context_of(b"\xa0", 1).expect(&rt, "a context");
+    let mut verifier: Verifier<32, 4> = Verifier::inspecting(context);
+    let mut intake = SliceIntake::new(MAC0, 7);
+    let refused = inspected(&mut verifier, &mut intake);
+    let wanted = Inspected::Refused(Refusal {
+        reason: Reason::PayloadTooLong,
+        place: 7,
+    });
+    assert_eq!(rt; (refused, verifier.taken()), (Ok(wanted), 8));
+}
+
+#[test]
+fn shows_the_buckets_after_a_refusal(rt: HostRuntime) {
+    let mut verifier = under_jefe::<32, 4>().expect(&rt, "a verifier");
+    let mut changed = *MAC0;
+    changed[43] ^= 1;
+    let verdict = verified(&mut verifier, &changed);
+    let refused = Verdict::Refused(Refusal {
+        reason: Reason::BadAuth,
+        place: 10,
+    });
+    let shown = verifier.unprotected().is_some();
+    assert_eq!(rt; (verdict, shown), (Ok(refused), true));
+    let Some(protected) = verifier.protected() else {
+        assert!(rt; false);
+        return;
+    };
+    let alg = protected.alg();
+    assert_eq!(rt;
+        (alg, verifier.held()),
+        (Some(Label::Int(5)), 256 + 3 + 1 + 32)
+    );
+}
+
+#[test]
+fn shows_no_bucket_that_was_refused(rt: HostRuntime) {
+    let mut verifier = under_jefe::<32, 4>().expect(&rt, "a verifier");
+    let verdict = verified(&mut verifier, b"\xd1\x84\x43\xa1\x01\x05\xa1\x40\x00");
+    let refused = Verdict::Refused(Refusal {
+        reason: Reason::BadLabel,
+        place: 7,
+    });
+    let shown = (
+        verifier.protected().is_some(),
+        verifier.unprotected().is_some(),
+    );
+    assert_eq!(rt; (verdict, shown), (Ok(refused), (true, false)));
+}
+
+#[test]
+fn counts_open_items(rt: HostRuntime) {
+    let mut verifier = under_jefe::<32, 4>().expect(&rt, "a verifier");
+    let verdict = verified(&mut verifier, b"\xd1\x84\x43\xa1\x01\x05\xa1\x0a\x81\x81");
+    let truncated = Verdict::Refused(Refusal {
+        reason: Reason::Truncated,
+        place: 10,
+    });
+    let open = verifier.open_items();
+    verifier.reset();
+    assert_eq!(rt;
+        (verdict, open, verifier.open_items()),
+        (Ok(truncated), 3, 0)
+    );
+}
+
+#[test]
+fn hands_out_what_a_signature_is_verified_with(rt: HostRuntime) {
+    let context = context_of(CURVE_KEY, 4_096).expect(&rt, "a context");
+    let mut verifier: Verifier<32, 4> = Verifier::new(context);
+    let verdict = verified(&mut verifier, SIGN1);
+    let refused = Verdict::Refused(Refusal {
+        reason: Reason::BadAuth,
+        place: 8,
+    });
+    assert_eq!(rt; verdict, Ok(refused));
+    let Some((_, digest, signature)) = verifier.sign_input() else {
+        assert!(rt; false);
+        return;
+    };
+    assert_eq!(rt; (digest.len(), signature), (32, &SIGN1[10..]));
+}

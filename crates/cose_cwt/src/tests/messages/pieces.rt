@@ -1,0 +1,468 @@
+//! Pieces of messages that are fed, and the results.
+
+ghost use Rattle.std.specs.Prelude.{◌≡◌, ◌≤◌, false};
+ghost use Rattle.cose_msg.specs.Kept.{is_inspecting};
+ghost use Rattle.cose_msg.specs.Verifier.{is_detached};
+
+use crate::tests::messages::samples::{
+    AUTHENTIC, CURVE_KEY, FailingReader, JEFE, MAC0, SIGN1, Says, context_of, mac0_and_more,
+    mac0_with_kid, under_jefe,
+};
+use cose_msg::{
+    Alg, Fed, Kind, Never, Nothing, ReadIntake, Reason, Refusal, Sink, SliceIntake, Status, Stop,
+    Store, Verdict, Verifier, verify,
+};
+use std::process::Abort;
+
+/// Where a message ends before it is settled.
+const fn truncated(place: u64) -> Refusal {
+    Refusal {
+        reason: Reason::Truncated,
+        place,
+    }
+}
+
+/// A piece that was used whole, and holds no byte of the payload.
+const fn more(used: usize) -> Fed {
+    Fed {
+        used,
+        payload_from: 0,
+        payload_to: 0,
+        status: Status::More,
+    }
+}
+
+/// A piece of which this many bytes were used, none of them of the payload, and the message is complete.
+const fn complete(used: usize) -> Fed {
+    Fed {
+        used,
+        payload_from: 0,
+        payload_to: 0,
+        status: Status::Complete,
+    }
+}
+
+/// What is left of a message of 44 bytes, in one piece or two.
+const WHOLE: usize = 44;
+
+#[test]
+fn takes_pieces_as_they_come(rt: HostRuntime) {
+    let mut verifier = under_jefe::<16, 1>().expect(&rt, "a verifier");
+    let message = mac0_and_more();
+    let rows: [(&[u8], Fed); 4] = [
+        (&message[..4], more(4)),
+        (
+            &message[4..11],
+            Fed {
+                used: 7,
+                payload_from: 4,
+                payload_to: 6,
+                status: Status::More,
+            },
+        ),
+        (&message[11..], complete(33)),
+        (&message[44..], complete(0)),
+    ];
+    for (piece, wanted) in rows {
+        let fed = verifier.feed(piece);
+        assert_eq!(rt; fed, wanted);
+    }
+    let taken = (verifier.taken(), verifier.is_complete());
+    assert_eq!(rt; (taken, verifier.end()), ((44, true), Status::Complete));
+}
+
+#[test]
+fn wants_what_is_left_of_a_string(rt: HostRuntime) {
+    // After this many bytes: heads and the unprotected bucket want one, strings what is left of them.
+    const ROWS: &[(usize, u64)] = &[
+        (0, 1),
+        (2, 1),
+        (3, 3),
+        (4, 2),
+        (6, 1),
+        (7, 1),
+        (8, 2),
+        (9, 1),
+        (11, 1),
+        (12, 32),
+        (44, 0),
+    ];
+    for &(taken, wanted) in ROWS {
+        let mut verifier = under_jefe::<16, 1>().expect(&rt, "a verifier");
+        let fed = verifier.feed(&MAC0[..taken.min(WHOLE)]);
+        assert_eq!(rt; (fed.used, verifier.want()), (taken, wanted));
+    }
+}
+
+/// The verifier answers this for the piece, and then wants so many bytes.
+fn feeds(rt: &impl Abort, verifier: &mut Verifier<16, 1>, piece: &[u8], fed: Fed, want: u64) {
+    assert_eq!(rt; (verifier.feed(piece), verifier.want()), (fed, want));
+}
+
+#[test]
+fn wants_what_is_left_of_an_unprotected_string(rt: HostRuntime) {
+    let mut verifier = under_jefe::<16, 1>().expect(&rt, "a verifier");
+    let message = mac0_with_kid();
+    feeds(&rt, &mut verifier, &message[..9], more(9), 5);
+    feeds(&rt, &mut verifier, &message[9..10], more(1), 4);
+    let rest = Fed {
+        payload_from: 5,
+        payload_to: 7,
+        ..complete(41)
+    };
+    feeds(&rt, &mut verifier, &message[10..], rest, 0);
+    assert_eq!(rt; verifier.taken(), 51);
+}
+
+/// Feeds a piece, and puts what it holds of the payload into a store.
+fn feed_into(verifier: &mut Verifier<16, 1>, piece: &[u8], store: &mut Store<2>) -> Fed {
+    let fed = verifier.feed(piece);
+    let payload = fed.payload_of(piece);
+    if !payload.is_empty() {
+        let _ = store.put(payload);
+    }
+    fed
+}
+
+#[test]
+fn comes_to_the_same_in_every_cut(rt: HostRuntime) {
+    let message = mac0_and_more();
+    for cut in 0..45 {
+        let mut verifier = under_jefe::<16, 1>().expect(&rt, "a verifier");
+        let mut store = Store::<2>::new();
+        let (front, rest) = message.split_at(cut);
+        let first = feed_into(&mut verifier, front, &mut store);
+        let last = feed_into(&mut verifier, rest, &mut store);
+        let used = (first.used, last.used);
+        let wanted = (cut.min(WHOLE), WHOLE.saturating_sub(cut));
+        assert_eq!(rt;
+            (used, last.status, store.bytes(), verifier.taken()),
+            (wanted, Status::Complete, b"hi".as_slice(), 44),
+            "cut at {cut}"
+        );
+    }
+}
+
+#[test]
+fn takes_bytes_one_by_one(rt: HostRuntime) {
+    let mut verifier = under_jefe::<16, 1>().expect(&rt, "a verifier");
+    let mut store = Store::<2>::new();
+    for place in 0..44 {
+        let (_, rest) = MAC0.split_at(place);
+        let fed = feed_into(&mut verifier, &rest[..1], &mut store);
+        let status = if place == 43 {
+            Status::Complete
+        } else {
+            Status::More
+        };
+        let is_within = verifier.held() <= 32 + 512;
+        assert_eq!(rt;
+            (fed.used, fed.status, is_within),
+            (1, status, true),
+            "byte {place}"
+        );
+    }
+    assert_eq!(rt; store.bytes(), b"hi".as_slice());
+}
+
+#[test]
+fn goes_on_by_verify(rt: HostRuntime) {
+    let mut verifier = under_jefe::<16, 1>().expect(&rt, "a verifier");
+    let message = mac0_and_more();
+    let (front, rest) = message.split_at(9);
+    let status = verifier.feed(front).status;
+    let mut intake = SliceIntake::new(rest, 64);
+    let mut store = Store::<2>::new();
+    let verdict = verify::<64, 16, 1, _, SliceIntake, Store<2>, Never>(
+        &mut verifier,
+        &mut intake,
+        &mut store,
+        &Never,
+    );
+    assert_eq!(rt;
+        (status, verdict, store.bytes(), verifier.status()),
+        (
+            Status::More,
+            Ok(AUTHENTIC),
+            b"i".as_slice(),
+            Status::Complete
+        )
+    );
+}
+
+#[test]
+fn refuses_with_the_byte_that_settles(rt: HostRuntime) {
+    let mut changed = mac0_and_more();
+    changed[43] ^= 1;
+    let rows: [(&[u8], Reason, u64, usize); 4] = [
+        (&changed, Reason::BadAuth, 10, 44),
+        (
+            b"\xd1\x84\x43\xa1\x01\x05\xa0\x5f\x01",
+            Reason::Indefinite,
+            7,
+            8,
+        ),
+        (
+            b"\xd1\x84\x43\xa1\x01\x05\xa1\x40\x00\x00",
+            Reason::BadLabel,
+            7,
+            9,
+        ),
+        (b"\xd8\x62\x84", Reason::SeveralParties, 0, 2),
+    ];
+    for (message, reason, place, used) in rows {
+        let mut verifier = under_jefe::<16, 1>().expect(&rt, "a verifier");
+        let refused = Status::Refused(Refusal { reason, place });
+        let first = verifier.feed(message);
+        let want = verifier.want();
+        // It stays so.
+        let end = verifier.end();
+        let again = verifier.feed(message);
+        assert_eq!(rt;
+            (
+                first.used,
+                first.status,
+                want,
+                end,
+                again.used,
+                again.status
+            ),
+            (used, refused, 0, refused, 0, refused)
+        );
+    }
+}
+
+#[test]
+fn ends_where_no_byte_follows(rt: HostRuntime) {
+    for taken in [0, 9, 43] {
+        let mut verifier = under_jefe::<16, 1>().expect(&rt, "a verifier");
+        let front = verifier.feed(&MAC0[..taken]);
+        let refused = Status::Refused(truncated(verifier.taken()));
+        let end = verifier.end();
+        let whole = verifier.feed(MAC0);
+        assert_eq!(rt;
+            (front.used, front.status, end, whole.used, whole.status),
+            (taken, Status::More, refused, 0, refused)
+        );
+        assert_eq!(rt; verifier.taken(), taken as u64);
+    }
+}
+
+#[test]
+fn stays_stopped(rt: HostRuntime) {
+    let mut verifier = under_jefe::<16, 1>().expect(&rt, "a verifier");
+    let mut failing = ReadIntake::new(FailingReader::new(MAC0, 3));
+    let stop = verify::<64, 16, 1, _, ReadIntake<FailingReader>, Nothing, Never>(
+        &mut verifier,
+        &mut failing,
+        &mut Nothing,
+        &Never,
+    );
+    let fed = verifier.feed(MAC0);
+    assert_eq!(rt;
+        (stop, fed.used, fed.status, verifier.want(), verifier.end()),
+        (Err(Stop::Intake), 0, Status::Stopped, 0, Status::Stopped)
+    );
+    verifier.reset();
+    let whole = Fed {
+        payload_from: 8,
+        payload_to: 10,
+        ..complete(44)
+    };
+    feeds(&rt, &mut verifier, &mac0_and_more(), whole, 0);
+}
+
+/// The verdict on the COSE_Sign1, where its signature holds and where it doesn't.
+const fn decision(holds: bool) -> Verdict {
+    if holds {
+        return Verdict::Authentic {
+            kind: Kind::Sign1,
+            alg: Alg::Es256,
+            payload: 0,
+            taken: 74,
+        };
+    }
+    Verdict::Refused(Refusal {
+        reason: Reason::BadAuth,
+        place: 8,
+    })
+}
+
+#[test]
+fn decides_on_a_signature_once(rt: HostRuntime) {
+    for holds in [true, false] {
+        let context = context_of(CURVE_KEY, 64).expect(&rt, "a context");
+        let mut verifier: Verifier<16, 1> = Verifier::new(context);
+        let fed = verifier.feed(SIGN1);
+        assert_eq!(rt; fed, complete(74));
+        if !verifier.is_complete() {
+            return;
+        }
+        let verdict = verifier.verdict(&Says { holds });
+        let end = verifier.end();
+        assert_eq!(rt; (verdict, end), (decision(holds), Status::Complete));
+        if !verifier.is_complete() {
+            return;
+        }
+        // Whichever `EcVerifier` is passed now, the verdict is kept.
+        let verdict = verifier.verdict(&Says { holds: !holds });
+        let fed = verifier.feed(SIGN1);
+        assert_eq!(rt; (verdict, fed), (decision(holds), complete(0)));
+    }
+}
+
+/// The verdict of `verify` on these bytes, where every signature holds or none does.
+fn verified(verifier: &mut Verifier<16, 1>, bytes: &[u8], holds: bool) -> Result<Verdict, Stop>
+    requires verifies { is_inspecting verifier.old ≡ false }
+    requires attached { is_detached verifier.old ≡ false }
+{
+    verify::<64, 16, 1, _, SliceIntake, Nothing, Says>(
+        verifier,
+        &mut SliceIntake::new(bytes, 64),
+        &mut Nothing,
+        &Says { holds },
+    )
+}
+
+/// Points on P-384 and on P-521 (RFC 9053 section 7.1.1), with the sign of y.
+const KEY_ON_P_384: &[u8] = b"\xa4\x01\x02\x20\x02\x21\x58\x30\
+    012345678901234567890123456789012345678901234567\x22\xf5";
+
+const KEY_ON_P_521: &[u8] = b"\xa4\x01\x02\x20\x03\x21\x58\x42\
+    012345678901234567890123456789012345678901234567890123456789012345\x22\xf5";
+
+/// A COSE_Sign1 of an empty payload of this beginning, up to the signature, which is zeros.
+fn signed<const N: usize>(front: &[u8; 11]) -> [u8; N]
+    requires { 11 ≤ N }
+{
+    let mut bytes = [0; N];
+    bytes[..11].copy_from_slice(front);
+    bytes
+}
+
+/// The verdict on a message under these keys.
+fn decided(keys: &'static [u8], bytes: &[u8], holds: bool) -> Option<Result<Verdict, Stop>> {
+    let mut verifier: Verifier<16, 1> = Verifier::new(context_of(keys, 64)?);
+    Some(verified(&mut verifier, bytes, holds))
+}
+
+/// A COSE_Sign1 of an empty payload is authentic under these keys where its signature holds.
+fn decides(rt: &impl Abort, keys: &'static [u8], bytes: &[u8], alg: Alg, taken: u64) {
+    let authentic = Verdict::Authentic {
+        kind: Kind::Sign1,
+        alg,
+        payload: 0,
+        taken,
+    };
+    assert_eq!(rt; decided(keys, bytes, true), Some(Ok(authentic)));
+    refuses(rt, keys, bytes, Reason::BadAuth, 9);
+}
+
+/// A message is refused where no signature holds.
+fn refuses(rt: &impl Abort, keys: &'static [u8], bytes: &[u8], reason: Reason, place: u64) {
+    let refused = Verdict::Refused(Refusal { reason, place });
+    assert_eq!(rt; decided(keys, bytes, false), Some(Ok(refused)));
+}
+
+#[test]
+fn decides_on_each_curve(rt: HostRuntime) {
+    let mut by_es384 = signed::<107>(b"\xd2\x84\x44\xa1\x01\x38\x22\xa0\x40\x58\x60");
+    let by_es512 = signed::<143>(b"\xd2\x84\x44\xa1\x01\x38\x23\xa0\x40\x58\x84");
+    decides(&rt, KEY_ON_P_384, &by_es384, Alg::Es384, 107);
+    decides(&rt, KEY_ON_P_521, &by_es512, Alg::Es512, 143);
+    refuses(&rt, CURVE_KEY, &by_es384, Reason::NoKey, 8);
+    refuses(&rt, KEY_ON_P_521, &by_es384, Reason::NoKey, 8);
+    refuses(&rt, KEY_ON_P_384, &by_es512, Reason::NoKey, 8);
+    // A signature of 64 bytes, which ES256 has.
+    by_es384[10] = 0x40;
+    refuses(&rt, KEY_ON_P_384, &by_es384, Reason::BadAuthLength, 9);
+}
+
+#[test]
+fn is_complete_behind_a_signature_that_is_refused(rt: HostRuntime) {
+    let context = context_of(CURVE_KEY, 64).expect(&rt, "a context");
+    let mut verifier: Verifier<16, 1> = Verifier::new(context);
+    let verdict = verified(&mut verifier, SIGN1, false);
+    assert_eq!(rt;
+        (verdict, verifier.status()),
+        (Ok(decision(false)), Status::Complete)
+    );
+}
+
+#[test]
+fn is_refused_behind_verify(rt: HostRuntime) {
+    let rows: [(&[u8], Reason, u64); 3] = [
+        // No key is chosen yet.
+        (b"\xd8\x62\x84", Reason::SeveralParties, 0),
+        (
+            b"\xd1\x84\x43\xa1\x01\x05\xa1\x40\x00\x00",
+            Reason::BadLabel,
+            7,
+        ),
+        (&MAC0[..43], Reason::Truncated, 43),
+    ];
+    for (bytes, reason, place) in rows {
+        let mut verifier = under_jefe::<16, 1>().expect(&rt, "a verifier");
+        let refusal = Refusal { reason, place };
+        let verdict = verified(&mut verifier, bytes, true);
+        assert_eq!(rt;
+            (verdict, verifier.status(), verifier.is_complete()),
+            (
+                Ok(Verdict::Refused(refusal)),
+                Status::Refused(refusal),
+                false
+            )
+        );
+    }
+}
+
+#[test]
+fn completes_what_is_inspected(rt: HostRuntime) {
+    let context = context_of(b"\xa0", 64).expect(&rt, "a context");
+    let mut verifier: Verifier<16, 1> = Verifier::inspecting(context);
+    let fed = verifier.feed(SIGN1);
+    assert_eq!(rt; (fed, verifier.is_inspecting()), (complete(74), true));
+}
+
+#[test]
+fn takes_a_piece_of_any_length(rt: HostRuntime) {
+    let context = context_of(JEFE, 100_000).expect(&rt, "a context");
+    let mut verifier: Verifier<16, 1> = Verifier::new(context);
+    let front = b"\xd1\x84\x43\xa1\x01\x05\xa0\x5a\x00\x01\x86\xa0";
+    feeds(&rt, &mut verifier, front, more(12), 100_000);
+    let payload = [0u8; 100_000];
+    let fed = verifier.feed(&payload);
+    let whole = Fed {
+        used: 100_000,
+        payload_from: 0,
+        payload_to: 100_000,
+        status: Status::More,
+    };
+    assert_eq!(rt; (fed, verifier.held()), (whole, 256 + 3 + 1));
+    feeds(&rt, &mut verifier, b"\x58\x20", more(2), 32);
+}
+
+/// The message is complete at these limits.
+fn completes_at<const H: usize, const D: usize>(rt: &impl Abort)
+    requires some_room { 16 ≤ H }
+    requires limit { H ≤ 65535 }
+    requires nesting { D ≤ 32 }
+{
+    let mut verifier = under_jefe::<H, D>().expect(rt, "a verifier");
+    let message = mac0_and_more();
+    let (front, rest) = message.split_at(9);
+    let status = verifier.feed(front).status;
+    let end = verifier.feed(rest).status;
+    assert_eq!(rt;
+        (status, end, verifier.held()),
+        (Status::More, Status::Complete, 256 + 3 + 1 + 32)
+    );
+}
+
+#[test]
+fn completes_at_the_limits(rt: HostRuntime) {
+    completes_at::<16, 1>(&rt);
+    completes_at::<16, 32>(&rt);
+    completes_at::<65_535, 1>(&rt);
+    completes_at::<65_535, 32>(&rt);
+}

@@ -1,0 +1,51 @@
+//! A store alone: its capacity, a piece that doesn't fit, and what happens after a failure.
+
+use cose_msg::{Sink, SinkFault, Store};
+
+#[test]
+fn holds_what_fits(rt: HostRuntime) {
+    let mut store: Store<4> = Store::new();
+    const ROWS: &[(&[u8], Result<(), SinkFault>, &[u8])] = &[
+        (b"a", Ok(()), b"a"),
+        (b"bcd", Ok(()), b"abcd"),
+        (b"e", Err(SinkFault), b"abcd"),
+        (b"efghi", Err(SinkFault), b"abcd"),
+        (b"e", Err(SinkFault), b"abcd"),
+    ];
+    for &(piece, answer, held) in ROWS {
+        let put = store.put(piece);
+        assert_eq!(rt; (put, store.bytes()), (answer, held), "{piece:?}");
+    }
+}
+
+#[test]
+fn takes_nothing_after_a_failure(rt: HostRuntime) {
+    let mut store: Store<4> = Store::new();
+    assert_eq!(rt; store.bytes(), b"".as_slice());
+    const ROWS: &[(&[u8], Result<(), SinkFault>)] = &[
+        (b"abc", Ok(())),
+        // one byte too many, and nothing of it is kept
+        (b"de", Err(SinkFault)),
+        // these would fit
+        (b"d", Err(SinkFault)),
+        (b"e", Err(SinkFault)),
+    ];
+    for &(piece, answer) in ROWS {
+        let put = store.put(piece);
+        assert_eq!(rt;
+            (put, store.bytes()),
+            (answer, b"abc".as_slice()),
+            "{piece:?}"
+        );
+    }
+}
+
+#[test]
+fn is_full_at_its_capacity(rt: HostRuntime) {
+    let mut store: Store<4> = Store::new();
+    assert!(rt; store.put(b"abcd").is_ok());
+    assert_eq!(rt; store.bytes(), b"abcd".as_slice());
+    let mut small: Store<3> = Store::new();
+    assert!(rt; small.put(b"abcd").is_err());
+    assert_eq!(rt; small.bytes(), b"".as_slice());
+}

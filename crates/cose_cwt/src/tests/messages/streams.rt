@@ -1,0 +1,259 @@
+//! The tests' substitutes for a network, a disk and a verifier of signatures.
+
+ghost use Rattle.std.specs.Prelude.{◌&&◌, not, None, false, if◌then◌else◌};
+ghost use Rattle.std.specs.Str.{bytes_eq};
+
+use cose_msg::{EcVerifier, Intake, IntakeFault, Key, Sink, SinkFault, Store};
+
+/// The bytes of a slice, as many as fit. One of its calls fails, and gives none.
+#[derive(Drop)]
+pub struct FailingIntake<'a> {
+    bytes: &'a [u8],
+    takes: usize,
+    fails_at: usize,
+    failed: bool,
+    ended: bool,
+}
+
+impl<'a> FailingIntake<'a> {
+    /// An intake of these bytes; the call of this number fails, the first being 1.
+    pub fn new(bytes: &'a [u8], fails_at: usize) -> Self {
+        FailingIntake {
+            bytes,
+            takes: 0,
+            fails_at,
+            failed: false,
+            ended: false,
+        }
+    }
+
+    /// The number of its calls.
+    pub fn takes(&self) -> usize {
+        self.takes
+    }
+}
+
+impl Intake for FailingIntake<'_> {
+    ghost to_come = { λ _. None };
+
+    ghost has_failed = { λ intake. intake.failed };
+
+    ghost ended = { λ intake. intake.ended };
+
+    fn take(&mut self, into: &mut [u8]) -> Result<usize, IntakeFault> {
+        self.takes = self.takes.saturating_add(1);
+        if self.takes == self.fails_at {
+            self.failed = true;
+            self.ended = false;
+            return Err(IntakeFault);
+        }
+        let count = self.bytes.len().min(into.len());
+        let (piece, rest) = self.bytes.split_at(count);
+        into[..count].copy_from_slice(piece);
+        self.bytes = rest;
+        self.ended = count == 0;
+        Ok(count)
+    }
+}
+
+/// A store of at most `L` bytes. One of its calls fails, and keeps nothing of its piece.
+#[derive(Drop)]
+pub struct FailingSink<const L: usize> {
+    store: Store<L>,
+    puts: usize,
+    fails_at: usize,
+    failed: bool,
+}
+
+impl<const L: usize> FailingSink<L> {
+    /// An empty sink; the call of this number fails, the first being 1.
+    pub fn new(fails_at: usize) -> Self {
+        FailingSink {
+            store: Store::new(),
+            puts: 0,
+            fails_at,
+            failed: false,
+        }
+    }
+
+    /// The number of its calls.
+    pub fn puts(&self) -> usize {
+        self.puts
+    }
+
+    /// The bytes that it holds.
+    pub fn bytes(&self) -> &[u8] {
+        self.store.bytes()
+    }
+}
+
+impl<const L: usize> Sink for FailingSink<L> {
+    ghost contents = { λ _. None };
+
+    ghost has_failed = { λ sink. sink.failed };
+
+    ghost sure = { λ _. 0 };
+
+    fn put(&mut self, piece: &[u8]) -> Result<(), SinkFault> {
+        self.puts = self.puts.saturating_add(1);
+        if self.puts == self.fails_at || self.store.put(piece).is_err() {
+            self.failed = true;
+            return Err(SinkFault);
+        }
+        Ok(())
+    }
+}
+
+/// The bytes of a slice, as many as each call asks for. It records how many each of the first 64 calls asked for.
+#[derive(Drop)]
+pub struct NotingIntake<'a> {
+    bytes: &'a [u8],
+    asked: [usize; 64],
+    takes: usize,
+    ended: bool,
+}
+
+impl<'a> NotingIntake<'a> {
+    /// An intake of these bytes.
+    pub fn new(bytes: &'a [u8]) -> Self {
+        NotingIntake {
+            bytes,
+            asked: [0; 64],
+            takes: 0,
+            ended: false,
+        }
+    }
+
+    /// How many bytes each of its calls asked for.
+    pub fn asked(&self) -> &[usize] {
+        self.asked.get(..self.takes).unwrap_or(&self.asked)
+    }
+}
+
+impl Intake for NotingIntake<'_> {
+    ghost to_come = { λ _. None };
+
+    ghost has_failed = { λ _. false };
+
+    ghost ended = { λ intake. intake.ended };
+
+    fn take(&mut self, into: &mut [u8]) -> Result<usize, IntakeFault> {
+        if let Some(asked) = self.asked.get_mut(self.takes) {
+            *asked = into.len();
+        }
+        self.takes = self.takes.saturating_add(1);
+        let count = self.bytes.len().min(into.len());
+        let (piece, rest) = self.bytes.split_at(count);
+        into[..count].copy_from_slice(piece);
+        self.bytes = rest;
+        self.ended = count == 0;
+        Ok(count)
+    }
+}
+
+/// Takes every piece, and records the length of the longest.
+#[derive(Drop)]
+pub struct NotingSink {
+    longest: usize,
+}
+
+impl NotingSink {
+    /// A sink that took nothing yet.
+    pub fn new() -> Self {
+        NotingSink { longest: 0 }
+    }
+
+    /// The length of the longest piece.
+    pub fn longest(&self) -> usize {
+        self.longest
+    }
+}
+
+impl Sink for NotingSink {
+    ghost contents = { λ _. None };
+
+    ghost has_failed = { λ _. false };
+
+    ghost sure = { λ _. 0 };
+
+    fn put(&mut self, piece: &[u8]) -> Result<(), SinkFault> {
+        self.longest = self.longest.max(piece.len());
+        Ok(())
+    }
+}
+
+/// A message with a long payload, which is one block of bytes again and again.
+#[derive(Drop)]
+pub struct LongIntake<'a> {
+    part: &'a [u8],
+    block: &'a [u8],
+    blocks: usize,
+    rest: &'a [u8],
+    ended: bool,
+}
+
+impl<'a> LongIntake<'a> {
+    /// The message of these bytes before the payload, the block this many times, and these bytes after the payload.
+    pub fn new(front: &'a [u8], block: &'a [u8], blocks: usize, rest: &'a [u8]) -> Self {
+        LongIntake {
+            part: front,
+            block,
+            blocks,
+            rest,
+            ended: false,
+        }
+    }
+
+    /// What comes after the part that was given whole.
+    fn next_part(&mut self) -> &'a [u8] {
+        if self.blocks > 0 {
+            self.blocks -= 1;
+            return self.block;
+        }
+        let rest = self.rest;
+        self.rest = &[];
+        rest
+    }
+}
+
+impl Intake for LongIntake<'_> {
+    ghost to_come = { λ _. None };
+
+    ghost has_failed = { λ _. false };
+
+    ghost ended = { λ intake. intake.ended };
+
+    fn take(&mut self, into: &mut [u8]) -> Result<usize, IntakeFault> {
+        if self.part.is_empty() {
+            self.part = self.next_part();
+        }
+        let count = self.part.len().min(into.len());
+        let (piece, rest) = self.part.split_at(count);
+        into[..count].copy_from_slice(piece);
+        self.part = rest;
+        self.ended = count == 0;
+        Ok(count)
+    }
+}
+
+/// Knows one digest and one signature. Asked about these it gives a fixed answer, and about all others the contrary.
+#[derive(Clone, Copy)]
+pub struct Asked<'a> {
+    /// The digest.
+    pub digest: &'a [u8],
+    /// The signature.
+    pub signature: &'a [u8],
+    /// The answer about both.
+    pub says: bool,
+}
+
+impl EcVerifier for Asked<'_> {
+    ghost decides = { λ asked _ digest signature. if bytes_eq digest asked.digest.now && bytes_eq signature asked.signature.now then asked.says else not asked.says };
+
+    fn holds(&self, _key: &Key<'_>, digest: &[u8], signature: &[u8]) -> bool {
+        if digest == self.digest && signature == self.signature {
+            return self.says;
+        }
+        !self.says
+    }
+}
