@@ -1,9 +1,7 @@
-//! Messages that are fed in pieces, and the results.
+//! Messages that are fed in pieces of one length, and one with a long payload.
 
 use crate::tests::messages::long::{FRONT, auth_of};
-use crate::tests::messages::{
-    KEY, STRUCTURE, counted, hmac, is, joined, key_set, message, verifier,
-};
+use crate::tests::messages::{counted, is, key_set, verifier};
 use cose_msg::{Fed, KeySet, Sink, Status, Store, Verifier, Wanted};
 use std::process::Abort;
 
@@ -99,57 +97,5 @@ fn completes_a_long_payload_in_short_pieces(rt: HostRuntime) {
     let auth = auth_of(&block);
     for cut in [1, 2] {
         completes_in_pieces(&rt, keys, &block, &auth, cut);
-    }
-}
-
-/// Feeding the next piece gives this result.
-fn takes(rt: &impl Abort, verifier: &mut Verifier<1024, 4>, piece: &[u8], wanted: Fed) {
-    let fed = verifier.feed(piece);
-    is(rt, &piece, fed, wanted);
-}
-
-/// This many bytes of a piece are used, none of them of the payload.
-const fn used(used: usize, status: Status) -> Fed {
-    Fed {
-        used,
-        payload_from: 0,
-        payload_to: 0,
-        status,
-    }
-}
-
-#[test]
-fn takes_pieces_as_they_come(rt: HostRuntime) {
-    let keys = key_set(&rt);
-    let mut verifier = verifier(keys, Wanted::Tagged);
-    let tag = hmac(KEY, STRUCTURE);
-    let last = joined(&rt, &[b"\x20", &tag, b"\xff"]);
-    let complete = Status::Complete;
-    let second = Fed {
-        payload_from: 4,
-        payload_to: 6,
-        ..used(7, Status::More)
-    };
-    takes(
-        &rt,
-        &mut verifier,
-        b"\xd1\x84\x43\xa1",
-        used(4, Status::More),
-    );
-    takes(&rt, &mut verifier, b"\x01\x05\xa0\x42hi\x58", second);
-    takes(&rt, &mut verifier, last.as_slice(), used(33, complete));
-    assert_eq!(rt; verifier.taken(), 44);
-    takes(&rt, &mut verifier, b"\xff", used(0, complete));
-}
-
-#[test]
-fn wants_what_is_left_of_a_string(rt: HostRuntime) {
-    let keys = key_set(&rt);
-    let bytes = message(&rt);
-    const ROWS: &[(usize, u64)] = &[(8, 2), (12, 32)];
-    for &(taken, wanted) in ROWS {
-        let mut verifier = verifier(keys, Wanted::Tagged);
-        let fed = verifier.feed(bytes.get(..taken).unwrap_or(&[]));
-        assert_eq!(rt; (fed.used, verifier.want()), (taken, wanted));
     }
 }

@@ -1,4 +1,4 @@
-//! Pieces of messages that are fed, and the results.
+//! What each call answers while a message is fed: the bytes that are used, the payload's part, the status, how many are wanted.
 
 ghost use Rattle.std.specs.Prelude.{◌≡◌, ◌≤◌, false};
 ghost use Rattle.cose_msg.specs.Kept.{is_inspecting};
