@@ -13,6 +13,7 @@ ghost use Rattle.std.specs.Prelude.{◌≡◌, ◌≤◌, IfSome, length, true};
 use crate::{Audience, Claims, Policy};
 use cose_map::{Reason, Refusal};
 use cose_msg::{Context, KeySet, Wanted};
+use std::fmt::Debug;
 use std::process::Abort;
 
 /// The claims of RFC 8392 appendix A.1. The places of the values of their labels 1 to 7 are 2, 25, 32, 59, 65, 71 and
@@ -81,10 +82,20 @@ fn refusal(reason: Reason, place: u64) -> Refusal {
     Refusal { reason, place }
 }
 
+/// What is seen in a case is what is wanted there.
+fn is<T: PartialEq + Debug + Drop, C: Debug>(rt: &impl Abort, case: &C, seen: T, wanted: T) {
+    assert_eq!(rt; seen, wanted, "{case:?}");
+}
+
+/// What is seen is what is wanted.
+fn equal<T: PartialEq + Debug + Drop>(rt: &impl Abort, seen: T, wanted: T) {
+    assert_eq!(rt; seen, wanted);
+}
+
 /// Checks that the claims of each row are refused, with its reason and its place.
 fn refuses(rt: &impl Abort, rows: &[(&[u8], Reason, u64)]) {
     for &(bytes, reason, place) in rows {
         let want = Some(refusal(reason, place));
-        assert_eq!(rt; Claims::read(bytes, 4).err(), want, "of {bytes:?}");
+        is(rt, &bytes, Claims::read(bytes, 4).err(), want);
     }
 }

@@ -3,23 +3,40 @@
 use super::*;
 use rows::{refused, rows, whole};
 use std::alloc::AllocError;
+use std::fmt::Debug;
 use std::process::Abort;
 use std::test::Fail;
 
 pub(crate) mod rows;
 
+/// What is seen in a case is what is wanted there.
+pub(crate) fn is<T: PartialEq + Debug + Drop, C: Debug>(
+    rt: &impl Abort,
+    case: &C,
+    seen: T,
+    wanted: T,
+) {
+    assert_eq!(rt; seen, wanted, "{case:?}");
+}
+
+/// What is seen is what is wanted.
+pub(crate) fn equal<T: PartialEq + Debug + Drop>(rt: &impl Abort, seen: T, wanted: T) {
+    assert_eq!(rt; seen, wanted);
+}
+
 #[test]
 fn reads_items_within_room_and_nesting(rt: HostRuntime) {
     for (bytes, room, depth, _going, want) in rows() {
-        assert_eq!(rt;
+        is(
+            &rt,
+            &(bytes, room, depth),
             read_item(bytes, room, depth.min(2)),
             want,
-            "of {bytes:?} within {room}, {depth}"
         );
     }
     // A room of 0 has precedence over missing bytes.
-    assert_eq!(rt; read_item(b"", 0, 0), refused(Reason::PastRoom, 0));
-    assert_eq!(rt; read_item(b"", 1, 0), refused(Reason::Truncated, 0));
+    equal(&rt, read_item(b"", 0, 0), refused(Reason::PastRoom, 0));
+    equal(&rt, read_item(b"", 1, 0), refused(Reason::Truncated, 0));
 }
 
 /// What an item is, in the terms of RFC 8949. A tag has its number, and a simple value that isn't a Boolean has its own
@@ -81,21 +98,22 @@ impl Meaning {
 fn expect_meaning(rt: &impl Abort, bytes: &[u8], want: Meaning) {
     let item = ItemRef::read(bytes, 0, 2).expect(rt, "one item");
     let values = (item.as_int(), item.as_bytes(), item.as_text());
-    assert_eq!(rt; values, want.values(), "of {bytes:?}");
+    is(rt, &bytes, values, want.values());
     let tests = [
         item.is_text(),
         item.is_float(),
         item.is_array(),
         item.is_map(),
     ];
-    assert_eq!(rt;
+    is(
+        rt,
+        &bytes,
         (item.as_bool(), tests),
         (want.truth(), want.tests()),
-        "of {bytes:?}"
     );
     if let Some(parts) = want.head() {
         let head = item.head();
-        assert_eq!(rt; (head.major, head.arg), parts, "of {bytes:?}");
+        is(rt, &bytes, (head.major, head.arg), parts);
     }
 }
 
@@ -219,10 +237,11 @@ fn reads_the_examples_of_the_standard(rt: HostRuntime) {
         ),
     ];
     for &(bytes, depth, meaning) in ROWS {
-        assert_eq!(rt;
+        is(
+            &rt,
+            &bytes,
             read_item(bytes, bytes.len(), 2),
             whole(bytes.len(), depth),
-            "of {bytes:?}"
         );
         expect_meaning(&rt, bytes, meaning);
     }
@@ -248,10 +267,11 @@ fn refuses_indefinite_lengths(rt: HostRuntime) {
         (b"\xbf\x63\x46\x75\x6e\xf5\x63\x41\x6d\x74\x21\xff", 0),
     ];
     for &(bytes, place) in ROWS {
-        assert_eq!(rt;
+        is(
+            &rt,
+            &bytes,
             read_item(bytes, bytes.len(), 2),
             refused(Reason::Indefinite, place),
-            "of {bytes:?}"
         );
     }
 }
@@ -269,7 +289,7 @@ fn writes_shortest_heads(rt: HostRuntime) {
         (4294967296, b"\x5b\x00\x00\x00\x01\x00\x00\x00\x00"),
     ];
     for &(length, want) in ROWS {
-        assert_eq!(rt; write_head(2, length).as_slice(), want, "of {length}");
+        is(&rt, &length, write_head(2, length).as_slice(), want);
     }
 }
 
@@ -277,7 +297,7 @@ fn writes_shortest_heads(rt: HostRuntime) {
 fn counts_missing_argument_bytes(rt: HostRuntime) {
     const ROWS: &[(&[u8], usize)] = &[(b"", 1), (b"\x19", 2), (b"\x19\x01", 1)];
     for &(bytes, missing) in ROWS {
-        assert_eq!(rt; parse_head(bytes), HeadStep::More(missing), "of {bytes:?}");
+        is(&rt, &bytes, parse_head(bytes), HeadStep::More(missing));
     }
 }
 
@@ -307,7 +327,7 @@ fn reads_bytes_that_are_one_item(rt: HostRuntime) {
             None => Ok((bytes, at)),
             Some((reason, place)) => Err(Refusal { reason, place }),
         };
-        assert_eq!(rt; read, want, "of {bytes:?}");
+        is(&rt, &bytes, read, want);
     }
 }
 
@@ -324,7 +344,7 @@ fn gives_children_with_their_places(rt: HostRuntime) {
     ];
     for &row in ROWS {
         let child = children.next().expect(&rt, "a child");
-        assert_eq!(rt; (child.place, child.bytes.len(), child.as_int()), row);
+        equal(&rt, (child.place, child.bytes.len(), child.as_int()), row);
     }
     let tag = item_of(&rt, b"\xc1\x80");
     let are_none = [
@@ -333,7 +353,7 @@ fn gives_children_with_their_places(rt: HostRuntime) {
         Items::of(&tag).next().is_none(),
         Items::none().next().is_none(),
     ];
-    assert_eq!(rt; are_none, [true; 4]);
+    equal(&rt, are_none, [true; 4]);
 }
 
 // The item, and of a CBOR tag its number, and the place and the length of what it encloses.
@@ -353,7 +373,7 @@ fn gives_what_a_tag_encloses(rt: HostRuntime) {
             enclosed.place,
             enclosed.bytes.len(),
         ));
-        assert_eq!(rt; found, want, "of {bytes:?}");
+        is(&rt, &bytes, found, want);
     }
 }
 
@@ -361,20 +381,21 @@ fn gives_what_a_tag_encloses(rt: HostRuntime) {
 fn tells_what_an_item_is(rt: HostRuntime) {
     let text = item_of(&rt, b"\x61\x61");
     let other = item_of(&rt, b"\x61\xff");
-    assert_eq!(rt;
+    equal(
+        &rt,
         (text.as_text(), other.as_text(), other.is_text()),
-        (Some("a"), None, true)
+        (Some("a"), None, true),
     );
     let bytes = item_of(&rt, b"\x41\xff").as_bytes();
     let argument = item_of(&rt, b"\xc1\x00").head().arg;
-    assert_eq!(rt; (bytes, argument), (Some(b"\xff".as_slice()), 1));
+    equal(&rt, (bytes, argument), (Some(b"\xff".as_slice()), 1));
     let tests = [
         item_of(&rt, b"\xf9\x3c\x00").is_float(),
         item_of(&rt, b"\xf6").is_float(),
         item_of(&rt, b"\x80").is_array(),
         item_of(&rt, b"\xa0").is_map(),
     ];
-    assert_eq!(rt; tests, [true, false, true, true]);
+    equal(&rt, tests, [true, false, true, true]);
 }
 
 #[test]
@@ -384,7 +405,7 @@ fn writes_a_refusal(rt: HostRuntime) -> Result<(), AllocError> {
         place: 10,
     };
     let text = format!(in rt.alloc(); "{refusal}")?;
-    assert_eq!(rt; text.as_str(), "BadAuth at 10");
+    equal(&rt, text.as_str(), "BadAuth at 10");
     Ok(())
 }
 
@@ -439,7 +460,7 @@ const NUMBERS: &[(u8, &str, Reason)] = &[
 #[test]
 fn numbers_and_names_reasons(rt: HostRuntime) {
     for (number, name, reason) in NUMBERS {
-        assert_eq!(rt; (reason.number(), reason.name()), (*number, *name));
+        equal(&rt, (reason.number(), reason.name()), (*number, *name));
     }
 }
 
@@ -452,18 +473,18 @@ fn does_what_the_example_says(rt: HostRuntime) {
     let value = children.next().expect(&rt, "a value");
     let label = (label.as_int(), label.place);
     let value = (value.as_int(), value.place);
-    assert_eq!(rt; (label, value), ((Some(1), 4), (Some(5), 5)));
+    equal(&rt, (label, value), ((Some(1), 4), (Some(5), 5)));
 
     let trailing = Refusal {
         reason: Reason::Trailing,
         place: 6,
     };
     let refused = ItemRef::read(b"\xa1\x01\x05\x00", 3, 8).err();
-    assert_eq!(rt; refused, Some(trailing));
+    equal(&rt, refused, Some(trailing));
 
     let mut walker: Walker<8> = Walker::new(3);
     let steps = [walker.put(0xa1), walker.put(0x01), walker.put(0x05)];
-    assert_eq!(rt; steps, [Step::Going, Step::Going, Step::Done]);
+    equal(&rt, steps, [Step::Going, Step::Going, Step::Done]);
 }
 
 #[test]
@@ -473,9 +494,10 @@ fn shows_no_bytes_of_items(rt: HostRuntime) -> Result<(), Fail> {
     let mut children = Items::of(&key);
     let label = children.next();
     let shown = format!(in rt.alloc(); "{key:?}, {label:?}, {children:?}")?;
-    assert_eq!(rt;
+    equal(
+        &rt,
         shown.as_str(),
-        "ItemRef { bytes: 6 bytes, place: 7 }, Some(ItemRef { bytes: 1 bytes, place: 8 }), Items { rest: 4 bytes, place: 9, left: 3 }"
+        "ItemRef { bytes: 6 bytes, place: 7 }, Some(ItemRef { bytes: 1 bytes, place: 8 }), Items { rest: 4 bytes, place: 9, left: 3 }",
     );
     Ok(())
 }

@@ -5,12 +5,23 @@ use crate::{Alg, Kind, Running, structure_front};
 use arrayvec::ArrayVec;
 use sha2::Digest;
 use std::convert::AsSlice;
+use std::fmt::Debug;
 use std::process::Abort;
 
 mod comparison;
 mod keys;
 mod rfc_4231;
 mod structures;
+
+/// What is seen in a case is what is wanted there.
+fn is<T: PartialEq + Debug + Drop, C: Debug>(rt: &impl Abort, case: &C, seen: T, wanted: T) {
+    assert_eq!(rt; seen, wanted, "{case:?}");
+}
+
+/// What is seen is what is wanted.
+fn equal<T: PartialEq + Debug + Drop>(rt: &impl Abort, seen: T, wanted: T) {
+    assert_eq!(rt; seen, wanted);
+}
 
 /// The MAC of a message that is fed in pieces of this size.
 fn mac_in_pieces(
@@ -56,15 +67,16 @@ fn computes_the_mac_of_a_structure_in_pieces(rt: HostRuntime) {
     running.update(b"hello ");
     running.update(b"world");
     let mac = running.finish_mac();
-    assert_eq!(rt;
+    equal(
+        &rt,
         mac.as_slice(),
-        b"\x7a\x06\x73\x54\x1f\xac\xc3\xd1".as_slice()
+        b"\x7a\x06\x73\x54\x1f\xac\xc3\xd1".as_slice(),
     );
 }
 
 #[test]
 fn computes_the_digests_of_fips_180_4(rt: HostRuntime) {
-    let table: [(&str, &[u8]); 3] = [
+    const ROWS: &[(&str, &[u8])] = &[
         (
             "",
             b"\xe3\xb0\xc4\x42\x98\xfc\x1c\x14\x9a\xfb\xf4\xc8\x99\x6f\xb9\x24\
@@ -81,18 +93,14 @@ fn computes_the_digests_of_fips_180_4(rt: HostRuntime) {
               \xa3\x3c\xe4\x59\x64\xff\x21\x67\xf6\xec\xed\xd4\x19\xdb\x06\xc1",
         ),
     ];
-    for (message, digest) in table {
+    for &(message, digest) in ROWS {
         for size in 1..58 {
             let mut running = Running::digest(Alg::Es256);
             for piece in message.as_bytes().chunks(size) {
                 running.update(piece);
             }
             assert!(rt; !running.is_mac());
-            assert_eq!(rt;
-                running.finish_digest().as_slice(),
-                digest,
-                "in pieces of {size}"
-            );
+            is(&rt, &size, running.finish_digest().as_slice(), digest);
         }
     }
 }
@@ -100,7 +108,7 @@ fn computes_the_digests_of_fips_180_4(rt: HostRuntime) {
 /// The digest that each algorithm of signatures signs (RFC 9053 section 2.1), of `abc` (FIPS 180-4).
 #[test]
 fn digests_by_the_algorithm(rt: HostRuntime) {
-    let table: [(Alg, &[u8]); 3] = [
+    const ROWS: &[(Alg, &[u8])] = &[
         (
             Alg::Es256,
             b"\xba\x78\x16\xbf\x8f\x01\xcf\xea\x41\x41\x40\xde\x5d\xae\x22\x23\
@@ -120,11 +128,11 @@ fn digests_by_the_algorithm(rt: HostRuntime) {
               \x45\x4d\x44\x23\x64\x3c\xe8\x0e\x2a\x9a\xc9\x4f\xa5\x4c\xa4\x9f",
         ),
     ];
-    for (alg, digest) in table {
+    for &(alg, digest) in ROWS {
         let mut running = Running::digest(alg);
         running.update(b"a");
         running.update(b"bc");
         assert!(rt; !running.is_mac());
-        assert_eq!(rt; running.finish_digest().as_slice(), digest, "for {alg:?}");
+        is(&rt, &alg, running.finish_digest().as_slice(), digest);
     }
 }

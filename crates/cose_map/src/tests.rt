@@ -1,7 +1,24 @@
-//! The example of the crate's documentation.
+//! The example of the crate's documentation, and the helpers of all tests.
 
 use crate::{Bucket, KeySet, KeyTable, Kind, Material, Query, check_pair};
+use std::fmt::Debug;
+use std::process::Abort;
 use std::test::Fail;
+
+/// What is seen in a case is what is wanted there.
+pub(crate) fn is<T: PartialEq + Debug + Drop, C: Debug>(
+    rt: &impl Abort,
+    case: &C,
+    seen: T,
+    wanted: T,
+) {
+    assert_eq!(rt; seen, wanted, "{case:?}");
+}
+
+/// What is seen is what is wanted.
+pub(crate) fn equal<T: PartialEq + Debug + Drop>(rt: &impl Abort, seen: T, wanted: T) {
+    assert_eq!(rt; seen, wanted);
+}
 
 #[test]
 fn finds_the_key_of_a_message(rt: HostRuntime) -> Result<(), Fail> {
@@ -17,14 +34,14 @@ fn finds_the_key_of_a_message(rt: HostRuntime) -> Result<(), Fail> {
         kid: unprotected.kid(),
     };
     let (key, algorithm) = keys.find(&query)?;
-    assert_eq!(rt; algorithm, 5);
+    equal(&rt, algorithm, 5);
     match key.material {
-        Material::Symmetric(secret) => assert_eq!(rt; secret, b"Jefe".as_slice()),
+        Material::Symmetric(secret) => equal(&rt, secret, b"Jefe".as_slice()),
         Material::Ec { .. } => panic!(rt; "a point makes no MAC"),
     }
     let table = KeyTable::<16>::read(b"\xa3\x01\x04\x02\x411\x20\x44Jefe")?;
-    assert_eq!(rt; table.count(), 1);
+    equal(&rt, table.count(), 1);
     let (_key, algorithm) = table.find(&query)?;
-    assert_eq!(rt; algorithm, 5);
+    equal(&rt, algorithm, 5);
     Ok(())
 }

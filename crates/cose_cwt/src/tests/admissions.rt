@@ -1,6 +1,6 @@
 //! The orders, bounds and signs of admission. Each row would have another answer if its rule were another.
 
-use crate::tests::{at, refusal};
+use crate::tests::{at, equal, is, refusal};
 use crate::{Audience, Claims, Policy};
 use cose_map::{Reason, Refusal};
 use std::process::Abort;
@@ -42,7 +42,7 @@ fn judges_in_order(rt: HostRuntime) {
     ];
     for &(now, bytes, reason, place) in ROWS {
         let want = Some(refusal(reason, place));
-        assert_eq!(rt; refused(bytes, &mine(&["b"], now)), want, "of {bytes:?}");
+        is(&rt, &bytes, refused(bytes, &mine(&["b"], now)), want);
     }
 }
 
@@ -54,7 +54,7 @@ fn admits_whenever_issued(rt: HostRuntime) {
         b"\xa1\x06\x20",
     ];
     for &bytes in ROWS {
-        assert_eq!(rt; refused(bytes, &at(0, 0)), None, "of {bytes:?}");
+        is(&rt, &bytes, refused(bytes, &at(0, 0)), None);
     }
 }
 
@@ -63,11 +63,7 @@ fn admits_whenever_issued(rt: HostRuntime) {
 fn judges(rt: &impl Abort, rows: &[(i64, u32, &[u8], Option<Reason>)]) {
     for &(now, leeway, bytes, reason) in rows {
         let want = reason.map(|reason| refusal(reason, 2));
-        assert_eq!(rt;
-            refused(bytes, &at(now, leeway)),
-            want,
-            "of {bytes:?} at {now}"
-        );
+        is(rt, &(bytes, now), refused(bytes, &at(now, leeway)), want);
     }
 }
 
@@ -213,7 +209,7 @@ fn adds_beyond_64_bits(rt: HostRuntime) {
 
 /// Checks that these claims are admitted, or refused with `want`, under a policy that has these text strings.
 fn admits(rt: &impl Abort, texts: &[&str], bytes: &[u8], want: Option<Refusal>) {
-    assert_eq!(rt; refused(bytes, &mine(texts, 0)), want, "of {bytes:?}");
+    is(rt, &bytes, refused(bytes, &mine(texts, 0)), want);
 }
 
 /// A text string of the audience equals one of the policy's in all bytes; the subject isn't an audience.
@@ -238,5 +234,5 @@ fn compares_whole_texts(rt: HostRuntime) {
     let for_the_subject = b"\xa2\x02\x61\x62\x03\x61\x61";
     let at_the_audience = Some(refusal(Reason::WrongAudience, 5));
     admits(&rt, &["b"], for_the_subject, at_the_audience);
-    assert_eq!(rt; refused(a, &at(0, 0)), None);
+    equal(&rt, refused(a, &at(0, 0)), None);
 }

@@ -1,6 +1,6 @@
 //! The example of the crate's documentation.
 
-use crate::tests::{KEY_SET, TOKEN};
+use crate::tests::{KEY_SET, TOKEN, equal};
 use crate::{
     Audience, Context, CwtStop, KeySet, Never, Policy, SliceIntake, Store, Verifier, Wanted,
     verify_cwt,
@@ -32,7 +32,7 @@ fn example(rt: &impl Abort, keys: KeySet<'_>, token: &[u8]) {
         &Never,
         &policy,
     ) {
-        Ok(claims) => assert_eq!(rt; claims.sub(), Some("erikw")),
+        Ok(claims) => equal(rt, claims.sub(), Some("erikw")),
         Err(CwtStop::Stopped(_)) => panic!(rt; "the intake failed"),
         Err(CwtStop::Message(refusal)) => panic!(rt; "the message: {refusal}"),
         Err(CwtStop::Claims(refusal)) => panic!(rt; "the claims: {refusal}"),

@@ -34,7 +34,6 @@ use cose_msg::{
 };
 use sha2::{Digest, Sha256};
 use std::alloc::Global;
-use std::fmt::Debug;
 use std::process::Abort;
 
 /// The key, `Jefe` (RFC 4231 section 4.3).
@@ -147,11 +146,6 @@ fn verified_in_pieces(
 {
     let mut intake = SliceIntake::new(bytes, cut.max(1));
     verify::<128, 1024, 4, _, _, _, _>(verifier, &mut intake, store, &Never)
-}
-
-/// What is seen in a case is what is wanted there.
-fn is<T: PartialEq + Debug + Drop, C: Debug>(rt: &impl Abort, case: &C, seen: T, wanted: T) {
-    assert_eq!(rt; seen, wanted, "{case:?}");
 }
 
 /// Several pieces, one after another.

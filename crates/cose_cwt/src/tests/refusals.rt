@@ -1,7 +1,7 @@
 //! The rules and orders of claims. Each row would have another answer if its rule were another.
 
 use crate::Claims;
-use crate::tests::refuses;
+use crate::tests::{equal, is, refuses};
 use cose_map::Reason;
 use std::test::Fail;
 
@@ -294,19 +294,24 @@ fn ignores_others(rt: HostRuntime) {
         b"\xa1\x08\xa1\x61\x31\x60",
     ];
     for &bytes in ROWS {
-        assert_eq!(rt; Claims::read(bytes, 4).err(), None, "of {bytes:?}");
+        is(&rt, &bytes, Claims::read(bytes, 4).err(), None);
     }
 }
 
 /// Text strings may be empty, also those of an array of audiences.
 #[test]
 fn gives_the_least_values(rt: HostRuntime) -> Result<(), Fail> {
-    assert_eq!(rt; Claims::read(b"\xa1\x01\x60", 4)?.iss(), Some(""));
-    assert_eq!(rt; Claims::read(b"\xa1\x02\x60", 4)?.sub(), Some(""));
-    assert_eq!(rt; Claims::read(b"\xa1\x03\x60", 4)?.auds().next(), Some(""));
-    assert_eq!(rt;
+    equal(&rt, Claims::read(b"\xa1\x01\x60", 4)?.iss(), Some(""));
+    equal(&rt, Claims::read(b"\xa1\x02\x60", 4)?.sub(), Some(""));
+    equal(
+        &rt,
+        Claims::read(b"\xa1\x03\x60", 4)?.auds().next(),
+        Some(""),
+    );
+    equal(
+        &rt,
         Claims::read(b"\xa1\x03\x81\x60", 4)?.auds().next(),
-        Some("")
+        Some(""),
     );
     Ok(())
 }
@@ -329,10 +334,10 @@ fn gives_the_least_dates(rt: HostRuntime) -> Result<(), Fail> {
         (b"\xa1\x06\x20", [None, None, Some(-1)]),
     ];
     for &(bytes, want) in DATES {
-        assert_eq!(rt; dates(bytes), Some(want), "of {bytes:?}");
+        is(&rt, &bytes, dates(bytes), Some(want));
     }
     let identified = Claims::read(b"\xa1\x07\x40", 4)?;
-    assert_eq!(rt; identified.cti(), Some(b"".as_slice()));
+    equal(&rt, identified.cti(), Some(b"".as_slice()));
     Ok(())
 }
 
@@ -340,10 +345,10 @@ fn gives_the_least_dates(rt: HostRuntime) -> Result<(), Fail> {
 #[test]
 fn gives_both_identifiers(rt: HostRuntime) -> Result<(), Fail> {
     let claims = Claims::read(b"\xa2\x07\x41\x01\x08\xa1\x03\x41\x31", 4)?;
-    assert_eq!(rt; claims.cti(), Some(b"\x01".as_slice()));
+    equal(&rt, claims.cti(), Some(b"\x01".as_slice()));
     match claims.cnf() {
         Some(cnf) => {
-            assert_eq!(rt; cnf.kid, Some(b"1".as_slice()));
+            equal(&rt, cnf.kid, Some(b"1".as_slice()));
             assert!(rt; cnf.key.is_none());
         }
         None => panic!(rt; "a confirmation by its identifier"),

@@ -1,6 +1,6 @@
 //! Claims and their admission, without a message around them.
 
-use crate::tests::{CLAIMS, at, refusal, refuses};
+use crate::tests::{CLAIMS, at, equal, is, refusal, refuses};
 use crate::{Audience, Claims, Policy};
 use cose_map::{Material, Reason, Refusal, Y};
 use std::process::Abort;
@@ -66,10 +66,11 @@ fn admits_within_the_dates(rt: HostRuntime) {
         (1_443_944_942, 1, not_yet),
     ];
     for (now, leeway, want) in rows {
-        assert_eq!(rt;
+        is(
+            &rt,
+            &(now, leeway),
             admission(CLAIMS, &at(now, leeway)),
             want,
-            "at {now} with {leeway}"
         );
     }
 }
@@ -79,13 +80,14 @@ fn adds_without_limit(rt: HostRuntime) {
     let latest = b"\xa1\x04\x1b\xff\xff\xff\xff\xff\xff\xff\xff";
     let earliest = b"\xa1\x05\x3b\xff\xff\xff\xff\xff\xff\xff\xff";
     let long_ago = b"\xa1\x04\x3b\xff\xff\xff\xff\xff\xff\xff\xff";
-    assert_eq!(rt;
+    equal(
+        &rt,
         [
             admission(latest, &at(i64::MAX, 0)),
             admission(earliest, &at(i64::MIN, 0)),
-            admission(long_ago, &at(0, u32::MAX))
+            admission(long_ago, &at(0, u32::MAX)),
         ],
-        [Ok(()), Ok(()), Err(refusal(Reason::Expired, 2))]
+        [Ok(()), Ok(()), Err(refusal(Reason::Expired, 2))],
     );
 }
 
@@ -96,7 +98,11 @@ fn admits_two(rt: &impl Abort, mine: &[&str], want: Result<(), Refusal>) {
         leeway: 0,
         audience: Audience::Mine(mine),
     };
-    assert_eq!(rt; admission(b"\xa1\x03\x82\x61\x61\x61\x62", &policy), want);
+    equal(
+        rt,
+        admission(b"\xa1\x03\x82\x61\x61\x61\x62", &policy),
+        want,
+    );
 }
 
 #[test]
@@ -111,9 +117,10 @@ fn admits_its_audience(rt: HostRuntime) {
         leeway: 0,
         audience: Audience::Mine(&["other"]),
     };
-    assert_eq!(rt;
+    equal(
+        &rt,
         (admission(CLAIMS, &mine), admission(b"\xa0", &mine)),
-        (Err(refusal(Reason::WrongAudience, 32)), Ok(()))
+        (Err(refusal(Reason::WrongAudience, 32)), Ok(())),
     );
 }
 
@@ -121,30 +128,32 @@ fn admits_its_audience(rt: HostRuntime) {
 fn gives_what_claims_say(rt: HostRuntime) -> Result<(), Fail> {
     let claims = Claims::read(CLAIMS, 4)?;
     let mut auds = claims.auds();
-    assert_eq!(rt;
+    equal(
+        &rt,
         [claims.iss(), claims.sub(), auds.next(), auds.next()],
         [
             Some("coap://as.example.com"),
             Some("erikw"),
             Some("coap://light.example.com"),
-            None
-        ]
+            None,
+        ],
     );
     let dates = [
         Some(1_444_064_944),
         Some(1_443_944_944),
         Some(1_443_944_944),
     ];
-    assert_eq!(rt; [claims.exp(), claims.nbf(), claims.iat()], dates);
-    assert_eq!(rt; claims.cti(), Some(b"\x0b\x71".as_slice()));
-    assert_eq!(rt;
+    equal(&rt, [claims.exp(), claims.nbf(), claims.iat()], dates);
+    equal(&rt, claims.cti(), Some(b"\x0b\x71".as_slice()));
+    equal(
+        &rt,
         [
             claims.aud_has("coap://light.example.com"),
             claims.aud_has("coap://light.example.co"),
             claims.cnf().is_some(),
-            claims.cnf_set().is_some()
+            claims.cnf_set().is_some(),
         ],
-        [true, false, false, false]
+        [true, false, false, false],
     );
     Ok(())
 }
@@ -154,8 +163,8 @@ fn gives_nothing_of_unknown_claims(rt: HostRuntime) -> Result<(), Fail> {
     let claims = Claims::read(b"\xa1\x18\x64\xf9\x3c\x00", 4)?;
     let texts = [claims.iss(), claims.sub(), claims.auds().next()];
     let dates = [claims.exp(), claims.nbf(), claims.iat()];
-    assert_eq!(rt; (texts, dates), ([None; 3], [None; 3]));
-    assert_eq!(rt; (claims.cti(), claims.cnf().is_some()), (None, false));
+    equal(&rt, (texts, dates), ([None; 3], [None; 3]));
+    equal(&rt, (claims.cti(), claims.cnf().is_some()), (None, false));
     Ok(())
 }
 
@@ -163,9 +172,10 @@ fn gives_nothing_of_unknown_claims(rt: HostRuntime) -> Result<(), Fail> {
 fn gives_the_confirmation(rt: HostRuntime) -> Result<(), Fail> {
     let by_kid = Claims::read(b"\xa1\x08\xa1\x03\x411", 4)?;
     match by_kid.cnf() {
-        Some(cnf) => assert_eq!(rt;
+        Some(cnf) => equal(
+            &rt,
             (cnf.kid, cnf.key.is_some(), by_kid.cnf_set().is_some()),
-            (Some(b"1".as_slice()), false, false)
+            (Some(b"1".as_slice()), false, false),
         ),
         None => panic!(rt; "a confirmation without a key"),
     }
@@ -184,13 +194,14 @@ fn gives_the_confirmed_key(rt: HostRuntime) -> Result<(), Fail> {
                 x,
                 y: Y::Sign(odd),
             },
-        ) => assert_eq!(rt;
+        ) => equal(
+            &rt,
             (crv, x, odd),
-            (1, b"abcdefghijklmnopqrstuvwxyzABCDEF".as_slice(), true)
+            (1, b"abcdefghijklmnopqrstuvwxyzABCDEF".as_slice(), true),
         ),
         _ => panic!(rt; "no point"),
     }
-    assert_eq!(rt; by_key.cnf_set().map(|keys| keys.count()), Some(1));
+    equal(&rt, by_key.cnf_set().map(|keys| keys.count()), Some(1));
     Ok(())
 }
 
@@ -229,7 +240,7 @@ fn gives_points_on_each_curve(rt: HostRuntime) {
         ),
     ];
     for &(bytes, want) in ROWS {
-        assert_eq!(rt; confirmed(bytes), want, "of {bytes:?}");
+        is(&rt, &bytes, confirmed(bytes), want);
     }
 }
 
@@ -241,11 +252,12 @@ fn shows_no_bytes_of_claims(rt: HostRuntime) -> Result<(), Fail> {
         dddddddddddddddddddddddddddddddd";
     let claims = Claims::read(bytes, 4).or(Err("no claims"))?;
     let shown = format!(in rt.alloc(); "{claims:?}")?;
-    assert_eq!(rt;
+    equal(
+        &rt,
         shown.as_str(),
         "Claims { pairs: Pairs { items: Items { rest: 80 bytes, place: 1, left: 2 } }, \
          confirmation: Some(Confirmation { key: Some(ItemRef { bytes: 77 bytes, place: 4 }), kid: None }), \
-         checked: Checked { aud: None, exp: None, nbf: None, cnf: Some(ItemRef { bytes: 79 bytes, place: 2 }) } }"
+         checked: Checked { aud: None, exp: None, nbf: None, cnf: Some(ItemRef { bytes: 79 bytes, place: 2 }) } }",
     );
     Ok(())
 }

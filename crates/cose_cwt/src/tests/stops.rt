@@ -1,6 +1,6 @@
 //! Intakes that fail, verdicts that are kept, and a store that failed before.
 
-use crate::tests::{CLAIMS, KEY_SET, TOKEN, at, context, refusal};
+use crate::tests::{CLAIMS, KEY_SET, TOKEN, at, context, equal, refusal};
 use crate::{CwtStop, verify_cwt};
 use cose_map::Reason;
 use cose_msg::{KeySet, Never, ReadIntake, Sink, SliceIntake, Stop, Store, Verifier};
@@ -44,7 +44,7 @@ fn stops_at(rt: &impl Abort, keys: KeySet<'_>, fails_at: usize) {
         &Never,
         &at(1_444_064_943, 0),
     );
-    assert_eq!(rt; token.err(), Some(CwtStop::Stopped(Stop::Intake)));
+    equal(rt, token.err(), Some(CwtStop::Stopped(Stop::Intake)));
 }
 
 #[test]
@@ -71,7 +71,7 @@ fn forgets_what_the_store_held(rt: HostRuntime) -> Result<(), Fail> {
         &at(1_444_064_943, 0),
     );
     match token {
-        Ok(claims) => assert_eq!(rt; claims.sub(), Some("erikw")),
+        Ok(claims) => equal(&rt, claims.sub(), Some("erikw")),
         Err(stop) => panic!(rt; "{stop:?}"),
     }
     Ok(())
@@ -91,7 +91,7 @@ fn answers_a_kept_refusal_again(rt: HostRuntime) -> Result<(), Fail> {
         &at(1_444_064_943, 0),
     );
     let truncated = Some(CwtStop::Message(refusal(Reason::Truncated, 0)));
-    assert_eq!(rt; token.err(), truncated);
+    equal(&rt, token.err(), truncated);
     let context = verifier.context();
     if verifier.taken() == 0 && context.cwt && context.payload_limit <= 4096 {
         let mut intake = SliceIntake::new(TOKEN, 64);
@@ -102,7 +102,7 @@ fn answers_a_kept_refusal_again(rt: HostRuntime) -> Result<(), Fail> {
             &Never,
             &at(1_444_064_943, 0),
         );
-        assert_eq!(rt; token.err(), truncated);
+        equal(&rt, token.err(), truncated);
     } else {
         panic!(rt; "the verifier may not be asked again");
     }
@@ -114,7 +114,7 @@ fn may_hold_a_refused_payload(rt: HostRuntime) -> Result<(), Fail> {
     let keys = KeySet::read(KEY_SET)?;
     let mut verifier: Verifier<64, 4> = Verifier::new(context(keys));
     let (front, tag) = TOKEN.split_at(91);
-    assert_eq!(rt; tag.len(), 32);
+    equal(&rt, tag.len(), 32);
     let mut changed = [0; 123];
     changed[..91].copy_from_slice(front);
     let mut intake = SliceIntake::new(&changed, 64);
@@ -126,11 +126,12 @@ fn may_hold_a_refused_payload(rt: HostRuntime) -> Result<(), Fail> {
         &Never,
         &at(1_444_064_943, 0),
     );
-    assert_eq!(rt;
+    equal(
+        &rt,
         token.err(),
-        Some(CwtStop::Message(refusal(Reason::BadAuth, 89)))
+        Some(CwtStop::Message(refusal(Reason::BadAuth, 89))),
     );
-    assert_eq!(rt; store.bytes(), CLAIMS);
+    equal(&rt, store.bytes(), CLAIMS);
     store.clear();
     assert!(rt; store.bytes().is_empty());
     Ok(())

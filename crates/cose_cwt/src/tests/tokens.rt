@@ -2,7 +2,7 @@
 
 ghost use Rattle.std.specs.Prelude.{false};
 
-use crate::tests::{CONFIRMING, KEY_SET, TOKEN, at, context, refusal};
+use crate::tests::{CONFIRMING, KEY_SET, TOKEN, at, context, equal, is, refusal};
 use crate::{Audience, CwtStop, Policy, verify_cwt};
 use cose_map::Reason;
 use cose_msg::{
@@ -51,10 +51,11 @@ fn expiry(key_set: &[u8], token: &[u8], policy: &Policy<'_>) -> Result<Option<i1
 /// Checks that a token that is cut after `count` bytes is truncated there.
 fn is_truncated(rt: &impl Abort, front: &[u8], count: usize) {
     let truncated = refusal(Reason::Truncated, count as u64);
-    assert_eq!(rt;
+    is(
+        rt,
+        &count,
         expiry(KEY_SET, front, &at(1_444_064_943, 0)),
         Err(CwtStop::Message(truncated)),
-        "{count} bytes"
     );
 }
 
@@ -80,13 +81,14 @@ fn admits_a_token_within_its_dates(rt: HostRuntime) {
     ];
     for (now, leeway, want) in rows {
         let policy = at(now, leeway);
-        assert_eq!(rt;
+        is(
+            &rt,
+            &(now, leeway),
             (
                 expiry(KEY_SET, TOKEN, &policy),
-                expiry(RFC_KEY, RFC_TOKEN, &policy)
+                expiry(RFC_KEY, RFC_TOKEN, &policy),
             ),
             (want, want),
-            "at {now} with {leeway}"
         );
     }
     let other = Policy {
@@ -95,7 +97,7 @@ fn admits_a_token_within_its_dates(rt: HostRuntime) {
         audience: Audience::Mine(&["other"]),
     };
     let wrong = Err(CwtStop::Claims(refusal(Reason::WrongAudience, 32)));
-    assert_eq!(rt; expiry(KEY_SET, TOKEN, &other), wrong);
+    equal(&rt, expiry(KEY_SET, TOKEN, &other), wrong);
 }
 
 #[test]
@@ -104,7 +106,11 @@ fn admits_a_token_under_its_tag(rt: HostRuntime) {
     tagged[..2].copy_from_slice(b"\xd8\x3d");
     tagged[2..].copy_from_slice(TOKEN);
     let expires = Ok(Some(1_444_064_944));
-    assert_eq!(rt; expiry(KEY_SET, &tagged, &at(1_444_064_943, 0)), expires);
+    equal(
+        &rt,
+        expiry(KEY_SET, &tagged, &at(1_444_064_943, 0)),
+        expires,
+    );
 }
 
 #[test]
@@ -113,11 +119,19 @@ fn hands_out_no_claims_of_a_refused_message(rt: HostRuntime) {
     forged.copy_from_slice(TOKEN);
     forged[122] ^= 1;
     let bad_auth = Err(CwtStop::Message(refusal(Reason::BadAuth, 89)));
-    assert_eq!(rt; expiry(KEY_SET, &forged, &at(1_444_064_943, 0)), bad_auth);
+    equal(
+        &rt,
+        expiry(KEY_SET, &forged, &at(1_444_064_943, 0)),
+        bad_auth,
+    );
     // Also where the claims would be refused.
-    assert_eq!(rt; expiry(KEY_SET, &forged, &at(1_444_064_944, 0)), bad_auth);
+    equal(
+        &rt,
+        expiry(KEY_SET, &forged, &at(1_444_064_944, 0)),
+        bad_auth,
+    );
     let no_key = Err(CwtStop::Message(refusal(Reason::NoKey, 7)));
-    assert_eq!(rt; expiry(b"\xa0", TOKEN, &at(1_444_064_943, 0)), no_key);
+    equal(&rt, expiry(b"\xa0", TOKEN, &at(1_444_064_943, 0)), no_key);
 }
 
 #[test]
@@ -158,7 +172,7 @@ fn verifies_signed(rt: &impl Abort, keys: KeySet<'_>) {
         payload: 0,
         taken: 74,
     };
-    assert_eq!(rt; verdict, Ok(authentic));
+    equal(rt, verdict, Ok(authentic));
 }
 
 #[test]

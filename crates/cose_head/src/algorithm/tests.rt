@@ -2,33 +2,77 @@
 
 use super::{Alg, Hash, KeyType};
 use crate::kind::Kind;
+use crate::tests::is;
+
+/// Each algorithm with its number, kind, type of key and hash, and the length of its tag or signature.
+const ROWS: &[(i128, Alg, Kind, KeyType, Hash, usize)] = &[
+    (
+        4,
+        Alg::Hmac64,
+        Kind::Mac0,
+        KeyType::Symmetric,
+        Hash::Sha256,
+        8,
+    ),
+    (
+        5,
+        Alg::Hmac256,
+        Kind::Mac0,
+        KeyType::Symmetric,
+        Hash::Sha256,
+        32,
+    ),
+    (
+        6,
+        Alg::Hmac384,
+        Kind::Mac0,
+        KeyType::Symmetric,
+        Hash::Sha384,
+        48,
+    ),
+    (
+        7,
+        Alg::Hmac512,
+        Kind::Mac0,
+        KeyType::Symmetric,
+        Hash::Sha512,
+        64,
+    ),
+    (
+        -7,
+        Alg::Es256,
+        Kind::Sign1,
+        KeyType::Elliptic(1),
+        Hash::Sha256,
+        64,
+    ),
+    (
+        -35,
+        Alg::Es384,
+        Kind::Sign1,
+        KeyType::Elliptic(2),
+        Hash::Sha384,
+        96,
+    ),
+    (
+        -36,
+        Alg::Es512,
+        Kind::Sign1,
+        KeyType::Elliptic(3),
+        Hash::Sha512,
+        132,
+    ),
+];
 
 #[test]
 fn has_the_table_of_the_standard(rt: HostRuntime) {
-    let symmetric = KeyType::Symmetric;
-    let p_256 = KeyType::Elliptic(1);
-    let p_384 = KeyType::Elliptic(2);
-    let p_521 = KeyType::Elliptic(3);
-    let table = [
-        (4, Alg::Hmac64, Kind::Mac0, symmetric, Hash::Sha256, 8),
-        (5, Alg::Hmac256, Kind::Mac0, symmetric, Hash::Sha256, 32),
-        (6, Alg::Hmac384, Kind::Mac0, symmetric, Hash::Sha384, 48),
-        (7, Alg::Hmac512, Kind::Mac0, symmetric, Hash::Sha512, 64),
-        (-7, Alg::Es256, Kind::Sign1, p_256, Hash::Sha256, 64),
-        (-35, Alg::Es384, Kind::Sign1, p_384, Hash::Sha384, 96),
-        (-36, Alg::Es512, Kind::Sign1, p_521, Hash::Sha512, 132),
-    ];
-    for (number, alg, kind, key_type, hash, length) in table {
-        assert_eq!(rt;
-            (Alg::from_number(number), alg.number(), alg.kind()),
-            (Some(alg), number, kind),
-            "at {number}"
-        );
-        assert_eq!(rt;
-            (alg.is_mac(), alg.key_type(), alg.hash(), alg.auth_length()),
-            (kind == Kind::Mac0, key_type, hash, length),
-            "of {alg:?}"
-        );
+    for &(number, alg, kind, key_type, hash, length) in ROWS {
+        let known = (Alg::from_number(number), alg.number());
+        is(&rt, &number, known, (Some(alg), number));
+        let seen = (alg.kind(), alg.is_mac());
+        is(&rt, &alg, seen, (kind, kind == Kind::Mac0));
+        let seen = (alg.key_type(), alg.hash(), alg.auth_length());
+        is(&rt, &alg, seen, (key_type, hash, length));
     }
 }
 
@@ -40,10 +84,11 @@ fn knows_no_other_number(rt: HostRuntime) {
         let is_ecdsa = matches!(magnitude, 7 | 35 | 36);
         let positive = Alg::from_number(number).is_some();
         let negative = Alg::from_number(-number).is_some();
-        assert_eq!(rt;
+        is(
+            &rt,
+            &(number, number),
             (positive, negative),
             (is_hmac, is_ecdsa),
-            "at {number} and -{number}"
         );
     }
     for number in [
@@ -54,6 +99,6 @@ fn knows_no_other_number(rt: HostRuntime) {
         (1 << 64) + 5,
         i128::MAX,
     ] {
-        assert_eq!(rt; Alg::from_number(number), None, "at {number}");
+        is(&rt, &number, Alg::from_number(number), None);
     }
 }

@@ -3,6 +3,7 @@ ghost use Rattle.std.specs.Prelude.{◌≤◌, length};
 use super::*;
 use crate::item::Span;
 use crate::tests::rows::rows;
+use crate::tests::{equal, is};
 
 /// Puts the bytes, and counts those after which the answer is `Going`.
 fn count_going<const D: usize>(walker: &mut Walker<D>, bytes: &[u8]) -> usize {
@@ -73,11 +74,7 @@ fn answers_as_reading(rt: HostRuntime) {
             1 => walked(&mut parent, bytes),
             _ => walked(&mut nested, bytes),
         };
-        assert_eq!(rt;
-            (after, step),
-            (going, step_of(answer)),
-            "{bytes:?} in {room}"
-        );
+        is(&rt, &(bytes, room), (after, step), (going, step_of(answer)));
     }
 }
 
@@ -92,18 +89,14 @@ fn passes_strings_as_reading(rt: HostRuntime) {
             1 => passed(&mut parent, bytes),
             _ => passed(&mut nested, bytes),
         };
-        assert_eq!(rt; step, step_of(answer), "{bytes:?} in {room}");
+        is(&rt, &(bytes, room), step, step_of(answer));
     }
 }
 
 /// After these bytes were put, how many of a piece are taken, what then is the answer, and how many bytes are wanted and items open.
 #[test]
 fn passes_bytes_of_the_open_string(rt: HostRuntime) {
-    let past_room = Step::Fault(Refusal {
-        reason: Reason::PastRoom,
-        place: 4,
-    });
-    let table: [(&[u8], usize, &[u8], usize, Step, usize, usize); 9] = [
+    const ROWS: &[(&[u8], usize, &[u8], usize, Step, usize, usize)] = &[
         // Nothing is open, or a head alone.
         (b"", 5, b"\x01\x02", 0, Step::Going, 1, 0),
         (b"\x81", 5, b"\x01\x02", 0, Step::Going, 1, 1),
@@ -114,18 +107,30 @@ fn passes_bytes_of_the_open_string(rt: HostRuntime) {
         (b"\x43\x01", 5, b"\x02\x03", 2, Step::Done, 0, 0),
         (b"\x82\x62", 5, b"ab\x00", 2, Step::Going, 1, 1),
         // The room ends with the string, and a child is still wanted.
-        (b"\x82\x62", 4, b"ab\x00", 2, past_room, 0, 0),
+        (
+            b"\x82\x62",
+            4,
+            b"ab\x00",
+            2,
+            Step::Fault(Refusal {
+                reason: Reason::PastRoom,
+                place: 4,
+            }),
+            0,
+            0,
+        ),
         // It is complete already.
         (b"\x00", 5, b"\x01", 0, Step::Done, 0, 0),
     ];
-    for (put, room, piece, used, step, want, open_items) in table {
+    for &(put, room, piece, used, step, want, open_items) in ROWS {
         let mut walker: Walker<1> = Walker::new(room);
         let _going = count_going(&mut walker, put);
         let taken = walker.pass(piece);
-        assert_eq!(rt;
+        is(
+            &rt,
+            &(piece, put),
             (taken, walker.step(), walker.want(), walker.open_items()),
             (used, step, want, open_items),
-            "{piece:?} after {put:?}"
         );
     }
 }
@@ -134,11 +139,12 @@ fn passes_bytes_of_the_open_string(rt: HostRuntime) {
 fn tells_what_is_open(rt: HostRuntime) {
     let mut walker: Walker<2> = Walker::new(3);
     let going = count_going(&mut walker, b"\x81\x81");
-    assert_eq!(rt; (going, walker.open_items(), walker.want()), (2, 2, 1));
+    equal(&rt, (going, walker.open_items(), walker.want()), (2, 2, 1));
     let step = walker.put(0x00);
-    assert_eq!(rt;
+    equal(
+        &rt,
         (step, walker.open_items(), walker.want()),
-        (Step::Done, 0, 0)
+        (Step::Done, 0, 0),
     );
 }
 
@@ -147,5 +153,5 @@ fn wants_the_rest_of_a_string(rt: HostRuntime) {
     let mut walker: Walker<1> = Walker::new(5);
     let before = walker.want();
     let going = count_going(&mut walker, b"\x44\x01");
-    assert_eq!(rt; (before, going, walker.want()), (1, 2, 3));
+    equal(&rt, (before, going, walker.want()), (1, 2, 3));
 }

@@ -1,5 +1,6 @@
 //! Slices that are the same, and slices that differ in one bit or in their length.
 
+use super::is;
 use crate::same_bytes;
 
 const COMPUTED: [u8; 64] = [0x5a; 64];
@@ -13,14 +14,11 @@ fn sees_a_bit_that_differs_anywhere(rt: HostRuntime) {
         for bit in BITS {
             let mut received = COMPUTED;
             received[place] ^= bit;
-            assert!(rt;
-                !same_bytes(&received, &COMPUTED),
-                "bit {bit} of byte {place}"
-            );
-            assert!(rt;
-                !same_bytes(&COMPUTED, &received),
-                "bit {bit} of byte {place}"
-            );
+            let same = [
+                same_bytes(&received, &COMPUTED),
+                same_bytes(&COMPUTED, &received),
+            ];
+            is(&rt, &(bit, place), same, [false, false]);
         }
     }
 }
@@ -39,7 +37,7 @@ fn sees_that_nothing_differs(rt: HostRuntime) {
         (&[0x5a; 64], &COMPUTED),
     ];
     for &(received, computed) in ROWS {
-        assert!(rt; same_bytes(received, computed), "{received:?}");
+        is(&rt, &received, same_bytes(received, computed), true);
     }
 }
 
@@ -52,7 +50,7 @@ fn sees_that_lengths_differ(rt: HostRuntime) {
         (b"\x00\x00", b"\x00\x00\x00"),
     ];
     for &(shorter, longer) in ROWS {
-        assert!(rt; !same_bytes(shorter, longer), "{shorter:?} and {longer:?}");
-        assert!(rt; !same_bytes(longer, shorter), "{longer:?} and {shorter:?}");
+        let same = [same_bytes(shorter, longer), same_bytes(longer, shorter)];
+        is(&rt, &(shorter, longer), same, [false, false]);
     }
 }

@@ -1,7 +1,7 @@
 //! Keys about as long as a block: to one that is a byte shorter a zero is appended, one of a block is unchanged, and
 //! one that is a byte longer is hashed (RFC 2104 section 2).
 
-use super::{hmac_of_block, mac_in_pieces};
+use super::{hmac_of_block, is, mac_in_pieces};
 use crate::Alg;
 use sha2::{Digest, Sha256, Sha384, Sha512};
 use std::convert::AsSlice;
@@ -18,10 +18,11 @@ where
     for payload in PAYLOADS {
         let computed = mac_in_pieces(rt, alg, key, payload, 64);
         let expected = hmac_of_block::<D>(block, payload);
-        assert_eq!(rt;
+        is(
+            rt,
+            &(alg, payload),
             computed.as_slice(),
             expected.as_slice(),
-            "{alg:?} of {payload:?}"
         );
     }
 }
@@ -79,7 +80,7 @@ fn hashes_a_key_longer_than_a_block(rt: HostRuntime) {
     for payload in PAYLOADS {
         let expected = mac_in_pieces(&rt, Alg::Hmac256, &hashed, payload, 64);
         let computed = mac_in_pieces(&rt, Alg::Hmac256, &long, payload, 64);
-        assert_eq!(rt; computed.as_slice(), expected.as_slice(), "of {payload:?}");
+        is(&rt, &payload, computed.as_slice(), expected.as_slice());
         let cut = mac_in_pieces(&rt, Alg::Hmac256, &long[..64], payload, 64);
         assert_ne!(rt; cut.as_slice(), expected.as_slice(), "of {payload:?}");
     }

@@ -4,6 +4,7 @@ ghost use Rattle.std.specs.Prelude.{◌+◌, ◌<◌, ◌^◌, length};
 
 use super::*;
 use crate::bucket::both::check_pair;
+use crate::tests::{equal, is};
 use cose_head::Reason;
 use std::process::Abort;
 
@@ -14,7 +15,7 @@ fn refusal(reason: Reason, place: u64) -> Refusal {
 /// Bytes from this place on are refused as a bucket.
 fn expect_refusal(rt: &impl Abort, bytes: &[u8], at: u8, want: Refusal) {
     let refused = Bucket::read(bytes, u64::from(at), 4).err();
-    assert_eq!(rt; refused, Some(want), "of {bytes:?}");
+    is(rt, &bytes, refused, Some(want));
 }
 
 #[test]
@@ -109,7 +110,7 @@ fn refuses_in_order(rt: HostRuntime) {
 
 #[test]
 fn reads_buckets(rt: HostRuntime) {
-    const ROWS: &[(&[u8], usize)] = &[
+    const ROWS: &[(&[u8], u8)] = &[
         (b"", 0),
         (b"\xa0", 0),
         // The forms of the six parameters.
@@ -138,10 +139,12 @@ fn reads_buckets(rt: HostRuntime) {
     ];
     for &(bytes, count) in ROWS {
         let mut pairs = bucket(&rt, bytes, 0).pairs();
-        for _pair in 0..count {
-            assert!(rt; pairs.next().is_some(), "too few pairs of {bytes:?}");
-        }
-        assert!(rt; pairs.next().is_none(), "too many pairs of {bytes:?}");
+        let pairs = [
+            pairs.next().is_some(),
+            pairs.next().is_some(),
+            pairs.next().is_some(),
+        ];
+        is(&rt, &bytes, pairs, [0 < count, 1 < count, 2 < count]);
     }
 }
 
@@ -157,74 +160,74 @@ fn bucket<'a>(rt: &impl Abort, bytes: &'a [u8], at: u64) -> Bucket<'a>
 #[test]
 fn reads_again_what_has_no_fault(rt: HostRuntime) {
     let bytes = b"\xa2\x01\x05\x04\x411".as_slice();
-    assert_eq!(rt; Bucket::fault(bytes, 3, 4), None);
+    equal(&rt, Bucket::fault(bytes, 3, 4), None);
     match Bucket::again(bytes, 3, 4) {
         Ok(again) => {
-            assert_eq!(rt; again.alg(), Some(Label::Int(5)));
-            assert_eq!(rt; again.kid(), Some(b"1".as_slice()));
+            let seen = (again.alg(), again.kid());
+            equal(&rt, seen, (Some(Label::Int(5)), Some(b"1".as_slice())));
         }
         Err(refusal) => panic!(rt; "{refusal:?}"),
     }
     // alg is a byte string.
     let fault = refusal(Reason::BadValue, 5);
-    assert_eq!(rt; Bucket::fault(b"\xa1\x01\x40", 3, 4), Some(fault));
+    equal(&rt, Bucket::fault(b"\xa1\x01\x40", 3, 4), Some(fault));
 }
 
+/// A bucket of four pairs: alg 5, the text string `1`, a kid of one byte, and crit with one label.
+const FOUR_PAIRS: &[u8] = b"\xa4\x01\x05\x61\x31\x00\x04\x41\x07\x02\x81\x01";
+
+// Each pair's label, its place, and the bytes of the value.
 #[test]
 fn gives_every_pair(rt: HostRuntime) {
-    let mut pairs = bucket(&rt, b"\xa2\x01\x05\x61\x31\x00", 0).pairs();
-    let names = [Label::Int(1), Label::Text("1")];
-    for wanted in names {
-        match pairs.next() {
-            Some((name, _, _)) => assert!(rt; name == wanted, "{name:?} for {wanted:?}"),
-            None => assert!(rt; false, "no pair {wanted:?}"),
-        }
+    const PAIRS: &[(Label, u64, &[u8])] = &[
+        (Label::Int(1), 4, b"\x05"),
+        (Label::Text("1"), 6, b"\x00"),
+        (Label::Int(4), 9, b"\x41\x07"),
+        (Label::Int(2), 12, b"\x81\x01"),
+    ];
+    let mut pairs = bucket(&rt, FOUR_PAIRS, 3).pairs();
+    for pair in PAIRS {
+        let next = pairs.next();
+        let seen = next.map(|(name, label, value)| (name, label.place, value.bytes));
+        is(&rt, pair, seen, Some(*pair));
     }
-    assert!(rt; pairs.next().is_none(), "a third pair");
+    is(&rt, &"a fifth pair", pairs.next().is_some(), false);
 }
 
 #[test]
 fn gives_what_a_bucket_says(rt: HostRuntime) {
-    let read = bucket(&rt, b"\xa4\x01\x05\x61\x31\x00\x04\x41\x07\x02\x81\x01", 3);
-    let mut pairs = read.pairs();
-    match pairs.next() {
-        Some((name, label, value)) => {
-            assert!(rt; name == Label::Int(1));
-            assert_eq!(rt; label.place, 4);
-            assert_eq!(rt; value.as_int(), Some(5));
-        }
-        None => assert!(rt; false, "no first pair"),
+    let read = bucket(&rt, FOUR_PAIRS, 3);
+    is(&rt, &"alg", read.alg(), Some(Label::Int(5)));
+    is(&rt, &"kid", read.kid(), Some(b"\x07".as_slice()));
+    let value = read.get(&Label::Int(1)).and_then(|value| value.as_int());
+    is(&rt, &"the value of 1", value, Some(5));
+    let has = [
+        read.has(&Label::Text("1")),
+        read.has(&Label::Int(4)),
+        read.has(&Label::Int(7)),
+    ];
+    is(&rt, &"the text string 1, 4 and 7", has, [true, true, false]);
+    let element = read.crit().and_then(|mut elements| elements.next());
+    is(&rt, &"crit", element.map(|element| element.place), Some(14));
+}
+
+#[test]
+fn tells_an_empty_bucket(rt: HostRuntime) {
+    const ROWS: &[(&[u8], bool)] = &[(b"", true), (b"\xa0", true), (FOUR_PAIRS, false)];
+    for &(bytes, is_empty) in ROWS {
+        is(&rt, &bytes, bucket(&rt, bytes, 3).is_empty(), is_empty);
     }
-    match pairs.next() {
-        Some((name, label, value)) => {
-            assert!(rt; name == Label::Text("1"));
-            assert_eq!(rt; label.place, 6);
-            assert_eq!(rt; value.bytes, b"\x00".as_slice());
-        }
-        None => assert!(rt; false, "no second pair"),
-    }
-    assert!(rt; read.alg() == Some(Label::Int(5)));
-    assert_eq!(rt; read.kid(), Some(b"\x07".as_slice()));
-    assert!(rt; read.has(&Label::Text("1")));
-    assert!(rt; read.get(&Label::Int(7)).is_none());
-    match read.crit() {
-        Some(mut elements) => match elements.next() {
-            Some(element) => assert_eq!(rt; element.place, 14),
-            None => assert!(rt; false, "crit has no element"),
-        },
-        None => assert!(rt; false, "no crit"),
-    }
-    assert!(rt; !read.is_empty());
-    assert!(rt; bucket(&rt, b"", 3).is_empty());
-    assert!(rt; bucket(&rt, b"\xa0", 3).is_empty());
 }
 
 #[test]
 fn gives_a_text_for_alg(rt: HostRuntime) {
     let read = bucket(&rt, b"\xa1\x01\x61\x35", 0);
-    assert!(rt; read.alg() == Some(Label::Text("5")));
-    assert!(rt; read.kid().is_none());
-    assert!(rt; read.crit().is_none());
+    let others = (read.kid(), read.crit().is_some());
+    equal(
+        &rt,
+        (read.alg(), others),
+        (Some(Label::Text("5")), (None, false)),
+    );
 }
 
 /// A protected bucket from place 3 on and an unprotected one from the place `at` on have this fault together, where what
@@ -232,10 +235,11 @@ fn gives_a_text_for_alg(rt: HostRuntime) {
 fn expect_fault(rt: &impl Abort, first: &[u8], second: &[u8], at: u8, after: u64, want: Refusal) {
     let protected = bucket(rt, first, 3);
     let unprotected = bucket(rt, second, u64::from(at));
-    assert_eq!(rt;
+    is(
+        rt,
+        &(first, second),
         check_pair(&protected, &unprotected, &[], after),
         Err(want),
-        "of {first:?} and {second:?}"
     );
 }
 
@@ -440,10 +444,11 @@ fn finds_no_fault_of_both(rt: HostRuntime) {
     for &(first, second) in ROWS {
         let protected = bucket(&rt, first, 3);
         let unprotected = bucket(&rt, second, 40);
-        assert_eq!(rt;
+        is(
+            &rt,
+            &(first, second),
             check_pair(&protected, &unprotected, &[], 80),
             Ok(()),
-            "of {first:?} and {second:?}"
         );
     }
 }
@@ -454,13 +459,19 @@ fn knows_what_the_caller_understands(rt: HostRuntime) {
     let text = bucket(&rt, b"\xa2\x61\x31\x00\x02\x81\x61\x31", 3);
     let unprotected = bucket(&rt, b"\xa0", 13);
     let understood = [Label::Int(1), Label::Int(42)];
-    assert_eq!(rt; check_pair(&number, &unprotected, &understood, 14), Ok(()));
-    assert_eq!(rt;
-        check_pair(&text, &unprotected, &understood, 14),
-        Err(refusal(Reason::CritUnknown, 9))
+    equal(
+        &rt,
+        check_pair(&number, &unprotected, &understood, 14),
+        Ok(()),
     );
-    assert_eq!(rt;
+    equal(
+        &rt,
+        check_pair(&text, &unprotected, &understood, 14),
+        Err(refusal(Reason::CritUnknown, 9)),
+    );
+    equal(
+        &rt,
         check_pair(&text, &unprotected, &[Label::Text("1")], 14),
-        Ok(())
+        Ok(()),
     );
 }

@@ -4,6 +4,7 @@ ghost use Rattle.std.specs.Prelude.{◌≤◌};
 
 use super::*;
 use crate::key::material::Y;
+use crate::tests::{equal, is};
 use cose_head::Reason;
 use std::alloc::Global;
 use std::process::Abort;
@@ -11,7 +12,7 @@ use std::test::Fail;
 
 /// Bytes from place 7 on are refused as a key.
 fn expect_refusal(rt: &impl Abort, bytes: &[u8], want: Refusal) {
-    assert_eq!(rt; Key::read(bytes, 7).err(), Some(want), "of {bytes:?}");
+    is(rt, &bytes, Key::read(bytes, 7).err(), Some(want));
 }
 
 #[test]
@@ -179,7 +180,7 @@ fn reads_keys(rt: HostRuntime) {
             01234567890123456789012345678901\x22\xf5\x23\x41\x00\x24\x00",
     ];
     for &bytes in ROWS {
-        assert!(rt; Key::read(bytes, 7).is_ok(), "{bytes:?} is refused");
+        is(&rt, &bytes, Key::read(bytes, 7).err(), None);
     }
 }
 
@@ -211,7 +212,7 @@ fn reads_points_on_each_curve(rt: HostRuntime) {
         ];
         // P-256, P-384, P-521, and a curve that isn't known.
         let want = [length == 32, length == 48, length == 66, false];
-        assert_eq!(rt; are_read, want, "{length} bytes");
+        is(&rt, &length, are_read, want);
     }
 }
 
@@ -231,15 +232,20 @@ fn sign_of(material: Material) -> Option<bool> {
 fn reads_what_a_key_says(rt: HostRuntime) {
     let secret = b"\xa4\x01\x04\x02\x411\x04\x82\x0a\x61\xff\x20\x41a";
     let key = Key::read(secret, 0);
+    equal(&rt, key.ok().and_then(|key| key.kid), Some(b"1".as_slice()));
+    // 10 is listed, and 9 isn't.
     let ops = key.ok().and_then(|key| key.ops);
-    assert_eq!(rt; key.ok().and_then(|key| key.kid), Some(b"1".as_slice()));
-    assert!(rt; ops.is_some_and(|ops| ops.holds(10)), "10 is listed");
-    assert!(rt; !ops.is_some_and(|ops| ops.holds(9)), "9 isn't listed");
+    let holds = (ops.map(|ops| ops.holds(10)), ops.map(|ops| ops.holds(9)));
+    equal(&rt, holds, (Some(true), Some(false)));
 
     let point = b"\xa4\x01\x02\x20\x01\x21\x58\x20\
         01234567890123456789012345678901\x22\xf5";
     let key = Key::read(point, 0);
-    assert_eq!(rt; key.ok().and_then(|key| sign_of(key.material)), Some(true));
+    equal(
+        &rt,
+        key.ok().and_then(|key| sign_of(key.material)),
+        Some(true),
+    );
 }
 
 /// What `Debug` prints of a key.
@@ -256,9 +262,10 @@ fn shows_no_bytes_of_keys(rt: HostRuntime) -> Result<(), Fail> {
         rt.alloc(),
         b"\xa4\x01\x04\x02\x411\x04\x82\x0a\x61\xff\x20\x44Jefe",
     )?;
-    assert_eq!(rt;
+    equal(
+        &rt,
         secret.as_str(),
-        "Key { kid: Some([49]), alg: None, ops: Some(2 operations), material: Symmetric(4 bytes) }"
+        "Key { kid: Some([49]), alg: None, ops: Some(2 operations), material: Symmetric(4 bytes) }",
     );
     let point = shown(
         rt.alloc(),
@@ -266,9 +273,10 @@ fn shows_no_bytes_of_keys(rt: HostRuntime) -> Result<(), Fail> {
         01234567890123456789012345678901\x22\x58\x20\
         01234567890123456789012345678901",
     )?;
-    assert_eq!(rt;
+    equal(
+        &rt,
         point.as_str(),
-        "Key { kid: None, alg: None, ops: None, material: Ec { crv: 1, x: 32 bytes, y: Bytes(32 bytes) } }"
+        "Key { kid: None, alg: None, ops: None, material: Ec { crv: 1, x: 32 bytes, y: Bytes(32 bytes) } }",
     );
     Ok(())
 }

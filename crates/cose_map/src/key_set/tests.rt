@@ -5,6 +5,7 @@ ghost use Rattle.std.specs.Prelude.{◌≤◌, length};
 use super::*;
 use crate::key::material::Material;
 use crate::label::Label;
+use crate::tests::{equal, is};
 use cose_head::Kind;
 use std::test::Fail;
 
@@ -46,7 +47,7 @@ fn reads_key_sets(rt: HostRuntime) {
         (b"\xa1\x01\x04", Ok(0)),
     ];
     for &(bytes, want) in ROWS {
-        assert_eq!(rt; counted(bytes), want, "of {bytes:?}");
+        is(&rt, &bytes, counted(bytes), want);
     }
 }
 
@@ -73,7 +74,7 @@ fn refuses_key_sets(rt: HostRuntime) {
         (b"\xc1\xa2\x01\x04\x20\x41a", refusal(Reason::BadKeySet, 0)),
     ];
     for (bytes, want) in rows {
-        assert_eq!(rt; counted(bytes), want, "of {bytes:?}");
+        is(&rt, &bytes, counted(bytes), want);
     }
 }
 
@@ -99,9 +100,10 @@ fn reads_at_most_65535_bytes(rt: HostRuntime) {
     let zeros = counted(&more);
     begin_set(&mut more, [0xff, 0xf9]);
     let too_many = refusal(Reason::BadKeySet, 0);
-    assert_eq!(rt;
+    equal(
+        &rt,
         (counted(&most), zeros, counted(&more)),
-        (Ok(1), too_many, too_many)
+        (Ok(1), too_many, too_many),
     );
 }
 
@@ -159,10 +161,11 @@ fn finds_by_the_algorithm(rt: HostRuntime) {
     for (protected, unprotected, plain, for_five) in rows {
         let by_plain = found(PLAIN, protected, unprotected, None);
         let by_five = found(FOR_FIVE, protected, unprotected, None);
-        assert_eq!(rt;
+        is(
+            &rt,
+            &(protected, unprotected),
             (by_plain, by_five),
             (plain, for_five),
-            "for {protected:?} and {unprotected:?}"
         );
     }
 }
@@ -190,10 +193,11 @@ fn finds_the_one_key_that_fits(rt: HostRuntime) {
         (PLAIN, Ok((b"Jefe", 5))),
     ];
     for &(bytes, want) in ROWS {
-        assert_eq!(rt;
+        is(
+            &rt,
+            &bytes,
             found(bytes, Some(Label::Int(5)), None, Some(b"1")),
             want,
-            "of {bytes:?}"
         );
     }
 }
@@ -202,6 +206,6 @@ fn finds_the_one_key_that_fits(rt: HostRuntime) {
 fn shows_no_bytes_of_keys(rt: HostRuntime) -> Result<(), Fail> {
     let set = KeySet::read(PLAIN);
     let shown = format!(in rt.alloc(); "{set:?}")?;
-    assert_eq!(rt; shown.as_str(), "Ok(KeySet(9 bytes))");
+    equal(&rt, shown.as_str(), "Ok(KeySet(9 bytes))");
     Ok(())
 }

@@ -5,6 +5,7 @@ ghost use Rattle.std.specs.Prelude.{◌≤◌};
 use super::*;
 use crate::key::material::Material;
 use crate::label::Label;
+use crate::tests::{equal, is};
 use cose_head::Kind;
 use std::alloc::{AllocError, Global};
 use std::test::Fail;
@@ -47,6 +48,11 @@ fn refusal<'k>(reason: Reason, place: u64) -> Result<(usize, Found<'k>), Refusal
     Err(Refusal { reason, place })
 }
 
+/// So many keys, more than one of which fits.
+fn ambiguous<'k>(count: usize) -> Result<(usize, Found<'k>), Refusal> {
+    Ok((count, Err(Reason::AmbiguousKey)))
+}
+
 #[test]
 fn finds_as_the_set_does(rt: HostRuntime) -> Result<(), Fail> {
     const ROWS: &[(&[u8], Found)] = &[
@@ -69,15 +75,11 @@ fn finds_as_the_set_does(rt: HostRuntime) -> Result<(), Fail> {
     ];
     for &(bytes, want) in ROWS {
         let set = KeySet::read(bytes)?;
-        assert_eq!(rt; found(&set), want, "in the set {bytes:?}");
+        is(&rt, &bytes, found(&set), want);
         let table = KeyTable::<2>::read(bytes)?;
-        assert_eq!(rt; found(&table), want, "in a table of {bytes:?}");
-        assert_eq!(rt;
-            found(&&table),
-            want,
-            "by a reference to a table of {bytes:?}"
-        );
-        assert_eq!(rt; table.count(), set.count(), "of {bytes:?}");
+        is(&rt, &bytes, found(&table), want);
+        is(&rt, &bytes, found(&&table), want);
+        is(&rt, &bytes, table.count(), set.count());
     }
     Ok(())
 }
@@ -95,7 +97,7 @@ fn set_of(alloc: Global, head: &[u8], count: usize, rest: &[u8]) -> Result<Vec<u
 
 #[test]
 fn has_room_for_sixteen_usable_keys(rt: HostRuntime) -> Result<(), Fail> {
-    let several = Ok((16, Err(Reason::AmbiguousKey)));
+    let several = ambiguous(16);
     let rows: [(&[u8], usize, &[u8], Result<(usize, Found), Refusal>); 6] = [
         (b"\x90", 16, b"", several),
         (b"\x91", 17, b"", refusal(Reason::BadKeySet, 0)),
@@ -107,11 +109,7 @@ fn has_room_for_sixteen_usable_keys(rt: HostRuntime) -> Result<(), Fail> {
     ];
     for (head, count, rest, want) in rows {
         let set = set_of(rt.alloc(), head, count, rest)?;
-        assert_eq!(rt;
-            found_in::<16>(set.as_slice()),
-            want,
-            "of {count} keys behind {head:?}"
-        );
+        is(&rt, &(count, head), found_in::<16>(set.as_slice()), want);
     }
     Ok(())
 }
@@ -119,14 +117,16 @@ fn has_room_for_sixteen_usable_keys(rt: HostRuntime) -> Result<(), Fail> {
 #[test]
 fn has_room_for_one_usable_key(rt: HostRuntime) -> Result<(), Fail> {
     let one = set_of(rt.alloc(), b"\x82", 1, UNUSABLE)?;
-    assert_eq!(rt;
+    equal(
+        &rt,
         found_in::<1>(one.as_slice()),
-        Ok((1, Ok((b"a".as_slice(), 5))))
+        Ok((1, Ok((b"a".as_slice(), 5)))),
     );
     let two = set_of(rt.alloc(), b"\x82", 2, b"")?;
-    assert_eq!(rt;
+    equal(
+        &rt,
         found_in::<1>(two.as_slice()),
-        refusal(Reason::BadKeySet, 0)
+        refusal(Reason::BadKeySet, 0),
     );
     Ok(())
 }
@@ -134,14 +134,12 @@ fn has_room_for_one_usable_key(rt: HostRuntime) -> Result<(), Fail> {
 #[test]
 fn has_room_for_256_usable_keys(rt: HostRuntime) -> Result<(), Fail> {
     let most = set_of(rt.alloc(), b"\x99\x01\x00", 256, b"")?;
-    assert_eq!(rt;
-        found_in::<256>(most.as_slice()),
-        Ok((256, Err(Reason::AmbiguousKey)))
-    );
+    equal(&rt, found_in::<256>(most.as_slice()), ambiguous(256));
     let more = set_of(rt.alloc(), b"\x99\x01\x01", 257, b"")?;
-    assert_eq!(rt;
+    equal(
+        &rt,
         found_in::<256>(more.as_slice()),
-        refusal(Reason::BadKeySet, 0)
+        refusal(Reason::BadKeySet, 0),
     );
     Ok(())
 }
@@ -150,6 +148,6 @@ fn has_room_for_256_usable_keys(rt: HostRuntime) -> Result<(), Fail> {
 fn shows_no_bytes_of_keys(rt: HostRuntime) -> Result<(), Fail> {
     let table = KeyTable::<2>::read(SECRET)?;
     let shown = format!(in rt.alloc(); "{table:?}")?;
-    assert_eq!(rt; shown.as_str(), "KeyTable { keys: 1 }");
+    equal(&rt, shown.as_str(), "KeyTable { keys: 1 }");
     Ok(())
 }

@@ -2,8 +2,9 @@
 
 ghost use Rattle.std.specs.Prelude.{◌≤◌};
 
+use crate::tests::is;
 use crate::tests::messages::streams::{NotingIntake, NotingSink};
-use crate::tests::messages::{authentic, is, key_set, message, verifier};
+use crate::tests::messages::{authentic, key_set, message, verifier};
 use cose_msg::{KeySet, Never, Status, Wanted, verify};
 use std::process::Abort;
 

@@ -7,6 +7,7 @@ use crate::tests::messages::samples::{
     CURVE_KEY, FailingReader, MAC0, Says, WatchedIntake, WatchedSink, context_of,
     detached_under_jefe, nil_mac0,
 };
+use crate::tests::{equal, is};
 use cose_msg::{
     Alg, Fed, Intake, Kind, Never, Nothing, ReadIntake, Reason, Refusal, SliceIntake, Status, Stop,
     Store, Verdict, Verifier, verify_detached,
@@ -95,10 +96,11 @@ fn has_the_verdict_of_both_in_pieces_of_every_size(rt: HostRuntime) {
             let mut verifier = detached_under_jefe(length, limit).expect(&rt, "a verifier");
             let mut store = Store::<2>::new();
             let result = verdict_of(&mut verifier, message, payload, cut, &mut store);
-            assert_eq!(rt;
+            is(
+                &rt,
+                &cut,
                 (result, verifier.taken(), store.bytes()),
                 (Ok(verdict), taken, came),
-                "pieces of {cut}"
             );
         }
     }
@@ -121,7 +123,7 @@ fn is_truncated_where_either_intake_ends(rt: HostRuntime) {
             let place = if came < 2 { count.min(7) } else { count };
             let kept = verdict_of(&mut verifier, &message, b"hi", 64, &mut store);
             let truncated = Ok(refused(Reason::Truncated, place as u64));
-            assert_eq!(rt; (end, kept), (truncated, truncated));
+            equal(&rt, (end, kept), (truncated, truncated));
         }
     }
 }
@@ -153,12 +155,13 @@ fn stops_at(rt: &impl Abort, message_fails_at: usize, payload_fails_at: usize) -
     verifier.reset();
     let mut all = Store::<2>::new();
     let verdict = verdict_of(&mut verifier, &bytes, b"hi", 64, &mut all);
-    assert_eq!(rt;
+    equal(
+        rt,
         ([stop, again, verdict], stopped),
         (
             [Err(Stop::Intake), Err(Stop::Again), Ok(AUTHENTIC)],
-            (Status::Stopped, 0)
-        )
+            (Status::Stopped, 0),
+        ),
     );
     took
 }
@@ -167,10 +170,10 @@ fn stops_at(rt: &impl Abort, message_fails_at: usize, payload_fails_at: usize) -
 fn stops_at_each_failing_take_of_either_intake(rt: HostRuntime) {
     for count in 0..42usize {
         let came = if count < 8 { 0 } else { 2 };
-        assert_eq!(rt; stops_at(&rt, count + 1, 0), (count as u64, came));
+        equal(&rt, stops_at(&rt, count + 1, 0), (count as u64, came));
     }
     for count in 0..2usize {
-        assert_eq!(rt; stops_at(&rt, 0, count + 1), (8, count));
+        equal(&rt, stops_at(&rt, 0, count + 1), (8, count));
     }
 }
 
@@ -179,9 +182,10 @@ fn stops_where_the_sink_fails(rt: HostRuntime) {
     let mut verifier = detached_under_jefe(2, 2).expect(&rt, "a verifier");
     let mut store = Store::<1>::new();
     let stop = verdict_of(&mut verifier, &nil_mac0(), b"hi", 1, &mut store);
-    assert_eq!(rt;
+    equal(
+        &rt,
         (stop, store.bytes(), verifier.taken()),
-        (Err(Stop::Sink), b"h".as_slice(), 8)
+        (Err(Stop::Sink), b"h".as_slice(), 8),
     );
 }
 
@@ -203,9 +207,10 @@ fn takes_and_puts_no_more_than_a_chunk(rt: HostRuntime) {
     let asked = (payload.most, payload.takes);
     let moved = (message.most, sink.most, sink.sum);
     let left = payload.take(&mut [0; 10]);
-    assert_eq!(rt;
+    equal(
+        &rt,
         (verdict, asked, moved, left),
-        (Ok(AUTHENTIC), (2, 1), (7, 2, 2), Ok(10))
+        (Ok(AUTHENTIC), (2, 1), (7, 2, 2), Ok(10)),
     );
 }
 
@@ -241,9 +246,10 @@ fn asks_no_intake_again_once_all_is_there(rt: HostRuntime) {
     let truncated = Ok(refused(Reason::Truncated, 7));
     // Five heads and a string, and the end, once. Of the payload nothing before the nil.
     // Of the message nothing after the nil.
-    assert_eq!(rt;
+    equal(
+        &rt,
         (short_message, short_payload),
-        ((truncated, 6, 0), (truncated, 6, 2))
+        ((truncated, 6, 0), (truncated, 6, 2)),
     );
 }
 
@@ -264,9 +270,10 @@ fn goes_on_with_what_was_fed(rt: HostRuntime) {
     }
     let mut store = Store::<2>::new();
     let verdict = verdict_of(&mut verifier, &bytes[8..], b"i", 64, &mut store);
-    assert_eq!(rt;
+    equal(
+        &rt,
         (fed, taken, verdict, store.bytes(), verifier.status()),
-        (at_nil, 1, Ok(AUTHENTIC), b"i".as_slice(), Status::Complete)
+        (at_nil, 1, Ok(AUTHENTIC), b"i".as_slice(), Status::Complete),
     );
 }
 
@@ -297,7 +304,7 @@ fn asks_about_a_signature_after_the_payload(rt: HostRuntime) {
         } else {
             refused(Reason::BadAuth, 8)
         };
-        assert_eq!(rt; verdict, Ok(expected));
+        equal(&rt, verdict, Ok(expected));
     }
 }
 
@@ -339,5 +346,9 @@ fn verifies_a_message_of_another_implementation(rt: HostRuntime) {
         payload: 1024,
         taken: 62,
     };
-    assert_eq!(rt; (verdict, store.bytes()), (Ok(authentic), image.as_slice()));
+    equal(
+        &rt,
+        (verdict, store.bytes()),
+        (Ok(authentic), image.as_slice()),
+    );
 }

@@ -3,6 +3,7 @@
 ghost use Rattle.std.specs.Prelude.{◌<◌, ◌≤◌, length};
 
 use crate::tests::messages::samples::{MAC0, detached_under_jefe, nil_mac0};
+use crate::tests::{equal, is};
 use cose_msg::{Fed, Reason, Refusal, Status, Verifier};
 
 /// Feeds the message and the payload in pieces of one size, as far as they are used, and reports their end. Returns the
@@ -51,9 +52,10 @@ fn awaits_the_payload_at_the_nil(rt: HostRuntime) {
     let first = verifier.feed(&message);
     let wanted = (verifier.payload_wanted(), verifier.want());
     let again = verifier.feed(&message[8..]);
-    assert_eq!(rt;
+    equal(
+        &rt,
         (before, first, wanted, again),
-        ((true, 0), at_nil, (2, 0), Fed { used: 0, ..at_nil })
+        ((true, 0), at_nil, (2, 0), Fed { used: 0, ..at_nil }),
     );
 }
 
@@ -65,15 +67,16 @@ fn takes_as_many_bytes_as_are_stated(rt: HostRuntime) {
     let pieces: [(&[u8], usize, u64); 3] = [(b"", 0, 2), (b"h", 1, 1), (b"i!", 1, 0)];
     for (piece, used, left) in pieces {
         if verifier.payload_wanted() > 0 {
-            assert_eq!(rt; verifier.feed_payload(piece), used);
+            equal(&rt, verifier.feed_payload(piece), used);
         }
-        assert_eq!(rt; verifier.payload_wanted(), left);
+        equal(&rt, verifier.payload_wanted(), left);
     }
     let before = (verifier.status(), verifier.want());
     let fed = verifier.feed(&message[8..]);
-    assert_eq!(rt;
+    equal(
+        &rt,
         (before, fed.used, fed.payload_to, fed.status),
-        ((Status::More, 1), 34, 0, Status::Complete)
+        ((Status::More, 1), 34, 0, Status::Complete),
     );
 }
 
@@ -123,11 +126,7 @@ fn has_the_same_status_in_pieces_of_every_size(rt: HostRuntime) {
         for size in [1usize, 2, 7, 64] {
             let mut verifier = detached_under_jefe(length, limit).expect(&rt, "a verifier");
             let end = fed(&mut verifier, message, payload, size);
-            assert_eq!(rt;
-                (end, verifier.taken()),
-                (status, taken),
-                "pieces of {size}"
-            );
+            is(&rt, &size, (end, verifier.taken()), (status, taken));
         }
     }
 }
@@ -142,6 +141,6 @@ fn is_truncated_where_either_ends(rt: HostRuntime) {
         let early = fed(&mut verifier, &message[..count], b"h", 64);
         let at_message = refused(Reason::Truncated, count as u64);
         let at_either = refused(Reason::Truncated, count.min(7) as u64);
-        assert_eq!(rt; (end, early), (at_message, at_either));
+        equal(&rt, (end, early), (at_message, at_either));
     }
 }

@@ -1,7 +1,8 @@
 //! Messages that are fed in pieces of one length, and one with a long payload.
 
+use crate::tests::is;
 use crate::tests::messages::long::{FRONT, auth_of};
-use crate::tests::messages::{counted, is, key_set, verifier};
+use crate::tests::messages::{counted, key_set, verifier};
 use cose_msg::{Fed, KeySet, Sink, Status, Store, Verifier, Wanted};
 use std::process::Abort;
 

@@ -4,6 +4,7 @@ ghost use Rattle.std.specs.Prelude.{◌≡◌, false, true};
 ghost use Rattle.cose_msg.specs.Kept.{is_inspecting};
 ghost use Rattle.cose_msg.specs.Verifier.{is_detached};
 
+use crate::tests::equal;
 use crate::tests::messages::samples::{CURVE_KEY, MAC0, SIGN1, context_of, under_jefe};
 use cose_msg::{
     Inspected, Kind, Label, Never, Nothing, Reason, Refusal, SliceIntake, Stop, Verdict, Verifier,
@@ -44,12 +45,13 @@ fn inspects_a_shape(rt: HostRuntime) {
     let state = (verifier.is_inspecting(), verifier.sign_input().is_none());
     let kept = (verifier.held(), verifier.open_items());
     let again = inspected(&mut verifier, &mut intake);
-    assert_eq!(rt;
+    equal(
+        &rt,
         (shape, state, kept, again),
-        (Ok(wanted), (true, true), (256 + 3 + 1, 0), Ok(wanted))
+        (Ok(wanted), (true, true), (256 + 3 + 1, 0), Ok(wanted)),
     );
     verifier.reset();
-    assert_eq!(rt; verifier.held(), 256);
+    equal(&rt, verifier.held(), 256);
 }
 
 #[test]
@@ -65,7 +67,7 @@ fn refuses_a_tag_that_is_too_long(rt: HostRuntime) {
         reason: Reason::BadAuthLength,
         place: 10,
     });
-    assert_eq!(rt; (refused, verifier.taken()), (Ok(wanted), 15));
+    equal(&rt, (refused, verifier.taken()), (Ok(wanted), 15));
 }
 
 #[test]
@@ -78,7 +80,7 @@ fn refuses_to_inspect_a_payload_over_its_limit(rt: HostRuntime) {
         reason: Reason::PayloadTooLong,
         place: 7,
     });
-    assert_eq!(rt; (refused, verifier.taken()), (Ok(wanted), 8));
+    equal(&rt, (refused, verifier.taken()), (Ok(wanted), 8));
 }
 
 #[test]
@@ -92,15 +94,16 @@ fn shows_the_buckets_after_a_refusal(rt: HostRuntime) {
         place: 10,
     });
     let shown = verifier.unprotected().is_some();
-    assert_eq!(rt; (verdict, shown), (Ok(refused), true));
+    equal(&rt, (verdict, shown), (Ok(refused), true));
     let Some(protected) = verifier.protected() else {
         assert!(rt; false);
         return;
     };
     let alg = protected.alg();
-    assert_eq!(rt;
+    equal(
+        &rt,
         (alg, verifier.held()),
-        (Some(Label::Int(5)), 256 + 3 + 1 + 32)
+        (Some(Label::Int(5)), 256 + 3 + 1 + 32),
     );
 }
 
@@ -116,7 +119,7 @@ fn shows_no_bucket_that_was_refused(rt: HostRuntime) {
         verifier.protected().is_some(),
         verifier.unprotected().is_some(),
     );
-    assert_eq!(rt; (verdict, shown), (Ok(refused), (true, false)));
+    equal(&rt, (verdict, shown), (Ok(refused), (true, false)));
 }
 
 #[test]
@@ -129,9 +132,10 @@ fn counts_open_items(rt: HostRuntime) {
     });
     let open = verifier.open_items();
     verifier.reset();
-    assert_eq!(rt;
+    equal(
+        &rt,
         (verdict, open, verifier.open_items()),
-        (Ok(truncated), 3, 0)
+        (Ok(truncated), 3, 0),
     );
 }
 
@@ -144,10 +148,10 @@ fn hands_out_what_a_signature_is_verified_with(rt: HostRuntime) {
         reason: Reason::BadAuth,
         place: 8,
     });
-    assert_eq!(rt; verdict, Ok(refused));
+    equal(&rt, verdict, Ok(refused));
     let Some((_, digest, signature)) = verifier.sign_input() else {
         assert!(rt; false);
         return;
     };
-    assert_eq!(rt; (digest.len(), signature), (32, &SIGN1[10..]));
+    equal(&rt, (digest.len(), signature), (32, &SIGN1[10..]));
 }

@@ -1,6 +1,6 @@
 //! The intake of a reader, alone: one read in each call, failures, the end.
 
-use crate::tests::messages::is;
+use crate::tests::is;
 use crate::tests::messages::samples::FailingReader;
 use cose_msg::{Intake, IntakeFault, ReadIntake};
 use std::process::Abort;

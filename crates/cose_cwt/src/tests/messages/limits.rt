@@ -2,6 +2,7 @@
 
 ghost use Rattle.std.specs.Prelude.{◌≤◌};
 
+use crate::tests::equal;
 use crate::tests::messages::samples::{
     AUTHENTIC, MAC0, WatchedIntake, WatchedSink, mac0_with_kid, under_jefe,
 };
@@ -27,9 +28,10 @@ fn verifies_at<const C: usize, const H: usize, const D: usize>(rt: &impl Abort)
     );
     // It asks for what is left of a string, as far as a chunk holds it.
     let most = (C.min(32), C.min(2));
-    assert_eq!(rt;
+    equal(
+        rt,
         (verdict, sink.bytes(), sink.sum, (intake.most, sink.most)),
-        (Ok(AUTHENTIC), b"hi".as_slice(), 2, most)
+        (Ok(AUTHENTIC), b"hi".as_slice(), 2, most),
     );
 }
 
@@ -59,5 +61,5 @@ fn takes_a_string_of_the_unprotected_header_at_once(rt: HostRuntime) {
         taken: 51,
     };
     // The heads have nine bytes, and four strings have the others.
-    assert_eq!(rt; (verdict, intake.takes), (Ok(authentic), 9 + 4));
+    equal(&rt, (verdict, intake.takes), (Ok(authentic), 9 + 4));
 }

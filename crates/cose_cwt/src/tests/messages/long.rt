@@ -1,5 +1,6 @@
 //! A message with a payload that no store holds.
 
+use crate::tests::equal;
 use crate::tests::messages::streams::LongIntake;
 use crate::tests::messages::{KEY, counted, key_set, padded, sealed, verifier};
 use cose_msg::{Alg, Kind, Never, Nothing, Verdict, Wanted, verify};
@@ -44,8 +45,9 @@ fn authenticates_a_long_payload(rt: HostRuntime) {
         payload: 10_000_000,
         taken: 10_000_046,
     };
-    assert_eq!(rt;
+    equal(
+        &rt,
         (verdict, verifier.taken(), verifier.held() <= 2_560),
-        (Ok(authentic), 10_000_046, true)
+        (Ok(authentic), 10_000_046, true),
     );
 }

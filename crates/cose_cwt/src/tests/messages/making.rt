@@ -2,6 +2,7 @@
 
 ghost use Rattle.std.specs.Prelude.{◌≤◌, None};
 
+use crate::tests::equal;
 use crate::tests::messages::samples::{
     CURVE_KEY, FailingReader, JEFE, MAC0, WatchedIntake, WatchedSink,
 };
@@ -73,9 +74,10 @@ fn makes_in_pieces<const C: usize>(
         &mut sink,
     );
     let left = intake.take(&mut [7, 7]);
-    assert_eq!(rt;
+    equal(
+        rt,
         (count, sink.bytes(), left),
-        (Ok(message.len() as u64), message, Ok(1))
+        (Ok(message.len() as u64), message, Ok(1)),
     );
 }
 
@@ -137,9 +139,10 @@ fn refuses_with(
         &mut sink,
     );
     let left = intake.take(&mut [7, 7]);
-    assert_eq!(rt;
+    equal(
+        rt,
         (answer, sink.bytes(), left),
-        (Err(fault), b"".as_slice(), Ok(2))
+        (Err(fault), b"".as_slice(), Ok(2)),
     );
 }
 
@@ -194,8 +197,8 @@ fn limits_external_data(rt: HostRuntime) {
         2,
         &mut sink,
     );
-    assert_eq!(rt; answer, Ok(44));
-    assert_eq!(rt; &sink.bytes()[..12], &MAC0[..12]);
+    equal(&rt, answer, Ok(44));
+    equal(&rt, sink.bytes().get(..12), MAC0.get(..12));
 }
 
 /// The message of 200 letters `h` by HMAC 256/64.
@@ -226,9 +229,10 @@ fn takes_chunks<const C: usize>(rt: &impl Abort)
         &mut sink,
     );
     // Nine bytes before the payload's content, and the tag with its head after it.
-    assert_eq!(rt;
+    equal(
+        rt,
         (answer, intake.most, sink.sum, sink.bytes()),
-        (Ok(9 + 200 + 9), C.min(200), 218, long_message().as_slice())
+        (Ok(9 + 200 + 9), C.min(200), 218, long_message().as_slice()),
     );
     assert!(rt; sink.most <= C.min(200).max(8));
 }
@@ -255,9 +259,10 @@ fn says_that_the_payload_is_short(rt: HostRuntime) {
         2,
         &mut sink,
     );
-    assert_eq!(rt;
+    equal(
+        &rt,
         (answer, sink.bytes()),
-        (Err(MakeFault::ShortPayload), &MAC0[..9])
+        (Err(MakeFault::ShortPayload), &MAC0[..9]),
     );
 }
 
@@ -275,9 +280,10 @@ fn says_that_the_intake_failed(rt: HostRuntime) {
         2,
         &mut sink,
     );
-    assert_eq!(rt;
+    equal(
+        &rt,
         (answer, sink.bytes()),
-        (Err(MakeFault::Intake), &MAC0[..9])
+        (Err(MakeFault::Intake), &MAC0[..9]),
     );
 }
 
@@ -326,9 +332,10 @@ fn leaves_a_front_where_the_sink_fails(rt: HostRuntime) {
             2,
             &mut sink,
         );
-        assert_eq!(rt;
+        equal(
+            &rt,
             (answer, sink.held.as_slice()),
-            (Err(MakeFault::Sink), &MAC0[..limit])
+            (Err(MakeFault::Sink), &MAC0[..limit]),
         );
     }
 }

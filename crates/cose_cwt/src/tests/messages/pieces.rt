@@ -8,6 +8,7 @@ use crate::tests::messages::samples::{
     AUTHENTIC, CURVE_KEY, FailingReader, JEFE, MAC0, SIGN1, Says, context_of, mac0_and_more,
     mac0_with_kid, under_jefe,
 };
+use crate::tests::{equal, is};
 use cose_msg::{
     Alg, Fed, Kind, Never, Nothing, ReadIntake, Reason, Refusal, Sink, SliceIntake, Status, Stop,
     Store, Verdict, Verifier, verify,
@@ -65,10 +66,10 @@ fn takes_pieces_as_they_come(rt: HostRuntime) {
     ];
     for (piece, wanted) in rows {
         let fed = verifier.feed(piece);
-        assert_eq!(rt; fed, wanted);
+        equal(&rt, fed, wanted);
     }
     let taken = (verifier.taken(), verifier.is_complete());
-    assert_eq!(rt; (taken, verifier.end()), ((44, true), Status::Complete));
+    equal(&rt, (taken, verifier.end()), ((44, true), Status::Complete));
 }
 
 #[test]
@@ -90,13 +91,13 @@ fn wants_what_is_left_of_a_string(rt: HostRuntime) {
     for &(taken, wanted) in ROWS {
         let mut verifier = under_jefe::<16, 1>().expect(&rt, "a verifier");
         let fed = verifier.feed(&MAC0[..taken.min(WHOLE)]);
-        assert_eq!(rt; (fed.used, verifier.want()), (taken, wanted));
+        equal(&rt, (fed.used, verifier.want()), (taken, wanted));
     }
 }
 
 /// The verifier answers this for the piece, and then wants so many bytes.
 fn feeds(rt: &impl Abort, verifier: &mut Verifier<16, 1>, piece: &[u8], fed: Fed, want: u64) {
-    assert_eq!(rt; (verifier.feed(piece), verifier.want()), (fed, want));
+    equal(rt, (verifier.feed(piece), verifier.want()), (fed, want));
 }
 
 #[test]
@@ -111,7 +112,7 @@ fn wants_what_is_left_of_an_unprotected_string(rt: HostRuntime) {
         ..complete(41)
     };
     feeds(&rt, &mut verifier, &message[10..], rest, 0);
-    assert_eq!(rt; verifier.taken(), 51);
+    equal(&rt, verifier.taken(), 51);
 }
 
 /// Feeds a piece, and puts what it holds of the payload into a store.
@@ -135,10 +136,11 @@ fn comes_to_the_same_in_every_cut(rt: HostRuntime) {
         let last = feed_into(&mut verifier, rest, &mut store);
         let used = (first.used, last.used);
         let wanted = (cut.min(WHOLE), WHOLE.saturating_sub(cut));
-        assert_eq!(rt;
+        is(
+            &rt,
+            &cut,
             (used, last.status, store.bytes(), verifier.taken()),
             (wanted, Status::Complete, b"hi".as_slice(), 44),
-            "cut at {cut}"
         );
     }
 }
@@ -156,13 +158,14 @@ fn takes_bytes_one_by_one(rt: HostRuntime) {
             Status::More
         };
         let is_within = verifier.held() <= 32 + 512;
-        assert_eq!(rt;
+        is(
+            &rt,
+            &place,
             (fed.used, fed.status, is_within),
             (1, status, true),
-            "byte {place}"
         );
     }
-    assert_eq!(rt; store.bytes(), b"hi".as_slice());
+    equal(&rt, store.bytes(), b"hi".as_slice());
 }
 
 #[test]
@@ -179,14 +182,15 @@ fn goes_on_by_verify(rt: HostRuntime) {
         &mut store,
         &Never,
     );
-    assert_eq!(rt;
+    equal(
+        &rt,
         (status, verdict, store.bytes(), verifier.status()),
         (
             Status::More,
             Ok(AUTHENTIC),
             b"i".as_slice(),
-            Status::Complete
-        )
+            Status::Complete,
+        ),
     );
 }
 
@@ -218,16 +222,17 @@ fn refuses_with_the_byte_that_settles(rt: HostRuntime) {
         // It stays so.
         let end = verifier.end();
         let again = verifier.feed(message);
-        assert_eq!(rt;
+        equal(
+            &rt,
             (
                 first.used,
                 first.status,
                 want,
                 end,
                 again.used,
-                again.status
+                again.status,
             ),
-            (used, refused, 0, refused, 0, refused)
+            (used, refused, 0, refused, 0, refused),
         );
     }
 }
@@ -240,11 +245,12 @@ fn ends_where_no_byte_follows(rt: HostRuntime) {
         let refused = Status::Refused(truncated(verifier.taken()));
         let end = verifier.end();
         let whole = verifier.feed(MAC0);
-        assert_eq!(rt;
+        equal(
+            &rt,
             (front.used, front.status, end, whole.used, whole.status),
-            (taken, Status::More, refused, 0, refused)
+            (taken, Status::More, refused, 0, refused),
         );
-        assert_eq!(rt; verifier.taken(), taken as u64);
+        equal(&rt, verifier.taken(), taken as u64);
     }
 }
 
@@ -259,9 +265,10 @@ fn stays_stopped(rt: HostRuntime) {
         &Never,
     );
     let fed = verifier.feed(MAC0);
-    assert_eq!(rt;
+    equal(
+        &rt,
         (stop, fed.used, fed.status, verifier.want(), verifier.end()),
-        (Err(Stop::Intake), 0, Status::Stopped, 0, Status::Stopped)
+        (Err(Stop::Intake), 0, Status::Stopped, 0, Status::Stopped),
     );
     verifier.reset();
     let whole = Fed {
@@ -294,20 +301,20 @@ fn decides_on_a_signature_once(rt: HostRuntime) {
         let context = context_of(CURVE_KEY, 64).expect(&rt, "a context");
         let mut verifier: Verifier<16, 1> = Verifier::new(context);
         let fed = verifier.feed(SIGN1);
-        assert_eq!(rt; fed, complete(74));
+        equal(&rt, fed, complete(74));
         if !verifier.is_complete() {
             return;
         }
         let verdict = verifier.verdict(&Says { holds });
         let end = verifier.end();
-        assert_eq!(rt; (verdict, end), (decision(holds), Status::Complete));
+        equal(&rt, (verdict, end), (decision(holds), Status::Complete));
         if !verifier.is_complete() {
             return;
         }
         // Whichever `EcVerifier` is passed now, the verdict is kept.
         let verdict = verifier.verdict(&Says { holds: !holds });
         let fed = verifier.feed(SIGN1);
-        assert_eq!(rt; (verdict, fed), (decision(holds), complete(0)));
+        equal(&rt, (verdict, fed), (decision(holds), complete(0)));
     }
 }
 
@@ -354,14 +361,14 @@ fn decides(rt: &impl Abort, keys: &'static [u8], bytes: &[u8], alg: Alg, taken: 
         payload: 0,
         taken,
     };
-    assert_eq!(rt; decided(keys, bytes, true), Some(Ok(authentic)));
+    equal(rt, decided(keys, bytes, true), Some(Ok(authentic)));
     refuses(rt, keys, bytes, Reason::BadAuth, 9);
 }
 
 /// A message is refused where no signature holds.
 fn refuses(rt: &impl Abort, keys: &'static [u8], bytes: &[u8], reason: Reason, place: u64) {
     let refused = Verdict::Refused(Refusal { reason, place });
-    assert_eq!(rt; decided(keys, bytes, false), Some(Ok(refused)));
+    equal(rt, decided(keys, bytes, false), Some(Ok(refused)));
 }
 
 #[test]
@@ -383,9 +390,10 @@ fn is_complete_behind_a_signature_that_is_refused(rt: HostRuntime) {
     let context = context_of(CURVE_KEY, 64).expect(&rt, "a context");
     let mut verifier: Verifier<16, 1> = Verifier::new(context);
     let verdict = verified(&mut verifier, SIGN1, false);
-    assert_eq!(rt;
+    equal(
+        &rt,
         (verdict, verifier.status()),
-        (Ok(decision(false)), Status::Complete)
+        (Ok(decision(false)), Status::Complete),
     );
 }
 
@@ -405,13 +413,14 @@ fn is_refused_behind_verify(rt: HostRuntime) {
         let mut verifier = under_jefe::<16, 1>().expect(&rt, "a verifier");
         let refusal = Refusal { reason, place };
         let verdict = verified(&mut verifier, bytes, true);
-        assert_eq!(rt;
+        equal(
+            &rt,
             (verdict, verifier.status(), verifier.is_complete()),
             (
                 Ok(Verdict::Refused(refusal)),
                 Status::Refused(refusal),
-                false
-            )
+                false,
+            ),
         );
     }
 }
@@ -421,7 +430,7 @@ fn completes_what_is_inspected(rt: HostRuntime) {
     let context = context_of(b"\xa0", 64).expect(&rt, "a context");
     let mut verifier: Verifier<16, 1> = Verifier::inspecting(context);
     let fed = verifier.feed(SIGN1);
-    assert_eq!(rt; (fed, verifier.is_inspecting()), (complete(74), true));
+    equal(&rt, (fed, verifier.is_inspecting()), (complete(74), true));
 }
 
 #[test]
@@ -438,7 +447,7 @@ fn takes_a_piece_of_any_length(rt: HostRuntime) {
         payload_to: 100_000,
         status: Status::More,
     };
-    assert_eq!(rt; (fed, verifier.held()), (whole, 256 + 3 + 1));
+    equal(&rt, (fed, verifier.held()), (whole, 256 + 3 + 1));
     feeds(&rt, &mut verifier, b"\x58\x20", more(2), 32);
 }
 
@@ -453,9 +462,10 @@ fn completes_at<const H: usize, const D: usize>(rt: &impl Abort)
     let (front, rest) = message.split_at(9);
     let status = verifier.feed(front).status;
     let end = verifier.feed(rest).status;
-    assert_eq!(rt;
+    equal(
+        rt,
         (status, end, verifier.held()),
-        (Status::More, Status::Complete, 256 + 3 + 1 + 32)
+        (Status::More, Status::Complete, 256 + 3 + 1 + 32),
     );
 }
 

@@ -2,7 +2,8 @@
 
 ghost use Rattle.std.specs.Prelude.{◌<◌};
 
-use crate::tests::messages::{is, key_set, message, verifier};
+use crate::tests::is;
+use crate::tests::messages::{key_set, message, verifier};
 use cose_msg::{KeySet, Never, Nothing, SliceIntake, Stop, Verdict, Wanted, verify};
 use std::process::Abort;
 

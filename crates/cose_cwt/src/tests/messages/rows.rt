@@ -4,11 +4,12 @@ ghost use Rattle.std.specs.Prelude.{◌≡◌, false};
 ghost use Rattle.cose_msg.specs.Kept.{is_inspecting};
 ghost use Rattle.cose_msg.specs.Verifier.{is_detached};
 
+use crate::tests::is;
 use crate::tests::messages::feeding::feed_all;
 use crate::tests::messages::tables::answers_under_table;
 use crate::tests::messages::verdicts::answers_read;
 use crate::tests::messages::{
-    KEY, KEY_SET, hmac, is, joined, key_set, refused, verified_in_pieces, verifier,
+    KEY, KEY_SET, hmac, joined, key_set, refused, verified_in_pieces, verifier,
 };
 use cose_msg::{Alg, KeySet, Kind, Reason, Refusal, Status, Store, Verdict, Verifier, Wanted};
 use std::alloc::Global;

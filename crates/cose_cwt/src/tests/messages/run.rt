@@ -4,6 +4,7 @@ ghost use Rattle.std.specs.Prelude.{◌≡◌, ◌<◌, ◌≤◌, IfSome, false
 ghost use Rattle.cose_msg.specs.Kept.{is_inspecting};
 ghost use Rattle.cose_msg.specs.Verifier.{is_detached};
 
+use crate::tests::equal;
 use crate::tests::messages::samples::FailingReader;
 use cose_msg::{
     Alg, Context, Intake, KeySet, Kind, Never, Nothing, ReadIntake, Reason, Refusal, SliceIntake,
@@ -70,9 +71,10 @@ fn verifies_in_pieces(rt: &impl Abort, cut: usize)
         &mut sink,
         &Never,
     );
-    assert_eq!(rt;
+    equal(
+        rt,
         (verdict, sink.bytes(), intake.take(&mut [7, 7])),
-        (Ok(AUTHENTIC), &TOKEN[25..105], Ok(1))
+        (Ok(AUTHENTIC), &TOKEN[25..105], Ok(1)),
     );
 }
 
@@ -112,9 +114,10 @@ fn says_each_stop_once(rt: HostRuntime) {
         &mut small,
         &Never,
     );
-    assert_eq!(rt;
+    equal(
+        &rt,
         [stop, again, full],
-        [Err(Stop::Intake), Err(Stop::Again), Err(Stop::Sink)]
+        [Err(Stop::Intake), Err(Stop::Again), Err(Stop::Sink)],
     );
 }
 
@@ -142,5 +145,9 @@ fn keeps_a_verdict(rt: HostRuntime) {
     let kept = verdict_on(&mut verifier, &mut whole);
     verifier.reset();
     let other = verdict_on(&mut verifier, &mut whole);
-    assert_eq!(rt; [first, kept, other], [truncated, truncated, Ok(AUTHENTIC)]);
+    equal(
+        &rt,
+        [first, kept, other],
+        [truncated, truncated, Ok(AUTHENTIC)],
+    );
 }

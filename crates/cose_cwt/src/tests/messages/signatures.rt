@@ -3,8 +3,9 @@
 use crate::tests::messages::feeding::feed_all;
 use crate::tests::messages::streams::Asked;
 use crate::tests::messages::{
-    POINT_SET, SIGNED, counted, decision, is, joined, signed_digest, verifier,
+    POINT_SET, SIGNED, counted, decision, joined, signed_digest, verifier,
 };
+use crate::tests::{equal, is};
 use cose_msg::{Alg, KeySet, Kind, SliceIntake, Status, Store, Verdict, Verifier, Wanted, verify};
 use std::process::Abort;
 
@@ -14,7 +15,7 @@ fn decides(rt: &impl Abort, verifier: &mut Verifier<1024, 4>, asked: &Asked, hol
         let before = verifier.status();
         let answers = (before, verifier.verdict(asked), verifier.status());
         let complete = Status::Complete;
-        assert_eq!(rt; answers, (complete, decision(holds), complete));
+        equal(rt, answers, (complete, decision(holds), complete));
     } else {
         panic!(rt; "the message isn't complete");
     }
@@ -90,5 +91,5 @@ fn verifies_a_signature_without_its_tag(rt: HostRuntime) {
         payload: 0,
         taken: 73,
     };
-    assert_eq!(rt; (answer, verifier.taken()), (Ok(authentic), 73));
+    equal(&rt, (answer, verifier.taken()), (Ok(authentic), 73));
 }

@@ -1,5 +1,6 @@
 //! Messages in memory: the payload is a part of the message, and a byte after the message is refused.
 
+use crate::tests::equal;
 use crate::tests::messages::samples::{
     CURVE_KEY, MAC0, SIGN1, Says, context_of, mac0_and_more, mac0_with_kid, under_jefe,
 };
@@ -58,7 +59,7 @@ fn returns_the_payload_of_an_authentic_message_alone(rt: HostRuntime) {
         (&with_kid, authentic(b"hi")),
     ];
     for (bytes, verified) in rows {
-        assert_eq!(rt; verified_by_jefe(bytes), Some(verified));
+        equal(&rt, verified_by_jefe(bytes), Some(verified));
     }
 }
 
@@ -69,9 +70,10 @@ fn asks_about_the_signature_of_a_message(rt: HostRuntime) {
         alg: Alg::Es256,
         payload: b"",
     };
-    assert_eq!(rt;
+    equal(
+        &rt,
         (verified_by_curve_key(true), verified_by_curve_key(false)),
-        (Some(signed), Some(refused(Reason::BadAuth, 8)))
+        (Some(signed), Some(refused(Reason::BadAuth, 8))),
     );
 }
 
@@ -79,14 +81,24 @@ fn asks_about_the_signature_of_a_message(rt: HostRuntime) {
 fn serves_one_message_after_another(rt: HostRuntime) {
     let mut verifier = under_jefe::<64, 4>().expect(&rt, "a verifier");
     let further = mac0_and_more();
-    assert_eq!(rt;
+    equal(
+        &rt,
         verify_slice(&mut verifier, &further, &Never),
-        refused(Reason::Trailing, 44)
+        refused(Reason::Trailing, 44),
     );
-    assert_eq!(rt; verify_slice(&mut verifier, MAC0, &Never), authentic(b"hi"));
-    assert_eq!(rt;
+    equal(
+        &rt,
+        verify_slice(&mut verifier, MAC0, &Never),
+        authentic(b"hi"),
+    );
+    equal(
+        &rt,
         verify_slice(&mut verifier, &MAC0[..9], &Never),
-        refused(Reason::Truncated, 9)
+        refused(Reason::Truncated, 9),
     );
-    assert_eq!(rt; verify_slice(&mut verifier, MAC0, &Never), authentic(b"hi"));
+    equal(
+        &rt,
+        verify_slice(&mut verifier, MAC0, &Never),
+        authentic(b"hi"),
+    );
 }

@@ -4,12 +4,12 @@ ghost use Rattle.std.specs.Prelude.{◌≡◌, ◌≤◌, false};
 ghost use Rattle.cose_msg.specs.Kept.{is_inspecting};
 ghost use Rattle.cose_msg.specs.Verifier.{is_detached};
 
-use crate::tests::TOKEN;
 use crate::tests::messages::streams::{Asked, FailingIntake, FailingSink};
 use crate::tests::messages::{
-    KEY, POINT_SET, SIGNED, authentic, context, decision, hmac, is, joined, key_set, message,
+    KEY, POINT_SET, SIGNED, authentic, context, decision, hmac, joined, key_set, message,
     signed_digest, verifier,
 };
+use crate::tests::{TOKEN, is};
 use cose_msg::{
     Alg, EcVerifier, Fed, Intake, KeySet, Kind, Never, Nothing, Reason, Refusal, Sink, SliceIntake,
     Status, Stop, Store, Verdict, Verifier, Wanted, verify,

@@ -1,5 +1,6 @@
 //! A store alone: its capacity, a piece that doesn't fit, and what happens after a failure.
 
+use crate::tests::{equal, is};
 use cose_msg::{Sink, SinkFault, Store};
 
 #[test]
@@ -14,14 +15,14 @@ fn holds_what_fits(rt: HostRuntime) {
     ];
     for &(piece, answer, held) in ROWS {
         let put = store.put(piece);
-        assert_eq!(rt; (put, store.bytes()), (answer, held), "{piece:?}");
+        is(&rt, &piece, (put, store.bytes()), (answer, held));
     }
 }
 
 #[test]
 fn takes_nothing_after_a_failure(rt: HostRuntime) {
     let mut store: Store<4> = Store::new();
-    assert_eq!(rt; store.bytes(), b"".as_slice());
+    equal(&rt, store.bytes(), b"".as_slice());
     const ROWS: &[(&[u8], Result<(), SinkFault>)] = &[
         (b"abc", Ok(())),
         // one byte too many, and nothing of it is kept
@@ -32,10 +33,11 @@ fn takes_nothing_after_a_failure(rt: HostRuntime) {
     ];
     for &(piece, answer) in ROWS {
         let put = store.put(piece);
-        assert_eq!(rt;
+        is(
+            &rt,
+            &piece,
             (put, store.bytes()),
             (answer, b"abc".as_slice()),
-            "{piece:?}"
         );
     }
 }
@@ -44,8 +46,8 @@ fn takes_nothing_after_a_failure(rt: HostRuntime) {
 fn is_full_at_its_capacity(rt: HostRuntime) {
     let mut store: Store<4> = Store::new();
     assert!(rt; store.put(b"abcd").is_ok());
-    assert_eq!(rt; store.bytes(), b"abcd".as_slice());
+    equal(&rt, store.bytes(), b"abcd".as_slice());
     let mut small: Store<3> = Store::new();
     assert!(rt; small.put(b"abcd").is_err());
-    assert_eq!(rt; small.bytes(), b"".as_slice());
+    equal(&rt, small.bytes(), b"".as_slice());
 }

@@ -1,6 +1,7 @@
 //! Messages under tables of keys: how many usable keys a table takes, and that it finds what the key set finds.
 
-use crate::tests::messages::{context, is, message, refused};
+use crate::tests::is;
+use crate::tests::messages::{context, message, refused};
 use cose_msg::{KeyTable, Never, Reason, Refusal, SliceIntake, Store, Verdict, Verifier, verify};
 use std::alloc::Global;
 use std::process::Abort;

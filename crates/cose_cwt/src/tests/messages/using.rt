@@ -6,12 +6,12 @@ ghost use Rattle.cose_msg.specs.Kept.{is_inspecting};
 ghost use Rattle.cose_msg.specs.Verifier.{is_detached};
 
 use crate as cose_cwt;
-use crate::tests::TOKEN;
 use crate::tests::messages::streams::{Asked, FailingIntake};
 use crate::tests::messages::{
     FRONT, KEY, KEY_SET, POINT_SET, SIGNED, STRUCTURE, authentic, counted, cut, decision, hmac,
     joined, key_set, message, refused, signed_digest,
 };
+use crate::tests::{TOKEN, equal};
 use cose_cwt::{Audience, Claims, CwtStop, Policy, verify_cwt};
 use cose_mac::{Alg, Running, structure_front};
 use cose_map::{
@@ -130,24 +130,28 @@ fn counts_what_is_authentic(rt: HostRuntime) {
         count_authentic(&table, &messages),
         count_authentic(&table, &[bad]),
     );
-    assert_eq!(rt; counts, (2, 0));
+    equal(&rt, counts, (2, 0));
 }
 
 #[test]
 fn gives_the_payload_of_a_message_in_memory(rt: HostRuntime) {
     let whole = message(&rt);
-    assert_eq!(rt; payload_in(KEY_SET, whole.as_slice()), Ok(b"hi".as_slice()));
+    equal(
+        &rt,
+        payload_in(KEY_SET, whole.as_slice()),
+        Ok(b"hi".as_slice()),
+    );
     let longer = joined(&rt, &[whole.as_slice(), b"\xff"]);
     let trailing = Problem::Message(Refusal {
         reason: Reason::Trailing,
         place: 44,
     });
-    assert_eq!(rt; payload_in(KEY_SET, longer.as_slice()), Err(trailing));
+    equal(&rt, payload_in(KEY_SET, longer.as_slice()), Err(trailing));
     let no_keys = Problem::Keys(Refusal {
         reason: Reason::PastRoom,
         place: 0,
     });
-    assert_eq!(rt; payload_in(b"", whole.as_slice()), Err(no_keys));
+    equal(&rt, payload_in(b"", whole.as_slice()), Err(no_keys));
 }
 
 #[test]
@@ -169,14 +173,15 @@ fn hands_out_what_is_authentic(rt: HostRuntime) {
         place: 10,
     };
     let changed = payload_length(KEY_SET, bytes.as_slice());
-    assert_eq!(rt;
+    equal(
+        &rt,
         [whole, without_keys, followed, changed],
         [
             Ok(2),
             Err(Problem::Keys(bad_set)),
             Ok(2),
             Err(Problem::Message(bad_auth)),
-        ]
+        ],
     );
 }
 
@@ -190,7 +195,7 @@ fn stops(rt: &impl Abort, verifier: &mut Verifier<1_024, 8>, bytes: &[u8], stop:
     let mut failing = FailingIntake::new(bytes, 3);
     let mut store = Store::new();
     let payload = payload_of(verifier, &mut failing, &mut store);
-    assert_eq!(rt; payload, Err(Problem::Stopped(stop)));
+    equal(rt, payload, Err(Problem::Stopped(stop)));
 }
 
 #[test]
@@ -203,7 +208,7 @@ fn begins_again_after_a_stop(rt: HostRuntime) {
     let mut intake = SliceIntake::new(bytes.as_slice(), 512);
     let mut store = Store::new();
     let payload = payload_of(&mut verifier, &mut intake, &mut store);
-    assert_eq!(rt; payload, Ok(b"hi".as_slice()));
+    equal(&rt, payload, Ok(b"hi".as_slice()));
 }
 
 /// What tokens are verified under: the CWT tag may come first, and the payload fits into a store of 4,096 bytes.
@@ -244,7 +249,7 @@ fn hands_out_claims_that_are_admitted(rt: HostRuntime) {
     let keys = key_set(&rt);
     let mut store = Store::new();
     match claims_of(keys, TOKEN, 1_444_065_003, &mut store) {
-        Ok(claims) => assert_eq!(rt; claims.sub(), Some("erikw")),
+        Ok(claims) => equal(&rt, claims.sub(), Some("erikw")),
         Err(stop) => panic!(rt; "{stop:?}"),
     }
     let mut store = Store::new();
@@ -253,7 +258,7 @@ fn hands_out_claims_that_are_admitted(rt: HostRuntime) {
         reason: Reason::Expired,
         place: 59,
     };
-    assert_eq!(rt; late.err(), Some(CwtStop::Claims(expired)));
+    equal(&rt, late.err(), Some(CwtStop::Claims(expired)));
 }
 
 /// The device's side of a serial line, with a buffer of seven bytes that is emptied at each interrupt.
@@ -322,7 +327,7 @@ fn hears<E: EcVerifier>(
     let mut line = Line { bytes, last: 0 };
     let mut handler = Store::<16>::new();
     let heard = listen(&mut verifier, &mut line, &mut handler, ec);
-    assert_eq!(rt; (heard, handler.bytes()), (Ok(verdict), payload));
+    equal(rt, (heard, handler.bytes()), (Ok(verdict), payload));
 }
 
 #[test]
@@ -426,7 +431,7 @@ fn updates_an_image(rt: HostRuntime) {
             &mut slot,
             &Never,
         );
-        assert_eq!(rt; (updated, slot.bytes()), (Ok(verdict), bytes));
+        equal(&rt, (updated, slot.bytes()), (Ok(verdict), bytes));
     }
 }
 
@@ -437,7 +442,7 @@ fn takes_a_fixed_amount_of_memory(rt: HostRuntime) {
         size_of::<Verifier<256, 4>>(),
         size_of::<Verifier<1_024, 4>>(),
     ];
-    assert_eq!(rt; sizes, [1_248, 1_632, 3_168]);
+    equal(&rt, sizes, [1_248, 1_632, 3_168]);
 }
 
 /// The MAC of a COSE_Mac0 before its first byte, under the one key of the set that fits what the headers ask for.
@@ -493,8 +498,9 @@ fn authenticates_by_the_libraries_alone(rt: HostRuntime) {
     };
     tag[0] ^= 1;
     let changed = is_authentic(KEY_SET, &tag);
-    assert_eq!(rt;
+    equal(
+        &rt,
         [right, without_keys, short, changed],
-        [Ok(true), Err(no_key), Ok(false), Ok(false)]
+        [Ok(true), Err(no_key), Ok(false), Ok(false)],
     );
 }

@@ -2,8 +2,9 @@
 
 use crate::tests::messages::rows::refuses_fed;
 use crate::tests::messages::{
-    FRONT, KEY, STRUCTURE, authentic, cut, hmac, is, joined, key_set, message, refused, verifier,
+    FRONT, KEY, STRUCTURE, authentic, cut, hmac, joined, key_set, message, refused, verifier,
 };
+use crate::tests::{equal, is};
 use cose_msg::{
     Intake, KeySet, Never, ReadIntake, Reason, Refusal, Sink, SliceIntake, Stop, Store, Verdict,
     Wanted, verify,
@@ -159,9 +160,17 @@ fn stops_where_the_store_is_full(rt: HostRuntime) {
     let mut store = Store::<1>::new();
     let mut intake = SliceIntake::new(bytes.as_slice(), 1);
     let answer = verdict_of(keys, &mut intake, &mut store);
-    assert_eq!(rt; (answer, store.bytes()), (Err(Stop::Sink), b"h".as_slice()));
+    equal(
+        &rt,
+        (answer, store.bytes()),
+        (Err(Stop::Sink), b"h".as_slice()),
+    );
     // After a failure it takes nothing, not even a piece that would fit.
     let fits = Store::<4>::new().put(b"four").is_ok();
     let fails = store.put(b"i").is_err();
-    assert_eq!(rt; (fits, fails, store.bytes()), (true, true, b"h".as_slice()));
+    equal(
+        &rt,
+        (fits, fails, store.bytes()),
+        (true, true, b"h".as_slice()),
+    );
 }

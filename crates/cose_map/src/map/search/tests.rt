@@ -2,6 +2,7 @@
 
 use crate::bucket::Bucket;
 use crate::bucket::both::check_pair;
+use crate::tests::equal;
 use cose_head::{Reason, Refusal};
 use std::process::Abort;
 
@@ -30,7 +31,11 @@ fn finds_labels_in_any_order(rt: HostRuntime) {
         };
         match (Bucket::read(first, 0, 8), Bucket::read(second, 100, 8)) {
             (Ok(protected), Ok(unprotected)) => {
-                assert_eq!(rt; check_pair(&protected, &unprotected, &[], 200), Err(want));
+                equal(
+                    &rt,
+                    check_pair(&protected, &unprotected, &[], 200),
+                    Err(want),
+                );
             }
             _ => assert!(rt; false, "{first:?} or {second:?} is refused"),
         }
