@@ -1,6 +1,6 @@
 //! The example of the crate's documentation.
 
-use crate::tests::{KEY_SET, TOKEN, equal};
+use crate::tests::{JEFE, TOKEN, equal};
 use crate::{
     Audience, Context, CwtStop, KeySet, Never, Policy, SliceIntake, Store, Verifier, Wanted,
     verify_cwt,
@@ -41,6 +41,6 @@ fn example(rt: &impl Abort, keys: KeySet<'_>, token: &[u8]) {
 
 #[test]
 fn gives_the_claims_of_a_token(rt: HostRuntime) -> Result<(), Fail> {
-    example(&rt, KeySet::read(KEY_SET)?, TOKEN);
+    example(&rt, KeySet::read(JEFE)?, TOKEN);
     Ok(())
 }

@@ -28,6 +28,7 @@ ghost use Rattle.std.specs.Prelude.{◌≡◌, ◌≤◌, false, length};
 ghost use Rattle.cose_msg.specs.Kept.{is_inspecting};
 ghost use Rattle.cose_msg.specs.Verifier.{is_detached};
 
+use crate::tests::JEFE;
 use cose_msg::{
     Alg, Context, KeySet, Keys, Kind, Never, Reason, Refusal, SliceIntake, Stop, Store, Verdict,
     Verifier, Wanted, verify,
@@ -36,11 +37,8 @@ use sha2::{Digest, Sha256};
 use std::alloc::Global;
 use std::process::Abort;
 
-/// The key, `Jefe` (RFC 4231 section 4.3).
+/// The secret of the key `Jefe`.
 const KEY: &[u8] = b"Jefe";
-
-/// The key set of that key alone.
-const KEY_SET: &[u8] = &[0xa2, 0x01, 0x04, 0x20, 0x44, 0x4a, 0x65, 0x66, 0x65];
 
 /// The bytes before the payload's head.
 const FRONT: &[u8] = &[0xd1, 0x84, 0x43, 0xa1, 0x01, 0x05, 0xa0];
@@ -104,9 +102,9 @@ fn cut(tag: &[u8; 32]) -> &[u8] {
     &tag[..31]
 }
 
-/// The keys of that set.
+/// The key set of `Jefe` alone.
 fn key_set(rt: &impl Abort) -> KeySet<'static> {
-    KeySet::read(KEY_SET).expect(rt, "a key set")
+    KeySet::read(JEFE).expect(rt, "a key set")
 }
 
 /// The context of these keys: nothing is known in addition to the CWT tag.

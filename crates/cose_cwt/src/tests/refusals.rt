@@ -348,8 +348,8 @@ fn gives_both_identifiers(rt: HostRuntime) -> Result<(), Fail> {
     equal(&rt, claims.cti(), Some(b"\x01".as_slice()));
     match claims.cnf() {
         Some(cnf) => {
-            equal(&rt, cnf.kid, Some(b"1".as_slice()));
-            assert!(rt; cnf.key.is_none());
+            let wanted = (Some(b"1".as_slice()), true);
+            equal(&rt, (cnf.kid, cnf.key.is_none()), wanted);
         }
         None => panic!(rt; "a confirmation by its identifier"),
     }

@@ -1,6 +1,6 @@
 //! Intakes that fail, verdicts that are kept, and a store that failed before.
 
-use crate::tests::{CLAIMS, KEY_SET, TOKEN, at, context, equal, refusal};
+use crate::tests::{CLAIMS, JEFE, TOKEN, at, context, equal, refusal};
 use crate::{CwtStop, verify_cwt};
 use cose_map::Reason;
 use cose_msg::{KeySet, Never, ReadIntake, Sink, SliceIntake, Stop, Store, Verifier};
@@ -49,7 +49,7 @@ fn stops_at(rt: &impl Abort, keys: KeySet<'_>, fails_at: usize) {
 
 #[test]
 fn stops_where_the_intake_fails(rt: HostRuntime) -> Result<(), Fail> {
-    let keys = KeySet::read(KEY_SET)?;
+    let keys = KeySet::read(JEFE)?;
     for fails_at in 1..=123 {
         stops_at(&rt, keys, fails_at);
     }
@@ -58,7 +58,7 @@ fn stops_where_the_intake_fails(rt: HostRuntime) -> Result<(), Fail> {
 
 #[test]
 fn forgets_what_the_store_held(rt: HostRuntime) -> Result<(), Fail> {
-    let keys = KeySet::read(KEY_SET)?;
+    let keys = KeySet::read(JEFE)?;
     let mut store: Store<4096> = Store::new();
     let _ = store.put(&[0; 4097]);
     let mut verifier: Verifier<64, 4> = Verifier::new(context(keys));
@@ -79,7 +79,7 @@ fn forgets_what_the_store_held(rt: HostRuntime) -> Result<(), Fail> {
 
 #[test]
 fn answers_a_kept_refusal_again(rt: HostRuntime) -> Result<(), Fail> {
-    let keys = KeySet::read(KEY_SET)?;
+    let keys = KeySet::read(JEFE)?;
     let mut verifier: Verifier<64, 4> = Verifier::new(context(keys));
     let mut nothing = SliceIntake::new(b"", 1);
     let mut store: Store<4096> = Store::new();
@@ -111,7 +111,7 @@ fn answers_a_kept_refusal_again(rt: HostRuntime) -> Result<(), Fail> {
 
 #[test]
 fn may_hold_a_refused_payload(rt: HostRuntime) -> Result<(), Fail> {
-    let keys = KeySet::read(KEY_SET)?;
+    let keys = KeySet::read(JEFE)?;
     let mut verifier: Verifier<64, 4> = Verifier::new(context(keys));
     let (front, tag) = TOKEN.split_at(91);
     equal(&rt, tag.len(), 32);
@@ -133,6 +133,6 @@ fn may_hold_a_refused_payload(rt: HostRuntime) -> Result<(), Fail> {
     );
     equal(&rt, store.bytes(), CLAIMS);
     store.clear();
-    assert!(rt; store.bytes().is_empty());
+    equal(&rt, store.bytes(), b"".as_slice());
     Ok(())
 }

@@ -3,7 +3,7 @@
 ghost use Rattle.std.specs.Prelude.{◌≤◌};
 
 use crate::tests::is;
-use crate::tests::messages::streams::{NotingIntake, NotingSink};
+use crate::tests::messages::streams::{WatchedIntake, WatchedSink};
 use crate::tests::messages::{authentic, key_set, message, verifier};
 use cose_msg::{KeySet, Never, Status, Wanted, verify};
 use std::process::Abort;
@@ -28,16 +28,11 @@ fn asks_within<const C: usize>(rt: &impl Abort, keys: KeySet, bytes: &[u8])
     requires some { 1 ≤ C }
     requires limit { C ≤ 65536 }
 {
-    let mut intake = NotingIntake::new(bytes);
-    let mut sink = NotingSink::new();
+    let mut intake = WatchedIntake::new(bytes);
+    let mut sink = WatchedSink::<2>::new();
     let mut asking = verifier(keys, Wanted::Tagged);
     let verdict = verify::<C, 1024, 4, _, _, _, _>(&mut asking, &mut intake, &mut sink, &Never);
-    is(
-        rt,
-        &C,
-        (verdict, sink.longest()),
-        (Ok(authentic(44)), C.min(2)),
-    );
+    is(rt, &C, (verdict, sink.most), (Ok(authentic(44)), C.min(2)));
     wants_what_was_asked(rt, keys, bytes, intake.asked(), C);
 }
 

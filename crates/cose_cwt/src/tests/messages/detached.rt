@@ -3,29 +3,15 @@
 ghost use Rattle.std.specs.Prelude.{◌≡◌, ◌<◌, ◌≤◌, true};
 ghost use Rattle.cose_msg.specs.Verifier.{is_detached};
 
-use crate::tests::messages::samples::{
-    CURVE_KEY, FailingReader, MAC0, Says, WatchedIntake, WatchedSink, context_of,
-    detached_under_jefe, nil_mac0,
-};
+use crate::tests::messages::samples::{CURVE_KEY, MAC0, context_of, detached_under_jefe, nil_mac0};
+use crate::tests::messages::streams::{FailingReader, Says, WatchedIntake, WatchedSink};
+use crate::tests::messages::{authentic, refused};
 use crate::tests::{equal, is};
 use cose_msg::{
-    Alg, Fed, Intake, Kind, Never, Nothing, ReadIntake, Reason, Refusal, SliceIntake, Status, Stop,
-    Store, Verdict, Verifier, verify_detached,
+    Alg, Fed, Intake, Kind, Never, Nothing, ReadIntake, Reason, SliceIntake, Status, Stop, Store,
+    Verdict, Verifier, verify_detached,
 };
 use std::process::Abort;
-
-/// The verdict on the message of the samples with its payload detached.
-const AUTHENTIC: Verdict = Verdict::Authentic {
-    kind: Kind::Mac0,
-    alg: Alg::Hmac256,
-    payload: 2,
-    taken: 42,
-};
-
-/// A refusal.
-const fn refused(reason: Reason, place: u64) -> Verdict {
-    Verdict::Refused(Refusal { reason, place })
-}
 
 /// Verifies a message and a payload that come in pieces of at most this many bytes.
 fn verdict_of<const L: usize>(
@@ -56,8 +42,8 @@ fn has_the_verdict_of_both_in_pieces_of_every_size(rt: HostRuntime) {
     let too_long = refused(Reason::PayloadTooLong, 7);
     let no_auth: &[u8] = b"\xd1\x84\x43\xa1\x01\x05\xa0\xf6\x40";
     let rows: [Row; 10] = [
-        (&message, b"hi", 2, 2, AUTHENTIC, 42, b"hi"),
-        (&message, b"hi!", 2, 2, AUTHENTIC, 42, b"hi"),
+        (&message, b"hi", 2, 2, authentic(42), 42, b"hi"),
+        (&message, b"hi!", 2, 2, authentic(42), 42, b"hi"),
         (
             &message,
             b"ho",
@@ -159,7 +145,7 @@ fn stops_at(rt: &impl Abort, message_fails_at: usize, payload_fails_at: usize) -
         rt,
         ([stop, again, verdict], stopped),
         (
-            [Err(Stop::Intake), Err(Stop::Again), Ok(AUTHENTIC)],
+            [Err(Stop::Intake), Err(Stop::Again), Ok(authentic(42))],
             (Status::Stopped, 0),
         ),
     );
@@ -210,7 +196,7 @@ fn takes_and_puts_no_more_than_a_chunk(rt: HostRuntime) {
     equal(
         &rt,
         (verdict, asked, moved, left),
-        (Ok(AUTHENTIC), (2, 1), (7, 2, 2), Ok(10)),
+        (Ok(authentic(42)), (2, 1), (7, 2, 2), Ok(10)),
     );
 }
 
@@ -273,7 +259,13 @@ fn goes_on_with_what_was_fed(rt: HostRuntime) {
     equal(
         &rt,
         (fed, taken, verdict, store.bytes(), verifier.status()),
-        (at_nil, 1, Ok(AUTHENTIC), b"i".as_slice(), Status::Complete),
+        (
+            at_nil,
+            1,
+            Ok(authentic(42)),
+            b"i".as_slice(),
+            Status::Complete,
+        ),
     );
 }
 

@@ -5,6 +5,7 @@ ghost use Rattle.cose_msg.specs.Kept.{is_inspecting};
 ghost use Rattle.cose_msg.specs.Verifier.{is_detached};
 
 use crate::tests::equal;
+use crate::tests::messages::refused;
 use crate::tests::messages::samples::{CURVE_KEY, MAC0, SIGN1, context_of, under_jefe};
 use cose_msg::{
     Inspected, Kind, Label, Never, Nothing, Reason, Refusal, SliceIntake, Stop, Verdict, Verifier,
@@ -62,12 +63,12 @@ fn refuses_a_tag_that_is_too_long(rt: HostRuntime) {
         b"\xd1\x84\x43\xa1\x01\x05\xa0\x42\x68\x69\x5a\x00\x01\x00\x00\x00",
         64,
     );
-    let refused = inspected(&mut verifier, &mut intake);
+    let shape = inspected(&mut verifier, &mut intake);
     let wanted = Inspected::Refused(Refusal {
         reason: Reason::BadAuthLength,
         place: 10,
     });
-    equal(&rt, (refused, verifier.taken()), (Ok(wanted), 15));
+    equal(&rt, (shape, verifier.taken()), (Ok(wanted), 15));
 }
 
 #[test]
@@ -75,12 +76,12 @@ fn refuses_to_inspect_a_payload_over_its_limit(rt: HostRuntime) {
     let context = context_of(b"\xa0", 1).expect(&rt, "a context");
     let mut verifier: Verifier<32, 4> = Verifier::inspecting(context);
     let mut intake = SliceIntake::new(MAC0, 7);
-    let refused = inspected(&mut verifier, &mut intake);
+    let shape = inspected(&mut verifier, &mut intake);
     let wanted = Inspected::Refused(Refusal {
         reason: Reason::PayloadTooLong,
         place: 7,
     });
-    equal(&rt, (refused, verifier.taken()), (Ok(wanted), 8));
+    equal(&rt, (shape, verifier.taken()), (Ok(wanted), 8));
 }
 
 #[test]
@@ -89,16 +90,10 @@ fn shows_the_buckets_after_a_refusal(rt: HostRuntime) {
     let mut changed = *MAC0;
     changed[43] ^= 1;
     let verdict = verified(&mut verifier, &changed);
-    let refused = Verdict::Refused(Refusal {
-        reason: Reason::BadAuth,
-        place: 10,
-    });
     let shown = verifier.unprotected().is_some();
-    equal(&rt, (verdict, shown), (Ok(refused), true));
-    let Some(protected) = verifier.protected() else {
-        assert!(rt; false);
-        return;
-    };
+    let wanted = refused(Reason::BadAuth, 10);
+    equal(&rt, (verdict, shown), (Ok(wanted), true));
+    let protected = verifier.protected().expect(&rt, "a protected bucket");
     let alg = protected.alg();
     equal(
         &rt,
@@ -111,25 +106,19 @@ fn shows_the_buckets_after_a_refusal(rt: HostRuntime) {
 fn shows_no_bucket_that_was_refused(rt: HostRuntime) {
     let mut verifier = under_jefe::<32, 4>().expect(&rt, "a verifier");
     let verdict = verified(&mut verifier, b"\xd1\x84\x43\xa1\x01\x05\xa1\x40\x00");
-    let refused = Verdict::Refused(Refusal {
-        reason: Reason::BadLabel,
-        place: 7,
-    });
+    let wanted = refused(Reason::BadLabel, 7);
     let shown = (
         verifier.protected().is_some(),
         verifier.unprotected().is_some(),
     );
-    equal(&rt, (verdict, shown), (Ok(refused), (true, false)));
+    equal(&rt, (verdict, shown), (Ok(wanted), (true, false)));
 }
 
 #[test]
 fn counts_open_items(rt: HostRuntime) {
     let mut verifier = under_jefe::<32, 4>().expect(&rt, "a verifier");
     let verdict = verified(&mut verifier, b"\xd1\x84\x43\xa1\x01\x05\xa1\x0a\x81\x81");
-    let truncated = Verdict::Refused(Refusal {
-        reason: Reason::Truncated,
-        place: 10,
-    });
+    let truncated = refused(Reason::Truncated, 10);
     let open = verifier.open_items();
     verifier.reset();
     equal(
@@ -144,14 +133,8 @@ fn hands_out_what_a_signature_is_verified_with(rt: HostRuntime) {
     let context = context_of(CURVE_KEY, 4_096).expect(&rt, "a context");
     let mut verifier: Verifier<32, 4> = Verifier::new(context);
     let verdict = verified(&mut verifier, SIGN1);
-    let refused = Verdict::Refused(Refusal {
-        reason: Reason::BadAuth,
-        place: 8,
-    });
-    equal(&rt, verdict, Ok(refused));
-    let Some((_, digest, signature)) = verifier.sign_input() else {
-        assert!(rt; false);
-        return;
-    };
+    equal(&rt, verdict, Ok(refused(Reason::BadAuth, 8)));
+    let asked = verifier.sign_input();
+    let (_, digest, signature) = asked.expect(&rt, "what the signature is verified with");
     equal(&rt, (digest.len(), signature), (32, &SIGN1[10..]));
 }

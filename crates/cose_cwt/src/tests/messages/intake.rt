@@ -1,7 +1,7 @@
 //! The intake of a reader, alone: one read in each call, failures, the end.
 
 use crate::tests::is;
-use crate::tests::messages::samples::FailingReader;
+use crate::tests::messages::streams::FailingReader;
 use cose_msg::{Intake, IntakeFault, ReadIntake};
 use std::process::Abort;
 

@@ -3,10 +3,10 @@
 ghost use Rattle.std.specs.Prelude.{◌≤◌};
 
 use crate::tests::equal;
-use crate::tests::messages::samples::{
-    AUTHENTIC, MAC0, WatchedIntake, WatchedSink, mac0_with_kid, under_jefe,
-};
-use cose_msg::{Alg, Kind, Never, Nothing, Verdict, verify};
+use crate::tests::messages::authentic;
+use crate::tests::messages::samples::{MAC0, mac0_with_kid, under_jefe};
+use crate::tests::messages::streams::{WatchedIntake, WatchedSink};
+use cose_msg::{Never, Nothing, verify};
 use std::process::Abort;
 
 /// The message is authentic at these limits, and what is taken and put at a time is within a chunk.
@@ -31,7 +31,7 @@ fn verifies_at<const C: usize, const H: usize, const D: usize>(rt: &impl Abort)
     equal(
         rt,
         (verdict, sink.bytes(), sink.sum, (intake.most, sink.most)),
-        (Ok(AUTHENTIC), b"hi".as_slice(), 2, most),
+        (Ok(authentic(44)), b"hi".as_slice(), 2, most),
     );
 }
 
@@ -54,12 +54,6 @@ fn takes_a_string_of_the_unprotected_header_at_once(rt: HostRuntime) {
         &mut Nothing,
         &Never,
     );
-    let authentic = Verdict::Authentic {
-        kind: Kind::Mac0,
-        alg: Alg::Hmac256,
-        payload: 2,
-        taken: 51,
-    };
     // The heads have nine bytes, and four strings have the others.
-    equal(&rt, (verdict, intake.takes), (Ok(authentic), 9 + 4));
+    equal(&rt, (verdict, intake.takes), (Ok(authentic(51)), 9 + 4));
 }

@@ -2,10 +2,9 @@
 
 ghost use Rattle.std.specs.Prelude.{◌≤◌, None};
 
-use crate::tests::equal;
-use crate::tests::messages::samples::{
-    CURVE_KEY, FailingReader, JEFE, MAC0, WatchedIntake, WatchedSink,
-};
+use crate::tests::messages::samples::{CURVE_KEY, MAC0};
+use crate::tests::messages::streams::{FailingReader, WatchedIntake, WatchedSink};
+use crate::tests::{JEFE, equal};
 use arrayvec::ArrayVec;
 use cose_msg::{
     Alg, Intake, Key, MakeFault, ReadIntake, Sink, SinkFault, SliceIntake, Store, make_mac0,
@@ -96,7 +95,6 @@ fn makes(
 
 #[test]
 fn makes_messages(rt: HostRuntime) {
-    assert!(rt; Key::read(JEFE, 0).is_ok());
     makes(&rt, Alg::Hmac256, None, b"", b"hi!", MAC0);
     makes(&rt, Alg::Hmac256, Some(b"1"), b"", b"hi!", WITH_KID);
     makes(&rt, Alg::Hmac64, None, b"", b"hi!", SHORT_TAG);
@@ -148,8 +146,6 @@ fn refuses_with(
 
 #[test]
 fn refuses_arguments(rt: HostRuntime) {
-    assert!(rt; Key::read(KEY_OF_FIVE, 0).is_ok());
-    assert!(rt; Key::read(KEY_THAT_VERIFIES, 0).is_ok());
     refuses(&rt, Alg::Hmac64, KEY_OF_FIVE, None, 2, MakeFault::WrongKey);
     refuses(
         &rt,
@@ -174,7 +170,6 @@ fn refuses_arguments(rt: HostRuntime) {
 /// Each algorithm of signatures, under a secret and under a point.
 #[test]
 fn makes_no_signature(rt: HostRuntime) {
-    assert!(rt; Key::read(CURVE_KEY, 0).is_ok());
     for alg in [Alg::Es256, Alg::Es384, Alg::Es512] {
         refuses(&rt, alg, JEFE, None, 2, MakeFault::WrongKey);
         refuses(&rt, alg, CURVE_KEY, None, 2, MakeFault::WrongKey);

@@ -5,10 +5,11 @@ ghost use Rattle.cose_msg.specs.Kept.{is_inspecting};
 ghost use Rattle.cose_msg.specs.Verifier.{is_detached};
 
 use crate::tests::messages::samples::{
-    AUTHENTIC, CURVE_KEY, FailingReader, JEFE, MAC0, SIGN1, Says, context_of, mac0_and_more,
-    mac0_with_kid, under_jefe,
+    CURVE_KEY, MAC0, SIGN1, context_of, mac0_and_more, mac0_with_kid, under_jefe,
 };
-use crate::tests::{equal, is};
+use crate::tests::messages::streams::{FailingReader, Says};
+use crate::tests::messages::{authentic, decision};
+use crate::tests::{JEFE, equal, is};
 use cose_msg::{
     Alg, Fed, Kind, Never, Nothing, ReadIntake, Reason, Refusal, Sink, SliceIntake, Status, Stop,
     Store, Verdict, Verifier, verify,
@@ -187,7 +188,7 @@ fn goes_on_by_verify(rt: HostRuntime) {
         (status, verdict, store.bytes(), verifier.status()),
         (
             Status::More,
-            Ok(AUTHENTIC),
+            Ok(authentic(44)),
             b"i".as_slice(),
             Status::Complete,
         ),
@@ -277,22 +278,6 @@ fn stays_stopped(rt: HostRuntime) {
         ..complete(44)
     };
     feeds(&rt, &mut verifier, &mac0_and_more(), whole, 0);
-}
-
-/// The verdict on the COSE_Sign1, where its signature holds and where it doesn't.
-const fn decision(holds: bool) -> Verdict {
-    if holds {
-        return Verdict::Authentic {
-            kind: Kind::Sign1,
-            alg: Alg::Es256,
-            payload: 0,
-            taken: 74,
-        };
-    }
-    Verdict::Refused(Refusal {
-        reason: Reason::BadAuth,
-        place: 8,
-    })
 }
 
 #[test]

@@ -4,13 +4,11 @@ ghost use Rattle.std.specs.Prelude.{◌≡◌, false};
 ghost use Rattle.cose_msg.specs.Kept.{is_inspecting};
 ghost use Rattle.cose_msg.specs.Verifier.{is_detached};
 
-use crate::tests::is;
 use crate::tests::messages::feeding::feed_all;
 use crate::tests::messages::tables::answers_under_table;
 use crate::tests::messages::verdicts::answers_read;
-use crate::tests::messages::{
-    KEY, KEY_SET, hmac, joined, key_set, refused, verified_in_pieces, verifier,
-};
+use crate::tests::messages::{KEY, hmac, joined, key_set, refused, verified_in_pieces, verifier};
+use crate::tests::{JEFE, is};
 use cose_msg::{Alg, KeySet, Kind, Reason, Refusal, Status, Store, Verdict, Verifier, Wanted};
 use std::alloc::Global;
 use std::process::Abort;
@@ -118,7 +116,7 @@ fn refuses_what_stands_first(rt: HostRuntime) {
         ),
     ];
     for &(bytes, answer) in ROWS {
-        refuses(&rt, KEY_SET, bytes, answer);
+        refuses(&rt, JEFE, bytes, answer);
     }
 }
 
@@ -179,20 +177,20 @@ fn refuses_headers(rt: HostRuntime) {
         ),
     ];
     for &(bytes, answer) in ROWS {
-        refuses(&rt, KEY_SET, bytes, answer);
+        refuses(&rt, JEFE, bytes, answer);
     }
 }
 
 #[test]
 fn refuses_where_no_one_key_fits(rt: HostRuntime) {
     const ROWS: &[(&[u8], &[u8], (Reason, u64, usize))] = &[
-        (KEY_SET, UNPROTECTED, (Reason::AlgUnprotected, 7, 7)),
+        (JEFE, UNPROTECTED, (Reason::AlgUnprotected, 7, 7)),
         (
-            KEY_SET,
+            JEFE,
             b"\xd1\x84\x42\xb8\x00\xa1\x01\x05\x42",
             (Reason::AlgUnprotected, 8, 8),
         ),
-        (KEY_SET, b"\xd1\x84\x40\xa0\x42", (Reason::NoAlg, 4, 4)),
+        (JEFE, b"\xd1\x84\x40\xa0\x42", (Reason::NoAlg, 4, 4)),
         (BOTH_FIT, WITH_KID, (Reason::AmbiguousKey, 10, 10)),
     ];
     for &(keys, bytes, answer) in ROWS {
@@ -338,14 +336,14 @@ fn takes_heads_of_any_width(rt: HostRuntime) {
         (WIDE, 83),
     ];
     for &(front, taken) in ROWS {
-        authenticates(&rt, tagged(KEY_SET, front, WITH_5, taken));
+        authenticates(&rt, tagged(JEFE, front, WITH_5, taken));
     }
     authenticates(
         &rt,
         Row {
             wanted: Wanted::Mac0,
             ..tagged(
-                KEY_SET,
+                JEFE,
                 b"\x84\x43\xa1\x01\x05\xa0\x42\x68\x69\x58\x20",
                 WITH_5,
                 43,
@@ -371,7 +369,7 @@ fn authenticates_by_the_headers(rt: HostRuntime) {
             41,
         ),
         (
-            KEY_SET,
+            JEFE,
             b"\xd1\x84\x43\xa1\x01\x05\xa1\x0a\x81\x81\x81\x00\x42\x68\x69\x58\x20",
             WITH_5,
             49,
@@ -386,7 +384,7 @@ fn authenticates_by_the_headers(rt: HostRuntime) {
             tag: 8,
             alg: Alg::Hmac64,
             ..tagged(
-                KEY_SET,
+                JEFE,
                 b"\xd1\x84\x43\xa1\x01\x04\xa0\x42\x68\x69\x48",
                 b"\x84\x64\x4d\x41\x43\x30\x43\xa1\x01\x04\x40\x42\x68\x69",
                 19,

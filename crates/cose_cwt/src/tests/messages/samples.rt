@@ -1,18 +1,11 @@
-//! Messages, keys, contexts, a reader, an intake and a sink that several modules of tests use.
+//! Messages, keys, contexts and verifiers that several modules of tests use.
 
-ghost use Rattle.std.specs.Prelude.{◌≡◌, ◌≤◌, IfSome, None, false, true, length};
+ghost use Rattle.std.specs.Prelude.{◌≡◌, ◌≤◌, IfSome, false, true, length};
 ghost use Rattle.cose_msg.specs.Kept.{is_inspecting};
 ghost use Rattle.cose_msg.specs.Verifier.{is_detached};
 
-use cose_msg::{
-    Alg, Context, EcVerifier, Intake, IntakeFault, Key, KeySet, Kind, Sink, SinkFault, Store,
-    Verdict, Verifier, Wanted,
-};
-use std::io;
-use std::io::{Error, ErrorKind, Read};
-
-/// The symmetric key `Jefe`, which is also the key set of that key alone.
-pub(crate) const JEFE: &[u8] = b"\xa2\x01\x04\x20\x44Jefe";
+use crate::tests::JEFE;
+use cose_msg::{Context, KeySet, Verifier, Wanted};
 
 /// A key on P-256 (RFC 9053 section 7.1.1), whose coordinates are zeros.
 pub(crate) const CURVE_KEY: &[u8] = &[
@@ -27,14 +20,6 @@ pub(crate) const MAC0: &[u8; 44] = &[
     0xaa, 0xee, 0x5f, 0xbd, 0x8a, 0xdf, 0xb3, 0xf5, 0x33, 0x65, 0x7a, 0x9e, 0xf9, 0xf7, 0x82, 0xf0,
     0x4b, 0x91, 0x87, 0x7b, 0x60, 0x04, 0x27, 0x2a, 0x03, 0x52, 0xf9, 0x60,
 ];
-
-/// The verdict on it.
-pub(crate) const AUTHENTIC: Verdict = Verdict::Authentic {
-    kind: Kind::Mac0,
-    alg: Alg::Hmac256,
-    payload: 2,
-    taken: 44,
-};
 
 /// A COSE_Sign1 of an empty payload, whose signature of 64 bytes is zeros.
 pub(crate) const SIGN1: &[u8] = &[
@@ -103,135 +88,4 @@ pub(crate) fn detached_under_jefe(
     ensures { IfSome result (λ verifier. is_detached verifier ≡ true) }
 {
     Some(Verifier::detached(context_of(JEFE, payload_limit)?, stated))
-}
-
-/// Gives the same answer for every signature.
-#[derive(Drop)]
-pub(crate) struct Says {
-    pub(crate) holds: bool,
-}
-
-impl EcVerifier for Says {
-    ghost decides = { λ says key digest signature. says.holds };
-
-    fn holds(&self, _key: &Key, _digest: &[u8], _signature: &[u8]) -> bool {
-        self.holds
-    }
-}
-
-/// Gives at most three bytes in a read. One of its reads fails, and gives none.
-#[derive(Drop)]
-pub(crate) struct FailingReader<'a> {
-    bytes: &'a [u8],
-    pub(crate) reads: usize,
-    fails_at: usize,
-}
-
-impl<'a> FailingReader<'a> {
-    /// A reader of these bytes; the read of this number fails, the first being 1.
-    pub(crate) fn new(bytes: &'a [u8], fails_at: usize) -> Self {
-        FailingReader {
-            bytes,
-            reads: 0,
-            fails_at,
-        }
-    }
-}
-
-impl Read for FailingReader<'_> {
-    fn read(&mut self, into: &mut [u8]) -> io::Result<usize> {
-        self.reads = self.reads.saturating_add(1);
-        if self.reads == self.fails_at {
-            return Err(Error::from(ErrorKind::Other));
-        }
-        let count = self.bytes.len().min(into.len()).min(3);
-        let (piece, rest) = self.bytes.split_at(count);
-        into[..count].copy_from_slice(piece);
-        self.bytes = rest;
-        Ok(count)
-    }
-}
-
-/// The bytes of a slice. It records the most bytes that a call asked for, and the number of its calls.
-#[derive(Drop)]
-pub(crate) struct WatchedIntake<'a> {
-    bytes: &'a [u8],
-    pub(crate) most: usize,
-    pub(crate) takes: usize,
-    ended: bool,
-}
-
-impl<'a> WatchedIntake<'a> {
-    /// An intake of these bytes.
-    pub(crate) fn new(bytes: &'a [u8]) -> Self {
-        WatchedIntake {
-            bytes,
-            most: 0,
-            takes: 0,
-            ended: false,
-        }
-    }
-}
-
-impl Intake for WatchedIntake<'_> {
-    ghost to_come = { λ _. None };
-
-    ghost has_failed = { λ _. false };
-
-    ghost ended = { λ intake. intake.ended };
-
-    fn take(&mut self, into: &mut [u8]) -> Result<usize, IntakeFault> {
-        self.most = self.most.max(into.len());
-        self.takes = self.takes.saturating_add(1);
-        let count = self.bytes.len().min(into.len());
-        let (piece, rest) = self.bytes.split_at(count);
-        into[..count].copy_from_slice(piece);
-        self.bytes = rest;
-        self.ended = count == 0;
-        Ok(count)
-    }
-}
-
-/// A store of `L` bytes. It records the length of the longest piece, and the number of bytes of all pieces.
-#[derive(Drop)]
-pub(crate) struct WatchedSink<const L: usize> {
-    store: Store<L>,
-    pub(crate) most: usize,
-    pub(crate) sum: usize,
-    failed: bool,
-}
-
-impl<const L: usize> WatchedSink<L> {
-    /// An empty sink.
-    pub(crate) fn new() -> Self {
-        WatchedSink {
-            store: Store::new(),
-            most: 0,
-            sum: 0,
-            failed: false,
-        }
-    }
-
-    /// The bytes that it holds.
-    pub(crate) fn bytes(&self) -> &[u8] {
-        self.store.bytes()
-    }
-}
-
-impl<const L: usize> Sink for WatchedSink<L> {
-    ghost contents = { λ _. None };
-
-    ghost has_failed = { λ sink. sink.failed };
-
-    ghost sure = { λ _. 0 };
-
-    fn put(&mut self, piece: &[u8]) -> Result<(), SinkFault> {
-        self.most = self.most.max(piece.len());
-        self.sum = self.sum.saturating_add(piece.len());
-        if self.store.put(piece).is_err() {
-            self.failed = true;
-            return Err(SinkFault);
-        }
-        Ok(())
-    }
 }

@@ -2,8 +2,9 @@
 
 use crate::tests::equal;
 use crate::tests::messages::samples::{
-    CURVE_KEY, MAC0, SIGN1, Says, context_of, mac0_and_more, mac0_with_kid, under_jefe,
+    CURVE_KEY, MAC0, SIGN1, context_of, mac0_and_more, mac0_with_kid, under_jefe,
 };
+use crate::tests::messages::streams::Says;
 use cose_msg::{Alg, Kind, Never, Reason, Refusal, Verified, Verifier, verify_slice};
 use std::process::Abort;
 

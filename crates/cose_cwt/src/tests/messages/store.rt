@@ -45,9 +45,9 @@ fn takes_nothing_after_a_failure(rt: HostRuntime) {
 #[test]
 fn is_full_at_its_capacity(rt: HostRuntime) {
     let mut store: Store<4> = Store::new();
-    assert!(rt; store.put(b"abcd").is_ok());
-    equal(&rt, store.bytes(), b"abcd".as_slice());
+    let put = store.put(b"abcd");
+    equal(&rt, (put, store.bytes()), (Ok(()), b"abcd".as_slice()));
     let mut small: Store<3> = Store::new();
-    assert!(rt; small.put(b"abcd").is_err());
-    equal(&rt, small.bytes(), b"".as_slice());
+    let put = small.put(b"abcd");
+    equal(&rt, (put, small.bytes()), (Err(SinkFault), b"".as_slice()));
 }

@@ -4,6 +4,8 @@ ghost use Rattle.std.specs.Prelude.{◌&&◌, not, None, false, if◌then◌else
 ghost use Rattle.std.specs.Str.{bytes_eq};
 
 use cose_msg::{EcVerifier, Intake, IntakeFault, Key, Sink, SinkFault, Store};
+use std::io;
+use std::io::{Error, ErrorKind, Read};
 
 /// The bytes of a slice, as many as fit. One of its calls fails, and gives none.
 #[derive(Drop)]
@@ -104,21 +106,24 @@ impl<const L: usize> Sink for FailingSink<L> {
     }
 }
 
-/// The bytes of a slice, as many as each call asks for. It records how many each of the first 64 calls asked for.
+/// The bytes of a slice, as many as each call asks for. It records how many each of the first 64 calls asked for, the most that
+/// a call asked for, and the number of calls.
 #[derive(Drop)]
-pub struct NotingIntake<'a> {
+pub struct WatchedIntake<'a> {
     bytes: &'a [u8],
     asked: [usize; 64],
-    takes: usize,
+    pub most: usize,
+    pub takes: usize,
     ended: bool,
 }
 
-impl<'a> NotingIntake<'a> {
+impl<'a> WatchedIntake<'a> {
     /// An intake of these bytes.
     pub fn new(bytes: &'a [u8]) -> Self {
-        NotingIntake {
+        WatchedIntake {
             bytes,
             asked: [0; 64],
+            most: 0,
             takes: 0,
             ended: false,
         }
@@ -130,7 +135,7 @@ impl<'a> NotingIntake<'a> {
     }
 }
 
-impl Intake for NotingIntake<'_> {
+impl Intake for WatchedIntake<'_> {
     ghost to_come = { λ _. None };
 
     ghost has_failed = { λ _. false };
@@ -141,6 +146,7 @@ impl Intake for NotingIntake<'_> {
         if let Some(asked) = self.asked.get_mut(self.takes) {
             *asked = into.len();
         }
+        self.most = self.most.max(into.len());
         self.takes = self.takes.saturating_add(1);
         let count = self.bytes.len().min(into.len());
         let (piece, rest) = self.bytes.split_at(count);
@@ -151,34 +157,80 @@ impl Intake for NotingIntake<'_> {
     }
 }
 
-/// Takes every piece, and records the length of the longest.
+/// A store of `L` bytes. It records the length of the longest piece, and the number of bytes of all pieces.
 #[derive(Drop)]
-pub struct NotingSink {
-    longest: usize,
+pub struct WatchedSink<const L: usize> {
+    store: Store<L>,
+    pub most: usize,
+    pub sum: usize,
+    failed: bool,
 }
 
-impl NotingSink {
-    /// A sink that took nothing yet.
+impl<const L: usize> WatchedSink<L> {
+    /// An empty sink.
     pub fn new() -> Self {
-        NotingSink { longest: 0 }
+        WatchedSink {
+            store: Store::new(),
+            most: 0,
+            sum: 0,
+            failed: false,
+        }
     }
 
-    /// The length of the longest piece.
-    pub fn longest(&self) -> usize {
-        self.longest
+    /// The bytes that it holds.
+    pub fn bytes(&self) -> &[u8] {
+        self.store.bytes()
     }
 }
 
-impl Sink for NotingSink {
+impl<const L: usize> Sink for WatchedSink<L> {
     ghost contents = { λ _. None };
 
-    ghost has_failed = { λ _. false };
+    ghost has_failed = { λ sink. sink.failed };
 
     ghost sure = { λ _. 0 };
 
     fn put(&mut self, piece: &[u8]) -> Result<(), SinkFault> {
-        self.longest = self.longest.max(piece.len());
+        self.most = self.most.max(piece.len());
+        self.sum = self.sum.saturating_add(piece.len());
+        if self.store.put(piece).is_err() {
+            self.failed = true;
+            return Err(SinkFault);
+        }
         Ok(())
+    }
+}
+
+/// Gives at most three bytes in a read. One of its reads fails, and gives none.
+#[derive(Drop)]
+pub struct FailingReader<'a> {
+    bytes: &'a [u8],
+    pub reads: usize,
+    fails_at: usize,
+}
+
+impl<'a> FailingReader<'a> {
+    /// A reader of these bytes; the read of this number fails, the first being 1.
+    pub fn new(bytes: &'a [u8], fails_at: usize) -> Self {
+        FailingReader {
+            bytes,
+            reads: 0,
+            fails_at,
+        }
+    }
+}
+
+impl Read for FailingReader<'_> {
+    fn read(&mut self, into: &mut [u8]) -> io::Result<usize> {
+        self.reads = self.reads.saturating_add(1);
+        if self.reads == self.fails_at {
+            return Err(Error::from(ErrorKind::Other));
+        }
+        let count = self.bytes.len().min(into.len()).min(3);
+        let (piece, rest) = self.bytes.split_at(count);
+        into[..count].copy_from_slice(piece);
+        self.bytes = rest;
+        Ok(count)
     }
 }
 
@@ -233,6 +285,20 @@ impl Intake for LongIntake<'_> {
         self.part = rest;
         self.ended = count == 0;
         Ok(count)
+    }
+}
+
+/// Gives the same answer for every signature.
+#[derive(Drop)]
+pub struct Says {
+    pub holds: bool,
+}
+
+impl EcVerifier for Says {
+    ghost decides = { λ says key digest signature. says.holds };
+
+    fn holds(&self, _key: &Key, _digest: &[u8], _signature: &[u8]) -> bool {
+        self.holds
     }
 }
 

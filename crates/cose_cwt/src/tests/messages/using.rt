@@ -8,10 +8,10 @@ ghost use Rattle.cose_msg.specs.Verifier.{is_detached};
 use crate as cose_cwt;
 use crate::tests::messages::streams::{Asked, FailingIntake};
 use crate::tests::messages::{
-    FRONT, KEY, KEY_SET, POINT_SET, SIGNED, STRUCTURE, authentic, counted, cut, decision, hmac,
-    joined, key_set, message, refused, signed_digest,
+    FRONT, KEY, POINT_SET, SIGNED, STRUCTURE, authentic, counted, cut, decision, hmac, joined,
+    key_set, message, refused, signed_digest,
 };
-use crate::tests::{TOKEN, equal};
+use crate::tests::{JEFE, TOKEN, equal};
 use cose_cwt::{Audience, Claims, CwtStop, Policy, verify_cwt};
 use cose_mac::{Alg, Running, structure_front};
 use cose_map::{
@@ -122,7 +122,7 @@ fn count_authentic<'k>(table: &'k KeyTable<'k, 16>, messages: &[&[u8]]) -> usize
 
 #[test]
 fn counts_what_is_authentic(rt: HostRuntime) {
-    let table = KeyTable::<16>::read(KEY_SET).expect(&rt, "a table");
+    let table = KeyTable::<16>::read(JEFE).expect(&rt, "a table");
     let good = message(&rt);
     let bad = good.get(..43).unwrap_or(&[]);
     let messages: [&[u8]; 3] = [good.as_slice(), bad, good.as_slice()];
@@ -138,7 +138,7 @@ fn gives_the_payload_of_a_message_in_memory(rt: HostRuntime) {
     let whole = message(&rt);
     equal(
         &rt,
-        payload_in(KEY_SET, whole.as_slice()),
+        payload_in(JEFE, whole.as_slice()),
         Ok(b"hi".as_slice()),
     );
     let longer = joined(&rt, &[whole.as_slice(), b"\xff"]);
@@ -146,7 +146,7 @@ fn gives_the_payload_of_a_message_in_memory(rt: HostRuntime) {
         reason: Reason::Trailing,
         place: 44,
     });
-    equal(&rt, payload_in(KEY_SET, longer.as_slice()), Err(trailing));
+    equal(&rt, payload_in(JEFE, longer.as_slice()), Err(trailing));
     let no_keys = Problem::Keys(Refusal {
         reason: Reason::PastRoom,
         place: 0,
@@ -157,14 +157,14 @@ fn gives_the_payload_of_a_message_in_memory(rt: HostRuntime) {
 #[test]
 fn hands_out_what_is_authentic(rt: HostRuntime) {
     let mut bytes = message(&rt);
-    let whole = payload_length(KEY_SET, bytes.as_slice());
+    let whole = payload_length(JEFE, bytes.as_slice());
     let without_keys = payload_length(&[0x80], bytes.as_slice());
     let bad_set = Refusal {
         reason: Reason::BadKeySet,
         place: 0,
     };
     bytes.push(0).expect(&rt, "memory");
-    let followed = payload_length(KEY_SET, bytes.as_slice());
+    let followed = payload_length(JEFE, bytes.as_slice());
     if let Some(byte) = bytes.get_mut(43) {
         *byte ^= 1;
     }
@@ -172,7 +172,7 @@ fn hands_out_what_is_authentic(rt: HostRuntime) {
         reason: Reason::BadAuth,
         place: 10,
     };
-    let changed = payload_length(KEY_SET, bytes.as_slice());
+    let changed = payload_length(JEFE, bytes.as_slice());
     equal(
         &rt,
         [whole, without_keys, followed, changed],
@@ -489,15 +489,15 @@ fn is_authentic(key_set: &[u8], tag: &[u8]) -> Result<bool, Refusal> {
 #[test]
 fn authenticates_by_the_libraries_alone(rt: HostRuntime) {
     let mut tag = hmac(KEY, STRUCTURE);
-    let right = is_authentic(KEY_SET, &tag);
+    let right = is_authentic(JEFE, &tag);
     let without_keys = is_authentic(&[0xa0], &tag);
-    let short = is_authentic(KEY_SET, cut(&tag));
+    let short = is_authentic(JEFE, cut(&tag));
     let no_key = Refusal {
         reason: Reason::NoKey,
         place: 7,
     };
     tag[0] ^= 1;
-    let changed = is_authentic(KEY_SET, &tag);
+    let changed = is_authentic(JEFE, &tag);
     equal(
         &rt,
         [right, without_keys, short, changed],
