@@ -35,7 +35,7 @@ pub(crate) fn mac0_and_more() -> [u8; 45] {
     bytes
 }
 
-/// The same with the key identifier `abcde` in the unprotected header, which the tag doesn't cover.
+/// The COSE_Mac0 with the key identifier `abcde` in the unprotected header, which the tag doesn't cover.
 pub(crate) fn mac0_with_kid() -> [u8; 51] {
     let mut bytes = [0; 51];
     let (front, rest) = MAC0.split_at(6);
@@ -45,7 +45,7 @@ pub(crate) fn mac0_with_kid() -> [u8; 51] {
     bytes
 }
 
-/// The COSE_Mac0 of the samples with nil in place of its payload. The tag is the same.
+/// The COSE_Mac0 with nil in place of its payload, which is detached. The tag is the same.
 pub(crate) fn nil_mac0() -> [u8; 42] {
     let mut bytes = [0xf6; 42];
     let (front, rest) = MAC0.split_at(7);

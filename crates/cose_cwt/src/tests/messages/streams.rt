@@ -129,7 +129,7 @@ impl<'a> WatchedIntake<'a> {
         }
     }
 
-    /// How many bytes each of its calls asked for.
+    /// How many bytes each of its calls asked for, of the first 64.
     pub fn asked(&self) -> &[usize] {
         self.asked.get(..self.takes).unwrap_or(&self.asked)
     }
