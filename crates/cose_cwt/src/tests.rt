@@ -1,16 +1,15 @@
-//! Rows whose answers come from the standards and from another implementation of HMAC, not from this crate.
+//! What no row of rows/ can be: streams that fail, what is asked of them, states between calls, `Debug`, and the examples of the
+//! pages. Tests of the crates below are here too, since they use public calls alone, and a crate with tests is proved twice.
 
-mod admissions;
-mod example;
+mod confirmation;
+mod debug;
+mod examples;
 mod messages;
-mod refusals;
-mod rows;
 mod stops;
-mod tokens;
 
-ghost use Rattle.std.specs.Prelude.{◌≡◌, ◌≤◌, IfSome, length, true};
+ghost use Rattle.std.specs.Prelude.{◌≡◌, ◌≤◌, length, true};
 
-use crate::{Audience, Claims, Policy};
+use crate::{Audience, Policy};
 use cose_map::{Reason, Refusal};
 use cose_msg::{Context, KeySet, Wanted};
 use std::fmt::Debug;
@@ -110,12 +109,4 @@ fn is<T: PartialEq + Debug + Drop, C: Debug>(rt: &impl Abort, case: &C, seen: T,
 /// What is seen is what is wanted.
 fn equal<T: PartialEq + Debug + Drop>(rt: &impl Abort, seen: T, wanted: T) {
     assert_eq!(rt; seen, wanted);
-}
-
-/// Checks that the claims of each row are refused, with its reason and its place.
-fn refuses(rt: &impl Abort, rows: &[(&[u8], Reason, u64)]) {
-    for &(bytes, reason, place) in rows {
-        let want = Some(refusal(reason, place));
-        is(rt, &bytes, Claims::read(bytes, 4).err(), want);
-    }
 }

@@ -137,6 +137,3 @@ impl Alg {
         }
     }
 }
-
-#[cfg(test)]
-mod tests;

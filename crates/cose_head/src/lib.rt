@@ -58,6 +58,3 @@ pub use kind::Kind;
 pub use reason::Reason;
 pub use refusal::Refusal;
 pub use walker::{Step, Walker};
-
-#[cfg(test)]
-mod tests;

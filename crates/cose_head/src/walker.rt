@@ -358,6 +358,3 @@ impl<const D: usize> Walker<D> {
         self.place += count;
     }
 }
-
-#[cfg(test)]
-mod tests;

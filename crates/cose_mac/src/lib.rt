@@ -30,8 +30,6 @@ mod hmac;
 pub mod laws;
 mod running;
 mod structure;
-#[cfg(test)]
-mod tests;
 
 pub use comparison::same_bytes;
 pub use cose_head::{Alg, Kind};

@@ -176,6 +176,3 @@ impl<'a> Bucket<'a> {
         pairs.next().is_none()
     }
 }
-
-#[cfg(test)]
-mod tests;

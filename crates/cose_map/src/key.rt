@@ -74,6 +74,3 @@ impl<'a> Key<'a> {
         Key::of_map(bytes, at)
     }
 }
-
-#[cfg(test)]
-mod tests;

@@ -139,6 +139,3 @@ impl fmt::Debug for KeySet<'_> {
             .finish()
     }
 }
-
-#[cfg(test)]
-mod tests;

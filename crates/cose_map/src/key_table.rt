@@ -116,6 +116,3 @@ impl<const N: usize> fmt::Debug for KeyTable<'_, N> {
         f.debug_struct("KeyTable").field("keys", &count).finish()
     }
 }
-
-#[cfg(test)]
-mod tests;

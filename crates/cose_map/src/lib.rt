@@ -74,6 +74,3 @@ pub use map::first::first_value;
 pub use map::form::Form;
 pub use map::pairs::Pairs;
 pub use map::read::{check_map, read_map, refused};
-
-#[cfg(test)]
-mod tests;

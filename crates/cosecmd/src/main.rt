@@ -74,6 +74,3 @@ fn main(rt: HostRuntime) -> ExitCode {
         Err(_) => complain(&mut output, "fault memory\n"),
     }
 }
-
-#[cfg(test)]
-mod tests;

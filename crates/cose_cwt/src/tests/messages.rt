@@ -1,28 +1,20 @@
 //! Messages over all libraries, whose answers come from the standards' equations, not from these libraries.
 
 mod bounds;
-mod contexts;
 mod detached;
 mod detached_pieces;
-mod feeding;
 mod inspecting;
 mod intake;
 mod limits;
-mod long;
 mod making;
 mod pieces;
-mod replaced;
-mod rows;
 mod run;
 mod samples;
-mod signatures;
 mod slice;
 mod stops;
 mod store;
 mod streams;
-mod tables;
 mod using;
-mod verdicts;
 
 ghost use Rattle.std.specs.Prelude.{◌≡◌, ◌≤◌, false, length};
 ghost use Rattle.cose_msg.specs.Kept.{is_inspecting};
@@ -130,20 +122,6 @@ fn verifier(keys: KeySet, wanted: Wanted) -> Verifier<1024, 4>
         wanted,
         ..context(keys)
     })
-}
-
-/// What `verify` answers for bytes that come in pieces of at most this many. The payload goes into the store.
-fn verified_in_pieces(
-    verifier: &mut Verifier<1024, 4>,
-    bytes: &[u8],
-    cut: usize,
-    store: &mut Store<16>,
-) -> Result<Verdict, Stop>
-    requires verifies { is_inspecting verifier.old ≡ false }
-    requires attached { is_detached verifier.old ≡ false }
-{
-    let mut intake = SliceIntake::new(bytes, cut.max(1));
-    verify::<128, 1024, 4, _, _, _, _>(verifier, &mut intake, store, &Never)
 }
 
 /// Several pieces, one after another.

@@ -109,6 +109,3 @@ impl<'a, 'b> Search<'a, 'b> {
         is_first(&name, self.ahead)
     }
 }
-
-#[cfg(test)]
-mod tests;

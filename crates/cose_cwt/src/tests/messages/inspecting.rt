@@ -8,8 +8,8 @@ use crate::tests::equal;
 use crate::tests::messages::refused;
 use crate::tests::messages::samples::{CURVE_KEY, MAC0, SIGN1, context_of, under_jefe};
 use cose_msg::{
-    Inspected, Kind, Label, Never, Nothing, Reason, Refusal, SliceIntake, Stop, Verdict, Verifier,
-    inspect, verify,
+    Inspected, Kind, Label, Never, Nothing, Reason, SliceIntake, Stop, Verdict, Verifier, inspect,
+    verify,
 };
 
 /// What `inspect` answers for the bytes of this intake.
@@ -53,35 +53,6 @@ fn inspects_a_shape(rt: HostRuntime) {
     );
     verifier.reset();
     equal(&rt, verifier.held(), 256);
-}
-
-#[test]
-fn refuses_a_tag_that_is_too_long(rt: HostRuntime) {
-    let context = context_of(b"\xa0", 4_096).expect(&rt, "a context");
-    let mut verifier: Verifier<32, 4> = Verifier::inspecting(context);
-    let mut intake = SliceIntake::new(
-        b"\xd1\x84\x43\xa1\x01\x05\xa0\x42\x68\x69\x5a\x00\x01\x00\x00\x00",
-        64,
-    );
-    let shape = inspected(&mut verifier, &mut intake);
-    let wanted = Inspected::Refused(Refusal {
-        reason: Reason::BadAuthLength,
-        place: 10,
-    });
-    equal(&rt, (shape, verifier.taken()), (Ok(wanted), 15));
-}
-
-#[test]
-fn refuses_to_inspect_a_payload_over_its_limit(rt: HostRuntime) {
-    let context = context_of(b"\xa0", 1).expect(&rt, "a context");
-    let mut verifier: Verifier<32, 4> = Verifier::inspecting(context);
-    let mut intake = SliceIntake::new(MAC0, 7);
-    let shape = inspected(&mut verifier, &mut intake);
-    let wanted = Inspected::Refused(Refusal {
-        reason: Reason::PayloadTooLong,
-        place: 7,
-    });
-    equal(&rt, (shape, verifier.taken()), (Ok(wanted), 8));
 }
 
 #[test]

@@ -11,8 +11,8 @@ use crate::tests::messages::streams::{FailingReader, Says};
 use crate::tests::messages::{authentic, decision};
 use crate::tests::{JEFE, equal, is};
 use cose_msg::{
-    Alg, Fed, Kind, Never, Nothing, ReadIntake, Reason, Refusal, Sink, SliceIntake, Status, Stop,
-    Store, Verdict, Verifier, verify,
+    Fed, Never, Nothing, ReadIntake, Reason, Refusal, Sink, SliceIntake, Status, Stop, Store,
+    Verdict, Verifier, verify,
 };
 use std::process::Abort;
 
@@ -124,26 +124,6 @@ fn feed_into(verifier: &mut Verifier<16, 1>, piece: &[u8], store: &mut Store<2>)
         let _ = store.put(payload);
     }
     fed
-}
-
-#[test]
-fn comes_to_the_same_in_every_cut(rt: HostRuntime) {
-    let message = mac0_and_more();
-    for cut in 0..45 {
-        let mut verifier = under_jefe::<16, 1>().expect(&rt, "a verifier");
-        let mut store = Store::<2>::new();
-        let (front, rest) = message.split_at(cut);
-        let first = feed_into(&mut verifier, front, &mut store);
-        let last = feed_into(&mut verifier, rest, &mut store);
-        let used = (first.used, last.used);
-        let wanted = (cut.min(WHOLE), WHOLE.saturating_sub(cut));
-        is(
-            &rt,
-            &cut,
-            (used, last.status, store.bytes(), verifier.taken()),
-            (wanted, Status::Complete, b"hi".as_slice(), 44),
-        );
-    }
 }
 
 #[test]
@@ -314,60 +294,6 @@ fn verified(verifier: &mut Verifier<16, 1>, bytes: &[u8], holds: bool) -> Result
         &mut Nothing,
         &Says { holds },
     )
-}
-
-/// Points on P-384 and on P-521 (RFC 9053 section 7.1.1), with the sign of y.
-const KEY_ON_P_384: &[u8] = b"\xa4\x01\x02\x20\x02\x21\x58\x30\
-    012345678901234567890123456789012345678901234567\x22\xf5";
-
-const KEY_ON_P_521: &[u8] = b"\xa4\x01\x02\x20\x03\x21\x58\x42\
-    012345678901234567890123456789012345678901234567890123456789012345\x22\xf5";
-
-/// A COSE_Sign1 of an empty payload of this beginning, up to the signature, which is zeros.
-fn signed<const N: usize>(front: &[u8; 11]) -> [u8; N]
-    requires { 11 ≤ N }
-{
-    let mut bytes = [0; N];
-    bytes[..11].copy_from_slice(front);
-    bytes
-}
-
-/// The verdict on a message under these keys.
-fn decided(keys: &'static [u8], bytes: &[u8], holds: bool) -> Option<Result<Verdict, Stop>> {
-    let mut verifier: Verifier<16, 1> = Verifier::new(context_of(keys, 64)?);
-    Some(verified(&mut verifier, bytes, holds))
-}
-
-/// A COSE_Sign1 of an empty payload is authentic under these keys where its signature holds.
-fn decides(rt: &impl Abort, keys: &'static [u8], bytes: &[u8], alg: Alg, taken: u64) {
-    let authentic = Verdict::Authentic {
-        kind: Kind::Sign1,
-        alg,
-        payload: 0,
-        taken,
-    };
-    equal(rt, decided(keys, bytes, true), Some(Ok(authentic)));
-    refuses(rt, keys, bytes, Reason::BadAuth, 9);
-}
-
-/// A message is refused where no signature holds.
-fn refuses(rt: &impl Abort, keys: &'static [u8], bytes: &[u8], reason: Reason, place: u64) {
-    let refused = Verdict::Refused(Refusal { reason, place });
-    equal(rt, decided(keys, bytes, false), Some(Ok(refused)));
-}
-
-#[test]
-fn decides_on_each_curve(rt: HostRuntime) {
-    let mut by_es384 = signed::<107>(b"\xd2\x84\x44\xa1\x01\x38\x22\xa0\x40\x58\x60");
-    let by_es512 = signed::<143>(b"\xd2\x84\x44\xa1\x01\x38\x23\xa0\x40\x58\x84");
-    decides(&rt, KEY_ON_P_384, &by_es384, Alg::Es384, 107);
-    decides(&rt, KEY_ON_P_521, &by_es512, Alg::Es512, 143);
-    refuses(&rt, CURVE_KEY, &by_es384, Reason::NoKey, 8);
-    refuses(&rt, KEY_ON_P_521, &by_es384, Reason::NoKey, 8);
-    refuses(&rt, KEY_ON_P_384, &by_es512, Reason::NoKey, 8);
-    // A signature of 64 bytes, which ES256 has.
-    by_es384[10] = 0x40;
-    refuses(&rt, KEY_ON_P_384, &by_es384, Reason::BadAuthLength, 9);
 }
 
 #[test]

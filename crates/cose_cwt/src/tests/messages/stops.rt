@@ -1,4 +1,4 @@
-//! Messages that end early or come in pieces, and an intake or a sink that fails in the course of them.
+//! An intake or a sink that fails in the course of a message.
 
 ghost use Rattle.std.specs.Prelude.{◌≡◌, ◌≤◌, false};
 ghost use Rattle.cose_msg.specs.Kept.{is_inspecting};
@@ -11,8 +11,8 @@ use crate::tests::messages::{
 };
 use crate::tests::{TOKEN, is};
 use cose_msg::{
-    Alg, EcVerifier, Fed, Intake, KeySet, Kind, Never, Nothing, Reason, Refusal, Sink, SliceIntake,
-    Status, Stop, Store, Verdict, Verifier, Wanted, verify,
+    Alg, EcVerifier, Fed, Intake, KeySet, Kind, Never, Sink, SliceIntake, Status, Stop, Store,
+    Verdict, Verifier, Wanted, verify,
 };
 use std::alloc::Global;
 use std::process::Abort;
@@ -111,49 +111,6 @@ impl<E: EcVerifier> Case<'_, E> {
         is(rt, &"anew", seen, (fresh, Ok(self.verdict), self.payload));
     }
 
-    /// In pieces of each length the message is authentic, and all of it is taken.
-    fn authenticates_in_pieces<const H: usize>(&self, rt: &impl Abort)
-        requires some_room { 16 ≤ H }
-        requires limit { H ≤ 65535 }
-    {
-        for cut in 1..=9usize {
-            let mut verifier = Verifier::<H, 4>::new(context(self.keys));
-            let mut intake = SliceIntake::new(self.bytes, cut);
-            let verdict = verify::<64, H, 4, _, _, _, _>(
-                &mut verifier,
-                &mut intake,
-                &mut Nothing,
-                &self.ec,
-            );
-            let seen = (verdict, verifier.taken());
-            is(rt, &cut, seen, (Ok(self.verdict), self.bytes.len() as u64));
-        }
-    }
-
-    /// This many bytes of the message are Truncated where they end, whether they are verified or fed.
-    fn ends_early<const H: usize>(&self, rt: &impl Abort, count: usize)
-        requires some_room { 16 ≤ H }
-        requires limit { H ≤ 65535 }
-    {
-        let front = self.bytes.get(..count).unwrap_or(&[]);
-        let refusal = Refusal {
-            reason: Reason::Truncated,
-            place: count as u64,
-        };
-        let mut verifier = Verifier::<H, 4>::new(context(self.keys));
-        let mut intake = SliceIntake::new(front, 64);
-        let verdict = answer(&mut verifier, &mut intake, &mut Nothing, &self.ec);
-        let taken = verifier.taken();
-        verifier.reset();
-        verifier.feed(front);
-        let ended = verifier.end();
-        let verdicts = (verdict, ended);
-        let truncated = (Ok(Verdict::Refused(refusal)), Status::Refused(refusal));
-        is(rt, &count, verdicts, truncated);
-        let places = (taken, verifier.taken());
-        is(rt, &count, places, (refusal.place, refusal.place));
-    }
-
     /// The message, a byte at each call, and an intake that fails at the call of this number.
     fn stops_at_take<const H: usize>(&self, rt: &impl Abort, fails_at: usize)
         requires some_room { 16 ≤ H }
@@ -194,15 +151,12 @@ impl<E: EcVerifier> Case<'_, E> {
         self.authenticates_anew(rt, &mut verifier);
     }
 
-    /// The message ends after each number of bytes; the intake fails at each of its calls in turn, and so does the sink.
-    /// Without a failure there are no further calls.
+    /// The intake fails at each of its calls in turn, and so does the sink. Without a failure there are no further calls.
     fn stops_at_each<const H: usize>(&self, rt: &impl Abort)
         requires some_room { 16 ≤ H }
         requires limit { H ≤ 65535 }
     {
-        self.authenticates_in_pieces::<H>(rt);
         for fails_at in 1..=self.bytes.len() {
-            self.ends_early::<H>(rt, fails_at.saturating_sub(1));
             self.stops_at_take::<H>(rt, fails_at);
         }
         for fails_at in 1..=self.payload.len() {

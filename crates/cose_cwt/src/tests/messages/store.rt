@@ -1,7 +1,8 @@
-//! A store alone: its capacity, a piece that doesn't fit, and what happens after a failure.
+//! A store: its capacity, a piece that doesn't fit, what happens after a failure, and a message whose payload it has no room for.
 
+use crate::tests::messages::samples::{MAC0, under_jefe};
 use crate::tests::{equal, is};
-use cose_msg::{Sink, SinkFault, Store};
+use cose_msg::{Never, Sink, SinkFault, SliceIntake, Stop, Store, verify};
 
 #[test]
 fn holds_what_fits(rt: HostRuntime) {
@@ -50,4 +51,22 @@ fn is_full_at_its_capacity(rt: HostRuntime) {
     let mut small: Store<3> = Store::new();
     let put = small.put(b"abcd");
     equal(&rt, (put, small.bytes()), (Err(SinkFault), b"".as_slice()));
+}
+
+#[test]
+fn stops_a_message_where_it_is_full(rt: HostRuntime) {
+    let mut verifier = under_jefe::<16, 1>().expect(&rt, "a verifier");
+    let mut store = Store::<1>::new();
+    let mut intake = SliceIntake::new(MAC0, 1);
+    let answer = verify::<16, 16, 1, _, SliceIntake, Store<1>, Never>(
+        &mut verifier,
+        &mut intake,
+        &mut store,
+        &Never,
+    );
+    equal(
+        &rt,
+        (answer, store.bytes()),
+        (Err(Stop::Sink), b"h".as_slice()),
+    );
 }

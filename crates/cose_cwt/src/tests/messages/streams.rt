@@ -234,60 +234,6 @@ impl Read for FailingReader<'_> {
     }
 }
 
-/// A message with a long payload, which is one block of bytes again and again.
-#[derive(Drop)]
-pub struct LongIntake<'a> {
-    part: &'a [u8],
-    block: &'a [u8],
-    blocks: usize,
-    rest: &'a [u8],
-    ended: bool,
-}
-
-impl<'a> LongIntake<'a> {
-    /// The message of these bytes before the payload, the block this many times, and these bytes after the payload.
-    pub fn new(front: &'a [u8], block: &'a [u8], blocks: usize, rest: &'a [u8]) -> Self {
-        LongIntake {
-            part: front,
-            block,
-            blocks,
-            rest,
-            ended: false,
-        }
-    }
-
-    /// What comes after the part that was given whole.
-    fn next_part(&mut self) -> &'a [u8] {
-        if self.blocks > 0 {
-            self.blocks -= 1;
-            return self.block;
-        }
-        let rest = self.rest;
-        self.rest = &[];
-        rest
-    }
-}
-
-impl Intake for LongIntake<'_> {
-    ghost to_come = { λ _. None };
-
-    ghost has_failed = { λ _. false };
-
-    ghost ended = { λ intake. intake.ended };
-
-    fn take(&mut self, into: &mut [u8]) -> Result<usize, IntakeFault> {
-        if self.part.is_empty() {
-            self.part = self.next_part();
-        }
-        let count = self.part.len().min(into.len());
-        let (piece, rest) = self.part.split_at(count);
-        into[..count].copy_from_slice(piece);
-        self.part = rest;
-        self.ended = count == 0;
-        Ok(count)
-    }
-}
-
 /// Gives the same answer for every signature.
 #[derive(Drop)]
 pub struct Says {

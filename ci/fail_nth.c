@@ -1,0 +1,79 @@
+/* Preloaded, it takes at most eight bytes in each write, and gives one byte in each read, or at most FAIL_PIECE. The
+   read of the input whose number is in FAIL_INPUT fails, and so do the read of a file in FAIL_FILE and the write of the
+   output in FAIL_OUTPUT; with FAIL_TAKES_NONE this write takes none. It tells of each of these calls by a byte on the
+   descriptor FAIL_MARK: i, f or o. Before the first read of the input the file FAIL_PATH gets FAIL_LENGTH bytes, where
+   it is there. Where FAIL_DIGITS is there, the last argument becomes so many digits 0, which may be more than the
+   system passes. */
+#define _GNU_SOURCE
+#include <dlfcn.h>
+#include <errno.h>
+#include <stdlib.h>
+#include <string.h>
+#include <unistd.h>
+
+static ssize_t write_through(int descriptor, const void *bytes, size_t count)
+{
+    static ssize_t (*real)(int, const void *, size_t);
+    if (real == NULL)
+        real = (ssize_t (*)(int, const void *, size_t))dlsym(RTLD_NEXT, "write");
+    return real(descriptor, bytes, count);
+}
+
+static long number_in(const char *name)
+{
+    const char *text = getenv(name);
+    return text == NULL ? 0 : atol(text);
+}
+
+/* Tells of a call, and whether it is the one that fails. */
+static int fails(char kind, long nth, const char *name)
+{
+    if (write_through((int)number_in("FAIL_MARK"), &kind, 1) != 1)
+        abort();
+    errno = EIO;
+    return nth == number_in(name);
+}
+
+ssize_t read(int descriptor, void *bytes, size_t count)
+{
+    static ssize_t (*real)(int, void *, size_t);
+    static long inputs, files;
+    const char *path = getenv("FAIL_PATH");
+    size_t piece = getenv("FAIL_PIECE") == NULL ? 1 : (size_t)number_in("FAIL_PIECE");
+    if (real == NULL)
+        real = (ssize_t (*)(int, void *, size_t))dlsym(RTLD_NEXT, "read");
+    if (descriptor == 0 && inputs == 0 && path != NULL && truncate(path, number_in("FAIL_LENGTH")) != 0)
+        abort();
+    if (descriptor == 0 ? fails('i', ++inputs, "FAIL_INPUT") : fails('f', ++files, "FAIL_FILE"))
+        return -1;
+    return real(descriptor, bytes, count > piece ? piece : count);
+}
+
+ssize_t write(int descriptor, const void *bytes, size_t count)
+{
+    static long outputs;
+    if (descriptor != 1)
+        return write_through(descriptor, bytes, count);
+    if (fails('o', ++outputs, "FAIL_OUTPUT"))
+        return getenv("FAIL_TAKES_NONE") == NULL ? -1 : 0;
+    return write_through(descriptor, bytes, count > 8 ? 8 : count);
+}
+
+typedef int Main(int, char **, char **);
+typedef void Hook(void);
+typedef int Start(Main *, int, char **, Hook *, Hook *, Hook *, void *);
+
+int __libc_start_main(Main *program, int count, char **words, Hook *init, Hook *fini, Hook *loader_fini, void *stack)
+{
+    Start *real = (Start *)dlsym(RTLD_NEXT, "__libc_start_main");
+    size_t digits = (size_t)number_in("FAIL_DIGITS");
+    if (digits != 0) {
+        char *word = malloc(digits + 1);
+        if (word == NULL)
+            abort();
+        memset(word, '0', digits);
+        word[digits] = 0;
+        words[count - 1] = word;
+    }
+    return real(program, count, words, init, fini, loader_fini, stack);
+}

@@ -1,0 +1,6 @@
+use Rattle.std.proofs.Common.{◌≡◌, false}
+use Rattle.cose_msg.specs.Kept.{is_inspecting}
+use Rattle.conformance.proofs.messages.is_read.Given as goal
+
+abbrev pub invariant-prefixes : goal.invariant-prefixes
+invariant-prefixes g l = is_inspecting l.verifier ≡ false

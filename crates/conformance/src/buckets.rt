@@ -1,0 +1,108 @@
+//! Header buckets, each alone.
+
+ghost use Rattle.std.specs.Prelude.{◌≤◌, ◌+◌, ◌<◌, ◌^◌, length};
+
+use crate::fields::{Difference, Way, array, bytes, holds, integer, object, optional_bytes, text};
+use crate::items::{is_refused, nesting_of};
+use crate::setting::label_of;
+use cose_map::{Bucket, ItemRef, Items, Label, header};
+use serde_json::Value;
+use std::alloc::Global;
+
+/// Whether a pair has this label, its place and this value.
+fn is_pair(
+    alloc: Global,
+    expected: &Value,
+    label: &Label<'_>,
+    item: &ItemRef<'_>,
+    value: &ItemRef<'_>,
+) -> bool {
+    let data = expected.get(2).and_then(Value::as_str).unwrap_or("?");
+    match hex::decode(alloc, data) {
+        Ok(data) => {
+            expected.get(0).and_then(label_of) == Some(*label)
+                && expected.get(1).and_then(Value::as_u64) == Some(item.place)
+                && data.as_slice() == value.bytes
+        }
+        Err(_) => false,
+    }
+}
+
+/// Whether a bucket has these pairs, and finds the value of each label.
+fn has_pairs(alloc: Global, expected: &[Value], bucket: &Bucket<'_>) -> bool {
+    let mut pairs = bucket.pairs();
+    for pair in expected {
+        let Some((label, item, value)) = pairs.next() else {
+            return false;
+        };
+        let Some(found) = bucket.get(&label) else {
+            return false;
+        };
+        let is_found = found.place == value.place && bucket.has(&label);
+        if !is_found || !is_pair(alloc, pair, &label, &item, &value) {
+            return false;
+        }
+    }
+    pairs.next().is_none() && bucket.is_empty() == expected.is_empty()
+}
+
+/// Whether these are the labels that crit lists.
+fn are_labels(expected: &[Value], elements: Items<'_>) -> bool {
+    let mut elements = elements;
+    for label in expected {
+        match elements.next() {
+            Some(element) if Label::of(&element) == label_of(label) => {}
+            _ => return false,
+        }
+    }
+    elements.next().is_none()
+}
+
+/// Whether crit is the expected one.
+fn is_crit(row: &Value, bucket: &Bucket<'_>) -> Result<bool, Difference> {
+    match bucket.crit() {
+        Some(elements) => Ok(
+            row.get("crit").is_some() && are_labels(array(row, "crit")?, elements),
+        ),
+        None => Ok(row.get("crit").is_none()),
+    }
+}
+
+/// Whether a bucket is the expected one.
+fn is_bucket(alloc: Global, row: &Value, bucket: &Bucket<'_>) -> Result<bool, Difference> {
+    let kid = optional_bytes(alloc, row, "kid")?;
+    let is_kid = match kid {
+        Some(kid) => bucket.kid() == Some(kid.as_slice()),
+        None => bucket.kid().is_none(),
+    };
+    Ok(
+        text(row, "verdict")? == "bucket"
+            && is_kid
+            && bucket.alg() == row.get("alg").and_then(label_of)
+            && bucket.has(&header::ALG) == row.get("alg").is_some()
+            && is_crit(row, bucket)?
+            && has_pairs(alloc, array(row, "pairs")?, bucket),
+    )
+}
+
+/// Runs a test.
+pub fn run_test(alloc: Global, group: &Value, test: &Value) -> Result<(), Difference> {
+    let bucket = bytes(alloc, test, "bucket")?;
+    let bucket = bucket.as_slice();
+    let place = integer(group, "place")?;
+    let nesting = nesting_of(group)?;
+    let result = object(test, "result")?;
+    if place.checked_add(bucket.len() as u64).is_none() {
+        return Err(Difference::Form);
+    }
+    let fault = Bucket::fault(bucket, place, nesting);
+    let is_it = match Bucket::read(bucket, place, nesting) {
+        Ok(read) => fault.is_none() && is_bucket(alloc, result, &read)?,
+        Err(refusal) => fault == Some(refusal) && is_refused(result, refusal)?,
+    };
+    holds(is_it, Way::Slice)?;
+    match Bucket::again(bucket, place, nesting) {
+        Ok(again) if fault.is_none() => holds(is_bucket(alloc, result, &again)?, Way::Slice),
+        _ => holds(fault.is_some(), Way::Slice),
+    }
+}

@@ -1,0 +1,176 @@
+//! The payloads of tokens: their claims, read, and admitted where there is a policy.
+
+ghost use Rattle.std.specs.Prelude.{◌≤◌};
+
+use crate::expected::Refused;
+use crate::fields::{Difference, Way, array, bytes, holds, integer, number, object, text};
+use crate::keys::{are_bytes, is_key};
+use cose_cwt::{Audience, Claims, Key, Policy, Refusal};
+use serde_json::Value;
+use std::alloc::Global;
+
+/// The policy of a group.
+#[derive(Drop)]
+pub struct Rules<'v> {
+    now: i64,
+    leeway: u32,
+    /// The audiences that are asked for, where any are.
+    audience: Option<Vec<&'v str>>,
+}
+
+/// The texts of an array, where the field is there.
+fn optional_texts<'v>(
+    alloc: Global,
+    group: &'v Value,
+    name: &str,
+) -> Result<Option<Vec<&'v str>>, Difference> {
+    if group.get(name).is_none() {
+        return Ok(None);
+    }
+    let mut texts = Vec::new(alloc);
+    for value in array(group, name)? {
+        match value.as_str() {
+            Some(text) if texts.push(text).is_ok() => {}
+            _ => return Err(Difference::Form),
+        }
+    }
+    Ok(Some(texts))
+}
+
+impl<'v> Rules<'v> {
+    /// The policy of a group.
+    pub fn read(alloc: Global, group: &'v Value) -> Result<Self, Difference> {
+        let now = i64::try_from(number(group, "now")?);
+        let leeway = u32::try_from(integer(group, "leeway")?);
+        match (now, leeway) {
+            (Ok(now), Ok(leeway)) => Ok(Rules {
+                now,
+                leeway,
+                audience: optional_texts(alloc, group, "audience")?,
+            }),
+            _ => Err(Difference::Form),
+        }
+    }
+
+    /// The policy for the library.
+    pub fn policy(&self) -> Policy<'_> {
+        let audience = match &self.audience {
+            Some(texts) => Audience::Mine(texts.as_slice()),
+            None => Audience::LeftToCaller,
+        };
+        Policy {
+            now: self.now,
+            leeway: self.leeway,
+            audience,
+        }
+    }
+}
+
+/// Whether a date is that of a field, and absent where it is.
+fn is_date(seen: Option<i128>, said: &Value, name: &str) -> Result<bool, Difference> {
+    match (seen, said.get(name)) {
+        (Some(seen), Some(_)) => Ok(seen == number(said, name)?),
+        (None, None) => Ok(true),
+        _ => Ok(false),
+    }
+}
+
+/// Whether a text is one of an array.
+fn is_among(text: &str, values: &[Value]) -> bool {
+    for value in values {
+        if value.as_str() == Some(text) {
+            return true;
+        }
+    }
+    false
+}
+
+/// Whether the audience is that of an object, and is asked for its texts, and for the subject, with the right answer.
+fn is_audience(claims: &Claims<'_>, said: &Value) -> bool {
+    let texts = match said.get("aud").and_then(Value::as_array) {
+        Some(texts) => texts.as_slice(),
+        None => &[],
+    };
+    let mut rest = texts;
+    for text in claims.auds() {
+        match rest {
+            [first, others @ ..] if first.as_str() == Some(text) && claims.aud_has(text) => {
+                rest = others;
+            }
+            _ => return false,
+        }
+    }
+    let subject = claims.sub().unwrap_or("");
+    rest.is_empty() && claims.aud_has(subject) == is_among(subject, texts)
+}
+
+/// Whether the key of a confirmation is that of an object, and absent where it is.
+fn is_confirmed(alloc: Global, seen: Option<Key<'_>>, said: &Value) -> Result<bool, Difference> {
+    match (seen, said.get("key")) {
+        (Some(key), Some(said)) => is_key(alloc, &key, said),
+        (None, None) => Ok(true),
+        _ => Ok(false),
+    }
+}
+
+/// Whether the confirmation is that of an object. Its key is a set of one key too.
+fn is_confirmation(alloc: Global, claims: &Claims<'_>, said: &Value) -> Result<bool, Difference> {
+    let keys = claims.cnf_set().map_or(0, |set| set.count());
+    match (claims.cnf(), said.get("cnf")) {
+        (Some(cnf), Some(said)) => {
+            let has_kid = are_bytes(alloc, said, "kid", cnf.kid)?;
+            let has_set = (keys == 1) == cnf.key.is_some();
+            Ok(has_kid && has_set && is_confirmed(alloc, cnf.key, said)?)
+        }
+        (None, None) => Ok(keys == 0),
+        _ => Ok(false),
+    }
+}
+
+/// Whether claims are those of an object.
+pub fn are_claims(alloc: Global, claims: &Claims<'_>, said: &Value) -> Result<bool, Difference> {
+    let has_texts = claims.iss() == said.get("iss").and_then(Value::as_str)
+        && claims.sub() == said.get("sub").and_then(Value::as_str)
+        && is_audience(claims, said);
+    let has_dates = is_date(claims.exp(), said, "exp")?
+        && is_date(claims.nbf(), said, "nbf")?
+        && is_date(claims.iat(), said, "iat")?;
+    let has_cti = are_bytes(alloc, said, "cti", claims.cti())?;
+    Ok(has_texts && has_dates && has_cti && is_confirmation(alloc, claims, said)?)
+}
+
+/// The claims of a payload, admitted where there is a policy.
+fn read<'p>(
+    payload: &'p [u8],
+    nesting: usize,
+    rules: Option<&Rules<'_>>,
+) -> Result<Claims<'p>, Refusal>
+    requires { nesting ≤ 32 }
+{
+    let claims = Claims::read(payload, nesting)?;
+    if let Some(rules) = rules {
+        claims.admit(&rules.policy())?;
+    }
+    Ok(claims)
+}
+
+/// Runs a test.
+pub fn run_test(alloc: Global, group: &Value, test: &Value) -> Result<(), Difference> {
+    let payload = bytes(alloc, test, "payload")?;
+    let nesting = integer(group, "nesting")?;
+    if nesting > 32 {
+        return Err(Difference::Form);
+    }
+    let rules = match group.get("now") {
+        Some(_) => Some(Rules::read(alloc, group)?),
+        None => None,
+    };
+    let expected = object(test, "result")?;
+    let claims = read(payload.as_slice(), nesting as usize, rules.as_ref());
+    let is_expected = match (text(expected, "verdict")?, claims) {
+        ("claims", Ok(claims)) => are_claims(alloc, &claims, object(expected, "claims")?)?,
+        ("refused", Err(refusal)) => Refused::read(expected)?.is(refusal),
+        _ => false,
+    };
+    holds(is_expected, Way::Slice)
+}

@@ -1,0 +1,26 @@
+//! Digests of texts that are fed in pieces.
+
+use crate::fields::{Difference, Way, bytes, holds, object};
+use crate::macs::{algorithm, ends_as};
+use crate::messages::CUTS;
+use cose_mac::Running;
+use serde_json::Value;
+use std::alloc::Global;
+
+/// Runs a test.
+pub fn run_test(alloc: Global, group: &Value, test: &Value) -> Result<(), Difference> {
+    let alg = algorithm(group)?;
+    if alg.is_mac() {
+        return Err(Difference::Form);
+    }
+    let text = bytes(alloc, test, "text")?;
+    let digest = bytes(alloc, object(test, "result")?, "digest")?;
+    for cut in CUTS {
+        let running = Running::digest(alg);
+        holds(
+            ends_as(running, text.as_slice(), cut, digest.as_slice()),
+            Way::Feed,
+        )?;
+    }
+    Ok(())
+}

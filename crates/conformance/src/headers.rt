@@ -1,0 +1,34 @@
+//! Both header buckets of a message.
+
+ghost use Rattle.std.specs.Prelude.{◌≤◌, ◌+◌, ◌<◌, ◌^◌, length};
+
+use crate::fields::{Difference, Way, bytes, holds, integer, object, text};
+use crate::items::is_refused;
+use crate::setting::labels;
+use cose_map::{Bucket, check_pair};
+use serde_json::Value;
+use std::alloc::Global;
+
+/// A bucket from a place on, without a fault.
+fn bucket_at<'b>(bucket: &'b [u8], place: u64) -> Result<Bucket<'b>, Difference> {
+    if place.checked_add(bucket.len() as u64).is_none() {
+        return Err(Difference::Form);
+    }
+    Bucket::read(bucket, place, 8).or(Err(Difference::Form))
+}
+
+/// Runs a test.
+pub fn run_test(alloc: Global, group: &Value, test: &Value) -> Result<(), Difference> {
+    let protected = bytes(alloc, test, "protected")?;
+    let unprotected = bytes(alloc, test, "unprotected")?;
+    let understood = labels(alloc, group, "understood")?;
+    let result = object(test, "result")?;
+    let protected = bucket_at(protected.as_slice(), integer(test, "protectedPlace")?)?;
+    let unprotected = bucket_at(unprotected.as_slice(), integer(test, "unprotectedPlace")?)?;
+    let after = integer(test, "after")?;
+    let is_it = match check_pair(&protected, &unprotected, understood.as_slice(), after) {
+        Ok(()) => text(result, "verdict")? == "accepted",
+        Err(refusal) => is_refused(result, refusal)?,
+    };
+    holds(is_it, Way::Slice)
+}

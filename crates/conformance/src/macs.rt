@@ -1,0 +1,52 @@
+//! MACs of texts that are fed in pieces.
+
+ghost use Rattle.std.specs.Prelude.{◌<◌};
+
+use crate::expected::alg_of;
+use crate::fields::{Difference, Way, bytes, holds, object};
+use crate::messages::CUTS;
+use cose_mac::{Alg, Running};
+use cose_msg::Label;
+use serde_json::Value;
+use std::alloc::Global;
+
+/// The algorithm of a group.
+pub fn algorithm(group: &Value) -> Result<Alg, Difference> {
+    let alg = match alg_of(group)? {
+        Label::Int(number) => Alg::from_number(number),
+        Label::Text(_) => None,
+    };
+    alg.ok_or(Difference::Form)
+}
+
+/// Whether the MAC or the digest is the expected one where a text comes in pieces of at most `cut` bytes.
+pub fn ends_as(mut running: Running, text: &[u8], cut: usize, expected: &[u8]) -> bool
+    requires { 0 < cut }
+{
+    for piece in text.chunks(cut) {
+        running.update(piece);
+    }
+    if running.is_mac() {
+        return running.finish_mac().as_slice() == expected;
+    }
+    running.finish_digest().as_slice() == expected
+}
+
+/// Runs a test.
+pub fn run_test(alloc: Global, group: &Value, test: &Value) -> Result<(), Difference> {
+    let alg = algorithm(group)?;
+    if !alg.is_mac() {
+        return Err(Difference::Form);
+    }
+    let key = bytes(alloc, test, "key")?;
+    let text = bytes(alloc, test, "text")?;
+    let mac = bytes(alloc, object(test, "result")?, "mac")?;
+    for cut in CUTS {
+        let running = Running::hmac(alg, key.as_slice());
+        holds(
+            ends_as(running, text.as_slice(), cut, mac.as_slice()),
+            Way::Feed,
+        )?;
+    }
+    Ok(())
+}

@@ -1,0 +1,244 @@
+//! Messages that have their payload, through each way to verify them.
+
+ghost use Rattle.std.specs.Prelude.{◌≡◌, ◌≤◌, ◌<◌, false};
+ghost use Rattle.cose_msg.specs.Kept.{is_inspecting};
+ghost use Rattle.cose_msg.specs.Verifier.{is_detached};
+
+use crate::expected::Expected;
+use crate::fields::{Difference, Way, bytes, holds, integer, object};
+use crate::setting::Setting;
+use crate::streams::{Comparison, Signature};
+use cose_msg::{
+    KeySet, KeyTable, Keys, Reason, Refusal, SliceIntake, Status, Verdict, Verified, Verifier,
+    verify, verify_slice,
+};
+use serde_json::Value;
+use std::alloc::Global;
+
+/// How long the pieces are in which a message comes. No message of the rows is longer than the last.
+pub const CUTS: [usize; 5] = [1, 2, 7, 64, 65_536];
+
+/// A message with what is expected of it.
+#[derive(Clone, Copy)]
+struct Case<'c, 'v> {
+    message: &'c [u8],
+    expected: Expected<'v>,
+    /// The payload, where the message is authentic.
+    payload: &'c [u8],
+    /// How many bytes of the message decide it.
+    taken: u64,
+    signature: &'c Signature,
+}
+
+impl Case<'_, '_> {
+    /// How many prefixes of the message are known to be Truncated: those of an authentic one that are shorter.
+    fn prefixes(&self) -> usize {
+        if self.expected.is_authentic() {
+            return self.taken.min(self.message.len() as u64) as usize;
+        }
+        0
+    }
+
+    /// Whether this is the expected verdict, after so many bytes and with such a payload.
+    fn is(&self, verdict: Verdict, taken: u64, payload: &Comparison<'_>) -> bool {
+        let is_verdict = self.expected.is(verdict, self.payload.len() as u64, taken);
+        is_verdict && taken == self.taken && (payload.is_whole() || !self.expected.is_authentic())
+    }
+
+    /// Whether this is the expected result of bytes that are all there: a byte after an authentic message is refused.
+    fn is_verified(&self, verified: Verified<'_>) -> bool {
+        match verified {
+            Verified::Authentic { kind, alg, payload } => {
+                let verdict = Verdict::Authentic {
+                    kind,
+                    alg,
+                    payload: payload.len() as u64,
+                    taken: self.message.len() as u64,
+                };
+                payload == self.payload
+                    && self.expected.is(verdict, payload.len() as u64, self.taken)
+            }
+            Verified::Refused(
+                Refusal {
+                    reason: Reason::Trailing,
+                    place,
+                },
+            ) if self.expected.is_authentic() => place == self.taken,
+            Verified::Refused(refusal) => match self.expected {
+                Expected::Refused(expected) => expected.is(refusal),
+                Expected::Authentic { .. } => false,
+            },
+        }
+    }
+}
+
+/// Whether `verify` gives what is expected where the message comes in pieces of at most `cut` bytes.
+fn is_verified<'k, const H: usize, const D: usize, K: Keys<'k>>(
+    verifier: &mut Verifier<'k, H, D, K>,
+    case: &Case<'_, '_>,
+    cut: usize,
+) -> bool
+    requires verifies { is_inspecting verifier.old ≡ false }
+    requires attached { is_detached verifier.old ≡ false }
+    requires some { 0 < cut }
+{
+    let mut intake = SliceIntake::new(case.message, cut);
+    let mut payload = Comparison::new(case.payload);
+    match verify::<4_096, H, D, _, _, _, _>(verifier, &mut intake, &mut payload, case.signature) {
+        Ok(verdict) => case.is(verdict, verifier.taken(), &payload),
+        Err(_) => false,
+    }
+}
+
+/// Feeds a message in pieces of at most `cut` bytes.
+fn feed<'k, const H: usize, const D: usize, K: Keys<'k>>(
+    verifier: &mut Verifier<'k, H, D, K>,
+    message: &[u8],
+    cut: usize,
+    payload: &mut Comparison<'_>,
+)
+    requires verifies { is_inspecting verifier.old ≡ false }
+    requires some { 0 < cut }
+    ensures { is_inspecting verifier.new ≡ false }
+{
+    'pieces: for piece in message.chunks(cut) {
+        let fed = verifier.feed(piece);
+        payload.compare(fed.payload_of(piece));
+    }
+}
+
+/// The verdict on a message that was fed and has no further byte.
+pub fn decided<'k, const H: usize, const D: usize, K: Keys<'k>>(
+    verifier: &mut Verifier<'k, H, D, K>,
+    signature: &Signature,
+) -> Option<Verdict>
+    requires verifies { is_inspecting verifier.old ≡ false }
+{
+    match verifier.end() {
+        Status::Complete => Some(verifier.verdict(signature)),
+        Status::Refused(refusal) => Some(Verdict::Refused(refusal)),
+        _ => None,
+    }
+}
+
+/// Whether feeding gives what is expected where the message comes in pieces of at most `cut` bytes.
+fn is_fed<'k, const H: usize, const D: usize, K: Keys<'k>>(
+    verifier: &mut Verifier<'k, H, D, K>,
+    case: &Case<'_, '_>,
+    cut: usize,
+) -> bool
+    requires verifies { is_inspecting verifier.old ≡ false }
+    requires some { 0 < cut }
+{
+    let mut payload = Comparison::new(case.payload);
+    feed(verifier, case.message, cut, &mut payload);
+    match decided(verifier, case.signature) {
+        Some(verdict) => case.is(verdict, verifier.taken(), &payload),
+        None => false,
+    }
+}
+
+/// Whether `verify_slice` gives what is expected, and of each shorter prefix of an authentic message that it is Truncated
+/// at its end.
+fn is_read<'k, const H: usize, const D: usize, K: Keys<'k>>(
+    verifier: &mut Verifier<'k, H, D, K>,
+    case: &Case<'_, '_>,
+) -> bool
+    requires { is_inspecting verifier.old ≡ false }
+{
+    'prefixes: for end in 0..case.prefixes() {
+        let truncated = Verified::Refused(Refusal {
+            reason: Reason::Truncated,
+            place: end as u64,
+        });
+        let prefix = case.message.get(..end).unwrap_or(&[]);
+        if verify_slice(verifier, prefix, case.signature) != truncated {
+            return false;
+        }
+    }
+    case.is_verified(verify_slice(verifier, case.message, case.signature))
+}
+
+/// A verifier under the keys of a set.
+fn under_set<'k, const H: usize, const D: usize>(
+    setting: &'k Setting<'_>,
+    set: KeySet<'k>,
+) -> Verifier<'k, H, D>
+    requires some_room { 16 ≤ H }
+    requires limit { H ≤ 65535 }
+    requires nesting { D ≤ 32 }
+    ensures verifies { is_inspecting result ≡ false }
+    ensures attached { is_detached result ≡ false }
+{
+    Verifier::new(setting.context(set))
+}
+
+/// Runs a message through each way under a key set.
+fn run_under_set<'k, const H: usize, const D: usize>(
+    setting: &'k Setting<'_>,
+    set: KeySet<'k>,
+    case: &Case<'_, '_>,
+) -> Result<(), Difference>
+    requires some_room { 16 ≤ H }
+    requires limit { H ≤ 65535 }
+    requires nesting { D ≤ 32 }
+{
+    'cuts: for cut in CUTS {
+        let mut verifier = under_set::<H, D>(setting, set);
+        holds(is_verified(&mut verifier, case, cut), Way::Verify)?;
+        let mut fed = under_set::<H, D>(setting, set);
+        holds(is_fed(&mut fed, case, cut), Way::Feed)?;
+    }
+    let mut verifier = under_set::<H, D>(setting, set);
+    holds(is_read(&mut verifier, case), Way::Slice)
+}
+
+/// Runs a message at a header limit and a nesting, under a key set, a reference to a table of keys and a table.
+fn run_at<'k, const H: usize, const D: usize>(
+    setting: &'k Setting<'_>,
+    keys: &'k [u8],
+    case: &Case<'_, '_>,
+) -> Result<(), Difference>
+    requires some_room { 16 ≤ H }
+    requires limit { H ≤ 65535 }
+    requires nesting { D ≤ 32 }
+{
+    let (Ok(set), Ok(table)) = (KeySet::read(keys), KeyTable::<16>::read(keys)) else {
+        return Err(Difference::Form);
+    };
+    run_under_set::<H, D>(setting, set, case)?;
+    let mut shared = Verifier::<H, D, &KeyTable<'_, 16>>::new(setting.context(&table));
+    holds(is_fed(&mut shared, case, 64), Way::Feed)?;
+    let mut owner = Verifier::<H, D, KeyTable<'_, 16>>::new(setting.context(table));
+    holds(is_verified(&mut owner, case, 64), Way::Verify)
+}
+
+/// Runs a test.
+pub fn run_test(alloc: Global, group: &Value, test: &Value) -> Result<(), Difference> {
+    let setting = Setting::read(alloc, group)?;
+    let keys = bytes(alloc, group, "keys")?;
+    let message = bytes(alloc, test, "message")?;
+    let signature = Signature::read(alloc, test)?;
+    let result = object(test, "result")?;
+    let expected = Expected::read(result)?;
+    let payload = match expected {
+        Expected::Authentic { .. } => bytes(alloc, result, "payload")?,
+        Expected::Refused(_) => Vec::new(alloc),
+    };
+    let case = Case {
+        message: message.as_slice(),
+        expected,
+        payload: payload.as_slice(),
+        taken: integer(result, "taken")?,
+        signature: &signature,
+    };
+    let keys = keys.as_slice();
+    match (integer(group, "headerLimit")?, integer(group, "nesting")?) {
+        (16, 1) => run_at::<16, 1>(&setting, keys, &case),
+        (64, 4) => run_at::<64, 4>(&setting, keys, &case),
+        (1_024, 4) => run_at::<1_024, 4>(&setting, keys, &case),
+        (1_024, 8) => run_at::<1_024, 8>(&setting, keys, &case),
+        (65_535, 32) => run_at::<65_535, 32>(&setting, keys, &case),
+        _ => Err(Difference::Form),
+    }
+}

@@ -1,0 +1,90 @@
+//! The setting of a group of messages: what they are verified under.
+
+ghost use Rattle.std.specs.Prelude.{◌≡◌, ◌≤◌, length, vec_len};
+
+use crate::fields::{Difference, array, boolean, bytes, optional_integer, text};
+use cose_msg::{Context, Label, Wanted};
+use serde_json::Value;
+use std::alloc::Global;
+
+/// The greatest payload (RFC 9052 has no limit; that of the libraries is below 2^56 bytes).
+const ANY_PAYLOAD: u64 = (1 << 56) - 1;
+
+/// What the messages of a group are verified under, but for their keys.
+#[derive(Drop)]
+pub struct Setting<'v> {
+    aad: Vec<u8>,
+    wanted: Wanted,
+    cwt: bool,
+    understood: Vec<Label<'v>>,
+    payload_limit: u64,
+    ghost external: { vec_len aad ≤ 65535 },
+}
+
+/// The kinds that a text names.
+fn wanted_of(group: &Value) -> Result<Wanted, Difference> {
+    match text(group, "wanted")? {
+        "tagged" => Ok(Wanted::Tagged),
+        "mac0" => Ok(Wanted::Mac0),
+        "sign1" => Ok(Wanted::Sign1),
+        _ => Err(Difference::Form),
+    }
+}
+
+/// The label that a value is: an integer or a text.
+pub fn label_of(value: &Value) -> Option<Label<'_>> {
+    match value.as_i64() {
+        Some(number) => Some(Label::Int(i128::from(number))),
+        None => match value.as_str() {
+            Some(text) => Some(Label::Text(text)),
+            None => None,
+        },
+    }
+}
+
+/// The labels of an array.
+pub fn labels<'v>(
+    alloc: Global,
+    object: &'v Value,
+    name: &str,
+) -> Result<Vec<Label<'v>>, Difference> {
+    let mut labels = Vec::new(alloc);
+    for value in array(object, name)? {
+        match label_of(value) {
+            Some(label) if labels.push(label).is_ok() => {}
+            _ => return Err(Difference::Form),
+        }
+    }
+    Ok(labels)
+}
+
+impl<'v> Setting<'v> {
+    /// The setting of a group.
+    pub fn read(alloc: Global, group: &'v Value) -> Result<Self, Difference> {
+        let aad = bytes(alloc, group, "aad")?;
+        if aad.len() > 65_535 {
+            return Err(Difference::Form);
+        }
+        Ok(Setting {
+            aad,
+            wanted: wanted_of(group)?,
+            cwt: boolean(group, "cwt")?,
+            understood: labels(alloc, group, "understood")?,
+            payload_limit: optional_integer(group, "payloadLimit")?.unwrap_or(ANY_PAYLOAD),
+        })
+    }
+
+    /// The context of a message under these keys.
+    pub fn context<'s, S>(&'s self, keys: S) -> Context<'s, S>
+        ensures { length result.aad.now ≤ 65535 }
+    {
+        Context {
+            keys,
+            aad: self.aad.as_slice(),
+            wanted: self.wanted,
+            cwt: self.cwt,
+            understood: self.understood.as_slice(),
+            payload_limit: self.payload_limit,
+        }
+    }
+}

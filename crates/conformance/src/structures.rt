@@ -1,0 +1,39 @@
+//! The bytes of the authenticated structures before the payload.
+
+use crate::choices::kind_of;
+use crate::fields::{Difference, Way, bytes, holds, number, object};
+use cose_mac::{Alg, Kind, Running, structure_front};
+use serde_json::Value;
+use std::alloc::Global;
+
+/// Whether the digest and the MAC of what is fed of a structure are those of the expected bytes.
+fn is_front(kind: Kind, protected: &[u8], aad: &[u8], payload_length: u64, front: &[u8]) -> bool {
+    let mut digest = Running::digest(Alg::Es256);
+    structure_front(kind, protected, aad, payload_length, &mut digest);
+    let mut expected_digest = Running::digest(Alg::Es256);
+    expected_digest.update(front);
+    let mut mac = Running::hmac(Alg::Hmac256, b"Jefe");
+    structure_front(kind, protected, aad, payload_length, &mut mac);
+    let mut expected_mac = Running::hmac(Alg::Hmac256, b"Jefe");
+    expected_mac.update(front);
+    let is_digest = digest.finish_digest().as_slice() == expected_digest.finish_digest().as_slice();
+    is_digest && mac.finish_mac().as_slice() == expected_mac.finish_mac().as_slice()
+}
+
+/// Runs a test.
+pub fn run_test(alloc: Global, test: &Value) -> Result<(), Difference> {
+    let protected = bytes(alloc, test, "protected")?;
+    let aad = bytes(alloc, test, "aad")?;
+    let front = bytes(alloc, object(test, "result")?, "front")?;
+    let Ok(length) = u64::try_from(number(test, "payloadLength")?) else {
+        return Err(Difference::Form);
+    };
+    let is_expected = is_front(
+        kind_of(test)?,
+        protected.as_slice(),
+        aad.as_slice(),
+        length,
+        front.as_slice(),
+    );
+    holds(is_expected, Way::Feed)
+}

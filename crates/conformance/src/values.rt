@@ -1,0 +1,132 @@
+//! Bytes that are one item, and what it is.
+
+ghost use Rattle.std.specs.Prelude.{◌≤◌, ◌+◌, ◌<◌, ◌^◌, length};
+
+use crate::fields::{Difference, Way, array, boolean, bytes, holds, integer, number, object, text};
+use crate::items::{Walk, is_refused, nesting_of};
+use cose_head::{ItemRef, Items, Reason, Refusal, Span, read_item};
+use serde_json::Value;
+use std::alloc::Global;
+
+/// How many of the getters say that an item is theirs: one, and none of a simple value that isn't a truth value.
+fn kinds(item: &ItemRef<'_>) -> usize {
+    let are = [
+        item.as_int().is_some(),
+        item.as_bytes().is_some(),
+        item.is_text(),
+        item.is_array(),
+        item.is_map(),
+        item.as_tag().is_some(),
+        item.is_float(),
+        item.as_bool().is_some(),
+    ];
+    let mut count: usize = 0;
+    for is in are {
+        count = count.saturating_add(usize::from(is));
+    }
+    count
+}
+
+/// Whether an item in an array or a map has the place and the bytes of a pair.
+fn is_placed(alloc: Global, pair: &Value, item: &ItemRef<'_>) -> bool {
+    let data = pair.get(1).and_then(Value::as_str).unwrap_or("?");
+    match hex::decode(alloc, data) {
+        Ok(data) => {
+            pair.get(0).and_then(Value::as_u64) == Some(item.place) && data.as_slice() == item.bytes
+        }
+        Err(_) => false,
+    }
+}
+
+/// Whether these are the items in an item.
+fn are_children(alloc: Global, expected: &[Value], item: &ItemRef<'_>) -> bool {
+    let mut items = Items::of(item);
+    for pair in expected {
+        match items.next() {
+            Some(child) if is_placed(alloc, pair, &child) => {}
+            _ => return false,
+        }
+    }
+    items.next().is_none()
+}
+
+/// Whether an item is a tag of this number that encloses this.
+fn is_tag(alloc: Global, row: &Value, item: &ItemRef<'_>) -> Result<bool, Difference> {
+    match item.as_tag() {
+        Some((tag, enclosed)) => Ok(
+            i128::from(tag) == number(row, "number")?
+                && enclosed.place == integer(row, "place")?
+                && enclosed.bytes == bytes(alloc, row, "enclosed")?.as_slice(),
+        ),
+        None => Ok(false),
+    }
+}
+
+/// Whether an item is a simple value of this number, and no truth value.
+fn is_simple(row: &Value, item: &ItemRef<'_>) -> Result<bool, Difference> {
+    let head = item.head();
+    Ok(head.major == 7 && head.arg == integer(row, "value")? && kinds(item) == 0)
+}
+
+/// Whether an item is a text string, of this text where it is UTF-8.
+fn is_text(row: &Value, item: &ItemRef<'_>) -> bool {
+    item.is_text() && item.as_text() == row.get("value").and_then(Value::as_str)
+}
+
+/// Whether an item is what is expected.
+fn is_value(alloc: Global, row: &Value, item: &ItemRef<'_>) -> Result<bool, Difference> {
+    let is_it = match text(row, "verdict")? {
+        "integer" => item.as_int() == Some(number(row, "value")?),
+        "bytes" => item.as_bytes() == Some(bytes(alloc, row, "value")?.as_slice()),
+        "text" => is_text(row, item),
+        "array" => item.is_array() && are_children(alloc, array(row, "children")?, item),
+        "map" => item.is_map() && are_children(alloc, array(row, "children")?, item),
+        "tag" => is_tag(alloc, row, item)?,
+        "float" => item.is_float(),
+        "boolean" => item.as_bool() == Some(boolean(row, "value")?),
+        "simple" => return is_simple(row, item),
+        _ => return Ok(false),
+    };
+    Ok(is_it && kinds(item) == 1)
+}
+
+/// Why bytes from a place on aren't one item, where the item that they begin with is read so.
+fn refusal_of(read: Result<Span, Refusal>, place: u64, length: usize) -> Option<Refusal> {
+    match read {
+        Ok(span) if span.length < length => Some(Refusal {
+            reason: Reason::Trailing,
+            place: place.saturating_add(span.length as u64),
+        }),
+        Ok(_) => None,
+        Err(refusal) => Some(Refusal {
+            reason: refusal.reason,
+            place: place.saturating_add(refusal.place),
+        }),
+    }
+}
+
+/// Runs a test.
+pub fn run_test(alloc: Global, group: &Value, test: &Value) -> Result<(), Difference> {
+    let item = bytes(alloc, test, "item")?;
+    let item = item.as_slice();
+    let place = integer(group, "place")?;
+    let nesting = nesting_of(group)?;
+    let result = object(test, "result")?;
+    if place.checked_add(item.len() as u64).is_none() {
+        return Err(Difference::Form);
+    }
+    let read = read_item(item, item.len(), nesting);
+    let refusal = refusal_of(read, place, item.len());
+    let is_it = match ItemRef::read(item, place, nesting) {
+        Ok(one) => refusal.is_none() && is_value(alloc, result, &one)?,
+        Err(refused) => refusal == Some(refused) && is_refused(result, refused)?,
+    };
+    holds(is_it, Way::Slice)?;
+    let walk = Walk {
+        item,
+        room: item.len(),
+        read,
+        going: None,
+    };
+    walk.run(nesting)
+}
