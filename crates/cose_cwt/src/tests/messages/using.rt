@@ -13,7 +13,7 @@ use crate::tests::messages::{
 };
 use crate::tests::{JEFE, TOKEN, equal};
 use cose_cwt::{Audience, Claims, CwtStop, Policy, verify_cwt};
-use cose_mac::{Alg, Running, structure_front};
+use cose_mac::{Alg, Running, same_bytes, structure_front};
 use cose_map::{
     Bucket, KeySet, KeyTable, Keys, Kind, Material, Query, Reason, Refusal, check_pair,
 };
@@ -63,7 +63,7 @@ fn payload_in<'m>(key_set: &[u8], message: &'m [u8]) -> Result<&'m [u8], Problem
     }
 }
 
-/// The payload of a message that is authentic.
+/// The payload of the message from the intake, where it is authentic.
 fn payload_of<'p, I: Intake>(
     verifier: &mut Verifier<1_024, 8>,
     intake: &mut I,
@@ -74,6 +74,8 @@ fn payload_of<'p, I: Intake>(
     ensures verifies { is_inspecting verifier.new ≡ false }
     ensures attached { is_detached verifier.new ≡ false }
 {
+    verifier.reset();
+    store.clear();
     match verify::<512, 1_024, 8, _, _, _, _>(verifier, intake, store, &Never) {
         Ok(Verdict::Authentic { .. }) => Ok(store.bytes()),
         Ok(Verdict::Refused(refusal)) => Err(Problem::Message(refusal)),
@@ -90,8 +92,14 @@ fn payload_length(key_set: &[u8], message: &[u8]) -> Result<usize, Problem> {
     let mut verifier = Verifier::new(context(keys));
     let mut intake = SliceIntake::new(message, 512);
     let mut store = Store::new();
-    let payload = payload_of(&mut verifier, &mut intake, &mut store)?;
-    Ok(payload.len())
+    let length = payload_of(&mut verifier, &mut intake, &mut store)?.len();
+    if intake.take(&mut [0]) != Ok(0) {
+        return Err(Problem::Message(Refusal {
+            reason: Reason::Trailing,
+            place: verifier.taken(),
+        }));
+    }
+    Ok(length)
 }
 
 /// Whether the next message is authentic. The verifier is used for one message after another.
@@ -99,13 +107,11 @@ fn is_next_authentic<'k>(
     verifier: &mut Verifier<'k, 1_024, 8, &'k KeyTable<'k, 16>>,
     message: &[u8],
 ) -> bool {
-    verifier.reset();
     if verifier.is_inspecting() || verifier.is_detached() {
         return false;
     }
-    let mut intake = SliceIntake::new(message, 512);
-    let verdict = verify::<512, 1_024, 8, _, _, _, _>(verifier, &mut intake, &mut Nothing, &Never);
-    matches!(verdict, Ok(Verdict::Authentic { .. }))
+    let verified = verify_slice(verifier, message, &Never);
+    matches!(verified, Verified::Authentic { .. })
 }
 
 /// How many of these messages are authentic under the keys of a table.
@@ -163,6 +169,10 @@ fn hands_out_what_is_authentic(rt: HostRuntime) {
         reason: Reason::BadKeySet,
         place: 0,
     };
+    let trailing = Refusal {
+        reason: Reason::Trailing,
+        place: 44,
+    };
     bytes.push(0).expect(&rt, "memory");
     let followed = payload_length(JEFE, bytes.as_slice());
     if let Some(byte) = bytes.get_mut(43) {
@@ -179,14 +189,14 @@ fn hands_out_what_is_authentic(rt: HostRuntime) {
         [
             Ok(2),
             Err(Problem::Keys(bad_set)),
-            Ok(2),
+            Err(Problem::Message(trailing)),
             Err(Problem::Message(bad_auth)),
         ],
     );
 }
 
-/// An intake that fails at its third call stops it so.
-fn stops(rt: &impl Abort, verifier: &mut Verifier<1_024, 8>, bytes: &[u8], stop: Stop)
+/// An intake that fails at its third call stops it.
+fn stops(rt: &impl Abort, verifier: &mut Verifier<1_024, 8>, bytes: &[u8])
     requires verifies { is_inspecting verifier.old ≡ false }
     requires attached { is_detached verifier.old ≡ false }
     ensures verifies { is_inspecting verifier.new ≡ false }
@@ -195,20 +205,27 @@ fn stops(rt: &impl Abort, verifier: &mut Verifier<1_024, 8>, bytes: &[u8], stop:
     let mut failing = FailingIntake::new(bytes, 3);
     let mut store = Store::new();
     let payload = payload_of(verifier, &mut failing, &mut store);
-    equal(rt, payload, Err(Problem::Stopped(stop)));
+    equal(rt, payload, Err(Problem::Stopped(Stop::Intake)));
 }
 
 #[test]
 fn begins_again_after_a_stop(rt: HostRuntime) {
     let bytes = message(&rt);
     let mut verifier = Verifier::new(context(key_set(&rt)));
-    stops(&rt, &mut verifier, bytes.as_slice(), Stop::Intake);
-    stops(&rt, &mut verifier, bytes.as_slice(), Stop::Again);
-    verifier.reset();
-    let mut intake = SliceIntake::new(bytes.as_slice(), 512);
+    stops(&rt, &mut verifier, bytes.as_slice());
+    stops(&rt, &mut verifier, bytes.as_slice());
     let mut store = Store::new();
+    let mut intake = SliceIntake::new(bytes.as_slice(), 512);
     let payload = payload_of(&mut verifier, &mut intake, &mut store);
     equal(&rt, payload, Ok(b"hi".as_slice()));
+    // Neither the verdict nor the payload before is given again where no message comes.
+    let mut nothing = SliceIntake::new(b"", 512);
+    let truncated = Refusal {
+        reason: Reason::Truncated,
+        place: 0,
+    };
+    let payload = payload_of(&mut verifier, &mut nothing, &mut store);
+    equal(&rt, payload, Err(Problem::Message(truncated)));
 }
 
 /// What tokens are verified under: the CWT tag may come first, and the payload fits into a store of 4,096 bytes.
@@ -227,7 +244,7 @@ fn token_context(keys: KeySet) -> Context
     }
 }
 
-/// The claims of a token that is admitted at this time, give or take a minute, and is for the light.
+/// The claims of a token that is admitted at this time, give or take a minute, and is for the light. No byte follows it.
 fn claims_of<'p>(
     keys: KeySet,
     token: &[u8],
@@ -241,7 +258,20 @@ fn claims_of<'p>(
         leeway: 60,
         audience: Audience::Mine(&["coap://light.example.com"]),
     };
-    verify_cwt::<512, 1_024, 8, 4_096, _, _, _>(&mut verifier, &mut intake, store, &Never, &policy)
+    let claims = verify_cwt::<512, 1_024, 8, 4_096, _, _, _>(
+        &mut verifier,
+        &mut intake,
+        store,
+        &Never,
+        &policy,
+    );
+    match claims {
+        Ok(_) if intake.take(&mut [0]) != Ok(0) => Err(CwtStop::Message(Refusal {
+            reason: Reason::Trailing,
+            place: verifier.taken(),
+        })),
+        claims => claims,
+    }
 }
 
 #[test]
@@ -259,12 +289,24 @@ fn hands_out_claims_that_are_admitted(rt: HostRuntime) {
         place: 59,
     };
     equal(&rt, late.err(), Some(CwtStop::Claims(expired)));
+    let mut longer = [0; 124];
+    longer[..123].copy_from_slice(TOKEN);
+    let mut store = Store::new();
+    let followed = claims_of(keys, &longer, 1_444_065_003, &mut store);
+    let trailing = Refusal {
+        reason: Reason::Trailing,
+        place: 123,
+    };
+    equal(&rt, followed.err(), Some(CwtStop::Message(trailing)));
 }
 
 /// The device's side of a serial line, with a buffer of seven bytes that is emptied at each interrupt.
 trait Port {
     /// Gives the bytes that came since the last interrupt, and says how many these are: 0 where the line is closed.
     fn interrupt(&mut self, buffer: &mut [u8; 7]) -> usize;
+
+    /// Takes back bytes that came after a message.
+    fn give_back(&mut self, bytes: &[u8]);
 }
 
 /// The verdict on one message from the line. The payload goes to the handler as it comes.
@@ -276,6 +318,7 @@ fn listen<P: Port, S: Sink, E: EcVerifier>(
 ) -> Result<Verdict, Stop>
     requires { is_inspecting verifier.old ≡ false }
 {
+    verifier.reset();
     let mut buffer = [0u8; 7];
     'interrupts: for _i in 0..u64::MAX {
         let count = port.interrupt(&mut buffer).min(7);
@@ -286,6 +329,7 @@ fn listen<P: Port, S: Sink, E: EcVerifier>(
             return Err(Stop::Sink);
         }
         if count == 0 || fed.status != Status::More {
+            port.give_back(&bytes[fed.used..]);
             break;
         }
     }
@@ -301,6 +345,8 @@ fn listen<P: Port, S: Sink, E: EcVerifier>(
 struct Line<'a> {
     bytes: &'a [u8],
     last: usize,
+    /// How many bytes were given back.
+    back: usize,
 }
 
 impl Port for Line<'_> {
@@ -312,9 +358,14 @@ impl Port for Line<'_> {
         self.bytes = rest;
         count
     }
+
+    fn give_back(&mut self, bytes: &[u8]) {
+        self.back = bytes.len();
+    }
 }
 
-/// What a device with this key makes of a message on the line, and the payload that its handler gets.
+/// What a device with this key makes of a message on the line, twice, and the payload that its handler gets. Nothing is left of a
+/// message before.
 fn hears<E: EcVerifier>(
     rt: &impl Abort,
     keys: KeySet,
@@ -324,10 +375,31 @@ fn hears<E: EcVerifier>(
     payload: &[u8],
 ) {
     let mut verifier = Verifier::new(context(keys));
-    let mut line = Line { bytes, last: 0 };
+    for _again in 0..2 {
+        let mut line = Line {
+            bytes,
+            last: 0,
+            back: 0,
+        };
+        let mut handler = Store::<16>::new();
+        let heard = listen(&mut verifier, &mut line, &mut handler, ec);
+        equal(rt, (heard, handler.bytes()), (Ok(verdict), payload));
+    }
+}
+
+#[test]
+fn gives_back_what_follows_a_message(rt: HostRuntime) {
+    let bytes = joined(&rt, &[message(&rt).as_slice(), b"more"]);
+    let mut verifier = Verifier::new(context(key_set(&rt)));
+    let mut line = Line {
+        bytes: bytes.as_slice(),
+        last: 0,
+        back: 0,
+    };
     let mut handler = Store::<16>::new();
-    let heard = listen(&mut verifier, &mut line, &mut handler, ec);
-    equal(rt, (heard, handler.bytes()), (Ok(verdict), payload));
+    let heard = listen(&mut verifier, &mut line, &mut handler, &Never);
+    let left = (line.back, line.bytes.len());
+    equal(&rt, (heard, left), (Ok(authentic(44)), (4, 0)));
 }
 
 #[test]
@@ -356,7 +428,7 @@ fn decides_on_a_signature_from_a_line(rt: HostRuntime) {
 }
 
 /// The verdict on an image whose COSE message came before it, with nil for its payload. The image comes in pieces, which are
-/// written to a slot that isn't started yet.
+/// written to a slot that isn't started yet. A message that has its payload is refused, and so is one with bytes after it.
 fn update<I: Intake, S: Sink, E: EcVerifier>(
     verifier: &mut Verifier<256, 4>,
     message: &[u8],
@@ -364,8 +436,10 @@ fn update<I: Intake, S: Sink, E: EcVerifier>(
     slot: &mut S,
     ec: &E,
 ) -> Result<Verdict, Stop>
-    requires { is_inspecting verifier.old ≡ false }
+    requires verifies { is_inspecting verifier.old ≡ false }
+    requires detached { is_detached verifier.old ≡ true }
 {
+    verifier.reset();
     let at_nil = verifier.feed(message).used;
     let mut page = [0u8; 256];
     'pages: for _i in 0..u64::MAX {
@@ -385,8 +459,12 @@ fn update<I: Intake, S: Sink, E: EcVerifier>(
             return Err(Stop::Sink);
         }
     }
-    verifier.feed(&message[at_nil..]);
+    let used = verifier.feed(&message[at_nil..]).used;
     match verifier.end() {
+        Status::Complete if at_nil + used < message.len() => Ok(Verdict::Refused(Refusal {
+            reason: Reason::Trailing,
+            place: verifier.taken(),
+        })),
         Status::Complete => Ok(verifier.verdict(ec)),
         Status::Refused(refusal) => Ok(Verdict::Refused(refusal)),
         Status::More | Status::PayloadNext | Status::Stopped => Err(Stop::Again),
@@ -403,36 +481,44 @@ fn message_of_image(rt: &(impl Abort + Alloc<A = Global>), image: &[u8]) -> Vec<
     joined(rt, &[FRONT, b"\xf6\x58\x20", &tag])
 }
 
+/// An update with this message and this image gets this verdict, and so many bytes of the image come into the slot. Where the same
+/// verifier had another message before, it makes no difference.
+fn updates(rt: &impl Abort, message: &[u8], image: &[u8], verdict: Verdict, count: usize) {
+    let mut verifier = Verifier::detached(context(key_set(rt)), 600);
+    for _again in 0..2 {
+        let mut intake = SliceIntake::new(image, 100);
+        let mut slot = Store::<600>::new();
+        let updated = update(&mut verifier, message, &mut intake, &mut slot, &Never);
+        let written = image.get(..count);
+        equal(rt, (updated, Some(slot.bytes())), (Ok(verdict), written));
+    }
+}
+
 #[test]
 fn updates_an_image(rt: HostRuntime) {
     let image: [u8; 600] = counted();
     let message = message_of_image(&rt, &image);
-    let keys = key_set(&rt);
-    let rows: [(&[u8], Verdict); 2] = [
-        (
-            &image,
-            Verdict::Authentic {
-                kind: Kind::Mac0,
-                alg: Alg::Hmac256,
-                payload: 600,
-                taken: 42,
-            },
-        ),
-        (&image[..599], refused(Reason::Truncated, 7)),
-    ];
-    for (bytes, verdict) in rows {
-        let mut verifier = Verifier::detached(context(keys), 600);
-        let mut intake = SliceIntake::new(bytes, 100);
-        let mut slot = Store::<600>::new();
-        let updated = update(
-            &mut verifier,
-            message.as_slice(),
-            &mut intake,
-            &mut slot,
-            &Never,
-        );
-        equal(&rt, (updated, slot.bytes()), (Ok(verdict), bytes));
-    }
+    let message = message.as_slice();
+    let authentic = Verdict::Authentic {
+        kind: Kind::Mac0,
+        alg: Alg::Hmac256,
+        payload: 600,
+        taken: 42,
+    };
+    updates(&rt, message, &image, authentic, 600);
+    let truncated = refused(Reason::Truncated, 7);
+    updates(&rt, message, &image[..599], truncated, 599);
+    let longer = joined(&rt, &[message, b"\0"]);
+    let trailing = refused(Reason::Trailing, 42);
+    updates(&rt, longer.as_slice(), &image, trailing, 600);
+}
+
+#[test]
+fn updates_nothing_by_a_message_that_has_its_payload(rt: HostRuntime) {
+    let image: [u8; 600] = counted();
+    let attached = refused(Reason::Attached, 7);
+    updates(&rt, message(&rt).as_slice(), &image, attached, 0);
+    updates(&rt, b"", &image, refused(Reason::Truncated, 0), 0);
 }
 
 #[test]
@@ -467,10 +553,12 @@ fn begin(keys: &KeySet, protected: &Bucket, unprotected: &Bucket) -> Result<Runn
 /// Whether this is the authentication tag of the payload, whose `length` bytes come in pieces.
 fn holds(mut mac: Running, protected: &[u8], length: u64, pieces: &[&[u8]], tag: &[u8]) -> bool {
     structure_front(Kind::Mac0, protected, b"", length, &mut mac);
+    let mut count = 0u64;
     for piece in pieces {
         mac.update(piece);
+        count = count.saturating_add(piece.len() as u64);
     }
-    mac.is_mac() && mac.finish_mac().as_slice() == tag
+    count == length && mac.is_mac() && same_bytes(&mac.finish_mac(), tag)
 }
 
 /// Whether this is the authentication tag of `hi`, under the protected header `{1: 5}` and no unprotected one.
