@@ -8,7 +8,6 @@ mod intake;
 mod limits;
 mod making;
 mod pieces;
-mod run;
 mod samples;
 mod slice;
 mod stops;
@@ -21,10 +20,7 @@ ghost use Rattle.cose_msg.specs.Kept.{is_inspecting};
 ghost use Rattle.cose_msg.specs.Verifier.{is_detached};
 
 use crate::tests::JEFE;
-use cose_msg::{
-    Alg, Context, KeySet, Keys, Kind, Never, Reason, Refusal, SliceIntake, Stop, Store, Verdict,
-    Verifier, Wanted, verify,
-};
+use cose_msg::{Alg, Context, KeySet, Keys, Kind, Reason, Refusal, Verdict, Verifier, Wanted};
 use sha2::{Digest, Sha256};
 use std::alloc::Global;
 use std::process::Abort;

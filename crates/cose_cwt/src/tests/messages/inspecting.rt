@@ -74,18 +74,6 @@ fn shows_the_buckets_after_a_refusal(rt: HostRuntime) {
 }
 
 #[test]
-fn shows_no_bucket_that_was_refused(rt: HostRuntime) {
-    let mut verifier = under_jefe::<32, 4>().expect(&rt, "a verifier");
-    let verdict = verified(&mut verifier, b"\xd1\x84\x43\xa1\x01\x05\xa1\x40\x00");
-    let wanted = refused(Reason::BadLabel, 7);
-    let shown = (
-        verifier.protected().is_some(),
-        verifier.unprotected().is_some(),
-    );
-    equal(&rt, (verdict, shown), (Ok(wanted), (true, false)));
-}
-
-#[test]
 fn counts_open_items(rt: HostRuntime) {
     let mut verifier = under_jefe::<32, 4>().expect(&rt, "a verifier");
     let verdict = verified(&mut verifier, b"\xd1\x84\x43\xa1\x01\x05\xa1\x0a\x81\x81");

@@ -27,19 +27,6 @@ fn reads_once_in_a_call(rt: HostRuntime) {
     }
 }
 
-#[test]
-fn takes_no_more_than_fit(rt: HostRuntime) {
-    let mut reader = FailingReader::new(b"abcd", 0);
-    let mut intake = ReadIntake::new(&mut reader);
-    for byte in [b'a', b'b', b'c', b'd'] {
-        let mut into = [0];
-        let taken = intake.take(&mut into);
-        is(&rt, &byte, (taken, into), (Ok(1), [byte]));
-    }
-    let last = intake.take(&mut [0]);
-    is(&rt, &"last", (last, reader.reads), (Ok(0), 5));
-}
-
 /// The next call gives this answer.
 fn answers(
     rt: &impl Abort,

@@ -4,15 +4,15 @@ ghost use Rattle.std.specs.Prelude.{◌≡◌, ◌≤◌, false};
 ghost use Rattle.cose_msg.specs.Kept.{is_inspecting};
 ghost use Rattle.cose_msg.specs.Verifier.{is_detached};
 
+use crate::tests::is;
 use crate::tests::messages::streams::{Asked, FailingIntake, FailingSink};
 use crate::tests::messages::{
     KEY, POINT_SET, SIGNED, authentic, context, decision, hmac, joined, key_set, message,
     signed_digest, verifier,
 };
-use crate::tests::{TOKEN, is};
 use cose_msg::{
-    Alg, EcVerifier, Fed, Intake, KeySet, Kind, Never, Sink, SliceIntake, Status, Stop, Store,
-    Verdict, Verifier, Wanted, verify,
+    EcVerifier, Fed, Intake, KeySet, Never, Sink, SliceIntake, Status, Stop, Store, Verdict,
+    Verifier, Wanted, verify,
 };
 use std::alloc::Global;
 use std::process::Abort;
@@ -202,24 +202,6 @@ fn stops_a_sign1(rt: HostRuntime) {
         verdict: decision(true),
         payload: b"",
         payload_at: 8,
-    };
-    case.stops_at_each::<1024>(&rt);
-}
-
-#[test]
-fn stops_a_token(rt: HostRuntime) {
-    let case = Case {
-        keys: key_set(&rt),
-        ec: Never,
-        bytes: TOKEN,
-        verdict: Verdict::Authentic {
-            kind: Kind::Mac0,
-            alg: Alg::Hmac256,
-            payload: 80,
-            taken: 123,
-        },
-        payload: TOKEN.get(9..89).unwrap_or(&[]),
-        payload_at: 9,
     };
     case.stops_at_each::<1024>(&rt);
 }

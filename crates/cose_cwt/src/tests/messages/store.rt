@@ -44,16 +44,6 @@ fn takes_nothing_after_a_failure(rt: HostRuntime) {
 }
 
 #[test]
-fn is_full_at_its_capacity(rt: HostRuntime) {
-    let mut store: Store<4> = Store::new();
-    let put = store.put(b"abcd");
-    equal(&rt, (put, store.bytes()), (Ok(()), b"abcd".as_slice()));
-    let mut small: Store<3> = Store::new();
-    let put = small.put(b"abcd");
-    equal(&rt, (put, small.bytes()), (Err(SinkFault), b"".as_slice()));
-}
-
-#[test]
 fn stops_a_message_where_it_is_full(rt: HostRuntime) {
     let mut verifier = under_jefe::<16, 1>().expect(&rt, "a verifier");
     let mut store = Store::<1>::new();
