@@ -364,8 +364,28 @@ impl Port for Line<'_> {
     }
 }
 
-/// What a device with this key makes of a message on the line, twice, and the payload that its handler gets. Nothing is left of a
-/// message before.
+/// What a verifier makes of a message on the line, and the payload that the handler gets.
+fn hears_once<E: EcVerifier>(
+    rt: &impl Abort,
+    verifier: &mut Verifier<256, 4>,
+    bytes: &[u8],
+    ec: &E,
+    verdict: Verdict,
+    payload: &[u8],
+)
+    requires { is_inspecting verifier.old ≡ false }
+{
+    let mut line = Line {
+        bytes,
+        last: 0,
+        back: 0,
+    };
+    let mut handler = Store::<16>::new();
+    let heard = listen(verifier, &mut line, &mut handler, ec);
+    equal(rt, (heard, handler.bytes()), (Ok(verdict), payload));
+}
+
+/// The same of a device with this key, twice: nothing is left of a message before.
 fn hears<E: EcVerifier>(
     rt: &impl Abort,
     keys: KeySet,
@@ -375,16 +395,11 @@ fn hears<E: EcVerifier>(
     payload: &[u8],
 ) {
     let mut verifier = Verifier::new(context(keys));
-    for _again in 0..2 {
-        let mut line = Line {
-            bytes,
-            last: 0,
-            back: 0,
-        };
-        let mut handler = Store::<16>::new();
-        let heard = listen(&mut verifier, &mut line, &mut handler, ec);
-        equal(rt, (heard, handler.bytes()), (Ok(verdict), payload));
+    hears_once(rt, &mut verifier, bytes, ec, verdict, payload);
+    if verifier.is_inspecting() {
+        panic!(rt; "it inspects");
     }
+    hears_once(rt, &mut verifier, bytes, ec, verdict, payload);
 }
 
 #[test]
@@ -481,17 +496,33 @@ fn message_of_image(rt: &(impl Abort + Alloc<A = Global>), image: &[u8]) -> Vec<
     joined(rt, &[FRONT, b"\xf6\x58\x20", &tag])
 }
 
-/// An update with this message and this image gets this verdict, and so many bytes of the image come into the slot. Where the same
-/// verifier had another message before, it makes no difference.
+/// An update with this message and this image gets this verdict, and so many bytes of the image come into the slot.
+fn updates_once(
+    rt: &impl Abort,
+    verifier: &mut Verifier<256, 4>,
+    message: &[u8],
+    image: &[u8],
+    verdict: Verdict,
+    count: usize,
+)
+    requires verifies { is_inspecting verifier.old ≡ false }
+    requires detached { is_detached verifier.old ≡ true }
+{
+    let mut intake = SliceIntake::new(image, 100);
+    let mut slot = Store::<600>::new();
+    let updated = update(verifier, message, &mut intake, &mut slot, &Never);
+    let written = image.get(..count);
+    equal(rt, (updated, Some(slot.bytes())), (Ok(verdict), written));
+}
+
+/// The same, twice: the verdict on a message before says nothing of another image.
 fn updates(rt: &impl Abort, message: &[u8], image: &[u8], verdict: Verdict, count: usize) {
     let mut verifier = Verifier::detached(context(key_set(rt)), 600);
-    for _again in 0..2 {
-        let mut intake = SliceIntake::new(image, 100);
-        let mut slot = Store::<600>::new();
-        let updated = update(&mut verifier, message, &mut intake, &mut slot, &Never);
-        let written = image.get(..count);
-        equal(rt, (updated, Some(slot.bytes())), (Ok(verdict), written));
+    updates_once(rt, &mut verifier, message, image, verdict, count);
+    if verifier.is_inspecting() || !verifier.is_detached() {
+        panic!(rt; "it is made for another purpose");
     }
+    updates_once(rt, &mut verifier, message, image, verdict, count);
 }
 
 #[test]
