@@ -59,50 +59,46 @@ fn are_labels(expected: &[Value], elements: Items<'_>) -> bool {
 }
 
 /// Whether crit is the expected one.
-fn is_crit(row: &Value, bucket: &Bucket<'_>) -> Result<bool, Difference> {
+fn is_crit(row: &Value, bucket: &Bucket<'_>) -> bool {
     match bucket.crit() {
-        Some(elements) => Ok(
-            row.get("crit").is_some() && are_labels(array(row, "crit")?, elements),
-        ),
-        None => Ok(row.get("crit").is_none()),
+        Some(elements) => { row.get("crit").is_some() && are_labels(array(row, "crit"), elements) }
+        None => row.get("crit").is_none(),
     }
 }
 
 /// Whether a bucket is the expected one.
-fn is_bucket(alloc: Global, row: &Value, bucket: &Bucket<'_>) -> Result<bool, Difference> {
-    let kid = optional_bytes(alloc, row, "kid")?;
+fn is_bucket(alloc: Global, row: &Value, bucket: &Bucket<'_>) -> bool {
+    let kid = optional_bytes(alloc, row, "kid");
     let is_kid = match kid {
         Some(kid) => bucket.kid() == Some(kid.as_slice()),
         None => bucket.kid().is_none(),
     };
-    Ok(
-        text(row, "verdict")? == "bucket"
-            && is_kid
-            && bucket.alg() == row.get("alg").and_then(label_of)
-            && bucket.has(&header::ALG) == row.get("alg").is_some()
-            && is_crit(row, bucket)?
-            && has_pairs(alloc, array(row, "pairs")?, bucket),
-    )
+    text(row, "verdict") == "bucket"
+        && is_kid
+        && bucket.alg() == row.get("alg").and_then(label_of)
+        && bucket.has(&header::ALG) == row.get("alg").is_some()
+        && is_crit(row, bucket)
+        && has_pairs(alloc, array(row, "pairs"), bucket)
 }
 
 /// Runs a test.
 pub fn run_test(alloc: Global, group: &Value, test: &Value) -> Result<(), Difference> {
-    let bucket = bytes(alloc, test, "bucket")?;
+    let bucket = bytes(alloc, test, "bucket");
     let bucket = bucket.as_slice();
-    let place = integer(group, "place")?;
-    let nesting = nesting_of(group)?;
-    let result = object(test, "result")?;
+    let place = integer(group, "place");
+    let nesting = nesting_of(group);
+    let result = object(test, "result");
     if place.checked_add(bucket.len() as u64).is_none() {
-        return Err(Difference::Form);
+        return Err(Difference::Setting);
     }
     let fault = Bucket::fault(bucket, place, nesting);
     let is_it = match Bucket::read(bucket, place, nesting) {
-        Ok(read) => fault.is_none() && is_bucket(alloc, result, &read)?,
-        Err(refusal) => fault == Some(refusal) && is_refused(result, refusal)?,
+        Ok(read) => fault.is_none() && is_bucket(alloc, result, &read),
+        Err(refusal) => fault == Some(refusal) && is_refused(result, refusal),
     };
     holds(is_it, Way::Slice)?;
     match Bucket::again(bucket, place, nesting) {
-        Ok(again) if fault.is_none() => holds(is_bucket(alloc, result, &again)?, Way::Slice),
+        Ok(again) if fault.is_none() => holds(is_bucket(alloc, result, &again), Way::Slice),
         _ => holds(fault.is_some(), Way::Slice),
     }
 }

@@ -1,19 +1,17 @@
 //! The choice of a key, in a key set, in a table of its keys and in a reference to one.
 
-use crate::expected::alg_of;
 use crate::fields::{Difference, Way, bytes, holds, integer, object, optional_bytes, text};
 use crate::keys::are_bytes;
-use crate::setting::label_of;
+use crate::setting::label;
 use cose_map::{Key, KeySet, KeyTable, Keys, Kind, Label, Material, Query};
 use serde_json::Value;
 use std::alloc::Global;
 
 /// The kind that a text names.
-pub fn kind_of(test: &Value) -> Result<Kind, Difference> {
-    match text(test, "kind")? {
-        "mac0" => Ok(Kind::Mac0),
-        "sign1" => Ok(Kind::Sign1),
-        _ => Err(Difference::Form),
+pub fn kind_of(test: &Value) -> Kind {
+    match text(test, "kind") {
+        "sign1" => Kind::Sign1,
+        _ => Kind::Mac0,
     }
 }
 
@@ -26,12 +24,12 @@ fn operation_of(kind: Kind) -> i128 {
 }
 
 /// Whether the key that is found is the expected one.
-fn is_found(alloc: Global, key: &Key<'_>, expected: &Value) -> Result<bool, Difference> {
+fn is_found(alloc: Global, key: &Key<'_>, expected: &Value) -> bool {
     match key.material {
         Material::Symmetric(secret) => are_bytes(alloc, expected, "secret", Some(secret)),
         Material::Ec { crv, x, .. } => {
-            let is_curve = integer(expected, "curve")? == u64::from(crv);
-            Ok(is_curve && are_bytes(alloc, expected, "x", Some(x))?)
+            let is_curve = integer(expected, "curve") == u64::from(crv);
+            is_curve && are_bytes(alloc, expected, "x", Some(x))
         }
     }
 }
@@ -43,12 +41,12 @@ fn is_chosen<'k, K: Keys<'k>>(
     query: &Query<'_>,
     expected: &Value,
 ) -> Result<(), Difference> {
-    let is_expected = match (keys.find(query), text(expected, "verdict")?) {
+    let is_expected = match (keys.find(query), text(expected, "verdict")) {
         (Ok((key, algorithm)), "found") => {
-            let is_alg = alg_of(expected)? == Label::Int(algorithm);
-            is_alg && is_found(alloc, &key, expected)?
+            let is_alg = label(expected, "alg") == Some(Label::Int(algorithm));
+            is_alg && is_found(alloc, &key, expected)
         }
-        (Err(reason), "refused") => text(expected, "reason")? == reason.name(),
+        (Err(reason), "refused") => text(expected, "reason") == reason.name(),
         _ => false,
     };
     holds(is_expected, Way::Slice)
@@ -56,20 +54,20 @@ fn is_chosen<'k, K: Keys<'k>>(
 
 /// Runs a test.
 pub fn run_test(alloc: Global, group: &Value, test: &Value) -> Result<(), Difference> {
-    let keys = bytes(alloc, group, "keys")?;
+    let keys = bytes(alloc, group, "keys");
     let keys = keys.as_slice();
-    let kid = optional_bytes(alloc, test, "kid")?;
-    let kind = kind_of(test)?;
+    let kid = optional_bytes(alloc, test, "kid");
+    let kind = kind_of(test);
     let query = Query {
         kind,
         operation: operation_of(kind),
-        protected_alg: test.get("protectedAlg").and_then(label_of),
-        unprotected_alg: test.get("unprotectedAlg").and_then(label_of),
+        protected_alg: label(test, "protectedAlg"),
+        unprotected_alg: label(test, "unprotectedAlg"),
         kid: kid.as_ref().map(Vec::as_slice),
     };
-    let expected = object(test, "result")?;
+    let expected = object(test, "result");
     let (Ok(set), Ok(table)) = (KeySet::read(keys), KeyTable::<256>::read(keys)) else {
-        return Err(Difference::Form);
+        return Err(Difference::Setting);
     };
     is_chosen(alloc, &set, &query, expected)?;
     is_chosen(alloc, &table, &query, expected)?;

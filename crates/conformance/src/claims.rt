@@ -18,37 +18,25 @@ pub struct Rules<'v> {
     audience: Option<Vec<&'v str>>,
 }
 
-/// The texts of an array, where the field is there.
-fn optional_texts<'v>(
-    alloc: Global,
-    group: &'v Value,
-    name: &str,
-) -> Result<Option<Vec<&'v str>>, Difference> {
-    if group.get(name).is_none() {
-        return Ok(None);
-    }
+/// The texts of an array, as far as there is memory, where the field is there.
+fn optional_texts<'v>(alloc: Global, group: &'v Value, name: &str) -> Option<Vec<&'v str>> {
+    let _field = group.get(name)?;
     let mut texts = Vec::new(alloc);
-    for value in array(group, name)? {
-        match value.as_str() {
-            Some(text) if texts.push(text).is_ok() => {}
-            _ => return Err(Difference::Form),
+    for value in array(group, name) {
+        if let Some(text) = value.as_str() {
+            let _ = texts.push(text);
         }
     }
-    Ok(Some(texts))
+    Some(texts)
 }
 
 impl<'v> Rules<'v> {
     /// The policy of a group.
-    pub fn read(alloc: Global, group: &'v Value) -> Result<Self, Difference> {
-        let now = i64::try_from(number(group, "now")?);
-        let leeway = u32::try_from(integer(group, "leeway")?);
-        match (now, leeway) {
-            (Ok(now), Ok(leeway)) => Ok(Rules {
-                now,
-                leeway,
-                audience: optional_texts(alloc, group, "audience")?,
-            }),
-            _ => Err(Difference::Form),
+    pub fn read(alloc: Global, group: &'v Value) -> Self {
+        Rules {
+            now: i64::try_from(number(group, "now")).unwrap_or(0),
+            leeway: u32::try_from(integer(group, "leeway")).unwrap_or(0),
+            audience: optional_texts(alloc, group, "audience"),
         }
     }
 
@@ -67,11 +55,11 @@ impl<'v> Rules<'v> {
 }
 
 /// Whether a date is that of a field, and absent where it is.
-fn is_date(seen: Option<i128>, said: &Value, name: &str) -> Result<bool, Difference> {
+fn is_date(seen: Option<i128>, said: &Value, name: &str) -> bool {
     match (seen, said.get(name)) {
-        (Some(seen), Some(_)) => Ok(seen == number(said, name)?),
-        (None, None) => Ok(true),
-        _ => Ok(false),
+        (Some(seen), Some(_)) => seen == number(said, name),
+        (None, None) => true,
+        _ => false,
     }
 }
 
@@ -105,38 +93,38 @@ fn is_audience(claims: &Claims<'_>, said: &Value) -> bool {
 }
 
 /// Whether the key of a confirmation is that of an object, and absent where it is.
-fn is_confirmed(alloc: Global, seen: Option<Key<'_>>, said: &Value) -> Result<bool, Difference> {
+fn is_confirmed(alloc: Global, seen: Option<Key<'_>>, said: &Value) -> bool {
     match (seen, said.get("key")) {
         (Some(key), Some(said)) => is_key(alloc, &key, said),
-        (None, None) => Ok(true),
-        _ => Ok(false),
+        (None, None) => true,
+        _ => false,
     }
 }
 
 /// Whether the confirmation is that of an object. Its key is a set of one key too.
-fn is_confirmation(alloc: Global, claims: &Claims<'_>, said: &Value) -> Result<bool, Difference> {
+fn is_confirmation(alloc: Global, claims: &Claims<'_>, said: &Value) -> bool {
     let keys = claims.cnf_set().map_or(0, |set| set.count());
     match (claims.cnf(), said.get("cnf")) {
         (Some(cnf), Some(said)) => {
-            let has_kid = are_bytes(alloc, said, "kid", cnf.kid)?;
+            let has_kid = are_bytes(alloc, said, "kid", cnf.kid);
             let has_set = (keys == 1) == cnf.key.is_some();
-            Ok(has_kid && has_set && is_confirmed(alloc, cnf.key, said)?)
+            has_kid && has_set && is_confirmed(alloc, cnf.key, said)
         }
-        (None, None) => Ok(keys == 0),
-        _ => Ok(false),
+        (None, None) => keys == 0,
+        _ => false,
     }
 }
 
 /// Whether claims are those of an object.
-pub fn are_claims(alloc: Global, claims: &Claims<'_>, said: &Value) -> Result<bool, Difference> {
+pub fn are_claims(alloc: Global, claims: &Claims<'_>, said: &Value) -> bool {
     let has_texts = claims.iss() == said.get("iss").and_then(Value::as_str)
         && claims.sub() == said.get("sub").and_then(Value::as_str)
         && is_audience(claims, said);
-    let has_dates = is_date(claims.exp(), said, "exp")?
-        && is_date(claims.nbf(), said, "nbf")?
-        && is_date(claims.iat(), said, "iat")?;
-    let has_cti = are_bytes(alloc, said, "cti", claims.cti())?;
-    Ok(has_texts && has_dates && has_cti && is_confirmation(alloc, claims, said)?)
+    let has_dates = is_date(claims.exp(), said, "exp")
+        && is_date(claims.nbf(), said, "nbf")
+        && is_date(claims.iat(), said, "iat");
+    let has_cti = are_bytes(alloc, said, "cti", claims.cti());
+    has_texts && has_dates && has_cti && is_confirmation(alloc, claims, said)
 }
 
 /// The claims of a payload, admitted where there is a policy.
@@ -156,20 +144,20 @@ fn read<'p>(
 
 /// Runs a test.
 pub fn run_test(alloc: Global, group: &Value, test: &Value) -> Result<(), Difference> {
-    let payload = bytes(alloc, test, "payload")?;
-    let nesting = integer(group, "nesting")?;
+    let payload = bytes(alloc, test, "payload");
+    let nesting = integer(group, "nesting");
     if nesting > 32 {
-        return Err(Difference::Form);
+        return Err(Difference::Setting);
     }
     let rules = match group.get("now") {
-        Some(_) => Some(Rules::read(alloc, group)?),
+        Some(_) => Some(Rules::read(alloc, group)),
         None => None,
     };
-    let expected = object(test, "result")?;
+    let expected = object(test, "result");
     let claims = read(payload.as_slice(), nesting as usize, rules.as_ref());
-    let is_expected = match (text(expected, "verdict")?, claims) {
-        ("claims", Ok(claims)) => are_claims(alloc, &claims, object(expected, "claims")?)?,
-        ("refused", Err(refusal)) => Refused::read(expected)?.is(refusal),
+    let is_expected = match (text(expected, "verdict"), claims) {
+        ("claims", Ok(claims)) => are_claims(alloc, &claims, object(expected, "claims")),
+        ("refused", Err(refusal)) => Refused::read(expected).is(refusal),
         _ => false,
     };
     holds(is_expected, Way::Slice)

@@ -200,7 +200,7 @@ fn run_at<'k, const H: usize, const D: usize>(
     requires nesting { D ≤ 32 }
 {
     let (Ok(set), Ok(table)) = (KeySet::read(keys), KeyTable::<16>::read(keys)) else {
-        return Err(Difference::Form);
+        return Err(Difference::Setting);
     };
     run_under_set::<H, D>(setting, set, case)?;
     let mut shared = Verifier::<H, D, &KeyTable<'_, 16>>::detached(
@@ -212,33 +212,33 @@ fn run_at<'k, const H: usize, const D: usize>(
 
 /// Runs a test.
 pub fn run_test(alloc: Global, group: &Value, test: &Value) -> Result<(), Difference> {
-    let setting = Setting::read(alloc, group)?;
-    let keys = bytes(alloc, group, "keys")?;
-    let Ok(length) = u64::try_from(number(group, "payloadLength")?) else {
-        return Err(Difference::Form);
+    let setting = Setting::read(alloc, group);
+    let keys = bytes(alloc, group, "keys");
+    let Ok(length) = u64::try_from(number(group, "payloadLength")) else {
+        return Err(Difference::Setting);
     };
-    let message = bytes(alloc, test, "message")?;
-    let payload = bytes(alloc, test, "payload")?;
-    let signature = Signature::read(alloc, test)?;
-    let result = object(test, "result")?;
-    let count = integer(result, "payloadTaken")?;
+    let message = bytes(alloc, test, "message");
+    let payload = bytes(alloc, test, "payload");
+    let signature = Signature::read(alloc, test);
+    let result = object(test, "result");
+    let count = integer(result, "payloadTaken");
     let Some(came) = payload.as_slice().get(..count as usize) else {
-        return Err(Difference::Form);
+        return Err(Difference::Setting);
     };
     let case = Case {
         message: message.as_slice(),
         payload: payload.as_slice(),
         length,
-        expected: Expected::read(result)?,
-        taken: integer(result, "taken")?,
+        expected: Expected::read(result),
+        taken: integer(result, "taken"),
         came,
         signature: &signature,
     };
     let keys = keys.as_slice();
-    match (integer(group, "headerLimit")?, integer(group, "nesting")?) {
+    match (integer(group, "headerLimit"), integer(group, "nesting")) {
         (16, 1) => run_at::<16, 1>(&setting, keys, &case),
         (1_024, 4) => run_at::<1_024, 4>(&setting, keys, &case),
         (1_024, 8) => run_at::<1_024, 8>(&setting, keys, &case),
-        _ => Err(Difference::Form),
+        _ => Err(Difference::Setting),
     }
 }

@@ -1,7 +1,7 @@
 //! The expected result of a message.
 
-use crate::fields::{Difference, integer, text};
-use crate::setting::label_of;
+use crate::fields::{integer, text};
+use crate::setting::label;
 use cose_msg::{Kind, Label, Refusal, Verdict};
 use serde_json::Value;
 
@@ -14,11 +14,11 @@ pub struct Refused<'v> {
 
 impl<'v> Refused<'v> {
     /// The refusal of a result.
-    pub fn read(row: &'v Value) -> Result<Self, Difference> {
-        Ok(Refused {
-            reason: text(row, "reason")?,
-            place: integer(row, "place")?,
-        })
+    pub fn read(row: &'v Value) -> Self {
+        Refused {
+            reason: text(row, "reason"),
+            place: integer(row, "place"),
+        }
     }
 
     /// Whether a refusal is this one.
@@ -35,7 +35,7 @@ pub enum Expected<'v> {
         /// The name of its kind.
         kind: &'v str,
         /// The number of its algorithm.
-        alg: Label<'v>,
+        alg: Option<Label<'v>>,
     },
     /// The message is refused.
     Refused(Refused<'v>),
@@ -51,14 +51,13 @@ pub fn name_of(kind: Kind) -> &'static str {
 
 impl<'v> Expected<'v> {
     /// The verdict of a result.
-    pub fn read(row: &'v Value) -> Result<Self, Difference> {
-        match text(row, "verdict")? {
-            "authentic" => Ok(Expected::Authentic {
-                kind: text(row, "kind")?,
-                alg: alg_of(row)?,
-            }),
-            "refused" => Ok(Expected::Refused(Refused::read(row)?)),
-            _ => Err(Difference::Form),
+    pub fn read(row: &'v Value) -> Self {
+        if text(row, "verdict") != "authentic" {
+            return Expected::Refused(Refused::read(row));
+        }
+        Expected::Authentic {
+            kind: text(row, "kind"),
+            alg: label(row, "alg"),
         }
     }
 
@@ -83,20 +82,12 @@ impl<'v> Expected<'v> {
                 },
             ) => {
                 *name == name_of(kind)
-                    && *number == Label::Int(alg.number())
+                    && *number == Some(Label::Int(alg.number()))
                     && payload == payload_length
                     && taken == bytes
             }
             (Expected::Refused(expected), Verdict::Refused(refusal)) => expected.is(refusal),
             _ => false,
         }
-    }
-}
-
-/// The algorithm of a result.
-pub fn alg_of(row: &Value) -> Result<Label<'_>, Difference> {
-    match row.get("alg").and_then(label_of) {
-        Some(label) => Ok(label),
-        None => Err(Difference::Form),
     }
 }

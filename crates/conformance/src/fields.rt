@@ -1,4 +1,7 @@
-//! The fields of groups and tests, by their types.
+//! The fields of groups and tests, by their types, and why a test differs.
+//!
+//! `ci/rows` sees that each field is there and has its type. A field that isn't there reads as nothing, so that its test
+//! differs.
 
 use serde_json::Value;
 use std::alloc::Global;
@@ -6,8 +9,8 @@ use std::alloc::Global;
 /// Why a test isn't as it should be.
 #[derive(Clone, Copy)]
 pub enum Difference {
-    /// It hasn't the form of rows/README.md.
-    Form,
+    /// Its setting can't be had here.
+    Setting,
     /// The result is another one.
     Result(Way),
 }
@@ -23,13 +26,14 @@ pub enum Way {
     Slice,
 }
 
-impl Way {
-    /// What is printed of a way.
+impl Difference {
+    /// What is printed of a difference.
     pub fn name(self) -> &'static str {
         match self {
-            Way::Verify => "from an intake",
-            Way::Feed => "fed in pieces",
-            Way::Slice => "in memory",
+            Difference::Setting => "another setting",
+            Difference::Result(Way::Verify) => "from an intake",
+            Difference::Result(Way::Feed) => "fed in pieces",
+            Difference::Result(Way::Slice) => "in memory",
         }
     }
 }
@@ -43,77 +47,60 @@ pub fn holds(is_expected: bool, way: Way) -> Result<(), Difference> {
 }
 
 /// A text.
-pub fn text<'v>(object: &'v Value, name: &str) -> Result<&'v str, Difference> {
-    match object.get(name).and_then(Value::as_str) {
-        Some(text) => Ok(text),
-        None => Err(Difference::Form),
-    }
+pub fn text<'v>(object: &'v Value, name: &str) -> &'v str {
+    object.get(name).and_then(Value::as_str).unwrap_or("")
 }
 
 /// An integer from 0 to 2^53.
-pub fn integer(object: &Value, name: &str) -> Result<u64, Difference> {
-    match object.get(name).and_then(Value::as_u64) {
-        Some(integer) => Ok(integer),
-        None => Err(Difference::Form),
-    }
+pub fn integer(object: &Value, name: &str) -> u64 {
+    object.get(name).and_then(Value::as_u64).unwrap_or(u64::MAX)
 }
 
 /// An integer, where the field is there.
-pub fn optional_integer(object: &Value, name: &str) -> Result<Option<u64>, Difference> {
-    match object.get(name) {
-        Some(_) => Ok(Some(integer(object, name)?)),
-        None => Ok(None),
-    }
+pub fn optional_integer(object: &Value, name: &str) -> Option<u64> {
+    object.get(name).and_then(Value::as_u64)
 }
 
 /// An integer of any size, as a text of decimal digits.
-pub fn number(object: &Value, name: &str) -> Result<i128, Difference> {
-    match text(object, name)?.parse::<i128>() {
-        Ok(number) => Ok(number),
-        Err(_) => Err(Difference::Form),
-    }
+pub fn number(object: &Value, name: &str) -> i128 {
+    text(object, name).parse::<i128>().unwrap_or(i128::MIN)
 }
 
 /// A truth value.
-pub fn boolean(object: &Value, name: &str) -> Result<bool, Difference> {
-    match object.get(name).and_then(Value::as_bool) {
-        Some(boolean) => Ok(boolean),
-        None => Err(Difference::Form),
-    }
+pub fn boolean(object: &Value, name: &str) -> Option<bool> {
+    object.get(name).and_then(Value::as_bool)
 }
 
 /// The items of an array.
-pub fn array<'v>(object: &'v Value, name: &str) -> Result<&'v [Value], Difference> {
+pub fn array<'v>(object: &'v Value, name: &str) -> &'v [Value] {
     match object.get(name).and_then(Value::as_array) {
-        Some(items) => Ok(items.as_slice()),
-        None => Err(Difference::Form),
+        Some(items) => items.as_slice(),
+        None => &[],
     }
 }
 
-/// An object.
-pub fn object<'v>(of: &'v Value, name: &str) -> Result<&'v Value, Difference> {
-    match of.get(name) {
-        Some(value) if value.is_object() => Ok(value),
-        _ => Err(Difference::Form),
+/// The value of a field; the object itself where it isn't there.
+pub fn object<'v>(of: &'v Value, name: &str) -> &'v Value {
+    of.get(name).unwrap_or(of)
+}
+
+/// The bytes that a text has in hexadecimal.
+pub fn decoded(alloc: Global, digits: &str) -> Vec<u8> {
+    match hex::decode(alloc, digits) {
+        Ok(bytes) => bytes,
+        Err(_) => Vec::new(alloc),
     }
 }
 
 /// Bytes in hexadecimal.
-pub fn bytes(alloc: Global, object: &Value, name: &str) -> Result<Vec<u8>, Difference> {
-    match hex::decode(alloc, text(object, name)?) {
-        Ok(bytes) => Ok(bytes),
-        Err(_) => Err(Difference::Form),
-    }
+pub fn bytes(alloc: Global, object: &Value, name: &str) -> Vec<u8> {
+    decoded(alloc, text(object, name))
 }
 
 /// Bytes, where the field is there.
-pub fn optional_bytes(
-    alloc: Global,
-    object: &Value,
-    name: &str,
-) -> Result<Option<Vec<u8>>, Difference> {
+pub fn optional_bytes(alloc: Global, object: &Value, name: &str) -> Option<Vec<u8>> {
     match object.get(name) {
-        Some(_) => Ok(Some(bytes(alloc, object, name)?)),
-        None => Ok(None),
+        Some(_) => Some(bytes(alloc, object, name)),
+        None => None,
     }
 }

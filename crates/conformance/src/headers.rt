@@ -12,23 +12,23 @@ use std::alloc::Global;
 /// A bucket from a place on, without a fault.
 fn bucket_at<'b>(bucket: &'b [u8], place: u64) -> Result<Bucket<'b>, Difference> {
     if place.checked_add(bucket.len() as u64).is_none() {
-        return Err(Difference::Form);
+        return Err(Difference::Setting);
     }
-    Bucket::read(bucket, place, 8).or(Err(Difference::Form))
+    Bucket::read(bucket, place, 8).or(Err(Difference::Setting))
 }
 
 /// Runs a test.
 pub fn run_test(alloc: Global, group: &Value, test: &Value) -> Result<(), Difference> {
-    let protected = bytes(alloc, test, "protected")?;
-    let unprotected = bytes(alloc, test, "unprotected")?;
-    let understood = labels(alloc, group, "understood")?;
-    let result = object(test, "result")?;
-    let protected = bucket_at(protected.as_slice(), integer(test, "protectedPlace")?)?;
-    let unprotected = bucket_at(unprotected.as_slice(), integer(test, "unprotectedPlace")?)?;
-    let after = integer(test, "after")?;
+    let protected = bytes(alloc, test, "protected");
+    let unprotected = bytes(alloc, test, "unprotected");
+    let understood = labels(alloc, group, "understood");
+    let result = object(test, "result");
+    let protected = bucket_at(protected.as_slice(), integer(test, "protectedPlace"))?;
+    let unprotected = bucket_at(unprotected.as_slice(), integer(test, "unprotectedPlace"))?;
+    let after = integer(test, "after");
     let is_it = match check_pair(&protected, &unprotected, understood.as_slice(), after) {
-        Ok(()) => text(result, "verdict")? == "accepted",
-        Err(refusal) => is_refused(result, refusal)?,
+        Ok(()) => text(result, "verdict") == "accepted",
+        Err(refusal) => is_refused(result, refusal),
     };
     holds(is_it, Way::Slice)
 }

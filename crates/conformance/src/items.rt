@@ -1,6 +1,6 @@
 //! Items that bytes begin with: read, and walked a byte at a time and in pieces.
 
-ghost use Rattle.std.specs.Prelude.{◌≤◌, length, IfOk};
+ghost use Rattle.std.specs.Prelude.{◌≤◌, length};
 
 use crate::expected::Refused;
 use crate::fields::{Difference, Way, bytes, holds, integer, object, optional_integer, text};
@@ -97,63 +97,56 @@ impl Walk<'_> {
             2 => self.is_walked::<2>(),
             3 => self.is_walked::<3>(),
             32 => self.is_walked::<32>(),
-            _ => Err(Difference::Form),
+            _ => Err(Difference::Setting),
         }
     }
 }
 
 /// How deep an item may nest, at most 32.
-pub fn nesting_of(row: &Value) -> Result<usize, Difference>
-    ensures { IfOk result (λ nesting. nesting ≤ 32) }
+pub fn nesting_of(row: &Value) -> usize
+    ensures { result ≤ 32 }
 {
-    let nesting = integer(row, "nesting")?;
-    if nesting > 32 {
-        return Err(Difference::Form);
-    }
-    Ok(nesting as usize)
+    integer(row, "nesting").min(32) as usize
 }
 
 /// Whether a refusal is the expected result.
-pub fn is_refused(row: &Value, refusal: Refusal) -> Result<bool, Difference> {
-    if text(row, "verdict")? != "refused" {
-        return Ok(false);
-    }
-    Ok(Refused::read(row)?.is(refusal))
+pub fn is_refused(row: &Value, refusal: Refusal) -> bool {
+    text(row, "verdict") == "refused" && Refused::read(row).is(refusal)
 }
 
 /// Whether the reading of an item is the expected one.
-fn is_read(row: &Value, read: Result<Span, Refusal>) -> Result<bool, Difference> {
+fn is_read(row: &Value, read: Result<Span, Refusal>) -> bool {
     match read {
-        Ok(span) => Ok(
-            text(row, "verdict")? == "item"
-                && Some(span.length as u64) == optional_integer(row, "length")?
-                && Some(span.depth as u64) == optional_integer(row, "depth")?,
-        ),
+        Ok(span) => {
+            text(row, "verdict") == "item"
+                && Some(span.length as u64) == optional_integer(row, "length")
+                && Some(span.depth as u64) == optional_integer(row, "depth")
+        }
         Err(refusal) => is_refused(row, refusal),
     }
 }
 
 /// After how many of the bytes a walker is `Going`: of an item after all but the last.
-fn going_of(row: &Value) -> Result<Option<u64>, Difference> {
-    match optional_integer(row, "length")? {
-        Some(length) => Ok(length.checked_sub(1)),
+fn going_of(row: &Value) -> Option<u64> {
+    match optional_integer(row, "length") {
+        Some(length) => length.checked_sub(1),
         None => optional_integer(row, "going"),
     }
 }
 
 /// Runs a test.
 pub fn run_test(alloc: Global, test: &Value) -> Result<(), Difference> {
-    let item = bytes(alloc, test, "item")?;
-    let room = integer(test, "room")? as usize;
-    let nesting = nesting_of(test)?;
-    let result = object(test, "result")?;
+    let item = bytes(alloc, test, "item");
+    let room = integer(test, "room") as usize;
+    let nesting = nesting_of(test);
+    let result = object(test, "result");
     let read = read_item(item.as_slice(), room, nesting);
-    holds(is_read(result, read)?, Way::Slice)?;
+    holds(is_read(result, read), Way::Slice)?;
     let walk = Walk {
         item: item.as_slice(),
         room,
         read,
-        going: going_of(result)?,
+        going: going_of(result),
     };
     walk.run(nesting)
 }

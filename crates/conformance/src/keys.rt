@@ -4,22 +4,17 @@ use crate::expected::Refused;
 use crate::fields::{
     Difference, Way, array, boolean, bytes, holds, integer, object, optional_bytes, text,
 };
-use crate::setting::label_of;
+use crate::setting::label;
 use cose_map::{Key, Material, Ops, Y};
 use serde_json::Value;
 use std::alloc::Global;
 
 /// Whether some bytes, where there are any, are those of a field.
-pub fn are_bytes(
-    alloc: Global,
-    expected: &Value,
-    name: &str,
-    seen: Option<&[u8]>,
-) -> Result<bool, Difference> {
-    match (optional_bytes(alloc, expected, name)?, seen) {
-        (Some(expected), Some(seen)) => Ok(expected.as_slice() == seen),
-        (None, None) => Ok(true),
-        _ => Ok(false),
+pub fn are_bytes(alloc: Global, expected: &Value, name: &str, seen: Option<&[u8]>) -> bool {
+    match (optional_bytes(alloc, expected, name), seen) {
+        (Some(expected), Some(seen)) => expected.as_slice() == seen,
+        (None, None) => true,
+        _ => false,
     }
 }
 
@@ -34,74 +29,64 @@ fn is_listed(operations: &[Value], number: u64) -> bool {
 }
 
 /// Whether the operations, where a key lists any, are the expected ones of those from 1 to 10.
-fn are_operations(ops: Option<Ops<'_>>, expected: &Value) -> Result<bool, Difference> {
+fn are_operations(ops: Option<Ops<'_>>, expected: &Value) -> bool {
     let Some(ops) = ops else {
-        return Ok(expected.get("operations").is_none());
+        return expected.get("operations").is_none();
     };
-    let operations = array(expected, "operations")?;
+    let operations = array(expected, "operations");
     for number in 1..11 {
         if ops.holds(i128::from(number)) != is_listed(operations, number) {
-            return Ok(false);
+            return false;
         }
     }
-    Ok(true)
+    true
 }
 
 /// Whether y is the expected one.
-fn is_y(alloc: Global, y: Y<'_>, expected: &Value) -> Result<bool, Difference> {
+fn is_y(alloc: Global, y: Y<'_>, expected: &Value) -> bool {
     match y {
         Y::Bytes(bytes) => are_bytes(alloc, expected, "y", Some(bytes)),
-        Y::Sign(odd) => Ok(boolean(expected, "y")? == odd),
+        Y::Sign(odd) => boolean(expected, "y") == Some(odd),
     }
 }
 
 /// Whether a point is the expected one.
-fn is_point(
-    alloc: Global,
-    crv: u8,
-    x: &[u8],
-    y: Y<'_>,
-    expected: &Value,
-) -> Result<bool, Difference> {
-    let is_curve = integer(expected, "curve")? == u64::from(crv);
-    let is_x = are_bytes(alloc, expected, "x", Some(x))?;
-    Ok(is_curve && is_x && is_y(alloc, y, expected)?)
+fn is_point(alloc: Global, crv: u8, x: &[u8], y: Y<'_>, expected: &Value) -> bool {
+    let is_curve = integer(expected, "curve") == u64::from(crv);
+    let is_x = are_bytes(alloc, expected, "x", Some(x));
+    is_curve && is_x && is_y(alloc, y, expected)
 }
 
 /// Whether key material is the expected one.
-fn is_material(
-    alloc: Global,
-    material: Material<'_>,
-    expected: &Value,
-) -> Result<bool, Difference> {
-    match (material, text(expected, "type")?) {
+fn is_material(alloc: Global, material: Material<'_>, expected: &Value) -> bool {
+    match (material, text(expected, "type")) {
         (Material::Symmetric(secret), "symmetric") => {
             are_bytes(alloc, expected, "secret", Some(secret))
         }
         (Material::Ec { crv, x, y }, "ec2") => is_point(alloc, crv, x, y, expected),
-        _ => Ok(false),
+        _ => false,
     }
 }
 
 /// Whether a key is the expected one.
-pub fn is_key(alloc: Global, key: &Key<'_>, expected: &Value) -> Result<bool, Difference> {
-    let is_alg = expected.get("alg").and_then(label_of) == key.alg;
-    let is_kid = are_bytes(alloc, expected, "kid", key.kid)?;
-    let has_operations = are_operations(key.ops, expected)?;
-    Ok(is_alg && is_kid && has_operations && is_material(alloc, key.material, expected)?)
+pub fn is_key(alloc: Global, key: &Key<'_>, expected: &Value) -> bool {
+    let is_alg = label(expected, "alg") == key.alg;
+    let is_kid = are_bytes(alloc, expected, "kid", key.kid);
+    let has_operations = are_operations(key.ops, expected);
+    is_alg && is_kid && has_operations && is_material(alloc, key.material, expected)
 }
 
 /// Runs a test.
 pub fn run_test(alloc: Global, group: &Value, test: &Value) -> Result<(), Difference> {
-    let key = bytes(alloc, test, "key")?;
-    let place = integer(group, "place")?;
+    let key = bytes(alloc, test, "key");
+    let place = integer(group, "place");
     if place.checked_add(key.len() as u64).is_none() {
-        return Err(Difference::Form);
+        return Err(Difference::Setting);
     }
-    let expected = object(test, "result")?;
-    let is_expected = match (Key::read(key.as_slice(), place), text(expected, "verdict")?) {
-        (Ok(key), "key") => is_key(alloc, &key, expected)?,
-        (Err(refusal), "refused") => Refused::read(expected)?.is(refusal),
+    let expected = object(test, "result");
+    let is_expected = match (Key::read(key.as_slice(), place), text(expected, "verdict")) {
+        (Ok(key), "key") => is_key(alloc, &key, expected),
+        (Err(refusal), "refused") => Refused::read(expected).is(refusal),
         _ => false,
     };
     holds(is_expected, Way::Slice)

@@ -2,21 +2,20 @@
 
 ghost use Rattle.std.specs.Prelude.{◌<◌};
 
-use crate::expected::alg_of;
 use crate::fields::{Difference, Way, bytes, holds, object};
 use crate::messages::CUTS;
+use crate::setting::label;
 use cose_mac::{Alg, Running};
 use cose_msg::Label;
 use serde_json::Value;
 use std::alloc::Global;
 
-/// The algorithm of a group.
-pub fn algorithm(group: &Value) -> Result<Alg, Difference> {
-    let alg = match alg_of(group)? {
+/// The algorithm of a group or a test.
+pub fn algorithm(row: &Value) -> Option<Alg> {
+    match label(row, "alg")? {
         Label::Int(number) => Alg::from_number(number),
         Label::Text(_) => None,
-    };
-    alg.ok_or(Difference::Form)
+    }
 }
 
 /// Whether the MAC or the digest is the expected one where a text comes in pieces of at most `cut` bytes.
@@ -34,13 +33,15 @@ pub fn ends_as(mut running: Running, text: &[u8], cut: usize, expected: &[u8]) -
 
 /// Runs a test.
 pub fn run_test(alloc: Global, group: &Value, test: &Value) -> Result<(), Difference> {
-    let alg = algorithm(group)?;
+    let Some(alg) = algorithm(group) else {
+        return Err(Difference::Setting);
+    };
     if !alg.is_mac() {
-        return Err(Difference::Form);
+        return Err(Difference::Setting);
     }
-    let key = bytes(alloc, test, "key")?;
-    let text = bytes(alloc, test, "text")?;
-    let mac = bytes(alloc, object(test, "result")?, "mac")?;
+    let key = bytes(alloc, test, "key");
+    let text = bytes(alloc, test, "text");
+    let mac = bytes(alloc, object(test, "result"), "mac");
     for cut in CUTS {
         let running = Running::hmac(alg, key.as_slice());
         holds(

@@ -83,7 +83,7 @@ fn run_test(alloc: Global, schema: &str, group: &Value, test: &Value) -> Result<
         "made" => made::run_test(alloc, group, test),
         "claims" => claims::run_test(alloc, group, test),
         "tokens" => tokens::run_test(alloc, group, test),
-        _ => Err(Difference::Form),
+        _ => Err(Difference::Setting),
     }
 }
 
@@ -94,15 +94,11 @@ fn run_group(
     group: &Value,
     count: &mut Count,
 ) -> io::Result<()> {
-    let tests = array(group, "tests").or(Err(malformed()))?;
-    for test in tests {
+    for test in array(group, "tests") {
         count.tests = count.tests.saturating_add(1);
         if let Err(difference) = run_test(rt.alloc(), schema, group, test) {
             count.differ = count.differ.saturating_add(1);
-            let how = match difference {
-                Difference::Form => "has another form",
-                Difference::Result(way) => way.name(),
-            };
+            let how = difference.name();
             println!(rt; "{schema} {}: {how}", count.tests)?;
         }
     }
@@ -125,8 +121,7 @@ fn run_file(rt: &(impl Print + Files + AllocGlobal), schema: &str) -> io::Result
         tests: 0,
         differ: 0,
     };
-    let groups = array(&file, "testGroups").or(Err(malformed()))?;
-    for group in groups {
+    for group in array(&file, "testGroups") {
         run_group(rt, schema, group, &mut count)?;
     }
     println!(rt; "{schema}: {} tests, {} differ", count.tests, count.differ)?;

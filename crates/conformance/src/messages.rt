@@ -204,7 +204,7 @@ fn run_at<'k, const H: usize, const D: usize>(
     requires nesting { D ≤ 32 }
 {
     let (Ok(set), Ok(table)) = (KeySet::read(keys), KeyTable::<16>::read(keys)) else {
-        return Err(Difference::Form);
+        return Err(Difference::Setting);
     };
     run_under_set::<H, D>(setting, set, case)?;
     let mut shared = Verifier::<H, D, &KeyTable<'_, 16>>::new(setting.context(&table));
@@ -215,30 +215,30 @@ fn run_at<'k, const H: usize, const D: usize>(
 
 /// Runs a test.
 pub fn run_test(alloc: Global, group: &Value, test: &Value) -> Result<(), Difference> {
-    let setting = Setting::read(alloc, group)?;
-    let keys = bytes(alloc, group, "keys")?;
-    let message = bytes(alloc, test, "message")?;
-    let signature = Signature::read(alloc, test)?;
-    let result = object(test, "result")?;
-    let expected = Expected::read(result)?;
+    let setting = Setting::read(alloc, group);
+    let keys = bytes(alloc, group, "keys");
+    let message = bytes(alloc, test, "message");
+    let signature = Signature::read(alloc, test);
+    let result = object(test, "result");
+    let expected = Expected::read(result);
     let payload = match expected {
-        Expected::Authentic { .. } => bytes(alloc, result, "payload")?,
+        Expected::Authentic { .. } => bytes(alloc, result, "payload"),
         Expected::Refused(_) => Vec::new(alloc),
     };
     let case = Case {
         message: message.as_slice(),
         expected,
         payload: payload.as_slice(),
-        taken: integer(result, "taken")?,
+        taken: integer(result, "taken"),
         signature: &signature,
     };
     let keys = keys.as_slice();
-    match (integer(group, "headerLimit")?, integer(group, "nesting")?) {
+    match (integer(group, "headerLimit"), integer(group, "nesting")) {
         (16, 1) => run_at::<16, 1>(&setting, keys, &case),
         (64, 4) => run_at::<64, 4>(&setting, keys, &case),
         (1_024, 4) => run_at::<1_024, 4>(&setting, keys, &case),
         (1_024, 8) => run_at::<1_024, 8>(&setting, keys, &case),
         (65_535, 32) => run_at::<65_535, 32>(&setting, keys, &case),
-        _ => Err(Difference::Form),
+        _ => Err(Difference::Setting),
     }
 }

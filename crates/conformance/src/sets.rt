@@ -24,20 +24,20 @@ fn counted_in<const N: usize>(set: &[u8]) -> Result<usize, Refusal>
 
 /// Runs a test.
 pub fn run_test(alloc: Global, group: &Value, test: &Value) -> Result<(), Difference> {
-    let set = bytes(alloc, test, "set")?;
+    let set = bytes(alloc, test, "set");
     let set = set.as_slice();
-    let count = match optional_integer(group, "table")? {
+    let count = match optional_integer(group, "table") {
         None => counted(set),
         Some(1) => counted_in::<1>(set),
         Some(2) => counted_in::<2>(set),
         Some(16) => counted_in::<16>(set),
         Some(256) => counted_in::<256>(set),
-        Some(_) => return Err(Difference::Form),
+        Some(_) => return Err(Difference::Setting),
     };
-    let expected = object(test, "result")?;
-    let is_expected = match (count, text(expected, "verdict")?) {
-        (Ok(count), "set") => count as u64 == integer(expected, "usable")?,
-        (Err(refusal), "refused") => Refused::read(expected)?.is(refusal),
+    let expected = object(test, "result");
+    let is_expected = match (count, text(expected, "verdict")) {
+        (Ok(count), "set") => count as u64 == integer(expected, "usable"),
+        (Err(refusal), "refused") => Refused::read(expected).is(refusal),
         _ => false,
     };
     holds(is_expected, Way::Slice)

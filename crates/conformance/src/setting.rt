@@ -2,7 +2,7 @@
 
 ghost use Rattle.std.specs.Prelude.{◌≡◌, ◌≤◌, length, vec_len};
 
-use crate::fields::{Difference, array, boolean, bytes, optional_integer, text};
+use crate::fields::{array, boolean, bytes, optional_integer, text};
 use cose_msg::{Context, Label, Wanted};
 use serde_json::Value;
 use std::alloc::Global;
@@ -22,12 +22,11 @@ pub struct Setting<'v> {
 }
 
 /// The kinds that a text names.
-fn wanted_of(group: &Value) -> Result<Wanted, Difference> {
-    match text(group, "wanted")? {
-        "tagged" => Ok(Wanted::Tagged),
-        "mac0" => Ok(Wanted::Mac0),
-        "sign1" => Ok(Wanted::Sign1),
-        _ => Err(Difference::Form),
+fn wanted_of(group: &Value) -> Wanted {
+    match text(group, "wanted") {
+        "mac0" => Wanted::Mac0,
+        "sign1" => Wanted::Sign1,
+        _ => Wanted::Tagged,
     }
 }
 
@@ -42,36 +41,34 @@ pub fn label_of(value: &Value) -> Option<Label<'_>> {
     }
 }
 
-/// The labels of an array.
-pub fn labels<'v>(
-    alloc: Global,
-    object: &'v Value,
-    name: &str,
-) -> Result<Vec<Label<'v>>, Difference> {
+/// The label that a field is, where it is there.
+pub fn label<'v>(object: &'v Value, name: &str) -> Option<Label<'v>> {
+    object.get(name).and_then(label_of)
+}
+
+/// The labels of an array, as far as there is memory.
+pub fn labels<'v>(alloc: Global, object: &'v Value, name: &str) -> Vec<Label<'v>> {
     let mut labels = Vec::new(alloc);
-    for value in array(object, name)? {
-        match label_of(value) {
-            Some(label) if labels.push(label).is_ok() => {}
-            _ => return Err(Difference::Form),
+    for value in array(object, name) {
+        if let Some(label) = label_of(value) {
+            let _ = labels.push(label);
         }
     }
-    Ok(labels)
+    labels
 }
 
 impl<'v> Setting<'v> {
-    /// The setting of a group.
-    pub fn read(alloc: Global, group: &'v Value) -> Result<Self, Difference> {
-        let aad = bytes(alloc, group, "aad")?;
-        if aad.len() > 65_535 {
-            return Err(Difference::Form);
-        }
-        Ok(Setting {
+    /// The setting of a group, whose external data has 65,535 bytes at most.
+    pub fn read(alloc: Global, group: &'v Value) -> Self {
+        let mut aad = bytes(alloc, group, "aad");
+        aad.truncate(65_535);
+        Setting {
             aad,
-            wanted: wanted_of(group)?,
-            cwt: boolean(group, "cwt")?,
-            understood: labels(alloc, group, "understood")?,
-            payload_limit: optional_integer(group, "payloadLimit")?.unwrap_or(ANY_PAYLOAD),
-        })
+            wanted: wanted_of(group),
+            cwt: boolean(group, "cwt") == Some(true),
+            understood: labels(alloc, group, "understood"),
+            payload_limit: optional_integer(group, "payloadLimit").unwrap_or(ANY_PAYLOAD),
+        }
     }
 
     /// The context of a message under these keys.

@@ -3,7 +3,7 @@
 ghost use Rattle.std.specs.Prelude.{◌&&◌, not, None, false, if◌then◌else◌};
 ghost use Rattle.std.specs.Str.{bytes_eq};
 
-use crate::fields::{Difference, boolean, bytes, object};
+use crate::fields::{boolean, bytes, object};
 use cose_msg::{EcVerifier, Key, Sink, SinkFault};
 use serde_json::Value;
 use std::alloc::Global;
@@ -60,22 +60,14 @@ pub struct Signature {
 }
 
 impl Signature {
-    /// The signature of a test. No signature is good where the test has none.
-    pub fn read(alloc: Global, test: &Value) -> Result<Self, Difference> {
-        if test.get("signature").is_none() {
-            // (No digest is of no bytes, so this answers that what it is asked about isn't good.)
-            return Ok(Signature {
-                digest: Vec::new(alloc),
-                signature: Vec::new(alloc),
-                holds: true,
-            });
+    /// The signature of a test. No signature is good where the test has none: no digest is of no bytes.
+    pub fn read(alloc: Global, test: &Value) -> Self {
+        let signature = object(test, "signature");
+        Signature {
+            digest: bytes(alloc, signature, "digest"),
+            signature: bytes(alloc, signature, "signature"),
+            holds: boolean(signature, "holds") != Some(false),
         }
-        let signature = object(test, "signature")?;
-        Ok(Signature {
-            digest: bytes(alloc, signature, "digest")?,
-            signature: bytes(alloc, signature, "signature")?,
-            holds: boolean(signature, "holds")?,
-        })
     }
 }
 

@@ -22,14 +22,14 @@ fn is_front(kind: Kind, protected: &[u8], aad: &[u8], payload_length: u64, front
 
 /// Runs a test.
 pub fn run_test(alloc: Global, test: &Value) -> Result<(), Difference> {
-    let protected = bytes(alloc, test, "protected")?;
-    let aad = bytes(alloc, test, "aad")?;
-    let front = bytes(alloc, object(test, "result")?, "front")?;
-    let Ok(length) = u64::try_from(number(test, "payloadLength")?) else {
-        return Err(Difference::Form);
+    let protected = bytes(alloc, test, "protected");
+    let aad = bytes(alloc, test, "aad");
+    let front = bytes(alloc, object(test, "result"), "front");
+    let Ok(length) = u64::try_from(number(test, "payloadLength")) else {
+        return Err(Difference::Setting);
     };
     let is_expected = is_front(
-        kind_of(test)?,
+        kind_of(test),
         protected.as_slice(),
         aad.as_slice(),
         length,
