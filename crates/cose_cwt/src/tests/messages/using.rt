@@ -538,7 +538,8 @@ fn updates_an_image(rt: HostRuntime) {
     };
     updates(&rt, message, &image, authentic, 600);
     let truncated = refused(Reason::Truncated, 7);
-    updates(&rt, message, &image[..599], truncated, 599);
+    let shorter: [u8; 599] = counted();
+    updates(&rt, message, &shorter, truncated, 599);
     let longer = joined(&rt, &[message, b"\0"]);
     let trailing = refused(Reason::Trailing, 42);
     updates(&rt, longer.as_slice(), &image, trailing, 600);
