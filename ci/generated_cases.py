@@ -20,7 +20,7 @@ KIDS = (b"", b"1", b"2", b"11", bytes(8))
 TEXTS = ("", "x", "alg", "a text", "caf\u00e9", "\U0001f511", "coap://light.example.com")
 NUMBERS = (
     *range(11), 16, 17, 18, 23, 24, 42, 61, 96, 98, 255, 256, 65_535, 65_536, 2**32 - 1, 2**32, 2**56, 2**63, 2**64 - 1,
-    *range(-9, 0), -24, -25, -35, -36, -256, -257, -65_537, -(2**32), -(2**63), -(2**64),
+    *range(-9, 0), -24, -25, -35, -36, -51, -52, -256, -257, -65_537, -(2**32), -(2**63), -(2**64),
 )
 LABELS = (*range(1, 16), 42, 60, 256, 2**64 - 1, -1, -2, -65_537, -(2**64), *TEXTS)
 LENGTHS = (0, 1, 2, 7, 14, 23, 24, 63, 64, 65, 127, 128, 129, 255, 256, 300)
@@ -203,7 +203,7 @@ class Round:
         self.spelling = Spelling(chance, chance.choice(WIDE_RATES))
         self.kind = "sign1" if command == "digest" or self.happens(0.3) else "mac0"
         self.other_kind = "mac0" if self.kind == "sign1" else "sign1"
-        self.alg = self.pick(-7, -35, -36) if self.kind == "sign1" else self.pick(4, 5, 5, 6, 7)
+        self.alg = self.pick(-7, -35, -36, -9, -51, -52) if self.kind == "sign1" else self.pick(4, 5, 5, 6, 7)
         self.alg_bucket = chance.choices(("protected", "unprotected", "neither"), (16, 2, 1))[0]
         self.kid = self.pick(None, chance.choice(KIDS))
         self.is_tagged = self.happens(0.8)

@@ -350,6 +350,9 @@ ALGORITHMS = {
     -7: Algorithm("sign1", "sha256", 64, EC2, 1),
     -35: Algorithm("sign1", "sha384", 96, EC2, 2),
     -36: Algorithm("sign1", "sha512", 132, EC2, 3),
+    -9: Algorithm("sign1", "sha256", 64, EC2, 1),
+    -51: Algorithm("sign1", "sha384", 96, EC2, 2),
+    -52: Algorithm("sign1", "sha512", 132, EC2, 3),
 }
 OPERATIONS = {"mac0": MAC_VERIFY, "sign1": VERIFY}
 

@@ -1,6 +1,6 @@
 //! CBOR Web Tokens (RFC 8392), and their confirmation keys (RFC 8747). HMAC is computed here; for ECDSA (ES256, ES384,
-//! ES512) the digest is computed, and the caller's [`EcVerifier`](cose_msg::EcVerifier) decides; no curve arithmetic is
-//! included.
+//! ES512, ESP256, ESP384, ESP512) the digest is computed, and the caller's [`EcVerifier`](cose_msg::EcVerifier) decides; no
+//! curve arithmetic is included.
 //!
 //! [`verify_cwt`] verifies a token over any intake, and returns its [`Claims`] where the message is authentic and a
 //! [`Policy`] admits them. The claims borrow the store that holds the payload. No memory is allocated. Here `keys` is a

@@ -1,11 +1,11 @@
-//! The table of the algorithms that authenticate messages (RFC 9053 sections 2.1, 3.1 and 7.1).
+//! The table of the algorithms that authenticate messages (RFC 9053 sections 2.1, 3.1 and 7.1, RFC 9864 section 2.1).
 
 ghost use Rattle.std.specs.Prelude.{◌≡◌, Some};
 ghost use Rattle.cose_head.specs.Algorithm.{row_of, algorithm_number, kind_of, hash_of, key_type_of, auth_length_of, is_mac_of, algorithm_numbered};
 
 use crate::kind::Kind;
 
-/// An algorithm that authenticates messages (RFC 9053 sections 2.1 and 3.1).
+/// An algorithm that authenticates messages (RFC 9053 sections 2.1 and 3.1, RFC 9864 section 2.1).
 #[derive(Clone, Copy, Debug, PartialEq, Eq)]
 pub enum Alg {
     /// HMAC 256/64: HMAC with SHA-256, cut to its leftmost 64 bits.
@@ -22,6 +22,12 @@ pub enum Alg {
     Es384,
     /// ES512: ECDSA with SHA-512, here on the curve P-521 alone.
     Es512,
+    /// ESP256: ECDSA with SHA-256 on the curve P-256.
+    Esp256,
+    /// ESP384: ECDSA with SHA-384 on the curve P-384.
+    Esp384,
+    /// ESP512: ECDSA with SHA-512 on the curve P-521.
+    Esp512,
 }
 
 /// A hash function of FIPS 180-4.
@@ -55,7 +61,7 @@ struct Row {
 }
 
 impl Alg {
-    const ALL: [Alg; 7] = [
+    const ALL: [Alg; 10] = [
         Alg::Hmac64,
         Alg::Hmac256,
         Alg::Hmac384,
@@ -63,6 +69,9 @@ impl Alg {
         Alg::Es256,
         Alg::Es384,
         Alg::Es512,
+        Alg::Esp256,
+        Alg::Esp384,
+        Alg::Esp512,
     ];
 
     /// The algorithm of this number, if it is one of these.
@@ -127,6 +136,9 @@ impl Alg {
             Alg::Es256 => (-7, Kind::Sign1, KeyType::Elliptic(1), Hash::Sha256, 64),
             Alg::Es384 => (-35, Kind::Sign1, KeyType::Elliptic(2), Hash::Sha384, 96),
             Alg::Es512 => (-36, Kind::Sign1, KeyType::Elliptic(3), Hash::Sha512, 132),
+            Alg::Esp256 => (-9, Kind::Sign1, KeyType::Elliptic(1), Hash::Sha256, 64),
+            Alg::Esp384 => (-51, Kind::Sign1, KeyType::Elliptic(2), Hash::Sha384, 96),
+            Alg::Esp512 => (-52, Kind::Sign1, KeyType::Elliptic(3), Hash::Sha512, 132),
         };
         Row {
             number,

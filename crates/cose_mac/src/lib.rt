@@ -1,6 +1,6 @@
 //! The authentication of COSE messages (RFC 9052 sections 4.4 and 6.3): running MACs and digests of the bytes that are
-//! authenticated, and the structures of these bytes. HMAC is computed here; for ECDSA (ES256, ES384, ES512) the digest is
-//! computed, and the caller decides; no curve arithmetic is included.
+//! authenticated, and the structures of these bytes. HMAC is computed here; for ECDSA (ES256, ES384, ES512, ESP256, ESP384,
+//! ESP512) the digest is computed, and the caller decides; no curve arithmetic is included.
 //!
 //! The MAC of a COSE_Mac0 is that of its MAC_structure: [`structure_front`] appends the bytes before the payload, and
 //! then the caller appends the payload in pieces of any length. Here the protected header is {1: 4}, which names HMAC

@@ -3,7 +3,7 @@ use Rattle.std.proofs.Common.{◌≡◌, ℕ, ◌≤◌, true, Option, Some, Non
 use Rattle.std.proofs.lemmas.Bool.{eqb-true, leb-true}
 use Rattle.cose_head.specs.declared.reason.Reason.{Reason}
 use Rattle.cose_head.specs.declared.algorithm.Alg.{Alg}
-use Rattle.cose_head.specs.declared.algorithm.Alg.TheVariants.{Hmac64, Hmac256, Hmac384, Hmac512, Es256, Es384, Es512}
+use Rattle.cose_head.specs.declared.algorithm.Alg.TheVariants.{Hmac64, Hmac256, Hmac384, Hmac512, Es256, Es384, Es512, Esp256, Esp384, Esp512}
 use Rattle.cose_head.specs.Algorithm.{auth_length_of}
 use Rattle.cose_msg.specs.Answer.{Answer, Chosen, Whole}
 use Rattle.cose_msg.specs.Laws.{AuthIsAtMost, MessageIsVerifiedWithin, MessageIsInspectedWithin}
@@ -18,6 +18,9 @@ algorithms_are_short Hmac512 = omega arith
 algorithms_are_short Es256 = omega arith
 algorithms_are_short Es384 = omega arith
 algorithms_are_short Es512 = omega arith
+algorithms_are_short Esp256 = omega arith
+algorithms_are_short Esp384 = omega arith
+algorithms_are_short Esp512 = omega arith
 
 -- Where a key is to be chosen, one is.
 abbrev FitsIn : ℕ → Option Chosen → Type 0

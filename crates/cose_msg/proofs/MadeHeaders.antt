@@ -7,7 +7,7 @@ use Rattle.cose_head.specs.Item.{unsigned, byte_string, depth_of}
 use Rattle.cose_head.specs.Placed.{look, bytes_in}
 use Rattle.cose_head.specs.Shortest.{shortest, shortest_all, HasShortest}
 use Rattle.cose_head.specs.declared.algorithm.Alg.{Alg}
-use Rattle.cose_head.specs.declared.algorithm.Alg.TheVariants.{Hmac64, Hmac256, Hmac384, Hmac512, Es256, Es384, Es512}
+use Rattle.cose_head.specs.declared.algorithm.Alg.TheVariants.{Hmac64, Hmac256, Hmac384, Hmac512, Es256, Es384, Es512, Esp256, Esp384, Esp512}
 use Rattle.cose_head.specs.declared.kind.Kind.TheVariants.{Mac0}
 use Rattle.cose_map.specs.Bucket.{bucket_of}
 use Rattle.cose_map.specs.Bucket.Both.{pair_fault, pair_faults}
@@ -36,6 +36,9 @@ number_short Hmac512 = omega arith
 number_short Es256 = omega arith
 number_short Es384 = omega arith
 number_short Es512 = omega arith
+number_short Esp256 = omega arith
+number_short Esp384 = omega arith
+number_short Esp512 = omega arith
 
 pub numbered : (alg : Alg) → algorithm_numbered (algorithm_number alg) ≡ Some alg
 numbered Hmac64 = refl
@@ -45,6 +48,9 @@ numbered Hmac512 = refl
 numbered Es256 = refl
 numbered Es384 = refl
 numbered Es512 = refl
+numbered Esp256 = refl
+numbered Esp384 = refl
+numbered Esp512 = refl
 
 -- No key is chosen for the question of a message that is made by an algorithm of signatures.
 pub chosen_is_mac : (alg : Alg) (kid : Option (List ℕ)) (keys : List KeyValue) (found : KeyValue × ℤ) → chosen (question_made alg kid) keys ≡ Ok found → is_mac_of alg ≡ true
@@ -56,6 +62,9 @@ chosen_is_mac Hmac512 kid keys found e = refl
 chosen_is_mac Es256 kid keys found e = absurd cc
 chosen_is_mac Es384 kid keys found e = absurd cc
 chosen_is_mac Es512 kid keys found e = absurd cc
+chosen_is_mac Esp256 kid keys found e = absurd cc
+chosen_is_mac Esp384 kid keys found e = absurd cc
+chosen_is_mac Esp512 kid keys found e = absurd cc
 
 flat_integer : (n : ℤ) → depth_of (integer_item n) ≡ 0
 unfolding depth_of
@@ -76,6 +85,9 @@ protected_length Hmac512 = omega arith
 protected_length Es256 = omega arith
 protected_length Es384 = omega arith
 protected_length Es512 = omega arith
+protected_length Esp256 = omega arith
+protected_length Esp384 = omega arith
+protected_length Esp512 = omega arith
 
 -- A map that holds the kid has at least as many bytes as the kid.
 inside : (front label head kid : List ℕ) → length kid ≤ length (front ++ (label ++ ((head ++ kid) ++ [])))

@@ -9,7 +9,7 @@ use Rattle.cose_head.specs.Head.{shortest_head}
 use Rattle.cose_head.specs.Item.{byte_string, depth_of}
 use Rattle.cose_head.specs.Shortest.{shortest, shortest_all, HasShortest}
 use Rattle.cose_head.specs.declared.algorithm.Alg.{Alg}
-use Rattle.cose_head.specs.declared.algorithm.Alg.TheVariants.{Hmac64, Hmac256, Hmac384, Hmac512, Es256, Es384, Es512}
+use Rattle.cose_head.specs.declared.algorithm.Alg.TheVariants.{Hmac64, Hmac256, Hmac384, Hmac512, Es256, Es384, Es512, Esp256, Esp384, Esp512}
 use Rattle.cose_head.specs.declared.kind.Kind.TheVariants.{Mac0}
 use Rattle.cose_mac.specs.Laws.{MacHasItsLength}
 use Rattle.cose_mac.specs.Structure.{structure_of}
@@ -80,6 +80,9 @@ auth_below Hmac512 = omega arith
 auth_below Es256 = omega arith
 auth_below Es384 = omega arith
 auth_below Es512 = omega arith
+auth_below Esp256 = omega arith
+auth_below Esp384 = omega arith
+auth_below Esp512 = omega arith
 
 -- ---- the message
 

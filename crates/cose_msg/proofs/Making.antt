@@ -4,7 +4,7 @@ use Rattle.cose_head.specs.Algorithm.{is_mac_of}
 use Rattle.cose_head.specs.Head.{shortest_head}
 use Rattle.cose_head.specs.Shortest.{shortest, shortest_all}
 use Rattle.cose_head.specs.declared.algorithm.Alg.{Alg}
-use Rattle.cose_head.specs.declared.algorithm.Alg.TheVariants.{Hmac64, Hmac256, Hmac384, Hmac512, Es256, Es384, Es512}
+use Rattle.cose_head.specs.declared.algorithm.Alg.TheVariants.{Hmac64, Hmac256, Hmac384, Hmac512, Es256, Es384, Es512, Esp256, Esp384, Esp512}
 use Rattle.cose_mac.specs.Structure.{encoded_string}
 use Rattle.cose_msg.specs.Writes.{front_of}
 use Rattle.cose_msg.specs.Making.{auth_made, made, protected_made, unprotected_made}
@@ -28,6 +28,9 @@ protected_bytes Hmac512 is_mac = refl
 protected_bytes Es256 is_mac = cc
 protected_bytes Es384 is_mac = cc
 protected_bytes Es512 is_mac = cc
+protected_bytes Esp256 is_mac = cc
+protected_bytes Esp384 is_mac = cc
+protected_bytes Esp512 is_mac = cc
 
 -- What precedes the payload's content, the payload, and the tag.
 pub in_parts : (alg : Alg) (secret : List ℕ) (kid : Option (List ℕ)) (aad payload : List ℕ) →

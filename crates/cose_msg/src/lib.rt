@@ -1,6 +1,6 @@
 //! COSE_Mac0 and COSE_Sign1 messages (RFC 9052 sections 6.2 and 4.2), verified over any intake in bounded memory, and
-//! COSE_Mac0 messages made in the same way. HMAC is computed here; for ECDSA (ES256, ES384, ES512) the digest is
-//! computed, and the caller's [`EcVerifier`] decides; no curve arithmetic is included.
+//! COSE_Mac0 messages made in the same way. HMAC is computed here; for ECDSA (ES256, ES384, ES512, ESP256, ESP384,
+//! ESP512) the digest is computed, and the caller's [`EcVerifier`] decides; no curve arithmetic is included.
 //!
 //! A [`Verifier`] holds the header buckets of one message, of at most `H` bytes each, and never the payload. [`verify`] takes
 //! the message from an [`Intake`] in pieces of at most `C` bytes, puts the payload into a [`Sink`] as it comes, and gives one
