@@ -32,3 +32,8 @@ by_number = refl
 by_no_other_number : map algorithm_numbered (pos 3 ∷ pos 8 ∷ pos 35 ∷ pos 36 ∷ pos 9 ∷ pos 51 ∷ pos 52 ∷ negsuc 3 ∷ negsuc 4 ∷ negsuc 5 ∷ negsuc 7 ∷ negsuc 9 ∷ negsuc 33 ∷ negsuc 36 ∷ negsuc 49 ∷ negsuc 52 ∷ []) ≡
     replicate 16 None
 by_no_other_number = refl
+
+-- numbers that equal 5 or -7 in the low 8, 16, 32 or 64 bits
+by_no_number_alike : map algorithm_numbered (pos 261 ∷ pos 65541 ∷ pos 4294967301 ∷ negsuc 250 ∷ negsuc 262 ∷ negsuc 65542 ∷ negsuc 4294967302 ∷ pos 249 ∷ pos 18446744073709551609 ∷ []) ≡
+    replicate 9 None
+by_no_number_alike = refl

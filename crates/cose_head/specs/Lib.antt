@@ -1,6 +1,7 @@
 pub mod Reason
 pub mod Algorithm
 pub mod Refusal
+pub mod Hidden
 pub mod Head
 pub mod Item
 pub mod Reading

@@ -204,10 +204,14 @@ impl<'a> ItemRef<'a> {
 }
 
 impl fmt::Debug for ItemRef<'_> {
+    ghost use Rattle.std.specs.Prelude.{Some};
+    ghost use Rattle.cose_head.specs.Hidden.{item_text};
+
+    ghost debug_output = { λ item. Some (item_text (length item.bytes.now) item.place) };
+
     fn fmt<W: fmt::Write>(&self, f: &mut fmt::Formatter<W>) -> fmt::Result {
-        f.debug_struct("ItemRef")
-            .field("bytes", &Hidden(self.bytes))
-            .field("place", &self.place)
-            .finish()
+        let bytes = Hidden(self.bytes);
+        let place = self.place;
+        write!(f, "ItemRef {{ bytes: {bytes:?}, place: {place} }}")
     }
 }

@@ -116,11 +116,16 @@ impl<'a> Iterator for Items<'a> {
 }
 
 impl fmt::Debug for Items<'_> {
+    ghost use Rattle.cose_head.specs.Hidden.{items_text};
+
+    ghost debug_output = { λ items. Some (items_text (length items.rest.now) items.place items.left) };
+
     fn fmt<W: fmt::Write>(&self, f: &mut fmt::Formatter<W>) -> fmt::Result {
-        f.debug_struct("Items")
-            .field("rest", &Hidden(self.rest))
-            .field("place", &self.place)
-            .field("left", &self.left)
-            .finish()
+        let Items { rest, place, left } = *self;
+        let rest = Hidden(rest);
+        write!(
+            f,
+            "Items {{ rest: {rest:?}, place: {place}, left: {left} }}"
+        )
     }
 }

@@ -1,5 +1,5 @@
 -- Buckets and pairs of buckets on examples, by computing.
-use Rattle.std.proofs.Common.{◌≡◌, ℕ, pos, negsuc, List, [], ◌∷◌, Option, Some, None, Ok, Err, map, replicate, refl}
+use Rattle.std.proofs.Common.{◌≡◌, ℕ, pos, negsuc, List, [], ◌∷◌, ◌++◌, Option, Some, None, Ok, Err, map, replicate, refl}
 use Rattle.std.specs.Str.{is_utf8, chars}
 use Rattle.cose_head.specs.declared.reason.Reason.{Reason}
 use Rattle.cose_head.specs.declared.reason.Reason.TheVariants.{NotMap, BadLabel, DuplicateLabel, BothBuckets, BadValue, CritUnprotected, CritAbsent, CritUnknown, BothIvs, PastRoom, TooDeep, Trailing}
@@ -371,3 +371,26 @@ smaller_number_in_the_unprotected = refl
 both_ivs_at_the_least_place : both (0xa2 ∷ 1 ∷ 5 ∷ 5 ∷ 0x41 ∷ 0 ∷ []) 9 (0xa2 ∷ 1 ∷ 5 ∷ 6 ∷ 0x41 ∷ 0 ∷ []) [] 2 ≡ wrong BothIvs 2
 unfolding both
 both_ivs_at_the_least_place = refl
+
+-- Labels are compared in all bits and all bytes: -1 and 2^64 - 1, 1 and 257, and two text strings of 9 bytes that differ in the
+-- last one are no duplicates.
+alike_in_the_low_bits : refusal_in (bucket 0 (0xa2 ∷ 0x1b ∷ replicate 8 0xff ++ 0 ∷ 0x20 ∷ 0 ∷ [])) ≡ None
+unfolding bucket
+alike_in_the_low_bits = refl
+
+alike_in_the_low_byte : refusal_in (bucket 0 (0xa2 ∷ 1 ∷ 5 ∷ 0x19 ∷ 1 ∷ 1 ∷ 0x40 ∷ [])) ≡ None
+unfolding bucket
+alike_in_the_low_byte = refl
+
+alike_in_eight_bytes : refusal_in (bucket 0 (0xa2 ∷ 0x69 ∷ replicate 8 0x61 ++ 0x61 ∷ 0 ∷ 0x69 ∷ replicate 8 0x61 ++ 0x62 ∷ 0 ∷ [])) ≡ None
+unfolding bucket
+alike_in_eight_bytes = refl
+
+-- The labels 257 to 262 equal 1 to 6 in the low byte: they have any value, and an application has to understand them.
+values_alike_in_the_low_byte : map (λ low. refusal_in (bucket 0 (0xa1 ∷ 0x19 ∷ 1 ∷ low ∷ 0xf6 ∷ []))) (1 ∷ 2 ∷ 3 ∷ 4 ∷ 5 ∷ 6 ∷ []) ≡ replicate 6 good
+unfolding bucket
+values_alike_in_the_low_byte = refl
+
+critical_alike_in_the_low_byte : both (0xa3 ∷ 1 ∷ 5 ∷ 2 ∷ 0x81 ∷ 0x19 ∷ 1 ∷ 4 ∷ 0x19 ∷ 1 ∷ 4 ∷ 0 ∷ []) 15 (0xa0 ∷ []) (number (pos 4) ∷ []) 16 ≡ wrong CritUnknown 8
+unfolding both
+critical_alike_in_the_low_byte = refl

@@ -1,5 +1,5 @@
 -- The choice of the key on examples, by computing.
-use Rattle.std.proofs.Common.{◌≡◌, ℕ, ℤ, pos, negsuc, true, List, [], ◌∷◌, Option, Some, None, Result, Ok, Err, map, replicate, refl}
+use Rattle.std.proofs.Common.{◌≡◌, ℕ, ℤ, pos, negsuc, true, List, [], ◌∷◌, ◌++◌, Option, Some, None, Result, Ok, Err, map, replicate, refl}
 use Rattle.cose_head.specs.declared.kind.Kind.TheVariants.{Mac0, Sign1}
 use Rattle.cose_head.specs.declared.reason.Reason.{Reason}
 use Rattle.cose_head.specs.declared.reason.Reason.TheVariants.{NoAlg, UnknownAlg, AlgUnprotected, NoKey, AmbiguousKey}
@@ -87,6 +87,12 @@ no_macs : map (λ n. answer (Some (number n)) None None (plain ∷ [])) (pos 3 �
 unfolding answer
 no_macs = refl
 
+-- Nor is one that equals a MAC's number, or that of ES256 (-7), in the low bits.
+no_macs_alike : map (λ n. answer (Some (number n)) None None (plain ∷ [])) (pos 260 ∷ pos 261 ∷ pos 65541 ∷ pos 4294967301 ∷ pos 18446744073709551609 ∷ negsuc 250 ∷ [])
+    ≡ replicate 6 (Err UnknownAlg)
+unfolding answer
+no_macs_alike = refl
+
 -- A point on P-256 (curve 1) is for ES256 (-7), one on P-384 (2) for ES384 (-35), and one on P-521 (3) for ES512 (-36).
 -- A point on another curve, or a secret, isn't, and a point isn't for a MAC.
 abbrev point : ℕ → KeyValue
@@ -129,6 +135,14 @@ no_signatures : map (λ n. signed (Some (number n)) (point 1 ∷ point 2 ∷ poi
     ≡ replicate 5 (Err UnknownAlg)
 unfolding signed
 no_signatures = refl
+
+no_signatures_alike : map (λ n. signed (Some (number n)) (point 1 ∷ [])) (negsuc 262 ∷ negsuc 65542 ∷ pos 249 ∷ []) ≡ replicate 3 (Err UnknownAlg)
+unfolding signed
+no_signatures_alike = refl
+
+curve_alike : signed es256 (point 257 ∷ []) ≡ Err NoKey
+unfolding signed
+curve_alike = refl
 
 other_curve : signed es256 (point 2 ∷ []) ≡ Err NoKey
 unfolding signed
@@ -252,6 +266,12 @@ longer_kid : answer five None (Some (0x31 ∷ 0x32 ∷ [])) (named ∷ []) ≡ E
 unfolding answer
 longer_kid = refl
 
+-- Two identifiers of 9 bytes that differ in the last one.
+last_byte_of_kid : map (λ kid. answer five None (Some kid) (secret (Some (replicate 8 0x31 ++ 0x31 ∷ [])) None None (0x61 ∷ []) ∷ []))
+    ((replicate 8 0x31 ++ 0x32 ∷ []) ∷ replicate 8 0x31 ∷ []) ≡ replicate 2 (Err NoKey)
+unfolding answer
+last_byte_of_kid = refl
+
 -- An empty identifier is an identifier, of a key and of a message.
 abbrev with_empty_kid : KeyValue
 with_empty_kid = secret (Some []) None None (0x61 ∷ [])
@@ -290,6 +310,15 @@ verifies_and_creates = refl
 no_operations : answer five None None (secret None None (Some []) (0x61 ∷ []) ∷ []) ≡ Err NoKey
 unfolding answer
 no_operations = refl
+
+-- Operations that equal 10 and 2 in the low byte are neither.
+operations_alike : map (λ n. answer five None None (secret None None (Some (pos n ∷ [])) (0x61 ∷ []) ∷ [])) (266 ∷ 65546 ∷ []) ≡ replicate 2 (Err NoKey)
+unfolding answer
+operations_alike = refl
+
+signing_alike : signed es256 (record (point 1) { operations = Some (pos 258 ∷ []) } ∷ []) ≡ Err NoKey
+unfolding signed
+signing_alike = refl
 
 -- Three keys, of which the first and the last fit; and two that fit for algorithms of their own.
 first_and_last : answer five None None (plain ∷ secret None (Some (number (pos 4))) None (0x61 ∷ []) ∷ for_five ∷ []) ≡ Err AmbiguousKey

@@ -86,6 +86,15 @@ unknown_type : keys (0x82 ∷ 0xa2 ∷ 1 ∷ 1 ∷ 0x20 ∷ 6 ∷ 0xa2 ∷ 1 ∷
 unfolding keys
 unknown_type = refl
 
+-- The types and curves 260, 257 and 258 equal known ones in the low byte.
+alike_in_the_low_byte : map key (
+    (0xa2 ∷ 1 ∷ 0x19 ∷ 1 ∷ 4 ∷ 0x20 ∷ 0x44 ∷ jefe) ∷
+    (0xa4 ∷ 1 ∷ 0x19 ∷ 1 ∷ 2 ∷ 0x20 ∷ 1 ∷ 0x21 ∷ 0x40 ∷ 0x22 ∷ 0x40 ∷ []) ∷
+    (0xa4 ∷ 1 ∷ 2 ∷ 0x20 ∷ 0x19 ∷ 1 ∷ 1 ∷ 0x21 ∷ 0x40 ∷ 0x22 ∷ 0x40 ∷ []) ∷
+    (0xa4 ∷ 1 ∷ 2 ∷ 0x20 ∷ 0x19 ∷ 1 ∷ 2 ∷ 0x21 ∷ 0x40 ∷ 0x22 ∷ 0x40 ∷ []) ∷ []) ≡ replicate 4 (refused UnknownKey 0)
+unfolding key
+alike_in_the_low_byte = refl
+
 -- The same holds for what isn't a key for another reason: not a map, a bad label, a label twice, a bad value, a missing
 -- member.
 other_refused_keys : keys (0x86 ∷ 0x80 ∷ 0xa1 ∷ 0x40 ∷ 0 ∷ 0xa2 ∷ 1 ∷ 4 ∷ 1 ∷ 4 ∷ 0xa1 ∷ 1 ∷ 0x40 ∷ 0xa1 ∷ 1 ∷ 4 ∷ 0xa2 ∷ 1 ∷ 4 ∷ 0x20 ∷ 0x44 ∷ jefe) ≡ Ok (secret None ∷ [])

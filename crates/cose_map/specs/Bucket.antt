@@ -5,15 +5,23 @@ pub mod Both
 pub mod View
 use Rattle.std.specs.Prelude.{ℕ, List, [], length, Option, Ok, ◌==◌, if◌then◌else◌, option_map, option_and_then}
 use Rattle.cose_head.specs.Placed.{Placed, look, bytes_in, children_of}
+use Rattle.cose_head.specs.Whole.{whole}
 use Rattle.cose_map.specs.Bucket.Form.{bucket_table}
 use Rattle.cose_map.specs.Bucket.Header.{alg, crit, kid}
 use Rattle.cose_map.specs.Label.{LabelValue, label_of}
-use Rattle.cose_map.specs.Map.Pairs.{Pair, value_of}
-use Rattle.cose_map.specs.Map.Read.{Read, read_map}
+use Rattle.cose_map.specs.Map.Pairs.{Pair, value_of, pairs_of}
+use Rattle.cose_map.specs.Map.Read.{Read, read_map, ◌>>=◌}
 
 -- The pairs of a bucket, or its first fault. Zero bytes are the empty bucket (RFC 9052 section 3).
 unfoldable pub bucket_of : ℕ → Placed → Read (List Pair)
 bucket_of depth p = if length p.bytes == 0 then Ok [] else read_map bucket_table depth p
+
+-- The pairs of bytes that are one item, without the checks of a bucket: neither the type of the item, nor the labels and the
+-- forms of their values. They are those of the bucket where that has no fault.
+unfoldable pub unchecked_of : ℕ → Placed → Read (List Pair)
+unchecked_of depth p = if length p.bytes == 0 then Ok [] else do
+  item ← whole depth p
+  Ok (pairs_of (children_of item))
 
 -- The parameters of a bucket, from its pairs.
 abbrev pub alg_of : List Pair → Option LabelValue

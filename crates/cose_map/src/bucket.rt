@@ -18,7 +18,9 @@ use crate::map::pairs::Pairs;
 use crate::map::read::read_map;
 use cose_head::{ItemRef, Items, Refusal};
 
-/// A header bucket: labels, none twice, and their values.
+/// A header bucket: its labels and their values, in the order of the bytes.
+///
+/// No label is in it twice where [`Bucket::read`] made it. [`Bucket::again`] doesn't check that once more.
 #[derive(Clone, Copy, Debug)]
 pub struct Bucket<'a> {
     pairs: Pairs<'a>,
@@ -34,7 +36,7 @@ pub struct Bucket<'a> {
 impl<'a> Bucket<'a> {
     ghost use Rattle.std.specs.Prelude.{ℕ, ◌+◌, ◌<◌, ◌≤◌, ◌^◌, ◌==◌, List, Ok, length, IfErr};
     ghost use Rattle.cose_head.specs.Items.{items_left};
-    ghost use Rattle.cose_map.specs.Bucket.{bucket_of, alg_of, kid_of, crit_of};
+    ghost use Rattle.cose_map.specs.Bucket.{bucket_of, unchecked_of, alg_of, kid_of, crit_of};
     ghost use Rattle.cose_map.specs.Bucket.View.{bucket_pairs};
     ghost use Rattle.cose_map.specs.Label.View.{label_value};
     ghost use Rattle.cose_map.specs.Map.Pairs.{Pair, has_label};
@@ -92,16 +94,21 @@ impl<'a> Bucket<'a> {
         Bucket::checked(bytes, at, depth).err()
     }
 
-    /// Reads a bucket again in which [`Bucket::fault`] found nothing: its pairs, which aren't checked once more.
+    /// Reads bytes again in which [`Bucket::fault`] found nothing: the same bucket as that of [`Bucket::read`], without its
+    /// checks of the pairs.
     ///
-    /// Of other bytes only the faults of the item are refused, and the pairs end before the first without a label.
-    #[tactic(auto, unfolding(crate::specs::Bucket::bucket_of, crate::specs::Map::Pairs::pairs_of))]
+    /// Of other bytes only the faults of the item are refused. What they give isn't a bucket then: a label may be in it
+    /// twice, a value may have any form, the item may be an array, and the pairs end before the first without a label.
+    #[tactic(auto, unfolding(crate::specs::Bucket::bucket_of, crate::specs::Bucket::unchecked_of, crate::specs::Map::Pairs::pairs_of))]
     pub fn again(bytes: &'a [u8], at: u64, depth: usize) -> Result<Bucket<'a>, Refusal>
         requires shallow { depth ≤ 32 }
         requires in_range { at + length bytes.now < 2 ^ 64 }
-        ensures { (pairs : List Pair) → bucket_of depth (record { bytes = bytes.now; place = at })
+        ensures exact { seen_by bucket_pairs result
+            ≡ unchecked_of depth (record { bytes = bytes.now; place = at }) }
+        ensures good { (pairs : List Pair) → bucket_of depth (record { bytes = bytes.now; place = at })
             ≡ Ok pairs
             → seen_by bucket_pairs result ≡ Ok pairs }
+        ensures within { IfErr result (λ refusal. refusal.place ≤ at + length bytes.now) }
     {
         let items = if bytes.is_empty() {
             Items::none()

@@ -133,9 +133,13 @@ impl<'a> Keys<'a> for KeySet<'a> {
 }
 
 impl fmt::Debug for KeySet<'_> {
+    ghost use Rattle.std.specs.Prelude.{Some, length};
+    ghost use Rattle.cose_map.specs.Key.Shown.{key_set_text};
+
+    ghost debug_output = { λ keys. Some (key_set_text (length keys.set.bytes.now)) };
+
     fn fmt<W: fmt::Write>(&self, f: &mut fmt::Formatter<W>) -> fmt::Result {
-        f.debug_tuple("KeySet")
-            .field(&Hidden(self.set.bytes))
-            .finish()
+        let set = Hidden(self.set.bytes);
+        write!(f, "KeySet({set:?})")
     }
 }

@@ -111,8 +111,14 @@ impl<'t, 'a, const N: usize> Keys<'a> for &'t KeyTable<'a, N> {
 }
 
 impl<const N: usize> fmt::Debug for KeyTable<'_, N> {
+    ghost use Rattle.std.specs.Prelude.{Some, length};
+    ghost use Rattle.cose_map.specs.Key.Shown.{key_table_text};
+    ghost use Rattle.cose_map.specs.KeyTable.{keys};
+
+    ghost debug_output = { λ table. Some (key_table_text (length (keys table))) };
+
     fn fmt<W: fmt::Write>(&self, f: &mut fmt::Formatter<W>) -> fmt::Result {
         let count = self.count();
-        f.debug_struct("KeyTable").field("keys", &count).finish()
+        write!(f, "KeyTable {{ keys: {count} }}")
     }
 }

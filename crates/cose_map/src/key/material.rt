@@ -41,26 +41,38 @@ pub enum Material<'a> {
 }
 
 impl fmt::Debug for Y<'_> {
+    ghost use Rattle.std.specs.Prelude.{Some};
+    ghost use Rattle.cose_map.specs.Key.Shown.{y_text};
+
+    ghost debug_output = { λ y. Some (y_text (y_value y)) };
+
     fn fmt<W: fmt::Write>(&self, f: &mut fmt::Formatter<W>) -> fmt::Result {
         match self {
-            Y::Bytes(bytes) => f.debug_tuple("Bytes").field(&Hidden(bytes)).finish(),
-            Y::Sign(odd) => f.debug_tuple("Sign").field(odd).finish(),
+            Y::Bytes(bytes) => {
+                let bytes = Hidden(bytes);
+                write!(f, "Bytes({bytes:?})")
+            }
+            Y::Sign(odd) => write!(f, "Sign({odd})"),
         }
     }
 }
 
 impl fmt::Debug for Material<'_> {
+    ghost use Rattle.std.specs.Prelude.{Some};
+    ghost use Rattle.cose_map.specs.Key.Shown.{material_text};
+
+    ghost debug_output = { λ material. Some (material_text (material_value material)) };
+
     fn fmt<W: fmt::Write>(&self, f: &mut fmt::Formatter<W>) -> fmt::Result {
         match self {
             Material::Symmetric(secret) => {
-                f.debug_tuple("Symmetric").field(&Hidden(secret)).finish()
+                let secret = Hidden(secret);
+                write!(f, "Symmetric({secret:?})")
             }
-            Material::Ec { crv, x, y } => f
-                .debug_struct("Ec")
-                .field("crv", crv)
-                .field("x", &Hidden(x))
-                .field("y", y)
-                .finish(),
+            Material::Ec { crv, x, y } => {
+                let x = Hidden(x);
+                write!(f, "Ec {{ crv: {crv}, x: {x:?}, y: {y:?} }}")
+            }
         }
     }
 }
