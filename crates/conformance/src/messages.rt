@@ -144,7 +144,8 @@ fn is_read<'k, const H: usize, const D: usize, K: Keys<'k>>(
     verifier: &mut Verifier<'k, H, D, K>,
     case: &Case<'_, '_>,
 ) -> bool
-    requires { is_inspecting verifier.old ≡ false }
+    requires verifies { is_inspecting verifier.old ≡ false }
+    requires attached { is_detached verifier.old ≡ false }
 {
     'prefixes: for end in 0..case.prefixes() {
         let truncated = Verified::Refused(Refusal {

@@ -56,8 +56,8 @@ UnlessStopped (Err (stops.Message refusal)) says = says
 UnlessStopped (Err (stops.Claims refusal)) says = says
 
 -- The effect of a call. A verifier that had taken nothing has taken these bytes. Its getters give what these bytes
--- give, its status is the one after these bytes, and it keeps its verdict. The store holds the payload among them. The
--- outcome is the result for the token. The place of a refusal of the claims is in the payload, or at its end.
+-- give, its status is the one after these bytes, and it keeps its verdict. The outcome is the result for the token, by
+-- this verdict and the payload among these bytes. The place of a refusal of the claims is in the payload, or at its end.
 pub record IsRun {H D : ℕ} {S : Type 0} {K : _} (setting : Setting) (decides : Decides) (policy : PolicyValue) (come come_after : Option (List ℕ)) (ended : Bool) (v : Verifier H D S K) (outcome : Outcome) : Type 0 where
   pub taken : List ℕ
   pub payload : List ℕ

@@ -104,8 +104,8 @@ pub fn verify_cwt<
     requires none_taken { bytes_taken verifier.old ≡ 0 }
     requires cwt { (setting_in verifier.old).cwt ≡ true }
     requires payload_limit { (setting_in verifier.old).payload_limit ≤ L }
-    // The bytes that were taken, what the verifier's getters give of them, the verdict that is kept, the payload that
-    // the store holds, and the result for the token by these.
+    // The bytes that were taken, what the verifier's getters give of them, the verdict that is kept, the payload among
+    // them, and the result for the token by that verdict and that payload.
     ensures run { (setting : Setting) → HasTaken (to_verify setting) [] [] verifier.old →
         IsRun setting (E.decides ec.now) (policy_value policy.entry.now) (I.to_come intake.old)
         (I.to_come intake.new) (I.ended intake.new) verifier.new (claims_seen result) }

@@ -10,6 +10,7 @@ mod Bounds
 mod Alongside
 mod Last
 mod PayloadStays
+mod Attached
 mod Spellings
 mod Spelled
 mod SpelledMessages

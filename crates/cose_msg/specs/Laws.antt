@@ -7,7 +7,7 @@ use Rattle.cose_msg.specs.Answer.{Answer, decided, complete, shaped, refused, Ch
 use Rattle.cose_msg.specs.Message.{Decides, Setting, message, verdict_of, compared, verified, uncompared, comparing, verifying, inspecting}
 use Rattle.cose_msg.specs.Reading.{Reading, Phase}
 use Rattle.cose_msg.specs.Rules.{Rules}
-use Rattle.cose_msg.specs.Source.{Source, attached, detached, with_came}
+use Rattle.cose_msg.specs.Source.{Source, attached, detached, is_detached_from, with_came}
 
 -- A settled reading stays when bytes follow.
 abbrev pub Stays : Phase → Type 0
@@ -85,7 +85,16 @@ abbrev pub MessageIsDefinite : Type 0
 MessageIsDefinite = (rules : Rules) → AreFair rules → (bytes : List ℕ) → (message rules bytes).settled ≡ true → (message rules bytes).payload_wanted ≡ 0 →
     IsDefinite (message rules bytes).answer
 
--- So it isn't settled exactly where it is Truncated at the number of bytes.
+-- A message that has its payload awaits nothing of one from elsewhere. So once it is settled, nothing of it is Truncated.
+abbrev pub AttachedAwaitsNothing : Type 0
+AttachedAwaitsNothing = (rules : Rules) → is_detached_from rules.source ≡ false → (bytes : List ℕ) → (message rules bytes).payload_wanted ≡ 0
+
+abbrev pub AttachedIsDefinite : Type 0
+AttachedIsDefinite = (rules : Rules) → is_detached_from rules.source ≡ false → AreFair rules → (bytes : List ℕ) → (message rules bytes).settled ≡ true →
+    IsDefinite (message rules bytes).answer
+
+-- A reading isn't settled exactly where its answer is Truncated at the number of bytes. (One that awaits bytes of a detached
+-- payload is settled, and Truncated before them.)
 abbrev pub OpenIsTruncated : Type 0
 OpenIsTruncated = (rules : Rules) → AreFair rules → (bytes : List ℕ) →
     ((message rules bytes).settled ≡ false) ↔ ((message rules bytes).answer ≡ refused Truncated (length bytes))

@@ -4,7 +4,7 @@
 ghost use Rattle.cose_msg.specs.Feed.{CutsDontMatter, PiecesJoin};
 ghost use Rattle.cose_msg.specs.GrammarLaws.{ArrayOfFourIsMessage, AuthenticIsMessage, MessageIsArrayOfFour, MessageIsRead, OneArrayOfFour};
 ghost use Rattle.cose_msg.specs.MakingLaws.{MadeIsAuthentic};
-ghost use Rattle.cose_msg.specs.Laws.{AllAreFair, ComparingGoesLast, FinishGoesLast, MessageEndsTruncated, MessageIsBounded, MessageIsDefinite, MessageIsInspectedWithin, MessageIsVerifiedWithin, MessageStandsInside, MessageStays, OpenEarlier, OpenIsTruncated, OpenStays, PayloadStays, VerdictStays, VerifyingGoesLast};
+ghost use Rattle.cose_msg.specs.Laws.{AllAreFair, AttachedAwaitsNothing, AttachedIsDefinite, ComparingGoesLast, FinishGoesLast, MessageEndsTruncated, MessageIsBounded, MessageIsDefinite, MessageIsInspectedWithin, MessageIsVerifiedWithin, MessageStandsInside, MessageStays, OpenEarlier, OpenIsTruncated, OpenStays, PayloadStays, VerdictStays, VerifyingGoesLast};
 ghost use Rattle.cose_msg.specs.Shown.{SignaturesAreOfSign1};
 ghost use Rattle.cose_msg.specs.Unrefused.{OneMessage, ShapedIsMessage, UnrefusedIsMessage, WholeIsMessage};
 
@@ -36,9 +36,9 @@ pub fn payload_stays()
     ensures unsettled { OpenStays }
 {}
 
-/// Once the reading of a message's bytes is settled, its answer is not Truncated: so the reading isn't settled exactly
-/// where its answer is Truncated at the number of bytes. No refusal's place is after the bytes, and no message ends
-/// after them.
+/// Once the reading of a message's bytes is settled, its answer is not Truncated, unless bytes of a detached payload are
+/// wanted. The reading isn't settled exactly where its answer is Truncated at the number of bytes. No refusal's place is
+/// after the bytes, and no message ends after them.
 pub fn nothing_stands_after_the_bytes()
     ensures fair { AllAreFair }
     ensures definite { MessageIsDefinite }
@@ -50,6 +50,16 @@ pub fn nothing_stands_after_the_bytes()
     read_steps();
     refusals_stand_inside();
     refusals_are_not_truncated();
+}
+
+/// Of a message that has its payload no byte of a detached one is wanted. So once its reading is settled, its answer is not
+/// Truncated.
+pub fn attached_awaits_nothing()
+    ensures awaits { AttachedAwaitsNothing }
+    ensures definite { AttachedIsDefinite }
+{
+    // The law that the proof cites: a settled reading that wants no byte of a detached payload is not Truncated.
+    nothing_stands_after_the_bytes();
 }
 
 /// A message is settled within 2H + 186 + p bytes, H being the room of a header bucket, and p the lesser of the payload's limit

@@ -1,6 +1,6 @@
 //! A verifier that is fed: pieces of a message as they come, of any length, and the status after them.
 
-ghost use Rattle.std.specs.Prelude.{◌≡◌, ◌<◌, ◌≤◌, ◌+◌, ◌*◌, ◌^◌, ℕ, true, false, List, [], ◌++◌, Some, Ok, length, take, ◌==◌, if◌then◌else◌};
+ghost use Rattle.std.specs.Prelude.{◌≡◌, ◌≢◌, ◌<◌, ◌≤◌, ◌+◌, ◌*◌, ◌^◌, ℕ, true, false, List, [], ◌++◌, Some, Ok, length, take, ◌==◌, if◌then◌else◌};
 
 use crate::elliptic::EcVerifier;
 use crate::laws::{deciding_goes_last, messages_are_bounded};
@@ -51,6 +51,9 @@ impl<'k, const H: usize, const D: usize, S: Keys<'k>> Verifier<'k, H, D, S> {
         // It is that of the bytes so far, by definition.
         ensures reads { (task : Task) (s B : List ℕ) → HasTaken task s B self.now
             → result ≡ status_of_reading (message (rules_of H D task) s) }
+        // Of a message that has its payload no byte of a detached one is wanted.
+        ensures attached { (task : Task) (s B : List ℕ) → HasTaken task s B self.now
+            → is_detached self.now ≡ false → result ≢ Status.PayloadNext }
     {
         self.reader.waits();
         if self.stopped {
@@ -118,6 +121,8 @@ impl<'k, const H: usize, const D: usize, S: Keys<'k>> Verifier<'k, H, D, S> {
         ensures status { (task : Task) (s B : List ℕ) → HasTaken task s B self.old
             → result.status
             ≡ status_of_reading (message (rules_of H D task) (s ++ take result.used piece.now)) }
+        ensures attached { (task : Task) (s B : List ℕ) → HasTaken task s B self.old
+            → is_detached self.old ≡ false → result.status ≢ Status.PayloadNext }
         ensures payload { (task : Task) (s B : List ℕ) → HasTaken task s B self.old
             → (message (rules_of H D task) (s ++ take result.used piece.now)).told.payload
             ≡ (message (rules_of H D task) s).told.payload ++ payload_in result piece.now }

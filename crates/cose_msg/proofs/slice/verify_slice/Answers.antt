@@ -1,64 +1,77 @@
-use Rattle.std.proofs.Common.{◌≡◌, Bool, [], length, subst, ap, ◌∙◌}
-use Rattle.cose_msg.specs.declared.verdict.Verdict.{Verdict}
-use Rattle.cose_msg.specs.Answer.{decided}
-use Rattle.cose_msg.specs.Kept.{HasTaken}
-use Rattle.cose_msg.specs.Reader.{Counts}
+use Rattle.std.proofs.Common.{Bool, ℕ, [], length, take, Some, sym, subst, ap, ◌∙◌, arith}
+use Rattle.cose_msg.specs.Feed.{Uses}
+use Rattle.cose_msg.specs.Kept.{answer_kept}
+use Rattle.cose_msg.specs.Reading.{Reading}
+use Rattle.cose_msg.specs.Shown.{shown_in}
 use Rattle.cose_msg.specs.Slice.{outcome_of}
-use Rattle.cose_msg.specs.Task.{to_verify}
+use Rattle.cose_msg.specs.Status.{status_of_answer}
+use Rattle.cose_msg.specs.Task.{rules_of, to_verify}
 use Rattle.cose_msg.specs.Verifier.{setting_in}
 use Rattle.cose_msg.proofs.Runs.{counted_stands}
-use Rattle.cose_msg.proofs.Slices.{counted_fed, ends_before, ends_with, payload_of_fed, verdict_of_fed}
+use Rattle.cose_msg.proofs.Slices.{begun, counted_fed, payload_is, payload_of_fed, reads_all, verdict_of_fed}
+use Rattle.cose_msg.proofs.Statuses.{left_by_answer}
 use Rattle.cose_msg.proofs.slice.verify_slice.Goals as goal
 
-pub returns-in-Refused-clause-outcome : goal.returns-in-Refused-clause-outcome
-returns-in-Refused-clause-outcome g c =
+pub returns-clause-outcome : goal.returns-clause-outcome
+returns-clause-outcome g c =
     let setting = setting_in c.args.verifier.now in
-    let fresh : HasTaken (to_verify setting) [] [] c.reset.new.self = subst (λ (inspects : Bool). HasTaken (record { setting = setting; inspects = inspects }) [] [] c.reset.new.self) c.requires.verifies c.reset.ensures.none_taken in
+    let fresh = begun c.requires.verifies c.reset.ensures.none_taken in
     let fed = c.feed-fed.ensures.taken (to_verify setting) [] [] fresh in
-    let verdict = verdict_of_fed c.settled_stays.ensures.message c.deciding_goes_last.ensures.verifying g.row.H g.row.D setting (g.E.EcVerifier.decides c.args.ec.now) c.args.message.now c.feed-fed.result.used c.conclude.result (c.feed-fed.ensures.uses (to_verify setting) [] [] fresh) (c.conclude.ensures.answer setting _ _ (counted_stands fed) fed.came) in
-    ap (outcome_of (length c.args.message.now)) (verdict ∙ ap decided c.in-Refused.is)
+    let verdict = verdict_of_fed c.settled_stays.ensures.message c.deciding_goes_last.ensures.verifying g.row.H g.row.D setting (g.E.EcVerifier.decides c.args.ec.now) c.args.message.now c.feed-fed.result.used c.conclude-verdict.result (c.feed-fed.ensures.uses (to_verify setting) [] [] fresh) (c.conclude-verdict.ensures.answer setting _ _ (counted_stands fed) fed.came) in
+    ap (outcome_of (length c.args.message.now)) verdict ∙ c.result_of.ensures.outcome
 
-pub returns-in-Authentic-clause-outcome : goal.returns-in-Authentic-clause-outcome
-returns-in-Authentic-clause-outcome g c =
+pub returns-clause-payload : goal.returns-clause-payload
+returns-clause-payload g c =
     let setting = setting_in c.args.verifier.now in
-    let fresh : HasTaken (to_verify setting) [] [] c.reset.new.self = subst (λ (inspects : Bool). HasTaken (record { setting = setting; inspects = inspects }) [] [] c.reset.new.self) c.requires.verifies c.reset.ensures.none_taken in
+    let fresh = begun c.requires.verifies c.reset.ensures.none_taken in
     let fed = c.feed-fed.ensures.taken (to_verify setting) [] [] fresh in
-    let verdict = verdict_of_fed c.settled_stays.ensures.message c.deciding_goes_last.ensures.verifying g.row.H g.row.D setting (g.E.EcVerifier.decides c.args.ec.now) c.args.message.now c.feed-fed.result.used c.conclude.result (c.feed-fed.ensures.uses (to_verify setting) [] [] fresh) (c.conclude.ensures.answer setting _ _ (counted_stands fed) fed.came) in
+    let known = payload_of_fed c.settled_stays.ensures.message g.row.H g.row.D (to_verify setting) c.args.message.now _ c.feed-fed.result.used (c.feed-fed.ensures.uses (to_verify setting) [] [] fresh) (c.waits.ensures.payload (to_verify setting) _ _ _ fed.so_far fed.came) in
+    payload_is c.result_of.result _ _ known c.result_of.ensures.payload
+
+pub returns-clause-counted : goal.returns-clause-counted
+returns-clause-counted g c =
+    let setting = setting_in c.args.verifier.now in
+    let fresh = begun c.requires.verifies c.reset.ensures.none_taken in
     let count = counted_fed c.reset.new.self.taken c.feed-fed.new.self.taken c.feed-fed.result.used fresh.counted c.feed-fed.ensures.counted in
-    let taken : c.in-Authentic.taken ≡ c.feed-fed.new.self.taken = subst (λ (v : Verdict). Counts v c.feed-fed.new.self.taken) c.in-Authentic.is (c.conclude.ensures.counted setting _ _ (counted_stands fed) fed.came) in
-    ends_before (length c.args.message.now) c.in-Authentic.taken c.feed-fed.result.used _ _ _ _ (verdict ∙ ap decided c.in-Authentic.is) (taken ∙ count) c.if-fed-message.true
+    subst (λ (n : ℕ). Uses (rules_of g.row.H g.row.D (to_verify setting)) [] c.args.message.now n) (sym (c.conclude-verdict.ensures.counts ∙ count)) (c.feed-fed.ensures.uses (to_verify setting) [] [] fresh)
 
-pub returns-in-Authentic-2-clause-outcome : goal.returns-in-Authentic-2-clause-outcome
-returns-in-Authentic-2-clause-outcome g c =
+pub returns-clause-tells : goal.returns-clause-tells
+returns-clause-tells g c =
     let setting = setting_in c.args.verifier.now in
-    let fresh : HasTaken (to_verify setting) [] [] c.reset.new.self = subst (λ (inspects : Bool). HasTaken (record { setting = setting; inspects = inspects }) [] [] c.reset.new.self) c.requires.verifies c.reset.ensures.none_taken in
+    let fresh = begun c.requires.verifies c.reset.ensures.none_taken in
+    let reads = reads_all c.settled_stays.ensures.message (rules_of g.row.H g.row.D (to_verify setting)) c.args.message.now c.feed-fed.result.used (c.feed-fed.ensures.uses (to_verify setting) [] [] fresh) in
+    c.conclude-verdict.ensures.shown ∙ c.feed-fed.ensures.tells (to_verify setting) [] [] fresh ∙ ap (shown_in setting) (sym reads)
+
+pub returns-clause-status : goal.returns-clause-status
+returns-clause-status g c =
+    let setting = setting_in c.args.verifier.now in
+    let fresh = begun c.requires.verifies c.reset.ensures.none_taken in
     let fed = c.feed-fed.ensures.taken (to_verify setting) [] [] fresh in
-    let verdict = verdict_of_fed c.settled_stays.ensures.message c.deciding_goes_last.ensures.verifying g.row.H g.row.D setting (g.E.EcVerifier.decides c.args.ec.now) c.args.message.now c.feed-fed.result.used c.conclude.result (c.feed-fed.ensures.uses (to_verify setting) [] [] fresh) (c.conclude.ensures.answer setting _ _ (counted_stands fed) fed.came) in
-    let count = counted_fed c.reset.new.self.taken c.feed-fed.new.self.taken c.feed-fed.result.used fresh.counted c.feed-fed.ensures.counted in
-    let taken : c.in-Authentic.taken ≡ c.feed-fed.new.self.taken = subst (λ (v : Verdict). Counts v c.feed-fed.new.self.taken) c.in-Authentic.is (c.conclude.ensures.counted setting _ _ (counted_stands fed) fed.came) in
-    ends_with (length c.args.message.now) c.in-Authentic.taken c.feed-fed.result.used _ _ _ _ (verdict ∙ ap decided c.in-Authentic.is) (taken ∙ count) c.if-fed-message.false
+    let reads = reads_all c.settled_stays.ensures.message (rules_of g.row.H g.row.D (to_verify setting)) c.args.message.now c.feed-fed.result.used (c.feed-fed.ensures.uses (to_verify setting) [] [] fresh) in
+    left_by_answer (to_verify setting) (take c.feed-fed.result.used c.args.message.now) c.conclude-verdict.new.self (c.conclude-verdict.ensures.status setting _ _ (counted_stands fed) fed.came fed.goes_on)
+    ∙ ap (λ (r : Reading). status_of_answer r.answer) (sym reads)
 
-pub returns-in-Authentic-2-clause-payload : goal.returns-in-Authentic-2-clause-payload
-returns-in-Authentic-2-clause-payload g c =
+pub returns-clause-kept : goal.returns-clause-kept
+returns-clause-kept g c =
     let setting = setting_in c.args.verifier.now in
-    let fresh : HasTaken (to_verify setting) [] [] c.reset.new.self = subst (λ (inspects : Bool). HasTaken (record { setting = setting; inspects = inspects }) [] [] c.reset.new.self) c.requires.verifies c.reset.ensures.none_taken in
+    let fresh = begun c.requires.verifies c.reset.ensures.none_taken in
     let fed = c.feed-fed.ensures.taken (to_verify setting) [] [] fresh in
-    c.payload_of.ensures ∙ payload_of_fed g.row.H g.row.D (to_verify setting) c.args.message.now _ c.feed-fed.result.used c.feed-fed.ensures.fits c.if-fed-message.false (c.waits.ensures.payload (to_verify setting) _ _ _ fed.so_far fed.came)
+    let verdict = verdict_of_fed c.settled_stays.ensures.message c.deciding_goes_last.ensures.verifying g.row.H g.row.D setting (g.E.EcVerifier.decides c.args.ec.now) c.args.message.now c.feed-fed.result.used c.conclude-verdict.result (c.feed-fed.ensures.uses (to_verify setting) [] [] fresh) (c.conclude-verdict.ensures.answer setting _ _ (counted_stands fed) fed.came) in
+    (c.conclude-verdict.result, verdict, c.conclude-verdict.ensures.kept ∙ ap (λ (stopped : Bool). answer_kept stopped (Some c.conclude-verdict.result)) fed.goes_on)
 
-pub returns-in-Refused-clause-context : goal.returns-in-Refused-clause-context
-returns-in-Refused-clause-context g c =
-    let setting = setting_in c.args.verifier.now in
-    let fresh : HasTaken (to_verify setting) [] [] c.reset.new.self = subst (λ (inspects : Bool). HasTaken (record { setting = setting; inspects = inspects }) [] [] c.reset.new.self) c.requires.verifies c.reset.ensures.none_taken in
-    c.conclude.ensures.context ∙ c.feed-fed.ensures.context (to_verify setting) [] [] fresh ∙ c.reset.ensures.context
+pub returns-clause-context : goal.returns-clause-context
+returns-clause-context g c =
+    let fresh = begun c.requires.verifies c.reset.ensures.none_taken in
+    c.conclude-verdict.ensures.context ∙ c.feed-fed.ensures.context (to_verify (setting_in c.args.verifier.now)) [] [] fresh ∙ c.reset.ensures.context
 
-pub returns-in-Authentic-clause-context : goal.returns-in-Authentic-clause-context
-returns-in-Authentic-clause-context g c =
-    let setting = setting_in c.args.verifier.now in
-    let fresh : HasTaken (to_verify setting) [] [] c.reset.new.self = subst (λ (inspects : Bool). HasTaken (record { setting = setting; inspects = inspects }) [] [] c.reset.new.self) c.requires.verifies c.reset.ensures.none_taken in
-    c.conclude.ensures.context ∙ c.feed-fed.ensures.context (to_verify setting) [] [] fresh ∙ c.reset.ensures.context
+pub returns-clause-inspects : goal.returns-clause-inspects
+returns-clause-inspects g c = c.conclude-verdict.ensures.inspects ∙ c.feed-fed.ensures.inspects ∙ c.reset.ensures.inspects ∙ c.requires.verifies
 
-pub returns-in-Authentic-2-clause-context : goal.returns-in-Authentic-2-clause-context
-returns-in-Authentic-2-clause-context g c =
-    let setting = setting_in c.args.verifier.now in
-    let fresh : HasTaken (to_verify setting) [] [] c.reset.new.self = subst (λ (inspects : Bool). HasTaken (record { setting = setting; inspects = inspects }) [] [] c.reset.new.self) c.requires.verifies c.reset.ensures.none_taken in
-    c.conclude.ensures.context ∙ c.feed-fed.ensures.context (to_verify setting) [] [] fresh ∙ c.reset.ensures.context
+pub returns-clause-attached : goal.returns-clause-attached
+returns-clause-attached g c = c.conclude-verdict.ensures.detached ∙ c.feed-fed.ensures.detached ∙ c.reset.ensures.detached ∙ c.requires.attached
+
+pub returns-clause-held : goal.returns-clause-held
+returns-clause-held g c = omega (arith, c.conclude-verdict.ensures.held, c.feed-fed.ensures.held)
+
+pub returns-clause-opened : goal.returns-clause-opened
+returns-clause-opened g c = omega (arith, c.conclude-verdict.ensures.opened, c.feed-fed.ensures.opened)

@@ -1,5 +1,4 @@
-use Rattle.std.proofs.Common.{◌≡◌, [], None, Some, ◌∙◌, sym, refl, arith}
-use Rattle.std.proofs.lemmas.Grind.{common_steps}
+use Rattle.std.proofs.Common.{◌≡◌, [], None, Some, ◌∙◌, sym, refl}
 use Rattle.cose_msg.specs.Kept.{inspected_in}
 use Rattle.cose_msg.specs.Shown.{held_input}
 use Rattle.cose_msg.specs.Task.{to_inspect}

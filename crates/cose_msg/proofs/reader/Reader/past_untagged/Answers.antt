@@ -1,5 +1,4 @@
-use Rattle.std.proofs.Common.{[], refl, arith}
-use Rattle.std.proofs.lemmas.Grind.{common_steps}
+use Rattle.std.proofs.Common.{[], refl}
 use Rattle.cose_msg.specs.Phases.{nothing_told}
 use Rattle.cose_msg.proofs.reader.Reader.past_untagged.Goals as goal
 

@@ -23,6 +23,9 @@ pub returns-then-want-eq0-clause-status : goal.returns-then-want-eq0-clause-stat
 returns-then-want-eq0-clause-status g c = λ task s B h.
     c.status.ensures.reads task s B h ∙ ap status_of_reading (sym (without_more g.row.H g.row.D task s))
 
+pub returns-then-want-eq0-clause-attached : goal.returns-then-want-eq0-clause-attached
+returns-then-want-eq0-clause-attached g c = λ task s B h is. c.status.ensures.attached task s B h is
+
 pub returns-then-want-eq0-clause-tells : goal.returns-then-want-eq0-clause-tells
 returns-then-want-eq0-clause-tells g c = λ task s B h. c.waits.ensures.shows task B _ _ h.so_far h.came
 
@@ -99,6 +102,10 @@ returns-then-count-eq0-clause-taken g c = λ task s B h. let a = c.pieces.invari
 
 pub returns-then-count-eq0-clause-status : goal.returns-then-count-eq0-clause-status
 returns-then-count-eq0-clause-status g c = λ task s B h. let a = c.pieces.invariant.0 task s B h in c.status-then-count-eq0.ensures.reads task _ _ a.stands
+
+pub returns-then-count-eq0-clause-attached : goal.returns-then-count-eq0-clause-attached
+returns-then-count-eq0-clause-attached g c = λ task s B h is.
+    let a = c.pieces.invariant.0 task s B h in c.status-then-count-eq0.ensures.attached task _ _ a.stands (c.pieces.invariant.8 ∙ is)
 
 pub returns-then-count-eq0-clause-payload : goal.returns-then-count-eq0-clause-payload
 returns-then-count-eq0-clause-payload g c = λ task s B h.
