@@ -69,4 +69,4 @@ pub use message::{
 pub use reason::{Reason, Refusal};
 pub use sign_input::{Curve, PublicKey, SignInput, POINT_ROOM, Y};
 pub use table::{KeyTable, TableBlock};
-pub use verifier::{Fed, Status, Verifier, VerifierBlock};
+pub use verifier::{Accepted, Fed, Status, Verifier, VerifierBlock};

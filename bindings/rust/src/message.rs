@@ -47,16 +47,16 @@ pub struct Options<'a> {
     pub wanted: Wanted,
 }
 
-/// A message that is authentic, and its payload `P`: its bytes, or of a message that was fed, how many they were.
+/// A message that is authentic.
 #[derive(Clone, Copy, Debug, PartialEq, Eq)]
-pub struct Message<P> {
+pub struct Message<'m> {
     /// Its kind.
     pub kind: Kind,
     /// The number of its algorithm ([RFC 9053](https://www.rfc-editor.org/rfc/rfc9053)): 4 to 7 of a MAC, -7, -35 or -36 of a
-    /// signature, and so on.
+    /// signature.
     pub alg: i32,
     /// Its payload.
-    pub payload: P,
+    pub payload: &'m [u8],
 }
 
 /// A `COSE_Sign1` that is authentic if its signature is good, **and not authentic yet**: it gives the payload to nobody who doesn't
@@ -64,7 +64,7 @@ pub struct Message<P> {
 #[derive(Clone, Copy, Debug)]
 #[must_use = "nobody has verified the signature yet"]
 pub struct Signed<'m> {
-    message: Message<&'m [u8]>,
+    message: Message<'m>,
     input: SignInput,
 }
 
@@ -93,7 +93,7 @@ impl<'m> Signed<'m> {
 #[must_use]
 pub enum Verdict<'m> {
     /// A `COSE_Mac0` that is authentic.
-    Authentic(Message<&'m [u8]>),
+    Authentic(Message<'m>),
     /// A `COSE_Sign1` whose signature is still to be verified.
     Signed(Signed<'m>),
 }

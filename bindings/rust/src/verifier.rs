@@ -3,7 +3,7 @@
 use core::marker::PhantomData;
 
 use crate::error::{number, part};
-use crate::{raw, Block, Error, Kind, Message, Options, SignInput};
+use crate::{raw, Block, Error, Kind, Options, SignInput};
 
 /// Memory for a [`Verifier`].
 pub type VerifierBlock = Block<4_096>;
@@ -42,6 +42,19 @@ pub struct Fed<'p> {
     pub status: Status,
 }
 
+/// A message that was fed, and is authentic.
+#[derive(Clone, Copy, Debug, PartialEq, Eq)]
+pub struct Accepted {
+    /// Its kind.
+    pub kind: Kind,
+    /// The number of its algorithm, as in [`Message`](crate::Message).
+    pub alg: i32,
+    /// How many bytes its payload has.
+    pub payload_length: u64,
+    /// How many bytes it has.
+    pub taken: u64,
+}
+
 /// A verifier of one message after another, which takes a message in pieces of any lengths and holds at most 2,560 bytes of it. It
 /// borrows its memory, the keys and the externally supplied data.
 ///
@@ -62,7 +75,7 @@ pub struct Fed<'p> {
 /// assert_eq!(verifier.status(), Ok(Status::Complete));
 /// // no function says that a signature is good, so a COSE_Sign1 is refused
 /// let found = verifier.verdict(|_| false)?;
-/// assert_eq!((found.alg, found.payload, payload.as_slice()), (5, 2, b"hi".as_slice()));
+/// assert_eq!((found.alg, found.taken, payload.as_slice()), (5, 44, b"hi".as_slice()));
 /// verifier.reset();
 /// # Ok::<(), cose::Error>(())
 /// ```
@@ -124,7 +137,7 @@ impl<'k> Verifier<'k> {
     /// assert_eq!((verifier.feed_payload(image), verifier.payload_wanted()), (2, 0));
     /// let rest = &message[fed.used..];
     /// assert_eq!(verifier.feed(rest)?.used, rest.len());
-    /// assert_eq!(verifier.verdict(|_| false)?.payload, 2);
+    /// assert_eq!(verifier.verdict(|_| false)?.payload_length, 2);
     /// # Ok::<(), cose::Error>(())
     /// ```
     pub fn detached(
@@ -232,25 +245,23 @@ impl<'k> Verifier<'k> {
         (found == 1).then(|| SignInput::of(&input)).transpose()
     }
 
-    /// The verdict on a complete message, with the number of bytes of its payload. The function is asked once whether a signature is
-    /// good, and not at all about a `COSE_Mac0`. The same verdict is given again until [`reset`](Self::reset).
+    /// The verdict on a complete message. The function is asked whether a signature is good, and not at all about a `COSE_Mac0`. The
+    /// same verdict is given again until [`reset`](Self::reset).
     ///
     /// # Errors
     ///
     /// The message is refused, or isn't complete.
-    pub fn verdict(
-        &mut self,
-        is_good: impl FnOnce(&SignInput) -> bool,
-    ) -> Result<Message<u64>, Error> {
+    pub fn verdict(&mut self, is_good: impl FnOnce(&SignInput) -> bool) -> Result<Accepted, Error> {
         let good = self.sign_input()?.is_some_and(|input| is_good(&input));
         let mut verdict = raw::Verdict::default();
         // SAFETY: the block was begun, and the call writes to the struct alone.
         unsafe { raw::cose_verdict(&mut self.handle(), i32::from(good), &mut verdict) };
         match verdict.status {
-            number::AUTHENTIC => Ok(Message {
+            number::AUTHENTIC => Ok(Accepted {
                 kind: Kind::from_number(verdict.kind)?,
                 alg: verdict.alg,
-                payload: verdict.payload_length,
+                payload_length: verdict.payload_length,
+                taken: verdict.taken,
             }),
             status => Err(Error::of(status, verdict.reason, verdict.place)),
         }

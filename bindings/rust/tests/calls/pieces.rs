@@ -35,7 +35,10 @@ fn pieces_of_every_length() {
             let found = verifier
                 .verdict(|_| unreachable!())
                 .expect("it is authentic");
-            assert_eq!((found.kind, found.alg, found.payload), (Kind::Mac0, 5, 2));
+            assert_eq!(
+                (found.kind, found.alg, found.payload_length, found.taken),
+                (Kind::Mac0, 5, 2, 44)
+            );
         }
         verifier.reset();
         assert_eq!((verifier.taken(), verifier.status()), (0, Ok(Status::More)));
@@ -86,7 +89,10 @@ fn a_signature_decides() {
         );
         let verdict = verifier.verdict(|input| input.digest().len() == 32 && good);
         match verdict {
-            Ok(found) => assert_eq!((good, found.kind, found.payload), (true, Kind::Sign1, 20)),
+            Ok(found) => assert_eq!(
+                (good, found.kind, found.payload_length),
+                (true, Kind::Sign1, 20)
+            ),
             Err(error) => assert_eq!((good, error), (false, refused(Reason::BadAuth, 32))),
         }
         // the answer is kept, whatever is said later
@@ -121,7 +127,9 @@ fn a_detached_payload() {
         let rest = &message[8..];
         assert_eq!(verifier.feed(rest).map(|fed| fed.used), Ok(rest.len()));
         assert_eq!(
-            verifier.verdict(|_| false).map(|found| found.payload),
+            verifier
+                .verdict(|_| false)
+                .map(|found| found.payload_length),
             Ok(2)
         );
         verifier.reset();
