@@ -41,7 +41,7 @@ static int refuse(uint8_t reason, uint64_t place)
     return REFUSED;
 }
 
-/* All bytes of a message are there. No signature is good for this device, so only a COSE_Mac0 is authentic. */
+/* All bytes of a COSE_Mac0 are there. The verdict is told that no signature is good: there is none. */
 static int judge(struct cose_verifier *verifier)
 {
     struct cose_verdict verdict;
@@ -119,7 +119,7 @@ int main(int count, char **arguments)
     struct cose_verifier verifier = {block};
     struct cose_status status;
     cose_begin(block);
-    cose_open(&verifier, keys, keys_length, NULL, 0, COSE_TAGGED, &status);
+    cose_open(&verifier, keys, keys_length, NULL, 0, COSE_MAC0, &status);
     if (status.status != COSE_MORE) {
         fprintf(stderr, "the keys are refused: reason %u at %" PRIu64 "\n", status.reason, status.place);
         return NO_ANSWER;
