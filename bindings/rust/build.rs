@@ -1,0 +1,52 @@
+//! Finds the static library: in the folder of the variable `COSE_LIB_DIR`, or where `pkg-config` says that `cose` is.
+
+use std::env;
+use std::path::{Path, PathBuf};
+use std::process::{exit, Command};
+
+/// The names that the archive has: as `./install` writes it, and as it is built.
+const NAMES: [&str; 2] = ["cose", "cose_c"];
+
+/// The folder of libraries of an installed `cose`, by `pkg-config`.
+fn installed() -> Option<PathBuf> {
+    let program = env::var_os("PKG_CONFIG").unwrap_or_else(|| "pkg-config".into());
+    let output = Command::new(program)
+        .args(["--variable=libdir", "cose"])
+        .output()
+        .ok()?;
+    let folder = String::from_utf8(output.stdout).ok()?;
+    (output.status.success() && !folder.trim().is_empty()).then(|| folder.trim().into())
+}
+
+/// The name of the archive in a folder.
+fn name_in(folder: &Path) -> Option<&'static str> {
+    NAMES
+        .into_iter()
+        .find(|name| folder.join(format!("lib{name}.a")).is_file())
+}
+
+fn main() {
+    for variable in ["COSE_LIB_DIR", "PKG_CONFIG", "PKG_CONFIG_PATH"] {
+        println!("cargo:rerun-if-env-changed={variable}");
+    }
+    // There the pages alone are built.
+    if env::var_os("DOCS_RS").is_some() {
+        return;
+    }
+    let folder = env::var_os("COSE_LIB_DIR")
+        .map(PathBuf::from)
+        .or_else(installed);
+    let found = folder.and_then(|folder| name_in(&folder).map(|name| (folder, name)));
+    let Some((folder, name)) = found else {
+        eprintln!(
+            "there is no libcose.a: set COSE_LIB_DIR to its folder, or PKG_CONFIG_PATH to that of cose.pc"
+        );
+        exit(1);
+    };
+    println!(
+        "cargo:rerun-if-changed={}",
+        folder.join(format!("lib{name}.a")).display()
+    );
+    println!("cargo:rustc-link-search=native={}", folder.display());
+    println!("cargo:rustc-link-lib=static={name}");
+}

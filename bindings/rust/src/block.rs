@@ -1,0 +1,45 @@
+//! Memory that the caller owns.
+
+use core::mem::{align_of, size_of, MaybeUninit};
+
+use crate::Error;
+
+/// Memory for a [`Verifier`](crate::Verifier), a [`KeyTable`](crate::KeyTable) or a [`Maker`](crate::Maker), which borrow it: it may
+/// be on the stack, in a `static` or in a larger struct. It can be used again when they are gone.
+#[repr(C, align(16))]
+pub struct Block<const N: usize>([MaybeUninit<u8>; N]);
+
+impl<const N: usize> Block<N> {
+    /// Memory that nothing is in yet.
+    #[must_use]
+    pub const fn new() -> Self {
+        Block([MaybeUninit::uninit(); N])
+    }
+
+    /// Its address. What the library keeps there points to nothing in the block itself.
+    pub(crate) fn at(&mut self) -> *mut u8 {
+        self.0.as_mut_ptr().cast()
+    }
+
+    /// Whether a block has the size and the alignment that the library asks for.
+    pub(crate) fn holds(size: usize, align: usize) -> Result<(), Error> {
+        if size <= size_of::<Self>() && align <= align_of::<Self>() {
+            Ok(())
+        } else {
+            Err(Error::OtherLibrary)
+        }
+    }
+}
+
+impl<const N: usize> Default for Block<N> {
+    fn default() -> Self {
+        Self::new()
+    }
+}
+
+impl<const N: usize> core::fmt::Debug for Block<N> {
+    /// Says its length, and no byte of it.
+    fn fmt(&self, formatter: &mut core::fmt::Formatter<'_>) -> core::fmt::Result {
+        write!(formatter, "Block of {N} bytes")
+    }
+}

@@ -1,0 +1,72 @@
+//! Verifies `COSE_Mac0` and `COSE_Sign1` messages ([RFC 9052](https://www.rfc-editor.org/rfc/rfc9052)) and CBOR Web Tokens
+//! ([RFC 8392](https://www.rfc-editor.org/rfc/rfc8392)), by a library that is proved. This crate calls it through its C interface:
+//! the crate itself isn't proved. It allocates nothing, needs no `std`, and links `libcose.a`, which `build.rs` finds in the folder of
+//! `COSE_LIB_DIR` or by `pkg-config`.
+//!
+//! | What is there | What to call |
+//! |---|---|
+//! | a message in memory | [`verify`], [`verify_with`], [`verify_detached`] |
+//! | a message that comes in pieces, a detached payload of any length | [`Verifier`] |
+//! | a token in memory | [`verify_cwt`], or [`claims`] once its message is authentic |
+//! | many messages under the same keys | [`KeyTable`] |
+//! | a payload that wants a MAC | [`Maker`] |
+//!
+//! HMAC is computed by the library. For ECDSA (ES256, ES384, ES512) it computes the digest, and the caller verifies the signature: a
+//! `COSE_Sign1` is [`Verdict::Signed`], which gives its payload through [`Signed::payload_if`] alone.
+//!
+//! ```
+//! use cose::{verify, SignInput, Verdict};
+//!
+//! # fn p256_verify(point: &[u8], digest: &[u8], signature: &[u8]) -> bool {
+//! #     point[0] == 4 && digest[0] == 0x4c && signature.len() == 64
+//! # }
+//! /// Whether a signature is good, by a crate that computes with curves.
+//! fn is_good(input: &SignInput) -> bool {
+//!     let mut room = [0; cose::POINT_ROOM];
+//!     p256_verify(input.key().sec1(&mut room), input.digest(), input.signature())
+//! }
+//!
+//! # let keys = include_bytes!("../../../examples/sign1_key.cbor");
+//! # let message = include_bytes!("../../../examples/sign1.cbor");
+//! let payload = verify(keys, message)?.payload_if(is_good);
+//! assert_eq!(payload, Some(b"This is the content.".as_slice()));
+//! # Ok::<(), cose::Error>(())
+//! ```
+//!
+//! What a caller owes by the C interface is kept by types here: a block stays where it is while something is in it, and so do the keys
+//! and the externally supplied data. A call takes about 16 KB of stack.
+//!
+//! With the feature `std` there are also `Verifier::feed_from`, for readers, and `make`, for vectors.
+#![no_std]
+#![warn(missing_debug_implementations)]
+
+#[cfg(feature = "std")]
+extern crate std;
+
+mod block;
+mod claims;
+mod error;
+#[cfg(feature = "std")]
+mod io;
+mod make;
+mod message;
+mod raw;
+mod reason;
+mod sign_input;
+mod table;
+mod verifier;
+
+pub use block::Block;
+pub use claims::{claims, verify_cwt, Audiences, Claims, Confirmation, Policy};
+pub use error::Error;
+#[cfg(feature = "std")]
+pub use io::{make, ReadError};
+pub use make::{MacAlg, Maker, MakerBlock, Making, HEAD_ROOM, TAIL_ROOM};
+pub use message::{
+    shape, usable_keys, verify, verify_detached, verify_with, Kind, Message, Options, Shape,
+    Signed, Verdict, Wanted,
+};
+pub use reason::{Reason, Refusal};
+pub use sign_input::{Curve, PublicKey, SignInput, POINT_ROOM, Y};
+pub use table::{KeyTable, TableBlock};
+pub use verifier::{Accepted, Fed, Status, Verifier, VerifierBlock};

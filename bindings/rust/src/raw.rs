@@ -1,0 +1,321 @@
+//! What the library exports. `include/cose.h` declares the same, and says what each call does.
+//!
+//! A call that takes slices is exported as `cose_edge_NAME`, and none of its pointers is null.
+
+/// A status, of a message that is fed.
+#[repr(C)]
+#[derive(Default)]
+pub(crate) struct Status {
+    pub(crate) number: u8,
+    pub(crate) reason: u8,
+    pub(crate) place: u64,
+}
+
+#[repr(C)]
+#[derive(Default)]
+pub(crate) struct Verdict {
+    pub(crate) status: u8,
+    pub(crate) reason: u8,
+    pub(crate) kind: u8,
+    pub(crate) alg: i32,
+    pub(crate) place: u64,
+    pub(crate) payload_at: u64,
+    pub(crate) payload_length: u64,
+    pub(crate) taken: u64,
+}
+
+#[repr(C)]
+#[derive(Clone, Copy)]
+pub(crate) struct SignInput {
+    pub(crate) crv: u8,
+    pub(crate) y_sign: u8,
+    pub(crate) x_length: u64,
+    pub(crate) y_length: u64,
+    pub(crate) digest_length: u64,
+    pub(crate) signature_length: u64,
+    pub(crate) x: [u8; 66],
+    pub(crate) y: [u8; 66],
+    pub(crate) digest: [u8; 64],
+    pub(crate) signature: [u8; 132],
+}
+
+impl SignInput {
+    /// Room for an answer.
+    pub(crate) const BLANK: Self = SignInput {
+        crv: 0,
+        y_sign: 0,
+        x_length: 0,
+        y_length: 0,
+        digest_length: 0,
+        signature_length: 0,
+        x: [0; 66],
+        y: [0; 66],
+        digest: [0; 64],
+        signature: [0; 132],
+    };
+}
+
+#[repr(C)]
+#[derive(Default)]
+pub(crate) struct Shape {
+    pub(crate) status: u8,
+    pub(crate) reason: u8,
+    pub(crate) kind: u8,
+    pub(crate) place: u64,
+    pub(crate) payload_length: u64,
+    pub(crate) auth_length: u64,
+    pub(crate) taken: u64,
+}
+
+#[repr(C)]
+#[derive(Default)]
+pub(crate) struct KeySet {
+    pub(crate) status: u8,
+    pub(crate) reason: u8,
+    pub(crate) place: u64,
+    pub(crate) usable: u64,
+}
+
+#[repr(C)]
+pub(crate) struct Policy {
+    pub(crate) now: i64,
+    pub(crate) leeway: u32,
+    pub(crate) has_audience: u8,
+    pub(crate) audience: *const u8,
+    pub(crate) audience_length: usize,
+}
+
+#[repr(C)]
+#[derive(Clone, Copy, Default)]
+pub(crate) struct Range {
+    pub(crate) at: u64,
+    pub(crate) length: u64,
+    pub(crate) present: u8,
+}
+
+#[repr(C)]
+#[derive(Clone, Copy, Default)]
+pub(crate) struct Date {
+    pub(crate) number: u64,
+    pub(crate) present: u8,
+    pub(crate) negative: u8,
+}
+
+#[repr(C)]
+#[derive(Default)]
+pub(crate) struct Claims {
+    pub(crate) status: u8,
+    pub(crate) reason: u8,
+    pub(crate) place: u64,
+    pub(crate) payload_at: u64,
+    pub(crate) payload_length: u64,
+    pub(crate) iss: Range,
+    pub(crate) sub: Range,
+    pub(crate) aud: Range,
+    pub(crate) cti: Range,
+    pub(crate) aud_count: u64,
+    pub(crate) exp: Date,
+    pub(crate) nbf: Date,
+    pub(crate) iat: Date,
+    pub(crate) cnf_kid: Range,
+    pub(crate) cnf_x: Range,
+    pub(crate) cnf_y: Range,
+    pub(crate) cnf_crv: u8,
+    pub(crate) cnf_y_sign: u8,
+}
+
+/// A verifier in a block of the caller's memory.
+#[repr(C)]
+pub(crate) struct Verifier {
+    pub(crate) at: *mut u8,
+}
+
+#[repr(C)]
+#[derive(Default)]
+pub(crate) struct Fed {
+    pub(crate) status: Status,
+    pub(crate) used: u64,
+    pub(crate) payload_at: u64,
+    pub(crate) payload_length: u64,
+}
+
+/// A table of keys in a block.
+#[repr(C)]
+pub(crate) struct Table {
+    pub(crate) at: *mut u8,
+}
+
+/// A message that is made, in a block.
+#[repr(C)]
+pub(crate) struct Maker {
+    pub(crate) at: *mut u8,
+}
+
+#[repr(C)]
+#[derive(Default)]
+pub(crate) struct Made {
+    pub(crate) status: u8,
+    pub(crate) reason: u8,
+    pub(crate) length: u64,
+}
+
+// SAFETY: these are the library's functions, as its header declares them.
+unsafe extern "C" {
+    pub(crate) fn cose_edge_verify(
+        keys: *const u8,
+        keys_length: usize,
+        aad: *const u8,
+        aad_length: usize,
+        wanted: u8,
+        message: *const u8,
+        message_length: usize,
+        verdict: &mut Verdict,
+        input: &mut SignInput,
+    );
+    pub(crate) fn cose_edge_verify_detached(
+        keys: *const u8,
+        keys_length: usize,
+        aad: *const u8,
+        aad_length: usize,
+        wanted: u8,
+        message: *const u8,
+        message_length: usize,
+        payload: *const u8,
+        payload_length: usize,
+        verdict: &mut Verdict,
+        input: &mut SignInput,
+    );
+    pub(crate) fn cose_edge_shape(
+        wanted: u8,
+        message: *const u8,
+        message_length: usize,
+        shape: &mut Shape,
+    );
+    pub(crate) fn cose_edge_read_keys(keys: *const u8, keys_length: usize, key_set: &mut KeySet);
+    pub(crate) fn cose_edge_verify_cwt(
+        keys: *const u8,
+        keys_length: usize,
+        aad: *const u8,
+        aad_length: usize,
+        policy: &Policy,
+        token: *const u8,
+        token_length: usize,
+        claims: &mut Claims,
+    );
+    pub(crate) fn cose_edge_claims(
+        payload: *const u8,
+        payload_length: usize,
+        policy: &Policy,
+        claims: &mut Claims,
+    );
+    pub(crate) fn cose_edge_audience(
+        payload: *const u8,
+        payload_length: usize,
+        index: u64,
+        audience: &mut Range,
+    );
+
+    pub(crate) safe fn cose_verifier_size() -> usize;
+    pub(crate) safe fn cose_verifier_align() -> usize;
+    pub(crate) fn cose_begin(block: *mut u8);
+    pub(crate) fn cose_edge_open(
+        verifier: &mut Verifier,
+        keys: *const u8,
+        keys_length: usize,
+        aad: *const u8,
+        aad_length: usize,
+        wanted: u8,
+        status: &mut Status,
+    );
+    pub(crate) fn cose_edge_open_detached(
+        verifier: &mut Verifier,
+        keys: *const u8,
+        keys_length: usize,
+        aad: *const u8,
+        aad_length: usize,
+        wanted: u8,
+        payload_length: u64,
+        status: &mut Status,
+    );
+    pub(crate) fn cose_edge_feed(
+        verifier: &mut Verifier,
+        piece: *const u8,
+        piece_length: usize,
+        fed: &mut Fed,
+    );
+    pub(crate) fn cose_wanted(verifier: &mut Verifier) -> u64;
+    pub(crate) fn cose_payload_wanted(verifier: &mut Verifier) -> u64;
+    pub(crate) fn cose_edge_feed_payload(
+        verifier: &mut Verifier,
+        piece: *const u8,
+        piece_length: usize,
+    ) -> u64;
+    pub(crate) fn cose_end(verifier: &mut Verifier, status: &mut Status);
+    pub(crate) fn cose_sign_input(verifier: &mut Verifier, input: &mut SignInput) -> u8;
+    pub(crate) fn cose_verdict(
+        verifier: &mut Verifier,
+        signature_is_good: i32,
+        verdict: &mut Verdict,
+    );
+    pub(crate) fn cose_reset(verifier: &mut Verifier);
+    pub(crate) fn cose_taken(verifier: &mut Verifier) -> u64;
+    pub(crate) fn cose_held(verifier: &mut Verifier) -> u64;
+
+    pub(crate) safe fn cose_table_size() -> usize;
+    pub(crate) safe fn cose_table_align() -> usize;
+    pub(crate) fn cose_table_begin(block: *mut u8);
+    pub(crate) fn cose_edge_table_read(
+        table: &mut Table,
+        keys: *const u8,
+        keys_length: usize,
+        key_set: &mut KeySet,
+    );
+    pub(crate) fn cose_edge_table_verify(
+        table: &mut Table,
+        aad: *const u8,
+        aad_length: usize,
+        wanted: u8,
+        message: *const u8,
+        message_length: usize,
+        verdict: &mut Verdict,
+        input: &mut SignInput,
+    );
+    pub(crate) fn cose_edge_table_verify_cwt(
+        table: &mut Table,
+        aad: *const u8,
+        aad_length: usize,
+        policy: &Policy,
+        token: *const u8,
+        token_length: usize,
+        claims: &mut Claims,
+    );
+
+    pub(crate) safe fn cose_maker_size() -> usize;
+    pub(crate) safe fn cose_maker_align() -> usize;
+    pub(crate) fn cose_maker_begin(block: *mut u8);
+    pub(crate) fn cose_edge_make(
+        maker: &mut Maker,
+        alg: i32,
+        key: *const u8,
+        key_length: usize,
+        kid: *const u8,
+        kid_length: usize,
+        aad: *const u8,
+        aad_length: usize,
+        payload_length: u64,
+        head: *mut u8,
+        head_room: usize,
+        made: &mut Made,
+    );
+    pub(crate) fn cose_edge_make_piece(
+        maker: &mut Maker,
+        piece: *const u8,
+        piece_length: usize,
+    ) -> u64;
+    pub(crate) fn cose_edge_make_end(
+        maker: &mut Maker,
+        tail: *mut u8,
+        tail_room: usize,
+        made: &mut Made,
+    );
+}

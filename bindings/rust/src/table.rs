@@ -1,0 +1,132 @@
+//! A table of keys, which are read once.
+
+use core::marker::PhantomData;
+
+use crate::error::number;
+use crate::{raw, Block, Claims, Error, Options, Policy, Verdict};
+
+/// Memory for a [`KeyTable`].
+pub type TableBlock = Block<16_384>;
+
+/// A key set whose keys are read once, for many messages: at most 64 usable keys. It borrows its memory and the bytes of the set.
+///
+/// ```
+/// use cose::{Block, KeyTable, Options};
+///
+/// let keys = b"\xa2\x01\x04\x20\x44Jefe";
+/// let message = b"\xd1\x84\x43\xa1\x01\x05\xa0\x42hi\x58\x20\
+///     \x7d\x81\xe9\x64\xaa\xee\x5f\xbd\x8a\xdf\xb3\xf5\x33\x65\x7a\x9e\
+///     \xf9\xf7\x82\xf0\x4b\x91\x87\x7b\x60\x04\x27\x2a\x03\x52\xf9\x60";
+/// let mut block = Block::new();
+/// let mut table = KeyTable::read(&mut block, keys)?;
+/// assert_eq!(table.usable(), 1);
+/// for _ in 0..3 {
+///     let verdict = table.verify(&Options::default(), message)?;
+///     assert_eq!(verdict.payload_if(|_| false), Some(b"hi".as_slice()));
+/// }
+/// # Ok::<(), cose::Error>(())
+/// ```
+#[derive(Debug)]
+pub struct KeyTable<'k> {
+    block: &'k mut TableBlock,
+    usable: u64,
+    borrowed: PhantomData<&'k [u8]>,
+}
+
+impl<'k> KeyTable<'k> {
+    /// Reads a key set.
+    ///
+    /// # Errors
+    ///
+    /// The key set is refused, or has more than 64 usable keys.
+    pub fn read(block: &'k mut TableBlock, keys: &'k [u8]) -> Result<Self, Error> {
+        TableBlock::holds(raw::cose_table_size(), raw::cose_table_align())?;
+        // SAFETY: the block has the size and the alignment that the library asks for, and is borrowed, so that it stays where it is.
+        unsafe { raw::cose_table_begin(block.at()) };
+        let mut table = KeyTable {
+            block,
+            usable: 0,
+            borrowed: PhantomData,
+        };
+        let mut key_set = raw::KeySet::default();
+        // SAFETY: the block was begun, and the keys, of which it keeps slices, stay as they are while `'k` lasts, so as long as the
+        // table.
+        unsafe {
+            raw::cose_edge_table_read(&mut table.handle(), keys.as_ptr(), keys.len(), &mut key_set);
+        }
+        if key_set.status != number::COMPLETE {
+            return Err(Error::of(key_set.status, key_set.reason, key_set.place));
+        }
+        table.usable = key_set.usable;
+        Ok(table)
+    }
+
+    fn handle(&mut self) -> raw::Table {
+        raw::Table {
+            at: self.block.at(),
+        }
+    }
+
+    /// How many of the keys are usable.
+    #[must_use]
+    pub fn usable(&self) -> u64 {
+        self.usable
+    }
+
+    /// Verifies a message, as [`verify_with`](crate::verify_with) does.
+    ///
+    /// # Errors
+    ///
+    /// The message is refused, or the externally supplied data is too long.
+    pub fn verify<'m>(
+        &mut self,
+        options: &Options<'_>,
+        message: &'m [u8],
+    ) -> Result<Verdict<'m>, Error> {
+        let mut verdict = raw::Verdict::default();
+        let mut input = raw::SignInput::BLANK;
+        // SAFETY: the block was begun; each pointer with its length is that of one slice, which is borrowed for the call; the call
+        // keeps none of them, and writes to the two structs, which are this function's own.
+        unsafe {
+            raw::cose_edge_table_verify(
+                &mut self.handle(),
+                options.aad.as_ptr(),
+                options.aad.len(),
+                options.wanted as u8,
+                message.as_ptr(),
+                message.len(),
+                &mut verdict,
+                &mut input,
+            );
+        }
+        Verdict::of(&verdict, &input, message)
+    }
+
+    /// Verifies a token, as [`verify_cwt`](crate::verify_cwt) does.
+    ///
+    /// # Errors
+    ///
+    /// The message or the claims are refused, or the externally supplied data is too long.
+    pub fn verify_cwt<'t>(
+        &mut self,
+        aad: &[u8],
+        policy: &Policy<'_>,
+        token: &'t [u8],
+    ) -> Result<Claims<'t>, Error> {
+        let mut claims = raw::Claims::default();
+        // SAFETY: the block was begun; each pointer with its length is that of one slice, which is borrowed for the call, that of the
+        // policy too; the call keeps none of them, and writes to the struct, which is this function's own.
+        unsafe {
+            raw::cose_edge_table_verify_cwt(
+                &mut self.handle(),
+                aad.as_ptr(),
+                aad.len(),
+                &policy.raw(),
+                token.as_ptr(),
+                token.len(),
+                &mut claims,
+            );
+        }
+        Claims::of(&claims, token)
+    }
+}

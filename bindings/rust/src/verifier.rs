@@ -1,0 +1,303 @@
+//! A verifier that is fed.
+
+use core::marker::PhantomData;
+
+use crate::error::{number, part};
+use crate::{raw, Block, Error, Kind, Options, SignInput};
+
+/// Memory for a [`Verifier`].
+pub type VerifierBlock = Block<4_096>;
+
+/// The status of a message that isn't refused.
+#[derive(Clone, Copy, Debug, PartialEq, Eq, Hash)]
+pub enum Status {
+    /// Further bytes of the message are wanted.
+    More,
+    /// Bytes of a detached payload are wanted.
+    PayloadNext,
+    /// All bytes are there: ask for the verdict.
+    Complete,
+}
+
+impl Status {
+    fn of(status: &raw::Status) -> Result<Self, Error> {
+        match status.number {
+            number::MORE => Ok(Status::More),
+            number::PAYLOAD_NEXT => Ok(Status::PayloadNext),
+            number::COMPLETE => Ok(Status::Complete),
+            refused => Err(Error::of(refused, status.reason, status.place)),
+        }
+    }
+}
+
+/// What came of a piece.
+#[derive(Clone, Copy, Debug, PartialEq, Eq)]
+#[must_use]
+pub struct Fed<'p> {
+    /// How many bytes of the piece were used. The others aren't of the message, or follow a detached payload.
+    pub used: usize,
+    /// Those of the payload. **They aren't authentic** until there is a verdict.
+    pub payload: &'p [u8],
+    /// The status of the message.
+    pub status: Status,
+}
+
+/// A message that was fed, and is authentic.
+#[derive(Clone, Copy, Debug, PartialEq, Eq)]
+pub struct Accepted {
+    /// Its kind.
+    pub kind: Kind,
+    /// The number of its algorithm, as in [`Message`](crate::Message).
+    pub alg: i32,
+    /// How many bytes its payload has.
+    pub payload_length: u64,
+    /// How many bytes it has.
+    pub taken: u64,
+}
+
+/// A verifier of one message after another, which takes a message in pieces of any lengths and holds at most 2,560 bytes of it. It
+/// borrows its memory, the keys and the externally supplied data.
+///
+/// ```
+/// use cose::{Block, Options, Status, Verifier};
+///
+/// let keys = b"\xa2\x01\x04\x20\x44Jefe";
+/// let message = b"\xd1\x84\x43\xa1\x01\x05\xa0\x42hi\x58\x20\
+///     \x7d\x81\xe9\x64\xaa\xee\x5f\xbd\x8a\xdf\xb3\xf5\x33\x65\x7a\x9e\
+///     \xf9\xf7\x82\xf0\x4b\x91\x87\x7b\x60\x04\x27\x2a\x03\x52\xf9\x60";
+/// let mut block = Block::new();
+/// let mut verifier = Verifier::new(&mut block, keys, &Options::default())?;
+/// let mut payload = Vec::new();
+/// for piece in message.chunks(5) {
+///     let fed = verifier.feed(piece)?;
+///     payload.extend_from_slice(fed.payload);
+/// }
+/// assert_eq!(verifier.status(), Ok(Status::Complete));
+/// // no function says that a signature is good, so a COSE_Sign1 is refused
+/// let found = verifier.verdict(|_| false)?;
+/// assert_eq!((found.alg, found.taken, payload.as_slice()), (5, 44, b"hi".as_slice()));
+/// verifier.reset();
+/// # Ok::<(), cose::Error>(())
+/// ```
+#[derive(Debug)]
+pub struct Verifier<'k> {
+    block: &'k mut VerifierBlock,
+    borrowed: PhantomData<&'k [u8]>,
+}
+
+impl<'k> Verifier<'k> {
+    /// A verifier of messages that have their payload.
+    ///
+    /// # Errors
+    ///
+    /// The key set is refused, or the externally supplied data is too long.
+    pub fn new(
+        block: &'k mut VerifierBlock,
+        keys: &'k [u8],
+        options: &Options<'k>,
+    ) -> Result<Self, Error> {
+        let mut verifier = Self::begun(block)?;
+        let mut status = raw::Status::default();
+        // SAFETY: the block was begun; each pointer with its length is that of one slice, and what the block keeps of these slices
+        // stays as it is while `'k` lasts, so as long as the verifier.
+        unsafe {
+            raw::cose_edge_open(
+                &mut verifier.handle(),
+                keys.as_ptr(),
+                keys.len(),
+                options.aad.as_ptr(),
+                options.aad.len(),
+                options.wanted as u8,
+                &mut status,
+            );
+        }
+        Status::of(&status).map(|_| verifier)
+    }
+
+    /// A verifier of messages that have nil for their payload, which is detached and has so many bytes. Where [`feed`](Self::feed)
+    /// answers [`Status::PayloadNext`], they are passed to [`feed_payload`](Self::feed_payload), and then the rest of the message to
+    /// `feed`.
+    ///
+    /// # Errors
+    ///
+    /// The key set is refused, or the externally supplied data is too long.
+    ///
+    /// ```
+    /// use cose::{Block, Options, Status, Verifier};
+    ///
+    /// let keys = b"\xa2\x01\x04\x20\x44Jefe";
+    /// let message = b"\xd1\x84\x43\xa1\x01\x05\xa0\xf6\x58\x20\
+    ///     \x7d\x81\xe9\x64\xaa\xee\x5f\xbd\x8a\xdf\xb3\xf5\x33\x65\x7a\x9e\
+    ///     \xf9\xf7\x82\xf0\x4b\x91\x87\x7b\x60\x04\x27\x2a\x03\x52\xf9\x60";
+    /// let image = b"hi";
+    /// let mut block = Block::new();
+    /// let mut verifier = Verifier::detached(&mut block, keys, &Options::default(), 2)?;
+    /// let fed = verifier.feed(message)?;
+    /// assert_eq!((fed.used, fed.status), (8, Status::PayloadNext));
+    /// assert_eq!((verifier.feed_payload(image), verifier.payload_wanted()), (2, 0));
+    /// let rest = &message[fed.used..];
+    /// assert_eq!(verifier.feed(rest)?.used, rest.len());
+    /// assert_eq!(verifier.verdict(|_| false)?.payload_length, 2);
+    /// # Ok::<(), cose::Error>(())
+    /// ```
+    pub fn detached(
+        block: &'k mut VerifierBlock,
+        keys: &'k [u8],
+        options: &Options<'k>,
+        payload_length: u64,
+    ) -> Result<Self, Error> {
+        let mut verifier = Self::begun(block)?;
+        let mut status = raw::Status::default();
+        // SAFETY: the block was begun; each pointer with its length is that of one slice, and what the block keeps of these slices
+        // stays as it is while `'k` lasts, so as long as the verifier.
+        unsafe {
+            raw::cose_edge_open_detached(
+                &mut verifier.handle(),
+                keys.as_ptr(),
+                keys.len(),
+                options.aad.as_ptr(),
+                options.aad.len(),
+                options.wanted as u8,
+                payload_length,
+                &mut status,
+            );
+        }
+        Status::of(&status).map(|_| verifier)
+    }
+
+    /// A verifier that has no keys yet.
+    fn begun(block: &'k mut VerifierBlock) -> Result<Self, Error> {
+        VerifierBlock::holds(raw::cose_verifier_size(), raw::cose_verifier_align())?;
+        // SAFETY: the block has the size and the alignment that the library asks for, and is borrowed, so that it stays where it is.
+        unsafe { raw::cose_begin(block.at()) };
+        Ok(Verifier {
+            block,
+            borrowed: PhantomData,
+        })
+    }
+
+    fn handle(&mut self) -> raw::Verifier {
+        raw::Verifier {
+            at: self.block.at(),
+        }
+    }
+
+    /// Takes the next bytes of the message, none after its end, and none between the nil of a message and its detached payload.
+    ///
+    /// # Errors
+    ///
+    /// The message is refused: it is again, until [`reset`](Self::reset).
+    pub fn feed<'p>(&mut self, piece: &'p [u8]) -> Result<Fed<'p>, Error> {
+        let mut fed = raw::Fed::default();
+        // SAFETY: the block was begun, and the pointer with the length is that of one slice, of which the call keeps nothing.
+        unsafe {
+            raw::cose_edge_feed(&mut self.handle(), piece.as_ptr(), piece.len(), &mut fed);
+        }
+        let status = Status::of(&fed.status)?;
+        Ok(Fed {
+            used: part(piece, 0, fed.used)?.len(),
+            payload: part(piece, fed.payload_at, fed.payload_length)?,
+            status,
+        })
+    }
+
+    /// Takes the next bytes of a detached payload, and returns how many it used: none that follow it.
+    pub fn feed_payload(&mut self, piece: &[u8]) -> usize {
+        // SAFETY: the block was begun, and the pointer with the length is that of one slice, of which the call keeps nothing.
+        let used =
+            unsafe { raw::cose_edge_feed_payload(&mut self.handle(), piece.as_ptr(), piece.len()) };
+        usize::try_from(used).map_or(piece.len(), |used| used.min(piece.len()))
+    }
+
+    /// The status.
+    ///
+    /// # Errors
+    ///
+    /// The message is refused.
+    pub fn status(&mut self) -> Result<Status, Error> {
+        self.feed(&[]).map(|fed| fed.status)
+    }
+
+    /// Says that no byte follows.
+    ///
+    /// # Errors
+    ///
+    /// The message is refused: it isn't whole ([`Reason::Truncated`](crate::Reason::Truncated)), or was refused before.
+    pub fn end(&mut self) -> Result<(), Error> {
+        let mut status = raw::Status::default();
+        // SAFETY: the block was begun.
+        unsafe { raw::cose_end(&mut self.handle(), &mut status) };
+        match Status::of(&status)? {
+            Status::Complete => Ok(()),
+            Status::More | Status::PayloadNext => Err(Error::Incomplete),
+        }
+    }
+
+    /// What the signature of a complete `COSE_Sign1` is verified with, for a caller that can't do so at once.
+    ///
+    /// # Errors
+    ///
+    /// The library that is linked isn't that of this crate.
+    pub fn sign_input(&mut self) -> Result<Option<SignInput>, Error> {
+        let mut input = raw::SignInput::BLANK;
+        // SAFETY: the block was begun, and the call writes to the struct alone.
+        let found = unsafe { raw::cose_sign_input(&mut self.handle(), &mut input) };
+        (found == 1).then(|| SignInput::of(&input)).transpose()
+    }
+
+    /// The verdict on a complete message. The function is asked whether a signature is good, and not at all about a `COSE_Mac0`. The
+    /// same verdict is given again until [`reset`](Self::reset).
+    ///
+    /// # Errors
+    ///
+    /// The message is refused, or isn't complete.
+    pub fn verdict(&mut self, is_good: impl FnOnce(&SignInput) -> bool) -> Result<Accepted, Error> {
+        let good = self.sign_input()?.is_some_and(|input| is_good(&input));
+        let mut verdict = raw::Verdict::default();
+        // SAFETY: the block was begun, and the call writes to the struct alone.
+        unsafe { raw::cose_verdict(&mut self.handle(), i32::from(good), &mut verdict) };
+        match verdict.status {
+            number::AUTHENTIC => Ok(Accepted {
+                kind: Kind::from_number(verdict.kind)?,
+                alg: verdict.alg,
+                payload_length: verdict.payload_length,
+                taken: verdict.taken,
+            }),
+            status => Err(Error::of(status, verdict.reason, verdict.place)),
+        }
+    }
+
+    /// Begins the next message, under the same keys.
+    pub fn reset(&mut self) {
+        // SAFETY: the block was begun.
+        unsafe { raw::cose_reset(&mut self.handle()) };
+    }
+
+    /// How many bytes of the message are wanted at least.
+    #[must_use]
+    pub fn wanted(&mut self) -> u64 {
+        // SAFETY: the block was begun.
+        unsafe { raw::cose_wanted(&mut self.handle()) }
+    }
+
+    /// How many bytes of a detached payload are wanted.
+    #[must_use]
+    pub fn payload_wanted(&mut self) -> u64 {
+        // SAFETY: the block was begun.
+        unsafe { raw::cose_payload_wanted(&mut self.handle()) }
+    }
+
+    /// How many bytes of the message were taken.
+    #[must_use]
+    pub fn taken(&mut self) -> u64 {
+        // SAFETY: the block was begun.
+        unsafe { raw::cose_taken(&mut self.handle()) }
+    }
+
+    /// How many bytes of the message are held.
+    #[must_use]
+    pub fn held(&mut self) -> u64 {
+        // SAFETY: the block was begun.
+        unsafe { raw::cose_held(&mut self.handle()) }
+    }
+}
