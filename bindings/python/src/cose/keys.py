@@ -18,12 +18,12 @@ class KeyTable:
     """
 
     def __init__(self, keys: Buffer) -> None:
-        self.data = bytes_of(keys, "keys")
+        self._data = bytes_of(keys, "keys")
         self._lock = threading.Lock()
         self._block = Block(small.table_size(), small.table_align())
         small.table_begin(self._block.handle.at)
         read = KeySetStruct()
-        small.edge_table_read(byref(self._block.handle), self.data, len(self.data), byref(read))
+        small.edge_table_read(byref(self._block.handle), self._data, len(self._data), byref(read))
         if read.status != Status.COMPLETE:
             fail(read)
         self._usable: int = read.usable
@@ -35,18 +35,19 @@ class KeyTable:
     def __repr__(self) -> str:
         return f"<cose.KeyTable of {self._usable} usable keys>"
 
-    def call(self, name: str, *arguments: object) -> None:
-        """One of the library's calls on the table, of which one at a time may run."""
-        with self._lock:
-            getattr(small, name)(byref(self._block.handle), *arguments)
-
 
 Keys = Union[Buffer, KeyTable]
 
 
 def data_of(keys: Keys) -> bytes:
     """The bytes of keys."""
-    return keys.data if isinstance(keys, KeyTable) else bytes_of(keys, "keys")
+    return keys._data if isinstance(keys, KeyTable) else bytes_of(keys, "keys")
+
+
+def call_table(table: KeyTable, name: str, *arguments: object) -> None:
+    """One of the library's calls on a table, of which one at a time may run."""
+    with table._lock:
+        getattr(small, name)(byref(table._block.handle), *arguments)
 
 
 def count_keys(keys: Buffer) -> int:

@@ -4,14 +4,27 @@ from __future__ import annotations
 
 import ctypes
 from ctypes import byref
-from typing import Optional
+from typing import NoReturn
 
-from ._answers import fail
 from ._arguments import Buffer, bytes_of, number_of
 from ._library import Block, MadeStruct, Status, small
+from .reasons import Reason
 
 # the most bytes before and after a payload
 _HEAD, _TAIL = 384, 70
+
+
+def _fail(made: MadeStruct) -> NoReturn:
+    """Raises why no message is made."""
+    status = Status(made.status)
+    if status == Status.KEYS_REFUSED:
+        raise ValueError(f"the key is refused: {Reason(made.reason).name}")
+    if status == Status.AAD_TOO_LONG:
+        raise ValueError("aad has more than 65,535 bytes")
+    raise ValueError(
+        "the key isn't one that makes messages with this algorithm, kid has more than 255 bytes,"
+        " or the payload isn't as long as it was said to be"
+    )
 
 
 class Maker:
@@ -50,7 +63,7 @@ class Maker:
             byref(made),
         )
         if made.status != Status.MORE:
-            fail(made)
+            _fail(made)
         # what precedes the payload
         self.head = room.raw[: made.length]
 
@@ -65,7 +78,7 @@ class Maker:
         room, made = ctypes.create_string_buffer(_TAIL), MadeStruct()
         small.edge_make_end(byref(self._block.handle), room, _TAIL, byref(made))
         if made.status != Status.COMPLETE:
-            fail(made)
+            _fail(made)
         return room.raw[: made.length]
 
 

@@ -10,9 +10,7 @@ from . import _library
 from ._answers import Ecdsa, fail, is_good
 from ._arguments import Algorithm, Buffer, Kind, bytes_of, wanted_of
 from ._library import ShapeStruct, SignInputStruct, Status, VerdictStruct, small
-from .errors import Refused
-from .keys import Keys, KeyTable, data_of
-from .reasons import Reason
+from .keys import Keys, KeyTable, call_table, data_of
 from .verifier import Verifier
 
 
@@ -43,7 +41,7 @@ def _read(keys: Keys, aad: bytes, wanted: int, message: bytes, large: bool) -> A
     verdict, sign_input = VerdictStruct(), SignInputStruct()
     rest = (aad, len(aad), wanted, message, len(message), byref(verdict), byref(sign_input))
     if isinstance(keys, KeyTable) and not large:
-        keys.call("edge_table_verify", *rest)
+        call_table(keys, "edge_table_verify", *rest)
     else:
         calls, data = _library.large if large else small, data_of(keys)
         calls.edge_verify(data, len(data), *rest)
@@ -72,24 +70,19 @@ def _read_detached(
 
 
 def _refuse_signature(
-    verdict: VerdictStruct,
-    keys: Keys,
-    aad: bytes,
-    wanted: int,
-    message: bytes,
-    payload: Optional[bytes],
-    large: bool,
+    keys: Keys, aad: bytes, wanted: int, message: bytes, payload: Optional[bytes], large: bool
 ) -> NoReturn:
-    """Refuses a message whose signature isn't good, at the place of the signature's head."""
-    if payload is None:
-        raise Refused(Reason.BadAuth, verdict.payload_at + verdict.payload_length)
-    # one call doesn't say where a detached payload's nil is
-    kind = Kind(wanted) if wanted else None
+    """Raises what a message is refused with whose signature isn't good: the library has the place."""
     with Verifier(
-        keys, aad=aad, wanted=kind, payload_length=len(payload), ecdsa=lambda _: False, large=large
+        keys,
+        aad=aad,
+        wanted=Kind(wanted) if wanted else None,
+        payload_length=None if payload is None else len(payload),
+        ecdsa=lambda _: False,
+        large=large,
     ) as verifier:
         used = verifier.feed(message).used
-        verifier.feed_payload(payload)
+        verifier.feed_payload(payload or b"")
         verifier.feed(message[used:])
         verifier.verdict()
     raise AssertionError("a message is authentic whose signature isn't good")
@@ -134,7 +127,7 @@ def verify(
         verdict, sign_input = _read_detached(keys, external, number, data, content, large)
     if verdict.status == Status.SIGNED:
         if not is_good(sign_input, ecdsa):
-            _refuse_signature(verdict, keys, external, number, data, content, large)
+            _refuse_signature(keys, external, number, data, content, large)
     elif verdict.status != Status.AUTHENTIC:
         fail(verdict)
     if content is None:

@@ -11,7 +11,7 @@ from . import _library, cbor
 from ._answers import Ecdsa, fail
 from ._arguments import Buffer, Kind, bytes_of, number_of
 from ._library import ClaimsStruct, DateStruct, PolicyStruct, RangeStruct, Status, small
-from .keys import Keys, KeyTable, data_of
+from .keys import Keys, KeyTable, call_table, data_of
 from .messages import verify
 
 
@@ -136,7 +136,7 @@ def _read(keys: Keys, aad: bytes, policy: PolicyStruct, token: bytes, large: boo
     found = ClaimsStruct()
     rest = (aad, len(aad), byref(policy), token, len(token), byref(found))
     if isinstance(keys, KeyTable) and not large:
-        keys.call("edge_table_verify_cwt", *rest)
+        call_table(keys, "edge_table_verify_cwt", *rest)
     else:
         calls, data = _library.large if large else small, data_of(keys)
         calls.edge_verify_cwt(data, len(data), *rest)
