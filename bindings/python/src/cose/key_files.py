@@ -12,18 +12,23 @@ from .keys import count_keys
 
 
 class Curve(NamedTuple):
-    """A curve: its number (RFC 9053 section 7.1), its name and object identifier, its bytes."""
+    """A curve, by its number (RFC 9053 section 7.1) and the names that JWK and SEC 2 give it.
+
+    `identifier` is its object identifier (RFC 5480 section 2.1.1.1), and `coordinate` the number of
+    bytes of a coordinate.
+    """
 
     number: int
     name: str
+    sec_name: str
     identifier: bytes
     coordinate: int
 
 
 _CURVES = (
-    Curve(1, "P-256", bytes.fromhex("2a8648ce3d030107"), 32),
-    Curve(2, "P-384", bytes.fromhex("2b81040022"), 48),
-    Curve(3, "P-521", bytes.fromhex("2b81040023"), 66),
+    Curve(1, "P-256", "secp256r1", bytes.fromhex("2a8648ce3d030107"), 32),
+    Curve(2, "P-384", "secp384r1", bytes.fromhex("2b81040022"), 48),
+    Curve(3, "P-521", "secp521r1", bytes.fromhex("2b81040023"), 66),
 )
 _EC_PUBLIC_KEY = bytes.fromhex("2a8648ce3d0201")
 _SEQUENCE, _BIT_STRING, _IDENTIFIER = 0x30, 0x03, 0x06
@@ -97,17 +102,13 @@ def _checked(data: bytes) -> CoseKey:
         key = serialization.load_der_public_key(data)
     except UnsupportedAlgorithm as error:
         raise ValueError(str(error)) from error
-    curve = next((it for it in _CURVES if it.name == _name_of(key)), None)
-    if not isinstance(key, ec.EllipticCurvePublicKey) or curve is None:
-        raise ValueError("it isn't an EC public key on P-256, P-384 or P-521")
+    if not isinstance(key, ec.EllipticCurvePublicKey):
+        raise ValueError("it isn't an EC public key")
+    curve = next((it for it in _CURVES if it.sec_name == key.curve.name), None)
+    if curve is None:
+        raise ValueError("its curve isn't P-256, P-384 or P-521")
     encoding, form = serialization.Encoding.X962, serialization.PublicFormat.UncompressedPoint
     return _point(curve, key.public_bytes(encoding, form))
-
-
-def _name_of(key: Any) -> str:
-    """The name of a key's curve, if it has one."""
-    names = {"secp256r1": "P-256", "secp384r1": "P-384", "secp521r1": "P-521"}
-    return names.get(getattr(getattr(key, "curve", None), "name", ""), "")
 
 
 def _from_pem(text: str) -> bytes:
@@ -143,17 +144,14 @@ def _from_jwk(key: Dict[str, Any]) -> Optional[CoseKey]:
     else:
         return None
     operations = _MAC_OPERATIONS if made[_KTY] == _SYMMETRIC else _OPERATIONS
-    algorithm = key.get("alg")
-    if (
-        key.get("use", "sig") != "sig"
-        or algorithm is not None
-        and str(algorithm) not in _ALGORITHMS
-    ):
+    if key.get("use", "sig") != "sig":
         return None
     if "kid" in key:
         made[_KID] = str(key["kid"]).encode()
-    if algorithm is not None:
-        made[_ALG] = _ALGORITHMS[str(algorithm)]
+    if "alg" in key:
+        if str(key["alg"]) not in _ALGORITHMS:
+            return None
+        made[_ALG] = _ALGORITHMS[str(key["alg"])]
     if "key_ops" in key:
         made[_KEY_OPS] = [operations[it] for it in map(str, key["key_ops"]) if it in operations]
     # a key whose operations are all unknown is for something else
