@@ -7,6 +7,7 @@ import json
 import os
 import pathlib
 import re
+import shutil
 import subprocess
 import sys
 import tempfile
@@ -45,6 +46,9 @@ class Page(unittest.TestCase):
             import cryptography  # noqa: F401
         except ImportError:
             self.skipTest("the package cryptography isn't installed")
+        path = os.pathsep.join([os.path.dirname(sys.executable), os.environ["PATH"]])
+        if not shutil.which("python", path=path):
+            self.skipTest("no command is named python")
         key = {"kty": "oct", "k": base64.urlsafe_b64encode(SECRET).decode()}
         commands = [it for it in blocks("sh") if "python -m cose" in it]
         self.assertEqual(len(commands), 1)
@@ -54,7 +58,6 @@ class Page(unittest.TestCase):
             (folder / "message.cbor").write_bytes((EXAMPLES / "sign1.cbor").read_bytes())
             (folder / "keys.jwk").write_text(json.dumps({"keys": [key]}))
             (folder / "token.txt").write_text(TOKEN.hex())
-            path = os.pathsep.join([os.path.dirname(sys.executable), os.environ["PATH"]])
             environment = {**os.environ, "PATH": path}
             ended = subprocess.run(
                 ["sh", "-e", "-c", commands[0]],
