@@ -1,0 +1,61 @@
+"""Verifies COSE messages (RFC 9052) and CBOR Web Tokens (RFC 8392) by a proved library.
+
+>>> import cose
+>>> cose.verify(keys, message).payload              # doctest: +SKIP
+>>> cose.verify_cwt(keys, token, now=1444064943).sub  # doctest: +SKIP
+"""
+
+from ._answers import Ecdsa, SignInput
+from ._arguments import Algorithm, Buffer, Kind
+from ._library import Status
+from .errors import (
+    ClaimsRefused,
+    Error,
+    KeysRefused,
+    LibraryNotFound,
+    Refused,
+    SignatureUnverified,
+)
+from .keys import Keys, KeyTable, count_keys
+from .making import Maker, make
+from .messages import Message, Shape, shape, verify
+from .reasons import Reason
+from .signatures import ecdsa
+from .tokens import Claims, Confirmation, ConfirmationKey, claims, verify_cwt
+from .verifier import Fed, Verdict, Verifier
+
+__version__ = "0.2.0"
+
+__all__ = [
+    "Algorithm",
+    "Buffer",
+    "Claims",
+    "ClaimsRefused",
+    "Confirmation",
+    "ConfirmationKey",
+    "Ecdsa",
+    "Error",
+    "Fed",
+    "KeyTable",
+    "Keys",
+    "KeysRefused",
+    "Kind",
+    "LibraryNotFound",
+    "Maker",
+    "Message",
+    "Reason",
+    "Refused",
+    "Shape",
+    "SignInput",
+    "SignatureUnverified",
+    "Status",
+    "Verdict",
+    "Verifier",
+    "claims",
+    "count_keys",
+    "ecdsa",
+    "make",
+    "shape",
+    "verify",
+    "verify_cwt",
+]

@@ -1,0 +1,71 @@
+"""From what a call answers to what is returned or raised."""
+
+from __future__ import annotations
+
+from dataclasses import dataclass
+from typing import Any, Callable, NoReturn, Optional, Union
+
+from ._library import SignInputStruct, Status
+from .errors import ClaimsRefused, KeysRefused, Refused, SignatureUnverified
+from .reasons import Reason
+
+
+@dataclass(frozen=True)
+class SignInput:
+    """What an ECDSA signature is verified with: a point, the digest that is signed, and r and s.
+
+    `crv` is 1 for P-256, 2 for P-384 and 3 for P-521. `y` is bytes, or a boolean for a compressed
+    point: True where y is odd. `signature` is r, then s, each as long as a coordinate.
+    """
+
+    crv: int
+    x: bytes
+    y: Union[bytes, bool]
+    digest: bytes
+    signature: bytes
+
+
+# returns whether a signature is good
+Ecdsa = Callable[[SignInput], bool]
+
+_WRONG = {
+    Status.AAD_TOO_LONG: "aad has more than 65,535 bytes",
+    Status.BAD_AUDIENCE: "the audience isn't UTF-8",
+    Status.BAD_ARGUMENT: "an argument is out of range",
+    Status.CLOSED: "the verifier isn't open",
+}
+
+
+def fail(answer: Any) -> NoReturn:
+    """Raises what an answer says that is no success: it has a status, a reason and a place."""
+    status = Status(answer.status)
+    if status == Status.REFUSED:
+        raise Refused(Reason(answer.reason), answer.place)
+    if status == Status.CLAIMS_REFUSED:
+        raise ClaimsRefused(Reason(answer.reason), answer.place)
+    if status == Status.KEYS_REFUSED:
+        raise KeysRefused(Reason(answer.reason), answer.place)
+    raise ValueError(_WRONG.get(status, f"the library answers {status.name}"))
+
+
+def sign_input_of(struct: SignInputStruct) -> SignInput:
+    """What a signature is verified with."""
+    y = bytes(struct.y[: struct.y_length]) if struct.y_sign == 0 else struct.y_sign == 2
+    return SignInput(
+        crv=struct.crv,
+        x=bytes(struct.x[: struct.x_length]),
+        y=y,
+        digest=bytes(struct.digest[: struct.digest_length]),
+        signature=bytes(struct.signature[: struct.signature_length]),
+    )
+
+
+def is_good(struct: SignInputStruct, ecdsa: Optional[Ecdsa]) -> bool:
+    """Whether a signature is good, as `ecdsa` says, which is asked once."""
+    if ecdsa is None:
+        raise SignatureUnverified()
+    answer = ecdsa(sign_input_of(struct))
+    # anything else that counts as true, such as a coroutine, says nothing about the signature
+    if not isinstance(answer, bool):
+        raise TypeError(f"ecdsa should return a bool, and returned {type(answer).__name__}")
+    return answer

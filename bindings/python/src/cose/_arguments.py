@@ -1,0 +1,50 @@
+"""What callers pass, checked: ctypes itself cuts numbers that are out of range."""
+
+from __future__ import annotations
+
+import enum
+import operator
+from typing import Optional, Union
+
+Buffer = Union[bytes, bytearray, memoryview]
+
+
+class Kind(enum.IntEnum):
+    """The two kinds of messages, by their tags (RFC 9052 section 2)."""
+
+    MAC0 = 17
+    SIGN1 = 18
+
+
+class Algorithm(enum.IntEnum):
+    """The algorithms, by their numbers (RFC 9053 sections 2.1 and 3.1)."""
+
+    HMAC_256_64 = 4
+    HMAC_256 = 5
+    HMAC_384 = 6
+    HMAC_512 = 7
+    ES256 = -7
+    ES384 = -35
+    ES512 = -36
+
+
+def bytes_of(value: Buffer, name: str) -> bytes:
+    """The bytes of an argument, which don't change while they are read."""
+    if isinstance(value, bytes):
+        return value
+    if isinstance(value, (bytearray, memoryview)):
+        return bytes(value)
+    raise TypeError(f"{name} should be bytes, and is {type(value).__name__}")
+
+
+def number_of(value: int, name: str, least: int, most: int) -> int:
+    """The number of an argument, which is in a range."""
+    number = operator.index(value)
+    if not least <= number <= most:
+        raise ValueError(f"{name} should be from {least} to {most}, and is {number}")
+    return number
+
+
+def wanted_of(value: Optional[Kind]) -> int:
+    """The kind that is wanted, by its number: 0 where the message's tag says it."""
+    return 0 if value is None else Kind(value).value

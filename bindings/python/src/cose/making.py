@@ -1,0 +1,98 @@
+"""COSE_Mac0 messages that are made."""
+
+from __future__ import annotations
+
+import ctypes
+from ctypes import byref
+from typing import NoReturn
+
+from ._arguments import Buffer, bytes_of, number_of
+from ._library import Block, MadeStruct, Status, small
+from .reasons import Reason
+
+# the most bytes before and after a payload
+_HEAD, _TAIL = 384, 70
+
+
+def _fail(made: MadeStruct) -> NoReturn:
+    """Raises why no message is made."""
+    status = Status(made.status)
+    if status == Status.KEYS_REFUSED:
+        raise ValueError(f"the key is refused: {Reason(made.reason).name}")
+    if status == Status.AAD_TOO_LONG:
+        raise ValueError("aad has more than 65,535 bytes")
+    raise ValueError(
+        "the key isn't one that makes messages with this algorithm, kid has more than 255 bytes,"
+        " or the payload isn't as long as it was said to be"
+    )
+
+
+class Maker:
+    """Makes a COSE_Mac0 over pieces of its payload: `head`, the pieces and `end()` are the message.
+
+    The arguments are those of `cose.make`; `payload_length` is the length of all pieces together.
+    """
+
+    def __init__(
+        self,
+        key: Buffer,
+        payload_length: int,
+        *,
+        alg: int,
+        kid: Buffer = b"",
+        aad: Buffer = b"",
+    ) -> None:
+        secret, name, external = bytes_of(key, "key"), bytes_of(kid, "kid"), bytes_of(aad, "aad")
+        length = number_of(payload_length, "payload_length", 0, 2**64 - 1)
+        number = number_of(alg, "alg", 4, 7)
+        self._block = Block(small.maker_size(), small.maker_align())
+        small.maker_begin(self._block.handle.at)
+        room, made = ctypes.create_string_buffer(_HEAD), MadeStruct()
+        small.edge_make(
+            byref(self._block.handle),
+            number,
+            secret,
+            len(secret),
+            name,
+            len(name),
+            external,
+            len(external),
+            length,
+            room,
+            _HEAD,
+            byref(made),
+        )
+        if made.status != Status.MORE:
+            _fail(made)
+        # what precedes the payload
+        self.head = room.raw[: made.length]
+
+    def piece(self, piece: Buffer) -> int:
+        """Takes bytes of the payload, and returns how many: none after its last one."""
+        data = bytes_of(piece, "piece")
+        used: int = small.edge_make_piece(byref(self._block.handle), data, len(data))
+        return used
+
+    def end(self) -> bytes:
+        """What follows the payload. Raises `ValueError` where the payload isn't whole."""
+        room, made = ctypes.create_string_buffer(_TAIL), MadeStruct()
+        small.edge_make_end(byref(self._block.handle), room, _TAIL, byref(made))
+        if made.status != Status.COMPLETE:
+            _fail(made)
+        return room.raw[: made.length]
+
+
+def make(
+    key: Buffer, payload: Buffer, *, alg: int = 5, kid: Buffer = b"", aad: Buffer = b""
+) -> bytes:
+    """Makes a COSE_Mac0.
+
+    key: a COSE_Key of a symmetric key.
+    alg: 4, 5, 6 or 7 (RFC 9053 section 3.1).
+    kid: the key identifier to write, at most 255 bytes; none where it is empty.
+    aad: the externally supplied data, at most 65,535 bytes.
+    """
+    data = bytes_of(payload, "payload")
+    maker = Maker(key, len(data), alg=alg, kid=kid, aad=aad)
+    maker.piece(data)
+    return maker.head + data + maker.end()

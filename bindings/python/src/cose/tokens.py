@@ -1,0 +1,180 @@
+"""CBOR Web Tokens (RFC 8392)."""
+
+from __future__ import annotations
+
+import time
+from ctypes import byref
+from dataclasses import dataclass
+from typing import Iterator, Optional, Tuple, Union
+
+from . import _library, cbor
+from ._answers import Ecdsa, fail
+from ._arguments import Buffer, Kind, bytes_of, number_of
+from ._library import ClaimsStruct, DateStruct, PolicyStruct, RangeStruct, Status, small
+from .keys import Keys, KeyTable, call_table, data_of
+from .messages import verify
+
+
+@dataclass(frozen=True)
+class ConfirmationKey:
+    """The point of a confirmation key (RFC 8747 section 3.2); y is a boolean if compressed."""
+
+    crv: int
+    x: bytes
+    y: Union[bytes, bool]
+
+    def cose_key(self) -> bytes:
+        """The key as a COSE_Key, under which messages of the token's presenter are verified."""
+        return cbor.encode({1: 2, -1: self.crv, -2: self.x, -3: self.y})
+
+
+@dataclass(frozen=True)
+class Confirmation:
+    """What the presenter of a token has to prove the possession of (RFC 8747)."""
+
+    kid: Optional[bytes] = None
+    key: Optional[ConfirmationKey] = None
+
+
+@dataclass(frozen=True)
+class Claims:
+    """The claims of an admitted token; those that aren't there are None, or no audience.
+
+    `payload` has all claims, those too that have no name here, as CBOR.
+    """
+
+    payload: bytes
+    iss: Optional[str] = None
+    sub: Optional[str] = None
+    aud: Tuple[str, ...] = ()
+    exp: Optional[int] = None
+    nbf: Optional[int] = None
+    iat: Optional[int] = None
+    cti: Optional[bytes] = None
+    cnf: Optional[Confirmation] = None
+
+
+def _policy(now: Optional[int], leeway: int, audience: Optional[str]) -> PolicyStruct:
+    moment = int(time.time()) if now is None else number_of(now, "now", -(2**63), 2**63 - 1)
+    name = (audience or "").encode()
+    seconds = number_of(leeway, "leeway", 0, 2**32 - 1)
+    return PolicyStruct(moment, seconds, audience is not None, name, len(name))
+
+
+def _bytes(payload: bytes, place: RangeStruct) -> Optional[bytes]:
+    return payload[place.at : place.at + place.length] if place.present else None
+
+
+def _text(payload: bytes, place: RangeStruct) -> Optional[str]:
+    found = _bytes(payload, place)
+    return None if found is None else found.decode()
+
+
+def _date(date: DateStruct) -> Optional[int]:
+    if not date.present:
+        return None
+    number: int = date.number
+    return -1 - number if date.negative else number
+
+
+def _audiences(payload: bytes, claims: ClaimsStruct) -> Iterator[str]:
+    for index in range(claims.aud_count):
+        place = claims.aud
+        if index > 0:
+            place = RangeStruct()
+            small.edge_audience(payload, len(payload), index, byref(place))
+        name = _text(payload, place)
+        if name is not None:
+            yield name
+
+
+def _confirmation(payload: bytes, claims: ClaimsStruct) -> Optional[Confirmation]:
+    kid, key = _bytes(payload, claims.cnf_kid), None
+    if claims.cnf_crv:
+        x = _bytes(payload, claims.cnf_x) or b""
+        y = claims.cnf_y_sign == 2 if claims.cnf_y_sign else _bytes(payload, claims.cnf_y) or b""
+        key = ConfirmationKey(claims.cnf_crv, x, y)
+    return None if kid is None and key is None else Confirmation(kid, key)
+
+
+def _claims_of(payload: bytes, claims: ClaimsStruct) -> Claims:
+    return Claims(
+        payload=payload,
+        iss=_text(payload, claims.iss),
+        sub=_text(payload, claims.sub),
+        aud=tuple(_audiences(payload, claims)),
+        exp=_date(claims.exp),
+        nbf=_date(claims.nbf),
+        iat=_date(claims.iat),
+        cti=_bytes(payload, claims.cti),
+        cnf=_confirmation(payload, claims),
+    )
+
+
+def claims(
+    payload: Buffer,
+    *,
+    now: Optional[int] = None,
+    leeway: int = 0,
+    audience: Optional[str] = None,
+    large: bool = False,
+) -> Claims:
+    """The claims of a payload that is known to be authentic, admitted as `verify_cwt` does it.
+
+    Raises `ClaimsRefused`.
+    """
+    data, found = bytes_of(payload, "payload"), ClaimsStruct()
+    policy = _policy(now, leeway, audience)
+    calls = _library.large if large else small
+    calls.edge_claims(data, len(data), byref(policy), byref(found))
+    if found.status != Status.AUTHENTIC:
+        fail(found)
+    return _claims_of(data, found)
+
+
+def _read(keys: Keys, aad: bytes, policy: PolicyStruct, token: bytes, large: bool) -> ClaimsStruct:
+    found = ClaimsStruct()
+    rest = (aad, len(aad), byref(policy), token, len(token), byref(found))
+    if isinstance(keys, KeyTable) and not large:
+        call_table(keys, "edge_table_verify_cwt", *rest)
+    else:
+        calls, data = _library.large if large else small, data_of(keys)
+        calls.edge_verify_cwt(data, len(data), *rest)
+    return found
+
+
+def verify_cwt(
+    keys: Keys,
+    token: Buffer,
+    *,
+    now: Optional[int] = None,
+    leeway: int = 0,
+    audience: Optional[str] = None,
+    aad: Buffer = b"",
+    wanted: Optional[Kind] = None,
+    ecdsa: Optional[Ecdsa] = None,
+    large: bool = False,
+) -> Claims:
+    """Verifies a CBOR Web Token, with its CWT tag or without, and returns its admitted claims.
+
+    now: the current time in seconds since 1970; by default that of the machine's clock.
+    leeway: how many seconds the clocks may differ by.
+    audience: what one of its audiences has to be, where it names any; by default any may be.
+    keys, token, aad, wanted, ecdsa, large: as in `cose.verify`.
+
+    Raises `Refused` for the message, `ClaimsRefused` for its claims, `KeysRefused`, and
+    `SignatureUnverified` for a COSE_Sign1 without `ecdsa`.
+    """
+    data, external = bytes_of(token, "token"), bytes_of(aad, "aad")
+    policy = _policy(now, leeway, audience)
+    if ecdsa is None and wanted is None:
+        found = _read(keys, external, policy, data, large)
+        if found.status == Status.AUTHENTIC:
+            payload = data[found.payload_at : found.payload_at + found.payload_length]
+            return _claims_of(payload, found)
+        if found.status in (Status.REFUSED, Status.SIGNED):
+            # that call is for a COSE_Mac0 alone: of a COSE_Sign1 this one says what it is
+            verify(keys, data, aad=external, large=large)
+        fail(found)
+    message = verify(keys, data, aad=external, wanted=wanted, ecdsa=ecdsa, large=large)
+    return claims(message.payload, now=policy.now, leeway=leeway, audience=audience, large=large)

@@ -1,0 +1,497 @@
+"""Runs the rows of rows/ through the package, and so through the C interface.
+
+rows/README.md is the schema. The interface has fixed limits: header buckets of 1,024 bytes nested 8
+deep, and of 65,535 bytes nested 16 deep in the large size; a CWT tag may come; no label is
+understood in addition; payloads have no limit. A group with narrower limits is run too: these can
+change an answer only to the reasons that they give, so only rows that expect one of these reasons
+are left out. `python rows.py` prints what each file has, what is left out and why.
+"""
+
+from __future__ import annotations
+
+import collections
+import functools
+import json
+import pathlib
+import sys
+from typing import Any, Callable, Counter, Dict, Iterator, List, NamedTuple, Optional, Tuple
+
+import cose
+
+ROWS = pathlib.Path(__file__).resolve().parents[3] / "rows"
+CUTS = (1, 2, 7, 64, 65_536)
+KINDS = {"tagged": None, "mac0": cose.Kind.MAC0, "sign1": cose.Kind.SIGN1}
+SIZES = {False: (1_024, 8), True: (65_535, 16)}
+
+Row = Dict[str, Any]
+
+
+class LeftOut(Exception):
+    """A row that the interface can't ask, and why."""
+
+
+class Differs(Exception):
+    """A row that is answered otherwise."""
+
+
+def octets(row: Row, name: str) -> bytes:
+    return bytes.fromhex(row[name])
+
+
+def equal(seen: Any, wanted: Any, how: str) -> None:
+    if seen != wanted:
+        raise Differs(f"{how}: {seen}, and not {wanted}")
+
+
+def sizes(group: Row, reason: Optional[str]) -> List[bool]:
+    """The sizes (whether large) that answer a row of a group as its own limits do."""
+    if group.get("understood"):
+        raise LeftOut("labels are understood")
+    if reason == "PayloadTooLong" and "payloadLimit" in group:
+        raise LeftOut("its limit of the payload is the reason")
+    if reason == "WrongTag" and group.get("cwt") is False:
+        raise LeftOut("no CWT tag may come")
+    found = []
+    for large, (header, nesting) in SIZES.items():
+        if group.get("headerLimit", header) > header or group["nesting"] > nesting:
+            continue
+        if reason == "PastRoom" and group.get("headerLimit", header) < header:
+            continue
+        if reason == "TooDeep" and group["nesting"] < nesting:
+            continue
+        found.append(large)
+    if not found:
+        raise LeftOut("its limits of headers are others")
+    return found
+
+
+class Signature:
+    """What a row says of its signature: asked about anything else, it says the contrary."""
+
+    def __init__(self, test: Row) -> None:
+        said = test.get("signature")
+        self.asked = said and (octets(said, "digest"), octets(said, "signature"))
+        self.holds = bool(said) and said["holds"]
+
+    def __call__(self, given: cose.SignInput) -> bool:
+        is_asked = self.asked == (given.digest, given.signature)
+        return self.holds if is_asked else bool(self.asked) and not self.holds
+
+
+Answer = Tuple[Any, ...]
+
+
+def answer(call: Callable[[], Answer]) -> Answer:
+    """What a call answers: what it returns, or its refusal."""
+    try:
+        return call()
+    except cose.Refused as refused:
+        verdict = "refused claims" if isinstance(refused, cose.ClaimsRefused) else "refused"
+        return verdict, refused.reason.name, refused.place
+
+
+def refusal(result: Row, verdict: str = "refused") -> Answer:
+    return verdict, result["reason"], result["place"]
+
+
+def cut(data: bytes, size: int) -> Iterator[bytes]:
+    return (data[at : at + size] for at in range(0, len(data), size))
+
+
+# ---- messages
+
+
+def in_one_call(keys: cose.Keys, message: bytes, **options: Any) -> Answer:
+    found = cose.verify(keys, message, **options)
+    return "authentic", found.kind.name.lower(), int(found.alg), found.payload, found.taken
+
+
+def fed(verifier: cose.Verifier, message: bytes, size: int, came: bytearray) -> Answer:
+    """Feeds a message in pieces, up to its payload where that is detached."""
+    used = 0
+    for piece in cut(message, size):
+        taken = verifier.feed(piece)
+        came += taken.payload
+        used += taken.used
+        if taken.status == cose.Status.PAYLOAD_NEXT:
+            break
+    return ("used", used)
+
+
+def decided(verifier: cose.Verifier) -> Answer:
+    found = verifier.verdict()
+    return "authentic", found.kind.name.lower(), int(found.alg), found.payload_length, found.taken
+
+
+def expected(result: Row, payload: Any) -> Answer:
+    if result["verdict"] != "authentic":
+        return refusal(result)
+    return "authentic", result["kind"], result["alg"], payload, result["taken"]
+
+
+def run_whole(keys: Any, message: bytes, options: Row, result: Row) -> None:
+    """One call: what decides it, all bytes, and each shorter prefix of an authentic message."""
+    call = functools.partial(in_one_call, keys, **options)
+    is_good, taken = result["verdict"] == "authentic", result["taken"]
+    wanted = expected(result, octets(result, "payload") if is_good else None)
+    equal(answer(lambda: call(message[:taken])), wanted, "verify")
+    for end in range(taken if is_good else 0):
+        truncated = "refused", "Truncated", end
+        equal(answer(lambda: call(message[:end])), truncated, f"verify, {end} bytes")
+    if len(message) > taken:
+        # a byte after the message goes before the question whether its signature is good
+        is_whole = is_good or options["ecdsa"].asked
+        trailing = "refused", "Trailing", taken
+        equal(answer(lambda: call(message)), trailing if is_whole else wanted, "verify, all bytes")
+
+
+def run_pieces(keys: bytes, message: bytes, options: Row, result: Row, size: int) -> None:
+    came = bytearray()
+    with cose.Verifier(keys, **options) as verifier:
+
+        def call() -> Answer:
+            fed(verifier, message, size, came)
+            return decided(verifier)
+
+        is_good = result["verdict"] == "authentic"
+        payload = octets(result, "payload") if is_good else b""
+        how = f"Verifier, pieces of {size}"
+        equal(answer(call), expected(result, len(payload)), how)
+        equal(verifier.taken, result["taken"], f"{how}, taken")
+        if is_good:
+            equal(bytes(came), payload, f"{how}, payload")
+
+
+def run_message(group: Row, test: Row) -> None:
+    result = test["result"]
+    for large in sizes(group, result.get("reason")):
+        options = {
+            "aad": octets(group, "aad"),
+            "wanted": KINDS[group["wanted"]],
+            "ecdsa": Signature(test),
+            "large": large,
+        }
+        keys, message = octets(group, "keys"), octets(test, "message")
+        for held in [keys] if large else [keys, cose.KeyTable(keys)]:
+            run_whole(held, message, options, result)
+        for size in CUTS:
+            run_pieces(keys, message, options, result, size)
+
+
+# ---- detached messages
+
+
+def feed_payload(verifier: cose.Verifier, payload: bytes, size: int) -> int:
+    taken = 0
+    for piece in cut(payload, size):
+        if verifier.payload_wanted:
+            taken += verifier.feed_payload(piece)
+    return taken
+
+
+def run_detached_pieces(
+    keys: bytes, test: Row, length: int, options: Row, size: int, end: Optional[int] = None
+) -> None:
+    """A detached message in pieces, or its first `end` bytes."""
+    result, message, payload = (
+        test["result"],
+        octets(test, "message")[:end],
+        octets(test, "payload"),
+    )
+    how, count = f"Verifier, detached, pieces of {size}", 0
+    wanted = expected(result, length) if end is None else ("refused", "Truncated", end)
+    with cose.Verifier(keys, payload_length=length, **options) as verifier:
+
+        def call() -> Answer:
+            nonlocal count
+            used = fed(verifier, message, size, bytearray())[1]
+            count = feed_payload(verifier, payload, size)
+            fed(verifier, message[used:], size, bytearray())
+            return decided(verifier)
+
+        equal(answer(call), wanted, how)
+        if end is None:
+            equal((verifier.taken, count), (result["taken"], result["payloadTaken"]), how)
+
+
+def run_detached(group: Row, test: Row) -> None:
+    result, length = test["result"], int(group["payloadLength"])
+    keys, message, payload = octets(group, "keys"), octets(test, "message"), octets(test, "payload")
+    is_good = result["verdict"] == "authentic"
+    for large in sizes(group, result.get("reason")):
+        options = {
+            "aad": octets(group, "aad"),
+            "wanted": KINDS[group["wanted"]],
+            "ecdsa": Signature(test),
+            "large": large,
+        }
+        for size in CUTS:
+            run_detached_pieces(keys, test, length, options, size)
+        for end in range(result["taken"] if is_good else 0):
+            run_detached_pieces(keys, test, length, options, 64, end)
+        if len(payload) >= length:
+            whole, content = message[: result["taken"]], payload[:length]
+            call = functools.partial(in_one_call, keys, whole, payload=content, **options)
+            equal(answer(call), expected(result, content), "verify, detached")
+
+
+# ---- shapes
+
+
+def run_shape(group: Row, test: Row) -> None:
+    result, message = test["result"], octets(test, "message")
+    if False not in sizes(group, result.get("reason")):
+        raise LeftOut("its limits of headers are others")
+
+    def call() -> Answer:
+        found = cose.shape(message[: result["taken"]], wanted=KINDS[group["wanted"]])
+        return found.kind.name.lower(), found.payload_length, found.auth_length, found.taken
+
+    if result["verdict"] == "shape":
+        wanted: Answer = tuple(result[name] for name in ("kind", "payload", "auth", "taken"))
+    else:
+        wanted = refusal(result)
+    equal(answer(call), wanted, "shape")
+
+
+# ---- tokens
+
+
+def plain_key(key: Optional[cose.ConfirmationKey]) -> Row:
+    if key is None:
+        return {}
+    y = key.y if isinstance(key.y, bool) else key.y.hex()
+    return {"key": {"curve": key.crv, "x": key.x.hex(), "y": y}}
+
+
+def plain(claims: cose.Claims) -> Row:
+    """Claims as rows have them."""
+    found: Row = {name: getattr(claims, name) for name in ("iss", "sub")}
+    found.update((name, getattr(claims, name)) for name in ("exp", "nbf", "iat"))
+    found["cti"] = claims.cti and claims.cti.hex() if claims.cti else claims.cti
+    found["aud"] = list(claims.aud) or None
+    if claims.cnf is not None:
+        kid = {} if claims.cnf.kid is None else {"kid": claims.cnf.kid.hex()}
+        found["cnf"] = {**kid, **plain_key(claims.cnf.key)}
+    found = {name: it for name, it in found.items() if it is not None}
+    return {name: "" if it == b"" else it for name, it in found.items()}
+
+
+def wanted_claims(said: Row) -> Row:
+    """The claims of a row, as far as the interface tells them: of a confirmed key its point."""
+    wanted = dict(said)
+    for name in ("exp", "nbf", "iat"):
+        if name in wanted:
+            wanted[name] = int(wanted[name])
+    if "cnf" in wanted:
+        cnf = dict(wanted.pop("cnf"))
+        if "key" in cnf:
+            cnf["key"] = {name: cnf["key"][name] for name in ("curve", "x", "y")}
+        if cnf:
+            wanted["cnf"] = cnf
+    return wanted
+
+
+def policy_of(group: Row) -> Row:
+    audiences = group.get("audience")
+    if audiences is not None and len(audiences) != 1:
+        raise LeftOut("the policy has no audience or several")
+    audience = audiences[0] if audiences else None
+    return {"now": int(group["now"]), "leeway": group["leeway"], "audience": audience}
+
+
+def run_token(group: Row, test: Row) -> None:
+    result, token, keys = test["result"], octets(test, "token"), octets(group, "keys")
+    policy = policy_of(group)
+    reason = result.get("reason")
+    for large in sizes(group, reason):
+        options = {"aad": octets(group, "aad"), "wanted": KINDS[group["wanted"]], "large": large}
+        held = [keys] if large else [keys, cose.KeyTable(keys)]
+        for ecdsa in (Signature(test), None):
+            for key_set in held:
+                run_token_under(key_set, token, {**policy, **options, "ecdsa": ecdsa}, result)
+
+
+def run_token_under(keys: Any, token: bytes, options: Row, result: Row) -> None:
+    def call(data: bytes) -> Answer:
+        return "admitted", plain(cose.verify_cwt(keys, data, **options))
+
+    taken = result.get("taken", len(token))
+    if result["verdict"] == "admitted":
+        wanted: Answer = "admitted", wanted_claims(result["claims"])
+    else:
+        wanted = refusal(result, result["verdict"].replace(" message", ""))
+    try:
+        seen = answer(lambda: call(token[:taken]))
+        if seen[:2] == ("refused", "Trailing") and result["verdict"] == "refused claims":
+            # the row doesn't say how long its token is, after which bytes follow
+            seen = answer(lambda: call(token[: seen[2]]))
+        equal(seen, wanted, "verify_cwt")
+    except cose.SignatureUnverified:
+        equal(options["ecdsa"], None, "verify_cwt, without ecdsa")
+        return
+    for end in range(taken if result["verdict"] == "admitted" else 0):
+        truncated = "refused", "Truncated", end
+        equal(answer(lambda: call(token[:end])), truncated, f"verify_cwt, {end} bytes")
+    if len(token) > taken:
+        equal(answer(lambda: call(token)), ("refused", "Trailing", taken), "verify_cwt, all bytes")
+
+
+def moment_for(said: Row) -> int:
+    """A time at which claims are admitted, since the interface reads none without a time."""
+    least, most = int(said.get("nbf", -(2**63))), int(said.get("exp", 2**63)) - 1
+    least, most = max(least, -(2**63)), min(most, 2**63 - 1)
+    if least > most:
+        raise LeftOut("there is no time at which it is admitted")
+    return min(max(0, least), most)
+
+
+def run_claims(group: Row, test: Row) -> None:
+    result, payload = test["result"], octets(test, "payload")
+    if "now" in group:
+        policy = policy_of(group)
+    else:
+        policy = {"now": moment_for(result["claims"]) if "claims" in result else 0}
+    for large in sizes(group, result.get("reason")):
+
+        def call() -> Answer:
+            return "claims", plain(cose.claims(payload, large=large, **policy))
+
+        if result["verdict"] == "claims":
+            wanted: Answer = "claims", wanted_claims(result["claims"])
+        else:
+            wanted = refusal(result, "refused claims")
+        equal(answer(call), wanted, "claims")
+
+
+# ---- keys
+
+# what a set is refused for; a key in it that is refused for another reason isn't usable
+SET_REASONS = ("Reserved", "Indefinite", "BadSimple", "TooDeep", "PastRoom", "Trailing")
+
+
+def count(read: Callable[[bytes], int], keys: bytes) -> Answer:
+    """How many keys are usable."""
+    try:
+        return "set", read(keys)
+    except cose.KeysRefused as refused:
+        return "refused", refused.reason.name, refused.place
+
+
+def count_in_table(keys: bytes) -> int:
+    return len(cose.KeyTable(keys))
+
+
+def run_key(group: Row, test: Row) -> None:
+    result, key = test["result"], octets(test, "key")
+    reason = result.get("reason")
+    if reason == "NotMap":
+        raise LeftOut("no map: as a key set it is another thing")
+    if len(key) > 65_535:
+        raise LeftOut("longer than a key set")
+    if reason in SET_REASONS:
+        wanted: Answer = "refused", reason, result["place"] - group["place"]
+    else:
+        wanted = "set", int(result["verdict"] == "key")
+    equal(count(cose.count_keys, key), wanted, "count_keys")
+    equal(count(count_in_table, key), wanted, "KeyTable")
+
+
+def run_set(group: Row, test: Row) -> None:
+    result, keys = test["result"], octets(test, "set")
+    wanted = ("set", result["usable"]) if result["verdict"] == "set" else refusal(result)
+    if "table" not in group:
+        equal(count(cose.count_keys, keys), wanted, "count_keys")
+    if group.get("table", 64) < 64 and result.get("reason") == "BadKeySet":
+        raise LeftOut("the table's size is the reason")
+    if result.get("usable", 0) <= 64:
+        equal(count(count_in_table, keys), wanted, "KeyTable")
+
+
+# ---- messages that are made
+
+
+def run_made(group: Row, test: Row) -> None:
+    result, payload, length = test["result"], octets(test, "payload"), int(test["payloadLength"])
+    if test.get("kid") == "":
+        raise LeftOut("an empty key identifier is none")
+    message = octets(result, "message")
+    for size in (1, 64):
+        made, left = bytearray(), len(payload)
+        try:
+            maker = cose.Maker(
+                octets(group, "key"),
+                length,
+                alg=test["alg"],
+                kid=octets(test, "kid") if "kid" in test else b"",
+                aad=octets(test, "aad"),
+            )
+            made += maker.head
+            for piece in cut(payload, size):
+                used = maker.piece(piece)
+                made += piece[:used]
+                left -= used
+            made += maker.end()
+            fault = None
+        except (ValueError, cose.KeysRefused) as error:
+            fault = error
+        equal(
+            (fault is not None), result["verdict"] == "fault", f"Maker, pieces of {size}: {fault}"
+        )
+        equal((bytes(made), left), (message, result["left"]), f"Maker, pieces of {size}")
+
+
+RUNNERS: Dict[str, Callable[[Row, Row], None]] = {
+    "messages": run_message,
+    "detached": run_detached,
+    "shapes": run_shape,
+    "tokens": run_token,
+    "claims": run_claims,
+    "keys": run_key,
+    "sets": run_set,
+    "made": run_made,
+}
+
+
+class Counts(NamedTuple):
+    """What became of the rows of a file."""
+
+    rows: int
+    differ: List[str]
+    left_out: Counter[str]
+
+    def line(self, schema: str) -> str:
+        left = sum(self.left_out.values())
+        why = "; ".join(f"{it}: {number}" for it, number in sorted(self.left_out.items()))
+        run = self.rows - left
+        text = f"{schema}: {self.rows} rows, {run} run, {left} left out, {len(self.differ)} differ"
+        return f"{text} ({why})" if why else text
+
+
+def run_file(schema: str) -> Counts:
+    """Runs the rows of a file."""
+    counts = Counts(0, [], collections.Counter())
+    rows = 0
+    for group in json.loads((ROWS / f"{schema}.json").read_text())["testGroups"]:
+        for test in group["tests"]:
+            rows += 1
+            try:
+                RUNNERS[schema](group, test)
+            except LeftOut as left_out:
+                counts.left_out[str(left_out)] += 1
+            except Differs as difference:
+                counts.differ.append(f"{schema} {test['tcId']}, {test['comment']}: {difference}")
+    return counts._replace(rows=rows)
+
+
+def main() -> int:
+    differ = 0
+    for schema in RUNNERS:
+        counts = run_file(schema)
+        differ += len(counts.differ)
+        print("\n".join([*counts.differ, counts.line(schema)]))
+    return int(differ > 0)
+
+
+if __name__ == "__main__":
+    sys.exit(main())
