@@ -2,4 +2,4 @@ use Rattle.std.proofs.Common.{◌∙◌}
 use Rattle.cose_cwt.proofs.tests.messages.slice.status_after.Goals as goal
 
 pub returns : goal.returns
-returns g c = c.status.ensures.value ∙ c.verify_slice.ensures.status
+returns c = c.status.ensures.value ∙ c.verify_slice.ensures.status

@@ -1,4 +1,4 @@
-use Rattle.std.proofs.Common.{Ok, refl, ◌∙◌}
+use Rattle.std.proofs.Common.{Ok, refl}
 use Rattle.cose_cwt.proofs.tests.messages.slice.verdict_again.Goals as goal
 
 pub returns-clause-verdict : goal.returns-clause-verdict
