@@ -1,9 +1,11 @@
 pub mod Admissions
 pub mod Asked
+pub mod CommandLines
 pub mod Digests
 pub mod Failures
 pub mod KeyFiles
 pub mod Makings
+pub mod Options
 pub mod PayloadFiles
 pub mod Replies
 pub mod Shows
