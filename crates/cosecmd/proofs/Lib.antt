@@ -14,6 +14,7 @@ pub mod Vouches
 pub mod WorkedAdmitted
 pub mod WorkedDigests
 pub mod WorkedMade
+pub mod WorkedOptions
 pub mod WorkedPayloads
 pub mod WorkedPrinted
 pub mod WorkedShown
