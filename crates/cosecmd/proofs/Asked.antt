@@ -4,12 +4,12 @@ use Rattle.std.proofs.Math.Seq.{take-length}
 use Rattle.cose_map.specs.Key.View.{contents}
 use Rattle.cose_msg.specs.declared.context.Wanted.{Wanted}
 use Rattle.cosecmd.specs.declared.job.Job.TheVariants.{Show, Verify, Cwt, Digest, Make}
-use Rattle.cosecmd.specs.declared.words.Cwt.{Cwt as CwtWords}
-use Rattle.cosecmd.specs.declared.words.Digest.{Digest as DigestWords}
-use Rattle.cosecmd.specs.declared.words.Make.{Make as MakeWords}
-use Rattle.cosecmd.specs.declared.words.Request.{Request}
-use Rattle.cosecmd.specs.declared.words.Request.TheVariants as asks
-use Rattle.cosecmd.specs.declared.words.Verify.{Verify as VerifyWords}
+use Rattle.cosecmd.specs.declared.request.Cwt.{Cwt as CwtWords}
+use Rattle.cosecmd.specs.declared.request.Digest.{Digest as DigestWords}
+use Rattle.cosecmd.specs.declared.request.Make.{Make as MakeWords}
+use Rattle.cosecmd.specs.declared.request.Request.{Request}
+use Rattle.cosecmd.specs.declared.request.Request.TheVariants as asks
+use Rattle.cosecmd.specs.declared.request.Verify.{Verify as VerifyWords}
 use Rattle.cosecmd.specs.declared.job.FileJob.{FileJob}
 use Rattle.cosecmd.specs.Printed.{EndsWith, Output, printed, verified_with}
 use Rattle.cosecmd.specs.Words.{admitted_for, asked_for, digested_for, made_for, verified_for}

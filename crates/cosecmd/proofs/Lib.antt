@@ -1,9 +1,11 @@
 pub mod Admissions
 pub mod Asked
+pub mod CommandLines
 pub mod Digests
 pub mod Failures
 pub mod KeyFiles
 pub mod Makings
+pub mod Options
 pub mod PayloadFiles
 pub mod Replies
 pub mod Shows
@@ -12,6 +14,7 @@ pub mod Vouches
 pub mod WorkedAdmitted
 pub mod WorkedDigests
 pub mod WorkedMade
+pub mod WorkedOptions
 pub mod WorkedPayloads
 pub mod WorkedPrinted
 pub mod WorkedShown

@@ -1,6 +1,9 @@
 pub mod Admitted
+pub mod CommandLine
 pub mod Faults
+pub mod Fields
 pub mod Job
+pub mod Options
 pub mod Payload
 pub mod PayloadFile
 pub mod Printed

@@ -1,7 +1,7 @@
 -- Where the arguments say that the payload is.
 use Rattle.std.specs.Prelude.{◌≡◌, ℕ, List, Option, Some, None, option_map}
-use Rattle.cosecmd.specs.declared.words.Payload.{Payload}
-use Rattle.cosecmd.specs.declared.words.Payload.TheVariants.{InMessage, Bytes, File}
+use Rattle.cosecmd.specs.declared.request.Payload.{Payload}
+use Rattle.cosecmd.specs.declared.request.Payload.TheVariants.{InMessage, Bytes, File}
 
 -- It is in the file of this name.
 abbrev pub IsFile : List ℕ → Payload → Type 0

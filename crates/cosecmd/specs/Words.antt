@@ -1,16 +1,16 @@
 -- What is printed for the arguments of a command, and how it ends: the output of the job that these arguments ask for.
-use Rattle.std.specs.Prelude.{ℕ, List, Option, Some, None, option_map, string_bytes}
+use Rattle.std.specs.Prelude.{ℕ, List, Option, Some, None, option_map}
 use Rattle.cose_cwt.specs.Claims.Audience.{text_value}
 use Rattle.cose_map.specs.Key.{key_of}
 use Rattle.cosecmd.specs.Admitted.{program_policy}
 use Rattle.cosecmd.specs.Payload.{detached_in}
 use Rattle.cosecmd.specs.Printed.{Output, admitted_under, digested_under, made_under, program_keys, shown, verified_under}
-use Rattle.cosecmd.specs.declared.words.Cwt.{Cwt}
-use Rattle.cosecmd.specs.declared.words.Digest.{Digest}
-use Rattle.cosecmd.specs.declared.words.Make.{Make}
-use Rattle.cosecmd.specs.declared.words.Request.{Request}
-use Rattle.cosecmd.specs.declared.words.Request.TheVariants as asks
-use Rattle.cosecmd.specs.declared.words.Verify.{Verify}
+use Rattle.cosecmd.specs.declared.request.Cwt.{Cwt}
+use Rattle.cosecmd.specs.declared.request.Digest.{Digest}
+use Rattle.cosecmd.specs.declared.request.Make.{Make}
+use Rattle.cosecmd.specs.declared.request.Request.{Request}
+use Rattle.cosecmd.specs.declared.request.Request.TheVariants as asks
+use Rattle.cosecmd.specs.declared.request.Verify.{Verify}
 
 abbrev pub verified_for : Verify → Option (List ℕ) → List ℕ → Output
 verified_for words payload bytes =
@@ -35,13 +35,11 @@ payload_for content (asks.Show wanted) = Some None
 payload_for content (asks.Cwt words) = Some None
 payload_for content (asks.Digest words) = Some None
 payload_for content (asks.Make words) = Some None
-payload_for content (asks.Print reply) = Some None
 
--- With this detached payload, where there is one. Help, the version and what is wrong with the line are printed as they are.
+-- With this detached payload, where there is one.
 abbrev pub asked_for : Request → Option (List ℕ) → List ℕ → Output
 asked_for (asks.Show wanted) payload bytes = shown wanted bytes
 asked_for (asks.Verify words from) payload bytes = verified_for words payload bytes
 asked_for (asks.Cwt words) payload bytes = admitted_for words bytes
 asked_for (asks.Digest words) payload bytes = digested_for words bytes
 asked_for (asks.Make words) payload bytes = made_for words bytes
-asked_for (asks.Print reply) payload bytes = record { text = string_bytes reply.text; status = reply.status }

@@ -16,6 +16,7 @@ mod mistake;
 mod payload_file;
 mod print;
 mod reply;
+mod request;
 mod run;
 mod vouch;
 mod words;

@@ -1,9 +1,10 @@
 //! A run of the program: its arguments, and then its job.
 
-ghost use Rattle.std.specs.Prelude.{◌≡◌, ◌≤◌, ℕ, List, Option, Some, option_map};
+ghost use Rattle.std.specs.Prelude.{◌≡◌, ◌≤◌, ℕ, List, Option, Some, None, map, option_map};
 ghost use Rattle.cose_map.specs.Key.View.{contents};
+ghost use Rattle.cosecmd.specs.CommandLine.{Answers, matches_print};
 ghost use Rattle.cosecmd.specs.Payload.{detached_in};
-ghost use Rattle.cosecmd.specs.Printed.{EndsWith};
+ghost use Rattle.cosecmd.specs.Printed.{EndsWith, Output};
 ghost use Rattle.cosecmd.specs.Words.{admitted_for, asked_for, digested_for, made_for, payload_for, verified_for};
 
 use crate::answer::{answer, answer_with_payload_file};
@@ -11,8 +12,9 @@ use crate::fault::Fault;
 use crate::files::{NamedFiles, NoFiles};
 use crate::job::{FileJob, Job};
 use crate::print::{print, print_fault};
-use crate::reply::Reply;
-use crate::words::{Cwt, Digest, Make, Payload, Request, Verify, request_of};
+use crate::request::{Cwt, Digest, Make, Payload, Request, Verify};
+use crate::words::{Parsed, parse, request_of};
+use clap::ArgMatches;
 use std::alloc::Global;
 use std::io::{Read, Write};
 
@@ -186,7 +188,27 @@ fn answer_request<F: NamedFiles, R: Read, W: Write>(
         Request::Cwt(words) => answer_cwt(alloc, words, input, output),
         Request::Digest(words) => answer_digest(alloc, words, input, output),
         Request::Make(words) => answer_make(alloc, words, input, output),
-        Request::Print(Reply { status, text }) => print(output, text.as_str(), *status).code(),
+    }
+}
+
+/// Does what the options ask for that clap found, and returns how the run ends.
+fn answer_matches<F: NamedFiles, R: Read, W: Write>(
+    alloc: Global,
+    files: &F,
+    matches: &ArgMatches,
+    input: &mut R,
+    output: &mut W,
+) -> u8
+    ensures status { result ≤ 2 }
+    // Unless there is a fault, it prints the output for these options, for the files that they name, if any, and for all
+    // that the reader gives, and ends with its status.
+    ensures printed { (bytes : List ℕ) (said : Output) → R.remaining input.old ≡ Some bytes →
+        matches_print (F.content files.now) matches.now bytes ≡ Some said →
+        EndsWith said (W.contents output.old) (W.contents output.new) result }
+{
+    match request_of(alloc, files, matches) {
+        Ok(request) => answer_request(alloc, files, &request, input, output),
+        Err(fault) => print_fault(alloc, fault, output).code(),
     }
 }
 
@@ -197,7 +219,10 @@ pub fn run<'a, R: Read, W: Write>(
     input: &mut R,
     output: &mut W,
 ) -> u8
-    ensures { result ≤ 2 }
+    ensures status { result ≤ 2 }
+    ensures printed { (bytes : List ℕ) → R.remaining input.old ≡ Some bytes →
+        Answers (λ _. None) (map (λ word. word.now) words.entry.now) bytes
+        (W.contents output.old) (W.contents output.new) result }
 {
     run_with_files(alloc, words, &NoFiles, input, output)
 }
@@ -218,10 +243,15 @@ pub fn run_with_files<'a, F: NamedFiles, R: Read, W: Write>(
     input: &mut R,
     output: &mut W,
 ) -> u8
-    ensures { result ≤ 2 }
+    ensures status { result ≤ 2 }
+    // Unless there is a fault, it prints help or the version, or the output for the options that clap finds in the words.
+    ensures printed { (bytes : List ℕ) → R.remaining input.old ≡ Some bytes →
+        Answers (F.content files.now) (map (λ word. word.now) words.entry.now) bytes
+        (W.contents output.old) (W.contents output.new) result }
 {
-    match request_of(alloc, files, words) {
-        Ok(request) => answer_request(alloc, files, &request, input, output),
+    match parse(alloc, words) {
+        Ok(Parsed::Matches(matches)) => answer_matches(alloc, files, &matches, input, output),
+        Ok(Parsed::Text(reply)) => print(output, reply.text.as_str(), reply.status).code(),
         Err(fault) => print_fault(alloc, fault, output).code(),
     }
 }

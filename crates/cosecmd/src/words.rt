@@ -1,15 +1,20 @@
 //! The arguments of the command line.
 
-ghost use Rattle.std.specs.Prelude.{◌≡◌, ◌≤◌, ℕ, List, Some, IfOk, codes, length as length_of};
+ghost use Rattle.std.specs.Prelude.{◌≡◌, ◌≢◌, ◌≤◌, ◌⊎◌, ℕ, List, Option, Some, IfErr, IfOk, codes, length as length_in, map, option_map};
 ghost use Rattle.clap.specs.Matches.{first_value, found_of};
-ghost use Rattle.cosecmd.specs.Printed.{program_keys};
-ghost use Rattle.cosecmd.specs.Payload.{IsFile};
+ghost use Rattle.cose_cwt.specs.Claims.Audience.{text_value};
+ghost use Rattle.cosecmd.specs.CommandLine.{AsksFor, IsReadFrom, matches_print, verify_prints};
+ghost use Rattle.cosecmd.specs.Fields.{CwtFields, DigestFields, HasKeysOf, IsKeyOf, MakeFields, VerifyFields};
+ghost use Rattle.cosecmd.specs.Options.{algorithm_in, bytes_in, hex_bytes, integer_in, kind_in, kind_named, number_in, optional_bytes_in, options_of, payload_in, text_in};
+ghost use Rattle.cosecmd.specs.Payload.{IsFile, detached_in};
+ghost use Rattle.cosecmd.specs.Printed.{Output};
 
 use crate::commands::line;
 use crate::fault::Fault;
 use crate::files::{NamedFiles, key_bytes, key_set_bytes};
 use crate::mistake::mistake;
 use crate::reply::{Reply, Status};
+use crate::request::{Cwt, Digest, Make, Payload, Request, Verify};
 use clap::ArgMatches;
 use clap::error::ErrorKind;
 use cose_msg::{Alg, Wanted};
@@ -18,94 +23,19 @@ use std::alloc::Global;
 /// The most bytes of the externally supplied data.
 const EXTERNAL: usize = 65_535;
 
-/// The arguments that `verify` and `cwt` have.
+/// What clap finds in the arguments.
 #[derive(Drop)]
-pub struct Verify {
-    /// The bytes of the key set.
-    pub keys: Vec<u8>,
-    /// The externally supplied data.
-    pub aad: Vec<u8>,
-    /// The kinds of messages that are wanted.
-    pub wanted: Wanted,
-    /// The argument of `--vouch`, where there is one.
-    pub vouch: Option<Vec<u8>>,
-    ghost external: { length_of aad.items ≤ 65535 },
-}
-
-/// The arguments of `cwt`.
-#[derive(Drop)]
-pub struct Cwt<'w> {
-    /// Those that `verify` has too.
-    pub verify: Verify,
-    /// The current time, in seconds since 1970.
-    pub now: i64,
-    /// By how many seconds clocks may differ.
-    pub leeway: u32,
-    /// The text of the audience, where there is one.
-    pub aud: Option<&'w str>,
-}
-
-/// The arguments of `digest`.
-#[derive(Drop)]
-pub struct Digest {
-    /// The bytes of the key set.
-    pub keys: Vec<u8>,
-    /// The externally supplied data.
-    pub aad: Vec<u8>,
-    ghost external: { length_of aad.items ≤ 65535 },
-}
-
-/// The arguments of `make`.
-#[derive(Drop)]
-pub struct Make {
-    /// The algorithm of the MAC.
-    pub alg: Alg,
-    /// The bytes of the key.
-    pub key: Vec<u8>,
-    /// The number of bytes of the payload.
-    pub length: u64,
-    /// The identifier of the key that the message names, where it names one.
-    pub kid: Option<Vec<u8>>,
-    /// The externally supplied data.
-    pub aad: Vec<u8>,
-    ghost external: { length_of aad.items ≤ 65535 },
-}
-
-/// Where the payload of the message is.
-#[derive(Drop)]
-pub enum Payload<'w> {
-    /// In the message.
-    InMessage,
-    /// It is these bytes, and the message has nil in its place.
-    Bytes(Vec<u8>),
-    /// In the file of this name, and the message has nil in its place.
-    File(&'w str),
-}
-
-/// What the arguments ask for.
-#[derive(Drop)]
-pub enum Request<'w> {
-    /// To show a message of these kinds.
-    Show(Wanted),
-    /// To verify a message.
-    Verify {
-        /// Those of its arguments that `cwt` has too.
-        words: Verify,
-        /// The payload.
-        payload: Payload<'w>,
-    },
-    /// To admit a token.
-    Cwt(Cwt<'w>),
-    /// To print what a signature is verified with.
-    Digest(Digest),
-    /// To make a message.
-    Make(Make),
+pub enum Parsed<'w> {
+    /// The options, which are in order.
+    Matches(ArgMatches<'w>),
     /// Help, the version, or what is wrong with the line.
-    Print(Reply),
+    Text(Reply),
 }
 
 /// The text of a line that is refused, which repeats none of its arguments, or the help or version that it asks for.
-fn refused_line(alloc: Global, error: clap::Error) -> Result<Reply, Fault> {
+fn refused_line(alloc: Global, error: clap::Error) -> Result<Reply, Fault>
+    ensures { IfOk result (λ reply. reply.status ≢ Status.Refused) }
+{
     if matches!(error.kind(), ErrorKind::OutOfMemory) {
         return Err(Fault::Memory);
     }
@@ -118,12 +48,33 @@ fn refused_line(alloc: Global, error: clap::Error) -> Result<Reply, Fault> {
     Ok(Reply { status, text })
 }
 
-/// The bytes of an option's argument in hexadecimal.
-fn bytes_of(alloc: Global, matches: &ArgMatches, option: &'static str) -> Result<Vec<u8>, Fault> {
-    let word = matches.get_str(option).unwrap_or("");
-    match hex::decode(alloc, word) {
+/// The text of an option's argument, where the option is there or has a default.
+fn text_of<'a>(matches: &ArgMatches<'a>, option: &str) -> Option<&'a str>
+    ensures { option_map text_value result ≡ text_in option.now (options_of matches.now) }
+{
+    matches.get_str(option)
+}
+
+/// The bytes that the argument of this option writes in hexadecimal.
+fn decode(alloc: Global, option: &'static str, text: &str) -> Result<Vec<u8>, Fault>
+    ensures value { IfOk result (λ bytes. hex_bytes text.now ≡ Some bytes.items) }
+    ensures fault { IfErr result (λ fault. (fault ≡ Fault.Memory)
+        ⊎ (fault ≡ Fault.Line option.entry)) }
+{
+    match hex::decode(alloc, text) {
         Ok(bytes) => Ok(bytes),
         Err(error) => Err(Fault::hexadecimal(option, error)),
+    }
+}
+
+/// The bytes of an option's argument in hexadecimal, and none where the option isn't there.
+fn bytes_of(alloc: Global, matches: &ArgMatches, option: &'static str) -> Result<Vec<u8>, Fault>
+    ensures { IfOk result (λ bytes. bytes_in option.now (options_of matches.now)
+        ≡ Some bytes.items) }
+{
+    match text_of(matches, option) {
+        Some(text) => decode(alloc, option, text),
+        None => Ok(Vec::new(alloc)),
     }
 }
 
@@ -132,46 +83,65 @@ fn optional_bytes_of(
     alloc: Global,
     matches: &ArgMatches,
     option: &'static str,
-) -> Result<Option<Vec<u8>>, Fault> {
-    if matches.contains_id(option) {
-        return Ok(Some(bytes_of(alloc, matches, option)?));
-    }
-    Ok(None)
-}
-
-/// The bytes of the key set, from the argument or from the file that the arguments name.
-fn key_set_of<F: NamedFiles>(
-    alloc: Global,
-    files: &F,
-    matches: &ArgMatches,
-) -> Result<Vec<u8>, Fault>
-    // Where a file is named whose bytes are known, its keys are the keys.
-    ensures file { (name bytes : List ℕ) →
-        first_value (found_of matches.now) (codes "keys-file") ≡ Some name →
-        F.content files.now name ≡ Some bytes →
-        IfOk result (λ keys. program_keys keys.items ≡ program_keys bytes) }
+) -> Result<Option<Vec<u8>>, Fault>
+    ensures { IfOk result (λ bytes. optional_bytes_in option.now (options_of matches.now)
+        ≡ Some (option_map (λ bytes. bytes.items) bytes)) }
 {
-    match matches.get_str("keys-file") {
-        Some(name) => key_set_bytes(alloc, files, "keys-file", name),
-        None => bytes_of(alloc, matches, "keys"),
+    match text_of(matches, option) {
+        Some(text) => Ok(Some(decode(alloc, option, text)?)),
+        None => Ok(None),
     }
 }
 
-/// The bytes of the key, from the argument or from the file that the arguments name.
-fn key_of<F: NamedFiles>(alloc: Global, files: &F, matches: &ArgMatches) -> Result<Vec<u8>, Fault>
-    // Where a file is named whose bytes are known, they are the key.
-    ensures file { (name bytes : List ℕ) →
-        first_value (found_of matches.now) (codes "key-file") ≡ Some name →
-        F.content files.now name ≡ Some bytes → IfOk result (λ key. key.items ≡ bytes) }
+/// The current time that the arguments give.
+fn now_of(matches: &ArgMatches) -> Result<i64, Fault>
+    ensures { IfOk result (λ now. integer_in (codes "now") (options_of matches.now) ≡ Some now) }
 {
-    match matches.get_str("key-file") {
-        Some(name) => key_bytes(alloc, files, "key-file", name),
-        None => bytes_of(alloc, matches, "key"),
+    match matches.get_one::<i64>("now") {
+        Some(now) => Ok(now),
+        None => Err(Fault::Line("now")),
+    }
+}
+
+/// The leeway that the arguments give.
+fn leeway_of(matches: &ArgMatches) -> Result<u32, Fault>
+    ensures { IfOk result (λ leeway. number_in (codes "leeway") (options_of matches.now)
+        ≡ Some leeway) }
+{
+    match matches.get_one::<u32>("leeway") {
+        Some(leeway) => Ok(leeway),
+        None => Err(Fault::Line("leeway")),
+    }
+}
+
+/// The number of bytes of the payload that the arguments give.
+fn length_of(matches: &ArgMatches) -> Result<u64, Fault>
+    ensures { IfOk result (λ length. number_in (codes "length") (options_of matches.now)
+        ≡ Some length) }
+{
+    match matches.get_one::<u64>("length") {
+        Some(length) => Ok(length),
+        None => Err(Fault::Line("length")),
+    }
+}
+
+/// The algorithm that the arguments name by its number (RFC 9053 section 3.1).
+fn alg_of(matches: &ArgMatches) -> Result<Alg, Fault>
+    ensures { IfOk result (λ alg. algorithm_in (options_of matches.now) ≡ Some alg) }
+{
+    let Some(number) = matches.get_one::<u8>("alg") else {
+        return Err(Fault::Line("alg"));
+    };
+    match Alg::from_number(i128::from(number)) {
+        Some(alg) => Ok(alg),
+        None => Err(Fault::Line("alg")),
     }
 }
 
 /// The kinds of messages for a value of `--kind`.
-fn wanted_of(word: &str) -> Wanted {
+fn wanted_of(word: &str) -> Wanted
+    ensures { result ≡ kind_named word.now }
+{
     match word {
         "mac0" => Wanted::Mac0,
         "sign1" => Wanted::Sign1,
@@ -179,9 +149,18 @@ fn wanted_of(word: &str) -> Wanted {
     }
 }
 
+/// The kinds of messages that the arguments name.
+fn kind_of(matches: &ArgMatches) -> Wanted
+    ensures { result ≡ kind_in (options_of matches.now) }
+{
+    wanted_of(text_of(matches, "kind").unwrap_or("tagged"))
+}
+
 /// The externally supplied data, which is limited.
 fn external_of(alloc: Global, matches: &ArgMatches) -> Result<Vec<u8>, Fault>
-    ensures { IfOk result (λ aad. length_of aad.items ≤ 65535) }
+    ensures limit { IfOk result (λ aad. length_in aad.items ≤ 65535) }
+    ensures value { IfOk result (λ aad. bytes_in (codes "aad") (options_of matches.now)
+        ≡ Some aad.items) }
 {
     let aad = bytes_of(alloc, matches, "aad")?;
     if aad.len() > EXTERNAL {
@@ -190,23 +169,63 @@ fn external_of(alloc: Global, matches: &ArgMatches) -> Result<Vec<u8>, Fault>
     Ok(aad)
 }
 
-/// The algorithm that the arguments name by its number (RFC 9053 section 3.1).
-fn alg_of(matches: &ArgMatches) -> Option<Alg> {
-    let number = matches.get_one::<u8>("alg")?;
-    Alg::from_number(i128::from(number))
-}
-
-/// The kinds of messages that the arguments name.
-fn kind_of(matches: &ArgMatches) -> Wanted {
-    wanted_of(matches.get_str("kind").unwrap_or("tagged"))
-}
-
-/// The arguments that `verify` and `cwt` have, in the order in which help lists them.
-fn verify_of<F: NamedFiles>(
+/// The bytes of the key set, from the argument or from the file that the arguments name.
+fn key_set_of<F: NamedFiles>(
     alloc: Global,
     files: &F,
     matches: &ArgMatches,
-) -> Result<Verify, Fault> {
+) -> Result<Vec<u8>, Fault>
+    ensures { IfOk result (λ keys. HasKeysOf (F.content files.now) (options_of matches.now)
+        keys.items) }
+{
+    match text_of(matches, "keys-file") {
+        Some(name) => key_set_bytes(alloc, files, "keys-file", name),
+        None => bytes_of(alloc, matches, "keys"),
+    }
+}
+
+/// The bytes of the key, from the argument or from the file that the arguments name.
+fn key_of<F: NamedFiles>(alloc: Global, files: &F, matches: &ArgMatches) -> Result<Vec<u8>, Fault>
+    ensures { IfOk result (λ key. IsKeyOf (F.content files.now) (options_of matches.now)
+        key.items) }
+{
+    match text_of(matches, "key-file") {
+        Some(name) => key_bytes(alloc, files, "key-file", name),
+        None => bytes_of(alloc, matches, "key"),
+    }
+}
+
+/// The payload where the arguments name no file of it.
+fn payload_in_line<'a>(alloc: Global, matches: &ArgMatches) -> Result<Payload<'a>, Fault>
+    ensures { IfOk result (λ payload. (content : List ℕ → Option (List ℕ)) →
+        detached_in content payload
+        ≡ optional_bytes_in (codes "payload") (options_of matches.now)) }
+{
+    match optional_bytes_of(alloc, matches, "payload")? {
+        Some(bytes) => Ok(Payload::Bytes(bytes)),
+        None => Ok(Payload::InMessage),
+    }
+}
+
+/// Where the arguments say that the payload is. A file isn't opened yet.
+fn payload_of<'a>(alloc: Global, matches: &ArgMatches<'a>) -> Result<Payload<'a>, Fault>
+    ensures value { IfOk result (λ payload. (content : List ℕ → Option (List ℕ)) →
+        detached_in content payload ≡ payload_in content (options_of matches.now)) }
+    // Where a file is named, the payload is in this file.
+    ensures file { (name : List ℕ) →
+        first_value (found_of matches.now) (codes "payload-file") ≡ Some name →
+        IfOk result (IsFile name) }
+{
+    match text_of(matches, "payload-file") {
+        Some(name) => Ok(Payload::File(name)),
+        None => payload_in_line(alloc, matches),
+    }
+}
+
+/// The arguments that `verify` and `cwt` have, in the order in which help lists them.
+fn verify_of<F: NamedFiles>(alloc: Global, files: &F, matches: &ArgMatches) -> Result<Verify, Fault>
+    ensures { IfOk result (VerifyFields (F.content files.now) (options_of matches.now)) }
+{
     let keys = key_set_of(alloc, files, matches)?;
     let aad = external_of(alloc, matches)?;
     let wanted = kind_of(matches);
@@ -219,53 +238,18 @@ fn verify_of<F: NamedFiles>(
     })
 }
 
-/// The payload where the arguments name no file of it.
-fn payload_in_line<'a>(alloc: Global, matches: &ArgMatches) -> Result<Payload<'a>, Fault> {
-    match optional_bytes_of(alloc, matches, "payload")? {
-        Some(bytes) => Ok(Payload::Bytes(bytes)),
-        None => Ok(Payload::InMessage),
-    }
-}
-
-/// Where the arguments say that the payload is. A file isn't opened yet.
-fn payload_of<'a>(alloc: Global, matches: &ArgMatches<'a>) -> Result<Payload<'a>, Fault>
-    // Where a file is named, the payload is in this file.
-    ensures file { (name : List ℕ) →
-        first_value (found_of matches.now) (codes "payload-file") ≡ Some name →
-        IfOk result (IsFile name) }
-{
-    match matches.get_str("payload-file") {
-        Some(name) => Ok(Payload::File(name)),
-        None => payload_in_line(alloc, matches),
-    }
-}
-
-/// What the arguments of `verify` ask for. The payload goes last, as help lists it.
-fn verify_request<'a, F: NamedFiles>(
-    alloc: Global,
-    files: &F,
-    matches: &ArgMatches<'a>,
-) -> Result<Request<'a>, Fault> {
-    let words = verify_of(alloc, files, matches)?;
-    let payload = payload_of(alloc, matches)?;
-    Ok(Request::Verify { words, payload })
-}
-
-/// The arguments of `cwt`, in the order in which help lists them. The line has a current time and a leeway that are in
-/// range.
+/// The arguments of `cwt`, in the order in which help lists them.
 fn cwt_of<'a, F: NamedFiles>(
     alloc: Global,
     files: &F,
     matches: &ArgMatches<'a>,
-) -> Result<Cwt<'a>, Fault> {
+) -> Result<Cwt<'a>, Fault>
+    ensures { IfOk result (CwtFields (F.content files.now) (options_of matches.now)) }
+{
     let verify = verify_of(alloc, files, matches)?;
-    let Some(now) = matches.get_one::<i64>("now") else {
-        return Err(Fault::Line("now"));
-    };
-    let Some(leeway) = matches.get_one::<u32>("leeway") else {
-        return Err(Fault::Line("leeway"));
-    };
-    let aud = matches.get_str("aud");
+    let now = now_of(matches)?;
+    let leeway = leeway_of(matches)?;
+    let aud = text_of(matches, "aud");
     Ok(Cwt {
         verify,
         now,
@@ -275,26 +259,21 @@ fn cwt_of<'a, F: NamedFiles>(
 }
 
 /// The arguments of `digest`, in the order in which help lists them.
-fn digest_of<F: NamedFiles>(
-    alloc: Global,
-    files: &F,
-    matches: &ArgMatches,
-) -> Result<Digest, Fault> {
+fn digest_of<F: NamedFiles>(alloc: Global, files: &F, matches: &ArgMatches) -> Result<Digest, Fault>
+    ensures { IfOk result (DigestFields (F.content files.now) (options_of matches.now)) }
+{
     let keys = key_set_of(alloc, files, matches)?;
     let aad = external_of(alloc, matches)?;
     Ok(Digest { keys, aad })
 }
 
-/// The arguments of `make`, in the order in which help lists them. The line has an algorithm and a length that are in
-/// range.
-fn make_of<F: NamedFiles>(alloc: Global, files: &F, matches: &ArgMatches) -> Result<Make, Fault> {
-    let Some(alg) = alg_of(matches) else {
-        return Err(Fault::Line("alg"));
-    };
+/// The arguments of `make`, in the order in which help lists them.
+fn make_of<F: NamedFiles>(alloc: Global, files: &F, matches: &ArgMatches) -> Result<Make, Fault>
+    ensures { IfOk result (MakeFields (F.content files.now) (options_of matches.now)) }
+{
+    let alg = alg_of(matches)?;
     let key = key_of(alloc, files, matches)?;
-    let Some(length) = matches.get_one::<u64>("length") else {
-        return Err(Fault::Line("length"));
-    };
+    let length = length_of(matches)?;
     let kid = optional_bytes_of(alloc, matches, "kid")?;
     let aad = external_of(alloc, matches)?;
     Ok(Make {
@@ -306,16 +285,41 @@ fn make_of<F: NamedFiles>(alloc: Global, files: &F, matches: &ArgMatches) -> Res
     })
 }
 
-/// Reads the arguments, the first of which is the program's name, and the file that they name.
+/// What the arguments of `verify` ask for. The payload goes last, as help lists it.
+fn verify_request<'a, F: NamedFiles>(
+    alloc: Global,
+    files: &F,
+    matches: &ArgMatches<'a>,
+) -> Result<Request<'a>, Fault>
+    ensures { IfOk result (λ request. (bytes : List ℕ) (said : Output) →
+        verify_prints (F.content files.now) (options_of matches.now) bytes ≡ Some said →
+        AsksFor (F.content files.now) request bytes said) }
+{
+    let words = verify_of(alloc, files, matches)?;
+    let payload = payload_of(alloc, matches)?;
+    Ok(Request::Verify { words, payload })
+}
+
+/// What the arguments, the first of which is the program's name, say to clap.
+pub fn parse<'a>(alloc: Global, words: &'a [&'a str]) -> Result<Parsed<'a>, Fault>
+    ensures { IfOk result (IsReadFrom (map (λ word. word.now) words.entry.now)) }
+{
+    match line(alloc)?.try_get_matches_from(words) {
+        Ok(matches) => Ok(Parsed::Matches(matches)),
+        Err(error) => Ok(Parsed::Text(refused_line(alloc, error)?)),
+    }
+}
+
+/// What the arguments ask for. It reads the file of keys that they name.
 pub fn request_of<'a, F: NamedFiles>(
     alloc: Global,
     files: &F,
-    words: &'a [&'a str],
-) -> Result<Request<'a>, Fault> {
-    let matches = match line(alloc)?.try_get_matches_from(words) {
-        Ok(matches) => matches,
-        Err(error) => return Ok(Request::Print(refused_line(alloc, error)?)),
-    };
+    matches: &ArgMatches<'a>,
+) -> Result<Request<'a>, Fault>
+    ensures { IfOk result (λ request. (bytes : List ℕ) (said : Output) →
+        matches_print (F.content files.now) matches.now bytes ≡ Some said →
+        AsksFor (F.content files.now) request bytes said) }
+{
     if let Some(show) = matches.subcommand_matches("show") {
         return Ok(Request::Show(kind_of(show)));
     }

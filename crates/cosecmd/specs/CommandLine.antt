@@ -1,0 +1,93 @@
+-- What the program prints for the options of a command that clap found, and how it ends: where each argument is in order,
+-- and the bytes of the files that are named are known.
+use Rattle.std.specs.Prelude.{◌≡◌, ◌≢◌, ◌⊎◌, ℕ, List, Option, Some, None, codes, if◌then◌else◌}
+use Rattle.std.specs.Str.{bytes_eq}
+use Rattle.clap.specs.Built.{IsParsedFrom}
+use Rattle.clap.specs.Simple.{HasMatchesOf, app_of, subcommand_rows_of}
+use Rattle.clap.specs.Walk.{Text}
+use Rattle.clap.specs.declared.builder.command.Command.{Command}
+use Rattle.clap.specs.declared.parser.matches.ArgMatches.{ArgMatches}
+use Rattle.cose_map.specs.Key.{key_of}
+use Rattle.cosecmd.specs.Admitted.{program_policy}
+use Rattle.cosecmd.specs.Options.{Options, algorithm_in, bytes_in, integer_in, key_in, key_set_in, kind_in, number_in, optional_bytes_in, payload_in, text_in}
+use Rattle.cosecmd.specs.Printed.{EndsWith, Output, admitted_under, digested_under, made_under, program_keys, shown, verified_under}
+use Rattle.cosecmd.specs.Words.{asked_for, payload_for}
+use Rattle.cosecmd.specs.declared.reply.Status.TheVariants as statuses
+use Rattle.cosecmd.specs.declared.request.Request.{Request}
+use Rattle.cosecmd.specs.declared.words.Parsed.{Parsed}
+use Rattle.cosecmd.specs.declared.words.Parsed.TheVariants.{Matches, Text as Reply}
+
+infixl 10 ◌>>=◌
+abbrev pub ◌>>=◌ : {A B : Type 0} → Option A → (A → Option B) → Option B
+None >>= f = None
+Some x >>= f = f x
+
+abbrev pub verify_prints : (List ℕ → Option (List ℕ)) → Options → List ℕ → Option Output
+verify_prints content options bytes = do
+  keys ← key_set_in content options
+  aad ← bytes_in (codes "aad") options
+  vouch ← optional_bytes_in (codes "vouch") options
+  payload ← payload_in content options
+  Some (verified_under (program_keys keys) aad (kind_in options) vouch payload bytes)
+
+abbrev pub cwt_prints : (List ℕ → Option (List ℕ)) → Options → List ℕ → Option Output
+cwt_prints content options bytes = do
+  keys ← key_set_in content options
+  aad ← bytes_in (codes "aad") options
+  vouch ← optional_bytes_in (codes "vouch") options
+  now ← integer_in (codes "now") options
+  leeway ← number_in (codes "leeway") options
+  Some (admitted_under (program_keys keys) aad (kind_in options) vouch (program_policy now leeway (text_in (codes "aud") options)) bytes)
+
+abbrev pub digest_prints : (List ℕ → Option (List ℕ)) → Options → List ℕ → Option Output
+digest_prints content options bytes = do
+  keys ← key_set_in content options
+  aad ← bytes_in (codes "aad") options
+  Some (digested_under (program_keys keys) aad bytes)
+
+abbrev pub make_prints : (List ℕ → Option (List ℕ)) → Options → List ℕ → Option Output
+make_prints content options bytes = do
+  alg ← algorithm_in options
+  key ← key_in content options
+  payload_length ← number_in (codes "length") options
+  kid ← optional_bytes_in (codes "kid") options
+  aad ← bytes_in (codes "aad") options
+  Some (made_under (key_of (record { bytes = key; place = 0 })) alg payload_length kid aad bytes)
+
+-- By the name of the command and its options.
+abbrev pub command_prints : (List ℕ → Option (List ℕ)) → Text → Options → List ℕ → Option Output
+command_prints content name options bytes =
+    if bytes_eq name (codes "show") then Some (shown (kind_in options) bytes)
+    else if bytes_eq name (codes "verify") then verify_prints content options bytes
+    else if bytes_eq name (codes "cwt") then cwt_prints content options bytes
+    else if bytes_eq name (codes "digest") then digest_prints content options bytes
+    else if bytes_eq name (codes "make") then make_prints content options bytes
+    else None
+
+abbrev pub line_prints : (List ℕ → Option (List ℕ)) → Option (Text × Options) → List ℕ → Option Output
+line_prints content None bytes = None
+line_prints content (Some command) bytes = command_prints content command.0 command.1 bytes
+
+-- What is printed for what clap found in a command line.
+abbrev pub matches_print : (List ℕ → Option (List ℕ)) → ArgMatches → List ℕ → Option Output
+matches_print content matches bytes = line_prints content (subcommand_rows_of matches) bytes
+
+-- A request for which this is printed, with the payload that it names.
+abbrev pub AsksFor : (List ℕ → Option (List ℕ)) → Request → List ℕ → Output → Type 0
+AsksFor content request bytes said = (payload : Option (List ℕ)) × (payload_for content request ≡ Some payload) × (asked_for request payload bytes ≡ said)
+
+-- What clap finds in these words: what its contract says of it, for the command that it is given.
+abbrev pub IsFoundIn : List Text → ArgMatches → Type 0
+IsFoundIn words matches = (command : Command) × IsParsedFrom command matches × HasMatchesOf (app_of command) words matches
+
+-- A text of clap's is help or the version, or says what is wrong with the words.
+abbrev pub IsReadFrom : List Text → Parsed → Type 0
+IsReadFrom words (Matches matches) = IsFoundIn words matches
+IsReadFrom words (Reply reply) = reply.status ≢ statuses.Refused
+
+-- A run for these words that ends with this status: unless there is a fault, it printed a text of clap's and ended with
+-- status 0, or it printed what is printed for what clap found, and ended with its status.
+abbrev pub Answers : (List ℕ → Option (List ℕ)) → List Text → List ℕ → Option (List ℕ) → Option (List ℕ) → ℕ → Type 0
+Answers content words bytes old new status =
+    ((text : Text) × EndsWith (record { text = text; status = statuses.Done }) old new status)
+    ⊎ ((matches : ArgMatches) × IsFoundIn words matches × ((said : Output) → matches_print content matches bytes ≡ Some said → EndsWith said old new status))

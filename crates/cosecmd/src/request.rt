@@ -1,0 +1,89 @@
+//! What the arguments of the command line ask for.
+
+ghost use Rattle.std.specs.Prelude.{◌≤◌, length as length_of};
+
+use cose_msg::{Alg, Wanted};
+
+/// The arguments that `verify` and `cwt` have.
+#[derive(Drop)]
+pub struct Verify {
+    /// The bytes of the key set.
+    pub keys: Vec<u8>,
+    /// The externally supplied data.
+    pub aad: Vec<u8>,
+    /// The kinds of messages that are wanted.
+    pub wanted: Wanted,
+    /// The argument of `--vouch`, where there is one.
+    pub vouch: Option<Vec<u8>>,
+    ghost external: { length_of aad.items ≤ 65535 },
+}
+
+/// The arguments of `cwt`.
+#[derive(Drop)]
+pub struct Cwt<'w> {
+    /// Those that `verify` has too.
+    pub verify: Verify,
+    /// The current time, in seconds since 1970.
+    pub now: i64,
+    /// By how many seconds clocks may differ.
+    pub leeway: u32,
+    /// The text of the audience, where there is one.
+    pub aud: Option<&'w str>,
+}
+
+/// The arguments of `digest`.
+#[derive(Drop)]
+pub struct Digest {
+    /// The bytes of the key set.
+    pub keys: Vec<u8>,
+    /// The externally supplied data.
+    pub aad: Vec<u8>,
+    ghost external: { length_of aad.items ≤ 65535 },
+}
+
+/// The arguments of `make`.
+#[derive(Drop)]
+pub struct Make {
+    /// The algorithm of the MAC.
+    pub alg: Alg,
+    /// The bytes of the key.
+    pub key: Vec<u8>,
+    /// The number of bytes of the payload.
+    pub length: u64,
+    /// The identifier of the key that the message names, where it names one.
+    pub kid: Option<Vec<u8>>,
+    /// The externally supplied data.
+    pub aad: Vec<u8>,
+    ghost external: { length_of aad.items ≤ 65535 },
+}
+
+/// Where the payload of the message is.
+#[derive(Drop)]
+pub enum Payload<'w> {
+    /// In the message.
+    InMessage,
+    /// It is these bytes, and the message has nil in its place.
+    Bytes(Vec<u8>),
+    /// In the file of this name, and the message has nil in its place.
+    File(&'w str),
+}
+
+/// What the arguments ask for.
+#[derive(Drop)]
+pub enum Request<'w> {
+    /// To show a message of these kinds.
+    Show(Wanted),
+    /// To verify a message.
+    Verify {
+        /// Those of its arguments that `cwt` has too.
+        words: Verify,
+        /// The payload.
+        payload: Payload<'w>,
+    },
+    /// To admit a token.
+    Cwt(Cwt<'w>),
+    /// To print what a signature is verified with.
+    Digest(Digest),
+    /// To make a message.
+    Make(Make),
+}
