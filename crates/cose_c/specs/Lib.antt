@@ -1,0 +1,4 @@
+pub mod Deciding
+pub mod Numbers
+pub mod Terms
+pub mod Input
