@@ -5,7 +5,12 @@
 //! `cose_NAME` that takes a null pointer too.
 #![tactic(auto)]
 
+mod claims;
 mod deciding;
 mod input;
+mod key_set;
+mod message;
 mod numbers;
+mod shape;
 mod terms;
+mod told;
