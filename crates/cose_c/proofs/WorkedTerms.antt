@@ -1,0 +1,54 @@
+-- The arguments and the numbers of a call, on examples, by computing.
+use Rattle.std.specs.Prelude.{ℕ, ℤ, pos, negsuc, List, [], ◌∷◌, map, replicate, Result, Ok, Err, Option, Some, None, refl, ◌≡◌}
+use Rattle.cose_head.specs.declared.algorithm.Alg.TheVariants.{Hmac256, Es256}
+use Rattle.cose_head.specs.declared.kind.Kind.TheVariants as kinds
+use Rattle.cose_head.specs.declared.reason.Reason.TheVariants.{BadAuth, BadKeySet, Trailing}
+use Rattle.cose_msg.specs.declared.context.Wanted.{Wanted}
+use Rattle.cose_msg.specs.declared.context.Wanted.TheVariants.{Mac0, Sign1, Tagged}
+use Rattle.cose_msg.specs.declared.verdict.Verdict.TheVariants.{Authentic}
+use Rattle.cose_msg.specs.Answer.{decided, refused}
+use Rattle.cose_c.specs.declared.numbers.CoseStatus.{CoseStatus}
+use Rattle.cose_c.specs.Numbers.{accepted_as, always_authentic, no_message, one_message, plain_status, unless_signed, verdict_numbers}
+use Rattle.cose_c.specs.Terms.{kinds_given, setting_given}
+
+-- The numbers that name kinds, and the numbers next to them.
+kinds_named : map (kinds_given []) (0 ∷ 1 ∷ 16 ∷ 17 ∷ 18 ∷ 19 ∷ 255 ∷ []) ≡
+    Ok Tagged ∷ Err (plain_status 12) ∷ Err (plain_status 12) ∷ Ok Mac0 ∷ Ok Sign1 ∷ Err (plain_status 12) ∷ Err (plain_status 12) ∷ []
+kinds_named = refl
+
+-- A fault of the arguments has precedence over one of the keys, and the number of the kinds over the external data.
+abbrev too_long : List ℕ
+too_long = replicate 65536 0
+
+refused_set : setting_given (Err (record { reason = BadKeySet; place = 0 })) [] 17 ≡ Err (record { status = 4; reason = 31; place = 0 })
+refused_set = refl
+
+refused_number : setting_given (Err (record { reason = BadKeySet; place = 0 })) [] 16 ≡ Err (plain_status 12)
+refused_number = refl
+
+-- A COSE_Mac0 is authentic, and a COSE_Sign1 signed, in one call; and both are authentic where the caller has told of the signature.
+authentic_mac : verdict_numbers unless_signed 6 (decided (Authentic kinds.Mac0 Hmac256 4 45)) ≡ accepted_as 1 6 kinds.Mac0 Hmac256 4 45
+authentic_mac = refl
+
+signed : verdict_numbers unless_signed 6 (decided (Authentic kinds.Sign1 Es256 4 77)) ≡
+    record { status = 2; reason = 0; kind = 18; alg = negsuc 6; place = 0; payload_at = 6; payload_length = 4; taken = 77 }
+signed = refl
+
+told_of_it : verdict_numbers always_authentic 0 (decided (Authentic kinds.Sign1 Es256 4 77)) ≡
+    record { status = 1; reason = 0; kind = 18; alg = negsuc 6; place = 0; payload_at = 0; payload_length = 4; taken = 77 }
+told_of_it = refl
+
+-- A refusal has no kind, no payload and no length.
+bad_auth : verdict_numbers unless_signed 0 (refused BadAuth 10) ≡
+    record { status = 3; reason = 28; kind = 0; alg = pos 0; place = 10; payload_at = 0; payload_length = 0; taken = 0 }
+bad_auth = refl
+
+-- A message is all bytes, and one more refuses it.
+whole : one_message 45 (decided (Authentic kinds.Mac0 Hmac256 4 45)) ≡ decided (Authentic kinds.Mac0 Hmac256 4 45)
+whole = refl
+
+followed : one_message 46 (decided (Authentic kinds.Mac0 Hmac256 4 45)) ≡ refused Trailing 45
+followed = refl
+
+refused_already : one_message 46 (refused BadAuth 10) ≡ refused BadAuth 10
+refused_already = refl

@@ -1,0 +1,9 @@
+pub mod Deciding
+pub mod Numbers
+pub mod Terms
+pub mod Input
+pub mod Message
+pub mod Shape
+pub mod KeySet
+pub mod Told
+pub mod Claims

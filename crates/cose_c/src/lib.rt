@@ -1,0 +1,16 @@
+//! The verifier for callers in C and in what calls C: functions over memory, and a verifier in the caller's memory. `include/cose.h`
+//! declares what is exported here, and says what a caller owes.
+//!
+//! A function with a slice among its arguments is exported as `cose_edge_NAME`: a slice is never null here, so the header has a
+//! `cose_NAME` that takes a null pointer too.
+#![tactic(auto)]
+
+mod claims;
+mod deciding;
+mod input;
+mod key_set;
+mod message;
+mod numbers;
+mod shape;
+mod terms;
+mod told;
