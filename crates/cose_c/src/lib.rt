@@ -6,6 +6,8 @@
 #![tactic(auto)]
 
 mod deciding;
+mod held;
 mod input;
 mod numbers;
+mod stream;
 mod terms;
