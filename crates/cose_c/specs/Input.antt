@@ -1,5 +1,5 @@
 -- What a caller gets of a signature.
-use Rattle.std.specs.Prelude.{◌≡◌, ℕ, Bool, true, false, List, length, min, take, Option, Some, None, if◌then◌else◌, ⊤}
+use Rattle.std.specs.Prelude.{◌≡◌, ℕ, Bool, true, false, List, length, min, take, Option, Some, None, if◌then◌else◌}
 use Rattle.cose_map.specs.Key.Value.{MaterialValue, YValue, symmetric, elliptic, coordinate, sign}
 use Rattle.cose_msg.specs.Shown.{SignInput}
 use Rattle.cose_c.specs.declared.input.CoseSignInput.{CoseSignInput}
@@ -7,8 +7,8 @@ use Rattle.cose_c.specs.declared.input.CoseSignInput.{CoseSignInput}
 -- A field with so much room begins with these bytes, and has their number beside it. (There is room for each: no coordinate has more
 -- than 66 bytes, no digest more than 64, and no signature more than 132.)
 pub record Gives (bytes field : List ℕ) (room count : ℕ) : Type 0 where
-  pub count : count ≡ min (length bytes) room
-  pub bytes : take count field ≡ take count bytes
+  pub counted : count ≡ min (length bytes) room
+  pub copied : take count field ≡ take count bytes
 
 -- The coordinate y has its bytes, or its sign alone: 1 where it is even, 2 where it is odd.
 abbrev pub GivesY : YValue → CoseSignInput → Type 0
@@ -18,7 +18,7 @@ GivesY (sign odd) input = (input.y_sign ≡ (if odd then 2 else 1)) × (input.y_
 -- The point of a key. (A key that signatures are verified with has one.)
 abbrev pub GivesPoint : MaterialValue → CoseSignInput → Type 0
 GivesPoint (elliptic crv x y) input = (input.crv ≡ crv) × Gives x input.x 66 input.x_length × GivesY y input
-GivesPoint (symmetric secret) input = ⊤
+GivesPoint (symmetric secret) input = ⊥
 
 abbrev pub is_point : MaterialValue → Bool
 is_point (elliptic crv x y) = true
@@ -29,11 +29,11 @@ pub record GivesInput (signed : SignInput) (input : CoseSignInput) : Type 0 wher
   pub digest : Gives signed.digest input.digest 64 input.digest_length
   pub signature : Gives signed.signature input.signature 132 input.signature_length
 
--- The same of a message, if it has a signature.
+-- The same of a message, if it has a signature. Where it has none, nothing is given.
 abbrev pub has_point : Option SignInput → Bool
 has_point (Some signed) = is_point signed.key.material
 has_point None = false
 
 abbrev pub GivesAll : Option SignInput → CoseSignInput → Type 0
 GivesAll (Some signed) input = GivesInput signed input
-GivesAll None input = ⊤
+GivesAll None input = ⊥
