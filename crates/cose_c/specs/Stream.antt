@@ -83,9 +83,12 @@ abbrev pub wants_any : {H D : ℕ} → Content H D → Bool
 wants_any None = false
 wants_any (Some v) = is_open (status_in v)
 
+abbrev pub is_decidable : {H D : ℕ} → Verifier H D KeySet meaning → Bool
+is_decidable v = is_complete (status_in v) && not (is_inspecting v)
+
 abbrev pub has_verdict : {H D : ℕ} → Content H D → Bool
 has_verdict None = false
-has_verdict (Some v) = is_complete (status_in v) && not (is_inspecting v)
+has_verdict (Some v) = is_decidable v
 
 -- ---- feeding
 

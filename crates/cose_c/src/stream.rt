@@ -12,7 +12,7 @@ ghost use Rattle.cose_msg.specs.Task.{Task, given_to, rules_of, to_verify};
 ghost use Rattle.cose_c.specs.Deciding.{deciding};
 ghost use Rattle.cose_c.specs.Input.{GivesAll, has_point};
 ghost use Rattle.cose_c.specs.Numbers.{always_authentic, no_message, verdict_numbers};
-ghost use Rattle.cose_c.specs.Stream.{HasRead, IsAnew, IsOpened, answer_kept_by, block_status, detached_given, has_verdict, held_by, nothing_fed, opening_status, payload_fed, payload_wanted_by, reading_of, signed_by, status_after, status_numbers, taken_by, task_by, wanted_by, wants_any, wants_more};
+ghost use Rattle.cose_c.specs.Stream.{HasRead, IsAnew, IsOpened, answer_kept_by, block_status, detached_given, has_verdict, held_by, is_decidable, nothing_fed, opening_status, payload_fed, payload_wanted_by, reading_of, says_good, signed_by, status_after, status_numbers, taken_by, task_by, wanted_by, wants_any, wants_more};
 ghost use Rattle.cose_c.specs.Terms.{setting_given};
 
 mod small;
@@ -226,10 +226,12 @@ pub(crate) fn end<'k, const H: usize, const D: usize>(
 {
     // A law that the proof cites: what isn't settled is Truncated where its bytes end.
     settled_stays();
-    match content {
-        Some(verifier) => status_numbers(verifier.end()),
-        None => plain_status(CLOSED),
-    }
+    let Some(verifier) = content else {
+        return plain_status(CLOSED);
+    };
+    // The proof cites what this ensures of the bytes so far.
+    let _status = verifier.status();
+    status_numbers(verifier.end())
 }
 
 /// Gives what the signature of a message is verified with, and returns whether there is one.
@@ -249,6 +251,20 @@ pub(crate) fn sign_input<'k, const H: usize, const D: usize>(
         Some(verifier) => give_input(verifier, input),
         None => false,
     }
+}
+
+/// Whether the number says that a signature is good: 1 does, and no other number.
+pub(crate) fn says_good(signature_is_good: i32) -> bool
+    ensures { result ≡ says_good signature_is_good }
+{
+    signature_is_good == 1
+}
+
+/// Whether a message is complete, and isn't only inspected.
+fn is_decidable<'k, const H: usize, const D: usize>(verifier: &Verifier<'k, H, D>) -> bool
+    ensures { result ≡ is_decidable verifier.now }
+{
+    verifier.is_complete() && !verifier.is_inspecting()
 }
 
 /// The verdict on a message that is complete, whose signature, if it has one, is good or isn't.
@@ -275,7 +291,7 @@ pub(crate) fn verdict<'k, const H: usize, const D: usize>(
         return no_message(plain_status(CLOSED));
     };
     let status = verifier.status();
-    if verifier.is_inspecting() || !verifier.is_complete() {
+    if !is_decidable(verifier) {
         return no_message(status_numbers(status));
     }
     match verifier.verdict(&Decided { is_good }) {

@@ -196,7 +196,8 @@ pub extern "C" fn cose_verdict(
     ensures taken { taken_by verifier.new.value.content ≡ taken_by verifier.old.value.content }
     ensures signed { signed_by verifier.new.value.content ≡ signed_by verifier.old.value.content }
 {
-    *verdict = stream::verdict(&mut verifier.lend().content, signature_is_good == 1);
+    let is_good = stream::says_good(signature_is_good);
+    *verdict = stream::verdict(&mut verifier.lend().content, is_good);
 }
 
 /// Begins the next message, under the same keys. A block that isn't opened stays so.
