@@ -15,6 +15,7 @@ ghost use Rattle.cose_c.specs.Numbers.{always_authentic, no_message, verdict_num
 ghost use Rattle.cose_c.specs.Stream.{HasRead, IsAnew, IsOpened, answer_kept_by, block_status, detached_given, has_verdict, held_by, is_decidable, nothing_fed, opening_status, payload_fed, payload_wanted_by, reading_of, says_good, signed_by, status_after, status_numbers, taken_by, task_by, wanted_by, wants_any, wants_more};
 ghost use Rattle.cose_c.specs.Terms.{setting_given};
 
+mod large;
 mod small;
 
 use crate::deciding::Decided;
