@@ -1,2 +1,4 @@
 pub mod Messages
+pub mod Steps
+pub mod Streams
 pub mod WorkedTerms

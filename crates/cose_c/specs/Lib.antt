@@ -7,3 +7,5 @@ pub mod Shape
 pub mod KeySet
 pub mod Told
 pub mod Claims
+pub mod Held
+pub mod Stream

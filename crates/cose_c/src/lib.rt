@@ -7,10 +7,12 @@
 
 mod claims;
 mod deciding;
+mod held;
 mod input;
 mod key_set;
 mod message;
 mod numbers;
 mod shape;
+mod stream;
 mod terms;
 mod told;

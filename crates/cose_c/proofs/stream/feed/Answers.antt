@@ -1,0 +1,27 @@
+use Rattle.std.proofs.Common.{Some, sym, ap, ◌∙◌}
+use Rattle.cose_c.specs.Stream.{status_numbers, task_by}
+use Rattle.cose_c.proofs.Streams.{read_in, same_task}
+use Rattle.cose_c.proofs.stream.feed.Goals as goal
+
+pub returns-in-Some-clause-uses : goal.returns-in-Some-clause-uses
+returns-in-Some-clause-uses g c = λ task taken payload read.
+    let v = (read_in task taken payload _ c.in-Some.verifier c.in-Some.is read).0 in
+    rw c.fed_numbers.ensures.used (c.feed.ensures.uses task taken payload v)
+
+pub returns-in-Some-clause-reads : goal.returns-in-Some-clause-reads
+returns-in-Some-clause-reads g c = λ task taken payload read.
+    let v = (read_in task taken payload _ c.in-Some.verifier c.in-Some.is read).0 in (
+      rw (c.fed_numbers.ensures.to, c.fed_numbers.ensures.from, c.fed_numbers.ensures.used) (c.feed.ensures.taken task taken payload v),
+      rw c.fed_numbers.ensures.used (c.feed.ensures.tells task taken payload v),
+    )
+
+pub returns-in-Some-clause-status : goal.returns-in-Some-clause-status
+returns-in-Some-clause-status g c = λ task taken payload read.
+    let v = (read_in task taken payload _ c.in-Some.verifier c.in-Some.is read).0 in
+    rw c.fed_numbers.ensures.used (c.fed_numbers.ensures.status ∙ ap status_numbers (c.feed.ensures.status task taken payload v))
+
+pub returns-in-Some-clause-same_task : goal.returns-in-Some-clause-same_task
+returns-in-Some-clause-same_task g c = λ task taken payload read.
+    let v = (read_in task taken payload _ c.in-Some.verifier c.in-Some.is read).0 in
+    ap Some (same_task c.in-Some.verifier c.feed.new.self (c.feed.ensures.context task taken payload v) c.feed.ensures.inspects)
+    ∙ sym (ap task_by c.in-Some.is)

@@ -1,0 +1,24 @@
+-- Blocks in the caller's memory: what a handle lends, and how it gets it back.
+use Rattle.std.specs.Borrow.{Lends, MutBor, Fml}
+use Rattle.cose_c.specs.declared.held.verifier.CoseVerifier.{CoseVerifier}
+use Rattle.cose_c.specs.declared.held.verifier.HeldVerifier.{HeldVerifier}
+use Rattle.cose_c.specs.contracts.held.verifier.CoseVerifier.{the_row as verifier_handle}
+use Rattle.cose_c.specs.contracts.held.verifier.HeldVerifier.{the_row as held_verifier}
+use Rattle.cose_c.specs.declared.held.large_verifier.CoseLargeVerifier.{CoseLargeVerifier}
+use Rattle.cose_c.specs.declared.held.large_verifier.HeldLargeVerifier.{HeldLargeVerifier}
+use Rattle.cose_c.specs.contracts.held.large_verifier.CoseLargeVerifier.{the_row as large_verifier_handle}
+use Rattle.cose_c.specs.contracts.held.large_verifier.HeldLargeVerifier.{the_row as held_large_verifier}
+
+-- The handle with another value in its block.
+abbrev pub with_verifier : CoseVerifier → HeldVerifier → CoseVerifier
+with_verifier handle held = record handle { value = held }
+
+-- The value in the block is the last one behind the reference.
+abbrev pub LendsVerifier : MutBor CoseVerifier → MutBor HeldVerifier → Fml
+LendsVerifier handle held = Lends verifier_handle held_verifier handle held (with_verifier handle.now)
+
+abbrev pub with_large_verifier : CoseLargeVerifier → HeldLargeVerifier → CoseLargeVerifier
+with_large_verifier handle held = record handle { value = held }
+
+abbrev pub LendsLargeVerifier : MutBor CoseLargeVerifier → MutBor HeldLargeVerifier → Fml
+LendsLargeVerifier handle held = Lends large_verifier_handle held_large_verifier handle held (with_large_verifier handle.now)

@@ -1,0 +1,71 @@
+//! A verifier in the caller's memory, of header buckets of at most 1,024 bytes.
+
+ghost use Rattle.std.specs.Prelude.{◌≡◌, None};
+ghost use Rattle.std.specs.Borrow.{full_share, sem};
+ghost use Rattle.std.specs.Ptr.{lies_at};
+ghost use denote.RawPtr.{room_at};
+ghost use Rattle.cose_c.specs.declared.held.verifier.HeldVerifier.{HeldVerifier};
+ghost use Rattle.cose_c.specs.contracts.held.verifier.HeldVerifier.{the_row};
+
+use crate::terms::{HEADER, NESTING};
+use cose_msg::Verifier;
+use std::marker::Model;
+use std::ptr;
+
+/// The value in a block: a verifier, once it is opened.
+#[derive(Drop)]
+pub struct HeldVerifier {
+    pub(crate) content: Option<Verifier<'static, HEADER, NESTING>>,
+}
+
+/// The handle of a verifier: where its block is.
+#[repr(C)]
+pub struct CoseVerifier {
+    at: *mut u8,
+    pub ghost value: { HeldVerifier },
+}
+
+impl Model for CoseVerifier {
+    ghost also_owns = { λ handle. lies_at the_row full_share handle.at handle.value };
+}
+
+impl CoseVerifier {
+    ghost use Rattle.cose_c.specs.Held.{LendsVerifier};
+
+    /// The value in the block.
+    pub(crate) fn lend(&mut self) -> &mut HeldVerifier
+        ensures* writes_back { sem 𝓛 (LendsVerifier self.entry result) }
+        ensures value { result.now ≡ self.old.value }
+    {
+        unsafe { &mut *(self.at as *mut HeldVerifier) }
+    }
+}
+
+/// A value without a verifier.
+fn closed() -> HeldVerifier
+    ensures { result.content ≡ None }
+{
+    HeldVerifier { content: None }
+}
+
+/// The number of bytes of a verifier's block.
+#[unsafe(no_mangle)]
+pub extern "C" fn cose_verifier_size() -> usize {
+    size_of::<HeldVerifier>()
+}
+
+/// The alignment of its address.
+#[unsafe(no_mangle)]
+pub extern "C" fn cose_verifier_align() -> usize {
+    align_of::<HeldVerifier>()
+}
+
+/// Makes the bytes at this address the block of a verifier that isn't opened.
+#[unsafe(no_mangle)]
+pub unsafe extern "C" fn cose_begin(at: *mut u8)
+    requires* { sem 𝓛 (room_at the_row at) }
+    ensures* { ∃ₛ λ (begun : HeldVerifier). sem 𝓛 (lies_at the_row full_share at begun)
+        ∗ ⌜ begun.content ≡ None ⌝ }
+{
+    ptr::write(at as *mut HeldVerifier, closed())
+}
