@@ -182,7 +182,8 @@ impl<'k> Verifier<'k> {
         }
     }
 
-    /// Takes the next bytes of the message, none after its end, and none between the nil of a message and its detached payload.
+    /// Takes the next bytes of the message: none after its end, and where the payload is detached, none after its nil until
+    /// [`feed_payload`](Self::feed_payload) took the payload.
     ///
     /// # Errors
     ///
