@@ -1,7 +1,5 @@
 //! A verifier that is fed.
 
-use core::marker::PhantomData;
-
 use crate::error::{number, part};
 use crate::{raw, Block, Error, Kind, Options, SignInput};
 
@@ -81,8 +79,8 @@ pub struct Accepted {
 /// ```
 #[derive(Debug)]
 pub struct Verifier<'k> {
+    // what is in it leads to the keys and to the externally supplied data, which stay for `'k` too
     block: &'k mut VerifierBlock,
-    borrowed: PhantomData<&'k [u8]>,
 }
 
 impl<'k> Verifier<'k> {
@@ -170,10 +168,7 @@ impl<'k> Verifier<'k> {
         VerifierBlock::holds(raw::cose_verifier_size(), raw::cose_verifier_align())?;
         // SAFETY: the block has the size and the alignment that the library asks for, and is borrowed, so that it stays where it is.
         unsafe { raw::cose_begin(block.at()) };
-        Ok(Verifier {
-            block,
-            borrowed: PhantomData,
-        })
+        Ok(Verifier { block })
     }
 
     fn handle(&mut self) -> raw::Verifier {
