@@ -77,6 +77,26 @@ pub struct Accepted {
 /// verifier.reset();
 /// # Ok::<(), cose::Error>(())
 /// ```
+///
+/// The keys can't go while the verifier is used, and the block can't move:
+///
+/// ```compile_fail,E0597
+/// # use cose::{Block, Options, Verifier};
+/// let mut block = Block::new();
+/// let mut verifier = {
+///     let keys = b"\xa2\x01\x04\x20\x44Jefe".to_vec();
+///     Verifier::new(&mut block, &keys, &Options::default()).unwrap()
+/// };
+/// verifier.reset();
+/// ```
+///
+/// ```compile_fail,E0505
+/// # use cose::{Block, Options, Verifier};
+/// let mut block = Block::new();
+/// let mut verifier = Verifier::new(&mut block, b"\xa0", &Options::default()).unwrap();
+/// let moved = block;
+/// verifier.reset();
+/// ```
 #[derive(Debug)]
 pub struct Verifier<'k> {
     // what is in it leads to the keys and to the externally supplied data, which stay for `'k` too
