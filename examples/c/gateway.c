@@ -95,6 +95,9 @@ static int answer(const struct cose_claims *claims)
         puts("admitted");
         print_claims(claims);
         return ADMITTED;
+    case COSE_SIGNED: /* firmware_update.c shows how a signature is verified */
+        puts("refused: the token is signed, and this gateway knows no curve");
+        return REFUSED;
     case COSE_REFUSED:
         printf("refused: reason %u at %" PRIu64 " of the token\n", claims->reason, claims->place);
         return REFUSED;

@@ -169,12 +169,11 @@ impl<'t> Iterator for Audiences<'t> {
 /// Verifies a token whose message is a `COSE_Mac0`, and returns its claims where they are admitted. The CWT tag may come before the
 /// message's own; the bytes are the token, and nothing follows it. `aad` is the externally supplied data, mostly none.
 ///
-/// A token that is signed is verified with [`verify`](crate::verify), its signature by the caller, and the payload is passed to
-/// [`claims`].
-///
 /// # Errors
 ///
-/// The key set, the message or the claims are refused, or the externally supplied data is too long.
+/// The key set, the message or the claims are refused, or the externally supplied data is too long. A token that is signed is
+/// [`Error::Signed`]: it is verified with [`verify`](crate::verify), its signature by the caller, and the payload is passed to
+/// [`claims`].
 ///
 /// ```
 /// use cose::{verify_cwt, Policy, Reason};

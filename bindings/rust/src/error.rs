@@ -27,6 +27,9 @@ pub enum Error {
     Message(Refusal),
     /// The message is authentic, and its claims are refused. The place is relative to the first byte of the payload.
     Claims(Refusal),
+    /// The token is a `COSE_Sign1`, whose signature nobody verified: pass it to [`verify`](crate::verify), and the payload, if the
+    /// signature is good, to [`claims`](crate::claims).
+    Signed,
     /// The externally supplied data has more than 65,535 bytes.
     AadTooLong,
     /// The message isn't complete, so that there is no verdict; or a message that is made lacks bytes of its payload.
@@ -45,9 +48,11 @@ impl Error {
             Error::Keys(refusal) | Error::Message(refusal) | Error::Claims(refusal) => {
                 Some(refusal)
             }
-            Error::AadTooLong | Error::Incomplete | Error::BadArgument | Error::OtherLibrary => {
-                None
-            }
+            Error::Signed
+            | Error::AadTooLong
+            | Error::Incomplete
+            | Error::BadArgument
+            | Error::OtherLibrary => None,
         }
     }
 
@@ -70,6 +75,7 @@ impl Error {
             (number::REFUSED, Some(refusal)) => Error::Message(refusal),
             (number::KEYS_REFUSED, Some(refusal)) => Error::Keys(refusal),
             (number::CLAIMS_REFUSED, Some(refusal)) => Error::Claims(refusal),
+            (number::SIGNED, None) => Error::Signed,
             (number::AAD_TOO_LONG, None) => Error::AadTooLong,
             (number::MORE | number::PAYLOAD_NEXT, None) => Error::Incomplete,
             (number::BAD_ARGUMENT, None) => Error::BadArgument,
@@ -84,6 +90,7 @@ impl fmt::Display for Error {
             Error::Keys(refusal) => write!(formatter, "the key set is refused: {refusal}"),
             Error::Message(refusal) => write!(formatter, "the message is refused: {refusal}"),
             Error::Claims(refusal) => write!(formatter, "the claims are refused: {refusal}"),
+            Error::Signed => formatter.write_str("the token has a signature, which isn't verified"),
             Error::AadTooLong => {
                 formatter.write_str("the externally supplied data has more than 65,535 bytes")
             }

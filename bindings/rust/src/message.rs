@@ -257,15 +257,15 @@ pub struct Shape {
     pub payload_length: u64,
     /// That of its tag or signature.
     pub auth_length: u64,
-    /// That of the message. Bytes may follow it.
+    /// That of the message.
     pub taken: u64,
 }
 
-/// The shape of the message that these bytes begin with.
+/// The shape of a message. The bytes are the message, and nothing follows it.
 ///
 /// # Errors
 ///
-/// They begin with none.
+/// They aren't.
 ///
 /// ```
 /// let shape = cose::shape(cose::Wanted::Tagged, b"\xd1\x84\x43\xa1\x01\x05\xa0\x42hi\x43tag")?;

@@ -1,7 +1,5 @@
 //! A table of keys, which are read once.
 
-use core::marker::PhantomData;
-
 use crate::error::number;
 use crate::{raw, Block, Claims, Error, Options, Policy, Verdict};
 
@@ -28,9 +26,9 @@ pub type TableBlock = Block<16_384>;
 /// ```
 #[derive(Debug)]
 pub struct KeyTable<'k> {
+    // what is in it leads to the keys, which stay for `'k` too
     block: &'k mut TableBlock,
     usable: u64,
-    borrowed: PhantomData<&'k [u8]>,
 }
 
 impl<'k> KeyTable<'k> {
@@ -43,11 +41,7 @@ impl<'k> KeyTable<'k> {
         TableBlock::holds(raw::cose_table_size(), raw::cose_table_align())?;
         // SAFETY: the block has the size and the alignment that the library asks for, and is borrowed, so that it stays where it is.
         unsafe { raw::cose_table_begin(block.at()) };
-        let mut table = KeyTable {
-            block,
-            usable: 0,
-            borrowed: PhantomData,
-        };
+        let mut table = KeyTable { block, usable: 0 };
         let mut key_set = raw::KeySet::default();
         // SAFETY: the block was begun, and the keys, of which it keeps slices, stay as they are while `'k` lasts, so as long as the
         // table.

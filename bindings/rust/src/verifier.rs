@@ -1,7 +1,5 @@
 //! A verifier that is fed.
 
-use core::marker::PhantomData;
-
 use crate::error::{number, part};
 use crate::{raw, Block, Error, Kind, Options, SignInput};
 
@@ -79,10 +77,30 @@ pub struct Accepted {
 /// verifier.reset();
 /// # Ok::<(), cose::Error>(())
 /// ```
+///
+/// The keys can't go while the verifier is used, and the block can't move:
+///
+/// ```compile_fail,E0597
+/// # use cose::{Block, Options, Verifier};
+/// let mut block = Block::new();
+/// let mut verifier = {
+///     let keys = b"\xa2\x01\x04\x20\x44Jefe".to_vec();
+///     Verifier::new(&mut block, &keys, &Options::default()).unwrap()
+/// };
+/// verifier.reset();
+/// ```
+///
+/// ```compile_fail,E0505
+/// # use cose::{Block, Options, Verifier};
+/// let mut block = Block::new();
+/// let mut verifier = Verifier::new(&mut block, b"\xa0", &Options::default()).unwrap();
+/// let moved = block;
+/// verifier.reset();
+/// ```
 #[derive(Debug)]
 pub struct Verifier<'k> {
+    // what is in it leads to the keys and to the externally supplied data, which stay for `'k` too
     block: &'k mut VerifierBlock,
-    borrowed: PhantomData<&'k [u8]>,
 }
 
 impl<'k> Verifier<'k> {
@@ -170,10 +188,7 @@ impl<'k> Verifier<'k> {
         VerifierBlock::holds(raw::cose_verifier_size(), raw::cose_verifier_align())?;
         // SAFETY: the block has the size and the alignment that the library asks for, and is borrowed, so that it stays where it is.
         unsafe { raw::cose_begin(block.at()) };
-        Ok(Verifier {
-            block,
-            borrowed: PhantomData,
-        })
+        Ok(Verifier { block })
     }
 
     fn handle(&mut self) -> raw::Verifier {
@@ -182,7 +197,8 @@ impl<'k> Verifier<'k> {
         }
     }
 
-    /// Takes the next bytes of the message, none after its end, and none between the nil of a message and its detached payload.
+    /// Takes the next bytes of the message: none after its end, and where the payload is detached, none after its nil until
+    /// [`feed_payload`](Self::feed_payload) took the payload.
     ///
     /// # Errors
     ///

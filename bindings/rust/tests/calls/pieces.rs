@@ -240,3 +240,23 @@ fn a_message_that_lacks_payload() {
     let mut block = Block::new();
     assert!(Maker::begin(&mut block, &[0xa0], &making, 2, &mut head).is_err());
 }
+
+#[test]
+fn other_threads() {
+    fn may_go<T: Send>(value: T) -> T {
+        value
+    }
+    let keys = hex(JEFE);
+    let mut block = Block::new();
+    let verifier = Verifier::new(&mut block, &keys, &Options::default());
+    let mut verifier = may_go(verifier).expect("the keys are good");
+    let message = hex(HI);
+    let found = std::thread::scope(|scope| {
+        let thread = scope.spawn(|| {
+            let _fed = verifier.feed(&message)?;
+            verifier.verdict(|_| false)
+        });
+        thread.join().expect("it doesn't panic")
+    });
+    assert_eq!(found.map(|found| found.taken), Ok(44));
+}
