@@ -167,14 +167,12 @@ def verify_cwt(
     """
     data, external = bytes_of(token, "token"), bytes_of(aad, "aad")
     policy = _policy(now, leeway, audience)
-    if ecdsa is None and wanted is None:
+    if wanted is None:
         found = _read(keys, external, policy, data, large)
         if found.status == Status.AUTHENTIC:
             payload = data[found.payload_at : found.payload_at + found.payload_length]
             return _claims_of(payload, found)
-        if found.status in (Status.REFUSED, Status.SIGNED):
-            # that call is for a COSE_Mac0 alone: of a COSE_Sign1 this one says what it is
-            verify(keys, data, aad=external, large=large)
-        fail(found)
+        if found.status != Status.SIGNED:
+            fail(found)
     message = verify(keys, data, aad=external, wanted=wanted, ecdsa=ecdsa, large=large)
     return claims(message.payload, now=policy.now, leeway=leeway, audience=audience, large=large)
