@@ -11,7 +11,7 @@
 //! | many messages under the same keys | [`KeyTable`] |
 //! | a payload that wants a MAC | [`Maker`] |
 //!
-//! HMAC is computed by the library. For ECDSA (ES256, ES384, ES512) it computes the digest, and the caller verifies the signature: a
+//! HMAC is computed by the library. For ECDSA (ES256, ES384, ES512, ESP256, ESP384, ESP512) it computes the digest, and the caller verifies the signature: a
 //! `COSE_Sign1` is [`Verdict::Signed`], which gives its payload through [`Signed::payload_if`] alone.
 //!
 //! ```

@@ -52,7 +52,7 @@ pub struct Options<'a> {
 pub struct Message<'m> {
     /// Its kind.
     pub kind: Kind,
-    /// The number of its algorithm ([RFC 9053](https://www.rfc-editor.org/rfc/rfc9053)): 4 to 7 of a MAC, -7, -35 or -36 of a
+    /// The number of its algorithm ([RFC 9053](https://www.rfc-editor.org/rfc/rfc9053)): 4 to 7 of a MAC, -7, -35, -36, -9, -51 or -52 of a
     /// signature.
     pub alg: i32,
     /// Its payload.

@@ -5,7 +5,7 @@ use Rattle.std.proofs.lemmas.List.{length-drop, length-take, take-append-drop}
 use Rattle.std.proofs.Math.Seq.{take-length}
 use Rattle.std.specs.Prelude.{IfOk, IsSomeAnd, min, nat_lt, option_map}
 use Rattle.cose_head.specs.declared.algorithm.Alg.{Alg}
-use Rattle.cose_head.specs.declared.algorithm.Alg.TheVariants.{Hmac64, Hmac256, Hmac384, Hmac512, Es256, Es384, Es512}
+use Rattle.cose_head.specs.declared.algorithm.Alg.TheVariants.{Hmac64, Hmac256, Hmac384, Hmac512, Es256, Es384, Es512, Esp256, Esp384, Esp512}
 use Rattle.cose_head.specs.declared.kind.Kind.{Kind}
 use Rattle.cose_head.specs.declared.kind.Kind.TheVariants as kinds
 use Rattle.cose_head.specs.declared.reason.Reason.{Reason}
@@ -149,6 +149,9 @@ of_alg Hmac512 (symmetric secret) signs typed = absurd cc
 of_alg Es256 (symmetric secret) signs typed = absurd cc
 of_alg Es384 (symmetric secret) signs typed = absurd cc
 of_alg Es512 (symmetric secret) signs typed = absurd cc
+of_alg Esp256 (symmetric secret) signs typed = absurd cc
+of_alg Esp384 (symmetric secret) signs typed = absurd cc
+of_alg Esp512 (symmetric secret) signs typed = absurd cc
 
 chosen_point : (key : KeyValue) (kind : Kind) (found : Chosen) (alg : Option Alg) → kind ≡ kinds.Sign1 → IsSomeAnd alg (λ a. kind_of a ≡ kind) → IsSomeAnd alg (λ a. has_type key.material (key_type_of a) ≡ true) →
     as_choice (with_algorithm key alg) ≡ Ok (Some found) → is_point found.key.material ≡ true

@@ -91,6 +91,9 @@ fn number_of_alg(alg: Alg) -> i32
         Alg::Es256 => -7,
         Alg::Es384 => -35,
         Alg::Es512 => -36,
+        Alg::Esp256 => -9,
+        Alg::Esp384 => -51,
+        Alg::Esp512 => -52,
     }
 }
 

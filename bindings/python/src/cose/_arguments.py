@@ -17,7 +17,7 @@ class Kind(enum.IntEnum):
 
 
 class Algorithm(enum.IntEnum):
-    """The algorithms, by their numbers (RFC 9053 sections 2.1 and 3.1)."""
+    """The algorithms, by their numbers (RFC 9053 sections 2.1 and 3.1, RFC 9864 section 2.1)."""
 
     HMAC_256_64 = 4
     HMAC_256 = 5
@@ -26,6 +26,9 @@ class Algorithm(enum.IntEnum):
     ES256 = -7
     ES384 = -35
     ES512 = -36
+    ESP256 = -9
+    ESP384 = -51
+    ESP512 = -52
 
 
 def bytes_of(value: Buffer, name: str) -> bytes:
