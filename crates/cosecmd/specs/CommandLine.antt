@@ -76,16 +76,16 @@ matches_print content matches bytes = line_prints content (subcommand_rows_of ma
 abbrev pub AsksFor : (List ℕ → Option (List ℕ)) → Request → List ℕ → Output → Type 0
 AsksFor content request bytes said = (payload : Option (List ℕ)) × (payload_for content request ≡ Some payload) × (asked_for request payload bytes ≡ said)
 
--- What clap finds in these words: what its contract says of it, for the command that it is given.
+-- What clap finds in these arguments: what its contract says of it, for the command that it is given.
 abbrev pub IsFoundIn : List Text → ArgMatches → Type 0
 IsFoundIn words matches = (command : Command) × IsParsedFrom command matches × HasMatchesOf (app_of command) words matches
 
--- A text of clap's is help or the version, or says what is wrong with the words.
+-- A text of clap's is help or the version, or says what is wrong with the arguments.
 abbrev pub IsReadFrom : List Text → Parsed → Type 0
 IsReadFrom words (Matches matches) = IsFoundIn words matches
 IsReadFrom words (Reply reply) = reply.status ≢ statuses.Refused
 
--- A run for these words that ends with this status: unless there is a fault, it printed a text of clap's and ended with
+-- A run with these arguments that ends with this status: unless there is a fault, it printed a text of clap's and ended with
 -- status 0, or it printed what is printed for what clap found, and ended with its status.
 abbrev pub Answers : (List ℕ → Option (List ℕ)) → List Text → List ℕ → Option (List ℕ) → Option (List ℕ) → ℕ → Type 0
 Answers content words bytes old new status =

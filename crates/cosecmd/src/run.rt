@@ -244,7 +244,7 @@ pub fn run_with_files<'a, F: NamedFiles, R: Read, W: Write>(
     output: &mut W,
 ) -> u8
     ensures status { result ≤ 2 }
-    // Unless there is a fault, it prints help or the version, or the output for the options that clap finds in the words.
+    // Unless there is a fault, it prints help or the version, or the output for the options that clap finds in the arguments.
     ensures printed { (bytes : List ℕ) → R.remaining input.old ≡ Some bytes →
         Answers (F.content files.now) (map (λ word. word.now) words.entry.now) bytes
         (W.contents output.old) (W.contents output.new) result }
