@@ -62,6 +62,10 @@ tokens : Says (
     ("d83e00", refused reasons.NotMap 0) ∷
     ("d85f00", refused reasons.NotMap 0) ∷
     ("d86300", refused reasons.NotMap 0) ∷
+    ("d9011000", refused reasons.NotMap 0) ∷
+    ("d9011100", refused reasons.NotMap 0) ∷
+    ("d9011200", refused reasons.NotMap 0) ∷
+    ("d9013d00", refused reasons.NotMap 0) ∷
     ("80", refused reasons.NotMap 0) ∷
     ("40", refused reasons.NotMap 0) ∷
     ("10", refused reasons.NotMap 0) ∷
@@ -82,14 +86,23 @@ pairs : Says (
 unfolding said
 pairs = refl
 
--- Other claims have any value: the labels next to those of the claims, their negatives, and text strings.
+-- Other claims have any value: the labels next to those of the claims, their negatives, text strings, and the labels that equal
+-- those of the claims in the low byte.
 others : Says (
     ("a1 0060", Ok silent) ∷
     ("a1 0960", Ok silent) ∷
     ("a1 2060", Ok silent) ∷
     ("a1 2360", Ok silent) ∷
     ("a1 2760", Ok silent) ∷
-    ("a1 6134 60", Ok silent) ∷ [])
+    ("a1 6134 60", Ok silent) ∷
+    ("a1 190101 00", Ok silent) ∷
+    ("a1 190102 00", Ok silent) ∷
+    ("a1 190103 00", Ok silent) ∷
+    ("a1 190104 60", Ok silent) ∷
+    ("a1 190105 60", Ok silent) ∷
+    ("a1 190106 60", Ok silent) ∷
+    ("a1 190107 60", Ok silent) ∷
+    ("a1 190108 60", Ok silent) ∷ [])
 unfolding said
 others = refl
 
@@ -339,6 +352,9 @@ audiences : Admits (
     row (pos 0) 0 (Some ("ab" ∷ [])) "a1 036161" (admissions.refused reasons.WrongAudience 2) ∷
     row (pos 0) 0 (Some ("a" ∷ [])) "a1 03626162" (admissions.refused reasons.WrongAudience 2) ∷
     row (pos 0) 0 (Some ("b" ∷ [])) "a1 03626162" (admissions.refused reasons.WrongAudience 2) ∷
+    row (pos 0) 0 (Some ("abcdefghi" ∷ [])) "a1 03 69616263646566676869" (Ok tt) ∷
+    row (pos 0) 0 (Some ("abcdefghj" ∷ [])) "a1 03 69616263646566676869" (admissions.refused reasons.WrongAudience 2) ∷
+    row (pos 0) 0 (Some ("abcdefgh" ∷ [])) "a1 03 69616263646566676869" (admissions.refused reasons.WrongAudience 2) ∷
     row (pos 0) 0 (Some ("ab" ∷ [])) "a1 03 8261616162" (admissions.refused reasons.WrongAudience 2) ∷
     row (pos 0) 0 (Some ("a" ∷ [])) "a1 03 8261616162" (Ok tt) ∷
     row (pos 0) 0 (Some ("b" ∷ [])) "a1 03 8261616162" (Ok tt) ∷

@@ -1,6 +1,6 @@
 -- A detached payload, on examples, by computing (RFC 9052 sections 2, 4.2 and 6.2): the message has nil, and the bytes that have
 -- come of the payload are known on their own.
-use Rattle.std.specs.Prelude.{ℕ, ◌^◌, List, [], ◌∷◌, refl}
+use Rattle.std.specs.Prelude.{ℕ, ◌-◌, ◌^◌, List, [], ◌∷◌, refl}
 use Rattle.cose_head.specs.declared.reason.Reason.TheVariants.{Truncated, BadSimple, WrongType, Attached, BadAuthLength, PayloadTooLong}
 use Rattle.cose_msg.specs.declared.status.Status.{Status}
 use Rattle.cose_msg.specs.declared.status.Status.TheVariants.{More, PayloadNext, Refused}
@@ -22,6 +22,7 @@ heads : Gives (beside [] 2) (
     (hex "d18443a10105a0 426869", refused Attached 7) ∷
     (hex "d18443a10105a0 5b0100000000000000", refused Attached 7) ∷
     (hex "d18443a10105a0 f816", refused BadSimple 7) ∷
+    (hex "d18443a10105a0 f916", refused Truncated 9) ∷
     (hex "d18443a10105a0 f90016", refused WrongType 7) ∷
     (hex "d18443a10105a0 f7", refused WrongType 7) ∷
     (hex "d18443a10105a0 6161", refused WrongType 7) ∷ [])
@@ -35,6 +36,15 @@ too_many : Gives (beside [] (2 ^ 56)) (
     (hex "d18443a10105a0 42", refused Attached 7) ∷ [])
 unfolding reading
 too_many = refl
+
+-- Fewer bytes are missing, however many they are.
+as_many_as_allowed : Gives (beside [] (2 ^ 56 - 1)) ((hex "d18443a10105a0 f6", refused Truncated 7) ∷ [])
+unfolding reading
+as_many_as_allowed = refl
+
+more_than_32_bits : Gives (beside [] (2 ^ 32)) ((hex "d18443a10105a0 f6", refused Truncated 7) ∷ [])
+unfolding reading
+more_than_32_bits = refl
 
 abbrev limited : ℕ → ℕ → List ℕ → Answer
 limited limit stated bytes = verdict_in (record (under plain) { payload_limit = limit; source = detached [] stated }) bytes

@@ -31,6 +31,10 @@ first_heads : Gives (verdict plain) (
     (hex "d85f", refused WrongTag 0) ∷
     (hex "d863", refused WrongTag 0) ∷
     (hex "d9d9f7", refused WrongTag 0) ∷
+    (hex "d90111", refused WrongTag 0) ∷
+    (hex "d90112", refused WrongTag 0) ∷
+    (hex "d9013d", refused WrongTag 0) ∷
+    (hex "da00010011", refused WrongTag 0) ∷
     (hex "00", refused WrongType 0) ∷
     (hex "20", refused WrongType 0) ∷
     (hex "43", refused WrongType 0) ∷
@@ -53,6 +57,7 @@ behind_a_tag : Gives (verdict plain) (
     (hex "d184", refused Truncated 2) ∷
     (hex "d183", refused NotFour 1) ∷
     (hex "d185", refused NotFour 1) ∷
+    (hex "d1990104", refused NotFour 1) ∷
     (hex "d19bffffffffffffffff", refused NotFour 1) ∷
     (hex "d1a0", refused WrongType 1) ∷
     (hex "d1a4", refused WrongType 1) ∷
@@ -72,6 +77,7 @@ wanting_mac0 : Gives (wanting wants.Mac0) (
     (hex "d861", refused SeveralParties 0) ∷
     (hex "84", refused Truncated 1) ∷
     (hex "9804", refused Truncated 2) ∷
+    (hex "990104", refused NotFour 0) ∷
     (hex "83", refused NotFour 0) ∷
     (hex "85", refused NotFour 0) ∷
     (hex "04", refused WrongType 0) ∷
@@ -135,6 +141,8 @@ behind_the_cwt_tag : Gives (verdict plain) (
     (hex "d83dd83d", refused WrongTag 2) ∷
     (hex "d83dcf", refused WrongTag 2) ∷
     (hex "d83dd3", refused WrongTag 2) ∷
+    (hex "d83dd90111", refused WrongTag 2) ∷
+    (hex "d83dd9013d", refused WrongTag 2) ∷
     (hex "d83dd0", refused Encrypted 2) ∷
     (hex "d83dd860", refused Encrypted 2) ∷
     (hex "d83dd861", refused SeveralParties 2) ∷

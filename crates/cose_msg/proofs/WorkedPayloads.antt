@@ -11,7 +11,9 @@ payload_heads : Gives (verdict plain) (
     (hex "d18443a10105a0 5f", refused Indefinite 7) ∷
     (hex "d18443a10105a0 f816", refused BadSimple 7) ∷
     (hex "d18443a10105a0 f6", refused Detached 7) ∷
+    (hex "d18443a10105a0 f916", refused Truncated 9) ∷
     (hex "d18443a10105a0 f90016", refused WrongType 7) ∷
+    (hex "d18443a10105a0 fa00000016", refused WrongType 7) ∷
     (hex "d18443a10105a0 f7", refused WrongType 7) ∷
     (hex "d18443a10105a0 f5", refused WrongType 7) ∷
     (hex "d18443a10105a0 96", refused WrongType 7) ∷
@@ -70,6 +72,7 @@ auth_heads : Gives (verdict plain) (
     (hex "d18443a10105a0 426869 48", refused BadAuthLength 10) ∷
     (hex "d18443a10105a0 426869 581f", refused BadAuthLength 10) ∷
     (hex "d18443a10105a0 426869 5821", refused BadAuthLength 10) ∷
+    (hex "d18443a10105a0 426869 590120", refused BadAuthLength 10) ∷
     (hex "d18443a10105a0 426869 5bffffffffffffffff", refused BadAuthLength 10) ∷
     (hex "d18443a10105a0 426869 5820", refused Truncated 12) ∷
     (hex "d18443a10105a0 426869 5820 00", refused Truncated 13) ∷ [])

@@ -37,7 +37,8 @@
 //!
 //! A COSE_Sign1 is authentic where the [`EcVerifier`] that the caller passes answers so, asked with the key, the digest
 //! of the structure that is signed and the signature; [`Never`] refuses all. Until [`Verifier::reset`] a verdict is
-//! answered again, and after a [`Stop`] for a failure of the intake or the sink [`Stop::Again`].
+//! answered again, and after a [`Stop`] for a failure of the intake or the sink [`Stop::Again`]. [`same_bytes`], by which tags
+//! are compared, is for a caller that compares one of its own.
 //!
 //! A [`SliceIntake`] gives the bytes of a slice, a [`ReadIntake`] those of a reader. A [`Store`] holds the payload until
 //! [`Store::clear`], [`Nothing`] keeps none of it. An intake that fails says so by [`IntakeFault`], and a sink by [`SinkFault`].
@@ -97,7 +98,7 @@ mod verifier;
 
 pub use context::{Context, Wanted};
 pub use cose_head::{Kind, Reason, Refusal};
-pub use cose_mac::Alg;
+pub use cose_mac::{Alg, same_bytes};
 pub use cose_map::{Bucket, Key, KeySet, KeyTable, Keys, Label};
 pub use elliptic::{EcVerifier, Never};
 pub use intake::{Intake, IntakeFault, ReadIntake, SliceIntake};

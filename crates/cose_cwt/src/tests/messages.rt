@@ -9,6 +9,7 @@ mod limits;
 mod making;
 mod pieces;
 mod samples;
+mod signatures;
 mod slice;
 mod stops;
 mod store;

@@ -13,13 +13,13 @@ use crate::tests::messages::{
 };
 use crate::tests::{JEFE, TOKEN, equal};
 use cose_cwt::{Audience, Claims, CwtStop, Policy, verify_cwt};
-use cose_mac::{Alg, Running, same_bytes, structure_front};
+use cose_mac::{Alg, Running, structure_front};
 use cose_map::{
     Bucket, KeySet, KeyTable, Keys, Kind, Material, Query, Reason, Refusal, check_pair,
 };
 use cose_msg::{
     Context, EcVerifier, Intake, Never, Nothing, Sink, SliceIntake, Status, Stop, Store, Verdict,
-    Verified, Verifier, Wanted, verify, verify_slice,
+    Verified, Verifier, Wanted, same_bytes, verify, verify_slice,
 };
 use std::alloc::Global;
 use std::mem::size_of;
