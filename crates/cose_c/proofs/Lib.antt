@@ -1,2 +1,4 @@
+pub mod Dates
 pub mod Messages
+pub mod Parts
 pub mod WorkedTerms
