@@ -1,4 +1,6 @@
+pub mod Dates
 pub mod Messages
 pub mod Steps
 pub mod Streams
+pub mod Parts
 pub mod WorkedTerms

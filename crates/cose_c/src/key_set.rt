@@ -22,7 +22,9 @@ pub struct CoseKeySet {
 }
 
 /// No key set.
-pub(crate) fn no_key_set(status: CoseStatus) -> CoseKeySet {
+pub(crate) fn no_key_set(status: CoseStatus) -> CoseKeySet
+    ensures { result ≡ no_key_set status }
+{
     CoseKeySet {
         status: status.status,
         reason: status.reason,
@@ -33,7 +35,9 @@ pub(crate) fn no_key_set(status: CoseStatus) -> CoseKeySet {
 
 /// Reads a key set, and says how many usable keys it has, or why it is refused.
 #[unsafe(no_mangle)]
-pub extern "C" fn cose_edge_read_keys(keys: &[u8], key_set: &mut CoseKeySet) {
+pub extern "C" fn cose_edge_read_keys(keys: &[u8], key_set: &mut CoseKeySet)
+    ensures { key_set.new ≡ key_set_numbers (keys_of keys.now) }
+{
     *key_set = match KeySet::read(keys) {
         Ok(keys) => CoseKeySet {
             status: COMPLETE,
