@@ -4,3 +4,9 @@ pub mod Terms
 pub mod Input
 pub mod Held
 pub mod Stream
+pub mod Message
+pub mod Shape
+pub mod KeySet
+pub mod Told
+pub mod Claims
+pub mod Table

@@ -86,3 +86,19 @@ pub(crate) fn give_input<'k, const H: usize, const D: usize, K: Keys<'k>>(
     input.signature_length = copy(signature, &mut input.signature);
     true
 }
+
+/// Room for what a signature is verified with.
+pub(crate) fn blank_input() -> CoseSignInput {
+    CoseSignInput {
+        crv: 0,
+        y_sign: 0,
+        x_length: 0,
+        y_length: 0,
+        digest_length: 0,
+        signature_length: 0,
+        x: [0; 66],
+        y: [0; 66],
+        digest: [0; 64],
+        signature: [0; 132],
+    }
+}

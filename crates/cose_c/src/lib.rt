@@ -5,9 +5,15 @@
 //! `cose_NAME` that takes a null pointer too.
 #![tactic(auto)]
 
+mod claims;
 mod deciding;
 mod held;
 mod input;
+mod key_set;
+mod message;
 mod numbers;
+mod shape;
 mod stream;
+mod table;
 mod terms;
+mod told;

@@ -18,7 +18,7 @@ use crate::claims::checked::Checked;
 use crate::claims::form::ClaimsForm;
 use crate::confirmation::{Cnf, Confirmation};
 use crate::laws::claims_refusals_stand_inside;
-use cose_map::{ItemRef, KeySet, Pairs, Reason, Refusal, check_map, refused};
+use cose_map::{ItemRef, KeySet, Label, Pairs, Reason, Refusal, check_map, refused};
 
 /// The claims of a token, each known one in its form. They borrow the bytes that they were read from.
 ///
@@ -67,6 +67,7 @@ impl<'a> Claims<'a> {
     ghost use Rattle.std.specs.List.{list_any};
     ghost use Rattle.cose_map.specs.Key.View.{contents};
     ghost use Rattle.cose_map.specs.KeySet.View.{keys};
+    ghost use Rattle.cose_map.specs.Label.View.{label_value};
     ghost use Rattle.cose_cwt.specs.Claims.Audience.{text_value, texts_left};
     ghost use Rattle.cose_cwt.specs.Claims.View.{claims_value};
     ghost use Rattle.cose_cwt.specs.Confirmation.View.{cnf_value};
@@ -107,6 +108,14 @@ impl<'a> Claims<'a> {
         // The law that the proof of `within` cites.
         claims_refusals_stand_inside();
         Claims::of_payload(bytes, depth)
+    }
+
+    /// The value of a claim, by its label: an item of the payload, at its place in it (RFC 8392 section 3).
+    pub fn value(&self, label: &Label<'_>) -> Option<ItemRef<'a>>
+        ensures { option_map placed result
+            ≡ value_of (label_value label.now) (claims_value self.now).pairs }
+    {
+        self.pairs.get(label)
     }
 
     /// The issuer of the token (iss, RFC 8392 section 3.1.1).

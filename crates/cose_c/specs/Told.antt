@@ -1,0 +1,66 @@
+-- What a caller gets of the claims of a token.
+use Rattle.std.specs.Prelude.{◌≡◌, ℕ, ℤ, pos, negsuc, ◌+◌, List, length, Option, Some, None, option_and_then}
+use Rattle.cose_head.specs.Placed.{Placed, bytes_in, head_of_item, integer_in, look, text_in}
+use Rattle.cose_c.specs.declared.numbers.CoseStatus.{CoseStatus}
+use Rattle.cose_c.specs.declared.told.CoseClaims.{CoseClaims}
+use Rattle.cose_c.specs.declared.told.CoseDate.{CoseDate}
+use Rattle.cose_c.specs.declared.told.CoseRange.{CoseRange}
+use Rattle.cose_c.specs.Message.{Covers}
+
+abbrev pub no_range : CoseRange
+no_range = record { at = 0; length = 0; present = 0 }
+
+abbrev pub no_date : CoseDate
+no_date = record { number = 0; present = 0; negative = 0 }
+
+-- The bytes after an item's head: the content of a string, if it is one.
+abbrev pub range_of : Placed → ℕ → CoseRange
+range_of item count = record { at = item.place + (head_of_item item).width; length = count; present = 1 }
+
+abbrev pub content_range : Placed → Option (List ℕ) → CoseRange
+content_range item (Some content) = range_of item (length content)
+content_range item None = no_range
+
+abbrev pub text_range : Option Placed → CoseRange
+text_range (Some item) = content_range item (text_in (look item))
+text_range None = no_range
+
+abbrev pub bytes_range : Option Placed → CoseRange
+bytes_range (Some item) = content_range item (bytes_in (look item))
+bytes_range None = no_range
+
+-- A date before 1970 is -1 less its number (RFC 8949 section 3.1).
+abbrev pub date_value : Option Placed → Option ℤ
+date_value item = option_and_then (λ value. integer_in (look value)) item
+
+abbrev pub date_numbers : Option ℤ → CoseDate
+date_numbers None = no_date
+date_numbers (Some (pos n)) = record { number = n; present = 1; negative = 0 }
+date_numbers (Some (negsuc n)) = record { number = n; present = 1; negative = 1 }
+
+-- A range of the payload has these bytes, where there are any.
+abbrev pub Ranges : List ℕ → Option (List ℕ) → CoseRange → Type 0
+Ranges payload None range = range ≡ no_range
+Ranges payload (Some content) range = (range.present ≡ 1) × Covers payload content range.at range.length
+
+abbrev pub no_claims : CoseStatus → CoseClaims
+no_claims s = record {
+  status = s.status;
+  reason = s.reason;
+  place = s.place;
+  payload_at = 0;
+  payload_length = 0;
+  iss = no_range;
+  sub = no_range;
+  aud = no_range;
+  cti = no_range;
+  aud_count = 0;
+  exp = no_date;
+  nbf = no_date;
+  iat = no_date;
+  cnf_kid = no_range;
+  cnf_x = no_range;
+  cnf_y = no_range;
+  cnf_crv = 0;
+  cnf_y_sign = 0;
+}
