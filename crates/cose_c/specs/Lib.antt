@@ -10,3 +10,4 @@ pub mod KeySet
 pub mod Told
 pub mod Claims
 pub mod Table
+pub mod Make

@@ -10,6 +10,7 @@ mod deciding;
 mod held;
 mod input;
 mod key_set;
+mod make;
 mod message;
 mod numbers;
 mod shape;
