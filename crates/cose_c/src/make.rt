@@ -1,7 +1,7 @@
 //! A COSE_Mac0 that is made over pieces (RFC 9052 section 6.2), in a block. What precedes the payload, the payload's pieces, and what
 //! follows it are the message.
 
-ghost use Rattle.std.specs.Prelude.{◌≡◌, ◌<◌, ℕ, List, [], ◌++◌, None, Some, Ok, Err, IfErr, IfOk, length, min, option_map, take};
+ghost use Rattle.std.specs.Prelude.{◌≡◌, ◌≤◌, ◌<◌, ℕ, List, [], ◌++◌, None, Some, Ok, Err, IfErr, IfOk, IsOk, length, min, option_map, take};
 ghost use Rattle.cose_head.specs.declared.algorithm.Alg.{Alg};
 ghost use Rattle.cose_mac.specs.Structure.{encoded_string};
 ghost use Rattle.cose_map.specs.Key.{key_of};
@@ -82,6 +82,12 @@ fn begin_under(
         aad.now payload_length [] begun.0) }
     ensures front { IfOk result (λ begun. take begun.1 head.new
         ≡ front_of (protected_made alg) (kid_given kid.now) payload_length) }
+    ensures begins { fault_numbers
+        (make_fault alg (key_value key.now) (kid_given kid.now) aad.now payload_length) ≡ None
+        → length (front_of (protected_made alg) (kid_given kid.now) payload_length) ≤ 384
+        → length (front_of (protected_made alg) (kid_given kid.now) payload_length)
+        ≤ length head.old
+        → IsOk result }
 {
     let mut front = Store::<MOST_FRONT>::new();
     let maker = match Maker::begin(alg, key, kid_given(kid), aad, payload_length, &mut front) {
@@ -117,6 +123,13 @@ fn begin(
     ensures front { (found : Alg) → mac_numbered alg ≡ Some found
         → IfOk result (λ begun. take begun.1 head.new
         ≡ front_of (protected_made found) (kid_given kid.now) payload_length) }
+    ensures begins { (found : Alg) → mac_numbered alg ≡ Some found
+        → arguments_fault (Some found) (key_of (whole key.now)) kid.now aad.now payload_length
+        ≡ None
+        → length (front_of (protected_made found) (kid_given kid.now) payload_length) ≤ 384
+        → length (front_of (protected_made found) (kid_given kid.now) payload_length)
+        ≤ length head.old
+        → IsOk result }
 {
     let Some(alg) = mac_numbered(alg) else {
         return Err(not_made(BAD_ARGUMENT, 0));
@@ -155,6 +168,13 @@ pub extern "C" fn cose_edge_make(
     ensures front { (found : Alg) → mac_numbered alg ≡ Some found → made.new.status ≡ 0
         → take made.new.length head.new
         ≡ front_of (protected_made found) (kid_given kid.now) payload_length }
+    ensures begins { (found : Alg) → mac_numbered alg ≡ Some found
+        → arguments_fault (Some found) (key_of (whole key.now)) kid.now aad.now payload_length
+        ≡ None
+        → length (front_of (protected_made found) (kid_given kid.now) payload_length) ≤ 384
+        → length (front_of (protected_made found) (kid_given kid.now) payload_length)
+        ≤ length head.old
+        → made.new.status ≡ 0 }
 {
     let content = &mut maker.lend().content;
     *made = match begin(alg, key, kid, aad, payload_length, head) {
@@ -197,6 +217,10 @@ fn end(content: &mut Option<Maker>, tail: &mut [u8]) -> CoseMade
         → MakesIn alg secret aad (length payload) payload content.old → result.status ≡ 7
         → take result.length tail.new ≡ encoded_string 2 (auth_made alg secret aad payload) }
     ensures done { result.status ≡ 7 → content.new ≡ None }
+    ensures ends { (alg : Alg) (secret aad payload : List ℕ)
+        → MakesIn alg secret aad (length payload) payload content.old
+        → length (encoded_string 2 (auth_made alg secret aad payload)) ≤ 73
+        → 73 ≤ length tail.old → result.status ≡ 7 }
 {
     let left = match content {
         Some(making) => making.left(),
@@ -236,6 +260,10 @@ pub extern "C" fn cose_edge_make_end(maker: &mut CoseMaker, tail: &mut [u8], mad
         → made.new.status ≡ 7
         → take made.new.length tail.new ≡ encoded_string 2 (auth_made alg secret aad payload) }
     ensures done { made.new.status ≡ 7 → maker.new.value.content ≡ None }
+    ensures ends { (alg : Alg) (secret aad payload : List ℕ)
+        → MakesIn alg secret aad (length payload) payload maker.old.value.content
+        → length (encoded_string 2 (auth_made alg secret aad payload)) ≤ 73
+        → 73 ≤ length tail.old → made.new.status ≡ 7 }
 {
     *made = end(&mut maker.lend().content, tail);
 }

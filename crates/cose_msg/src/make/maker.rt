@@ -1,6 +1,6 @@
 //! A COSE_Mac0 that is made of a payload which the caller passes in pieces.
 
-ghost use Rattle.std.specs.Prelude.{◌≡◌, ◌≤◌, ◌<◌, ◌+◌, ℕ, true, List, [], ◌++◌, IfOk, Err, is_some, length as length_of, min, option_map, take};
+ghost use Rattle.std.specs.Prelude.{◌≡◌, ◌≤◌, ◌<◌, ◌+◌, ℕ, true, List, [], ◌++◌, IfOk, IsOk, None, Err, is_some, length as length_of, min, option_map, take};
 ghost use Rattle.cose_head.specs.declared.algorithm.Alg.{Alg};
 ghost use Rattle.cose_mac.specs.Running.{makes_mac};
 ghost use Rattle.cose_mac.specs.Structure.{encoded_string};
@@ -50,6 +50,11 @@ impl Maker {
             IsMaking alg (secret_of (key_value key.now).material) aad.now length [] maker) }
         ensures front { IfOk result (λ maker. Appends (S.contents sink.old) (S.contents sink.new)
             (front_of (protected_made alg) (option_map contents kid.entry) length)) }
+        // A sink that is sure of these bytes doesn't fail.
+        ensures sure { length_of
+            (front_of (protected_made alg) (option_map contents kid.entry) length)
+            ≤ S.sure sink.old
+            → begun_fault result ≡ None → IsOk result }
     {
         let Some(secret) = secret_for(key, alg) else {
             return Err(MakeFault::WrongKey);
