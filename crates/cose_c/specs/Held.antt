@@ -8,6 +8,14 @@ use Rattle.cose_c.specs.declared.held.large_verifier.CoseLargeVerifier.{CoseLarg
 use Rattle.cose_c.specs.declared.held.large_verifier.HeldLargeVerifier.{HeldLargeVerifier}
 use Rattle.cose_c.specs.contracts.held.large_verifier.CoseLargeVerifier.{the_row as large_verifier_handle}
 use Rattle.cose_c.specs.contracts.held.large_verifier.HeldLargeVerifier.{the_row as held_large_verifier}
+use Rattle.cose_c.specs.declared.held.maker.CoseMaker.{CoseMaker}
+use Rattle.cose_c.specs.declared.held.maker.HeldMaker.{HeldMaker}
+use Rattle.cose_c.specs.contracts.held.maker.CoseMaker.{the_row as maker_handle}
+use Rattle.cose_c.specs.contracts.held.maker.HeldMaker.{the_row as held_maker}
+use Rattle.cose_c.specs.declared.held.table.CoseTable.{CoseTable}
+use Rattle.cose_c.specs.declared.held.table.HeldTable.{HeldTable}
+use Rattle.cose_c.specs.contracts.held.table.CoseTable.{the_row as table_handle}
+use Rattle.cose_c.specs.contracts.held.table.HeldTable.{the_row as held_table}
 
 -- The handle with another value in its block.
 abbrev pub with_verifier : CoseVerifier → HeldVerifier → CoseVerifier
@@ -22,3 +30,15 @@ with_large_verifier handle held = record handle { value = held }
 
 abbrev pub LendsLargeVerifier : MutBor CoseLargeVerifier → MutBor HeldLargeVerifier → Fml
 LendsLargeVerifier handle held = Lends large_verifier_handle held_large_verifier handle held (with_large_verifier handle.now)
+
+abbrev pub with_table : CoseTable → HeldTable → CoseTable
+with_table handle held = record handle { value = held }
+
+abbrev pub LendsTable : MutBor CoseTable → MutBor HeldTable → Fml
+LendsTable handle held = Lends table_handle held_table handle held (with_table handle.now)
+
+abbrev pub with_maker : CoseMaker → HeldMaker → CoseMaker
+with_maker handle held = record handle { value = held }
+
+abbrev pub LendsMaker : MutBor CoseMaker → MutBor HeldMaker → Fml
+LendsMaker handle held = Lends maker_handle held_maker handle held (with_maker handle.now)

@@ -2,10 +2,12 @@ pub mod Deciding
 pub mod Numbers
 pub mod Terms
 pub mod Input
+pub mod Held
+pub mod Stream
 pub mod Message
 pub mod Shape
 pub mod KeySet
 pub mod Told
 pub mod Claims
-pub mod Held
-pub mod Stream
+pub mod Table
+pub mod Make

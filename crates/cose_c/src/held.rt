@@ -5,4 +5,6 @@
 //! the first value. A generic handle doesn't cross to C, so each type has its own pair, in the same words.
 
 pub(crate) mod large_verifier;
+pub(crate) mod maker;
+pub(crate) mod table;
 pub(crate) mod verifier;

@@ -33,18 +33,25 @@ pub(crate) fn no_key_set(status: CoseStatus) -> CoseKeySet
     }
 }
 
+/// A key set of so many usable keys.
+pub(crate) fn counted(usable: u64) -> CoseKeySet
+    ensures { result ≡ record { status = 7; reason = 0; place = 0; usable = usable } }
+{
+    CoseKeySet {
+        status: COMPLETE,
+        reason: 0,
+        place: 0,
+        usable,
+    }
+}
+
 /// Reads a key set, and says how many usable keys it has, or why it is refused.
 #[unsafe(no_mangle)]
 pub extern "C" fn cose_edge_read_keys(keys: &[u8], key_set: &mut CoseKeySet)
     ensures { key_set.new ≡ key_set_numbers (keys_of keys.now) }
 {
     *key_set = match KeySet::read(keys) {
-        Ok(keys) => CoseKeySet {
-            status: COMPLETE,
-            reason: 0,
-            place: 0,
-            usable: keys.count() as u64,
-        },
+        Ok(keys) => counted(keys.count() as u64),
         Err(refusal) => no_key_set(refused_status(KEYS_REFUSED, refusal)),
     };
 }

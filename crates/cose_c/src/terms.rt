@@ -22,10 +22,10 @@ pub(crate) const LARGE_HEADER: usize = 65_535;
 pub(crate) const LARGE_NESTING: usize = 16;
 
 /// The most bytes of the externally supplied data.
-const MOST_AAD: usize = 65_535;
+pub(crate) const MOST_AAD: usize = 65_535;
 
 /// The most bytes of a payload, which is the most that any message may have.
-const PAYLOAD: u64 = (1 << 56) - 1;
+pub(crate) const PAYLOAD: u64 = (1 << 56) - 1;
 
 /// The kinds of messages that a number names.
 fn kinds_of(number: u8) -> Option<Wanted>

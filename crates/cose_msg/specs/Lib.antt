@@ -33,3 +33,4 @@ pub mod Run
 pub mod Detached
 pub mod Make
 pub mod Writes
+pub mod Maker

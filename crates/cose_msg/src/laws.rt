@@ -3,6 +3,7 @@
 
 ghost use Rattle.cose_msg.specs.Feed.{CutsDontMatter, PiecesJoin};
 ghost use Rattle.cose_msg.specs.GrammarLaws.{ArrayOfFourIsMessage, AuthenticIsMessage, MessageIsArrayOfFour, MessageIsRead, OneArrayOfFour};
+ghost use Rattle.cose_msg.specs.Maker.{MadeInParts};
 ghost use Rattle.cose_msg.specs.MakingLaws.{MadeIsAuthentic};
 ghost use Rattle.cose_msg.specs.Laws.{AllAreFair, AttachedAwaitsNothing, AttachedIsDefinite, ComparingGoesLast, FinishGoesLast, MessageEndsTruncated, MessageIsBounded, MessageIsDefinite, MessageIsInspectedWithin, MessageIsVerifiedWithin, MessageStandsInside, MessageStays, OpenEarlier, OpenIsTruncated, OpenStays, PayloadStays, VerdictStays, VerifyingGoesLast};
 ghost use Rattle.cose_msg.specs.Shown.{SignaturesAreOfSign1};
@@ -139,6 +140,12 @@ pub fn made_is_authentic()
     look_is_of_tree();
     mac_has_its_length();
 }
+
+/// A message that is made is what precedes the payload's content, the payload, and its MAC as a byte string: what
+/// [`Maker`](crate::Maker) puts at the beginning, the pieces, and what it puts at the end.
+pub fn made_in_parts()
+    ensures { MadeInParts }
+{}
 
 /// Where tags are compared and signatures are left, a message that is complete and not decided is a COSE_Sign1 all of
 /// whose bytes are there: the chosen key has an algorithm of the message's kind.

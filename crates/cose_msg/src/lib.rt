@@ -102,6 +102,7 @@ pub use cose_mac::{Alg, same_bytes};
 pub use cose_map::{Bucket, Key, KeySet, KeyTable, Keys, Label};
 pub use elliptic::{EcVerifier, Never};
 pub use intake::{Intake, IntakeFault, ReadIntake, SliceIntake};
+pub use make::maker::Maker;
 pub use make::{MakeFault, make_mac0};
 pub use run::detached::verify_detached;
 pub use run::{inspect, verify};

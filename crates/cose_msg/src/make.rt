@@ -11,6 +11,8 @@ ghost use Rattle.cose_msg.specs.Writes.{Streams, WritesTo, front_of, seen};
 ghost use Rattle.cose_msg.specs.Making.{allows_making as allows_making_by, fits_making, protected_made, unprotected_made};
 ghost use Rattle.cose_msg.specs.Message.{secret_of};
 
+pub(crate) mod maker;
+
 use crate::intake::Intake;
 use crate::sink::Sink;
 use cose_head::{Kind, write_head};

@@ -1,0 +1,103 @@
+//! A table of keys in a block: it is read once, and many messages are verified under it.
+
+ghost use Rattle.std.specs.Prelude.{◌≡◌, ◌≤◌, true, IfOk, length};
+ghost use Rattle.cose_map.specs.KeySet.{keys_of};
+ghost use Rattle.cose_map.specs.KeyTable.{table_of};
+ghost use Rattle.cose_c.specs.Input.{GivesAll};
+ghost use Rattle.cose_c.specs.KeySet.{key_set_numbers};
+ghost use Rattle.cose_c.specs.Message.{Covers, input_given, is_accepted, payload_given, verdict_given};
+ghost use Rattle.cose_c.specs.Table.{keys_in, keys_read, setting_under_table, table_settings};
+
+use crate::held::table::{CoseTable, TABLE};
+use crate::input::CoseSignInput;
+use crate::key_set::{CoseKeySet, counted, no_key_set};
+use crate::message::read_whole;
+use crate::numbers::{
+    CLOSED, CoseStatus, CoseVerdict, KEYS_REFUSED, no_message, plain_status, refused_status,
+};
+use crate::terms::{HEADER, NESTING, PAYLOAD, kinds_wanted};
+use cose_msg::{Context, KeyTable, Verifier};
+
+/// What a message is verified under, by a table of keys, or why none is: a block that isn't read has no keys.
+fn context<'k>(
+    content: &'k Option<KeyTable<'k, TABLE>>,
+    aad: &'k [u8],
+    wanted: u8,
+) -> Result<Context<'k, &'k KeyTable<'k, TABLE>>, CoseStatus>
+    ensures setting { table_settings result
+        ≡ setting_under_table (keys_in content.entry.now) aad.entry.now wanted }
+    ensures external { IfOk result (λ context. length context.aad.now ≤ 65535) }
+{
+    let Some(table) = content else {
+        return Err(plain_status(CLOSED));
+    };
+    let wanted = kinds_wanted(aad, wanted)?;
+    Ok(Context {
+        keys: table,
+        aad,
+        wanted,
+        cwt: true,
+        understood: &[],
+        payload_limit: PAYLOAD,
+    })
+}
+
+/// Reads the usable keys of a key set, at most 64, each of them once. Where the set is refused, or has more usable keys, the block has
+/// no table, whatever it had before.
+///
+/// The bytes of the key set stay as they are until the block is read again, or isn't used any more.
+#[unsafe(no_mangle)]
+pub extern "C" fn cose_edge_table_read(
+    table: &mut CoseTable,
+    keys: &'static [u8],
+    key_set: &mut CoseKeySet,
+)
+    ensures numbers { key_set.new ≡ key_set_numbers (table_of 64 (keys_of keys.now)) }
+    ensures keys { keys_in table.new.value.content ≡ keys_read (table_of 64 (keys_of keys.now)) }
+{
+    let content = &mut table.lend().content;
+    *key_set = match KeyTable::read(keys) {
+        Ok(read) => {
+            let usable = read.count() as u64;
+            *content = Some(read);
+            counted(usable)
+        }
+        Err(refusal) => {
+            *content = None;
+            no_key_set(refused_status(KEYS_REFUSED, refusal))
+        }
+    };
+}
+
+/// Verifies a message in memory under the table's keys, as `cose_verify` does under those of a key set. A block that isn't read answers
+/// `CLOSED`.
+#[unsafe(no_mangle)]
+pub extern "C" fn cose_edge_table_verify(
+    table: &mut CoseTable,
+    aad: &[u8],
+    wanted: u8,
+    message: &[u8],
+    verdict: &mut CoseVerdict,
+    input: &mut CoseSignInput,
+)
+    ensures verdict { verdict.new
+        ≡ verdict_given 1024 8 (setting_under_table (keys_in table.old.value.content) aad.now wanted)
+        verdict.new.payload_at message.now }
+    ensures payload { is_accepted verdict.new ≡ true → Covers message.now
+        (payload_given 1024 8
+        (setting_under_table (keys_in table.old.value.content) aad.now wanted) message.now)
+        verdict.new.payload_at verdict.new.payload_length }
+    ensures input { verdict.new.status ≡ 2 → GivesAll
+        (input_given 1024 8 (setting_under_table (keys_in table.old.value.content) aad.now wanted)
+        message.now)
+        input.new }
+    ensures same { table.new.value.content ≡ table.old.value.content }
+{
+    *verdict = match context(&table.lend().content, aad, wanted) {
+        Ok(context) => {
+            let mut verifier = Verifier::<HEADER, NESTING, &KeyTable<'_, TABLE>>::new(context);
+            read_whole(&mut verifier, message, input)
+        }
+        Err(status) => no_message(status),
+    };
+}
