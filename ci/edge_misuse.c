@@ -1,0 +1,190 @@
+/* Calls the library as its header allows, and as no careful caller would: empty and NULL slices, numbers out of range,
+ * blocks without keys. Each call has to answer with one status, and prints a line where it answers with another. */
+#include "cose.h"
+#include <stdio.h>
+#include <string.h>
+
+/* A symmetric key and the COSE_Mac0 of `hi` under it (examples/make_mac0). */
+static const uint8_t keys[] = {0xa2, 0x01, 0x04, 0x20, 0x44, 'J', 'e', 'f', 'e'};
+static const uint8_t mac0[] = {0xd1, 0x84, 0x43, 0xa1, 0x01, 0x05, 0xa0, 0x42, 'h',  'i',  0x58, 0x20, 0x7d, 0x81, 0xe9,
+                               0x64, 0xaa, 0xee, 0x5f, 0xbd, 0x8a, 0xdf, 0xb3, 0xf5, 0x33, 0x65, 0x7a, 0x9e, 0xf9, 0xf7,
+                               0x82, 0xf0, 0x4b, 0x91, 0x87, 0x7b, 0x60, 0x04, 0x27, 0x2a, 0x03, 0x52, 0xf9, 0x60};
+/* A key on P-256, and a COSE_Sign1 of no bytes for it, whose signature is zeros. */
+static uint8_t point[76] = {0xa4, 0x01, 0x02, 0x20, 0x01, 0x21, 0x58, 0x20};
+static uint8_t sign1[74] = {0xd2, 0x84, 0x43, 0xa1, 0x01, 0x26, 0xa0, 0x40, 0x58, 0x40};
+
+static uint8_t much[65536];
+static _Alignas(64) uint8_t block[16384];
+static int failures;
+
+static void is(const char *what, uint64_t found, uint64_t wanted)
+{
+    if (found == wanted)
+        return;
+    printf("%s: %llu, not %llu\n", what, (unsigned long long)found, (unsigned long long)wanted);
+    failures++;
+}
+
+static struct cose_verdict verify(const uint8_t *set, size_t set_length, const uint8_t *aad, size_t aad_length,
+                                  uint8_t wanted, const uint8_t *message, size_t length)
+{
+    struct cose_verdict verdict;
+    struct cose_sign_input input;
+    memset(&verdict, 0xee, sizeof verdict);
+    cose_verify(set, set_length, aad, aad_length, wanted, message, length, &verdict, &input);
+    return verdict;
+}
+
+static void one_call(void)
+{
+    const size_t n = sizeof keys, m = sizeof mac0;
+    is("a message", verify(keys, n, NULL, 0, COSE_TAGGED, mac0, m).status, COSE_AUTHENTIC);
+    is("no bytes", verify(keys, n, NULL, 0, COSE_TAGGED, NULL, 0).reason, COSE_REASON_TRUNCATED);
+    is("no keys", verify(NULL, 0, NULL, 0, COSE_TAGGED, mac0, m).status, COSE_KEYS_REFUSED);
+    is("NULL for keys", verify(NULL, 1, NULL, 0, COSE_TAGGED, mac0, m).status, COSE_BAD_ARGUMENT);
+    is("NULL for data", verify(keys, n, NULL, 1, COSE_TAGGED, mac0, m).status, COSE_BAD_ARGUMENT);
+    is("NULL for a message", verify(keys, n, NULL, 0, COSE_TAGGED, NULL, 1).status, COSE_BAD_ARGUMENT);
+    is("much data", verify(keys, n, much, 65535, COSE_TAGGED, mac0, m).reason, COSE_REASON_BAD_AUTH);
+    is("too much data", verify(keys, n, much, 65536, COSE_TAGGED, mac0, m).status, COSE_AAD_TOO_LONG);
+    for (unsigned wanted = 1; wanted < 256; wanted++)
+        if (wanted != COSE_MAC0 && wanted != COSE_SIGN1)
+            is("wanted", verify(keys, n, NULL, 0, (uint8_t)wanted, mac0, m).status, COSE_BAD_ARGUMENT);
+    struct cose_shape shape;
+    cose_shape(1, mac0, m, &shape);
+    is("the shape of a kind that isn't", shape.status, COSE_BAD_ARGUMENT);
+    cose_shape(COSE_TAGGED, NULL, 0, &shape);
+    is("the shape of no bytes", shape.reason, COSE_REASON_TRUNCATED);
+    struct cose_key_set key_set;
+    cose_read_keys(NULL, 0, &key_set);
+    is("a key set of no bytes", key_set.status, COSE_KEYS_REFUSED);
+}
+
+static void claims(void)
+{
+    static const uint8_t aud[] = {0xa1, 0x03, 0x61, 'a'};
+    struct cose_policy policy = {0, 0, 0, NULL, 0};
+    struct cose_claims found;
+    struct cose_range audience;
+    cose_claims(aud, sizeof aud, &policy, &found);
+    is("any audience", found.status, COSE_AUTHENTIC);
+    policy.has_audience = 255;
+    cose_claims(aud, sizeof aud, &policy, &found);
+    is("an empty audience", found.reason, COSE_REASON_WRONG_AUDIENCE);
+    policy.audience_length = 1;
+    cose_claims(aud, sizeof aud, &policy, &found);
+    is("NULL for an audience", found.status, COSE_BAD_ARGUMENT);
+    policy.audience = (const uint8_t *)"\xff";
+    cose_claims(aud, sizeof aud, &policy, &found);
+    is("an audience that isn't UTF-8", found.status, COSE_BAD_AUDIENCE);
+    cose_claims(NULL, 0, &policy, &found);
+    is("no claims", found.status == COSE_AUTHENTIC, 0);
+    for (uint64_t index = 1; index != 0; index <<= 1) {
+        cose_audience(aud, sizeof aud, index, &audience);
+        is("an audience that isn't there", audience.present, 0);
+    }
+    cose_audience(NULL, 0, 0, &audience);
+    is("the audience of no bytes", audience.present, 0);
+}
+
+/* A block without keys. */
+static void closed(struct cose_verifier *verifier)
+{
+    struct cose_fed fed;
+    struct cose_status status;
+    struct cose_verdict verdict;
+    struct cose_sign_input input;
+    cose_feed(verifier, mac0, sizeof mac0, &fed);
+    is("closed: feed", fed.status.status, COSE_CLOSED);
+    is("closed: used", fed.used, 0);
+    cose_end(verifier, &status);
+    is("closed: end", status.status, COSE_CLOSED);
+    cose_verdict(verifier, 1, &verdict);
+    is("closed: verdict", verdict.status, COSE_CLOSED);
+    is("closed: sign_input", cose_sign_input(verifier, &input), 0);
+    is("closed: feed_payload", cose_feed_payload(verifier, mac0, 1), 0);
+    is("closed: wanted", cose_wanted(verifier) + cose_payload_wanted(verifier) + cose_taken(verifier), 0);
+    cose_reset(verifier);
+}
+
+static uint8_t opened(struct cose_verifier *verifier, const uint8_t *set, size_t length, uint8_t wanted)
+{
+    struct cose_status status;
+    cose_open(verifier, set, length, NULL, 0, wanted, &status);
+    return status.status;
+}
+
+static void blocks(void)
+{
+    struct cose_verifier verifier = {block};
+    struct cose_fed fed;
+    is("the size of a verifier", cose_verifier_size() <= sizeof block && cose_verifier_align() <= 64, 1);
+    memset(block, 0xee, sizeof block);
+    cose_begin(block);
+    closed(&verifier);
+    is("open: NULL", opened(&verifier, NULL, 1, COSE_TAGGED), COSE_BAD_ARGUMENT);
+    is("open: no keys", opened(&verifier, NULL, 0, COSE_TAGGED), COSE_KEYS_REFUSED);
+    closed(&verifier);
+    is("open", opened(&verifier, keys, sizeof keys, COSE_TAGGED), COSE_MORE);
+    is("open: wanted", opened(&verifier, keys, sizeof keys, 1), COSE_BAD_ARGUMENT);
+    closed(&verifier);
+    is("open", opened(&verifier, keys, sizeof keys, COSE_TAGGED), COSE_MORE);
+    cose_feed(&verifier, NULL, 0, &fed);
+    is("feed: no bytes", fed.status.status, COSE_MORE);
+    is("feed_payload: not wanted", cose_feed_payload(&verifier, mac0, 1), 0);
+    cose_feed(&verifier, mac0, sizeof mac0, &fed);
+    is("feed", fed.status.status, COSE_COMPLETE);
+    cose_feed(&verifier, mac0, sizeof mac0, &fed);
+    is("feed: after the end", fed.used, 0);
+}
+
+/* Of all numbers 1 alone says that a signature is good. */
+static void signatures(void)
+{
+    static const int32_t numbers[] = {0, -1, 2, 255, 256, 257, INT32_MIN, INT32_MAX, 1};
+    struct cose_verifier verifier = {block};
+    struct cose_verdict verdict;
+    struct cose_fed fed;
+    cose_begin(block);
+    memcpy(point + 40, "\x22\x58\x20", 3);
+    is("open: a point", opened(&verifier, point, 75, COSE_TAGGED), COSE_MORE);
+    for (size_t index = 0; index < sizeof numbers / sizeof *numbers; index++) {
+        cose_feed(&verifier, sign1, sizeof sign1, &fed);
+        cose_verdict(&verifier, numbers[index], &verdict);
+        is("a signature", verdict.status, numbers[index] == 1 ? COSE_AUTHENTIC : COSE_REFUSED);
+        cose_verdict(&verifier, 1, &verdict);
+        is("the verdict again", verdict.status, numbers[index] == 1 ? COSE_AUTHENTIC : COSE_REFUSED);
+        cose_reset(&verifier);
+    }
+}
+
+static void tables(void)
+{
+    struct cose_table table = {block};
+    struct cose_key_set key_set;
+    struct cose_verdict verdict;
+    struct cose_sign_input input;
+    is("the size of a table", cose_table_size() <= sizeof block && cose_table_align() <= 64, 1);
+    cose_table_begin(block);
+    cose_table_verify(&table, NULL, 0, COSE_TAGGED, mac0, sizeof mac0, &verdict, &input);
+    is("a table without keys", verdict.status, COSE_CLOSED);
+    cose_table_read(&table, keys, sizeof keys, &key_set);
+    cose_table_verify(&table, NULL, 0, COSE_TAGGED, mac0, sizeof mac0, &verdict, &input);
+    is("a table", verdict.status, COSE_AUTHENTIC);
+    cose_table_verify(&table, NULL, 0, 1, mac0, sizeof mac0, &verdict, &input);
+    is("a table: wanted", verdict.status, COSE_BAD_ARGUMENT);
+    cose_table_read(&table, NULL, 0, &key_set);
+    is("a table: no keys", key_set.status, COSE_KEYS_REFUSED);
+    cose_table_verify(&table, NULL, 0, COSE_TAGGED, mac0, sizeof mac0, &verdict, &input);
+    is("a table after refused keys", verdict.status, COSE_CLOSED);
+}
+
+int main(void)
+{
+    one_call();
+    claims();
+    blocks();
+    signatures();
+    tables();
+    printf("%d failed\n", failures);
+    return failures != 0;
+}
