@@ -124,6 +124,8 @@ def main(words: Optional[List[str]] = None) -> int:
     arguments = _parser().parse_args(words)
     try:
         return _run(arguments)
+    except cose.SignatureUnverified:
+        print("cose: to verify signatures, install the package 'cryptography'", file=sys.stderr)
     except (cose.Error, OSError, ValueError) as error:
         print(f"cose: {error}", file=sys.stderr)
     except Exception:  # its own status is that of a refusal

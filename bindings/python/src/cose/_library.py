@@ -22,7 +22,7 @@ from ctypes import (
     c_void_p,
 )
 from types import SimpleNamespace
-from typing import Any, Dict, Iterator, Tuple
+from typing import Any, Dict, Iterator, NoReturn, Tuple
 
 from .errors import LibraryNotFound
 
@@ -226,12 +226,16 @@ def _large(name: str) -> str:
 
 
 def _bind(library: ctypes.CDLL, name: str, prototype: Tuple[Tuple[Any, ...], Any]) -> Any:
+    """A call of the library. Where it lacks one, the rest still serves, and the call raises."""
     try:
         function = getattr(library, f"cose_{name}")
     except AttributeError:
-        raise LibraryNotFound(
-            f"{library._name} has no cose_{name}: it is of another version than this package"
-        ) from None
+        problem = f"{library._name} has no cose_{name}: it is of another version than this package"
+
+        def missing(*_: object) -> NoReturn:
+            raise LibraryNotFound(problem)
+
+        return missing
     function.argtypes, function.restype = prototype
     return function
 

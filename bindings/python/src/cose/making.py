@@ -10,21 +10,24 @@ from ._arguments import Buffer, bytes_of, number_of
 from ._library import Block, MadeStruct, Status, small
 from .reasons import Reason
 
-# the most bytes before and after a payload
-_HEAD, _TAIL = 384, 70
+# room for what precedes and what follows a payload
+_HEAD, _TAIL = 384, 128
+
+
+_WHY = {
+    Status.MORE: "bytes of the payload are to come",
+    Status.AAD_TOO_LONG: "aad has more than 65,535 bytes",
+    Status.CLOSED: "no message is being made",
+    Status.BAD_ARGUMENT: "kid has more than 255 bytes, or the payload 2^56 or more",
+}
 
 
 def _fail(made: MadeStruct) -> NoReturn:
     """Raises why no message is made."""
     status = Status(made.status)
-    if status == Status.KEYS_REFUSED:
+    if status == Status.KEYS_REFUSED and made.reason:
         raise ValueError(f"the key is refused: {Reason(made.reason).name}")
-    if status == Status.AAD_TOO_LONG:
-        raise ValueError("aad has more than 65,535 bytes")
-    raise ValueError(
-        "the key isn't one that makes messages with this algorithm, kid has more than 255 bytes,"
-        " or the payload isn't as long as it was said to be"
-    )
+    raise ValueError(_WHY.get(status, "the key makes no MAC with this algorithm"))
 
 
 class Maker:
