@@ -7,6 +7,7 @@ pub mod Makings
 pub mod PayloadFiles
 pub mod Replies
 pub mod Shows
+pub mod Stated
 pub mod Trailing
 pub mod Vouches
 pub mod WorkedAdmitted

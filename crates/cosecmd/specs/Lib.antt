@@ -1,9 +1,11 @@
 pub mod Admitted
 pub mod Faults
+pub mod Input
 pub mod Job
 pub mod Payload
 pub mod PayloadFile
 pub mod Printed
+pub mod Stated
 pub mod Vouch
 pub mod Words
 pub mod WriteSink
