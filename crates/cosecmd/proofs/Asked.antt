@@ -1,6 +1,7 @@
 -- The job of some arguments prints what they ask for.
-use Rattle.std.proofs.Common.{◌≡◌, ℕ, ℤ, List, Option, Some, Bor, length, option_map, take, refl, subst}
+use Rattle.std.proofs.Common.{◌≡◌, ℕ, ℤ, List, Option, Some, Bor, length, option_map, take, refl, subst, arith}
 use Rattle.std.proofs.Math.Seq.{take-length}
+use Rattle.std.proofs.lemmas.Bool.{le-ltb}
 use Rattle.cose_map.specs.Key.View.{contents}
 use Rattle.cose_msg.specs.declared.context.Wanted.{Wanted}
 use Rattle.cosecmd.specs.declared.job.Job.TheVariants.{Show, Verify, Cwt, Digest, Make}
@@ -11,7 +12,8 @@ use Rattle.cosecmd.specs.declared.request.Request.{Request}
 use Rattle.cosecmd.specs.declared.request.Request.TheVariants as asks
 use Rattle.cosecmd.specs.declared.request.Verify.{Verify as VerifyWords}
 use Rattle.cosecmd.specs.declared.job.FileJob.{FileJob}
-use Rattle.cosecmd.specs.Printed.{EndsWith, Output, printed, verified_with}
+use Rattle.cosecmd.specs.Printed.{EndsWith, Output, printed}
+use Rattle.cosecmd.specs.Stated.{verified_from}
 use Rattle.cosecmd.specs.Words.{admitted_for, asked_for, digested_for, made_for, verified_for}
 
 -- A run that ends with one output ends with an equal one.
@@ -47,5 +49,5 @@ show_words request wanted payload bytes is = rw is refl
 -- ---- a payload in a file
 
 pub file_words : (words : VerifyWords) (job : FileJob) (payload bytes : List ℕ) → job.keys.now ≡ words.keys.items → job.aad.now ≡ words.aad.items → job.wanted ≡ words.wanted →
-    option_map contents job.vouch ≡ option_map (λ word. word.items) words.vouch → job.length ≡ length payload → verified_with job (take job.length payload) bytes ≡ verified_for words (Some payload) bytes
-file_words words job payload bytes k a w v n = rw (k, a, w, v, n, take-length payload) refl
+    option_map contents job.vouch ≡ option_map (λ word. word.items) words.vouch → job.length ≡ length payload → verified_from job payload bytes ≡ verified_for words (Some payload) bytes
+file_words words job payload bytes k a w v n = rw (k, a, w, v, n, le-ltb (length payload) (length payload) (omega arith), take-length payload) refl

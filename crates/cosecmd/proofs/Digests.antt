@@ -65,7 +65,7 @@ module _ (stays : MessageStays) (rules : Rules) where
   by_settled taken rest false s ends = ap (λ (r : List ℕ). message rules (taken ++ r)) (ends s) ∙ ap (message rules) (append-nil taken)
 
   -- The reading of the bytes taken is that of all bytes, where no byte was left unless the bytes taken settled it.
-  all_come_to : (bytes taken rest : List ℕ) → bytes ≡ taken ++ rest → ((message rules taken).settled ≡ false → rest ≡ []) → message rules bytes ≡ message rules taken
+  pub all_come_to : (bytes taken rest : List ℕ) → bytes ≡ taken ++ rest → ((message rules taken).settled ≡ false → rest ≡ []) → message rules bytes ≡ message rules taken
   all_come_to bytes taken rest whole ends = ap (message rules) whole ∙ by_settled taken rest (message rules taken).settled refl ends
 
 -- Where no byte before the last settled it, a message that is complete ends with the bytes.

@@ -9,6 +9,7 @@ pub mod Options
 pub mod PayloadFiles
 pub mod Replies
 pub mod Shows
+pub mod Stated
 pub mod Trailing
 pub mod Vouches
 pub mod WorkedAdmitted

@@ -1,10 +1,10 @@
 -- What is read of a payload's file: its bytes in their order, as many as are stated.
-use Rattle.std.proofs.Common.{◌≡◌, ℕ, ◌<◌, ◌≤◌, ◌-◌, ◌+◌, Bool, true, false, List, ◌++◌, take, length, Option, Some, None, nat_lt, refl, ap, ◌∙◌, arith, length-append}
+use Rattle.std.proofs.Common.{◌≡◌, ℕ, ◌<◌, ◌≤◌, ◌-◌, ◌+◌, ◌^◌, ◌&&◌, ◌==◌, Bool, true, false, List, ◌++◌, take, length, Option, Some, None, nat_lt, refl, sym, ap, ◌∙◌, arith, append_assoc, length-append}
 use Rattle.std.specs.Io.KnownBytes.{Consumes, IsAtEnd}
-use Rattle.std.proofs.lemmas.Bool.{le-ltb, ltb-false}
+use Rattle.std.proofs.lemmas.Bool.{eqb-true, le-ltb, lt-ltb, ltb-false, ltb-true}
 use Rattle.std.proofs.lemmas.List.{length-take-le, take-append-le}
 use Rattle.std.proofs.Math.Seq.{take-append-add}
-use Rattle.cosecmd.specs.PayloadFile.{counted}
+use Rattle.cosecmd.specs.PayloadFile.{counted, never}
 
 -- One read took the next bytes.
 next_of : (left count : ℕ) (bytes rest piece : List ℕ) → count ≤ left → length piece ≡ count → bytes ≡ piece ++ rest → take left bytes ≡ piece ++ take (left - count) rest
@@ -14,7 +14,11 @@ next_of left count bytes rest piece fits n whole =
 
 read_by : (left count : ℕ) (bytes rest piece : List ℕ) (short : Bool) → nat_lt (length bytes) left ≡ short → count ≤ left → length piece ≡ count → bytes ≡ piece ++ rest →
     Consumes (counted left (Some bytes)) (counted (left - count) (Some rest)) piece
-read_by left count bytes rest piece true e fits n whole = rw e tt
+read_by left count bytes rest piece true e fits n whole =
+    let fewer : length bytes < left = ltb-true (length bytes) left e in
+    let total : length bytes ≡ length piece + length rest = ap (λ (b : List ℕ). length b) whole ∙ length-append piece rest in
+    let left_fewer : length rest < left - count = omega (arith, fewer, total, n, fits) in
+    rw (e, lt-ltb (length rest) (left - count) left_fewer) (ap (λ (b : List ℕ). b ++ never (2 ^ 65)) whole ∙ append_assoc piece rest (never (2 ^ 65)))
 read_by left count bytes rest piece false e fits n whole =
     let enough : left ≤ length bytes = let f = ltb-false (length bytes) left e in omega (arith, f) in
     let total : length bytes ≡ length piece + length rest = ap (λ (b : List ℕ). length b) whole ∙ length-append piece rest in
@@ -31,3 +35,8 @@ pub read_into : (left count : ℕ) (old new : Option (List ℕ)) (filled behind 
     Consumes (counted left old) (counted (left - count) new) (take count (filled ++ behind)) × (count ≡ 0 → IsAtEnd (counted (left - count) new))
 read_into left count old new filled behind fits within some consumes = rw (take-append-le count filled behind within)
     (one_read left count old new (take count filled) fits (length-take-le count filled within) consumes, λ none. absurd (omega (arith, none, some)))
+
+-- It ends only after all of the stated bytes.
+pub ends_whole : (ended : Bool) (left : ℕ) → (ended && (left == 0)) ≡ true → left ≡ 0
+ends_whole true left e = eqb-true left 0 e
+ends_whole false left e = absurd cc

@@ -1,5 +1,5 @@
 -- A reply with the verdict of an input.
-use Rattle.std.proofs.Common.{◌≡◌, ℕ, ◌<◌, List, Option, Result, Ok, sym, ap, subst, ◌∙◌, arith}
+use Rattle.std.proofs.Common.{◌≡◌, ℕ, ◌<◌, List, Option, Some, Result, Ok, ◌⊎◌, inl, inr, refl, sym, ap, subst, ◌∙◌, arith}
 use Rattle.std.specs.Prelude.{IfOk}
 use Rattle.std.specs.Io.KnownBytes.{Appends}
 use Rattle.cose_map.specs.Key.Value.{KeyValue}
@@ -10,7 +10,10 @@ use Rattle.cose_msg.specs.Answer.{decided}
 use Rattle.cosecmd.specs.declared.reply.Reply.{Reply}
 use Rattle.cosecmd.specs.declared.reply.Status.{Status}
 use Rattle.cosecmd.specs.declared.reply.Status.TheVariants as statuses
-use Rattle.cosecmd.specs.Printed.{Output, Prints, Says, code_of, input_answer, output_of, program_setting, said_of, verified_under, with_payload}
+use Rattle.cosecmd.specs.declared.fault.Fault.{Fault}
+use Rattle.cosecmd.specs.declared.fault.Fault.TheVariants as faults
+use Rattle.cosecmd.specs.Faults.{WritesLine}
+use Rattle.cosecmd.specs.Printed.{Fails, Output, Prints, Says, WritesPart, code_of, input_answer, output_of, program_setting, said_of, verified_under, with_payload}
 use Rattle.cosecmd.specs.Vouch.{vouching}
 
 pub says_verified : {F : Type 0} (set : Read (List KeyValue)) (keys : List KeyValue) (aad : List ℕ) (wanted : Wanted) (vouch payload : Option (List ℕ)) (bytes : List ℕ) (verdict : Verdict) (reply : Result Reply F) →
@@ -26,3 +29,25 @@ pub ends_so : (old new : Option (List ℕ)) (output : Output) (status : Status) 
 ends_so old new output statuses.Done prints well = let done = prints (λ e. absurd cc) in (ap code_of done.0, done.1)
 ends_so old new output statuses.Refused prints well = let done = prints (λ e. absurd cc) in (ap code_of done.0, done.1)
 ends_so old new output statuses.Fault prints well = absurd (omega (arith, well))
+
+pub is_fault : (status : Status) → code_of status ≡ 2 → status ≡ statuses.Fault
+is_fault statuses.Done e = absurd cc
+is_fault statuses.Refused e = absurd cc
+is_fault statuses.Fault e = refl
+
+-- What is written of a text is written of an equal output.
+pub part_fails : (old new : Option (List ℕ)) (text : List ℕ) (status : Status) (said : Output) → text ≡ said.text → status ≡ said.status →
+    WritesPart text old new ⊎ ((status ≡ statuses.Fault) × Appends old new text) → Fails said old new
+part_fails old new text status said same_text same_status (inl part) = inr (inl (subst (λ (t : List ℕ). WritesPart t old new) same_text part))
+part_fails old new text status said same_text same_status (inr (is, grown)) = inr (inr (sym same_status ∙ is, subst (λ (t : List ℕ). Appends old new t) same_text grown))
+
+pub line_fails : (old new : Option (List ℕ)) (fault : Fault) (said : Output) → WritesLine fault old new ⊎ WritesLine faults.Memory old new → Fails said old new
+line_fails old new fault said (inl line) = inl (fault, line)
+line_fails old new fault said (inr line) = inl (faults.Memory, line)
+
+-- The fault of the arguments of `make` is the one that is printed, before which nothing was written.
+pub made_line : (old mid new : Option (List ℕ)) (made fault : Fault) (status : Status) → Some made ≡ Some fault → mid ≡ old → status ≡ statuses.Fault →
+    WritesLine made mid new ⊎ WritesLine faults.Memory mid new → (status ≡ statuses.Fault) × (WritesLine fault old new ⊎ WritesLine faults.Memory old new)
+made_line old mid new made fault status same kept is line =
+    let one : made ≡ fault = cc in
+    (is, subst (λ (f : Fault). WritesLine f old new ⊎ WritesLine faults.Memory old new) one (subst (λ (o : Option (List ℕ)). WritesLine made o new ⊎ WritesLine faults.Memory o new) kept line))

@@ -3,6 +3,7 @@ use Rattle.std.proofs.Common.{◌≡◌, ℕ, List, [], ◌∷◌, ◌++◌, tak
 use Rattle.std.specs.Io.KnownBytes.{Appends}
 use Rattle.std.proofs.KnownBytes.{Appends-nil, Appends-trans}
 use Rattle.cose_msg.specs.Sink.{AppendsFront}
+use Rattle.cosecmd.specs.Printed.{WritesPart}
 use Rattle.cosecmd.specs.WriteSink.{held_through}
 
 -- Of the piece all but the rest is written.
@@ -30,6 +31,12 @@ all_written {piece} {old} {now} rest none w =
 
 pub front_written : {piece : List ℕ} {old now : Option (List ℕ)} {rest : List ℕ} → Written piece old now rest → AppendsFront old now piece
 front_written {piece} {old} {now} {rest} w = (w.front, (rest, w.whole), w.grown)
+
+pub whole_front : (old now : Option (List ℕ)) (bytes : List ℕ) → Appends old now bytes → AppendsFront old now bytes
+whole_front old now bytes grown = (bytes, ([], sym (append-nil bytes)), grown)
+
+pub part_front : (old now : Option (List ℕ)) (bytes : List ℕ) → WritesPart bytes old now → AppendsFront old now bytes
+part_front old now bytes w = (w.front, (w.rest, w.whole), w.grown)
 
 -- What a sink holds through one reference grows as the writer does.
 pub grown_through : (old new : Option (List ℕ)) (bytes : List ℕ) (old_name name : ℕ) → name ≡ old_name → Appends old new bytes → Appends (held_through old_name old) (held_through name new) bytes

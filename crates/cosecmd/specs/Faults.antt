@@ -1,13 +1,19 @@
--- Which fault a run ends with.
-use Rattle.std.specs.Prelude.{◌≡◌, ℕ, Bool, true, false, List, Option, Some, None, Result, Ok, Err, ⊤}
+-- Which fault a run ends with, and the line that is printed for it.
+use Rattle.std.specs.Prelude.{◌≡◌, ℕ, Bool, true, false, List, ◌++◌, Option, Some, None, Result, Ok, Err, ⊤, codes, option_map}
+use Rattle.cose_head.specs.Refusal.{refusal_text}
 use Rattle.cose_head.specs.declared.algorithm.Alg.{Alg}
 use Rattle.cose_map.specs.Key.Value.{KeyValue}
 use Rattle.cose_map.specs.Map.Read.{Read}
 use Rattle.cose_msg.specs.declared.make.MakeFault.{MakeFault}
 use Rattle.cose_msg.specs.declared.make.MakeFault.TheVariants as makes
 use Rattle.cose_msg.specs.Make.{make_fault}
+use Rattle.cose_msg.specs.Sink.{AppendsFront}
+use Rattle.cose_map.specs.Key.{key_of}
+use Rattle.cose_map.specs.Key.View.{contents}
 use Rattle.cosecmd.specs.declared.fault.Fault.{Fault}
 use Rattle.cosecmd.specs.declared.fault.Fault.TheVariants as faults
+use Rattle.cosecmd.specs.declared.job.Job.{Job}
+use Rattle.cosecmd.specs.declared.job.Job.TheVariants.{Show, Verify, Cwt, Digest, Make}
 
 -- Whether the fault says that the input failed.
 abbrev pub is_of_input : Fault → Bool
@@ -45,3 +51,26 @@ fault_of_arguments _ = None
 abbrev pub fault_of_making : Read KeyValue → Alg → Option (List ℕ) → List ℕ → ℕ → Option Fault
 fault_of_making (Ok key) alg kid aad payload_length = fault_of_arguments (make_fault alg key kid aad payload_length)
 fault_of_making (Err refusal) alg kid aad payload_length = Some (faults.Key refusal)
+
+-- The fault of the key or of the other arguments of a job that makes a message.
+abbrev pub making_fault : Job → Option Fault
+making_fault (Make alg key payload_length kid aad) =
+    fault_of_making (key_of (record { bytes = key.now; place = 0 })) alg (option_map contents kid) aad.now payload_length
+making_fault (Show wanted) = None
+making_fault (Verify keys aad wanted vouch payload) = None
+making_fault (Cwt keys aad wanted vouch now leeway aud) = None
+making_fault (Digest keys aad) = None
+
+abbrev pub fault_text : Fault → List ℕ
+fault_text faults.Memory = codes "fault memory"
+fault_text (faults.Line option) = codes "fault line " ++ option.now
+fault_text (faults.File option) = codes "fault file " ++ option.now
+fault_text (faults.Keys refusal) = codes "fault keys " ++ refusal_text refusal
+fault_text (faults.Key refusal) = codes "fault key " ++ refusal_text refusal
+fault_text faults.WrongKey = codes "fault make WrongKey"
+fault_text faults.TooLong = codes "fault make TooLong"
+fault_text faults.Input = codes "fault input"
+
+-- The line of a fault was written; where the writer failed, a prefix of it.
+abbrev pub WritesLine : Fault → Option (List ℕ) → Option (List ℕ) → Type 0
+WritesLine fault old new = AppendsFront old new (fault_text fault ++ codes "\n")

@@ -1,5 +1,5 @@
--- The externally supplied data of a job.
-use Rattle.std.specs.Prelude.{ℕ, List, []}
+-- The externally supplied data of a job, and whether it makes a message.
+use Rattle.std.specs.Prelude.{ℕ, Bool, true, false, List, []}
 use Rattle.cosecmd.specs.declared.job.Job.{Job}
 use Rattle.cosecmd.specs.declared.job.Job.TheVariants.{Show, Verify, Cwt, Digest, Make}
 
@@ -9,3 +9,10 @@ aad_of (Verify keys aad wanted vouch payload) = aad.now
 aad_of (Cwt keys aad wanted vouch now leeway aud) = aad.now
 aad_of (Digest keys aad) = aad.now
 aad_of (Make alg key length kid aad) = aad.now
+
+abbrev pub is_make : Job → Bool
+is_make (Make alg key length kid aad) = true
+is_make (Show wanted) = false
+is_make (Verify keys aad wanted vouch payload) = false
+is_make (Cwt keys aad wanted vouch now leeway aud) = false
+is_make (Digest keys aad) = false

@@ -2,11 +2,13 @@ pub mod Admitted
 pub mod CommandLine
 pub mod Faults
 pub mod Fields
+pub mod Input
 pub mod Job
 pub mod Options
 pub mod Payload
 pub mod PayloadFile
 pub mod Printed
+pub mod Stated
 pub mod Vouch
 pub mod Words
 pub mod WriteSink

@@ -1,5 +1,5 @@
 -- What the program prints for a job and an input, and how it ends.
-use Rattle.std.specs.Prelude.{◌≡◌, ◌≢◌, ℕ, ◌<◌, ◌-◌, ◌^◌, true, List, [], ◌∷◌, ◌++◌, length, map, take, Option, Some, None, Ok, Err, option_map, codes, string_bytes, nat_lt, if◌then◌else◌}
+use Rattle.std.specs.Prelude.{◌≡◌, ◌≢◌, ◌⊎◌, ℕ, ◌<◌, ◌-◌, ◌^◌, true, List, [], ◌∷◌, ◌++◌, length, map, take, Option, Some, None, Ok, Err, option_map, codes, string_bytes, nat_lt, if◌then◌else◌}
 use Rattle.std.specs.List.{concat}
 use Rattle.std.specs.Fmt.{decimal, signed_decimal}
 use Rattle.std.specs.Io.KnownBytes.{Appends}
@@ -35,6 +35,8 @@ use Rattle.cose_cwt.specs.Admission.{PolicyValue}
 use Rattle.cose_cwt.specs.Claims.Audience.{text_value}
 use Rattle.cose_cwt.specs.Token.{Outcome}
 use Rattle.cosecmd.specs.Admitted.{input_token, outcome_status, outcome_text, program_policy}
+use Rattle.cosecmd.specs.Faults.{WritesLine}
+use Rattle.cosecmd.specs.declared.fault.Fault.{Fault}
 use Rattle.cosecmd.specs.declared.job.FileJob.{FileJob}
 use Rattle.cosecmd.specs.declared.job.Job.{Job}
 use Rattle.cosecmd.specs.declared.job.Job.TheVariants.{Show, Verify, Cwt, Digest, Make}
@@ -240,7 +242,7 @@ made_under (Ok key) alg payload_length kid aad bytes =
 made_under (Err refusal) alg payload_length kid aad bytes = fault_of_key refusal
 
 -- What is printed for a job, where the input is these bytes. A text of status Fault is what the program's documents
--- say; no clause requires a run that ends so to print it.
+-- say; no clause requires a run that ends so to print all of it.
 unfoldable pub printed : Job → List ℕ → Output
 printed (Show wanted) bytes = shown wanted bytes
 printed (Verify keys aad wanted vouch payload) bytes =
@@ -263,3 +265,17 @@ Prints output old new status = status ≢ statuses.Fault → (status ≡ output.
 -- A run that ends with this exit status: unless there is a fault, it wrote this output, and ended with its status.
 abbrev pub EndsWith : Output → Option (List ℕ) → Option (List ℕ) → ℕ → Type 0
 EndsWith output old new status = status < 2 → (status ≡ code_of output.status) × Appends old new output.text
+
+-- A prefix of these bytes was written, and not all of them.
+pub record WritesPart (bytes : List ℕ) (old new : Option (List ℕ)) : Type 0 where
+  pub front : List ℕ
+  pub rest : List ℕ
+  pub whole : bytes ≡ front ++ rest
+  pub some : rest ≢ []
+  pub grown : Appends old new front
+
+-- What a run has written that ends with status Fault, where this is its output unless there is a fault: the line of a
+-- fault, or a part of the output. All of the output only where its own status is Fault.
+abbrev pub Fails : Output → Option (List ℕ) → Option (List ℕ) → Type 0
+Fails output old new =
+    ((fault : Fault) × WritesLine fault old new) ⊎ (WritesPart output.text old new ⊎ ((output.status ≡ statuses.Fault) × Appends old new output.text))

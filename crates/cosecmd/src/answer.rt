@@ -1,8 +1,10 @@
 //! What the program answers to a job, over any reader and writer.
 
-ghost use Rattle.std.specs.Prelude.{◌≡◌, ◌≤◌, ℕ, List, Some, length as length_of, take};
-ghost use Rattle.cosecmd.specs.Job.{aad_of};
-ghost use Rattle.cosecmd.specs.Printed.{EndsWith, Prints, printed, verified_with};
+ghost use Rattle.std.specs.Prelude.{◌≡◌, ◌≤◌, ◌⊎◌, ℕ, false, List, Some, length as length_of};
+ghost use Rattle.cosecmd.specs.Faults.{WritesLine, making_fault};
+ghost use Rattle.cosecmd.specs.Job.{aad_of, is_make};
+ghost use Rattle.cosecmd.specs.Printed.{EndsWith, Fails, Prints, printed};
+ghost use Rattle.cosecmd.specs.Stated.{verified_from};
 
 mod cwt;
 mod digest;
@@ -10,6 +12,7 @@ mod make;
 mod show;
 mod verify;
 
+use crate::fault::Fault;
 use crate::job::{FileJob, Job};
 use crate::print::{print_fault, print_reply};
 use crate::reply::Status;
@@ -27,6 +30,13 @@ fn status_of<R: Read, W: Write>(alloc: Global, job: &Job, input: &mut R, output:
     requires external { length_of (aad_of job.now) ≤ 65535 }
     ensures prints { (bytes : List ℕ) → R.remaining input.old ≡ Some bytes
         → Prints (printed job.now bytes) (W.contents output.old) (W.contents output.new) result }
+    ensures fails { (bytes : List ℕ) → R.remaining input.old ≡ Some bytes → is_make job.now ≡ false
+        → result ≡ Status.Fault
+        → Fails (printed job.now bytes) (W.contents output.old) (W.contents output.new) }
+    ensures unread { (fault : Fault) → making_fault job.now ≡ Some fault → input.new ≡ input.old }
+    ensures line { (fault : Fault) → making_fault job.now ≡ Some fault → (result ≡ Status.Fault)
+        × (WritesLine fault (W.contents output.old) (W.contents output.new)
+        ⊎ WritesLine Fault.Memory (W.contents output.old) (W.contents output.new)) }
 {
     match job {
         Job::Show { wanted } => {
@@ -89,6 +99,17 @@ pub fn answer<R: Read, W: Write>(alloc: Global, job: &Job, input: &mut R, output
     // status.
     ensures printed { (bytes : List ℕ) → R.remaining input.old ≡ Some bytes →
         EndsWith (printed job.now bytes) (W.contents output.old) (W.contents output.new) result }
+    // With status 2 it prints the line of a fault, or a part of either, where the output fails. `make` may have begun the
+    // message.
+    ensures fails { (bytes : List ℕ) → R.remaining input.old ≡ Some bytes → is_make job.now ≡ false
+        → result ≡ 2
+        → Fails (printed job.now bytes) (W.contents output.old) (W.contents output.new) }
+    // Where the key or another argument of `make` is at fault, it reads nothing, and prints the line of this fault, unless
+    // there is no memory for it.
+    ensures unread { (fault : Fault) → making_fault job.now ≡ Some fault → input.new ≡ input.old }
+    ensures line { (fault : Fault) → making_fault job.now ≡ Some fault → (result ≡ 2)
+        × (WritesLine fault (W.contents output.old) (W.contents output.new)
+        ⊎ WritesLine Fault.Memory (W.contents output.old) (W.contents output.new)) }
 {
     status_of(alloc, job, input, output).code()
 }
@@ -107,11 +128,15 @@ pub fn answer_with_payload_file<P: Read, R: Read, W: Write>(
     requires external { length_of job.now.aad.now ≤ 65535 }
     ensures status { result ≤ 2 }
     // Unless there is a fault, it prints the output for the stated bytes of the payload and all that the input gives, and
-    // ends with its status.
-    ensures printed { (bytes more : List ℕ) → R.remaining input.old ≡ Some bytes →
-        P.remaining payload.old ≡ Some more → job.now.length ≤ length_of more →
-        EndsWith (verified_with job.now (take job.now.length more) bytes) (W.contents output.old)
+    // ends with its status. Where the reader has fewer bytes, and the message wants them, there is a fault.
+    ensures printed { (bytes content : List ℕ) → R.remaining input.old ≡ Some bytes →
+        P.remaining payload.old ≡ Some content →
+        EndsWith (verified_from job.now content bytes) (W.contents output.old)
         (W.contents output.new) result }
+    ensures fails { (bytes content : List ℕ) → R.remaining input.old ≡ Some bytes →
+        P.remaining payload.old ≡ Some content → result ≡ 2
+        → Fails (verified_from job.now content bytes) (W.contents output.old)
+        (W.contents output.new) }
 {
     let reply = verify_reply_with_file(alloc, job, payload, input);
     print_reply(alloc, reply, output).code()

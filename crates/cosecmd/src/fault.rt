@@ -2,43 +2,56 @@
 //! printed for it.
 
 ghost use Rattle.std.specs.IoError.{error_kind};
-ghost use Rattle.std.specs.Prelude.{◌≡◌, ◌≢◌};
+ghost use Rattle.std.specs.Prelude.{◌≡◌, ◌≢◌, Some};
 
 use cose_msg::Refusal;
 use hex::FromHexError;
 use std::alloc::AllocError;
-use std::io;
+use std::error::Error;
 use std::io::ErrorKind;
-use thiserror::Error;
+use std::{fmt, io};
 
 /// Why a run has no verdict and makes no message. The program ends with status 2.
-#[derive(Debug, Drop, Error)]
+#[derive(Debug, Drop)]
 pub enum Fault {
     /// A request for memory was refused.
-    #[error("fault memory")]
     Memory,
     /// The argument of this option isn't hexadecimal, or is too long.
-    #[error("fault line {0}")]
     Line(&'static str),
     /// The file of this option can't be opened or read, or has more bytes than a key may have.
-    #[error("fault file {0}")]
     File(&'static str),
     /// The key set is refused. The place is relative to the first byte of the set.
-    #[error("fault keys {0}")]
     Keys(Refusal),
     /// The key that is to make a message is refused. The place is relative to the first byte of the key.
-    #[error("fault key {0}")]
     Key(Refusal),
     /// The key doesn't make MACs by the algorithm (RFC 9052 section 7.1).
-    #[error("fault make WrongKey")]
     WrongKey,
     /// The identifier of the key has more than 255 bytes, or another input of the message is too long.
-    #[error("fault make TooLong")]
     TooLong,
     /// The input failed.
-    #[error("fault input")]
     Input,
 }
+
+impl fmt::Display for Fault {
+    ghost use Rattle.cosecmd.specs.Faults.{fault_text};
+
+    ghost output = { λ fault. Some (fault_text fault) };
+
+    fn fmt<W: fmt::Write>(&self, f: &mut fmt::Formatter<W>) -> fmt::Result {
+        match *self {
+            Fault::Memory => write!(f, "fault memory"),
+            Fault::Line(option) => write!(f, "fault line {option}"),
+            Fault::File(option) => write!(f, "fault file {option}"),
+            Fault::Keys(refusal) => write!(f, "fault keys {refusal}"),
+            Fault::Key(refusal) => write!(f, "fault key {refusal}"),
+            Fault::WrongKey => write!(f, "fault make WrongKey"),
+            Fault::TooLong => write!(f, "fault make TooLong"),
+            Fault::Input => write!(f, "fault input"),
+        }
+    }
+}
+
+impl Error for Fault {}
 
 impl From<AllocError> for Fault {
     ghost use Rattle.cosecmd.specs.declared.fault.Fault.{Fault};
@@ -46,7 +59,7 @@ impl From<AllocError> for Fault {
     ghost from_gives = { λ _ fault. fault ≡ Fault.Memory };
 
     fn from(_: AllocError) -> Fault {
-        Fault::Memory
+        Self::Memory
     }
 }
 

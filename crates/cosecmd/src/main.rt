@@ -10,6 +10,7 @@ mod answer;
 mod commands;
 mod fault;
 mod files;
+mod input;
 mod job;
 mod line;
 mod mistake;

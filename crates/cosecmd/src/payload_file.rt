@@ -1,6 +1,6 @@
 //! The bytes of a payload that is in a file, whose length is stated.
 
-ghost use Rattle.std.specs.Prelude.{◌≡◌, ◌<◌, ◌≤◌, ◌+◌, IfOk, false, length, true};
+ghost use Rattle.std.specs.Prelude.{◌≡◌, ◌<◌, ◌≤◌, ◌+◌, ◌&&◌, ◌==◌, IfOk, false, length, true};
 ghost use Rattle.cose_msg.specs.Intake.{Takes, is_end, marks};
 
 use cose_msg::{Intake, IntakeFault};
@@ -14,6 +14,7 @@ pub struct PayloadFile<R> {
     left: u64,
     failed: bool,
     ended: bool,
+    ghost in_range: { left < 18446744073709551616 },
 }
 
 impl<R: Read> PayloadFile<R> {
@@ -54,12 +55,12 @@ impl<R: Read> PayloadFile<R> {
 impl<R: Read> Intake for PayloadFile<R> {
     ghost use Rattle.cosecmd.specs.PayloadFile.{counted, left_of};
 
-    // Of a reader whose bytes are known, and are enough, those up to the stated length.
+    // Of a reader whose bytes are known those up to the stated length; where they are fewer, more that never come.
     ghost to_come = { λ intake. counted intake.left (R.remaining intake.reader) };
 
     ghost has_failed = { λ intake. intake.failed };
 
-    ghost ended = { λ intake. intake.ended };
+    ghost ended = { λ intake. intake.ended && (intake.left == 0) };
 
     fn take(&mut self, into: &mut [u8]) -> Result<usize, IntakeFault>
         requires { 0 < length into.old }

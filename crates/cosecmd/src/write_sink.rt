@@ -1,7 +1,7 @@
 //! A sink that writes what it gets.
 
 ghost use Rattle.std.specs.Prelude.{◌≡◌, false};
-ghost use Rattle.cosecmd.specs.WriteSink.{held_through};
+ghost use Rattle.cosecmd.specs.WriteSink.{held_through, name_in, writer_in};
 
 use cose_msg::{Sink, SinkFault};
 use std::io::Write;
@@ -9,7 +9,7 @@ use std::io::Write;
 /// Writes each piece whole, by as many writes as it takes. An error of the writer is a failure, and so is a write that takes no
 /// byte.
 #[derive(Drop)]
-pub struct WriteSink<'w, W: Write> {
+pub struct WriteSink<'w, W> {
     writer: &'w mut W,
     failed: bool,
 }
@@ -19,6 +19,8 @@ impl<'w, W: Write> WriteSink<'w, W> {
     pub fn new(writer: &'w mut W) -> Self
         ensures contents { ⟦<WriteSink<'w, W> as Sink>⟧.contents result
             ≡ held_through writer.entry.ghost_name (W.contents writer.entry.now) }
+        ensures writer { writer_in result ≡ writer.old }
+        ensures same_reference { name_in result ≡ writer.entry.ghost_name }
         ensures not_failed { ⟦<WriteSink<'w, W> as Sink>⟧.has_failed result ≡ false }
     {
         WriteSink {
@@ -29,8 +31,10 @@ impl<'w, W: Write> WriteSink<'w, W> {
 
     /// The writer, with all that it got.
     pub fn into_writer(self) -> &'w mut W
-        ensures { held_through result.ghost_name (W.contents result.now)
+        ensures contents { held_through result.ghost_name (W.contents result.now)
             ≡ ⟦<WriteSink<'w, W> as Sink>⟧.contents self.entry }
+        ensures writer { result.now ≡ writer_in self.entry }
+        ensures same_reference { result.ghost_name ≡ name_in self.entry }
     {
         self.writer
     }

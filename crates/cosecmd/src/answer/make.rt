@@ -7,9 +7,10 @@ ghost use Rattle.cosecmd.specs.Faults.{fault_in, fault_of_making};
 ghost use Rattle.cosecmd.specs.Printed.{Prints, made_under};
 
 use crate::fault::Fault;
+use crate::input::Input;
 use crate::reply::Status;
 use crate::write_sink::WriteSink;
-use cose_msg::{Alg, Key, MakeFault, ReadIntake, make_mac0};
+use cose_msg::{Alg, Key, MakeFault, make_mac0};
 use std::io::{Read, Write};
 
 /// The most bytes of a payload that are taken at once.
@@ -36,18 +37,24 @@ pub fn make_message<R: Read, W: Write>(
     ensures fault { fault_in result ≡
         fault_of_making (key_of (record { bytes = key.now; place = 0 })) alg
         (option_map contents kid.entry) aad.now length }
+    // Before it nothing is read or written.
+    ensures unread { (fault : Fault) → fault_in result ≡ Some fault → input.new ≡ input.old }
+    ensures unwritten { (fault : Fault) → fault_in result ≡ Some fault
+        → W.contents output.new ≡ W.contents output.old }
 {
     let key = match Key::read(key, 0) {
         Ok(key) => key,
         Err(refusal) => return Err(Fault::Key(refusal)),
     };
-    let mut intake = ReadIntake::new(input);
+    let mut intake = Input::new(input);
     let mut sink = WriteSink::new(output);
     let made = make_mac0::<CHUNK, _, _>(alg, &key, kid, aad, &mut intake, length, &mut sink);
-    // The output holds in the end what the sink's writer holds. The proof reads it from this use, which has no run-time
-    // effect.
+    // The output holds in the end what the sink's writer holds, and of the input is left what is left of the intake's
+    // reader. The proof reads it from these uses, which have no run-time effect.
     let writer = sink.into_writer();
     let _ = &*writer;
+    let reader = intake.into_reader();
+    let _ = &*reader;
     match made {
         Ok(_) => Ok(Status::Done),
         Err(MakeFault::WrongKey) => Err(Fault::WrongKey),

@@ -1,6 +1,6 @@
 //! The verdict of the job `verify`, and the reply that prints it.
 
-ghost use Rattle.std.specs.Prelude.{◌≡◌, ◌≤◌, ◌↔◌, ◌||◌, ℕ, false, List, Some, Ok, Err, IfErr, IfOk, codes, is_err, length, option_map, take};
+ghost use Rattle.std.specs.Prelude.{◌≡◌, ◌≤◌, ◌↔◌, ◌||◌, ℕ, false, List, Some, Ok, Err, IfErr, IfOk, codes, drop, is_err, length, option_map};
 ghost use Rattle.cose_head.specs.declared.refusal.Refusal.{Refusal};
 ghost use Rattle.cose_map.specs.Key.View.{contents};
 ghost use Rattle.cose_map.specs.KeyTable.{keys as usable};
@@ -9,7 +9,9 @@ ghost use Rattle.cose_msg.specs.Detached.{EitherFails};
 ghost use Rattle.cose_msg.specs.Verifier.{setting_of};
 ghost use Rattle.cose_msg.specs.declared.verdict.Verdict.{Verdict};
 ghost use Rattle.cosecmd.specs.Faults.{NamesOption, fails_by_file, fails_by_input};
+ghost use Rattle.cosecmd.specs.PayloadFile.{counted, left_of};
 ghost use Rattle.cosecmd.specs.Printed.{Says, input_answer, trailing_refusal, program_keys, program_setting, said_of, verified_under, verified_with, followed_by, with_payload};
+ghost use Rattle.cosecmd.specs.Stated.{CameOf, verified_from};
 ghost use Rattle.cosecmd.specs.Vouch.{vouching};
 
 use crate::fault::Fault;
@@ -18,6 +20,7 @@ use crate::line::Line;
 use crate::payload_file::PayloadFile;
 use crate::reply::{Reply, Status};
 use crate::vouch::Vouch;
+use cose_msg::laws::{payload_stays, settled_stays};
 use cose_msg::{
     Context, Intake, KeyTable, Keys, Nothing, ReadIntake, Reason, Refusal, SliceIntake, Verdict,
     Verifier, Wanted, verify, verify_detached,
@@ -58,6 +61,9 @@ pub fn reply_of(alloc: Global, verdict: Verdict) -> Result<Reply, Fault>
 pub fn trailing_at<I: Intake>(taken: u64, intake: &mut I) -> Result<Option<Refusal>, Fault>
     ensures whole { (rest : List ℕ) → I.to_come intake.old ≡ Some rest →
         IfOk result (λ refusal. refusal ≡ trailing_refusal rest taken) }
+    // It takes this byte and none after it.
+    ensures left { (rest : List ℕ) → I.to_come intake.old ≡ Some rest →
+        IfOk result (λ _. I.to_come intake.new ≡ Some (drop 1 rest)) }
     ensures fault { IfErr result (λ fault. fault ≡ Fault.Input) }
     ensures failure { I.has_failed intake.new ≡ (I.has_failed intake.old || is_err result) }
 {
@@ -153,12 +159,18 @@ fn detached_verdict<'j, I: Intake, P: Intake>(
         IfOk result
         (λ verdict. input_answer (with_payload (Some more) (setting_of usable context.entry))
         (vouching (option_map contents vouch.now.word)) bytes ≡ decided verdict) }
+    ensures came { (bytes : List ℕ) → I.to_come intake.old ≡ Some bytes →
+        IfOk result
+        (CameOf (setting_of usable context.entry) (vouching (option_map contents vouch.now.word))
+        payload_length bytes (P.to_come payload.old) (P.to_come payload.new) (P.ended payload.new)) }
     ensures fault { IfErr result (λ fault. fault ≡ Fault.Input) }
     // One of the intakes has failed in this call, where there is no verdict, and otherwise none.
     ensures failure { EitherFails (is_err result)
         (I.has_failed intake.old) (I.has_failed intake.new)
         (P.has_failed payload.old) (P.has_failed payload.new) }
 {
+    // The law that the proof cites: a verdict stays when bytes follow.
+    settled_stays();
     let mut verifier = Verifier::<HEADER, NESTING, KeyTable<'_, KEYS>>::detached(
         context,
         payload_length,
@@ -280,6 +292,10 @@ fn reply_with_file<I: Intake, R: Read>(
     ensures says { (bytes more : List ℕ) → I.to_come intake.old ≡ Some bytes →
         ⟦<PayloadFile<R> as Intake>⟧.to_come payload.old ≡ Some more → length more ≡ job.now.length
         → IfOk result (Says (verified_with job.now more bytes)) }
+    // The same, whether the bytes to come are enough or not.
+    ensures from { (bytes content : List ℕ) → I.to_come intake.old ≡ Some bytes →
+        ⟦<PayloadFile<R> as Intake>⟧.to_come payload.old ≡ counted job.now.length (Some content)
+        → IfOk result (Says (verified_from job.now content bytes)) }
     ensures keys { (refusal : Refusal) →
         program_keys job.now.keys.now ≡ Err refusal ↔ result ≡ Err (Fault.Keys refusal) }
     // Its fault is that the file failed, or the input, exactly where it failed in this call.
@@ -287,6 +303,8 @@ fn reply_with_file<I: Intake, R: Read>(
     ensures option { IfErr result (NamesOption (codes "payload-file")) }
     ensures input { I.has_failed intake.new ≡ (I.has_failed intake.old || fails_by_input result) }
 {
+    // The law that the proof cites: what comes of a payload changes nothing where none of it is wanted.
+    payload_stays();
     let keys = match KeyTable::<KEYS>::read(job.keys) {
         Ok(keys) => keys,
         Err(refusal) => return Err(Fault::Keys(refusal)),
@@ -308,9 +326,9 @@ pub fn verify_reply_with_file<P: Read, R: Read>(
     input: &mut R,
 ) -> Result<Reply, Fault>
     requires external { length job.now.aad.now ≤ 65535 }
-    ensures says { (bytes more : List ℕ) → R.remaining input.old ≡ Some bytes →
-        P.remaining payload.old ≡ Some more → job.now.length ≤ length more →
-        IfOk result (Says (verified_with job.now (take job.now.length more) bytes)) }
+    ensures says { (bytes content : List ℕ) → R.remaining input.old ≡ Some bytes →
+        P.remaining payload.old ≡ Some content →
+        IfOk result (Says (verified_from job.now content bytes)) }
     ensures keys { (refusal : Refusal) →
         program_keys job.now.keys.now ≡ Err refusal ↔ result ≡ Err (Fault.Keys refusal) }
 {

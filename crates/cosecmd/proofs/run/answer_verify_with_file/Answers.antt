@@ -1,4 +1,4 @@
-use Rattle.std.proofs.Common.{◌≤◌, arith, length, refl}
+use Rattle.std.proofs.Common.{refl}
 use Rattle.cosecmd.specs.declared.job.FileJob.{FileJob}
 use Rattle.cosecmd.proofs.Asked.{ends_with, file_words}
 use Rattle.cosecmd.proofs.run.answer_verify_with_file.Goals as goal
@@ -6,7 +6,6 @@ use Rattle.cosecmd.proofs.run.answer_verify_with_file.Goals as goal
 pub returns-clause-printed : goal.returns-clause-printed
 returns-clause-printed g c = λ bytes payload e known.
     let opened = c.in-Ok.ensures payload known in
-    let enough : c.in-Ok.opened.1 ≤ length payload = omega (arith, opened.1) in
     let job : FileJob = record {
       keys = c.as_slice.result;
       aad = c.as_slice-2.result;
@@ -15,4 +14,4 @@ returns-clause-printed g c = λ bytes payload e known.
       length = c.in-Ok.opened.1;
     } in
     ends_with _ _ _ (file_words c.args.words.now job payload bytes c.as_slice.ensures.value c.as_slice-2.ensures.value refl c.slice_of.ensures opened.1)
-    (c.answer_with_payload_file.ensures.printed bytes payload e opened.0 enough)
+    (c.answer_with_payload_file.ensures.printed bytes payload e opened.0)

@@ -1,5 +1,8 @@
-use Rattle.std.proofs.Common.{arith}
+use Rattle.std.proofs.Common.{◌<◌, ◌^◌, rules, arith, sym}
 use Rattle.std.proofs.lemmas.Grind.{common_steps}
+use Rattle.cose_map.specs.KeyTable.{keys as usable}
+use Rattle.cosecmd.proofs.PayloadFiles.{ends_whole}
+use Rattle.cosecmd.proofs.Stated.{says_from}
 use Rattle.cosecmd.proofs.answer.verify.reply_with_file.Goals as goal
 
 pub returns-in-Err-clause-says : goal.returns-in-Err-clause-says
@@ -49,3 +52,14 @@ returns-in-Err-2-clause-option g c = grind (arith, common_steps)
 
 pub returns-in-Err-2-clause-input : goal.returns-in-Err-2-clause-input
 returns-in-Err-2-clause-input g c = grind (arith, common_steps)
+
+pub returns-in-Ok-detached_verdict-clause-from : goal.returns-in-Ok-detached_verdict-clause-from
+returns-in-Ok-detached_verdict-clause-from g c = λ bytes content e told.
+    let job = c.args.job.now in
+    let after = c.detached_verdict.new.payload in
+    let small : job.length < 2 ^ 64 = search rules in
+    let small_left : after.left < 2 ^ 64 = after.in_range in
+    says_from c.payload_stays.ensures.complete job (usable c.in-Ok.keys) content bytes after.left (g.R.Read.remaining after.reader) _ c.in-Ok-detached_verdict.verdict c.reply_of.result
+    (sym c.in-Ok.ensures.exact) small small_left c.reply_of.ensures.says _ _ c.program_context-context.ensures.setting told
+    (λ more known count. c.in-Ok-detached_verdict.ensures.verdict bytes more e known count)
+    (c.in-Ok-detached_verdict.ensures.came bytes e) (ends_whole after.ended after.left)

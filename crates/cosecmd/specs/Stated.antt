@@ -1,0 +1,53 @@
+-- What is printed of a message whose payload comes from a reader, where the number of its bytes is stated.
+use Rattle.std.specs.Prelude.{◌≡◌, ℕ, zero, suc, ◌<◌, ◌≤◌, Bool, true, List, length, take, Option, Ok, Err, option_map, codes, nat_lt, if◌then◌else◌}
+use Rattle.std.specs.Io.KnownBytes.{Consumes}
+use Rattle.cose_map.specs.Key.Value.{KeyValue}
+use Rattle.cose_map.specs.Key.View.{contents}
+use Rattle.cose_map.specs.Map.Read.{Read}
+use Rattle.cose_msg.specs.declared.verdict.Verdict.{Verdict}
+use Rattle.cose_msg.specs.Answer.{decided}
+use Rattle.cose_msg.specs.Message.{Decides, Setting, message, verifying}
+use Rattle.cose_msg.specs.Source.{detached}
+use Rattle.cosecmd.specs.declared.job.FileJob.{FileJob}
+use Rattle.cosecmd.specs.declared.reply.Status.TheVariants as statuses
+use Rattle.cosecmd.specs.Printed.{Output, fault_of_keys, input_answer, output_of, program_keys, program_setting, verified_with}
+use Rattle.cosecmd.specs.Vouch.{vouching}
+
+-- The payload is detached: these bytes of it have come, and so many are stated.
+abbrev pub stating : List ℕ → ℕ → Setting → Setting
+stating came stated setting = record setting { source = detached came stated }
+
+-- How many bytes of the payload the message of an input still wants.
+abbrev pub payload_wanted_of : Setting → Decides → List ℕ → ℕ
+payload_wanted_of setting decides bytes = (message (verifying 1024 8 setting decides) bytes).payload_wanted
+
+abbrev pub fault_of_payload_file : Output
+fault_of_payload_file = record { text = codes "fault file payload-file\n"; status = statuses.Fault }
+
+abbrev pub unless_missing : ℕ → Output → Output
+unless_missing zero output = output
+unless_missing (suc missing) output = fault_of_payload_file
+
+-- A reader has fewer bytes than are stated. A message that wants the missing ones has no verdict: only one that is refused
+-- before its nil, or that ends before it, has one.
+abbrev pub said_of_short : Setting → Decides → List ℕ → Output
+said_of_short setting decides bytes = unless_missing (payload_wanted_of setting decides bytes) (output_of (input_answer setting decides bytes))
+
+abbrev pub verified_short : Read (List KeyValue) → FileJob → List ℕ → List ℕ → Output
+verified_short (Ok keys) job content bytes =
+    said_of_short (stating content job.length (program_setting keys job.aad.now job.wanted)) (vouching (option_map contents job.vouch)) bytes
+verified_short (Err refusal) job content bytes = fault_of_keys refusal
+
+-- The payload is the first bytes of the reader, as many as are stated.
+abbrev pub verified_from : FileJob → List ℕ → List ℕ → Output
+verified_from job content bytes =
+    if nat_lt (length content) job.length then verified_short (program_keys job.keys.now) job content bytes else verified_with job (take job.length content) bytes
+
+-- A verdict on the bytes of an input. These bytes came of what was to come of the payload, no more than are stated; where
+-- the message wants more of them, the intake of the payload has ended.
+pub record CameOf (setting : Setting) (decides : Decides) (stated : ℕ) (bytes : List ℕ) (come come_after : Option (List ℕ)) (ended : Bool) (verdict : Verdict) : Type 0 where
+  pub came : List ℕ
+  pub consumes : Consumes come come_after came
+  pub within : length came ≤ stated
+  pub ends : 0 < payload_wanted_of (stating came stated setting) decides bytes → ended ≡ true
+  pub answer : input_answer (stating came stated setting) decides bytes ≡ decided verdict
