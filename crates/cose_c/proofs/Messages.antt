@@ -1,5 +1,5 @@
 -- The verdict on bytes in memory, of which the first ones were fed.
-use Rattle.std.proofs.Common.{◌≡◌, ℕ, ◌+◌, ◌-◌, ◌<◌, ◌≤◌, ℤ, Bool, true, false, List, [], ◌++◌, length, take, drop, Option, Some, None, Result, Ok, Err, refl, sym, ap, subst, ◌∙◌, arith}
+use Rattle.std.proofs.Common.{◌≡◌, inl, inr, ℕ, ◌+◌, ◌-◌, ◌<◌, ◌≤◌, ℤ, Bool, true, false, List, [], ◌++◌, length, take, drop, Option, Some, None, Result, Ok, Err, refl, sym, ap, subst, ◌∙◌, arith}
 use Rattle.std.proofs.lemmas.Bool.Decides.{nat_tests}
 use Rattle.std.proofs.lemmas.List.{length-drop, length-take, take-append-drop}
 use Rattle.std.proofs.Math.Seq.{take-length}
@@ -19,6 +19,7 @@ use Rattle.cose_msg.specs.declared.verdict.Stop.TheVariants.{Again, Intake, Sink
 use Rattle.cose_msg.specs.declared.verdict.Verdict.{Verdict}
 use Rattle.cose_msg.specs.declared.verdict.Verdict.TheVariants.{Authentic, Refused}
 use Rattle.cose_msg.specs.Answer.{Answer, Chosen, Headers, Whole, decided, complete, shaped}
+use Rattle.cose_msg.specs.Detached.{EitherFails}
 use Rattle.cose_msg.specs.Feed.{Uses, part_of}
 use Rattle.cose_msg.specs.GrammarLaws.{AuthenticIsMessage, MessageIsRead}
 use Rattle.cose_msg.specs.Laws.{ComparingGoesLast, MessageStays, answered, then_compared}
@@ -188,7 +189,11 @@ pub signed_is_accepted : (v : CoseVerdict) → v.status ≡ 2 → is_accepted v 
 signed_is_accepted v two = rw two refl
 
 -- An intake and a sink that never fail stop nothing.
-pub never_stops : (result : Result Verdict Stop) (stop : Stop) → result ≡ Err stop → stops_for_intake result ≡ false → stops_for_sink result ≡ false → (result ≡ Err Again → ⊥) → ⊥
+pub never_stops : {A : Type 0} (result : Result A Stop) (stop : Stop) → result ≡ Err stop → stops_for_intake result ≡ false → stops_for_sink result ≡ false → (result ≡ Err Again → ⊥) → ⊥
 never_stops result Intake is intake sink again = let stopped : stops_for_intake result ≡ true = ap stops_for_intake is in absurd cc
 never_stops result Sink is intake sink again = let stopped : stops_for_sink result ≡ true = ap stops_for_sink is in absurd cc
 never_stops result Again is intake sink again = again is
+
+pub either_fails : (stops : Bool) → EitherFails stops false false false false → stops ≡ false
+either_fails stops (inl first) = sym first.0
+either_fails stops (inr second) = sym second.1

@@ -3,7 +3,18 @@ use Rattle.std.specs.Prelude.{ℕ, ℤ, pos, negsuc, List, [], ◌∷◌, map, r
 use Rattle.cose_head.specs.declared.algorithm.Alg.TheVariants.{Hmac256, Es256}
 use Rattle.cose_head.specs.declared.kind.Kind.TheVariants as kinds
 use Rattle.cose_head.specs.declared.reason.Reason.TheVariants.{BadAuth, BadKeySet, Trailing}
-use Rattle.cose_msg.specs.declared.context.Wanted.{Wanted}
+use Rattle.std.specs.Str.{is_utf8, chars}
+use Rattle.cose_head.specs.Head.{bare_head}
+use Rattle.cose_head.specs.Item.{depth_of}
+use Rattle.cose_head.specs.Reading.{read, head}
+use Rattle.cose_head.specs.Placed.{look, children_of, items_from, head_of_item}
+use Rattle.cose_map.specs.Map.Read.{Read, check_pairs}
+use Rattle.cose_map.specs.Key.{key_of}
+use Rattle.cose_map.specs.Key.Form.{key_table}
+use Rattle.cose_map.specs.Key.Material.{material_of}
+use Rattle.cose_map.specs.Key.Value.{KeyValue}
+use Rattle.cose_map.specs.KeySet.{keys_of}
+use Rattle.cose_c.specs.Shape.{no_keys}
 use Rattle.cose_msg.specs.declared.context.Wanted.TheVariants.{Mac0, Sign1, Tagged}
 use Rattle.cose_msg.specs.declared.verdict.Verdict.TheVariants.{Authentic}
 use Rattle.cose_msg.specs.Answer.{decided, refused}
@@ -52,3 +63,12 @@ followed = refl
 
 refused_already : one_message 46 (refused BadAuth 10) ≡ refused BadAuth 10
 refused_already = refl
+
+-- The key set under which shapes are read has no key.
+unfoldable keys_read : List ℕ → Read (List KeyValue)
+unfolding keys_of key_of key_table material_of check_pairs children_of items_from look head_of_item bare_head read head depth_of is_utf8 chars lib.Utf8.encode
+keys_read bytes = keys_of bytes
+
+without_keys : keys_read no_keys ≡ Ok []
+unfolding keys_read
+without_keys = refl

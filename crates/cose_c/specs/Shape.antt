@@ -1,11 +1,15 @@
 -- The shape of a message.
-use Rattle.std.specs.Prelude.{ℕ, List, length, Result, Ok, Err}
+use Rattle.std.specs.Prelude.{ℕ, List, [], ◌∷◌, length, Result, Ok, Err}
 use Rattle.cose_msg.specs.declared.verdict.Verdict.TheVariants.{Authentic, Refused}
 use Rattle.cose_msg.specs.Answer.{Answer, decided, complete, shaped}
 use Rattle.cose_msg.specs.Message.{Setting, inspecting, message as reading}
 use Rattle.cose_c.specs.declared.numbers.CoseStatus.{CoseStatus}
 use Rattle.cose_c.specs.declared.shape.CoseShape.{CoseShape}
 use Rattle.cose_c.specs.Numbers.{kind_number, one_message, plain_status, refused_status}
+
+-- The empty map: a key set without a usable key. A message that is only inspected needs none.
+abbrev pub no_keys : List ℕ
+no_keys = 160 ∷ []
 
 abbrev pub no_shape : CoseStatus → CoseShape
 no_shape s = record {

@@ -1,6 +1,7 @@
 -- What a caller gets of the claims of a token.
 use Rattle.std.specs.Prelude.{◌≡◌, ℕ, ℤ, pos, negsuc, ◌+◌, List, length, Option, Some, None, option_and_then}
 use Rattle.cose_head.specs.Placed.{Placed, bytes_in, head_of_item, integer_in, look, text_in}
+use Rattle.cose_map.specs.Map.Form.{Table}
 use Rattle.cose_c.specs.declared.numbers.CoseStatus.{CoseStatus}
 use Rattle.cose_c.specs.declared.told.CoseClaims.{CoseClaims}
 use Rattle.cose_c.specs.declared.told.CoseDate.{CoseDate}
@@ -64,3 +65,7 @@ no_claims s = record {
   cnf_crv = 0;
   cnf_y_sign = 0;
 }
+
+-- A map any of whose values will do.
+abbrev pub any_value : Table
+any_value name value = None

@@ -16,8 +16,8 @@ use crate::numbers::{
 use crate::terms::{HEADER, LARGE_HEADER, LARGE_NESTING, NESTING, context};
 use crate::told::{CoseClaims, CoseRange, bytes_range, date_in, no_claims, no_range, text_range};
 use cose_cwt::{Audience, Claims, Policy};
-use cose_map::{ItemRef, Items, Label};
-use cose_msg::{Keys, Refusal, Verifier};
+use cose_map::{Form, ItemRef, Items, Key, Label, Material, Reason, Y, check_map};
+use cose_msg::{Refusal, Verifier};
 use std::slice;
 
 /// The labels of the claims (RFC 8392 section 3.1).
@@ -34,6 +34,18 @@ const NBF: Label<'static> = Label::Int(5);
 const IAT: Label<'static> = Label::Int(6);
 
 const CTI: Label<'static> = Label::Int(7);
+
+const CNF: Label<'static> = Label::Int(8);
+
+/// The labels of the members of a confirmation (RFC 8747 section 7.2).
+const COSE_KEY: Label<'static> = Label::Int(1);
+
+const KID: Label<'static> = Label::Int(3);
+
+/// The labels of the coordinates of a key (RFC 9053 section 7.1.1).
+const X: Label<'static> = Label::Int(-2);
+
+const Y_COORDINATE: Label<'static> = Label::Int(-3);
 
 /// The conditions under which a token is admitted.
 #[repr(C)]
@@ -61,7 +73,9 @@ fn name_of<'p>(policy: &CosePolicy<'p>) -> Result<Option<&'p str>, CoseStatus> {
 }
 
 /// A policy: where there is a name and the token names an audience, one of its text strings is this name.
-fn policy_of<'p>(now: i64, leeway: u32, name: &'p Option<&'p str>) -> Policy<'p> {
+fn policy_of<'p>(now: i64, leeway: u32, name: &'p Option<&'p str>) -> Policy<'p>
+    ensures { policy_value result ≡ policy_for now leeway (option_map text_value name.entry.now) }
+{
     let audience = match name {
         Some(name) => Audience::Mine(slice::from_ref(name)),
         None => Audience::LeftToCaller,
@@ -76,6 +90,8 @@ fn policy_of<'p>(now: i64, leeway: u32, name: &'p Option<&'p str>) -> Policy<'p>
 /// The claims of a payload, if they are admitted.
 fn admitted<'t>(payload: &'t [u8], depth: usize, policy: &Policy<'_>) -> Result<Claims<'t>, Refusal>
     requires { depth ≤ 32 }
+    ensures { seen_by claims_value result
+        ≡ admitted_claims depth (policy_value policy.entry.now) payload.entry.now }
 {
     let claims = Claims::read(payload, depth)?;
     claims.admit(policy)?;
@@ -117,6 +133,52 @@ fn audience_count(claims: &Claims<'_>) -> u64 {
     count
 }
 
+/// The table of a map any of whose values will do: it was read before.
+struct AnyForm;
+
+impl Form for AnyForm {
+    ghost use Rattle.cose_c.specs.Told.{any_value};
+
+    ghost table = { λ form. any_value };
+
+    fn fault(&self, _label: &Label<'_>, _value: &ItemRef<'_>) -> Option<Reason> {
+        None
+    }
+}
+
+/// Gives the point of the key that is confirmed, whose item this is (RFC 8747 section 3.2).
+fn give_key(key: &Key<'_>, item: &ItemRef<'_>, told: &mut CoseClaims) {
+    let Material::Ec { crv, y, .. } = key.material else {
+        return;
+    };
+    let Ok(members) = check_map(&AnyForm, item) else {
+        return;
+    };
+    told.cnf_crv = crv;
+    told.cnf_x = bytes_range(members.get(&X));
+    match y {
+        Y::Bytes(_) => told.cnf_y = bytes_range(members.get(&Y_COORDINATE)),
+        Y::Sign(odd) => told.cnf_y_sign = if odd { 2 } else { 1 },
+    }
+}
+
+/// Gives the confirmation of a token, if it has one (RFC 8747 section 3).
+fn give_confirmation(claims: &Claims<'_>, told: &mut CoseClaims) {
+    let Some(cnf) = claims.cnf() else {
+        return;
+    };
+    let Some(item) = claims.value(&CNF) else {
+        return;
+    };
+    let Ok(members) = check_map(&AnyForm, &item) else {
+        return;
+    };
+    told.cnf_kid = bytes_range(members.get(&KID));
+    if let (Some(key), Some(item)) = (cnf.key, members.get(&COSE_KEY)) {
+        give_key(&key, &item, told);
+    }
+}
+
 /// The claims that are admitted.
 fn told_claims(claims: &Claims<'_>, payload: &[u8]) -> CoseClaims {
     let mut told = no_claims(plain_status(AUTHENTIC));
@@ -129,6 +191,7 @@ fn told_claims(claims: &Claims<'_>, payload: &[u8]) -> CoseClaims {
     told.exp = date_in(claims.value(&EXP));
     told.nbf = date_in(claims.value(&NBF));
     told.iat = date_in(claims.value(&IAT));
+    give_confirmation(claims, &mut told);
     told
 }
 

@@ -4,10 +4,11 @@ ghost use Rattle.std.specs.Prelude.{◌≡◌, true, false, [], length};
 ghost use Rattle.cose_map.specs.KeySet.{keys_of};
 ghost use Rattle.cose_msg.specs.Answer.{decided};
 ghost use Rattle.cose_msg.specs.Kept.{HasTaken, is_inspecting};
+ghost use Rattle.cose_msg.specs.Message.{given};
 ghost use Rattle.cose_msg.specs.Task.{to_verify};
 ghost use Rattle.cose_msg.specs.Verifier.{is_detached, setting_in};
 ghost use Rattle.cose_c.specs.Input.{GivesAll};
-ghost use Rattle.cose_c.specs.Message.{Covers, input_read, input_given, is_accepted, payload_read, payload_given, verdict_given, verdict_read};
+ghost use Rattle.cose_c.specs.Message.{Covers, beside, input_read, input_given, is_accepted, payload_read, payload_given, verdict_given, verdict_read};
 ghost use Rattle.cose_c.specs.Numbers.{one_message, unless_signed, verdict_numbers};
 ghost use Rattle.cose_c.specs.Terms.{setting_given};
 
@@ -170,6 +171,7 @@ pub(crate) fn read_detached<'k, const H: usize, const D: usize, K: Keys<'k>>(
 ) -> CoseVerdict
     requires detached { is_detached verifier.old ≡ true }
     requires fresh { HasTaken (to_verify (setting_in verifier.old)) [] [] verifier.old }
+    ensures { result ≡ verdict_read H D (given payload.now (setting_in verifier.old)) 0 message.now }
 {
     let mut bytes = SliceIntake::new(message, CHUNK);
     let mut beside = SliceIntake::new(payload, CHUNK);
@@ -185,7 +187,7 @@ pub(crate) fn read_detached<'k, const H: usize, const D: usize, K: Keys<'k>>(
             numbers_of(verdict, message.len() as u64, 0)
         }
         // The intakes and the sink never fail, and the verifier hasn't stopped.
-        Err(_) => no_message(crate::numbers::plain_status(crate::numbers::STOPPED)),
+        Err(_) => unreachable!(),
     }
 }
 
@@ -199,7 +201,10 @@ pub extern "C" fn cose_edge_verify_detached(
     payload: &[u8],
     verdict: &mut CoseVerdict,
     input: &mut CoseSignInput,
-) {
+)
+    ensures verdict { verdict.new ≡ verdict_given 1024 8
+        (beside payload.now (setting_given (keys_of keys.now) aad.now wanted)) 0 message.now }
+{
     *verdict = match context(keys, aad, wanted) {
         Ok(context) => {
             let mut verifier = Verifier::<HEADER, NESTING>::detached(context, payload.len() as u64);
@@ -219,7 +224,10 @@ pub extern "C" fn cose_edge_large_verify_detached(
     payload: &[u8],
     verdict: &mut CoseVerdict,
     input: &mut CoseSignInput,
-) {
+)
+    ensures verdict { verdict.new ≡ verdict_given 65535 16
+        (beside payload.now (setting_given (keys_of keys.now) aad.now wanted)) 0 message.now }
+{
     *verdict = match context(keys, aad, wanted) {
         Ok(context) => {
             let mut verifier = Verifier::<LARGE_HEADER, LARGE_NESTING>::detached(

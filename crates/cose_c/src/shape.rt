@@ -1,12 +1,13 @@
 //! The shape of a message in memory. Nothing is authenticated.
 
-ghost use Rattle.std.specs.Prelude.{◌≡◌, true, false, [], length, Ok};
+ghost use Rattle.std.specs.Prelude.{◌≡◌, true, false, [], length};
+ghost use Rattle.cose_map.specs.KeySet.{keys_of};
 ghost use Rattle.cose_msg.specs.Kept.{HasTaken, is_inspecting};
 ghost use Rattle.cose_msg.specs.Run.{inspection};
 ghost use Rattle.cose_msg.specs.Task.{to_inspect};
 ghost use Rattle.cose_msg.specs.Verifier.{is_detached, setting_in};
 ghost use Rattle.cose_c.specs.Numbers.{one_message};
-ghost use Rattle.cose_c.specs.Shape.{no_shape, shape_given, shape_numbers, shape_read};
+ghost use Rattle.cose_c.specs.Shape.{no_keys, no_shape, shape_given, shape_numbers, shape_read};
 ghost use Rattle.cose_c.specs.Terms.{setting_given};
 
 use crate::numbers::{COMPLETE, CoseStatus, REFUSED, number_of_kind, refused_status};
@@ -37,7 +38,9 @@ pub struct CoseShape {
 }
 
 /// No shape.
-fn no_shape(status: CoseStatus) -> CoseShape {
+fn no_shape(status: CoseStatus) -> CoseShape
+    ensures { result ≡ no_shape status }
+{
     CoseShape {
         status: status.status,
         reason: status.reason,
@@ -50,7 +53,9 @@ fn no_shape(status: CoseStatus) -> CoseShape {
 }
 
 /// The numbers of the shape of so many bytes.
-fn numbers_of(inspected: Inspected, count: u64) -> CoseShape {
+fn numbers_of(inspected: Inspected, count: u64) -> CoseShape
+    ensures { result ≡ shape_numbers (one_message count (inspection inspected)) }
+{
     match inspected {
         Inspected::Refused(refusal) => no_shape(refused_status(REFUSED, refusal)),
         Inspected::Shape { taken, .. } if taken < count => {
@@ -85,18 +90,21 @@ fn shape_of<'k, const H: usize, const D: usize, K: Keys<'k>>(
     requires inspects { is_inspecting verifier.old ≡ true }
     requires attached { is_detached verifier.old ≡ false }
     requires fresh { HasTaken (to_inspect (setting_in verifier.old)) [] [] verifier.old }
+    ensures { result ≡ shape_read H D (setting_in verifier.old) message.now }
 {
     let mut intake = SliceIntake::new(message, 256);
     match inspect::<256, H, D, _, _, _>(verifier, &mut intake, &mut Nothing) {
         Ok(inspected) => numbers_of(inspected, message.len() as u64),
         // The intake and the sink never fail, and the verifier hasn't stopped.
-        Err(_) => no_shape(crate::numbers::plain_status(crate::numbers::STOPPED)),
+        Err(_) => unreachable!(),
     }
 }
 
 /// The shape of a message in memory: the bytes are the message, and nothing follows it. Nothing of it is authenticated.
 #[unsafe(no_mangle)]
-pub extern "C" fn cose_edge_shape(wanted: u8, message: &[u8], shape: &mut CoseShape) {
+pub extern "C" fn cose_edge_shape(wanted: u8, message: &[u8], shape: &mut CoseShape)
+    ensures { shape.new ≡ shape_given 1024 8 (setting_given (keys_of no_keys) [] wanted) message.now }
+{
     *shape = match context(NO_KEYS, b"", wanted) {
         Ok(context) => {
             let mut verifier = Verifier::<HEADER, NESTING>::inspecting(context);

@@ -2,6 +2,7 @@
 
 ghost use Rattle.std.specs.Prelude.{◌≡◌, option_map};
 ghost use Rattle.cose_head.specs.ItemRef.{placed};
+ghost use Rattle.cose_head.specs.Placed.{integer_in, look};
 ghost use Rattle.cose_c.specs.Told.{bytes_range, date_numbers, date_value, no_claims, no_date, no_range, range_of, text_range};
 
 use crate::numbers::CoseStatus;
@@ -74,7 +75,9 @@ pub struct CoseClaims {
 }
 
 /// No range.
-pub(crate) fn no_range() -> CoseRange {
+pub(crate) fn no_range() -> CoseRange
+    ensures { result ≡ no_range }
+{
     CoseRange {
         at: 0,
         length: 0,
@@ -83,7 +86,9 @@ pub(crate) fn no_range() -> CoseRange {
 }
 
 /// No date.
-fn no_date() -> CoseDate {
+fn no_date() -> CoseDate
+    ensures { result ≡ no_date }
+{
     CoseDate {
         number: 0,
         present: 0,
@@ -92,7 +97,9 @@ fn no_date() -> CoseDate {
 }
 
 /// The range of so many bytes after an item's head.
-fn content_range(item: &ItemRef<'_>, length: usize) -> CoseRange {
+fn content_range(item: &ItemRef<'_>, length: usize) -> CoseRange
+    ensures { result ≡ range_of (placed item.now) length }
+{
     CoseRange {
         at: item.place + u64::from(item.head().width),
         length: length as u64,
@@ -101,7 +108,9 @@ fn content_range(item: &ItemRef<'_>, length: usize) -> CoseRange {
 }
 
 /// The range of the content of a text string, if the item is one.
-pub(crate) fn text_range(item: Option<ItemRef<'_>>) -> CoseRange {
+pub(crate) fn text_range(item: Option<ItemRef<'_>>) -> CoseRange
+    ensures { result ≡ text_range (option_map placed item.entry) }
+{
     let Some(item) = item else {
         return no_range();
     };
@@ -112,7 +121,9 @@ pub(crate) fn text_range(item: Option<ItemRef<'_>>) -> CoseRange {
 }
 
 /// The range of the content of a byte string, if the item is one.
-pub(crate) fn bytes_range(item: Option<ItemRef<'_>>) -> CoseRange {
+pub(crate) fn bytes_range(item: Option<ItemRef<'_>>) -> CoseRange
+    ensures { result ≡ bytes_range (option_map placed item.entry) }
+{
     let Some(item) = item else {
         return no_range();
     };
@@ -122,30 +133,36 @@ pub(crate) fn bytes_range(item: Option<ItemRef<'_>>) -> CoseRange {
     }
 }
 
-/// The date that an item is, if it is one.
-
-pub(crate) fn date_in(item: Option<ItemRef<'_>>) -> CoseDate {
-    let Some(item) = item else {
-        return no_date();
-    };
+/// The date that an item is, if it is an integer: those of major type 0, and of 1 the negative ones (RFC 8949 section 3.1).
+#[tactic(auto, using(crate::proofs::Dates::date_found, crate::proofs::Dates::no_date_found))]
+fn date_of(item: &ItemRef<'_>) -> CoseDate
+    ensures { result ≡ date_numbers (integer_in (look (placed item.now))) }
+{
     let head = item.head();
-    match head.major {
-        0 => CoseDate {
-            number: head.arg,
-            present: 1,
-            negative: 0,
-        },
-        1 => CoseDate {
-            number: head.arg,
-            present: 1,
-            negative: 1,
-        },
-        _ => no_date(),
+    if head.major > 1 {
+        return no_date();
+    }
+    CoseDate {
+        number: head.arg,
+        present: 1,
+        negative: head.major,
+    }
+}
+
+/// The date that is the value of a claim, if it is there.
+pub(crate) fn date_in(item: Option<ItemRef<'_>>) -> CoseDate
+    ensures { result ≡ date_numbers (date_value (option_map placed item.entry)) }
+{
+    match item {
+        Some(item) => date_of(&item),
+        None => no_date(),
     }
 }
 
 /// No claims.
-pub(crate) fn no_claims(status: CoseStatus) -> CoseClaims {
+pub(crate) fn no_claims(status: CoseStatus) -> CoseClaims
+    ensures { result ≡ no_claims status }
+{
     CoseClaims {
         status: status.status,
         reason: status.reason,

@@ -1,0 +1,738 @@
+/*
+ * cose.h: verifies COSE_Mac0 and COSE_Sign1 messages (RFC 9052) and CBOR Web Tokens (RFC 8392), and makes COSE_Mac0 messages.
+ *
+ * The library allocates no memory, has no global state, reads no clock, and calls nothing but memcpy, memmove and memset. What each
+ * function ensures is proved, and is in crates/cose_c/src. A script, ci/edge_header, compares this file with the library.
+ *
+ * What the caller owes, and nothing checks:
+ *   - A pointer with a length leads to that many bytes that can be read. With length 0 any pointer will do, NULL too.
+ *   - A pointer to a struct isn't NULL, and leads to one that no other argument overlaps. What an argument is written to is not
+ *     overlapped by any other argument.
+ *   - Bytes don't change while a call reads them.
+ *   - A block (of a verifier, a table or a maker) has the size and the alignment that its functions return, is begun once before
+ *     anything else, and isn't copied. One call at a time uses it.
+ *   - The keys and the external data of cose_open and cose_open_detached, and the keys of cose_table_read, stay as they are until the
+ *     next such call of that block, or until its last use.
+ *   - A payload isn't used before its message is authentic.
+ *
+ * Every place is the number of bytes before a byte: of the message, of the key set, or, of claims, of the payload. Every range (.._at,
+ * .._length) is within the bytes that it is relative to.
+ */
+#ifndef COSE_H
+#define COSE_H
+
+#include <stddef.h>
+#include <stdint.h>
+#include <string.h>
+
+#define COSE_VERSION_MAJOR 0
+#define COSE_VERSION_MINOR 2
+#define COSE_VERSION_PATCH 0
+
+#ifdef __cplusplus
+extern "C" {
+#endif
+
+/** The number of a status. */
+enum cose_status_number {
+    COSE_MORE = 0,           /**< further bytes of the message are wanted */
+    COSE_AUTHENTIC = 1,      /**< the message is authentic, or the token is admitted */
+    COSE_SIGNED = 2,         /**< a COSE_Sign1 that is authentic only if its signature is good: verify it. NOT authentic yet */
+    COSE_REFUSED = 3,        /**< the message is refused: reason, place */
+    COSE_KEYS_REFUSED = 4,   /**< the key set is refused: reason, place in the set */
+    COSE_AAD_TOO_LONG = 5,   /**< the externally supplied data has more than 65,535 bytes */
+    COSE_PAYLOAD_NEXT = 6,   /**< bytes of a detached payload are wanted */
+    COSE_COMPLETE = 7,       /**< all bytes are there: ask for the verdict */
+    COSE_CLAIMS_REFUSED = 8, /**< the message is authentic, and its claims are refused: reason, place in the payload */
+    COSE_BAD_AUDIENCE = 9,   /**< the audience of the policy isn't UTF-8 */
+    COSE_CLOSED = 10,        /**< the block has no keys: it wasn't opened, or its keys were refused */
+    COSE_STOPPED = 11,       /**< never comes from these functions */
+    COSE_BAD_ARGUMENT = 12   /**< a number among the arguments is none that the function knows, or a pointer is NULL and its length isn't 0 */
+};
+
+/** The reason of a refusal: docs/REASONS.md says where each comes from. */
+enum cose_reason {
+    COSE_REASON_NONE = 0,
+    COSE_REASON_TRUNCATED = 1,
+    COSE_REASON_RESERVED = 2,
+    COSE_REASON_INDEFINITE = 3,
+    COSE_REASON_BAD_SIMPLE = 4,
+    COSE_REASON_TOO_DEEP = 5,
+    COSE_REASON_PAST_ROOM = 6,
+    COSE_REASON_WRONG_TAG = 7,
+    COSE_REASON_ENCRYPTED = 8,
+    COSE_REASON_SEVERAL_PARTIES = 9,
+    COSE_REASON_NOT_FOUR = 10,
+    COSE_REASON_WRONG_TYPE = 11,
+    COSE_REASON_NOT_MAP = 12,
+    COSE_REASON_BAD_LABEL = 13,
+    COSE_REASON_DUPLICATE_LABEL = 14,
+    COSE_REASON_BOTH_BUCKETS = 15,
+    COSE_REASON_BAD_VALUE = 16,
+    COSE_REASON_CRIT_UNPROTECTED = 17,
+    COSE_REASON_CRIT_ABSENT = 18,
+    COSE_REASON_CRIT_UNKNOWN = 19,
+    COSE_REASON_BOTH_IVS = 20,
+    COSE_REASON_NO_ALG = 21,
+    COSE_REASON_UNKNOWN_ALG = 22,
+    COSE_REASON_ALG_UNPROTECTED = 23,
+    COSE_REASON_NO_KEY = 24,
+    COSE_REASON_AMBIGUOUS_KEY = 25,
+    COSE_REASON_DETACHED = 26,
+    COSE_REASON_BAD_AUTH_LENGTH = 27,
+    COSE_REASON_BAD_AUTH = 28,
+    COSE_REASON_PAYLOAD_TOO_LONG = 29,
+    COSE_REASON_CWT_TAG_ALONE = 30,
+    COSE_REASON_BAD_KEY_SET = 31,
+    COSE_REASON_UNKNOWN_KEY = 32,
+    COSE_REASON_FLOAT_DATE = 33,
+    COSE_REASON_TAGGED_DATE = 34,
+    COSE_REASON_EXPIRED = 35,
+    COSE_REASON_NOT_YET = 36,
+    COSE_REASON_WRONG_AUDIENCE = 37,
+    COSE_REASON_ENCRYPTED_KEY = 38,
+    COSE_REASON_PLAIN_KEY = 39,
+    COSE_REASON_BAD_CONFIRMATION = 40,
+    COSE_REASON_NESTED_CWT = 41,
+    COSE_REASON_TRAILING = 42,
+    COSE_REASON_ATTACHED = 43
+};
+
+/** The messages that are wanted: by their tag, or those of one kind, with its tag or without (RFC 9052 section 2). */
+enum cose_wanted_number {
+    COSE_TAGGED = 0,
+    COSE_MAC0 = 17,
+    COSE_SIGN1 = 18
+};
+
+/** A status; of a refusal its reason and place, otherwise zeros. */
+struct cose_status {
+    uint8_t status, reason;
+    uint64_t place;
+};
+
+/** The verdict on a message. */
+struct cose_verdict {
+    uint8_t status, reason;
+    uint8_t kind;            /**< the number of its tag, 17 or 18, of COSE_AUTHENTIC and COSE_SIGNED; otherwise 0 */
+    int32_t alg;             /**< the number of its algorithm (RFC 9053 sections 2.1 and 3.1), of these two; otherwise 0 */
+    uint64_t place;          /**< the place of a refusal */
+    uint64_t payload_at;     /**< where the payload begins in the message, of these two; 0 where it is detached or the message was fed */
+    uint64_t payload_length; /**< how many bytes the payload has, of these two */
+    uint64_t taken;          /**< how many bytes the message has, of these two */
+};
+
+/** What an ECDSA signature is verified with (RFC 9052 section 4.4): a point, a digest and the signature. */
+struct cose_sign_input {
+    uint8_t crv;             /**< the curve (RFC 9053 section 7.1): 1 P-256, 2 P-384, 3 P-521 */
+    uint8_t y_sign;          /**< 0: y has its bytes. 1, 2: y is even, odd, and y_length is 0 */
+    uint64_t x_length, y_length, digest_length, signature_length;
+    uint8_t x[66], y[66];
+    uint8_t digest[64];      /**< of the Sig_structure, by the hash function of the algorithm */
+    uint8_t signature[132];  /**< the integers r and s, in this order (RFC 9053 section 2.1) */
+};
+
+/** The shape of a message: of COSE_COMPLETE its kind and the numbers of bytes; of COSE_REFUSED the reason and the place. */
+struct cose_shape {
+    uint8_t status, reason, kind;
+    uint64_t place;
+    uint64_t payload_length;
+    uint64_t auth_length;    /**< of the tag or signature */
+    uint64_t taken;          /**< of the message */
+};
+
+/** A key set: of COSE_COMPLETE the number of usable keys; of COSE_KEYS_REFUSED the reason and the place. */
+struct cose_key_set {
+    uint8_t status, reason;
+    uint64_t place;
+    uint64_t usable;
+};
+
+/** The conditions under which a token is admitted (RFC 8392 sections 3.1.3 to 3.1.5). */
+struct cose_policy {
+    int64_t now;             /**< the current time, in seconds since 1970 */
+    uint32_t leeway;         /**< by how many seconds the clocks of issuer and caller may differ */
+    uint8_t has_audience;    /**< 0: any audience will do. Any other number: a token that names an audience has to name this one */
+    const uint8_t *audience; /**< in UTF-8 */
+    size_t audience_length;
+};
+
+/** A range of the payload. Where present is 0 there is none, and the others are 0. */
+struct cose_range {
+    uint64_t at, length;
+    uint8_t present;
+};
+
+/** A date, in seconds since 1970: number, or -1 - number where negative is 1. Where present is 0 there is none. */
+struct cose_date {
+    uint64_t number;
+    uint8_t present, negative;
+};
+
+/** The claims of a token (RFC 8392 section 3.1). */
+struct cose_claims {
+    uint8_t status, reason;
+    uint64_t place;          /**< of COSE_CLAIMS_REFUSED in the payload, of COSE_REFUSED in the token */
+    uint64_t payload_at, payload_length; /**< the payload in the token; of cose_claims 0 and its length */
+    struct cose_range iss, sub;
+    struct cose_range aud;   /**< the first text string of the audience: cose_audience returns the others */
+    struct cose_range cti;
+    uint64_t aud_count;      /**< how many text strings the audience has */
+    struct cose_date exp, nbf, iat;
+    struct cose_range cnf_kid, cnf_x, cnf_y; /**< the confirmed key (RFC 8747 section 3) */
+    uint8_t cnf_crv;         /**< its curve, as in cose_sign_input; 0 where there is no key */
+    uint8_t cnf_y_sign;      /**< as in cose_sign_input */
+};
+
+/** A verifier in a block of the caller's memory, which is fed. */
+struct cose_verifier {
+    uint8_t *at;
+};
+
+/** The same for headers of 65,535 bytes that nest 16 deep. */
+struct cose_large_verifier {
+    uint8_t *at;
+};
+
+/** What came of a piece: how many of its bytes were used, and which of them are of the payload. */
+struct cose_fed {
+    struct cose_status status;
+    uint64_t used;
+    uint64_t payload_at, payload_length;
+};
+
+/** A table of at most 64 keys in a block of the caller's memory, each of which is read once. */
+struct cose_table {
+    uint8_t *at;
+};
+
+/** A COSE_Mac0 that is being made, in a block of the caller's memory. */
+struct cose_maker {
+    uint8_t *at;
+};
+
+/** What was made: COSE_MORE after cose_make, COSE_COMPLETE after cose_make_end, with the number of bytes written; or why nothing was. */
+struct cose_made {
+    uint8_t status, reason;
+    uint64_t length;
+};
+
+/*
+ * The library's functions. One with a pointer and a length is exported as cose_edge_NAME, and takes no NULL: the functions below take one
+ * with length 0.
+ */
+
+static inline int cose_is_null_(const uint8_t *at, size_t length)
+{
+    return at == NULL && length != 0;
+}
+
+static inline const uint8_t *cose_slice_(const uint8_t *at)
+{
+    static const uint8_t nothing = 0;
+    return at != NULL ? at : &nothing;
+}
+
+static inline uint8_t *cose_room_(uint8_t *at)
+{
+    static uint8_t nothing;
+    return at != NULL ? at : &nothing;
+}
+
+/* ---- One call over memory. */
+
+void cose_edge_verify(const uint8_t *keys, size_t keys_length, const uint8_t *aad, size_t aad_length, uint8_t wanted,
+    const uint8_t *message, size_t message_length, struct cose_verdict *verdict, struct cose_sign_input *input);
+
+/** Verifies a message (RFC 9052 sections 4.4 and 6.3) under a COSE_Key or a COSE_KeySet, with externally supplied data (section 4.3).
+ * The bytes are the message: a byte after it is refused (COSE_REASON_TRAILING). *
+ * A COSE_Mac0 is COSE_AUTHENTIC. A COSE_Sign1 is COSE_SIGNED, and input is what its signature is verified with: the message is authentic
+ * only if that signature is good. No argument says that it is. With any other status input has no meaning. */
+static inline void cose_verify(const uint8_t *keys, size_t keys_length, const uint8_t *aad, size_t aad_length, uint8_t wanted,
+    const uint8_t *message, size_t message_length, struct cose_verdict *verdict, struct cose_sign_input *input)
+{
+    if (cose_is_null_(keys, keys_length) || cose_is_null_(aad, aad_length) || cose_is_null_(message, message_length)) {
+        memset(verdict, 0, sizeof *verdict);
+        verdict->status = COSE_BAD_ARGUMENT;
+        return;
+    }
+    cose_edge_verify(cose_slice_(keys), keys_length, cose_slice_(aad), aad_length, wanted, cose_slice_(message), message_length,
+        verdict, input);
+}
+
+void cose_edge_large_verify(const uint8_t *keys, size_t keys_length, const uint8_t *aad, size_t aad_length, uint8_t wanted,
+    const uint8_t *message, size_t message_length, struct cose_verdict *verdict, struct cose_sign_input *input);
+
+/** The same for headers of 65,535 bytes, where headers and claims nest 16 deep: a call needs some 140 KB of stack. */
+static inline void cose_large_verify(const uint8_t *keys, size_t keys_length, const uint8_t *aad, size_t aad_length,
+    uint8_t wanted, const uint8_t *message, size_t message_length, struct cose_verdict *verdict, struct cose_sign_input *input)
+{
+    if (cose_is_null_(keys, keys_length) || cose_is_null_(aad, aad_length) || cose_is_null_(message, message_length)) {
+        memset(verdict, 0, sizeof *verdict);
+        verdict->status = COSE_BAD_ARGUMENT;
+        return;
+    }
+    cose_edge_large_verify(cose_slice_(keys), keys_length, cose_slice_(aad), aad_length, wanted, cose_slice_(message),
+        message_length, verdict, input);
+}
+
+void cose_edge_verify_detached(const uint8_t *keys, size_t keys_length, const uint8_t *aad, size_t aad_length, uint8_t wanted,
+    const uint8_t *message, size_t message_length, const uint8_t *payload, size_t payload_length, struct cose_verdict *verdict,
+    struct cose_sign_input *input);
+
+/** The same for a message whose payload is detached (RFC 9052 section 4.1): it has nil in its place, and all of the payload is in memory.
+ * payload_at is 0. */
+static inline void cose_verify_detached(const uint8_t *keys, size_t keys_length, const uint8_t *aad, size_t aad_length,
+    uint8_t wanted, const uint8_t *message, size_t message_length, const uint8_t *payload, size_t payload_length,
+    struct cose_verdict *verdict, struct cose_sign_input *input)
+{
+    if (cose_is_null_(keys, keys_length) ||
+        cose_is_null_(aad, aad_length) ||
+        cose_is_null_(message, message_length) ||
+        cose_is_null_(payload, payload_length)) {
+        memset(verdict, 0, sizeof *verdict);
+        verdict->status = COSE_BAD_ARGUMENT;
+        return;
+    }
+    cose_edge_verify_detached(cose_slice_(keys), keys_length, cose_slice_(aad), aad_length, wanted, cose_slice_(message),
+        message_length, cose_slice_(payload), payload_length, verdict, input);
+}
+
+void cose_edge_large_verify_detached(const uint8_t *keys, size_t keys_length, const uint8_t *aad, size_t aad_length,
+    uint8_t wanted, const uint8_t *message, size_t message_length, const uint8_t *payload, size_t payload_length,
+    struct cose_verdict *verdict, struct cose_sign_input *input);
+
+/** The same for headers of 65,535 bytes, where headers and claims nest 16 deep: a call needs some 140 KB of stack. */
+static inline void cose_large_verify_detached(const uint8_t *keys, size_t keys_length, const uint8_t *aad, size_t aad_length,
+    uint8_t wanted, const uint8_t *message, size_t message_length, const uint8_t *payload, size_t payload_length,
+    struct cose_verdict *verdict, struct cose_sign_input *input)
+{
+    if (cose_is_null_(keys, keys_length) ||
+        cose_is_null_(aad, aad_length) ||
+        cose_is_null_(message, message_length) ||
+        cose_is_null_(payload, payload_length)) {
+        memset(verdict, 0, sizeof *verdict);
+        verdict->status = COSE_BAD_ARGUMENT;
+        return;
+    }
+    cose_edge_large_verify_detached(cose_slice_(keys), keys_length, cose_slice_(aad), aad_length, wanted, cose_slice_(message),
+        message_length, cose_slice_(payload), payload_length, verdict, input);
+}
+
+void cose_edge_shape(uint8_t wanted, const uint8_t *message, size_t message_length, struct cose_shape *shape);
+
+/** The shape of a message. Nothing of it is authenticated. */
+static inline void cose_shape(uint8_t wanted, const uint8_t *message, size_t message_length, struct cose_shape *shape)
+{
+    if (cose_is_null_(message, message_length)) {
+        memset(shape, 0, sizeof *shape);
+        shape->status = COSE_BAD_ARGUMENT;
+        return;
+    }
+    cose_edge_shape(wanted, cose_slice_(message), message_length, shape);
+}
+
+void cose_edge_read_keys(const uint8_t *keys, size_t keys_length, struct cose_key_set *key_set);
+
+/** How many usable keys a COSE_Key or a COSE_KeySet has (RFC 9052 section 7): a key that is refused is ignored. */
+static inline void cose_read_keys(const uint8_t *keys, size_t keys_length, struct cose_key_set *key_set)
+{
+    if (cose_is_null_(keys, keys_length)) {
+        memset(key_set, 0, sizeof *key_set);
+        key_set->status = COSE_BAD_ARGUMENT;
+        return;
+    }
+    cose_edge_read_keys(cose_slice_(keys), keys_length, key_set);
+}
+
+/* ---- Tokens. */
+
+void cose_edge_verify_cwt(const uint8_t *keys, size_t keys_length, const uint8_t *aad, size_t aad_length,
+    const struct cose_policy *policy, const uint8_t *token, size_t token_length, struct cose_claims *claims);
+
+/** Verifies a token and reads its claims (RFC 8392 section 7.2): the bytes are the token. A COSE_Mac0 alone: of a COSE_Sign1 the status is
+ * COSE_SIGNED, and there are no claims. Call cose_verify, verify the signature, and then call cose_claims over the payload. */
+static inline void cose_verify_cwt(const uint8_t *keys, size_t keys_length, const uint8_t *aad, size_t aad_length,
+    const struct cose_policy *policy, const uint8_t *token, size_t token_length, struct cose_claims *claims)
+{
+    struct cose_policy cose_policy_ = *policy;
+    if (cose_is_null_(keys, keys_length) ||
+        cose_is_null_(aad, aad_length) ||
+        cose_is_null_(token, token_length) ||
+        cose_is_null_(policy->audience, policy->audience_length)) {
+        memset(claims, 0, sizeof *claims);
+        claims->status = COSE_BAD_ARGUMENT;
+        return;
+    }
+    cose_policy_.audience = cose_slice_(policy->audience);
+    cose_edge_verify_cwt(cose_slice_(keys), keys_length, cose_slice_(aad), aad_length, &cose_policy_, cose_slice_(token),
+        token_length, claims);
+}
+
+void cose_edge_large_verify_cwt(const uint8_t *keys, size_t keys_length, const uint8_t *aad, size_t aad_length,
+    const struct cose_policy *policy, const uint8_t *token, size_t token_length, struct cose_claims *claims);
+
+/** The same for headers of 65,535 bytes, where headers and claims nest 16 deep: a call needs some 140 KB of stack. */
+static inline void cose_large_verify_cwt(const uint8_t *keys, size_t keys_length, const uint8_t *aad, size_t aad_length,
+    const struct cose_policy *policy, const uint8_t *token, size_t token_length, struct cose_claims *claims)
+{
+    struct cose_policy cose_policy_ = *policy;
+    if (cose_is_null_(keys, keys_length) ||
+        cose_is_null_(aad, aad_length) ||
+        cose_is_null_(token, token_length) ||
+        cose_is_null_(policy->audience, policy->audience_length)) {
+        memset(claims, 0, sizeof *claims);
+        claims->status = COSE_BAD_ARGUMENT;
+        return;
+    }
+    cose_policy_.audience = cose_slice_(policy->audience);
+    cose_edge_large_verify_cwt(cose_slice_(keys), keys_length, cose_slice_(aad), aad_length, &cose_policy_, cose_slice_(token),
+        token_length, claims);
+}
+
+void cose_edge_claims(const uint8_t *payload, size_t payload_length, const struct cose_policy *policy, struct cose_claims *claims);
+
+/** Reads the claims of a payload that is known to be authentic. */
+static inline void cose_claims(const uint8_t *payload, size_t payload_length, const struct cose_policy *policy,
+    struct cose_claims *claims)
+{
+    struct cose_policy cose_policy_ = *policy;
+    if (cose_is_null_(payload, payload_length) || cose_is_null_(policy->audience, policy->audience_length)) {
+        memset(claims, 0, sizeof *claims);
+        claims->status = COSE_BAD_ARGUMENT;
+        return;
+    }
+    cose_policy_.audience = cose_slice_(policy->audience);
+    cose_edge_claims(cose_slice_(payload), payload_length, &cose_policy_, claims);
+}
+
+void cose_edge_large_claims(const uint8_t *payload, size_t payload_length, const struct cose_policy *policy,
+    struct cose_claims *claims);
+
+/** The same for claims that nest 16 deep. */
+static inline void cose_large_claims(const uint8_t *payload, size_t payload_length, const struct cose_policy *policy,
+    struct cose_claims *claims)
+{
+    struct cose_policy cose_policy_ = *policy;
+    if (cose_is_null_(payload, payload_length) || cose_is_null_(policy->audience, policy->audience_length)) {
+        memset(claims, 0, sizeof *claims);
+        claims->status = COSE_BAD_ARGUMENT;
+        return;
+    }
+    cose_policy_.audience = cose_slice_(policy->audience);
+    cose_edge_large_claims(cose_slice_(payload), payload_length, &cose_policy_, claims);
+}
+
+void cose_edge_audience(const uint8_t *payload, size_t payload_length, uint64_t index, struct cose_range *audience);
+
+/** The text string of this number, from 0, of the audience that a payload names (RFC 8392 section 3.1.3). present is 0 where it has
+ * fewer, and where the payload isn't a claims set. */
+static inline void cose_audience(const uint8_t *payload, size_t payload_length, uint64_t index, struct cose_range *audience)
+{
+    if (cose_is_null_(payload, payload_length)) {
+        memset(audience, 0, sizeof *audience);
+        return;
+    }
+    cose_edge_audience(cose_slice_(payload), payload_length, index, audience);
+}
+
+/* ---- A verifier in the caller's memory, which is fed. */
+
+/** How many bytes its block has. */
+size_t cose_verifier_size(void);
+
+/** What the address of its block is a multiple of. */
+size_t cose_verifier_align(void);
+
+/** Makes the block a verifier without keys. Once, before anything else. */
+void cose_begin(uint8_t *block);
+
+void cose_edge_open(struct cose_verifier *verifier, const uint8_t *keys, size_t keys_length, const uint8_t *aad,
+    size_t aad_length, uint8_t wanted, struct cose_status *status);
+
+/** Gives it the keys and the externally supplied data of the next messages: COSE_MORE, or why there are none. */
+static inline void cose_open(struct cose_verifier *verifier, const uint8_t *keys, size_t keys_length, const uint8_t *aad,
+    size_t aad_length, uint8_t wanted, struct cose_status *status)
+{
+    if (cose_is_null_(keys, keys_length) || cose_is_null_(aad, aad_length)) {
+        memset(status, 0, sizeof *status);
+        status->status = COSE_BAD_ARGUMENT;
+        return;
+    }
+    cose_edge_open(verifier, cose_slice_(keys), keys_length, cose_slice_(aad), aad_length, wanted, status);
+}
+
+void cose_edge_open_detached(struct cose_verifier *verifier, const uint8_t *keys, size_t keys_length, const uint8_t *aad,
+    size_t aad_length, uint8_t wanted, uint64_t payload_length, struct cose_status *status);
+
+/** The same for messages whose payload is detached, and has so many bytes. */
+static inline void cose_open_detached(struct cose_verifier *verifier, const uint8_t *keys, size_t keys_length, const uint8_t *aad,
+    size_t aad_length, uint8_t wanted, uint64_t payload_length, struct cose_status *status)
+{
+    if (cose_is_null_(keys, keys_length) || cose_is_null_(aad, aad_length)) {
+        memset(status, 0, sizeof *status);
+        status->status = COSE_BAD_ARGUMENT;
+        return;
+    }
+    cose_edge_open_detached(verifier, cose_slice_(keys), keys_length, cose_slice_(aad), aad_length, wanted, payload_length, status);
+}
+
+void cose_edge_feed(struct cose_verifier *verifier, const uint8_t *piece, size_t piece_length, struct cose_fed *fed);
+
+/** Takes the next bytes of the message: the fewest that settle it, or all of the piece. */
+static inline void cose_feed(struct cose_verifier *verifier, const uint8_t *piece, size_t piece_length, struct cose_fed *fed)
+{
+    if (cose_is_null_(piece, piece_length)) {
+        memset(fed, 0, sizeof *fed);
+        fed->status.status = COSE_BAD_ARGUMENT;
+        return;
+    }
+    cose_edge_feed(verifier, cose_slice_(piece), piece_length, fed);
+}
+
+/** How many bytes of the message are to come for certain. */
+uint64_t cose_wanted(struct cose_verifier *verifier);
+
+/** How many bytes of a detached payload are wanted. */
+uint64_t cose_payload_wanted(struct cose_verifier *verifier);
+
+uint64_t cose_edge_feed_payload(struct cose_verifier *verifier, const uint8_t *piece, size_t piece_length);
+
+/** Takes the next bytes of a detached payload, and returns how many it used. */
+static inline uint64_t cose_feed_payload(struct cose_verifier *verifier, const uint8_t *piece, size_t piece_length)
+{
+    if (cose_is_null_(piece, piece_length)) {
+        return 0;
+    }
+    return cose_edge_feed_payload(verifier, cose_slice_(piece), piece_length);
+}
+
+/** Says that no byte follows: a message that isn't settled is refused (COSE_REASON_TRUNCATED). */
+void cose_end(struct cose_verifier *verifier, struct cose_status *status);
+
+/** What the signature of a message that is complete is verified with: 1 where it has one, and otherwise 0. */
+uint8_t cose_sign_input(struct cose_verifier *verifier, struct cose_sign_input *input);
+
+/** The verdict on a message that is complete. 1 says that the signature of cose_sign_input is good, as EVP_PKEY_verify returns; any other
+ * number that it isn't. For a COSE_Mac0 the number doesn't count. */
+void cose_verdict(struct cose_verifier *verifier, int32_t signature_is_good, struct cose_verdict *verdict);
+
+/** Begins the next message, under the same keys. */
+void cose_reset(struct cose_verifier *verifier);
+
+/** How many bytes of the message were taken. */
+uint64_t cose_taken(struct cose_verifier *verifier);
+
+/** How many bytes of it are held, and 256 for the running hash. */
+uint64_t cose_held(struct cose_verifier *verifier);
+
+/* ---- The same for headers of 65,535 bytes that nest 16 deep. */
+
+/** How many bytes its block has. */
+size_t cose_large_verifier_size(void);
+
+/** What the address of its block is a multiple of. */
+size_t cose_large_verifier_align(void);
+
+/** Makes the block a verifier without keys. Once, before anything else. */
+void cose_large_begin(uint8_t *block);
+
+void cose_edge_large_open(struct cose_large_verifier *verifier, const uint8_t *keys, size_t keys_length, const uint8_t *aad,
+    size_t aad_length, uint8_t wanted, struct cose_status *status);
+
+/** Gives it the keys and the externally supplied data of the next messages: COSE_MORE, or why there are none. */
+static inline void cose_large_open(struct cose_large_verifier *verifier, const uint8_t *keys, size_t keys_length,
+    const uint8_t *aad, size_t aad_length, uint8_t wanted, struct cose_status *status)
+{
+    if (cose_is_null_(keys, keys_length) || cose_is_null_(aad, aad_length)) {
+        memset(status, 0, sizeof *status);
+        status->status = COSE_BAD_ARGUMENT;
+        return;
+    }
+    cose_edge_large_open(verifier, cose_slice_(keys), keys_length, cose_slice_(aad), aad_length, wanted, status);
+}
+
+void cose_edge_large_open_detached(struct cose_large_verifier *verifier, const uint8_t *keys, size_t keys_length,
+    const uint8_t *aad, size_t aad_length, uint8_t wanted, uint64_t payload_length, struct cose_status *status);
+
+/** The same for messages whose payload is detached, and has so many bytes. */
+static inline void cose_large_open_detached(struct cose_large_verifier *verifier, const uint8_t *keys, size_t keys_length,
+    const uint8_t *aad, size_t aad_length, uint8_t wanted, uint64_t payload_length, struct cose_status *status)
+{
+    if (cose_is_null_(keys, keys_length) || cose_is_null_(aad, aad_length)) {
+        memset(status, 0, sizeof *status);
+        status->status = COSE_BAD_ARGUMENT;
+        return;
+    }
+    cose_edge_large_open_detached(verifier, cose_slice_(keys), keys_length, cose_slice_(aad), aad_length, wanted, payload_length,
+        status);
+}
+
+void cose_edge_large_feed(struct cose_large_verifier *verifier, const uint8_t *piece, size_t piece_length, struct cose_fed *fed);
+
+/** Takes the next bytes of the message: the fewest that settle it, or all of the piece. */
+static inline void cose_large_feed(struct cose_large_verifier *verifier, const uint8_t *piece, size_t piece_length,
+    struct cose_fed *fed)
+{
+    if (cose_is_null_(piece, piece_length)) {
+        memset(fed, 0, sizeof *fed);
+        fed->status.status = COSE_BAD_ARGUMENT;
+        return;
+    }
+    cose_edge_large_feed(verifier, cose_slice_(piece), piece_length, fed);
+}
+
+/** How many bytes of the message are to come for certain. */
+uint64_t cose_large_wanted(struct cose_large_verifier *verifier);
+
+/** How many bytes of a detached payload are wanted. */
+uint64_t cose_large_payload_wanted(struct cose_large_verifier *verifier);
+
+uint64_t cose_edge_large_feed_payload(struct cose_large_verifier *verifier, const uint8_t *piece, size_t piece_length);
+
+/** Takes the next bytes of a detached payload, and returns how many it used. */
+static inline uint64_t cose_large_feed_payload(struct cose_large_verifier *verifier, const uint8_t *piece, size_t piece_length)
+{
+    if (cose_is_null_(piece, piece_length)) {
+        return 0;
+    }
+    return cose_edge_large_feed_payload(verifier, cose_slice_(piece), piece_length);
+}
+
+/** Says that no byte follows: a message that isn't settled is refused (COSE_REASON_TRUNCATED). */
+void cose_large_end(struct cose_large_verifier *verifier, struct cose_status *status);
+
+/** What the signature of a message that is complete is verified with: 1 where it has one, and otherwise 0. */
+uint8_t cose_large_sign_input(struct cose_large_verifier *verifier, struct cose_sign_input *input);
+
+/** The verdict on a message that is complete. 1 says that the signature of cose_sign_input is good, as EVP_PKEY_verify returns; any other
+ * number that it isn't. For a COSE_Mac0 the number doesn't count. */
+void cose_large_verdict(struct cose_large_verifier *verifier, int32_t signature_is_good, struct cose_verdict *verdict);
+
+/** Begins the next message, under the same keys. */
+void cose_large_reset(struct cose_large_verifier *verifier);
+
+/** How many bytes of the message were taken. */
+uint64_t cose_large_taken(struct cose_large_verifier *verifier);
+
+/** How many bytes of it are held, and 256 for the running hash. */
+uint64_t cose_large_held(struct cose_large_verifier *verifier);
+
+/* ---- A table of keys in the caller's memory. */
+
+/** How many bytes its block has. */
+size_t cose_table_size(void);
+
+/** What the address of its block is a multiple of. */
+size_t cose_table_align(void);
+
+/** Makes the block a table without keys. Once, before anything else. */
+void cose_table_begin(uint8_t *block);
+
+void cose_edge_table_read(struct cose_table *table, const uint8_t *keys, size_t keys_length, struct cose_key_set *key_set);
+
+/** Reads the keys of a COSE_Key or a COSE_KeySet, each once. */
+static inline void cose_table_read(struct cose_table *table, const uint8_t *keys, size_t keys_length, struct cose_key_set *key_set)
+{
+    if (cose_is_null_(keys, keys_length)) {
+        memset(key_set, 0, sizeof *key_set);
+        key_set->status = COSE_BAD_ARGUMENT;
+        return;
+    }
+    cose_edge_table_read(table, cose_slice_(keys), keys_length, key_set);
+}
+
+void cose_edge_table_verify(struct cose_table *table, const uint8_t *aad, size_t aad_length, uint8_t wanted,
+    const uint8_t *message, size_t message_length, struct cose_verdict *verdict, struct cose_sign_input *input);
+
+/** As cose_verify, under the keys of the table. */
+static inline void cose_table_verify(struct cose_table *table, const uint8_t *aad, size_t aad_length, uint8_t wanted,
+    const uint8_t *message, size_t message_length, struct cose_verdict *verdict, struct cose_sign_input *input)
+{
+    if (cose_is_null_(aad, aad_length) || cose_is_null_(message, message_length)) {
+        memset(verdict, 0, sizeof *verdict);
+        verdict->status = COSE_BAD_ARGUMENT;
+        return;
+    }
+    cose_edge_table_verify(table, cose_slice_(aad), aad_length, wanted, cose_slice_(message), message_length, verdict, input);
+}
+
+void cose_edge_table_verify_cwt(struct cose_table *table, const uint8_t *aad, size_t aad_length,
+    const struct cose_policy *policy, const uint8_t *token, size_t token_length, struct cose_claims *claims);
+
+/** As cose_verify_cwt, under the keys of the table. */
+static inline void cose_table_verify_cwt(struct cose_table *table, const uint8_t *aad, size_t aad_length,
+    const struct cose_policy *policy, const uint8_t *token, size_t token_length, struct cose_claims *claims)
+{
+    struct cose_policy cose_policy_ = *policy;
+    if (cose_is_null_(aad, aad_length) ||
+        cose_is_null_(token, token_length) ||
+        cose_is_null_(policy->audience, policy->audience_length)) {
+        memset(claims, 0, sizeof *claims);
+        claims->status = COSE_BAD_ARGUMENT;
+        return;
+    }
+    cose_policy_.audience = cose_slice_(policy->audience);
+    cose_edge_table_verify_cwt(table, cose_slice_(aad), aad_length, &cose_policy_, cose_slice_(token), token_length, claims);
+}
+
+/* ---- Making a COSE_Mac0 (RFC 9052 section 6.2) over pieces: head, the pieces and tail are the message. */
+
+/** How many bytes its block has. */
+size_t cose_maker_size(void);
+
+/** What the address of its block is a multiple of. */
+size_t cose_maker_align(void);
+
+/** Makes the block a maker of nothing. Once, before anything else. */
+void cose_maker_begin(uint8_t *block);
+
+void cose_edge_make(struct cose_maker *maker, int32_t alg, const uint8_t *key, size_t key_length, const uint8_t *kid,
+    size_t kid_length, const uint8_t *aad, size_t aad_length, uint64_t payload_length, uint8_t *head, size_t head_room,
+    struct cose_made *made);
+
+/** Writes what precedes the payload into head, at most 384 bytes. alg is 4, 5, 6 or 7 (RFC 9053 section 3.1). */
+static inline void cose_make(struct cose_maker *maker, int32_t alg, const uint8_t *key, size_t key_length, const uint8_t *kid,
+    size_t kid_length, const uint8_t *aad, size_t aad_length, uint64_t payload_length, uint8_t *head, size_t head_room,
+    struct cose_made *made)
+{
+    if (cose_is_null_(key, key_length) ||
+        cose_is_null_(kid, kid_length) ||
+        cose_is_null_(aad, aad_length) ||
+        cose_is_null_(head, head_room)) {
+        memset(made, 0, sizeof *made);
+        made->status = COSE_BAD_ARGUMENT;
+        return;
+    }
+    cose_edge_make(maker, alg, cose_slice_(key), key_length, cose_slice_(kid), kid_length, cose_slice_(aad), aad_length,
+        payload_length, cose_room_(head), head_room, made);
+}
+
+uint64_t cose_edge_make_piece(struct cose_maker *maker, const uint8_t *piece, size_t piece_length);
+
+/** Hashes the next bytes of the payload, and returns how many it used. */
+static inline uint64_t cose_make_piece(struct cose_maker *maker, const uint8_t *piece, size_t piece_length)
+{
+    if (cose_is_null_(piece, piece_length)) {
+        return 0;
+    }
+    return cose_edge_make_piece(maker, cose_slice_(piece), piece_length);
+}
+
+void cose_edge_make_end(struct cose_maker *maker, uint8_t *tail, size_t tail_room, struct cose_made *made);
+
+/** Writes what follows the payload into tail, at most 70 bytes. */
+static inline void cose_make_end(struct cose_maker *maker, uint8_t *tail, size_t tail_room, struct cose_made *made)
+{
+    if (cose_is_null_(tail, tail_room)) {
+        memset(made, 0, sizeof *made);
+        made->status = COSE_BAD_ARGUMENT;
+        return;
+    }
+    cose_edge_make_end(maker, cose_room_(tail), tail_room, made);
+}
+
+#ifdef __cplusplus
+}
+#endif
+#endif
