@@ -1,6 +1,7 @@
 pub mod Dates
 pub mod Messages
+pub mod Parts
 pub mod Steps
 pub mod Streams
-pub mod Parts
+pub mod Tails
 pub mod WorkedTerms

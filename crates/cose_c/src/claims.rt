@@ -220,7 +220,7 @@ fn status_of(verdict: CoseVerdict) -> CoseStatus {
 }
 
 /// The claims of a token whose verdict is known.
-fn claims_after(
+pub(crate) fn claims_after(
     verdict: CoseVerdict,
     token: &[u8],
     depth: usize,

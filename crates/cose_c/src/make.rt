@@ -18,13 +18,14 @@ ghost use Rattle.cose_c.specs.Make.{MakesIn, arguments_fault, fault_numbers, kid
 use crate::held::maker::CoseMaker;
 use crate::numbers::{AAD_TOO_LONG, BAD_ARGUMENT, CLOSED, COMPLETE, KEYS_REFUSED, MORE};
 use crate::terms::MOST_AAD;
+use cose_mac::laws::mac_has_its_length;
 use cose_msg::{Alg, Key, MakeFault, Maker, Store};
 
 /// The most bytes that precede the payload, with room to spare.
 const MOST_FRONT: usize = 384;
 
 /// The most bytes that follow it: a head, and a MAC of at most 64 bytes.
-const MOST_TAIL: usize = 73;
+const MOST_TAIL: usize = 70;
 
 /// What was made of a message.
 #[repr(C)]
@@ -208,7 +209,8 @@ pub extern "C" fn cose_edge_make_piece(maker: &mut CoseMaker, piece: &[u8]) -> u
     }
 }
 
-/// Ends a message, and writes what follows the payload into `tail`, where there is room for 73 bytes: the block has no message then.
+/// Ends a message, and writes what follows the payload into `tail`, where there is room for 70 bytes: the block has no message then.
+#[tactic(auto, using(crate::proofs::Tails::tail_fits))]
 fn end(content: &mut Option<Maker>, tail: &mut [u8]) -> CoseMade
     ensures short { 0 < left_by content.old
         → (result ≡ not_made 0 0) × (content.new ≡ content.old) }
@@ -219,9 +221,10 @@ fn end(content: &mut Option<Maker>, tail: &mut [u8]) -> CoseMade
     ensures done { result.status ≡ 7 → content.new ≡ None }
     ensures ends { (alg : Alg) (secret aad payload : List ℕ)
         → MakesIn alg secret aad (length payload) payload content.old
-        → length (encoded_string 2 (auth_made alg secret aad payload)) ≤ 73
-        → 73 ≤ length tail.old → result.status ≡ 7 }
+        → 70 ≤ length tail.old → result.status ≡ 7 }
 {
+    // The law that the proof cites.
+    mac_has_its_length();
     let left = match content {
         Some(making) => making.left(),
         None => return not_made(CLOSED, 0),
@@ -249,7 +252,7 @@ fn end(content: &mut Option<Maker>, tail: &mut [u8]) -> CoseMade
 }
 
 /// Ends the message: writes what follows the payload into `tail`, and says how many bytes that were. The status is `COMPLETE`; `MORE`
-/// where bytes of the payload are to come; `BAD_ARGUMENT` where `tail` has room for fewer than 73 bytes.
+/// where bytes of the payload are to come; `BAD_ARGUMENT` where `tail` has room for fewer than 70 bytes.
 #[unsafe(no_mangle)]
 pub extern "C" fn cose_edge_make_end(maker: &mut CoseMaker, tail: &mut [u8], made: &mut CoseMade)
     ensures short { 0 < left_by maker.old.value.content
@@ -262,8 +265,7 @@ pub extern "C" fn cose_edge_make_end(maker: &mut CoseMaker, tail: &mut [u8], mad
     ensures done { made.new.status ≡ 7 → maker.new.value.content ≡ None }
     ensures ends { (alg : Alg) (secret aad payload : List ℕ)
         → MakesIn alg secret aad (length payload) payload maker.old.value.content
-        → length (encoded_string 2 (auth_made alg secret aad payload)) ≤ 73
-        → 73 ≤ length tail.old → made.new.status ≡ 7 }
+        → 70 ≤ length tail.old → made.new.status ≡ 7 }
 {
     *made = end(&mut maker.lend().content, tail);
 }

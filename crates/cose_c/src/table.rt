@@ -8,14 +8,16 @@ ghost use Rattle.cose_c.specs.KeySet.{key_set_numbers};
 ghost use Rattle.cose_c.specs.Message.{Covers, input_given, is_accepted, payload_given, verdict_given};
 ghost use Rattle.cose_c.specs.Table.{keys_in, keys_read, setting_under_table, table_settings};
 
+use crate::claims::{CosePolicy, claims_after};
 use crate::held::table::{CoseTable, TABLE};
-use crate::input::CoseSignInput;
+use crate::input::{CoseSignInput, blank_input};
 use crate::key_set::{CoseKeySet, counted, no_key_set};
 use crate::message::read_whole;
 use crate::numbers::{
     CLOSED, CoseStatus, CoseVerdict, KEYS_REFUSED, no_message, plain_status, refused_status,
 };
 use crate::terms::{HEADER, NESTING, PAYLOAD, kinds_wanted};
+use crate::told::{CoseClaims, no_claims};
 use cose_msg::{Context, KeyTable, Verifier};
 
 /// What a message is verified under, by a table of keys, or why none is: a block that isn't read has no keys.
@@ -99,5 +101,26 @@ pub extern "C" fn cose_edge_table_verify(
             read_whole(&mut verifier, message, input)
         }
         Err(status) => no_message(status),
+    };
+}
+
+/// Verifies a token in memory under the table's keys and reads its claims, as `cose_verify_cwt` does under those of a key set.
+#[unsafe(no_mangle)]
+pub extern "C" fn cose_edge_table_verify_cwt(
+    table: &mut CoseTable,
+    aad: &[u8],
+    policy: &CosePolicy<'_>,
+    token: &[u8],
+    claims: &mut CoseClaims,
+)
+    ensures same { table.new.value.content ≡ table.old.value.content }
+{
+    *claims = match context(&table.lend().content, aad, 0) {
+        Ok(context) => {
+            let mut verifier = Verifier::<HEADER, NESTING, &KeyTable<'_, TABLE>>::new(context);
+            let verdict = read_whole(&mut verifier, token, &mut blank_input());
+            claims_after(verdict, token, NESTING, policy)
+        }
+        Err(status) => no_claims(status),
     };
 }

@@ -96,7 +96,7 @@ impl Maker {
         count
     }
 
-    /// Ends the message: puts what follows the payload, and returns its number of bytes, at most 73. Where bytes of the payload are to
+    /// Ends the message: puts what follows the payload, and returns its number of bytes, at most 66. Where bytes of the payload are to
     /// come it puts nothing.
     pub fn end<S: Sink>(self, sink: &mut S) -> Result<u64, MakeFault>
         ensures short { 0 < bytes_left self → (result ≡ Err MakeFault.ShortPayload)
