@@ -178,6 +178,46 @@ static void tables(void)
     is("a table after refused keys", verdict.status, COSE_CLOSED);
 }
 
+static struct cose_made made(struct cose_maker *maker, int32_t alg, const uint8_t *key, size_t key_length,
+                             size_t aad_length, size_t head_room)
+{
+    static uint8_t head[384];
+    struct cose_made found;
+    cose_make(maker, alg, key, key_length, NULL, 0, much, aad_length, 2, head, head_room, &found);
+    return found;
+}
+
+static void makers(void)
+{
+    static uint8_t tail[70];
+    const size_t n = sizeof keys;
+    struct cose_maker maker = {block};
+    struct cose_made found;
+    is("the size of a maker", cose_maker_size() <= sizeof block && cose_maker_align() <= 64, 1);
+    cose_maker_begin(block);
+    is("a piece of nothing", cose_make_piece(&maker, mac0, 1), 0);
+    cose_make_end(&maker, tail, sizeof tail, &found);
+    is("the end of nothing", found.status, COSE_CLOSED);
+    for (int32_t alg = -40; alg < 300; alg++)
+        if (alg < 4 || alg > 7)
+            is("an algorithm", made(&maker, alg, keys, n, 0, 384).status, COSE_BAD_ARGUMENT);
+    is("no key", made(&maker, 5, NULL, 0, 0, 384).status, COSE_KEYS_REFUSED);
+    is("NULL for a key", made(&maker, 5, NULL, 1, 0, 384).status, COSE_BAD_ARGUMENT);
+    is("a point for a key", made(&maker, 5, point, 75, 0, 384).status, COSE_KEYS_REFUSED);
+    is("too much data", made(&maker, 5, keys, n, 65536, 384).status, COSE_AAD_TOO_LONG);
+    is("no room", made(&maker, 5, keys, n, 0, 7).status, COSE_BAD_ARGUMENT);
+    cose_make_end(&maker, tail, sizeof tail, &found);
+    is("the end of what wasn't begun", found.status, COSE_CLOSED);
+    is("room for eight", made(&maker, 5, keys, n, 0, 8).length, 8);
+    is("three bytes for two", cose_make_piece(&maker, mac0 + 8, 3), 2);
+    cose_make_end(&maker, tail, 69, &found);
+    is("no room for the end", found.status, COSE_BAD_ARGUMENT);
+    cose_make_end(&maker, tail, sizeof tail, &found);
+    is("the end", found.status == COSE_COMPLETE && memcmp(tail, mac0 + 10, found.length) == 0, 1);
+    cose_make_end(&maker, tail, sizeof tail, &found);
+    is("the end again", found.status, COSE_CLOSED);
+}
+
 int main(void)
 {
     one_call();
@@ -185,6 +225,7 @@ int main(void)
     blocks();
     signatures();
     tables();
+    makers();
     printf("%d failed\n", failures);
     return failures != 0;
 }

@@ -21,7 +21,8 @@ pub(crate) mod number {
 /// Why there is no payload, no claims or no message.
 #[derive(Clone, Copy, Debug, PartialEq, Eq, Hash)]
 pub enum Error {
-    /// The key set is refused. The place is relative to its first byte.
+    /// The key set is refused. The place is relative to its first byte. Of the key of a message that is made the place isn't known,
+    /// and is 0 here.
     Keys(Refusal),
     /// The message is refused. The place is relative to its first byte.
     Message(Refusal),
@@ -32,6 +33,8 @@ pub enum Error {
     Signed,
     /// The externally supplied data has more than 65,535 bytes.
     AadTooLong,
+    /// The key of a message that is made doesn't make MACs by the algorithm.
+    WrongKey,
     /// The message isn't complete, so that there is no verdict; or a message that is made lacks bytes of its payload.
     Incomplete,
     /// An argument of [`Maker::begin`](crate::Maker::begin) is out of its range.
@@ -50,6 +53,7 @@ impl Error {
             }
             Error::Signed
             | Error::AadTooLong
+            | Error::WrongKey
             | Error::Incomplete
             | Error::BadArgument
             | Error::OtherLibrary => None,
@@ -76,6 +80,7 @@ impl Error {
             (number::KEYS_REFUSED, Some(refusal)) => Error::Keys(refusal),
             (number::CLAIMS_REFUSED, Some(refusal)) => Error::Claims(refusal),
             (number::SIGNED, None) => Error::Signed,
+            (number::KEYS_REFUSED, None) => Error::WrongKey,
             (number::AAD_TOO_LONG, None) => Error::AadTooLong,
             (number::MORE | number::PAYLOAD_NEXT, None) => Error::Incomplete,
             (number::BAD_ARGUMENT, None) => Error::BadArgument,
@@ -94,6 +99,7 @@ impl fmt::Display for Error {
             Error::AadTooLong => {
                 formatter.write_str("the externally supplied data has more than 65,535 bytes")
             }
+            Error::WrongKey => formatter.write_str("the key doesn't make MACs by this algorithm"),
             Error::Incomplete => formatter.write_str("the message isn't complete"),
             Error::BadArgument => formatter.write_str("an argument is out of its range"),
             Error::OtherLibrary => {

@@ -67,8 +67,8 @@ impl<'b> Maker<'b> {
     ///
     /// # Errors
     ///
-    /// The key is refused, or doesn't make MACs by the algorithm; the externally supplied data is too long; or the payload or the key
-    /// identifier is.
+    /// The key is refused, or doesn't make MACs by the algorithm ([`Error::WrongKey`]); the externally supplied data is too long; or
+    /// the payload or the key identifier is ([`Error::BadArgument`]).
     pub fn begin<'h>(
         block: &'b mut MakerBlock,
         key: &[u8],
@@ -119,12 +119,12 @@ impl<'b> Maker<'b> {
         usize::try_from(used).map_or(piece.len(), |used| used.min(piece.len()))
     }
 
-    /// Ends the message, and returns what follows the payload.
+    /// Ends the message, and returns what follows the payload. Without that what was begun is no message.
     ///
     /// # Errors
     ///
     /// Bytes of the payload are missing.
-    pub fn end<'t>(&mut self, tail: &'t mut [u8; TAIL_ROOM]) -> Result<&'t [u8], Error> {
+    pub fn end(mut self, tail: &mut [u8; TAIL_ROOM]) -> Result<&[u8], Error> {
         let mut made = raw::Made::default();
         // SAFETY: the block was begun, and the pointer with the length is that of one slice, which is borrowed for the call.
         unsafe {

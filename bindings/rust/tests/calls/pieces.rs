@@ -226,6 +226,31 @@ fn made_messages() {
 }
 
 #[test]
+fn messages_that_are_not_made() {
+    let making = |alg, kid| Making { alg, kid, aad: b"" };
+    let begun = |key: &[u8], making: &Making, length| {
+        let (mut block, mut head) = (Block::new(), [0; HEAD_ROOM]);
+        Maker::begin(&mut block, key, making, length, &mut head).map(|_| ())
+    };
+    let (key, good) = (hex(JEFE), making(MacAlg::Hmac512, b""));
+    assert_eq!(begun(&key, &good, (1 << 56) - 1), Ok(()));
+    assert_eq!(begun(&key, &good, 1 << 56), Err(Error::BadArgument));
+    assert_eq!(begun(&key, &making(MacAlg::Hmac512, &[0; 255]), 2), Ok(()));
+    assert_eq!(
+        begun(&key, &making(MacAlg::Hmac512, &[0; 256]), 2),
+        Err(Error::BadArgument)
+    );
+    // a key of HMAC 256/256 makes no other MAC
+    let other = hex("a30104030520444a656665");
+    assert_eq!(begun(&other, &making(MacAlg::Hmac256, b""), 2), Ok(()));
+    assert_eq!(begun(&other, &good, 2), Err(Error::WrongKey));
+    assert_eq!(
+        begun(&[0x80], &good, 2).map_err(|error| error.reason()),
+        Err(Some(Reason::NotMap))
+    );
+}
+
+#[test]
 fn a_message_that_lacks_payload() {
     let making = Making {
         alg: MacAlg::Hmac512,
@@ -236,9 +261,7 @@ fn a_message_that_lacks_payload() {
     let (mut maker, _) =
         Maker::begin(&mut block, &hex(JEFE), &making, 2, &mut head).expect("the key is good");
     assert_eq!(maker.piece(b"h"), 1);
-    assert!(maker.end(&mut tail).is_err());
-    let mut block = Block::new();
-    assert!(Maker::begin(&mut block, &[0xa0], &making, 2, &mut head).is_err());
+    assert_eq!(maker.end(&mut tail), Err(Error::Incomplete));
 }
 
 #[test]
