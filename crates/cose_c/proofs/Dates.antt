@@ -7,7 +7,7 @@ use Rattle.cose_head.proofs.Placed.{negative_found, no_integer, unsigned_found}
 use Rattle.cose_c.specs.declared.told.CoseDate.{CoseDate}
 use Rattle.cose_c.specs.Told.{date_numbers, no_date}
 
-looks : (p : Placed) (h : Head) → h ≡ head_of_item p → look p ≡ look_with h (drop h.width p.bytes)
+pub looks : (p : Placed) (h : Head) → h ≡ head_of_item p → look p ≡ look_with h (drop h.width p.bytes)
 unfolding look
 looks p h e = rw e refl
 

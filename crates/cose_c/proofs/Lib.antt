@@ -1,7 +1,9 @@
 pub mod Dates
+pub mod Given
 pub mod Messages
 pub mod Parts
 pub mod Steps
 pub mod Streams
+pub mod Strings
 pub mod Tails
 pub mod WorkedTerms

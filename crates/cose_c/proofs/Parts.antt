@@ -1,5 +1,5 @@
 -- The items of a payload, and the content of its strings, are ranges of it.
-use Rattle.std.proofs.Common.{◌≡◌, ℕ, zero, suc, ◌+◌, ◌-◌, Bool, true, false, cond, List, [], ◌∷◌, length, take, drop, Result, Ok, Err, refl, sym, ap, ◌∙◌, arith}
+use Rattle.std.proofs.Common.{◌≡◌, ℕ, zero, suc, ◌+◌, ◌-◌, ◌≤◌, Bool, true, false, cond, List, [], ◌∷◌, length, take, drop, Result, Ok, Err, refl, sym, ap, ◌∙◌, arith}
 use Rattle.std.proofs.lemmas.List.{take_all}
 use Rattle.std.specs.List.{AllByRecursion}
 use Rattle.cose_head.specs.declared.head.Head.{Head}
@@ -18,28 +18,33 @@ take_nothing : (n : ℕ) → take {A = ℕ} n [] ≡ []
 take_nothing zero = refl
 take_nothing (suc n) = refl
 
-drop_twice : (a b : ℕ) (xs : List ℕ) → drop a (drop b xs) ≡ drop (b + a) xs
+pub drop_twice : (a b : ℕ) (xs : List ℕ) → drop a (drop b xs) ≡ drop (b + a) xs
 drop_twice a zero xs = let same : a ≡ 0 + a = omega arith in ap (λ (n : ℕ). drop n xs) same
 drop_twice a (suc b) [] = drop_nothing a ∙ sym (drop_nothing (suc b + a))
 drop_twice a (suc b) (x ∷ xs) = let same : suc (b + a) ≡ suc b + a = omega arith in drop_twice a b xs ∙ ap (λ (n : ℕ). drop n (x ∷ xs)) same
 
-drop_taken : (n k : ℕ) (xs : List ℕ) → drop n (take k xs) ≡ take (k - n) (drop n xs)
+pub drop_taken : (n k : ℕ) (xs : List ℕ) → drop n (take k xs) ≡ take (k - n) (drop n xs)
 drop_taken zero k xs = let same : k ≡ k - 0 = omega arith in ap (λ (m : ℕ). take m xs) same
 drop_taken (suc n) zero xs = let same : 0 ≡ 0 - suc n = omega arith in ap (λ (m : ℕ). take m (drop (suc n) xs)) same
 drop_taken (suc n) (suc k) [] = sym (take_nothing (suc k - suc n))
 drop_taken (suc n) (suc k) (x ∷ xs) = let same : k - n ≡ suc k - suc n = omega arith in drop_taken n k xs ∙ ap (λ (m : ℕ). take m (drop n xs)) same
 
-taken_twice : (a b : ℕ) (xs : List ℕ) → (n : ℕ) × (take a (take b xs) ≡ take n xs)
+pub taken_twice : (a b : ℕ) (xs : List ℕ) → (n : ℕ) × (take a (take b xs) ≡ take n xs)
 taken_twice zero b xs = (0, refl)
 taken_twice (suc a) zero xs = (0, refl)
 taken_twice (suc a) (suc b) [] = (0, refl)
 taken_twice (suc a) (suc b) (x ∷ xs) = let others = taken_twice a b xs in (suc others.0, ap (λ (l : List ℕ). x ∷ l) others.1)
 
 -- As many as there are.
-taken_all : (n : ℕ) (xs : List ℕ) → take (length (take n xs)) xs ≡ take n xs
+pub taken_all : (n : ℕ) (xs : List ℕ) → take (length (take n xs)) xs ≡ take n xs
 taken_all zero xs = refl
 taken_all (suc n) [] = refl
 taken_all (suc n) (x ∷ xs) = ap (λ (l : List ℕ). x ∷ l) (taken_all n xs)
+
+pub taken_short : (n : ℕ) (xs : List ℕ) → length (take n xs) ≤ length xs
+taken_short zero xs = omega arith
+taken_short (suc n) [] = omega arith
+taken_short (suc n) (x ∷ xs) = let others = taken_short n xs in omega (arith, others)
 
 -- ---- items
 

@@ -1,6 +1,7 @@
 -- What a caller gets of the claims of a token.
-use Rattle.std.specs.Prelude.{◌≡◌, ℕ, ℤ, pos, negsuc, ◌+◌, List, length, Option, Some, None, option_and_then}
+use Rattle.std.specs.Prelude.{◌≡◌, ℕ, ℤ, pos, negsuc, ◌+◌, ◌≤◌, List, length, Option, Some, None, option_and_then, ⊤}
 use Rattle.cose_head.specs.Placed.{Placed, bytes_in, head_of_item, integer_in, look, text_in}
+use Rattle.cose_head.specs.PlacedLaws.{end_of}
 use Rattle.cose_map.specs.Map.Form.{Table}
 use Rattle.cose_c.specs.declared.numbers.CoseStatus.{CoseStatus}
 use Rattle.cose_c.specs.declared.told.CoseClaims.{CoseClaims}
@@ -29,6 +30,11 @@ text_range None = no_range
 abbrev pub bytes_range : Option Placed → CoseRange
 bytes_range (Some item) = content_range item (bytes_in (look item))
 bytes_range None = no_range
+
+-- A range begins before the end of the item that it is of, or at it.
+abbrev pub StartsInside : Option Placed → CoseRange → Type 0
+StartsInside (Some item) range = range.at ≤ end_of item
+StartsInside None range = ⊤
 
 -- A date before 1970 is -1 less its number (RFC 8949 section 3.1).
 abbrev pub date_value : Option Placed → Option ℤ

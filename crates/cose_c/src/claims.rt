@@ -1,12 +1,22 @@
 //! A token in memory, by one call, and the claims of a payload.
 
-ghost use Rattle.std.specs.Prelude.{◌≡◌, ◌≤◌, option_map};
+ghost use Rattle.std.specs.Prelude.{◌≡◌, ◌≢◌, ◌≤◌, ℕ, false, [], drop, take, Ok, option_map};
+ghost use Rattle.cose_head.specs.Placed.{if_utf8};
+ghost use Rattle.cose_map.specs.KeySet.{keys_of};
+ghost use Rattle.cose_map.specs.Label.View.{label_value};
+ghost use Rattle.cose_map.specs.Map.Pairs.{value_of};
 ghost use Rattle.cose_map.specs.Map.View.{seen_by};
+ghost use Rattle.cose_msg.specs.Kept.{HasTaken, is_inspecting};
+ghost use Rattle.cose_msg.specs.Task.{to_verify};
+ghost use Rattle.cose_msg.specs.Verifier.{is_detached, setting_in};
 ghost use Rattle.cose_cwt.specs.Admission.{admitted_claims};
 ghost use Rattle.cose_cwt.specs.Admission.View.{policy_value};
+ghost use Rattle.cose_cwt.specs.Claims.{claims_of, integer_under};
 ghost use Rattle.cose_cwt.specs.Claims.Audience.{text_value};
 ghost use Rattle.cose_cwt.specs.Claims.View.{claims_value};
-ghost use Rattle.cose_c.specs.Claims.{policy_for};
+ghost use Rattle.cose_c.specs.Claims.{Gives, GivesClaims, GivesToken, GivesTokenIn, claims_given, name_given, name_seen, policy_for, policy_given, status_in, unless_refused};
+ghost use Rattle.cose_c.specs.Terms.{setting_given};
+ghost use Rattle.cose_c.specs.Told.{StartsInside, bytes_range, date_numbers, no_claims, text_range};
 
 use crate::input::blank_input;
 use crate::message::read_whole;
@@ -14,10 +24,14 @@ use crate::numbers::{
     AUTHENTIC, BAD_AUDIENCE, CLAIMS_REFUSED, CoseStatus, CoseVerdict, plain_status, refused_status,
 };
 use crate::terms::{HEADER, LARGE_HEADER, LARGE_NESTING, NESTING, context};
-use crate::told::{CoseClaims, CoseRange, bytes_range, date_in, no_claims, no_range, text_range};
+use crate::told::{
+    CoseClaims, CoseDate, CoseRange, bytes_range, date_in, no_claims, no_range, text_range,
+};
+use cose_cwt::laws::claims_are_of_a_tree;
 use cose_cwt::{Audience, Claims, Policy};
+use cose_head::laws::children_are_of_tree;
 use cose_map::{Form, ItemRef, Items, Key, Label, Material, Reason, Y, check_map};
-use cose_msg::{Refusal, Verifier};
+use cose_msg::{Keys, Refusal, Verifier};
 use std::slice;
 
 /// The labels of the claims (RFC 8392 section 3.1).
@@ -61,28 +75,39 @@ pub struct CosePolicy<'p> {
     pub audience: &'p [u8],
 }
 
+/// The bytes as a text string, if they are UTF-8.
+fn utf8(bytes: &[u8]) -> Option<&str>
+    ensures { option_map text_value result ≡ if_utf8 bytes.now }
+{
+    std::str::from_utf8(bytes).ok()
+}
+
 /// The name that an audience has to have, if any.
-fn name_of<'p>(policy: &CosePolicy<'p>) -> Result<Option<&'p str>, CoseStatus> {
+fn name_of<'p>(policy: &CosePolicy<'p>) -> Result<Option<&'p str>, CoseStatus>
+    ensures { name_seen result ≡ name_given policy.entry.now.has_audience policy.entry.now.audience.now }
+{
     if policy.has_audience == 0 {
         return Ok(None);
     }
-    match std::str::from_utf8(policy.audience) {
-        Ok(name) => Ok(Some(name)),
-        Err(_) => Err(plain_status(BAD_AUDIENCE)),
+    match utf8(policy.audience) {
+        Some(name) => Ok(Some(name)),
+        None => Err(plain_status(BAD_AUDIENCE)),
     }
 }
 
 /// A policy: where there is a name and the token names an audience, one of its text strings is this name.
-fn policy_of<'p>(now: i64, leeway: u32, name: &'p Option<&'p str>) -> Policy<'p>
-    ensures { policy_value result ≡ policy_for now leeway (option_map text_value name.entry.now) }
+fn policy_of<'p>(policy: &CosePolicy<'_>, name: &'p Option<&'p str>) -> Policy<'p>
+    ensures { policy_value result
+        ≡ policy_for policy.entry.now.now policy.entry.now.leeway
+        (option_map text_value name.entry.now) }
 {
     let audience = match name {
         Some(name) => Audience::Mine(slice::from_ref(name)),
         None => Audience::LeftToCaller,
     };
     Policy {
-        now,
-        leeway,
+        now: policy.now,
+        leeway: policy.leeway,
         audience,
     }
 }
@@ -146,72 +171,167 @@ impl Form for AnyForm {
     }
 }
 
+/// The confirmation of a token, in the form of the C interface.
+#[derive(Clone, Copy)]
+struct Confirmed {
+    kid: CoseRange,
+    x: CoseRange,
+    y: CoseRange,
+    crv: u8,
+    y_sign: u8,
+}
+
 /// Gives the point of the key that is confirmed, whose item this is (RFC 8747 section 3.2).
-fn give_key(key: &Key<'_>, item: &ItemRef<'_>, told: &mut CoseClaims) {
+fn give_key(key: &Key<'_>, item: &ItemRef<'_>, confirmed: &mut Confirmed) {
     let Material::Ec { crv, y, .. } = key.material else {
         return;
     };
     let Ok(members) = check_map(&AnyForm, item) else {
         return;
     };
-    told.cnf_crv = crv;
-    told.cnf_x = bytes_range(members.get(&X));
+    confirmed.crv = crv;
+    confirmed.x = bytes_range(members.get(&X));
     match y {
-        Y::Bytes(_) => told.cnf_y = bytes_range(members.get(&Y_COORDINATE)),
-        Y::Sign(odd) => told.cnf_y_sign = if odd { 2 } else { 1 },
+        Y::Bytes(_) => confirmed.y = bytes_range(members.get(&Y_COORDINATE)),
+        Y::Sign(odd) => confirmed.y_sign = if odd { 2 } else { 1 },
     }
 }
 
-/// Gives the confirmation of a token, if it has one (RFC 8747 section 3).
-fn give_confirmation(claims: &Claims<'_>, told: &mut CoseClaims) {
-    let Some(cnf) = claims.cnf() else {
-        return;
+/// The confirmation of a token, if it has one (RFC 8747 section 3).
+fn confirmed_by(claims: &Claims<'_>) -> Confirmed {
+    let mut confirmed = Confirmed {
+        kid: no_range(),
+        x: no_range(),
+        y: no_range(),
+        crv: 0,
+        y_sign: 0,
     };
-    let Some(item) = claims.value(&CNF) else {
-        return;
+    let (Some(cnf), Some(item)) = (claims.cnf(), claims.value(&CNF)) else {
+        return confirmed;
     };
     let Ok(members) = check_map(&AnyForm, &item) else {
-        return;
+        return confirmed;
     };
-    told.cnf_kid = bytes_range(members.get(&KID));
+    confirmed.kid = bytes_range(members.get(&KID));
     if let (Some(key), Some(item)) = (cnf.key, members.get(&COSE_KEY)) {
-        give_key(&key, &item, told);
+        give_key(&key, &item, &mut confirmed);
     }
+    confirmed
+}
+
+/// The range of the text string that is the value of a claim.
+fn text_of(claims: &Claims<'_>, label: &Label<'_>) -> CoseRange
+    ensures value { result
+        ≡ text_range (value_of (label_value label.now) (claims_value claims.now).pairs) }
+    ensures inside { StartsInside (value_of (label_value label.now) (claims_value claims.now).pairs)
+        result }
+{
+    text_range(claims.value(label))
+}
+
+/// The range of the byte string that is the value of a claim.
+fn bytes_of(claims: &Claims<'_>, label: &Label<'_>) -> CoseRange
+    ensures value { result
+        ≡ bytes_range (value_of (label_value label.now) (claims_value claims.now).pairs) }
+    ensures inside { StartsInside (value_of (label_value label.now) (claims_value claims.now).pairs)
+        result }
+{
+    bytes_range(claims.value(label))
+}
+
+/// The date that is the value of a claim.
+fn date_of(claims: &Claims<'_>, label: &Label<'_>) -> CoseDate
+    ensures { result
+        ≡ date_numbers (integer_under (label_value label.now) (claims_value claims.now)) }
+{
+    date_in(claims.value(label))
 }
 
 /// The claims that are admitted.
-fn told_claims(claims: &Claims<'_>, payload: &[u8]) -> CoseClaims {
-    let mut told = no_claims(plain_status(AUTHENTIC));
-    told.payload_length = payload.len() as u64;
-    told.iss = text_range(claims.value(&ISS));
-    told.sub = text_range(claims.value(&SUB));
-    told.aud = audience_at(claims, 0);
-    told.cti = bytes_range(claims.value(&CTI));
-    told.aud_count = audience_count(claims);
-    told.exp = date_in(claims.value(&EXP));
-    told.nbf = date_in(claims.value(&NBF));
-    told.iat = date_in(claims.value(&IAT));
-    give_confirmation(claims, &mut told);
-    told
+fn told_claims(claims: &Claims<'_>, payload: &[u8]) -> CoseClaims
+    ensures { (depth : ℕ) → depth ≤ 32
+        → claims_of depth (record { bytes = payload.now; place = 0 }) ≡ Ok (claims_value claims.now)
+        → GivesClaims payload.now (claims_value claims.now) result }
+{
+    // Laws that the proof cites.
+    claims_are_of_a_tree();
+    children_are_of_tree();
+    let iss = text_of(claims, &ISS);
+    let sub = text_of(claims, &SUB);
+    let aud = audience_at(claims, 0);
+    let cti = bytes_of(claims, &CTI);
+    let aud_count = audience_count(claims);
+    let exp = date_of(claims, &EXP);
+    let nbf = date_of(claims, &NBF);
+    let iat = date_of(claims, &IAT);
+    let cnf = confirmed_by(claims);
+    CoseClaims {
+        status: AUTHENTIC,
+        reason: 0,
+        place: 0,
+        payload_at: 0,
+        payload_length: payload.len() as u64,
+        iss,
+        sub,
+        aud,
+        cti,
+        aud_count,
+        exp,
+        nbf,
+        iat,
+        cnf_kid: cnf.kid,
+        cnf_x: cnf.x,
+        cnf_y: cnf.y,
+        cnf_crv: cnf.crv,
+        cnf_y_sign: cnf.y_sign,
+    }
 }
 
-/// The claims of a payload under a policy.
-fn claims_under(payload: &[u8], depth: usize, policy: &CosePolicy<'_>) -> CoseClaims
+/// The claims of a payload, admitted under a policy or refused.
+fn claims_named(payload: &[u8], depth: usize, policy: &Policy<'_>) -> CoseClaims
     requires { depth ≤ 32 }
+    ensures { Gives payload.now
+        (unless_refused (admitted_claims depth (policy_value policy.entry.now) payload.now)) result }
 {
-    let name = match name_of(policy) {
-        Ok(name) => name,
-        Err(status) => return no_claims(status),
-    };
-    let policy = policy_of(policy.now, policy.leeway, &name);
-    match admitted(payload, depth, &policy) {
+    match admitted(payload, depth, policy) {
         Ok(claims) => told_claims(&claims, payload),
         Err(refusal) => no_claims(refused_status(CLAIMS_REFUSED, refusal)),
     }
 }
 
+/// The claims of a payload under a policy.
+fn claims_under(payload: &[u8], depth: usize, policy: &CosePolicy<'_>) -> CoseClaims
+    requires { depth ≤ 32 }
+    ensures { Gives payload.now (claims_given depth (policy_given policy.entry.now) payload.now)
+        result }
+{
+    match name_of(policy) {
+        Ok(name) => claims_named(payload, depth, &policy_of(policy, &name)),
+        Err(status) => no_claims(status),
+    }
+}
+
+/// The bytes from a place on, and the first bytes: as many as there are.
+fn bytes_from(bytes: &[u8], at: u64) -> &[u8]
+    ensures { result.now ≡ drop at bytes.now }
+{
+    let at = (at as usize).min(bytes.len());
+    &bytes[at..]
+}
+
+fn bytes_before(bytes: &[u8], count: u64) -> &[u8]
+    ensures { result.now ≡ take count bytes.now }
+{
+    if count < bytes.len() as u64 {
+        return &bytes[..count as usize];
+    }
+    bytes
+}
+
 /// The status of a message that isn't authentic.
-fn status_of(verdict: CoseVerdict) -> CoseStatus {
+fn status_of(verdict: CoseVerdict) -> CoseStatus
+    ensures { result ≡ status_in verdict }
+{
     CoseStatus {
         status: verdict.status,
         reason: verdict.reason,
@@ -219,24 +339,60 @@ fn status_of(verdict: CoseVerdict) -> CoseStatus {
     }
 }
 
+/// The same claims of a payload that is at this place.
+fn placed_claims(claims: CoseClaims, at: u64, length: u64) -> CoseClaims
+    ensures { result ≡ record claims { payload_at = at; payload_length = length } }
+{
+    let mut placed = claims;
+    placed.payload_at = at;
+    placed.payload_length = length;
+    placed
+}
+
 /// The claims of a token whose verdict is known.
-pub(crate) fn claims_after(
+#[tactic(auto, using(crate::proofs::Given::elsewhere))]
+fn claims_after(
     verdict: CoseVerdict,
     token: &[u8],
     depth: usize,
     policy: &CosePolicy<'_>,
 ) -> CoseClaims
     requires { depth ≤ 32 }
+    ensures other { verdict.status ≢ 1 → result ≡ no_claims (status_in verdict) }
+    ensures admitted { verdict.status ≡ 1
+        → Gives (take verdict.payload_length (drop verdict.payload_at token.now))
+        (claims_given depth (policy_given policy.entry.now)
+        (take verdict.payload_length (drop verdict.payload_at token.now)))
+        result }
+    ensures place { verdict.status ≡ 1 → result.payload_at ≡ verdict.payload_at }
+    ensures count { verdict.status ≡ 1 → result.payload_length ≡ verdict.payload_length }
 {
     if verdict.status != AUTHENTIC {
         return no_claims(status_of(verdict));
     }
-    let (_, rest) = token.split_at((verdict.payload_at as usize).min(token.len()));
-    let (payload, _) = rest.split_at((verdict.payload_length as usize).min(rest.len()));
-    let mut told = claims_under(payload, depth, policy);
-    told.payload_at = verdict.payload_at;
-    told.payload_length = verdict.payload_length;
-    told
+    let payload = bytes_before(
+        bytes_from(token, verdict.payload_at),
+        verdict.payload_length,
+    );
+    let claims = claims_under(payload, depth, policy);
+    placed_claims(claims, verdict.payload_at, verdict.payload_length)
+}
+
+/// The claims of a token, by a verifier that has taken none of it.
+pub(crate) fn claims_of_token<'k, const H: usize, const D: usize, K: Keys<'k>>(
+    verifier: &mut Verifier<'k, H, D, K>,
+    token: &[u8],
+    policy: &CosePolicy<'_>,
+) -> CoseClaims
+    requires nesting { D ≤ 32 }
+    requires verifies { is_inspecting verifier.old ≡ false }
+    requires attached { is_detached verifier.old ≡ false }
+    requires fresh { HasTaken (to_verify (setting_in verifier.old)) [] [] verifier.old }
+    ensures { GivesTokenIn H D (setting_in verifier.old) (policy_given policy.entry.now) token.now result }
+{
+    let mut input = blank_input();
+    let verdict = read_whole(verifier, token, &mut input);
+    claims_after(verdict, token, D, policy)
 }
 
 /// Verifies a token in memory and reads its claims (RFC 8392 section 7.2): the bytes are the token, and nothing follows it.
@@ -250,12 +406,13 @@ pub extern "C" fn cose_edge_verify_cwt(
     policy: &CosePolicy<'_>,
     token: &[u8],
     claims: &mut CoseClaims,
-) {
+)
+    ensures { GivesToken 1024 8 (setting_given (keys_of keys.now) aad.now 0) (policy_given policy.entry.now) token.now claims.new }
+{
     *claims = match context(keys, aad, 0) {
         Ok(context) => {
             let mut verifier = Verifier::<HEADER, NESTING>::new(context);
-            let verdict = read_whole(&mut verifier, token, &mut blank_input());
-            claims_after(verdict, token, NESTING, policy)
+            claims_of_token(&mut verifier, token, policy)
         }
         Err(status) => no_claims(status),
     };
@@ -269,12 +426,13 @@ pub extern "C" fn cose_edge_large_verify_cwt(
     policy: &CosePolicy<'_>,
     token: &[u8],
     claims: &mut CoseClaims,
-) {
+)
+    ensures { GivesToken 65535 16 (setting_given (keys_of keys.now) aad.now 0) (policy_given policy.entry.now) token.now claims.new }
+{
     *claims = match context(keys, aad, 0) {
         Ok(context) => {
             let mut verifier = Verifier::<LARGE_HEADER, LARGE_NESTING>::new(context);
-            let verdict = read_whole(&mut verifier, token, &mut blank_input());
-            claims_after(verdict, token, LARGE_NESTING, policy)
+            claims_of_token(&mut verifier, token, policy)
         }
         Err(status) => no_claims(status),
     };
@@ -282,11 +440,9 @@ pub extern "C" fn cose_edge_large_verify_cwt(
 
 /// Reads the claims of a payload that is known to be authentic, such as that of a COSE_Sign1 whose signature is good.
 #[unsafe(no_mangle)]
-pub extern "C" fn cose_edge_claims(
-    payload: &[u8],
-    policy: &CosePolicy<'_>,
-    claims: &mut CoseClaims,
-) {
+pub extern "C" fn cose_edge_claims(payload: &[u8], policy: &CosePolicy<'_>, claims: &mut CoseClaims)
+    ensures { Gives payload.now (claims_given 8 (policy_given policy.entry.now) payload.now) claims.new }
+{
     *claims = claims_under(payload, NESTING, policy);
 }
 
@@ -296,7 +452,9 @@ pub extern "C" fn cose_edge_large_claims(
     payload: &[u8],
     policy: &CosePolicy<'_>,
     claims: &mut CoseClaims,
-) {
+)
+    ensures { Gives payload.now (claims_given 16 (policy_given policy.entry.now) payload.now) claims.new }
+{
     *claims = claims_under(payload, LARGE_NESTING, policy);
 }
 

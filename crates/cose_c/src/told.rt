@@ -1,9 +1,10 @@
 //! The claims of a token, in the form of the C interface.
 
-ghost use Rattle.std.specs.Prelude.{◌≡◌, option_map};
+ghost use Rattle.std.specs.Prelude.{◌≡◌, ◌≤◌, option_map};
 ghost use Rattle.cose_head.specs.ItemRef.{placed};
 ghost use Rattle.cose_head.specs.Placed.{integer_in, look};
-ghost use Rattle.cose_c.specs.Told.{bytes_range, date_numbers, date_value, no_claims, no_date, no_range, range_of, text_range};
+ghost use Rattle.cose_head.specs.PlacedLaws.{end_of};
+ghost use Rattle.cose_c.specs.Told.{StartsInside, bytes_range, date_numbers, date_value, no_claims, no_date, no_range, range_of, text_range};
 
 use crate::numbers::CoseStatus;
 use cose_map::ItemRef;
@@ -98,7 +99,8 @@ fn no_date() -> CoseDate
 
 /// The range of so many bytes after an item's head.
 fn content_range(item: &ItemRef<'_>, length: usize) -> CoseRange
-    ensures { result ≡ range_of (placed item.now) length }
+    ensures value { result ≡ range_of (placed item.now) length }
+    ensures inside { result.at ≤ end_of (placed item.now) }
 {
     CoseRange {
         at: item.place + u64::from(item.head().width),
@@ -109,7 +111,8 @@ fn content_range(item: &ItemRef<'_>, length: usize) -> CoseRange
 
 /// The range of the content of a text string, if the item is one.
 pub(crate) fn text_range(item: Option<ItemRef<'_>>) -> CoseRange
-    ensures { result ≡ text_range (option_map placed item.entry) }
+    ensures value { result ≡ text_range (option_map placed item.entry) }
+    ensures inside { StartsInside (option_map placed item.entry) result }
 {
     let Some(item) = item else {
         return no_range();
@@ -122,7 +125,8 @@ pub(crate) fn text_range(item: Option<ItemRef<'_>>) -> CoseRange
 
 /// The range of the content of a byte string, if the item is one.
 pub(crate) fn bytes_range(item: Option<ItemRef<'_>>) -> CoseRange
-    ensures { result ≡ bytes_range (option_map placed item.entry) }
+    ensures value { result ≡ bytes_range (option_map placed item.entry) }
+    ensures inside { StartsInside (option_map placed item.entry) result }
 {
     let Some(item) = item else {
         return no_range();
