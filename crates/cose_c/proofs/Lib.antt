@@ -4,6 +4,6 @@ pub mod Messages
 pub mod Parts
 pub mod Steps
 pub mod Streams
-pub mod Tails
 pub mod Strings
+pub mod Tails
 pub mod WorkedTerms

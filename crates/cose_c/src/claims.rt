@@ -351,7 +351,7 @@ fn placed_claims(claims: CoseClaims, at: u64, length: u64) -> CoseClaims
 
 /// The claims of a token whose verdict is known.
 #[tactic(auto, using(crate::proofs::Given::elsewhere))]
-pub(crate) fn claims_after(
+fn claims_after(
     verdict: CoseVerdict,
     token: &[u8],
     depth: usize,

@@ -3,14 +3,15 @@
 ghost use Rattle.std.specs.Prelude.{◌≡◌, ◌≤◌, true, IfOk, length};
 ghost use Rattle.cose_map.specs.KeySet.{keys_of};
 ghost use Rattle.cose_map.specs.KeyTable.{table_of};
+ghost use Rattle.cose_c.specs.Claims.{GivesToken, policy_given};
 ghost use Rattle.cose_c.specs.Input.{GivesAll};
 ghost use Rattle.cose_c.specs.KeySet.{key_set_numbers};
 ghost use Rattle.cose_c.specs.Message.{Covers, input_given, is_accepted, payload_given, verdict_given};
 ghost use Rattle.cose_c.specs.Table.{keys_in, keys_read, setting_under_table, table_settings};
 
-use crate::claims::{CosePolicy, claims_after};
+use crate::claims::{CosePolicy, claims_of_token};
 use crate::held::table::{CoseTable, TABLE};
-use crate::input::{CoseSignInput, blank_input};
+use crate::input::CoseSignInput;
 use crate::key_set::{CoseKeySet, counted, no_key_set};
 use crate::message::read_whole;
 use crate::numbers::{
@@ -113,13 +114,15 @@ pub extern "C" fn cose_edge_table_verify_cwt(
     token: &[u8],
     claims: &mut CoseClaims,
 )
+    ensures claims { GivesToken 1024 8
+        (setting_under_table (keys_in table.old.value.content) aad.now 0)
+        (policy_given policy.entry.now) token.now claims.new }
     ensures same { table.new.value.content ≡ table.old.value.content }
 {
     *claims = match context(&table.lend().content, aad, 0) {
         Ok(context) => {
             let mut verifier = Verifier::<HEADER, NESTING, &KeyTable<'_, TABLE>>::new(context);
-            let verdict = read_whole(&mut verifier, token, &mut blank_input());
-            claims_after(verdict, token, NESTING, policy)
+            claims_of_token(&mut verifier, token, policy)
         }
         Err(status) => no_claims(status),
     };
