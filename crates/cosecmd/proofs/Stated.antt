@@ -8,7 +8,7 @@ use Rattle.cose_map.specs.Key.Value.{KeyValue}
 use Rattle.cose_map.specs.Key.View.{contents}
 use Rattle.cose_map.specs.Map.Read.{Read}
 use Rattle.cose_msg.specs.declared.verdict.Verdict.{Verdict}
-use Rattle.cose_msg.specs.Answer.{Answer, decided}
+use Rattle.cose_msg.specs.Answer.{decided}
 use Rattle.cose_msg.specs.Laws.{MessageStays, PayloadStays}
 use Rattle.cose_msg.specs.Message.{Decides, Setting, message, verifying}
 use Rattle.cose_msg.specs.Reader.{Counts}
@@ -16,7 +16,7 @@ use Rattle.cose_msg.specs.Reading.{Reading}
 use Rattle.cosecmd.specs.declared.job.FileJob.{FileJob}
 use Rattle.cosecmd.specs.declared.reply.Reply.{Reply}
 use Rattle.cosecmd.specs.PayloadFile.{counted, never}
-use Rattle.cosecmd.specs.Printed.{Output, Says, followed_by, input_answer, output_of, program_keys, program_setting, said_of, trailed, verified_under, verified_with, with_payload}
+use Rattle.cosecmd.specs.Printed.{Output, Says, followed_by, input_answer, output_of, program_keys, program_setting, said_of, trailed, verified_with, with_payload}
 use Rattle.cosecmd.specs.Stated.{CameOf, payload_wanted_of, said_of_short, stating, unless_missing, verified_from, verified_short}
 use Rattle.cosecmd.specs.Vouch.{vouching}
 use Rattle.cosecmd.proofs.Digests.{all_come_to}

@@ -1,4 +1,4 @@
-use Rattle.std.proofs.Common.{option_map, sym, ◌∙◌}
+use Rattle.std.proofs.Common.{option_map, sym}
 use Rattle.cose_map.specs.Key.View.{contents}
 use Rattle.cose_map.specs.KeyTable.{keys as usable}
 use Rattle.cose_msg.specs.Verifier.{setting_of}

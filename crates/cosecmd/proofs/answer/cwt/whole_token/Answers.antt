@@ -1,4 +1,4 @@
-use Rattle.std.proofs.Common.{[], Err, option_map, refl, sym, ◌∙◌}
+use Rattle.std.proofs.Common.{Err, option_map, refl, sym, ◌∙◌}
 use Rattle.std.proofs.lemmas.Result.{err_from_is_err_and}
 use Rattle.cose_map.specs.Key.View.{contents}
 use Rattle.cose_cwt.specs.Admission.View.{policy_value}
