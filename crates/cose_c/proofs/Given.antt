@@ -50,6 +50,7 @@ elsewhere payload (Ok claims) told at count g = record {
   no_place = g.no_place;
   iss = g.iss;
   sub = g.sub;
+  aud = g.aud;
   cti = g.cti;
   exp = g.exp;
   nbf = g.nbf;

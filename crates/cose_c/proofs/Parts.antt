@@ -55,7 +55,7 @@ pub record Part (whole part : Placed) : Type 0 where
   pub at : part.place ≡ whole.place + offset
   pub cut : part.bytes ≡ take count (drop offset whole.bytes)
 
-within : (p q r : Placed) → Part p q → Part q r → Part p r
+pub within : (p q r : Placed) → Part p q → Part q r → Part p r
 within p q r first then =
     let bytes : r.bytes ≡ take then.count (drop then.offset (take first.count (drop first.offset p.bytes))) = then.cut ∙ ap (λ (l : List ℕ). take then.count (drop then.offset l)) first.cut in
     let out : take then.count (drop then.offset (take first.count (drop first.offset p.bytes))) ≡ take then.count (take (first.count - then.offset) (drop (first.offset + then.offset) p.bytes)) =

@@ -3,22 +3,23 @@ use Rattle.std.proofs.Common.{◌≡◌, ℕ, ◌+◌, ◌-◌, ◌≤◌, Bool,
 use Rattle.std.proofs.lemmas.Bool.Decides.{nat_tests}
 use Rattle.std.proofs.lemmas.List.{length-drop}
 use Rattle.std.specs.List.{AllByRecursion}
-use Rattle.std.specs.Prelude.{nat_eq, option_map, option_and_then}
+use Rattle.std.specs.Prelude.{nat_eq, is_some, ◌==◌, option_map, option_and_then}
 use Rattle.std.specs.Str.{is_utf8}
 use Rattle.cose_head.specs.declared.head.Head.{Head}
-use Rattle.cose_head.specs.Placed.{Look, Placed, bytes_in, children_of, head_of_item, if_utf8, look, look_with, text_in}
+use Rattle.cose_head.specs.Placed.{Look, Placed, bytes_in, children_of, head_of_item, if_utf8, is_an_array, look, look_with, text_in}
 use Rattle.cose_head.specs.PlacedLaws.{ChildrenEndInside, EndsBy, end_of}
 use Rattle.cose_head.proofs.Placed.{bytes_found, no_bytes, no_text, text_found}
 use Rattle.cose_map.specs.Label.{LabelValue}
 use Rattle.cose_map.specs.Laws.Tree.{items_of}
 use Rattle.cose_map.specs.Map.Pairs.{Pair, is_named, value_of}
-use Rattle.cose_cwt.specs.Claims.{ClaimsValue, claims_of, text_under}
+use Rattle.cose_cwt.specs.Claims.{ClaimsValue, claims_of, text_before, texts_at, texts_from, texts_of}
+use Rattle.cose_cwt.specs.Claims.Labels as names
 use Rattle.cose_cwt.specs.Laws.{ClaimsAreOfTree}
 use Rattle.cose_c.specs.declared.told.CoseRange.{CoseRange}
 use Rattle.cose_c.specs.Message.{Covers}
-use Rattle.cose_c.specs.Told.{Ranges, StartsInside, bytes_range, content_range, text_range}
+use Rattle.cose_c.specs.Told.{Ranges, StartsInside, audience_item, bytes_range, content_range, element_numbered, text_numbered, text_range}
 use Rattle.cose_c.proofs.Dates.{looks}
-use Rattle.cose_c.proofs.Parts.{Part, children_part, drop_taken, drop_twice, taken_all, taken_short, taken_twice}
+use Rattle.cose_c.proofs.Parts.{Part, children_part, drop_taken, drop_twice, taken_all, taken_short, taken_twice, within}
 
 -- ---- the content of a string
 
@@ -84,6 +85,46 @@ found_value : (P : Placed → Type 0) (name : LabelValue) (pairs : List Pair) �
 found_value P name [] all v is = absurd cc
 found_value P name (pair ∷ pairs) all v is = found_first P name pair pairs (is_named name pair) refl all.1.0 (found_value P name pairs all.1.1) v is
 
+-- ---- the elements of an audience
+
+element_next : (P : Placed → Type 0) (n : ℕ) (x : Placed) (xs : List Placed) (zero text : Bool) → (n == 0) ≡ zero → is_some (text_in (look x)) ≡ text → P x →
+    ((e : Placed) → element_numbered (n - 1) xs ≡ Some e → P e) → (e : Placed) → element_numbered n (x ∷ xs) ≡ Some e → P e
+element_next P n x xs true text z t this others e is =
+    let here : element_numbered n (x ∷ xs) ≡ Some x = rw z refl in
+    let same : x ≡ e = cc in
+    subst P same this
+element_next P n x xs false true z t this others e is =
+    let later : element_numbered n (x ∷ xs) ≡ element_numbered (n - 1) xs = rw (z, t) refl in
+    others e (sym later ∙ is)
+element_next P n x xs false false z t this others e is =
+    let none : element_numbered n (x ∷ xs) ≡ None = rw (z, t) refl in
+    absurd cc
+
+found_element : (P : Placed → Type 0) (n : ℕ) (items : List Placed) → AllByRecursion P items → (e : Placed) → element_numbered n items ≡ Some e → P e
+found_element P n [] all e is = absurd cc
+found_element P n (x ∷ xs) all e is = element_next P n x xs (n == 0) (is_some (text_in (look x))) refl refl all.0 (found_element P (n - 1) xs all.1) e is
+
+text_next : (n : ℕ) (x : Placed) (xs : List Placed) (zero : Bool) (text : Option (List ℕ)) → (n == 0) ≡ zero → text_in (look x) ≡ text →
+    option_and_then (λ e. text_in (look e)) (element_numbered (n - 1) xs) ≡ text_numbered (n - 1) (texts_from xs) →
+    option_and_then (λ e. text_in (look e)) (element_numbered n (x ∷ xs)) ≡ text_numbered n (text_before (texts_from xs) text)
+text_next n x xs true None z t others = rw (z, t) refl
+text_next n x xs true (Some text) z t others = rw (z, t) refl
+text_next n x xs false None z t others = rw (z, t) refl
+text_next n x xs false (Some text) z t others = rw (z, t) others
+
+elements_text : (n : ℕ) (items : List Placed) → option_and_then (λ e. text_in (look e)) (element_numbered n items) ≡ text_numbered n (texts_from items)
+unfolding texts_from
+elements_text n [] = refl
+elements_text n (x ∷ xs) = text_next n x xs (n == 0) (text_in (look x)) refl refl (elements_text (n - 1) xs) ∙ ap (λ (t : Option (List ℕ)). text_numbered n (text_before (texts_from xs) t)) refl
+
+one_text : (n : ℕ) (text : Option (List ℕ)) → (n == 0) ≡ true → text_numbered n (text_before [] text) ≡ text
+one_text n None z = refl
+one_text n (Some text) z = rw z refl
+
+no_text_numbered : (n : ℕ) (text : Option (List ℕ)) → (n == 0) ≡ false → text_numbered n (text_before [] text) ≡ None
+no_text_numbered n None z = refl
+no_text_numbered n (Some text) z = rw z refl
+
 module _ (tree : ClaimsAreOfTree) (ends : ChildrenEndInside) (depth : ℕ) (payload : List ℕ) (claims : ClaimsValue) (shallow : depth ≤ 32)
     (read : claims_of depth (record { bytes = payload; place = 0 }) ≡ Ok claims) where
   abbrev whole : Placed
@@ -100,13 +141,13 @@ module _ (tree : ClaimsAreOfTree) (ends : ChildrenEndInside) (depth : ℕ) (payl
       let by : EndsBy (end_of whole) v = found_value (EndsBy (end_of whole)) name claims.pairs (subst (AllByRecursion (EndsBy (end_of whole))) same (ends whole)) v is in
       omega (arith, by)
 
-  text_ranges : (name : LabelValue) (v : Placed) (text : Option (List ℕ)) (range : CoseRange) → value_of name claims.pairs ≡ Some v → text_in (look v) ≡ text → range ≡ content_range v text →
+  text_ranges : (v : Placed) (text : Option (List ℕ)) (range : CoseRange) → Part whole v → end_of v ≤ length payload → text_in (look v) ≡ text → range ≡ content_range v text →
       range.at ≤ end_of v → Ranges payload text range
-  text_ranges name v None range found is e inside = e
-  text_ranges name v (Some text) range found is e inside =
+  text_ranges v None range part ends is e inside = e
+  text_ranges v (Some text) range part ends is e inside =
       let at : range.at ≡ v.place + (head_of_item v).width = ap (λ (r : CoseRange). r.at) e in
       let count : range.length ≡ length text = ap (λ (r : CoseRange). r.length) e in
-      let covers = covers_part payload v text (head_of_item v).width (head_of_item v).arg range.at (value_part name v found) (value_ends name v found) (text_content v text is) at inside in
+      let covers = covers_part payload v text (head_of_item v).width (head_of_item v).arg range.at part ends (text_content v text is) at inside in
       (ap (λ (r : CoseRange). r.present) e, subst (Covers payload text range.at) (sym count) covers)
 
   bytes_ranges : (name : LabelValue) (v : Placed) (content : Option (List ℕ)) (range : CoseRange) → value_of name claims.pairs ≡ Some v → bytes_in (look v) ≡ content → range ≡ content_range v content →
@@ -121,9 +162,40 @@ module _ (tree : ClaimsAreOfTree) (ends : ChildrenEndInside) (depth : ℕ) (payl
   pub text_told : (name : LabelValue) (value : Option Placed) (range : CoseRange) → value_of name claims.pairs ≡ value → range ≡ text_range value → StartsInside value range →
       Ranges payload (option_and_then (λ v. text_in (look v)) value) range
   text_told name None range found e inside = e
-  text_told name (Some v) range found e inside = text_ranges name v (text_in (look v)) range found refl e inside
+  text_told name (Some v) range found e inside = text_ranges v (text_in (look v)) range (value_part name v found) (value_ends name v found) refl e inside
 
   pub bytes_told : (name : LabelValue) (value : Option Placed) (range : CoseRange) → value_of name claims.pairs ≡ value → range ≡ bytes_range value → StartsInside value range →
       Ranges payload (option_and_then (λ v. bytes_in (look v)) value) range
   bytes_told name None range found e inside = e
   bytes_told name (Some v) range found e inside = bytes_ranges name v (bytes_in (look v)) range found refl e inside
+
+  of_element : (v : Placed) (found : Option Placed) (range : CoseRange) → Part whole v → end_of v ≤ length payload → ((x : Placed) → found ≡ Some x → Part v x) → ((x : Placed) → found ≡ Some x → end_of x ≤ end_of v) →
+      range ≡ text_range found → StartsInside found range → Ranges payload (option_and_then (λ x. text_in (look x)) found) range
+  of_element v None range part inner p q e inside = e
+  of_element v (Some x) range part inner p q e inside =
+      let by = q x refl in
+      text_ranges x (text_in (look x)) range (within whole v x part (p x refl)) (omega (arith, by, inner)) refl e inside
+
+  audience_of : (n : ℕ) (v : Placed) (array : Bool) (first : Bool) (range : CoseRange) → value_of names.aud claims.pairs ≡ Some v → is_an_array (look v) ≡ array → (n == 0) ≡ first →
+      range ≡ text_range (audience_item n (Some v)) → StartsInside (audience_item n (Some v)) range → Ranges payload (text_numbered n (texts_of v)) range
+  audience_of n v true first range found is zero e inside =
+      let item : audience_item n (Some v) ≡ element_numbered n (children_of v) = rw is refl in
+      let texts : texts_of v ≡ texts_from (children_of v) = rw is refl in
+      let p = λ (x : Placed) (among : element_numbered n (children_of v) ≡ Some x). found_element (Part v) n (children_of v) (children_part v) x among in
+      let q = λ (x : Placed) (among : element_numbered n (children_of v) ≡ Some x). found_element (EndsBy (end_of v)) n (children_of v) (ends v) x among in
+      subst (λ (t : Option (List ℕ)). Ranges payload t range) (elements_text n (children_of v) ∙ ap (text_numbered n) (sym texts))
+      (of_element v (element_numbered n (children_of v)) range (value_part names.aud v found) (value_ends names.aud v found) p q (e ∙ ap text_range item) (subst (λ (i : Option Placed). StartsInside i range) item inside))
+  audience_of n v false true range found is zero e inside =
+      let item : audience_item n (Some v) ≡ Some v = rw (is, zero) refl in
+      let texts : text_numbered n (texts_of v) ≡ text_in (look v) = rw is (one_text n (text_in (look v)) zero) in
+      subst (λ (t : Option (List ℕ)). Ranges payload t range) (sym texts)
+      (text_ranges v (text_in (look v)) range (value_part names.aud v found) (value_ends names.aud v found) refl (e ∙ ap text_range item) (subst (λ (i : Option Placed). StartsInside i range) item inside))
+  audience_of n v false false range found is zero e inside =
+      let item : audience_item n (Some v) ≡ None = rw (is, zero) refl in
+      let texts : text_numbered n (texts_of v) ≡ None = rw is (no_text_numbered n (text_in (look v)) zero) in
+      subst (λ (t : Option (List ℕ)). Ranges payload t range) (sym texts) (e ∙ ap text_range item)
+
+  pub audience_told : (n : ℕ) (value : Option Placed) (range : CoseRange) → value_of names.aud claims.pairs ≡ value → range ≡ text_range (audience_item n value) → StartsInside (audience_item n value) range →
+      Ranges payload (text_numbered n (texts_at value)) range
+  audience_told n None range found e inside = e
+  audience_told n (Some v) range found e inside = audience_of n v (is_an_array (look v)) (n == 0) range found refl refl e inside

@@ -4,16 +4,17 @@ use Rattle.std.specs.Borrow.{Bor}
 use Rattle.cose_head.specs.Placed.{if_utf8}
 use Rattle.cose_map.specs.Map.Read.{Read}
 use Rattle.cose_cwt.specs.Admission.{PolicyValue, admitted_claims}
-use Rattle.cose_cwt.specs.Claims.{ClaimsValue, cti_of, exp_of, iat_of, iss_of, nbf_of, sub_of}
+use Rattle.cose_cwt.specs.Claims.{ClaimsValue, auds_of, cti_of, exp_of, iat_of, iss_of, nbf_of, sub_of}
 use Rattle.cose_cwt.specs.Claims.Audience.{text_value}
 use Rattle.cose_msg.specs.Message.{Setting}
 use Rattle.cose_c.specs.declared.claims.CosePolicy.{CosePolicy}
 use Rattle.cose_c.specs.declared.numbers.CoseStatus.{CoseStatus}
 use Rattle.cose_c.specs.declared.numbers.CoseVerdict.{CoseVerdict}
 use Rattle.cose_c.specs.declared.told.CoseClaims.{CoseClaims}
+use Rattle.cose_c.specs.declared.told.CoseRange.{CoseRange}
 use Rattle.cose_c.specs.Message.{Covers, payload_read, verdict_read}
 use Rattle.cose_c.specs.Numbers.{plain_status, refused_status}
-use Rattle.cose_c.specs.Told.{Ranges, date_numbers, no_claims}
+use Rattle.cose_c.specs.Told.{Ranges, date_numbers, no_claims, no_range, text_numbered}
 
 abbrev pub policy_for : ℤ → ℕ → Option (List ℕ) → PolicyValue
 policy_for now leeway name = record { now = now; leeway = leeway; mine = option_map (λ text. text ∷ []) name }
@@ -54,6 +55,7 @@ pub record GivesClaims (payload : List ℕ) (value : ClaimsValue) (told : CoseCl
   pub no_place : told.place ≡ 0
   pub iss : Ranges payload (iss_of value) told.iss
   pub sub : Ranges payload (sub_of value) told.sub
+  pub aud : Ranges payload (text_numbered 0 (auds_of value)) told.aud
   pub cti : Ranges payload (cti_of value) told.cti
   pub exp : told.exp ≡ date_numbers (exp_of value)
   pub nbf : told.nbf ≡ date_numbers (nbf_of value)
@@ -82,3 +84,8 @@ pub record GivesTokenIn (room nesting : ℕ) (setting : Setting) (policy : Resul
 abbrev pub GivesToken : ℕ → ℕ → Result Setting CoseStatus → Result PolicyValue CoseStatus → List ℕ → CoseClaims → Type 0
 GivesToken room nesting (Ok setting) policy token told = GivesTokenIn room nesting setting policy token told
 GivesToken room nesting (Err status) policy token told = told ≡ no_claims status
+
+-- The text string of this number of the audience of a payload, if it has as many and is a claims set.
+abbrev pub GivesAudience : List ℕ → ℕ → Read ClaimsValue → CoseRange → Type 0
+GivesAudience payload n (Ok claims) range = Ranges payload (text_numbered n (auds_of claims)) range
+GivesAudience payload n (Err refusal) range = range ≡ no_range

@@ -1,6 +1,6 @@
 -- What a caller gets of the claims of a token.
-use Rattle.std.specs.Prelude.{◌≡◌, ℕ, ℤ, pos, negsuc, ◌+◌, ◌≤◌, List, length, Option, Some, None, option_and_then, ⊤}
-use Rattle.cose_head.specs.Placed.{Placed, bytes_in, head_of_item, integer_in, look, text_in}
+use Rattle.std.specs.Prelude.{◌≡◌, ℕ, ℤ, pos, negsuc, ◌+◌, ◌-◌, ◌≤◌, ◌==◌, if◌then◌else◌, is_some, List, [], ◌∷◌, length, Option, Some, None, option_and_then, ⊤}
+use Rattle.cose_head.specs.Placed.{Placed, bytes_in, children_of, head_of_item, integer_in, is_an_array, look, text_in}
 use Rattle.cose_head.specs.PlacedLaws.{end_of}
 use Rattle.cose_map.specs.Map.Form.{Table}
 use Rattle.cose_c.specs.declared.numbers.CoseStatus.{CoseStatus}
@@ -44,6 +44,28 @@ abbrev pub date_numbers : Option ℤ → CoseDate
 date_numbers None = no_date
 date_numbers (Some (pos n)) = record { number = n; present = 1; negative = 0 }
 date_numbers (Some (negsuc n)) = record { number = n; present = 1; negative = 1 }
+
+-- ---- audiences
+
+-- The text string of this number, from 0.
+abbrev pub text_numbered : ℕ → List (List ℕ) → Option (List ℕ)
+text_numbered n [] = None
+text_numbered n (text ∷ others) = if n == 0 then Some text else text_numbered (n - 1) others
+
+-- The item of the text string of this number: the elements end before one that isn't a text string.
+abbrev pub element_numbered : ℕ → List Placed → Option Placed
+element_numbered n [] = None
+element_numbered n (element ∷ others) =
+    if n == 0 then Some element else
+    if is_some (text_in (look element)) then element_numbered (n - 1) others else None
+
+abbrev pub audience_item : ℕ → Option Placed → Option Placed
+audience_item n None = None
+audience_item n (Some value) =
+    if is_an_array (look value) then element_numbered n (children_of value) else
+    if n == 0 then Some value else None
+
+-- ---- ranges
 
 -- A range of the payload has these bytes, where there are any.
 abbrev pub Ranges : List ℕ → Option (List ℕ) → CoseRange → Type 0

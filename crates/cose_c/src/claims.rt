@@ -1,7 +1,8 @@
 //! A token in memory, by one call, and the claims of a payload.
 
 ghost use Rattle.std.specs.Prelude.{◌≡◌, ◌≢◌, ◌≤◌, ℕ, false, [], drop, take, Ok, option_map};
-ghost use Rattle.cose_head.specs.Placed.{if_utf8};
+ghost use Rattle.cose_head.specs.ItemRef.{placed};
+ghost use Rattle.cose_head.specs.Placed.{children_of, if_utf8};
 ghost use Rattle.cose_map.specs.KeySet.{keys_of};
 ghost use Rattle.cose_map.specs.Label.View.{label_value};
 ghost use Rattle.cose_map.specs.Map.Pairs.{value_of};
@@ -11,12 +12,13 @@ ghost use Rattle.cose_msg.specs.Task.{to_verify};
 ghost use Rattle.cose_msg.specs.Verifier.{is_detached, setting_in};
 ghost use Rattle.cose_cwt.specs.Admission.{admitted_claims};
 ghost use Rattle.cose_cwt.specs.Admission.View.{policy_value};
-ghost use Rattle.cose_cwt.specs.Claims.{claims_of, integer_under};
+ghost use Rattle.cose_cwt.specs.Claims.{auds_of, claims_of, integer_under};
+ghost use Rattle.cose_cwt.specs.Claims.Labels as names;
 ghost use Rattle.cose_cwt.specs.Claims.Audience.{text_value};
 ghost use Rattle.cose_cwt.specs.Claims.View.{claims_value};
-ghost use Rattle.cose_c.specs.Claims.{Gives, GivesClaims, GivesToken, GivesTokenIn, claims_given, name_given, name_seen, policy_for, policy_given, status_in, unless_refused};
+ghost use Rattle.cose_c.specs.Claims.{Gives, GivesAudience, GivesClaims, GivesToken, GivesTokenIn, claims_given, name_given, name_seen, policy_for, policy_given, status_in, unless_refused};
 ghost use Rattle.cose_c.specs.Terms.{setting_given};
-ghost use Rattle.cose_c.specs.Told.{StartsInside, bytes_range, date_numbers, no_claims, text_range};
+ghost use Rattle.cose_c.specs.Told.{Ranges, StartsInside, audience_item, bytes_range, date_numbers, element_numbered, no_claims, text_numbered, text_range};
 
 use crate::input::blank_input;
 use crate::message::read_whole;
@@ -123,30 +125,45 @@ fn admitted<'t>(payload: &'t [u8], depth: usize, policy: &Policy<'_>) -> Result<
     Ok(claims)
 }
 
-/// The element of this number of an array.
-fn element<'t>(array: &ItemRef<'t>, index: u64) -> Option<ItemRef<'t>> {
+/// The element of this number of an array, where it and those before it are text strings.
+fn element<'t>(array: &ItemRef<'t>, index: u64) -> Option<ItemRef<'t>>
+    ensures { option_map placed result ≡ element_numbered index (children_of (placed array.now)) }
+{
     let mut left = index;
     'elements: for element in Items::of(array) {
         if left == 0 {
             return Some(element);
+        }
+        if element.as_text().is_none() {
+            return None;
         }
         left -= 1;
     }
     None
 }
 
-/// The text string of this number of the audience.
-fn audience_at(claims: &Claims<'_>, index: u64) -> CoseRange {
-    let Some(value) = claims.value(&AUD) else {
-        return no_range();
-    };
+/// The item of the text string of this number of an audience.
+fn audience_item<'t>(value: Option<ItemRef<'t>>, index: u64) -> Option<ItemRef<'t>>
+    ensures { option_map placed result ≡ audience_item index (option_map placed value.entry) }
+{
+    let value = value?;
     if value.is_array() {
-        return text_range(element(&value, index));
+        return element(&value, index);
     }
     if index == 0 {
-        return text_range(Some(value));
+        return Some(value);
     }
-    no_range()
+    None
+}
+
+/// The text string of this number of the audience.
+fn audience_at(claims: &Claims<'_>, index: u64) -> CoseRange
+    ensures value { result
+        ≡ text_range (audience_item index (value_of names.aud (claims_value claims.now).pairs)) }
+    ensures inside { StartsInside
+        (audience_item index (value_of names.aud (claims_value claims.now).pairs)) result }
+{
+    text_range(audience_item(claims.value(&AUD), index))
 }
 
 /// How many text strings the audience has.
@@ -458,11 +475,27 @@ pub extern "C" fn cose_edge_large_claims(
     *claims = claims_under(payload, LARGE_NESTING, policy);
 }
 
+/// The text string of this number of the audience of claims that were read.
+fn told_audience(claims: &Claims<'_>, payload: &[u8], index: u64) -> CoseRange
+    ensures { (depth : ℕ) → depth ≤ 32
+        → claims_of depth (record { bytes = payload.now; place = 0 }) ≡ Ok (claims_value claims.now)
+        → Ranges payload.now (text_numbered index (auds_of (claims_value claims.now))) result }
+{
+    // Laws that the proof cites.
+    claims_are_of_a_tree();
+    children_are_of_tree();
+    let _payload = payload;
+    audience_at(claims, index)
+}
+
 /// The text string of this number, from 0, of the audience that a payload names, if it has as many.
 #[unsafe(no_mangle)]
-pub extern "C" fn cose_edge_audience(payload: &[u8], index: u64, audience: &mut CoseRange) {
+pub extern "C" fn cose_edge_audience(payload: &[u8], index: u64, audience: &mut CoseRange)
+    ensures { GivesAudience payload.now index
+        (claims_of 16 (record { bytes = payload.now; place = 0 })) audience.new }
+{
     *audience = match Claims::read(payload, LARGE_NESTING) {
-        Ok(claims) => audience_at(&claims, index),
+        Ok(claims) => told_audience(&claims, payload, index),
         Err(_) => no_range(),
     };
 }
