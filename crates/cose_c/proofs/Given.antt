@@ -52,6 +52,7 @@ elsewhere payload (Ok claims) told at count g = record {
   sub = g.sub;
   aud = g.aud;
   cti = g.cti;
+  aud_count = g.aud_count;
   exp = g.exp;
   nbf = g.nbf;
   iat = g.iat;

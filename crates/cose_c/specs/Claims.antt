@@ -1,5 +1,5 @@
 -- What a caller passes of a policy, and gets of a token.
-use Rattle.std.specs.Prelude.{◌≡◌, ◌≢◌, ℕ, ℤ, ◌==◌, if◌then◌else◌, List, [], ◌∷◌, length, Option, Some, None, Result, Ok, Err, option_map}
+use Rattle.std.specs.Prelude.{◌≡◌, ◌≢◌, ℕ, ◌-◌, ◌^◌, min, ℤ, ◌==◌, if◌then◌else◌, List, [], ◌∷◌, length, Option, Some, None, Result, Ok, Err, option_map}
 use Rattle.std.specs.Borrow.{Bor}
 use Rattle.cose_head.specs.Placed.{if_utf8}
 use Rattle.cose_map.specs.Map.Read.{Read}
@@ -57,6 +57,7 @@ pub record GivesClaims (payload : List ℕ) (value : ClaimsValue) (told : CoseCl
   pub sub : Ranges payload (sub_of value) told.sub
   pub aud : Ranges payload (text_numbered 0 (auds_of value)) told.aud
   pub cti : Ranges payload (cti_of value) told.cti
+  pub aud_count : told.aud_count ≡ min (length (auds_of value)) (2 ^ 64 - 1)
   pub exp : told.exp ≡ date_numbers (exp_of value)
   pub nbf : told.nbf ≡ date_numbers (nbf_of value)
   pub iat : told.iat ≡ date_numbers (iat_of value)

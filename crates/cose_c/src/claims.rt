@@ -1,6 +1,6 @@
 //! A token in memory, by one call, and the claims of a payload.
 
-ghost use Rattle.std.specs.Prelude.{◌≡◌, ◌≢◌, ◌≤◌, ℕ, false, [], drop, take, Ok, option_map};
+ghost use Rattle.std.specs.Prelude.{◌≡◌, ◌≢◌, ◌≤◌, ◌-◌, ◌^◌, min, length, ℕ, false, [], drop, take, Ok, option_map};
 ghost use Rattle.cose_head.specs.ItemRef.{placed};
 ghost use Rattle.cose_head.specs.Placed.{children_of, if_utf8};
 ghost use Rattle.cose_map.specs.KeySet.{keys_of};
@@ -167,7 +167,9 @@ fn audience_at(claims: &Claims<'_>, index: u64) -> CoseRange
 }
 
 /// How many text strings the audience has.
-fn audience_count(claims: &Claims<'_>) -> u64 {
+fn audience_count(claims: &Claims<'_>) -> u64
+    ensures { result ≡ min (length (auds_of (claims_value claims.now))) (2 ^ 64 - 1) }
+{
     let mut count = 0u64;
     'texts: for _text in claims.auds() {
         count = count.saturating_add(1);
@@ -484,6 +486,7 @@ fn told_audience(claims: &Claims<'_>, payload: &[u8], index: u64) -> CoseRange
     // Laws that the proof cites.
     claims_are_of_a_tree();
     children_are_of_tree();
+    // The clause is about the payload.
     let _payload = payload;
     audience_at(claims, index)
 }

@@ -19,6 +19,7 @@ returns c = λ depth shallow read.
       sub = text_told tree ends depth payload value shallow read names.sub (value_of names.sub value.pairs) c.text_of-sub.result refl c.text_of-sub.ensures.value c.text_of-sub.ensures.inside;
       aud = audience_told tree ends depth payload value shallow read 0 (value_of names.aud value.pairs) c.audience_at-aud.result refl c.audience_at-aud.ensures.value c.audience_at-aud.ensures.inside;
       cti = bytes_told tree ends depth payload value shallow read names.cti (value_of names.cti value.pairs) c.bytes_of-cti.result refl c.bytes_of-cti.ensures.value c.bytes_of-cti.ensures.inside;
+      aud_count = c.audience_count-aud_count.ensures;
       exp = c.date_of-exp.ensures;
       nbf = c.date_of-nbf.ensures;
       iat = c.date_of-iat.ensures;
