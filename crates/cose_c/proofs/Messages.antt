@@ -1,9 +1,9 @@
 -- The verdict on bytes in memory, of which the first ones were fed.
-use Rattle.std.proofs.Common.{◌≡◌, inl, inr, ℕ, ◌+◌, ◌-◌, ◌<◌, ◌≤◌, ℤ, Bool, true, false, List, [], ◌++◌, length, take, drop, Option, Some, None, Result, Ok, Err, refl, sym, ap, subst, ◌∙◌, arith}
+use Rattle.std.proofs.Common.{◌≡◌, inl, inr, ℕ, ◌-◌, ◌≤◌, ℤ, Bool, true, false, List, [], ◌++◌, length, take, drop, Option, Some, None, Result, Ok, Err, refl, sym, ap, subst, ◌∙◌, arith}
 use Rattle.std.proofs.lemmas.Bool.Decides.{nat_tests}
 use Rattle.std.proofs.lemmas.List.{length-drop, length-take, take-append-drop}
 use Rattle.std.proofs.Math.Seq.{take-length}
-use Rattle.std.specs.Prelude.{IfOk, IsSomeAnd, min, nat_lt, option_map}
+use Rattle.std.specs.Prelude.{IfOk, IsSomeAnd, min, nat_lt}
 use Rattle.cose_head.specs.declared.algorithm.Alg.{Alg}
 use Rattle.cose_head.specs.declared.algorithm.Alg.TheVariants.{Hmac64, Hmac256, Hmac384, Hmac512, Es256, Es384, Es512, Esp256, Esp384, Esp512}
 use Rattle.cose_head.specs.declared.kind.Kind.{Kind}

@@ -3,10 +3,10 @@ use Rattle.std.proofs.Common.{◌≡◌, ℕ, ◌+◌, ◌-◌, ◌≤◌, Bool,
 use Rattle.std.proofs.lemmas.Bool.Decides.{nat_tests}
 use Rattle.std.proofs.lemmas.List.{length-drop}
 use Rattle.std.specs.List.{AllByRecursion}
-use Rattle.std.specs.Prelude.{nat_eq, is_some, ◌==◌, option_map, option_and_then}
+use Rattle.std.specs.Prelude.{nat_eq, is_some, ◌==◌, option_and_then}
 use Rattle.std.specs.Str.{is_utf8}
 use Rattle.cose_head.specs.declared.head.Head.{Head}
-use Rattle.cose_head.specs.Placed.{Look, Placed, bytes_in, children_of, head_of_item, if_utf8, is_an_array, look, look_with, text_in}
+use Rattle.cose_head.specs.Placed.{Placed, bytes_in, children_of, head_of_item, if_utf8, is_an_array, look, look_with, text_in}
 use Rattle.cose_head.specs.PlacedLaws.{ChildrenEndInside, EndsBy, end_of}
 use Rattle.cose_head.proofs.Placed.{bytes_found, no_bytes, no_text, text_found}
 use Rattle.cose_map.specs.Label.{LabelValue}

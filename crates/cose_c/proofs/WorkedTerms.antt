@@ -1,5 +1,5 @@
 -- The arguments and the numbers of a call, on examples, by computing.
-use Rattle.std.specs.Prelude.{ℕ, ℤ, pos, negsuc, List, [], ◌∷◌, map, replicate, Result, Ok, Err, Option, Some, None, refl, ◌≡◌}
+use Rattle.std.specs.Prelude.{ℕ, pos, negsuc, List, [], ◌∷◌, map, replicate, Ok, Err, refl, ◌≡◌}
 use Rattle.cose_head.specs.declared.algorithm.Alg.TheVariants.{Hmac256, Es256}
 use Rattle.cose_head.specs.declared.kind.Kind.TheVariants as kinds
 use Rattle.cose_head.specs.declared.reason.Reason.TheVariants.{BadAuth, BadKeySet, Trailing}
@@ -18,8 +18,7 @@ use Rattle.cose_c.specs.Shape.{no_keys}
 use Rattle.cose_msg.specs.declared.context.Wanted.TheVariants.{Mac0, Sign1, Tagged}
 use Rattle.cose_msg.specs.declared.verdict.Verdict.TheVariants.{Authentic}
 use Rattle.cose_msg.specs.Answer.{decided, refused}
-use Rattle.cose_c.specs.declared.numbers.CoseStatus.{CoseStatus}
-use Rattle.cose_c.specs.Numbers.{accepted_as, always_authentic, no_message, one_message, plain_status, unless_signed, verdict_numbers}
+use Rattle.cose_c.specs.Numbers.{accepted_as, always_authentic, one_message, plain_status, unless_signed, verdict_numbers}
 use Rattle.cose_c.specs.Terms.{kinds_given, setting_given}
 
 -- The numbers that name kinds, and the numbers next to them.

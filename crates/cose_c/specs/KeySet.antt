@@ -1,5 +1,5 @@
 -- What a caller gets of a key set.
-use Rattle.std.specs.Prelude.{ℕ, List, length, Ok, Err}
+use Rattle.std.specs.Prelude.{List, length, Ok, Err}
 use Rattle.cose_map.specs.Key.Value.{KeyValue}
 use Rattle.cose_map.specs.Map.Read.{Read}
 use Rattle.cose_c.specs.declared.key_set.CoseKeySet.{CoseKeySet}

@@ -1,5 +1,5 @@
 -- The numbers that a caller gets.
-use Rattle.std.specs.Prelude.{ℕ, ℤ, pos, nat_lt, if◌then◌else◌}
+use Rattle.std.specs.Prelude.{ℕ, pos, nat_lt, if◌then◌else◌}
 use Rattle.cose_head.specs.declared.algorithm.Alg.{Alg}
 use Rattle.cose_head.specs.declared.kind.Kind.{Kind}
 use Rattle.cose_head.specs.declared.kind.Kind.TheVariants.{Mac0, Sign1}

@@ -1,4 +1,4 @@
-use Rattle.std.proofs.Common.{◌≡◌, sym, ap, ◌∙◌}
+use Rattle.std.proofs.Common.{sym, ap, ◌∙◌}
 use Rattle.std.specs.Prelude.{option_map}
 use Rattle.cose_cwt.specs.Admission.View.{policy_value}
 use Rattle.cose_cwt.specs.Claims.Audience.{text_value}

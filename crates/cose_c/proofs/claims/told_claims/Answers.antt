@@ -1,4 +1,4 @@
-use Rattle.std.proofs.Common.{◌≡◌, refl}
+use Rattle.std.proofs.Common.{refl}
 use Rattle.cose_map.specs.Map.Pairs.{value_of}
 use Rattle.cose_cwt.specs.Claims.Labels as names
 use Rattle.cose_cwt.specs.Claims.View.{claims_value}

@@ -1,7 +1,7 @@
 use Rattle.std.proofs.Common.{◌≡◌, true, [], false, length, sym, ap, subst, ◌∙◌, arith}
 use Rattle.cose_msg.specs.Answer.{decided}
 use Rattle.cose_msg.specs.Reading.{Reading}
-use Rattle.cose_msg.specs.Shown.{Shown, SignInput, sign_input_in, sign_input_of}
+use Rattle.cose_msg.specs.Shown.{Shown, sign_input_in, sign_input_of}
 use Rattle.cose_msg.specs.Task.{rules_of, to_verify}
 use Rattle.cose_msg.specs.Verifier.{setting_in}
 use Rattle.cose_c.specs.Deciding.{always}

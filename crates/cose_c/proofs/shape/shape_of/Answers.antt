@@ -1,6 +1,4 @@
-use Rattle.std.proofs.Common.{◌≡◌, true, false, [], length, Ok, sym, ap, ◌∙◌}
-use Rattle.std.specs.Prelude.{IfOk}
-use Rattle.cose_msg.specs.declared.verdict.Inspected.{Inspected}
+use Rattle.std.proofs.Common.{◌≡◌, true, false, [], length, sym, ap, ◌∙◌}
 use Rattle.cose_msg.specs.Answer.{Answer}
 use Rattle.cose_msg.specs.Message.{inspecting, message}
 use Rattle.cose_msg.specs.Run.{inspection}
