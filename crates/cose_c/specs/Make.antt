@@ -1,5 +1,5 @@
 -- A COSE_Mac0 that is made over pieces.
-use Rattle.std.specs.Prelude.{◌≡◌, ℕ, ℤ, List, [], ◌∷◌, length, take, Option, None, Some, Result, Ok, Err, nat_lt, if◌then◌else◌}
+use Rattle.std.specs.Prelude.{ℕ, ℤ, List, [], ◌∷◌, length, Option, None, Some, Ok, Err, nat_lt, if◌then◌else◌}
 use Rattle.cose_head.specs.declared.algorithm.Alg.{Alg}
 use Rattle.cose_head.specs.Algorithm.{algorithm_numbered, is_mac_of}
 use Rattle.cose_head.specs.Placed.{Placed}

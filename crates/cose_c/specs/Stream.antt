@@ -1,5 +1,5 @@
 -- A verifier in a block, which is there once the block is opened, and what a caller gets of it.
-use Rattle.std.specs.Prelude.{◌≡◌, ℕ, ℤ, pos, ◌+◌, Bool, false, ◌&&◌, not, List, [], length, Option, Some, None, Result, Ok, Err}
+use Rattle.std.specs.Prelude.{◌≡◌, ℕ, ℤ, pos, ◌+◌, Bool, false, ◌&&◌, not, List, [], Option, Some, None, Result, Ok, Err}
 use Rattle.std.specs.Ordering.{int_eq}
 use Rattle.cose_map.specs.declared.key_set.KeySet.{KeySet}
 use Rattle.cose_map.specs.declared.keys.KeyMeaning.{Ghosts}
@@ -9,7 +9,6 @@ use Rattle.cose_msg.specs.declared.status.Status.TheVariants as statuses
 use Rattle.cose_msg.specs.declared.verdict.Stop.{Stop}
 use Rattle.cose_msg.specs.declared.verdict.Verdict.{Verdict}
 use Rattle.cose_msg.specs.declared.verifier.Verifier.{Verifier}
-use Rattle.cose_msg.specs.Answer.{Answer}
 use Rattle.cose_msg.specs.Feed.{part_of}
 use Rattle.cose_msg.specs.Kept.{HasTaken, bytes_taken, is_inspecting, kept_answer}
 use Rattle.cose_msg.specs.Message.{Setting, message}

@@ -1,4 +1,4 @@
-use Rattle.std.proofs.Common.{◌≡◌, Some, ap, ◌∙◌, w32}
+use Rattle.std.proofs.Common.{ap, ◌∙◌, w32}
 use Rattle.std.proofs.lemmas.Int.{to_z-of_z}
 use Rattle.cose_c.specs.Make.{mac_numbered}
 use Rattle.cose_c.proofs.make.cose_edge_make.Goals as goal
