@@ -72,7 +72,7 @@ class Pair(NamedTuple):
 
 def new_pair(folder, curve, odd):
     """A pair whose y is odd, or even."""
-    path = pathlib.Path(folder, f"{curve.name}-{odd}")
+    path = pathlib.Path(folder, f"{curve.name}{curve.alg}-{odd}")
     while True:
         openssl("genpkey", "-algorithm", "EC", "-pkeyopt", f"ec_paramgen_curve:{curve.name}", "-out", path)
         point = openssl("pkey", "-in", path, "-pubout", "-outform", "DER")[-2 * curve.coordinate:]
