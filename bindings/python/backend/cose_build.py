@@ -2,8 +2,8 @@
 
 setuptools would have to be fetched into the environment that pip builds in; this fetches nothing.
 
-The archive libcose_c.a is that of the folder COSE_LIB_DIR, or that which pkg-config knows as `cose`.
-It becomes cose/_libcose.so. Where there is no archive, but an installed libcose.so, the package
+The archive is libcose_c.a, as it is built, or libcose.a, as it is installed: that of the folder
+COSE_LIB_DIR, or that which pkg-config knows as `cose`. It becomes cose/_libcose.so. Where there is no archive, but an installed libcose.so, the package
 loads that one.
 """
 
@@ -25,7 +25,7 @@ from typing import Any, Dict, Optional
 
 TOP = pathlib.Path(__file__).resolve().parent.parent
 SOURCE = TOP / "src" / "cose"
-ARCHIVE = "libcose_c.a"
+ARCHIVES = ("libcose_c.a", "libcose.a")
 METADATA = """\
 Metadata-Version: 2.1
 Name: cose
@@ -53,8 +53,8 @@ def _archive() -> Optional[pathlib.Path]:
             folder = subprocess.run(command, capture_output=True, text=True).stdout.strip()
         except FileNotFoundError:
             folder = ""
-    archive = pathlib.Path(folder, ARCHIVE)
-    return archive if folder and archive.exists() else None
+    archives = [pathlib.Path(folder, name) for name in ARCHIVES] if folder else []
+    return next((archive for archive in archives if archive.exists()), None)
 
 
 def _has_installed_library() -> bool:
@@ -92,8 +92,8 @@ def _files() -> Dict[str, bytes]:
             files["cose/_libcose.so"] = library.read_bytes()
     elif not _has_installed_library():
         raise SystemExit(
-            f"cose: there is neither {ARCHIVE} nor an installed libcose.so:"
-            f" set COSE_LIB_DIR to the folder of {ARCHIVE}"
+            f"cose: there is no {' or '.join(ARCHIVES)}, and no installed libcose.so:"
+            f" set COSE_LIB_DIR to the folder of the archive"
         )
     return files
 
