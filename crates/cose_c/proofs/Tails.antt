@@ -3,7 +3,7 @@ use Rattle.std.proofs.Common.{◌≡◌, ℕ, ◌+◌, ◌≤◌, true, false, L
 use Rattle.std.proofs.lemmas.List.{length-append}
 use Rattle.std.specs.Prelude.{IsTrue}
 use Rattle.cose_head.specs.declared.algorithm.Alg.{Alg}
-use Rattle.cose_head.specs.declared.algorithm.Alg.TheVariants.{Hmac64, Hmac256, Hmac384, Hmac512, Es256, Es384, Es512}
+use Rattle.cose_head.specs.declared.algorithm.Alg.TheVariants.{Hmac64, Hmac256, Hmac384, Hmac512, Es256, Es384, Es512, Esp256, Esp384, Esp512}
 use Rattle.cose_head.specs.Algorithm.{auth_length_of, is_mac_of}
 use Rattle.cose_head.specs.Head.{shortest_head}
 use Rattle.cose_mac.specs.Laws.{MacHasItsLength}
@@ -19,6 +19,9 @@ lengths Hmac512 is_mac = omega arith
 lengths Es256 is_mac = let clash : false ≡ true = is_mac in absurd cc
 lengths Es384 is_mac = let clash : false ≡ true = is_mac in absurd cc
 lengths Es512 is_mac = let clash : false ≡ true = is_mac in absurd cc
+lengths Esp256 is_mac = let clash : false ≡ true = is_mac in absurd cc
+lengths Esp384 is_mac = let clash : false ≡ true = is_mac in absurd cc
+lengths Esp512 is_mac = let clash : false ≡ true = is_mac in absurd cc
 
 pub tail_fits : MacHasItsLength → (alg : Alg) → IsTrue (is_mac_of alg) → (secret aad payload : List ℕ) → length (encoded_string 2 (auth_made alg secret aad payload)) ≤ 70
 tail_fits law alg is_mac secret aad payload =
