@@ -23,6 +23,12 @@ CURVES = (
 )
 
 
+class Tagged(NamedTuple):
+    """An item with a tag."""
+    number: int
+    item: object
+
+
 def head(major, number):
     """The shortest head (RFC 8949 section 3)."""
     if number < 24:
@@ -33,6 +39,8 @@ def head(major, number):
 
 def cbor(value):
     """A value in CBOR; a tuple is an array, None is nil."""
+    if isinstance(value, Tagged):
+        return head(6, value.number) + cbor(value.item)
     if value is None:
         return b"\xf6"
     if isinstance(value, bool):
