@@ -7,13 +7,13 @@
 //! [`parse_head`], which answers with a [`HeadStep`], and [`write_head`] are for a [`Head`] outside an item. No memory
 //! is allocated.
 //!
-//! [`Alg`] is the table of algorithms, four of HMAC and three of ECDSA: the [`Kind`] of message of each, its [`Hash`],
+//! [`Alg`] is the table of algorithms, four of HMAC and six of ECDSA: the [`Kind`] of message of each, its [`Hash`],
 //! and the [`KeyType`] of its keys.
 //!
 //! `Debug` of an [`ItemRef`] and of [`Items`] prints how many bytes there are, and none of them ([`Hidden`]): they may be a key's.
 //!
 //! ```
-//! // A map of one pair, {1: 5}, whose first byte stands at place 3 of a message.
+//! // A map of one pair, {1: 5}, whose first byte is at place 3 of a message.
 //! let map = ItemRef::read(b"\xa1\x01\x05", 3, 8)?;
 //! let mut children = Items::of(&map);
 //! if let (Some(label), Some(value)) = (children.next(), children.next()) {
@@ -22,7 +22,7 @@
 //!     println!(rt; "{:?} at {}", value.as_int(), value.place)?;
 //! }
 //!
-//! // A byte behind the item is refused: `Trailing at 6`.
+//! // A byte after the item is refused: `Trailing at 6`.
 //! if let Err(refusal) = ItemRef::read(b"\xa1\x01\x05\x00", 3, 8) {
 //!     println!(rt; "{refusal}")?;
 //! }

@@ -59,7 +59,7 @@ pub enum Reason {
     NoKey = 24,
     /// Two or more keys fit the message.
     AmbiguousKey = 25,
-    /// The payload is nil (RFC 9052 sections 4.1 and 6.1).
+    /// The payload is nil (RFC 9052 sections 4.2 and 6.2).
     Detached = 26,
     /// The authentication tag or the signature doesn't have the length of its algorithm.
     BadAuthLength = 27,
@@ -69,7 +69,8 @@ pub enum Reason {
     PayloadTooLong = 29,
     /// The CBOR tag of a CWT without that of a COSE message (RFC 8392 section 6).
     CwtTagAlone = 30,
-    /// A key set that is neither a map nor an array of keys (RFC 9052 section 7).
+    /// A key set that is neither a map nor an array of one or more items (RFC 9052 section 7), that has more than 65,535
+    /// bytes, or that has more usable keys than its table holds.
     BadKeySet = 31,
     /// A key of a type or curve that isn't known.
     UnknownKey = 32,

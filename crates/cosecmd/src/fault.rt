@@ -18,7 +18,8 @@ pub enum Fault {
     Memory,
     /// The argument of this option isn't hexadecimal, or is too long.
     Line(&'static str),
-    /// The file of this option can't be opened or read, or has more bytes than a key may have.
+    /// The file of this option can't be opened or read, has more bytes than a key may have, or, where it has the payload, isn't
+    /// regular or ends before the length that it had when it was opened.
     File(&'static str),
     /// The key set is refused. The place is relative to the first byte of the set.
     Keys(Refusal),

@@ -1,4 +1,4 @@
-//! The header buckets of a message, and the choice of its key (RFC 9052 sections 3 and 7.1).
+//! The header buckets of a message (RFC 9052 section 3).
 
 ghost use Rattle.std.specs.Prelude.{◌≡◌, ◌<◌, ◌≤◌, ◌+◌, ◌^◌, ℕ, List, Ok, ◌++◌, length};
 ghost use Rattle.cose_head.specs.Measured.{left_of};

@@ -37,7 +37,7 @@ pub const CHUNK: usize = 4_096;
 /// How deep the items of a header bucket may nest.
 pub const NESTING: usize = 8;
 
-/// The most usable keys of the option `--keys`.
+/// The most usable keys of a key set.
 pub const KEYS: usize = 16;
 
 /// The most bytes of a payload, which is the most that any message may have.
