@@ -2,3 +2,5 @@ pub mod First
 pub mod Read
 pub mod Again
 pub mod Search
+pub mod Labels
+pub mod Ahead

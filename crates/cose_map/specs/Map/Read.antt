@@ -40,6 +40,12 @@ label_after earlier label = do
   name ← name_at label (label_of label)
   new_name label (has_label name earlier) name
 
+-- The pair of a label, which may be taken.
+abbrev pub new_pair : Table → Bool → Placed → LabelValue → Placed → Read Pair
+new_pair table taken label name value = do
+  new ← new_name label taken name
+  value_at label (table new value) new value
+
 abbrev pub pair_after : Table → List Pair → Placed → Placed → Read Pair
 pair_after table earlier label value = do
   name ← label_after earlier label

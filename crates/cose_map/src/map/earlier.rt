@@ -21,7 +21,8 @@ pub(crate) struct Earlier<'a> {
     pub(crate) pairs: Pairs<'a>,
     /// How many of them are earlier ones.
     pub(crate) count: u128,
-    greatest: Option<Label<'a>>,
+    /// The greatest of their labels.
+    pub(crate) greatest: Option<Label<'a>>,
     /// No earlier label follows the greatest in the order.
     pub ghost greatest_of_them: { order.is_greatest (option_map label_value greatest) (take count (pairs_left pairs)) ≡ true },
 }
@@ -59,66 +60,6 @@ impl<'a> Earlier<'a> {
             pairs,
             count: 0,
             greatest: None,
-        }
-    }
-
-    /// Whether a label is among them, by comparing it with each.
-    fn is_taken(&self, name: &Label<'_>) -> bool
-        ensures { result ≡ has_label (label_value name.now) (earlier_pairs self.now) }
-    {
-        let mut left = self.count;
-        'earlier: for (earlier, _item, _value) in self.pairs {
-            if left == 0 {
-                return false;
-            }
-            if name.is_same(&earlier) {
-                return true;
-            }
-            left -= 1;
-        }
-        false
-    }
-
-    /// Whether a label is among them. One that follows the greatest isn't.
-    #[tactic(auto, using(crate::proofs::lemmas::Label::Order::none_passed))]
-    fn has(&self, name: &Label<'_>) -> bool
-        ensures { result ≡ has_label (label_value name.now) (earlier_pairs self.now) }
-    {
-        if passes(self.greatest, name) {
-            return false;
-        }
-        self.is_taken(name)
-    }
-
-    /// The label that an item is, if it is one and isn't among theirs.
-    fn new_label<'b>(&self, item: &ItemRef<'b>) -> Result<Label<'b>, Refusal>
-        ensures { seen_by label_value result
-            ≡ label_after (earlier_pairs self.now) (placed item.now) }
-    {
-        let Some(name) = Label::of(item) else {
-            return Err(refused(Reason::BadLabel, item));
-        };
-        if self.has(&name) {
-            return Err(refused(Reason::DuplicateLabel, item));
-        }
-        Ok(name)
-    }
-
-    /// The label of a pair, if it isn't among theirs and the value has its form.
-    pub(crate) fn check<F: Form>(
-        &self,
-        form: &F,
-        label: &ItemRef<'a>,
-        value: &ItemRef<'a>,
-    ) -> Result<Label<'a>, Refusal>
-        ensures { seen_by (λ name. pair_value (name, label.now, value.now)) result
-            ≡ pair_after (F.table form.now) (earlier_pairs self.now) (placed label.now)
-            (placed value.now) }
-    {
-        let name = self.new_label(label)?;
-        match form.fault(&name, value) {
-            Some(reason) => Err(refused(reason, value)),
-            None => Ok(name),
         }
     }
 

@@ -1,17 +1,20 @@
 //! A map of labels and values, read with a table that says which form each label's value has
 //! (RFC 9052 sections 3 and 7, RFC 8392 section 3).
 
-ghost use Rattle.std.specs.Prelude.{◌≡◌, ℕ, ◌+◌, ◌<◌, ◌≤◌, ◌^◌, [], ◌∷◌, length, MatchOption, IfErr};
+ghost use Rattle.std.specs.Prelude.{◌≡◌, ℕ, ◌+◌, ◌<◌, ◌≤◌, ◌^◌, not, true, [], ◌∷◌, length, MatchOption, IfErr};
 ghost use Rattle.cose_head.specs.ItemRef.{placed};
 ghost use Rattle.cose_head.specs.Items.{items_left};
-ghost use Rattle.cose_map.specs.Map.Read.{check_pairs, check_map, read_map};
-ghost use Rattle.cose_map.specs.Map.View.{pairs_left, seen_by};
+ghost use Rattle.cose_map.specs.Label.{label_of};
+ghost use Rattle.cose_map.specs.Map.Read.{name_at, new_pair, check_pairs, check_map, read_map};
+ghost use Rattle.cose_map.specs.Map.View.{pair_value, pairs_left, seen_by};
 ghost use Rattle.cose_map.specs.Label.View.{label_value};
 
+use crate::label::Label;
 use crate::laws::refusals_stand_inside;
-use crate::map::earlier::Earlier;
+use crate::map::earlier::{Earlier, passes};
 use crate::map::form::Form;
 use crate::map::pairs::Pairs;
+use crate::map::unordered::Unordered;
 use cose_head::{ItemRef, Items, Reason, Refusal};
 
 /// The refusal of an item, at its place.
@@ -34,7 +37,56 @@ fn next_two<'a>(items: &mut Items<'a>) -> Option<(ItemRef<'a>, ItemRef<'a>)>
     Some((first, second))
 }
 
-/// The pairs of a map from its children, each with a new label and a value of its form.
+/// The label that an item of a pair is.
+fn label_at<'a>(item: &ItemRef<'a>) -> Result<Label<'a>, Refusal>
+    ensures { seen_by label_value result ≡ name_at (placed item.now) (label_of (placed item.now)) }
+{
+    match Label::of(item) {
+        Some(name) => Ok(name),
+        None => Err(refused(Reason::BadLabel, item)),
+    }
+}
+
+/// The label of a pair, if it is new and the value has its form.
+fn check_new<'a, F: Form>(
+    form: &F,
+    name: Label<'a>,
+    is_new: bool,
+    label: &ItemRef<'a>,
+    value: &ItemRef<'a>,
+) -> Result<Label<'a>, Refusal>
+    ensures { seen_by (λ name. pair_value (name, label.now, value.now)) result
+        ≡ new_pair (F.table form.now) (not is_new) (placed label.now) (label_value name.entry)
+        (placed value.now) }
+{
+    if !is_new {
+        return Err(refused(Reason::DuplicateLabel, label));
+    }
+    match form.fault(&name, value) {
+        Some(reason) => Err(refused(reason, value)),
+        None => Ok(name),
+    }
+}
+
+/// The pairs of a map from its children, each with a new label and a value of its form. The labels come in any order.
+fn check_in_any_order<'a, F: Form>(form: &F, items: Items<'a>) -> Result<Pairs<'a>, Refusal>
+    ensures { seen_by pairs_left result
+        ≡ check_pairs (F.table form.now) [] (items_left items.entry) }
+{
+    let mut unordered = Unordered::none(Pairs { items });
+    let mut here = items;
+    let mut rest = items;
+    'pairs: while let Some((label, value)) = next_two(&mut rest) {
+        let name = label_at(&label)?;
+        let is_new = unordered.push(name, Pairs { items: here });
+        let _checked = check_new(form, name, is_new, &label, &value)?;
+        here = rest;
+    }
+    Ok(Pairs { items })
+}
+
+/// The pairs of a map from its children, each with a new label and a value of its form. Labels in increasing order are
+/// compared with the one before alone.
 fn check_items<'a, F: Form>(form: &F, items: Items<'a>) -> Result<Pairs<'a>, Refusal>
     ensures { seen_by pairs_left result
         ≡ check_pairs (F.table form.now) [] (items_left items.entry) }
@@ -42,8 +94,12 @@ fn check_items<'a, F: Form>(form: &F, items: Items<'a>) -> Result<Pairs<'a>, Ref
     let mut earlier = Earlier::none(Pairs { items });
     let mut rest = items;
     'pairs: while let Some((label, value)) = next_two(&mut rest) {
-        let name = earlier.check(form, &label, &value)?;
-        earlier.push(name);
+        let name = label_at(&label)?;
+        if !passes(earlier.greatest, &name) {
+            return check_in_any_order(form, items);
+        }
+        let checked = check_new(form, name, true, &label, &value)?;
+        earlier.push(checked);
     }
     Ok(earlier.pairs)
 }

@@ -1,19 +1,15 @@
 -- The pairs of a map, checked one after another.
-use Rattle.std.proofs.Common.{◌≡◌, ◌∙◌, ℕ, zero, suc, ◌+◌, ◌-◌, ◌<◌, Bool, true, false, List, [], ◌∷◌, ◌++◌, length, take, drop, Option, Some, None, Ok, Err, refl, sym, ap, arith, add-one, append-nil}
+use Rattle.std.proofs.Common.{◌≡◌, ◌∙◌, ℕ, zero, suc, ◌+◌, ◌<◌, Bool, true, false, not, List, [], ◌∷◌, ◌++◌, length, take, drop, Option, Some, None, Ok, Err, refl, sym, ap, arith, add-one, append-nil}
 use Rattle.std.proofs.lemmas.List.{take-append-drop}
 use Rattle.cose_head.specs.declared.reason.Reason.{Reason}
 use Rattle.cose_head.specs.declared.refusal.Refusal.{Refusal}
 use Rattle.cose_head.specs.Placed.{Placed}
-use Rattle.cose_map.specs.Label.{LabelValue, label_of, same_label}
-use Rattle.cose_map.specs.Map.Read.{Read, ◌>>=◌, name_at, new_name, value_at, pair_after, check_pairs}
+use Rattle.cose_map.specs.Label.{LabelValue, label_of}
+use Rattle.cose_map.specs.Map.Read.{Read, ◌>>=◌, name_at, new_name, new_pair, value_at, pair_after, check_pairs}
+use Rattle.cose_map.specs.Map.Search.{is_first}
+use Rattle.cose_map.proofs.lemmas.Map.Labels.Others.{in_turn}
 use Rattle.cose_map.specs.Map.Form.{Table}
 use Rattle.cose_map.specs.Map.Pairs.{Pair, has_label, pairs_of, pairs_from}
-
--- a label among the first pairs
-pub taken_next : (name : LabelValue) (left : ℕ) (pairs : List Pair) (pair : Pair) (others : List Pair) → pairs ≡ pair ∷ others → (left ≡ 0 → ⊥) → same_label name pair.name ≡ false →
-    has_label name (take (left - 1) others) ≡ has_label name (take left pairs)
-taken_next name zero pairs pair others e more other = absurd (more refl)
-taken_next name (suc left) pairs pair others e more other = let one : suc left - 1 ≡ left = omega arith in rw (e, one, other) refl
 
 -- the first elements of a list, with one more
 pub one_more : {A : Type 0} (n : ℕ) (all : List A) (x : A) (others : List A) → drop n all ≡ x ∷ others → take (suc n) all ≡ take n all ++ x ∷ []
@@ -96,3 +92,26 @@ pub pairs_done : (table : Table) (all : List Pair) (count : ℕ) (rest : List Pl
 pairs_done table all count rest answer few left same =
     let every : take count all ≡ all = all_taken count all (left ∙ few_named rest few) in
     ap Ok (sym every) ∙ sym (few_checked table (take count all) rest few) ∙ same
+
+-- a pair by its parts: the item that isn't a label, and a label that is new or not
+pub no_label_after : (table : Table) (earlier : List Pair) (label value : Placed) (refusal : Refusal) → Err refusal ≡ name_at label (label_of label) → Err refusal ≡ pair_after table earlier label value
+no_label_after table earlier label value refusal e = ap (λ (x : Read LabelValue). (x >>= λ name. new_name label (has_label name earlier) name) >>= λ name. value_at label (table name value) name value) e
+
+pub pair_checked : (table : Table) (earlier : List Pair) (label value : Placed) (name : LabelValue) (new : Bool) (answer : Read Pair) → Ok name ≡ name_at label (label_of label) → new ≡ not (has_label name earlier) →
+    answer ≡ new_pair table (not new) label name value → answer ≡ pair_after table earlier label value
+pair_checked table earlier label value name new answer e is checked =
+    checked ∙ ap (λ b. new_pair table (not b) label name value) is ∙ ap (λ b. new_pair table b label name value) (twice (has_label name earlier)) ∙
+    ap (λ (x : Read LabelValue). (x >>= λ name. new_name label (has_label name earlier) name) >>= λ name. value_at label (table name value) name value) e
+  where
+    twice : (b : Bool) → not (not b) ≡ b
+    twice true = refl
+    twice false = refl
+
+-- the label of the first pair of those that are left
+pub named_first : (label value : Placed) (others : List Placed) (rest : List Placed) (name : LabelValue) → rest ≡ label ∷ value ∷ others → Ok name ≡ name_at label (label_of label) → is_first name (pairs_of rest) ≡ true
+unfolding pairs_of
+named_first label value others rest name e is = ap (λ l. is_first name (pairs_of l)) e ∙ at (label_of label) is
+  where
+    at : (o : Option LabelValue) → Ok name ≡ name_at label o → is_first name (pairs_from o label value (pairs_of others)) ≡ true
+    at None same = cc
+    at (Some found) same = let equal : name ≡ found = cc in in_turn name found equal

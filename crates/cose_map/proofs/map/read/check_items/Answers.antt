@@ -1,22 +1,44 @@
-use Rattle.std.proofs.Common.{◌∙◌, length, ap, arith}
+use Rattle.std.proofs.Common.{◌∙◌, length, ap, arith, sym, not, true}
 use Rattle.std.specs.Prelude.{option_map}
 use Rattle.std.proofs.lemmas.Result.{err_from_is_err_and}
+use Rattle.cose_head.specs.ItemRef.{placed}
 use Rattle.cose_map.specs.Map.Earlier.{earlier_pairs}
 use Rattle.cose_map.specs.Label.View.{label_value}
 use Rattle.cose_map.specs.Map.View.{pair_value}
-use Rattle.cose_map.proofs.lemmas.Map.Read.{pairs_on, pairs_off, pairs_done}
-use Rattle.cose_map.proofs.lemmas.Label.Order.{still_greatest}
+use Rattle.cose_map.proofs.lemmas.Map.Read.{pairs_on, pairs_off, pairs_done, no_label_after, pair_checked}
+use Rattle.cose_map.proofs.lemmas.Label.Order.{still_greatest, none_passed}
 use Rattle.cose_map.proofs.map.read.check_items.Goals as goal
+
+pub returns-in_err-name : goal.returns-in_err-name
+returns-in_err-name g c =
+    let p = err_from_is_err_and c.from_residual.result c.from_residual.ensures.1 in
+    rw (p.1, p.2) (pairs_off _ _ _ _ _ _ _ _ _ c.in-Some.ensures c.pairs.invariant.onward (no_label_after (g.F.Form.table c.args.form.now) (earlier_pairs c.pairs.earlier) (placed c.in-Some.label) (placed c.in-Some.value) _ c.in_err-name.ensures))
+
+pub returns-then-not-passes : goal.returns-then-not-passes
+returns-then-not-passes g c = c.check_in_any_order.ensures
+
+pub returns-in_err-checked : goal.returns-in_err-checked
+returns-in_err-checked g c =
+    let p = err_from_is_err_and c.from_residual-in_err-checked.result c.from_residual-in_err-checked.ensures.1 in
+    let earlier = c.pairs.earlier in
+    let new = sym (ap not (none_passed (option_map label_value earlier.greatest) (label_value c.in_ok-name.name) (earlier_pairs earlier) earlier.greatest_of_them (sym c.passes.ensures ∙ c.if-not-passes.false))) in
+    rw (p.1, p.2) (pairs_off _ _ _ _ _ _ _ _ _ c.in-Some.ensures c.pairs.invariant.onward
+    (pair_checked (g.F.Form.table c.args.form.now) (earlier_pairs earlier) (placed c.in-Some.label) (placed c.in-Some.value) (label_value c.in_ok-name.name) true _ c.in_ok-name.ensures new c.in_err-checked.ensures))
 
 pub push-requires-clause-greatest : goal.push-requires-clause-greatest
 push-requires-clause-greatest g c =
-    let next = pairs_on _ _ _ _ _ _ _ _ _ c.in-Some.ensures c.pairs.invariant.to_come c.pairs.invariant.onward c.in_ok-name.ensures in
-    let pair = pair_value (c.in_ok-name.name, c.in-Some.label, c.in-Some.value) in
-    rw next.0 (still_greatest (option_map label_value c.pairs.earlier.greatest) pair (earlier_pairs c.pairs.earlier) c.pairs.earlier.greatest_of_them)
+    let earlier = c.pairs.earlier in
+    let new = sym (ap not (none_passed (option_map label_value earlier.greatest) (label_value c.in_ok-name.name) (earlier_pairs earlier) earlier.greatest_of_them (sym c.passes.ensures ∙ c.if-not-passes.false))) in
+    let next = pairs_on _ _ _ _ _ _ _ _ _ c.in-Some.ensures c.pairs.invariant.to_come c.pairs.invariant.onward
+    (pair_checked (g.F.Form.table c.args.form.now) (earlier_pairs earlier) (placed c.in-Some.label) (placed c.in-Some.value) (label_value c.in_ok-name.name) true _ c.in_ok-name.ensures new c.in_ok-checked.ensures) in
+    rw next.0 (still_greatest (option_map label_value earlier.greatest) (pair_value (c.in_ok-checked.checked, c.in-Some.label, c.in-Some.value)) (earlier_pairs earlier) earlier.greatest_of_them)
 
 pub pairs-preserved : goal.pairs-preserved
 pairs-preserved g c =
-    let next = pairs_on _ _ _ _ _ _ _ _ _ c.in-Some.ensures c.pairs.invariant.to_come c.pairs.invariant.onward c.in_ok-name.ensures in
+    let earlier = c.pairs.earlier in
+    let new = sym (ap not (none_passed (option_map label_value earlier.greatest) (label_value c.in_ok-name.name) (earlier_pairs earlier) earlier.greatest_of_them (sym c.passes.ensures ∙ c.if-not-passes.false))) in
+    let next = pairs_on _ _ _ _ _ _ _ _ _ c.in-Some.ensures c.pairs.invariant.to_come c.pairs.invariant.onward
+    (pair_checked (g.F.Form.table c.args.form.now) (earlier_pairs earlier) (placed c.in-Some.label) (placed c.in-Some.value) (label_value c.in_ok-name.name) true _ c.in_ok-name.ensures new c.in_ok-checked.ensures) in
     let added = c.push.ensures in
     let shorter = ap length c.in-Some.ensures in
     record {
@@ -25,11 +47,6 @@ pairs-preserved g c =
       to_come = rw (added.count, added.pairs) next.2;
       few = omega (arith, added.count, shorter, c.pairs.invariant.few);
     }
-
-pub returns-in_err-name : goal.returns-in_err-name
-returns-in_err-name g c =
-    let p = err_from_is_err_and c.from_residual.result c.from_residual.ensures.1 in
-    rw (p.1, p.2) (pairs_off _ _ _ _ _ _ _ _ _ c.in-Some.ensures c.pairs.invariant.onward c.in_err-name.ensures)
 
 pub returns : goal.returns
 returns g c = pairs_done _ _ _ _ _ c.in_default.ensures c.pairs.invariant.to_come c.pairs.invariant.onward

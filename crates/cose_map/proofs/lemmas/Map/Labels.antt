@@ -1,0 +1,4 @@
+-- A set of labels.
+pub mod Keys
+pub mod Others
+pub mod Key
