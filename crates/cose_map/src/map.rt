@@ -5,6 +5,7 @@ pub mod earlier;
 pub mod first;
 pub mod form;
 pub mod labels;
+pub mod lookup;
 pub mod pairs;
 pub mod read;
 pub mod search;

@@ -4,3 +4,4 @@ pub mod Again
 pub mod Search
 pub mod Labels
 pub mod Ahead
+pub mod Lookup

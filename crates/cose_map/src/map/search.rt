@@ -18,7 +18,7 @@ pub(crate) struct Search<'a, 'b> {
     /// All pairs of the map.
     pub(crate) pairs: Pairs<'a>,
     /// Whether their labels are in increasing order.
-    is_rising: bool,
+    pub(crate) is_rising: bool,
     /// The last label that was searched in its order.
     last: Option<Label<'b>>,
     /// The pairs that have any label that follows it in the order.
@@ -30,7 +30,7 @@ pub(crate) struct Search<'a, 'b> {
 }
 
 /// Whether the labels of pairs are in increasing order.
-fn is_rising(pairs: Pairs<'_>) -> bool
+pub(crate) fn is_rising(pairs: Pairs<'_>) -> bool
     ensures { result ≡ spec.rise_after None (pairs_left pairs.entry) }
 {
     let mut before = None;
