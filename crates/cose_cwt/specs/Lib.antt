@@ -3,4 +3,3 @@ pub mod Confirmation
 pub mod Admission
 pub mod Token
 pub mod Laws
-pub mod Curves

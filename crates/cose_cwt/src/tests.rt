@@ -1,5 +1,5 @@
-//! What no row of rows/ can be: streams that fail, what is asked of them, states between calls, `Debug`, and the examples of the
-//! pages. Tests of the crates below are here too, since they use public calls alone, and a crate with tests is proved twice.
+//! What no row of rows/ can be: streams that fail, what is asked of them, states between calls, `Debug`, and the example of the
+//! crate's page. Tests of the crates below are here too, since they use public calls alone, and a crate with tests is proved twice.
 
 mod confirmation;
 mod debug;

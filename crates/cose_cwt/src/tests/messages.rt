@@ -9,12 +9,10 @@ mod limits;
 mod making;
 mod pieces;
 mod samples;
-mod signatures;
 mod slice;
 mod stops;
 mod store;
 mod streams;
-mod using;
 
 ghost use Rattle.std.specs.Prelude.{◌≡◌, ◌≤◌, false, length};
 ghost use Rattle.cose_msg.specs.Kept.{is_inspecting};
@@ -75,20 +73,6 @@ fn hmac(key: &[u8], text: &[u8]) -> [u8; 32] {
     let mut inner = padded(key, 0x36);
     inner.update(text);
     sealed(key, inner)
-}
-
-/// Bytes that differ from their neighbors.
-fn counted<const N: usize>() -> [u8; N] {
-    let mut bytes = [0; N];
-    for i in 0..N {
-        bytes[i] = (i % 251) as u8;
-    }
-    bytes
-}
-
-/// The authentication tag without its last byte.
-fn cut(tag: &[u8; 32]) -> &[u8] {
-    &tag[..31]
 }
 
 /// The key set of `Jefe` alone.

@@ -1,4 +1,4 @@
--- What elliptic curves of the caller's are asked about a signature, in the example of docs/USING.md (RFC 9053 sections 2.1 and
+-- What elliptic curves of the caller's are asked about a signature (RFC 9053 sections 2.1 and
 -- 7.1.1).
 use Rattle.std.specs.Prelude.{ℕ, Bool, false, List, ◌∷◌, ◌++◌, ◌/◌, length, take, drop, nat_le, ◌&&◌, if◌then◌else◌}
 use Rattle.cose_map.specs.Key.Value.{MaterialValue, symmetric, elliptic, YValue, coordinate, sign}
