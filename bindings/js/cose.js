@@ -1,0 +1,844 @@
+// The calls of include/cose.h, over the WebAssembly module that ci/web_module builds. All pointers and lengths are in this file.
+//
+// It is a script without imports, so that a page reads it from `file:` too, and a module of Node (index.mjs exports it).
+"use strict";
+
+/** The statuses of include/cose.h, by their names. */
+const STATUS = Object.freeze({
+    MORE: 0,
+    AUTHENTIC: 1,
+    SIGNED: 2,
+    REFUSED: 3,
+    KEYS_REFUSED: 4,
+    AAD_TOO_LONG: 5,
+    PAYLOAD_NEXT: 6,
+    COMPLETE: 7,
+    CLAIMS_REFUSED: 8,
+    BAD_AUDIENCE: 9,
+    CLOSED: 10,
+    STOPPED: 11,
+    BAD_ARGUMENT: 12,
+});
+
+/** The messages that are wanted: by their tag, or of one kind with its tag or without. */
+const WANTED = Object.freeze({ TAGGED: 0, MAC0: 17, SIGN1: 18 });
+
+/** The structs of include/cose.h: each field with its type in C, in their order. */
+const FIELDS = Object.freeze({
+    cose_status: ["uint8_t status", "uint8_t reason", "uint64_t place"],
+    cose_verdict: [
+        "uint8_t status",
+        "uint8_t reason",
+        "uint8_t kind",
+        "int32_t alg",
+        "uint64_t place",
+        "uint64_t payload_at",
+        "uint64_t payload_length",
+        "uint64_t taken",
+    ],
+    cose_sign_input: [
+        "uint8_t crv",
+        "uint8_t y_sign",
+        "uint64_t x_length",
+        "uint64_t y_length",
+        "uint64_t digest_length",
+        "uint64_t signature_length",
+        "uint8_t[66] x",
+        "uint8_t[66] y",
+        "uint8_t[64] digest",
+        "uint8_t[132] signature",
+    ],
+    cose_shape: [
+        "uint8_t status",
+        "uint8_t reason",
+        "uint8_t kind",
+        "uint64_t place",
+        "uint64_t payload_length",
+        "uint64_t auth_length",
+        "uint64_t taken",
+    ],
+    cose_key_set: ["uint8_t status", "uint8_t reason", "uint64_t place", "uint64_t usable"],
+    cose_policy: [
+        "int64_t now",
+        "uint32_t leeway",
+        "uint8_t has_audience",
+        "pointer audience",
+        "size_t audience_length",
+    ],
+    cose_range: ["uint64_t at", "uint64_t length", "uint8_t present"],
+    cose_date: ["uint64_t number", "uint8_t present", "uint8_t negative"],
+    cose_claims: [
+        "uint8_t status",
+        "uint8_t reason",
+        "uint64_t place",
+        "uint64_t payload_at",
+        "uint64_t payload_length",
+        "cose_range iss",
+        "cose_range sub",
+        "cose_range aud",
+        "cose_range cti",
+        "uint64_t aud_count",
+        "cose_date exp",
+        "cose_date nbf",
+        "cose_date iat",
+        "cose_range cnf_kid",
+        "cose_range cnf_x",
+        "cose_range cnf_y",
+        "uint8_t cnf_crv",
+        "uint8_t cnf_y_sign",
+    ],
+    cose_verifier: ["pointer at"],
+    cose_large_verifier: ["pointer at"],
+    cose_fed: ["cose_status status", "uint64_t used", "uint64_t payload_at", "uint64_t payload_length"],
+    cose_table: ["pointer at"],
+    cose_maker: ["pointer at"],
+    cose_made: ["uint8_t status", "uint8_t reason", "uint64_t length"],
+});
+
+const SIZES = Object.freeze({
+    uint8_t: 1,
+    int32_t: 4,
+    uint32_t: 4,
+    uint64_t: 8,
+    int64_t: 8,
+    size_t: 8,
+    pointer: 8,
+});
+
+/**
+ * @typedef {object} Layout
+ * @property {number} size
+ * @property {number} align
+ * @property {Map<string, {at: number, type: string}>} fields
+ */
+
+/**
+ * The layout of a type by the rules of C on a target of 64 bits.
+ * @param {string} type
+ * @returns {Layout}
+ */
+function layoutOf(type) {
+    const array = /^(\w+)\[(\d+)\]$/.exec(type);
+    if (array) {
+        const one = layoutOf(array[1]);
+        return { ...one, size: one.size * Number(array[2]) };
+    }
+    if (type in SIZES) {
+        const size = SIZES[/** @type {keyof typeof SIZES} */ (type)];
+        return { size, align: size, fields: new Map() };
+    }
+    const fields = new Map();
+    let [size, align] = [0, 1];
+    for (const field of FIELDS[/** @type {keyof typeof FIELDS} */ (type)]) {
+        const [its, name] = field.split(" ");
+        const layout = layoutOf(its);
+        size = Math.ceil(size / layout.align) * layout.align;
+        fields.set(name, { at: size, type: its });
+        size += layout.size;
+        align = Math.max(align, layout.align);
+    }
+    return { size: Math.ceil(size / align) * align, align, fields };
+}
+
+/** @type {Record<string, Layout>} */
+const LAYOUTS = Object.fromEntries(Object.keys(FIELDS).map((name) => [name, layoutOf(name)]));
+
+/** The size of a page of WebAssembly's memory. */
+const PAGE = 65536;
+
+/** Whether this engine compiles a module with a 64-bit memory. */
+function has64BitMemory() {
+    // (module (memory i64 1))
+    const bytes = new Uint8Array([0, 97, 115, 109, 1, 0, 0, 0, 5, 3, 1, 4, 1]);
+    return typeof WebAssembly === "object" && WebAssembly.validate(bytes);
+}
+
+/**
+ * The memory of the module behind its own: the module touches it by the pointers alone that it is passed. Rooms are of
+ * 64 bytes times a power of two, and what is given back is set to zero.
+ */
+class Rooms {
+    /** @param {WebAssembly.Memory} memory */
+    constructor(memory) {
+        this.memory = memory;
+        this.next = this.end = memory.buffer.byteLength;
+        /** @type {Map<number, number[]>} */
+        this.free = new Map();
+    }
+
+    /**
+     * @param {number} length
+     * @returns {number}
+     */
+    sizeFor(length) {
+        return 64 * 2 ** Math.max(0, Math.ceil(Math.log2(Math.max(1, length) / 64)));
+    }
+
+    /**
+     * Room for so many bytes. Its address is never 0, and a multiple of 64.
+     * @param {number} length
+     * @returns {number}
+     */
+    take(length) {
+        const size = this.sizeFor(length);
+        const again = this.free.get(size)?.pop();
+        if (again !== undefined) return again;
+        const at = this.next;
+        if (at + size > this.end) this.grow(Math.ceil((at + size - this.end) / PAGE));
+        this.next = at + size;
+        return at;
+    }
+
+    /**
+     * @param {number} at
+     * @param {number} length
+     */
+    give(at, length) {
+        const size = this.sizeFor(length);
+        new Uint8Array(this.memory.buffer, at, length).fill(0);
+        const free = this.free.get(size) ?? [];
+        free.push(at);
+        this.free.set(size, free);
+    }
+
+    /**
+     * A 64-bit memory grows by a BigInt; in Node 20 by a number.
+     * @param {number} pages
+     */
+    grow(pages) {
+        try {
+            this.memory.grow(/** @type {any} */ (BigInt(pages)));
+        } catch (fault) {
+            if (!(fault instanceof TypeError)) throw fault;
+            this.memory.grow(pages);
+        }
+        this.end += pages * PAGE;
+    }
+}
+
+/** The rooms of one call, which are given back when it ends. */
+class Scope {
+    /** @param {Rooms} rooms */
+    constructor(rooms) {
+        this.rooms = rooms;
+        /** @type {[number, number][]} */
+        this.taken = [];
+    }
+
+    /**
+     * @param {number} length
+     * @returns {number}
+     */
+    room(length) {
+        const at = this.rooms.take(length);
+        this.taken.push([at, length]);
+        return at;
+    }
+
+    /**
+     * Bytes, as a pointer and a length.
+     * @param {Uint8Array} bytes
+     * @returns {[bigint, bigint]}
+     */
+    put(bytes) {
+        const at = this.room(bytes.length);
+        new Uint8Array(this.rooms.memory.buffer, at, bytes.length).set(bytes);
+        return [BigInt(at), BigInt(bytes.length)];
+    }
+
+    end() {
+        for (const [at, length] of this.taken) this.rooms.give(at, length);
+    }
+}
+
+const NOTHING = new Uint8Array();
+
+/**
+ * @typedef {object} Options
+ * @property {Uint8Array} [aad] the externally supplied data
+ * @property {number} [wanted] of WANTED
+ * @property {boolean} [large] headers of 65,535 bytes that nest 16 deep
+ */
+
+/**
+ * @typedef {object} Policy
+ * @property {number | bigint} now the current time, in seconds since 1970
+ * @property {number} [leeway]
+ * @property {string} [audience]
+ */
+
+/**
+ * What a signature is verified with: the numbers of struct cose_sign_input.
+ * @typedef {object} SignInput
+ * @property {number} crv
+ * @property {number} ySign
+ * @property {Uint8Array} x
+ * @property {Uint8Array} y
+ * @property {Uint8Array} digest
+ * @property {Uint8Array} signature
+ */
+
+/**
+ * The verdict on a message. Of SIGNED the message is authentic only if the signature of `input` is good.
+ * @typedef {object} Verdict
+ * @property {number} status
+ * @property {number} reason
+ * @property {number} place
+ * @property {number} kind
+ * @property {number} alg
+ * @property {number} payloadAt
+ * @property {number} payloadLength
+ * @property {number} taken
+ * @property {SignInput} [input]
+ */
+
+/**
+ * @typedef {object} Claims
+ * @property {number} status
+ * @property {number} reason
+ * @property {number} place
+ * @property {number} payloadAt
+ * @property {number} payloadLength
+ * @property {string} [iss]
+ * @property {string} [sub]
+ * @property {string[]} aud
+ * @property {Uint8Array} [cti]
+ * @property {bigint} [exp]
+ * @property {bigint} [nbf]
+ * @property {bigint} [iat]
+ * @property {{kid?: Uint8Array, crv?: number, x?: Uint8Array, y?: Uint8Array | boolean}} [cnf]
+ */
+
+/** The module's calls. */
+class Cose {
+    /**
+     * From the bytes of the module.
+     * @param {BufferSource} bytes
+     * @returns {Promise<Cose>}
+     */
+    static async load(bytes) {
+        if (!has64BitMemory()) {
+            throw new Error(
+                "this engine has no 64-bit memory (memory64) for WebAssembly: Node 20 to 23 want the flag " +
+                    "--experimental-wasm-memory64, and browsers Chromium 133, Firefox 134 or later",
+            );
+        }
+        const { instance } = await WebAssembly.instantiate(bytes, {});
+        return new this(instance.exports);
+    }
+
+    /** @param {WebAssembly.Exports} exports */
+    constructor(exports) {
+        /** @type {Record<string, any>} */
+        this.exports = exports;
+        this.rooms = new Rooms(/** @type {WebAssembly.Memory} */ (exports.memory));
+    }
+
+    /**
+     * Runs a call with rooms of its own.
+     * @template T
+     * @param {(scope: Scope) => T} run
+     * @returns {T}
+     */
+    scoped(run) {
+        const scope = new Scope(this.rooms);
+        try {
+            return run(scope);
+        } finally {
+            scope.end();
+        }
+    }
+
+    /**
+     * @param {number} at
+     * @param {number} length
+     */
+    bytes(at, length) {
+        return new Uint8Array(this.rooms.memory.buffer, at, length).slice();
+    }
+
+    /**
+     * The fields of a struct, with their names in C. A number of 64 bits is a BigInt only where it isn't exact otherwise.
+     * @param {number} at
+     * @param {string} name
+     * @returns {Record<string, any>}
+     */
+    read(at, name) {
+        const view = new DataView(this.rooms.memory.buffer);
+        /** @type {Record<string, any>} */
+        const found = {};
+        for (const [field, { at: offset, type }] of LAYOUTS[name].fields) {
+            const place = at + offset;
+            if (type in LAYOUTS) found[field] = this.read(place, type);
+            else if (type === "uint8_t") found[field] = view.getUint8(place);
+            else if (type === "int32_t") found[field] = view.getInt32(place, true);
+            else if (type === "uint64_t") found[field] = exact(view.getBigUint64(place, true));
+            else if (type.startsWith("uint8_t[")) found[field] = this.bytes(place, layoutOf(type).size);
+        }
+        return found;
+    }
+
+    /**
+     * @param {number} at
+     * @returns {SignInput}
+     */
+    readInput(at) {
+        const all = this.read(at, "cose_sign_input");
+        /** @param {string} name */
+        const part = (name) => all[name].slice(0, all[`${name}_length`]);
+        const [x, y, digest, signature] = ["x", "y", "digest", "signature"].map(part);
+        return { crv: all.crv, ySign: all.y_sign, x, y, digest, signature };
+    }
+
+    /**
+     * @param {number} at
+     * @param {number} [input]
+     * @returns {Verdict}
+     */
+    readVerdict(at, input) {
+        const all = this.read(at, "cose_verdict");
+        const { status, reason, place, kind, alg, taken } = all;
+        /** @type {Verdict} */
+        const verdict = {
+            status,
+            reason,
+            place,
+            kind,
+            alg,
+            payloadAt: all.payload_at,
+            payloadLength: all.payload_length,
+            taken,
+        };
+        if (status === STATUS.SIGNED && input !== undefined) verdict.input = this.readInput(input);
+        return verdict;
+    }
+
+    // ---- one call over memory
+
+    /**
+     * Verifies a message under a COSE_Key, a COSE_KeySet, or a table of keys. Where its payload is detached, pass it.
+     * @param {Uint8Array | KeyTable} keys
+     * @param {Uint8Array} message
+     * @param {Options & {payload?: Uint8Array}} options
+     * @returns {Verdict}
+     */
+    verify(keys, message, { aad = NOTHING, wanted = WANTED.TAGGED, large = false, payload } = {}) {
+        return this.scoped((scope) => {
+            const at = scope.room(LAYOUTS.cose_verdict.size);
+            const input = scope.room(LAYOUTS.cose_sign_input.size);
+            const under = keys instanceof KeyTable ? [keys.handle] : scope.put(keys);
+            const detached = payload === undefined ? [] : scope.put(payload);
+            if (keys instanceof KeyTable && payload !== undefined) throw new Error("a table has no call for detached payloads");
+            const name = `${keys instanceof KeyTable ? "table_" : large ? "large_" : ""}verify${payload ? "_detached" : ""}`;
+            this.exports[`cose_edge_${name}`](
+                ...under,
+                ...scope.put(aad),
+                wanted,
+                ...scope.put(message),
+                ...detached,
+                BigInt(at),
+                BigInt(input),
+            );
+            return this.readVerdict(at, input);
+        });
+    }
+
+    /**
+     * The shape of a message, of which nothing is authenticated.
+     * @param {Uint8Array} message
+     * @param {{wanted?: number}} options
+     */
+    shape(message, { wanted = WANTED.TAGGED } = {}) {
+        return this.scoped((scope) => {
+            const at = scope.room(LAYOUTS.cose_shape.size);
+            this.exports.cose_edge_shape(wanted, ...scope.put(message), BigInt(at));
+            const all = this.read(at, "cose_shape");
+            const { status, reason, place, kind, taken } = all;
+            const [payloadLength, authLength] = [all.payload_length, all.auth_length];
+            return { status, reason, place, kind, payloadLength, authLength, taken };
+        });
+    }
+
+    /**
+     * How many usable keys a COSE_Key or a COSE_KeySet has.
+     * @param {Uint8Array} keys
+     */
+    readKeys(keys) {
+        return this.scoped((scope) => {
+            const at = scope.room(LAYOUTS.cose_key_set.size);
+            this.exports.cose_edge_read_keys(...scope.put(keys), BigInt(at));
+            const { status, reason, place, usable } = this.read(at, "cose_key_set");
+            return { status, reason, place, usable };
+        });
+    }
+
+    // ---- tokens
+
+    /**
+     * @param {Scope} scope
+     * @param {Policy} policy
+     */
+    putPolicy(scope, { now, leeway = 0, audience }) {
+        const at = scope.room(LAYOUTS.cose_policy.size);
+        const [text, length] = scope.put(new TextEncoder().encode(audience ?? ""));
+        const view = new DataView(this.rooms.memory.buffer);
+        /** @param {string} name */
+        const place = (name) => at + /** @type {{at: number}} */ (LAYOUTS.cose_policy.fields.get(name)).at;
+        view.setBigInt64(place("now"), BigInt(now), true);
+        view.setUint32(place("leeway"), leeway, true);
+        view.setUint8(place("has_audience"), audience === undefined ? 0 : 1);
+        view.setBigUint64(place("audience"), text, true);
+        view.setBigUint64(place("audience_length"), length, true);
+        return BigInt(at);
+    }
+
+    /**
+     * Verifies a token that is a COSE_Mac0, and reads its claims. Of a COSE_Sign1 the status is SIGNED: verify it, and call `claims`.
+     * @param {Uint8Array | KeyTable} keys
+     * @param {Uint8Array} token
+     * @param {Policy & {aad?: Uint8Array, large?: boolean}} options
+     * @returns {Claims}
+     */
+    verifyCwt(keys, token, { aad = NOTHING, large = false, ...policy }) {
+        return this.scoped((scope) => {
+            const at = scope.room(LAYOUTS.cose_claims.size);
+            const under = keys instanceof KeyTable ? [keys.handle] : scope.put(keys);
+            const name = keys instanceof KeyTable ? "table_" : large ? "large_" : "";
+            const external = scope.put(aad);
+            const conditions = this.putPolicy(scope, policy);
+            this.exports[`cose_edge_${name}verify_cwt`](...under, ...external, conditions, ...scope.put(token), BigInt(at));
+            return this.readClaims(at, token);
+        });
+    }
+
+    /**
+     * Reads the claims of a payload that is known to be authentic.
+     * @param {Uint8Array} payload
+     * @param {Policy & {large?: boolean}} options
+     * @returns {Claims}
+     */
+    claims(payload, { large = false, ...policy }) {
+        return this.scoped((scope) => {
+            const at = scope.room(LAYOUTS.cose_claims.size);
+            const conditions = this.putPolicy(scope, policy);
+            this.exports[`cose_edge_${large ? "large_" : ""}claims`](...scope.put(payload), conditions, BigInt(at));
+            return this.readClaims(at, payload);
+        });
+    }
+
+    /**
+     * @param {number} at
+     * @param {Uint8Array} whole what the ranges' payload is a part of
+     * @returns {Claims}
+     */
+    readClaims(at, whole) {
+        const all = this.read(at, "cose_claims");
+        const { status, reason, place } = all;
+        const [payloadAt, payloadLength] = [all.payload_at, all.payload_length];
+        /** @type {Claims} */
+        const claims = { status, reason, place, payloadAt, payloadLength, aud: [] };
+        if (status !== STATUS.AUTHENTIC) return claims;
+        const payload = whole.subarray(payloadAt, payloadAt + payloadLength);
+        /** @param {{at: number, length: number, present: number}} range */
+        const bytes = (range) => (range.present ? copyOf(payload, range.at, range.length) : undefined);
+        const text = new TextDecoder("utf-8", { ignoreBOM: true });
+        const [iss, sub, cti] = [all.iss, all.sub, all.cti].map(bytes);
+        if (iss) claims.iss = text.decode(iss);
+        if (sub) claims.sub = text.decode(sub);
+        if (cti) claims.cti = cti;
+        for (const name of /** @type {const} */ (["exp", "nbf", "iat"])) {
+            const { number, present, negative } = all[name];
+            if (present) claims[name] = negative ? -1n - BigInt(number) : BigInt(number);
+        }
+        claims.aud = Array.from({ length: all.aud_count }, (_, index) => text.decode(this.audience(payload, index)));
+        const [kid, x, y] = [all.cnf_kid, all.cnf_x, all.cnf_y].map(bytes);
+        if (kid || all.cnf_crv) claims.cnf = {};
+        if (claims.cnf && kid) claims.cnf.kid = kid;
+        if (claims.cnf && all.cnf_crv) Object.assign(claims.cnf, { crv: all.cnf_crv, x, y: y ?? all.cnf_y_sign === 2 });
+        return claims;
+    }
+
+    /**
+     * The text string of this number, from 0, of the audience that a payload names.
+     * @param {Uint8Array} payload
+     * @param {number} index
+     * @returns {Uint8Array | undefined}
+     */
+    audience(payload, index) {
+        return this.scoped((scope) => {
+            const at = scope.room(LAYOUTS.cose_range.size);
+            this.exports.cose_edge_audience(...scope.put(payload), BigInt(index), BigInt(at));
+            const range = this.read(at, "cose_range");
+            return range.present ? copyOf(payload, range.at, range.length) : undefined;
+        });
+    }
+}
+
+/**
+ * A number, as a BigInt only where it isn't exact otherwise.
+ * @param {bigint} number
+ * @returns {any}
+ */
+function exact(number) {
+    return number <= BigInt(Number.MAX_SAFE_INTEGER) ? Number(number) : number;
+}
+
+/**
+ * A copy of a range. (`slice` of a Buffer of Node copies nothing.)
+ * @param {Uint8Array} bytes
+ * @param {number} at
+ * @param {number} length
+ */
+const copyOf = (bytes, at, length) => new Uint8Array(bytes.subarray(at, at + length));
+
+/** A block of the module's memory, with the struct that leads to it. `close` gives both back. */
+class Block {
+    /**
+     * @param {Cose} cose
+     * @param {string} name the middle of the names of its functions: `verifier`, `table` or `maker`
+     * @param {string} begin
+     */
+    constructor(cose, name, begin) {
+        this.cose = cose;
+        this.size = Number(cose.exports[`cose_${name}_size`]());
+        if (cose.exports[`cose_${name}_align`]() > 64n) throw new Error("a block's alignment is more than 64");
+        this.at = cose.rooms.take(this.size);
+        this.struct = cose.rooms.take(8);
+        /** @type {[number, number][]} */
+        this.kept = [];
+        cose.exports[begin](BigInt(this.at));
+        new DataView(cose.rooms.memory.buffer).setBigUint64(this.struct, BigInt(this.at), true);
+        this.isOpen = true;
+    }
+
+    get handle() {
+        if (!this.isOpen) throw new Error("it is closed");
+        return BigInt(this.struct);
+    }
+
+    /**
+     * Keeps bytes until the next call of `release`, as a pointer and a length.
+     * @param {Uint8Array} bytes
+     * @returns {[bigint, bigint]}
+     */
+    keep(bytes) {
+        const at = this.cose.rooms.take(bytes.length);
+        this.kept.push([at, bytes.length]);
+        new Uint8Array(this.cose.rooms.memory.buffer, at, bytes.length).set(bytes);
+        return [BigInt(at), BigInt(bytes.length)];
+    }
+
+    release() {
+        for (const [at, length] of this.kept.splice(0)) this.cose.rooms.give(at, length);
+    }
+
+    close() {
+        if (!this.isOpen) return;
+        this.isOpen = false;
+        this.release();
+        this.cose.rooms.give(this.struct, 8);
+        this.cose.rooms.give(this.at, this.size);
+    }
+}
+
+/** A table of at most 64 keys, each of which is read once. */
+class KeyTable extends Block {
+    /**
+     * @param {Cose} cose
+     * @param {Uint8Array} keys
+     */
+    constructor(cose, keys) {
+        super(cose, "table", "cose_table_begin");
+        this.keys = keys;
+        const given = this.keep(keys);
+        /** The status, and the reason and place of a refusal; or the number of usable keys. */
+        this.keySet = cose.scoped((scope) => {
+            const at = scope.room(LAYOUTS.cose_key_set.size);
+            cose.exports.cose_edge_table_read(this.handle, ...given, BigInt(at));
+            const { status, reason, place, usable } = cose.read(at, "cose_key_set");
+            return { status, reason, place, usable };
+        });
+    }
+}
+
+/** A verifier that is fed. Its payload comes before the verdict: drop it unless the verdict is AUTHENTIC. */
+class Verifier extends Block {
+    /**
+     * @param {Cose} cose
+     * @param {{large?: boolean}} options
+     */
+    constructor(cose, { large = false } = {}) {
+        super(cose, `${large ? "large_" : ""}verifier`, `cose_${large ? "large_" : ""}begin`);
+        this.prefix = large ? "large_" : "";
+    }
+
+    /**
+     * A function of this size by its name.
+     * @param {string} name
+     * @param {boolean} [isEdge]
+     */
+    call(name, isEdge = false) {
+        return this.cose.exports[`cose_${isEdge ? "edge_" : ""}${this.prefix}${name}`];
+    }
+
+    /**
+     * The keys and the external data of the next messages, and of detached payloads the number of bytes.
+     * @param {Uint8Array} keys
+     * @param {Options & {payloadLength?: number | bigint}} options
+     */
+    open(keys, { aad = NOTHING, wanted = WANTED.TAGGED, payloadLength } = {}) {
+        const old = this.kept.splice(0);
+        const given = [...this.keep(keys), ...this.keep(aad)];
+        const status = this.cose.scoped((scope) => {
+            const at = scope.room(LAYOUTS.cose_status.size);
+            if (payloadLength === undefined) this.call("open", true)(this.handle, ...given, wanted, BigInt(at));
+            else this.call("open_detached", true)(this.handle, ...given, wanted, BigInt(payloadLength), BigInt(at));
+            return this.cose.read(at, "cose_status");
+        });
+        for (const [at, length] of old) this.cose.rooms.give(at, length);
+        return status;
+    }
+
+    /**
+     * The next bytes of the message: the status, how many were used, and those of them that are of the payload.
+     * @param {Uint8Array} piece
+     */
+    feed(piece) {
+        return this.cose.scoped((scope) => {
+            const at = scope.room(LAYOUTS.cose_fed.size);
+            this.call("feed", true)(this.handle, ...scope.put(piece), BigInt(at));
+            const { status, used, payload_at: from, payload_length: length } = this.cose.read(at, "cose_fed");
+            return { ...status, used, payload: piece.subarray(from, from + length) };
+        });
+    }
+
+    /**
+     * The next bytes of a detached payload: how many were used.
+     * @param {Uint8Array} piece
+     */
+    feedPayload(piece) {
+        return this.cose.scoped((scope) => Number(this.call("feed_payload", true)(this.handle, ...scope.put(piece))));
+    }
+
+    /** Says that no byte follows. */
+    end() {
+        return this.cose.scoped((scope) => {
+            const at = scope.room(LAYOUTS.cose_status.size);
+            this.call("end")(this.handle, BigInt(at));
+            return this.cose.read(at, "cose_status");
+        });
+    }
+
+    /**
+     * What the signature of a complete message is verified with, if it has one.
+     * @returns {SignInput | undefined}
+     */
+    signInput() {
+        return this.cose.scoped((scope) => {
+            const at = scope.room(LAYOUTS.cose_sign_input.size);
+            return this.call("sign_input")(this.handle, BigInt(at)) === 1 ? this.cose.readInput(at) : undefined;
+        });
+    }
+
+    /**
+     * The verdict on a complete message. `signatureIsGood` is about what `signInput` returned; for a COSE_Mac0 it doesn't count.
+     * @param {boolean} signatureIsGood
+     * @returns {Verdict}
+     */
+    verdict(signatureIsGood) {
+        return this.cose.scoped((scope) => {
+            const at = scope.room(LAYOUTS.cose_verdict.size);
+            this.call("verdict")(this.handle, signatureIsGood === true ? 1 : 0, BigInt(at));
+            return this.cose.readVerdict(at);
+        });
+    }
+
+    /** Begins the next message, under the same keys. */
+    reset() {
+        this.call("reset")(this.handle);
+    }
+
+    /** How many bytes of the message are to come for certain. */
+    get wanted() {
+        return Number(this.call("wanted")(this.handle));
+    }
+
+    /** How many bytes of a detached payload are wanted. */
+    get payloadWanted() {
+        return Number(this.call("payload_wanted")(this.handle));
+    }
+
+    /** How many bytes of the message were taken. */
+    get taken() {
+        return Number(this.call("taken")(this.handle));
+    }
+
+    /** How many bytes of it are held, and 256 for the running hash. */
+    get held() {
+        return Number(this.call("held")(this.handle));
+    }
+}
+
+/** A COSE_Mac0 that is being made: `head`, the pieces of the payload and `end` are the message. */
+class Maker extends Block {
+    /** @param {Cose} cose */
+    constructor(cose) {
+        super(cose, "maker", "cose_maker_begin");
+    }
+
+    /**
+     * What precedes a payload of so many bytes.
+     * @param {Uint8Array} key
+     * @param {number | bigint} payloadLength
+     * @param {{alg: number, kid?: Uint8Array, aad?: Uint8Array}} options
+     */
+    head(key, payloadLength, { alg, kid = NOTHING, aad = NOTHING }) {
+        return this.written(384, (scope, at, made) =>
+            this.cose.exports.cose_edge_make(
+                this.handle,
+                alg,
+                ...scope.put(key),
+                ...scope.put(kid),
+                ...scope.put(aad),
+                BigInt(payloadLength),
+                BigInt(at),
+                384n,
+                BigInt(made),
+            ),
+        );
+    }
+
+    /**
+     * The next bytes of the payload: how many were used.
+     * @param {Uint8Array} piece
+     */
+    piece(piece) {
+        return this.cose.scoped((scope) =>
+            Number(this.cose.exports.cose_edge_make_piece(this.handle, ...scope.put(piece))),
+        );
+    }
+
+    /** What follows the payload. */
+    end() {
+        return this.written(70, (_, at, made) =>
+            this.cose.exports.cose_edge_make_end(this.handle, BigInt(at), 70n, BigInt(made)),
+        );
+    }
+
+    /**
+     * @param {number} room
+     * @param {(scope: Scope, at: number, made: number) => void} call
+     */
+    written(room, call) {
+        return this.cose.scoped((scope) => {
+            const [at, made] = [scope.room(room), scope.room(LAYOUTS.cose_made.size)];
+            call(scope, at, made);
+            const { status, reason, length } = this.cose.read(made, "cose_made");
+            return { status, reason, bytes: this.cose.bytes(at, length) };
+        });
+    }
+}
+
+if (typeof module === "object") {
+    Object.assign(module.exports, { Cose, KeyTable, Verifier, Maker, STATUS, WANTED, FIELDS, LAYOUTS, has64BitMemory, copyOf });
+}

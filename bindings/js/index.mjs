@@ -1,0 +1,84 @@
+// The package `cose` for Node: messages and tokens, by the module that ci/web_module builds.
+import { readFile } from "node:fs/promises";
+import low from "./cose.js";
+import reasons from "./reasons.js";
+import signatures from "./signatures.js";
+
+export const { KeyTable, Verifier, Maker, STATUS, WANTED } = low;
+export const { REASONS, reasonOf } = reasons;
+export const { sigStructure, protectedOf, isGoodSignature } = signatures;
+
+/** A message, a token or an argument that is refused: the status, and of a refusal the reason and the place. */
+export class Refused extends Error {
+    /** @param {{status: number, reason: number, place: number}} answer */
+    constructor({ status, reason, place }) {
+        const name = Object.entries(STATUS).find(([, number]) => number === status)?.[0] ?? `status ${status}`;
+        super(reason ? `${reasonOf(reason).name} at ${place}` : name);
+        this.status = name;
+        this.reason = reason ? reasonOf(reason).name : undefined;
+        this.place = place;
+    }
+}
+
+/** The library. */
+export class Cose extends low.Cose {
+    /**
+     * The payload of a message that is authentic. A signature is verified by WebCrypto. Else it rejects with `Refused`.
+     * @param {Uint8Array | KeyTable} keys a COSE_Key or a COSE_KeySet
+     * @param {Uint8Array} message
+     * @param {{aad?: Uint8Array, wanted?: number, large?: boolean, payload?: Uint8Array}} [options]
+     * @returns {Promise<Uint8Array>}
+     */
+    async payload(keys, message, options = {}) {
+        const verdict = this.verify(keys, message, options);
+        const { payloadAt, payloadLength, input } = verdict;
+        const payload = options.payload ?? low.copyOf(message, payloadAt, payloadLength);
+        if (verdict.status === STATUS.AUTHENTIC) return payload;
+        if (verdict.status !== STATUS.SIGNED) throw new Refused(verdict);
+        const structure = sigStructure(protectedOf(message), options.aad ?? new Uint8Array(), payload);
+        if (await isGoodSignature(input, structure)) return payload;
+        throw new Refused(this.withBadSignature(keys, message, options));
+    }
+
+    /**
+     * The claims of a token that is authentic and admitted. Else it rejects with `Refused`.
+     * @param {Uint8Array | KeyTable} keys
+     * @param {Uint8Array} token
+     * @param {{now: number | bigint, leeway?: number, audience?: string, aad?: Uint8Array, large?: boolean}} options
+     */
+    async token(keys, token, options) {
+        const { now, leeway, audience, ...others } = options;
+        const payload = await this.payload(keys, token, others);
+        const claims = this.claims(payload, { now, leeway, audience, large: options.large });
+        if (claims.status !== STATUS.AUTHENTIC) throw new Refused(claims);
+        return claims;
+    }
+
+    /**
+     * The verdict on a message whose signature isn't good.
+     * @param {Uint8Array | KeyTable} keys
+     * @param {Uint8Array} message
+     * @param {{aad?: Uint8Array, wanted?: number, large?: boolean, payload?: Uint8Array}} options
+     */
+    withBadSignature(keys, message, { payload, large, ...options }) {
+        const verifier = new Verifier(this, { large });
+        verifier.open(keys instanceof KeyTable ? keys.keys : keys, { ...options, payloadLength: payload?.length });
+        const { used } = verifier.feed(message);
+        if (payload) {
+            verifier.feedPayload(payload);
+            verifier.feed(message.subarray(used));
+        }
+        const verdict = verifier.verdict(false);
+        verifier.close();
+        return verdict;
+    }
+}
+
+/**
+ * The library, from the module next to this file or at another place.
+ * @param {string | URL} [place]
+ * @returns {Promise<Cose>}
+ */
+export async function load(place = new URL("cose.wasm", import.meta.url)) {
+    return /** @type {Promise<Cose>} */ (Cose.load(await readFile(place)));
+}

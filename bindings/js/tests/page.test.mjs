@@ -1,0 +1,86 @@
+// What the page of web/ finds, without a browser: its scripts, but for those of elements, run here.
+import assert from "node:assert/strict";
+import { readFileSync } from "node:fs";
+import { test } from "node:test";
+import { runInThisContext } from "node:vm";
+
+const TOP = new URL("../../../", import.meta.url);
+const html = readFileSync(new URL("web/index.html", TOP), "utf8");
+const OF_ELEMENTS = ["cose_wasm.js", "elements.js", "bytes_view.js", "answer_view.js", "page.js"];
+const scripts = [...html.matchAll(/<script defer src="([^"]+)"/g)].map((it) => it[1]).filter((it) => !OF_ELEMENTS.includes(it));
+const names = "Cose, answerTo, bytesFrom, keysFrom, phaseOf, pictureOf, reasonOf, diagnostic, wholeItem, EXAMPLES";
+const text = scripts.map((it) => readFileSync(new URL(`web/${it}`, TOP), "utf8")).join("\n");
+const page = runInThisContext(`(() => { ${text}\nreturn { ${names} }; })()`, { filename: "web" });
+
+const cose = await page.Cose.load(readFileSync(new URL("../cose.wasm", import.meta.url)));
+const octets = (hex) => new Uint8Array(Buffer.from(hex, "hex"));
+const NOW = 1795780800n; // 2026-11-27
+const ask = (inquiry) => page.answerTo(cose, { aad: new Uint8Array(), wanted: 0, policy: { now: NOW, leeway: 0 }, ...inquiry }, () => true);
+const said = ({ state, refusal, claims }) => {
+    const fault = refusal ?? (claims && claims.status !== 1 ? claims : undefined);
+    return fault ? `${state}, ${page.reasonOf(fault.reason).name} at ${fault.place}` : `${state}${claims ? ", admitted" : ""}`;
+};
+
+test("each example has its verdict", async () => {
+    const found = {};
+    for (const example of page.EXAMPLES) {
+        const policy = { now: example.now ? BigInt(Date.parse(`${example.now.replace(" ", "T")}Z`) / 1000) : NOW, leeway: 0 };
+        const [message, keys] = [page.bytesFrom(example.message, "message"), page.keysFrom(example.keys)];
+        const answer = await ask({ message, keys, policy, payload: example.payload?.() });
+        found[example.name] = said(answer);
+        if (answer.state === "authentic") assert.equal(answer.keys.filter((it) => it.state === "chosen").length, 1, example.name);
+        for (const { state, why } of answer.keys) assert.equal(state === "chosen", why === undefined, example.name);
+    }
+    assert.deepEqual(found, {
+        COSE_Mac0: "authentic",
+        COSE_Sign1: "authentic",
+        Token: "authentic, admitted",
+        "Expired token": "authentic, Expired at 59",
+        "Changed token": "refused, BadAuth at 105",
+        "Firmware, detached": "authentic",
+        "Health certificate": "authentic, admitted",
+        Attestation: "authentic",
+    });
+});
+
+test("each row of messages that needs no signature is answered as it says, and its bytes are parts without gaps", async () => {
+    let count = 0;
+    for (const group of JSON.parse(readFileSync(new URL("rows/messages.json", TOP), "utf8")).testGroups) {
+        if (group.understood?.length || "payloadLimit" in group || group.cwt === false || group.headerLimit !== 1024) continue;
+        for (const { message, signature, result, tcId } of group.tests) {
+            if (signature || ["PastRoom", "TooDeep"].includes(result.reason)) continue;
+            const bytes = octets(message).subarray(0, result.taken);
+            const wanted = { tagged: 0, mac0: 17, sign1: 18 }[group.wanted];
+            const answer = await ask({ message: bytes, keys: octets(group.keys), aad: octets(group.aad), wanted });
+            const expected = result.verdict === "refused" ? `refused, ${result.reason} at ${result.place}` : "authentic";
+            assert.equal(said(answer).split(", ").slice(0, expected.split(", ").length).join(", "), expected, `messages ${tcId}`);
+            const ends = [0, ...answer.picture.parts.map((it) => it.to)];
+            assert.deepEqual(answer.picture.parts.map((it) => it.from), ends.slice(0, -1), `messages ${tcId}`);
+            assert.equal(ends.at(-1), bytes.length, `messages ${tcId}`);
+            count += 1;
+        }
+    }
+    assert.ok(count > 250, `${count} rows`);
+});
+
+test("items in diagnostic notation, as in RFC 8949 appendix A", () => {
+    const rows = [
+        ["1bffffffffffffffff", "18446744073709551615"],
+        ["3bffffffffffffffff", "-18446744073709551616"],
+        ["f90001", "5.960464477539063e-8"],
+        ["f93c00", "1.0"],
+        ["f97c00", "Infinity"],
+        ["fbc010666666666666", "-4.1"],
+        ["f4", "false"],
+        ["f7", "undefined"],
+        ["f8ff", "simple(255)"],
+        ["c11a514b67b0", "1(1363896240)"],
+        ["4401020304", "h'01020304'"],
+        ["62225c", '"\\"\\\\"'],
+        ["8301820203820405", "[1, [2, 3], [4, 5]]"],
+        ["a26161016162820203", '{"a": 1, "b": [2, 3]}'],
+        ["9fff", "[_ ]"],
+        ["bf61610161629f0203ffff", '{_ "a": 1, "b": [_ 2, 3]}'],
+    ];
+    for (const [hex, notation] of rows) assert.equal(page.diagnostic(page.wholeItem(octets(hex))), notation);
+});

@@ -1,0 +1,232 @@
+// What the answer shows: the verdict in words, the phases, the header parameters, the payload with its claims, and the keys.
+"use strict";
+
+/**
+ * The verdict: its tone, a title and sentences.
+ * @typedef {object} Words
+ * @property {"good" | "bad" | "unknown"} tone
+ * @property {string} title
+ * @property {string[]} sentences
+ * @property {{place: number, what: string}} [fault] the place that is marked in the message
+ */
+
+/**
+ * The sentence of docs/REASONS.md.
+ * @param {{reason: number}} refusal
+ */
+const sentenceOf = ({ reason }) => `${reasonOf(reason).meaning}.`;
+
+/**
+ * @param {Inquiry} request
+ * @param {Answer} answer
+ * @returns {Words}
+ */
+function wordsOf(request, answer) {
+    const { picture, refusal } = answer;
+    const kind = picture.kind === 17 ? "COSE_Mac0" : picture.kind === 18 ? "COSE_Sign1" : "message";
+    if (answer.state === "fault") return { tone: "unknown", title: "No answer", sentences: [answer.fault ?? ""] };
+    if (answer.state === "keys refused" && refusal) {
+        const title = `The keys are refused: ${reasonOf(refusal.reason).name} at byte ${refusal.place} of the key set`;
+        return { tone: "unknown", title, sentences: [sentenceOf(refusal), "Nothing is known of the message."] };
+    }
+    if (answer.state === "refused" && refusal) return refusedWords(request, answer, refusal);
+    if (answer.state === "no keys") {
+        const sentence = picture.isDetached ? `The payload of this ${kind} is detached.` : `This is a ${kind} with a payload of ${bytesCount(answer.payloadLength)}.`;
+        return { tone: "unknown", title: "Not verified: there is no key", sentences: [sentence, "Anybody may have made it."] };
+    }
+    return authenticWords(answer, kind);
+}
+
+/**
+ * @param {Inquiry} request
+ * @param {Answer} answer
+ * @param {{reason: number, place: number}} refusal
+ * @returns {Words}
+ */
+function refusedWords(request, answer, refusal) {
+    const { name } = reasonOf(refusal.reason);
+    const what = sentenceOf(refusal);
+    const phase = phaseOf(refusal, answer.picture);
+    const sentences = [what];
+    if (answer.isSignatureGood === false) sentences.push("WebCrypto says that the signature isn't good.");
+    if (answer.isSignatureGood) sentences.push("WebCrypto finds the signature good.");
+    if (name === "Detached") sentences.push("Open the file that it authenticates as the detached payload.");
+    if (!request.keys) sentences.push("No key was looked at.");
+    sentences.push(refusal.reason === TRAILING ? "Phases 1 to 13 are passed." : `Phase ${phase} of 13: ${PHASES[phase - 1]}.`);
+    return { tone: "bad", title: `Refused: ${name} at byte ${refusal.place}`, sentences, fault: { place: refusal.place, what } };
+}
+
+/**
+ * @param {Answer} answer
+ * @param {string} kind
+ * @returns {Words}
+ */
+function authenticWords(answer, kind) {
+    const algorithm = ALGORITHM_NAMES.get(answer.alg) ?? `algorithm ${answer.alg}`;
+    const how =
+        answer.isSignatureGood === undefined
+            ? `The MAC of this ${kind} (${algorithm}) is that of the chosen key.`
+            : `WebCrypto finds the signature of this ${kind} (${algorithm}) good, of the digest that the library computed.`;
+    const payload = `Its payload has ${bytesCount(answer.payloadLength)}.`;
+    const { claims, picture } = answer;
+    if (!claims) return { tone: "good", title: "Authentic", sentences: [how, payload] };
+    if (claims.status === STATUS.AUTHENTIC) return { tone: "good", title: "Authentic, and admitted as a token", sentences: [how, admittedText(claims)] };
+    const refusal = claims;
+    const place = (picture.payload?.from ?? 0) + refusal.place;
+    const title = `Authentic, but refused as a token: ${reasonOf(refusal.reason).name} at byte ${place}`;
+    const what = sentenceOf(refusal);
+    return { tone: "bad", title, sentences: [what, `That is byte ${refusal.place} of the payload.`, how], fault: { place, what } };
+}
+
+/** @param {Claims} claims */
+function admittedText({ exp, aud }) {
+    const until = exp === undefined ? "It never expires." : `It expires at ${dateText(exp)}.`;
+    return aud.length ? until : `${until} It names no audience.`;
+}
+
+/** @param {bigint} seconds */
+function dateText(seconds) {
+    const date = new Date(Number(seconds) * 1000);
+    return Number.isNaN(date.getTime()) ? `${seconds} seconds since 1970` : `${date.toISOString().slice(0, 19).replace("T", " ")} UTC`;
+}
+
+/**
+ * The phases in their order, and what became of each.
+ * @param {HTMLElement} host
+ * @param {Answer} answer
+ */
+function showPhases(host, answer) {
+    const isRefused = answer.state === "refused" && answer.refusal && answer.refusal.reason !== TRAILING;
+    const stop = isRefused && answer.refusal ? phaseOf(answer.refusal, answer.picture) : 14;
+    const isVerified = answer.state === "authentic" || answer.state === "refused";
+    const rows = PHASES.map((text, index) => {
+        const phase = index + 1;
+        const isAsked = isVerified || (answer.state === "no keys" && phase !== 8 && phase !== 13 && !(answer.picture.isDetached && phase > 9));
+        const state = phase === stop ? "refused" : phase < stop && isAsked ? "passed" : "not reached";
+        return element("li", { "data-state": state }, element("span", { class: "text" }, text), element("span", { class: "state" }, state));
+    });
+    host.replaceChildren(...rows);
+}
+
+/** @param {string} text */
+const comment = (text) => `/ ${text.replaceAll("/", "|")} /`;
+
+/**
+ * A map, with what its labels and values stand for as comments.
+ * @param {Item} map
+ * @param {(label: Item) => string | undefined} nameOf
+ * @param {(label: Item, value: Item) => string | undefined} noteOf
+ */
+function commentedMap(map, nameOf, noteOf) {
+    const lines = pairsOf(map).map(({ label, value }) => {
+        const [name, note] = [nameOf(label), noteOf(label, value)];
+        return `        ${name ? `${comment(name)} ` : ""}${diagnostic(label)}: ${diagnostic(value)}${note ? ` ${comment(note)}` : ""}`;
+    });
+    return lines.length ? `{\n${lines.join(",\n")}\n    }` : "{}";
+}
+
+/**
+ * The message in diagnostic notation, with what is encoded in its byte strings in << >>.
+ * @param {HTMLElement} host
+ * @param {Uint8Array} message
+ * @param {Picture} picture
+ */
+function showNotation(host, message, picture) {
+    const { protectedMap, unprotectedMap, payload, auth, claims, isDetached } = picture;
+    if (!unprotectedMap || !payload || !auth) return host.replaceChildren();
+    /** @param {{from: number, to: number}} range */
+    const bytes = ({ from, to }) => bytesText(message.subarray(from, to));
+    const content = claims ? `<< ${commentedMap(claims, claimName, claimNote)} >>` : isDetached ? "null" : bytes(payload);
+    const elements = [
+        ["protected", protectedMap ? `<< ${commentedMap(protectedMap, headerName, headerNote)} >>` : "h''"],
+        ["unprotected", commentedMap(unprotectedMap, headerName, headerNote)],
+        ["payload", content],
+        [picture.kind === 18 ? "signature" : "tag", bytes(auth)],
+    ];
+    const array = `[\n${elements.map(([name, text]) => `    ${comment(name)} ${text}`).join(",\n")}\n]`;
+    const text = picture.tags.reduceRight((inner, tag) => `${tag}(${inner})`, array);
+    const notation = element("details", {}, element("summary", {}, "In diagnostic notation"), element("pre", {}, text));
+    host.replaceChildren(notation);
+    return undefined;
+}
+
+/**
+ * @param {HTMLElement} host
+ * @param {Picture} picture
+ */
+function showHeaders(host, picture) {
+    const buckets = /** @type {const} */ ([["protected", picture.protectedMap], ["unprotected", picture.unprotectedMap]]);
+    const rows = buckets.flatMap(([bucket, map]) =>
+        (map ? pairsOf(map) : []).map(({ label, value }) => [headerName(label) ?? "not registered here", diagnostic(label), code(diagnostic(value)), headerNote(label, value) ?? "", bucket]),
+    );
+    if (!rows.length) return host.replaceChildren(element("p", {}, "There are none that could be read."));
+    host.replaceChildren(table("Header parameters", ["Name", "Label", "Value", "Meaning", "Bucket"], rows));
+    return undefined;
+}
+
+/**
+ * @param {HTMLElement} host
+ * @param {Inquiry} request
+ * @param {Answer} answer
+ */
+function showPayload(host, request, answer) {
+    const { picture } = answer;
+    const isAuthentic = answer.state === "authentic";
+    const caution = isAuthentic ? [] : [element("p", { class: "caution" }, "Nobody vouches for what is shown here: the message isn't authentic.")];
+    if (picture.isDetached) {
+        const file = request.payload ? `The file has ${bytesCount(request.payload.size)}.` : "It comes as a file.";
+        return host.replaceChildren(...(isAuthentic ? [] : caution), element("p", {}, `The payload is detached. ${file}`));
+    }
+    if (!picture.payload) return host.replaceChildren(element("p", {}, "There is none that could be read."));
+    if (picture.claims) return host.replaceChildren(...caution, claimsTable(picture.claims));
+    const bytes = request.message.subarray(picture.payload.from, picture.payload.to);
+    return host.replaceChildren(...caution, ...payloadTexts(bytes));
+}
+
+/** @param {Item} claims */
+function claimsTable(claims) {
+    const rows = pairsOf(claims).map(({ label, value }) => [claimName(label) ?? "not registered here", diagnostic(label), code(diagnostic(value)), claimNote(label, value) ?? ""]);
+    return table("Claims", ["Name", "Label", "Value", "Meaning"], rows);
+}
+
+/** @param {Uint8Array} bytes */
+function payloadTexts(bytes) {
+    const item = bytes.length <= LONGEST_CLAIMS ? wholeItem(bytes) : undefined;
+    const text = bytes.length <= LONGEST_CLAIMS ? textOf(bytes) : undefined;
+    const isText = text !== undefined && text !== "" && !/[\u0000-\u0008\u000b\u000c\u000e-\u001f\u007f-\u009f]/.test(text);
+    const rest = bytes.length > SHOWN ? [element("p", { class: "hint" }, `The first ${SHOWN} of ${bytesCount(bytes.length)}.`)] : [];
+    if (!bytes.length) return [element("p", {}, "It is empty.")];
+    if (isText) return [element("p", { class: "hint" }, `Text of ${bytesCount(bytes.length)}:`), element("pre", { dir: "ltr" }, text)];
+    if (item && item.type !== "integer") return [element("p", { class: "hint" }, "CBOR in diagnostic notation:"), element("pre", {}, diagnostic(item))];
+    return [element("pre", { class: "hex" }, hexOf(bytes.subarray(0, SHOWN))), ...rest];
+}
+
+const KEY_STATES = new Map([
+    ["chosen", "chosen"],
+    ["fits", "fits"],
+    ["other", "doesn't fit"],
+    ["unusable", "not usable"],
+    ["unasked", "not asked"],
+]);
+
+/**
+ * @param {HTMLElement} host
+ * @param {KeyAnswer[]} keys
+ */
+function showKeys(host, keys) {
+    if (!keys.length) return host.replaceChildren(element("p", {}, "There are none."));
+    const rows = keys.map(({ item, state, why }, index) => {
+        const mark = element("span", { class: "key_state", "data-state": state }, KEY_STATES.get(state) ?? "");
+        const kid = item.type === "map" ? valueOf(item, 2) : undefined;
+        const alg = item.type === "map" ? valueOf(item, 3) : undefined;
+        return [String(index + 1), mark, keyTitle(item), kid ? kidText(kid) : "", alg ? algorithmText(alg) : "", why ?? ""];
+    });
+    host.replaceChildren(table("Keys", ["Key", "State", "Type", "kid", "alg", "Why"], rows));
+    return undefined;
+}
+
+/** @param {Item} kid */
+function kidText(kid) {
+    const note = kid.type === "bytes" ? printable(kid.bytes) : undefined;
+    return element("span", {}, code(diagnostic(kid)), note ? ` ${note}` : "");
+}

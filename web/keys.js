@@ -1,0 +1,306 @@
+// Keys as they are pasted: a COSE_Key or a COSE_KeySet in hexadecimal or base64url, a JWK or a JWK set, or PEM. And of each key of a set
+// whether it fits a message: that says the library, of a set of this key alone; why it doesn't is explained here.
+"use strict";
+
+/** What is wrong with an input, in a sentence. */
+class BadInput extends Error {}
+
+/** @param {string} text */
+function hexadecimal(text) {
+    const digits = text.replace(/^0x/i, "").replace(/[\s:,]|0x/gi, "");
+    if (digits.length % 2 || !/^[0-9a-f]*$/i.test(digits)) return undefined;
+    return new Uint8Array((digits.match(/../g) ?? []).map((pair) => parseInt(pair, 16)));
+}
+
+/** @param {string} text */
+function base64url(text) {
+    const digits = text.replace(/\s/g, "").replace(/=+$/, "").replaceAll("+", "-").replaceAll("/", "_");
+    if (!/^[A-Za-z0-9_-]*$/.test(digits) || digits.length % 4 === 1) return undefined;
+    const binary = atob(digits.replaceAll("-", "+").replaceAll("_", "/"));
+    return Uint8Array.from(binary, (one) => one.charCodeAt(0));
+}
+
+/**
+ * Bytes that are written in hexadecimal, or else in base64url: a text of more than some digits is hardly ever both.
+ * @param {string} text
+ * @param {string} what
+ * @returns {Uint8Array}
+ */
+function bytesFrom(text, what) {
+    const bytes = hexadecimal(text) ?? base64url(text);
+    if (bytes) return bytes;
+    throw new BadInput(`The ${what} is neither hexadecimal nor base64url.`);
+}
+
+// ---- DER
+
+/**
+ * @typedef {object} DerElement
+ * @property {number} tag
+ * @property {Uint8Array} content
+ * @property {Uint8Array} rest
+ */
+
+/**
+ * The DER element that bytes begin with.
+ * @param {Uint8Array} bytes
+ * @returns {DerElement}
+ */
+function elementOf(bytes) {
+    let [length, at] = [bytes[1], 2];
+    if (length > 127) {
+        at += length - 128;
+        length = Number(integerOf(bytes.subarray(2, at)));
+    }
+    if (!(at + length <= bytes.length)) throw new BadInput("The PEM block is cut off.");
+    return { tag: bytes[0], content: bytes.subarray(at, at + length), rest: bytes.subarray(at + length) };
+}
+
+/** @param {Uint8Array} bytes */
+function elementsOf(bytes) {
+    /** @type {DerElement[]} */
+    const found = [];
+    for (let rest = bytes; rest.length; rest = found[found.length - 1].rest) found.push(elementOf(rest));
+    return found;
+}
+
+const EC_PUBLIC_KEY = "2a8648ce3d0201";
+const CURVE_IDENTIFIERS = new Map([
+    ["2a8648ce3d030107", 1],
+    ["2b81040022", 2],
+    ["2b81040023", 3],
+]);
+
+/**
+ * The COSE_Key of a SubjectPublicKeyInfo (RFC 5480 section 2).
+ * @param {Uint8Array} der
+ */
+function keyOfInfo(der) {
+    const [algorithm, bits] = elementsOf(elementOf(der).content);
+    const [kind, curve] = elementsOf(algorithm.content).map((it) => hexOf(it.content));
+    if (kind !== EC_PUBLIC_KEY) throw new BadInput("The PEM block isn't a public key on an elliptic curve.");
+    const crv = CURVE_IDENTIFIERS.get(curve);
+    if (!crv) throw new BadInput("The key's curve isn't P-256, P-384 or P-521.");
+    return keyOfPoint(crv, bits.content.subarray(1));
+}
+
+/**
+ * @param {number} crv
+ * @param {Uint8Array} point in the form of SEC 1 section 2.3.3
+ */
+function keyOfPoint(crv, point) {
+    const size = CURVES[/** @type {1 | 2 | 3} */ (crv)].bytes;
+    const [x, rest] = [point.slice(1, 1 + size), point.slice(1 + size)];
+    const y = point[0] === 4 && rest.length === size ? rest : point[0] === 3;
+    return new Map(/** @type {[number, any][]} */ ([[1, 2], [-1, crv], [-2, x], [-3, y]]));
+}
+
+/**
+ * The keys of PEM blocks: public keys, and those of certificates, which nothing verifies here.
+ * @param {string} text
+ */
+function keysOfPem(text) {
+    const blocks = [...text.matchAll(/-----BEGIN ([A-Z0-9 ]+)-----([^-]*)-----END \1-----/g)];
+    if (!blocks.length) throw new BadInput("The PEM block is cut off.");
+    return blocks.map(([, label, content]) => {
+        const der = base64url(content);
+        if (!der) throw new BadInput("The PEM block isn't base64.");
+        if (label === "PUBLIC KEY") return keyOfInfo(der);
+        if (label === "CERTIFICATE") return keyOfInfo(infoOf(der));
+        throw new BadInput(`The PEM block is a ${label}: a PUBLIC KEY is wanted (openssl pkey -pubout), or a CERTIFICATE.`);
+    });
+}
+
+/**
+ * The SubjectPublicKeyInfo of a certificate (RFC 5280 section 4.1).
+ * @param {Uint8Array} der
+ */
+function infoOf(der) {
+    let fields = elementOf(elementOf(der).content).content;
+    const skipped = fields[0] === 0xa0 ? 6 : 5;
+    for (let i = 0; i < skipped; i += 1) fields = elementOf(fields).rest;
+    return fields;
+}
+
+// ---- JWK
+
+const JWK_ALGORITHMS = new Map([["HS256", 5], ["HS384", 6], ["HS512", 7], ["ES256", -7], ["ES384", -35], ["ES512", -36]]);
+const JWK_CURVES = new Map([["P-256", 1], ["P-384", 2], ["P-521", 3]]);
+const JWK_OPERATIONS = new Map([["sign", 1], ["verify", 2], ["encrypt", 3], ["decrypt", 4], ["wrapKey", 5], ["unwrapKey", 6], ["deriveKey", 7], ["deriveBits", 8]]);
+
+/**
+ * @param {Record<string, any>} key
+ * @param {string} name
+ */
+function member(key, name) {
+    const bytes = typeof key[name] === "string" ? base64url(key[name]) : undefined;
+    if (!bytes) throw new BadInput(`A JWK has no ${name} in base64url.`);
+    return bytes;
+}
+
+/**
+ * The COSE_Key of a JWK (RFC 7517), or nothing of one for something else.
+ * @param {Record<string, any>} key
+ * @returns {Map<number, any> | undefined}
+ */
+function keyOfJwk(key) {
+    const crv = JWK_CURVES.get(key.crv);
+    const isSymmetric = key.kty === "oct";
+    if (!isSymmetric && (key.kty !== "EC" || !crv)) return undefined;
+    const alg = key.alg === undefined ? undefined : JWK_ALGORITHMS.get(key.alg);
+    if ((key.use ?? "sig") !== "sig" || (key.alg !== undefined && alg === undefined)) return undefined;
+    const made = new Map(/** @type {[number, any][]} */ ([[1, isSymmetric ? 4 : 2]]));
+    if (key.kid !== undefined) made.set(2, new TextEncoder().encode(String(key.kid)));
+    if (alg !== undefined) made.set(3, alg);
+    if (Array.isArray(key.key_ops)) made.set(4, operationsOf(key.key_ops, isSymmetric));
+    if (made.get(4)?.length === 0) return undefined;
+    if (isSymmetric) return made.set(-1, member(key, "k"));
+    return made.set(-1, crv).set(-2, member(key, "x")).set(-3, member(key, "y"));
+}
+
+/**
+ * The numbers of operations (RFC 7517 section 4.3, RFC 9052 section 7.1): of a MAC's key two have others.
+ * @param {any[]} names
+ * @param {boolean} isSymmetric
+ */
+function operationsOf(names, isSymmetric) {
+    const numbers = names.map((name) => (isSymmetric && name === "sign" ? 9 : isSymmetric && name === "verify" ? 10 : JWK_OPERATIONS.get(name)));
+    return numbers.filter((it) => it !== undefined);
+}
+
+/** @param {string} text */
+function keysOfJson(text) {
+    let value;
+    try {
+        value = JSON.parse(text);
+    } catch {
+        throw new BadInput("The keys begin like a JWK, and aren't JSON.");
+    }
+    const keys = Array.isArray(value?.keys) ? value.keys : [value];
+    const made = keys.flatMap((/** @type {any} */ key) => keyOfJwk(Object(key)) ?? []);
+    if (!made.length) throw new BadInput("None of the JWKs is an HMAC key, or an EC key that verifies signatures.");
+    return made;
+}
+
+/**
+ * The COSE_Key or COSE_KeySet that is pasted.
+ * @param {string} text
+ * @returns {Uint8Array}
+ */
+function keysFrom(text) {
+    if (text.includes("-----BEGIN ")) return encoded(keysOfPem(text));
+    if (text.trimStart().startsWith("{")) return encoded(keysOfJson(text));
+    return bytesFrom(text, "key");
+}
+
+// ---- which key fits, and why the others don't
+
+/**
+ * A key of a set.
+ * @typedef {object} KeyFound
+ * @property {Uint8Array} bytes the COSE_Key
+ * @property {Item} item
+ * @property {boolean} isUsable
+ */
+
+/**
+ * The keys of a COSE_Key or a COSE_KeySet, in their order.
+ * @param {Cose} cose
+ * @param {Uint8Array} keys
+ * @returns {KeyFound[]}
+ */
+function keysIn(cose, keys) {
+    const whole = wholeItem(keys);
+    const items = whole?.type === "array" ? whole.children : whole ? [whole] : [];
+    return items.map((item) => {
+        const bytes = keys.slice(item.at, item.end);
+        const isUsable = item.type === "map" && cose.readKeys(bytes).usable === 1;
+        return { bytes, item, isUsable };
+    });
+}
+
+/**
+ * What a key is, in words. No secret is among them.
+ * @param {Item} key
+ */
+function keyTitle(key) {
+    if (key.type !== "map") return "no map";
+    const type = valueOf(key, 1);
+    const curve = valueOf(key, -1);
+    const name = type ? (KEY_TYPES.get(labelNumber(type)) ?? `type ${diagnostic(type)}`) : "no type";
+    if (name === "Symmetric") return `symmetric, ${bytesCount(curve?.bytes.length ?? 0)}`;
+    return curve && (name === "EC2" || name === "OKP") ? `${name}, ${CURVE_NAMES.get(labelNumber(curve)) ?? diagnostic(curve)}` : name;
+}
+
+/** The reasons that say that no key fits, or that several do. */
+const NO_KEY_FITS = [21, 23, 24];
+
+/**
+ * Why a key can't be used at all.
+ * @param {Item} key
+ */
+function whyUnusable(key) {
+    if (key.type !== "map") return "it isn't a map";
+    const type = valueOf(key, 1);
+    if (!type) return "it has no type (kty)";
+    const number = labelNumber(type);
+    if (number !== 2 && number !== 4) return `its type is ${KEY_TYPES.get(number) ?? diagnostic(type)}, and only EC2 and Symmetric are known here`;
+    if (number === 4) return valueOf(key, -1)?.bytes.length ? "a member has another form than it should" : "it has no secret (k)";
+    const missing = [-1, -2, -3].find((label) => !valueOf(key, label));
+    if (missing) return `it has no ${EC2_NAMES.get(missing)}`;
+    const curve = labelNumber(/** @type {Item} */ (valueOf(key, -1)));
+    if (![1, 2, 3].includes(curve)) return "its curve isn't P-256, P-384 or P-521";
+    return "a member has another form than it should, as a coordinate of the wrong length";
+}
+
+const MAC_ALGORITHMS = [4, 5, 6, 7];
+/** The curve that an algorithm wants, if it wants one (RFC 9864). */
+const CURVE_OF_ALGORITHM = new Map([[-9, 1], [-51, 2], [-52, 3]]);
+
+/**
+ * Why a usable key doesn't fit a message (RFC 9052 section 7.1), or nothing where no cause is seen.
+ * @param {Item} key
+ * @param {Picture} picture
+ */
+function whyNot(key, picture) {
+    const isMac = picture.kind === 17;
+    const type = labelNumber(/** @type {Item} */ (valueOf(key, 1)));
+    if (isMac && type !== 4) return "a MAC is verified with a symmetric key";
+    if (!isMac && type !== 2) return "a signature is verified with a key on an elliptic curve (EC2)";
+    const asked = headerOf(picture, 4);
+    const kid = valueOf(key, 2);
+    if (kid && asked && !sameBytes(kid.bytes, asked.bytes)) return `its identifier is ${diagnostic(kid)}, and the message names ${diagnostic(asked)}`;
+    const operations = valueOf(key, 4)?.children.map(labelNumber);
+    if (operations && !operations.includes(isMac ? 10 : 2)) return `its operations don't contain ${isMac ? "MAC verify" : "verify"}`;
+    return whyNotAlgorithm(key, picture);
+}
+
+/**
+ * @param {Item} key
+ * @param {Picture} picture
+ */
+function whyNotAlgorithm(key, picture) {
+    const own = valueOf(key, 3);
+    const inProtected = picture.protectedMap && valueOf(picture.protectedMap, 1);
+    const inUnprotected = picture.unprotectedMap && valueOf(picture.unprotectedMap, 1);
+    const named = inProtected ?? inUnprotected ?? own;
+    if (!named) return "neither the message nor the key names an algorithm";
+    if (own && diagnostic(own) !== diagnostic(named)) return `it is for ${algorithmText(own)}, and the message names ${algorithmText(named)}`;
+    if (!own && !inProtected) return "the algorithm isn't protected, so the key would have to name it";
+    const curve = CURVE_OF_ALGORITHM.get(labelNumber(named));
+    if (curve && labelNumber(/** @type {Item} */ (valueOf(key, -1))) !== curve) return `${algorithmText(named)} is on ${CURVE_NAMES.get(curve)}`;
+    return undefined;
+}
+
+/** @param {Item} alg */
+const algorithmText = (alg) => ALGORITHM_NAMES.get(labelNumber(alg)) ?? diagnostic(alg);
+
+/**
+ * A header parameter of either bucket.
+ * @param {Picture} picture
+ * @param {number} label
+ */
+function headerOf(picture, label) {
+    const maps = [picture.protectedMap, picture.unprotectedMap];
+    return maps.flatMap((map) => (map ? (valueOf(map, label) ?? []) : []))[0];
+}

@@ -1,0 +1,274 @@
+// The page: reads the inputs, asks the library, and shows the answer.
+"use strict";
+
+/** Files up to this size are shown in the text fields, in hexadecimal. */
+const SHOWN_FILE = 16384;
+/** Messages are held in memory up to this size. */
+const LONGEST_MESSAGE = 2 ** 26;
+
+/**
+ * What the fields don't hold: a detached payload, a message that is too long for its field, and the number of the last run, since an
+ * earlier one is stale.
+ * @type {{cose?: Cose, payload?: Blob, message?: Uint8Array, number: number, timer: number}}
+ */
+const state = { number: 0, timer: 0 };
+
+/**
+ * @param {string} id
+ * @returns {string}
+ */
+const valueIn = (id) => /** @type {HTMLInputElement} */ (byId(id)).value;
+
+/**
+ * The value of a field, and what is wrong with it next to it.
+ * @template T
+ * @param {string} id
+ * @param {() => T} read
+ * @returns {T | undefined}
+ */
+function checked(id, read) {
+    const [field, fault] = [byId(id), byId(`${id}_fault`)];
+    fault.textContent = "";
+    field.removeAttribute("aria-invalid");
+    try {
+        return read();
+    } catch (problem) {
+        if (!(problem instanceof BadInput)) throw problem;
+        fault.textContent = problem.message;
+        field.setAttribute("aria-invalid", "true");
+        return undefined;
+    }
+}
+
+/**
+ * The time of admission: seconds since 1970, a date in UTC, or now.
+ * @param {string} text
+ * @returns {bigint}
+ */
+function timeFrom(text) {
+    const given = text.trim();
+    if (given === "") return BigInt(Math.floor(Date.now() / 1000));
+    if (/^-?\d{1,18}$/.test(given)) return BigInt(given);
+    const date = Date.parse(`${given.replace(" ", "T").replace(/(Z| *UTC)$/i, "")}Z`);
+    if (Number.isNaN(date)) throw new BadInput("It is neither a number of seconds nor a date.");
+    return BigInt(Math.floor(date / 1000));
+}
+
+/** @returns {Inquiry | undefined} */
+function requestOf() {
+    const message = state.message ?? checked("message", () => bytesFrom(valueIn("message"), "message"));
+    const keys = checked("keys", () => (valueIn("keys").trim() ? keysFrom(valueIn("keys")) : NOTHING));
+    const aad = checked("aad", () => hexadecimal(valueIn("aad")) ?? badHexadecimal());
+    const now = checked("now", () => timeFrom(valueIn("now")));
+    if (!message?.length || !keys || !aad || now === undefined) return undefined;
+    const audience = valueIn("audience") || undefined;
+    const policy = { now, leeway: Math.min(2 ** 32 - 1, Math.max(0, Math.floor(Number(valueIn("leeway")) || 0))), audience };
+    return { message, keys: keys.length ? keys : undefined, aad, wanted: Number(valueIn("wanted")), payload: state.payload, policy };
+}
+
+/** @returns {never} */
+function badHexadecimal() {
+    throw new BadInput("It isn't hexadecimal.");
+}
+
+/**
+ * @param {Words["tone"] | "none"} tone
+ * @param {string} title
+ * @param {string[]} sentences
+ */
+function showVerdict(tone, title, sentences) {
+    byId("verdict").dataset.tone = tone;
+    byId("verdict_title").textContent = title;
+    byId("verdict_text").textContent = sentences.join(" ");
+}
+
+/** Asks the library about what is in the fields now. */
+async function run() {
+    state.number += 1;
+    const number = state.number;
+    const request = requestOf();
+    if (!state.cose) return;
+    byId("details").hidden = true;
+    if (!request) return showNothing();
+    try {
+        const answer = await answerTo(state.cose, request, (done, total) => showProgress(number, done, total));
+        if (number === state.number) show(request, answer);
+    } catch (fault) {
+        if (!(fault instanceof Stale)) showVerdict("unknown", "No answer", [String(fault instanceof Error ? fault.message : fault)]);
+    } finally {
+        if (number === state.number) {
+            byId("progress_line").hidden = true;
+            byId("answer").dataset.number = String(number);
+        }
+    }
+}
+
+function showNothing() {
+    const isFaulty = [...document.querySelectorAll("#inputs .fault")].some((it) => it.textContent);
+    if (isFaulty) showVerdict("unknown", "No answer yet", ["An input can't be read: what is wrong stands next to it."]);
+    else showVerdict("none", "No message yet", ["Paste one, drop a file, or choose an example."]);
+    byId("answer").dataset.number = String(state.number);
+}
+
+/**
+ * @param {number} number
+ * @param {number} done
+ * @param {number} total
+ */
+function showProgress(number, done, total) {
+    if (number !== state.number) return false;
+    const progress = /** @type {HTMLProgressElement} */ (byId("progress"));
+    [progress.max, progress.value] = [Math.max(1, total), done];
+    byId("progress_line").hidden = total <= CHUNK;
+    byId("progress_text").textContent = `${done.toLocaleString("en")} of ${bytesCount(total)}`;
+    return true;
+}
+
+/**
+ * @param {Inquiry} request
+ * @param {Answer} answer
+ */
+function show(request, answer) {
+    const words = wordsOf(request, answer);
+    showVerdict(words.tone, words.title, words.sentences);
+    byId("details").hidden = false;
+    new BytesView(byId("bytes"), request.message, answer.picture, words.fault);
+    showNotation(byId("notation"), request.message, answer.picture);
+    showPhases(byId("phases"), answer);
+    showHeaders(byId("headers"), answer.picture);
+    showPayload(byId("payload"), request, answer);
+    showKeys(byId("key_list"), answer.keys);
+}
+
+// ---- inputs
+
+/** @param {Example} example */
+function showExample(example) {
+    state.message = undefined;
+    state.payload = example.payload?.();
+    for (const id of ["message", "keys", "now"]) {
+        /** @type {HTMLInputElement} */ (byId(id)).value = example[/** @type {"message" | "keys" | "now"} */ (id)];
+    }
+    for (const [id, value] of [["aad", ""], ["audience", ""], ["leeway", "0"], ["wanted", "0"]]) {
+        /** @type {HTMLInputElement} */ (byId(id)).value = value;
+    }
+    /** @type {HTMLDetailsElement} */ (byId("more")).open = example.now !== "";
+    byId("example_about").hidden = false;
+    byId("example_about").textContent = example.about;
+    showNames();
+    run();
+    byId("verdict").scrollIntoView({ block: "nearest" });
+}
+
+function showNames() {
+    byId("message_name").textContent = state.message ? `a file of ${bytesCount(state.message.length)}` : "";
+    byId("message").toggleAttribute("readonly", Boolean(state.message));
+    const { payload } = state;
+    byId("payload_name").textContent = payload ? `${payload instanceof File ? payload.name : "a file"}, ${bytesCount(payload.size)}` : "none";
+    byId("payload_remove").hidden = !payload;
+}
+
+/**
+ * What a file of a field holds: text as it is, other bytes in hexadecimal.
+ * @param {string} field
+ * @param {File} file
+ */
+async function openFile(field, file) {
+    if (field === "payload") state.payload = file;
+    else await openText(field, file);
+    showNames();
+    await run();
+}
+
+/**
+ * @param {string} field
+ * @param {File} file
+ */
+async function openText(field, file) {
+    const input = /** @type {HTMLTextAreaElement} */ (byId(field));
+    if (file.size > LONGEST_MESSAGE) {
+        byId(`${field}_fault`).textContent = `The file has more than ${bytesCount(LONGEST_MESSAGE)}.`;
+        return;
+    }
+    const bytes = new Uint8Array(await file.arrayBuffer());
+    const text = textOf(bytes);
+    const isText = text !== undefined && /^[\x09\x0a\x0d\x20-\x7e]+$/.test(text);
+    if (field === "message") state.message = undefined;
+    input.value = isText ? text : hexOf(bytes.subarray(0, SHOWN_FILE));
+    if (!isText && field === "message" && bytes.length > SHOWN_FILE) state.message = bytes;
+}
+
+/** Runs soon, since more is typed. */
+function runSoon() {
+    clearTimeout(state.timer);
+    state.timer = setTimeout(run, 150);
+}
+
+function listen() {
+    byId("inputs").addEventListener("submit", (event) => event.preventDefault());
+    for (const id of ["message", "keys", "now", "leeway", "audience", "aad", "wanted"]) byId(id).addEventListener("input", runSoon);
+    byId("message").addEventListener("input", () => {
+        state.message = undefined;
+        showNames();
+    });
+    for (const field of ["message", "keys", "payload"]) {
+        const input = /** @type {HTMLInputElement} */ (byId(`${field}_file`));
+        input.addEventListener("change", async () => {
+            const file = input.files?.[0];
+            if (file) await openFile(field, file);
+            input.value = "";
+        });
+    }
+    byId("payload_remove").addEventListener("click", () => {
+        state.payload = undefined;
+        showNames();
+        byId("payload_file").focus();
+        run();
+    });
+    listenToDrops();
+}
+
+/** A file that is dropped goes to the field below it, or else to the message. */
+function listenToDrops() {
+    /** @param {DragEvent} event */
+    const fieldOf = (event) => {
+        const field = event.target instanceof Element ? event.target.closest("[data-drop]") : null;
+        return /** @type {HTMLElement} */ (field ?? document.querySelector("[data-drop=message]"));
+    };
+    const unmark = () => document.querySelectorAll(".dropping").forEach((it) => it.classList.remove("dropping"));
+    document.addEventListener("dragover", (event) => {
+        event.preventDefault();
+        unmark();
+        fieldOf(event).classList.add("dropping");
+    });
+    document.addEventListener("dragleave", unmark);
+    document.addEventListener("drop", (event) => {
+        event.preventDefault();
+        unmark();
+        const file = event.dataTransfer?.files[0];
+        if (file) openFile(fieldOf(event).dataset.drop ?? "message", file);
+    });
+}
+
+async function start() {
+    byId("example_buttons").append(
+        ...EXAMPLES.map((example) => {
+            const button = element("button", { type: "button" }, example.name);
+            button.addEventListener("click", () => showExample(example));
+            return button;
+        }),
+    );
+    listen();
+    showNames();
+    try {
+        if (!crypto.subtle) throw new Error("this page is neither from a file nor from https, so the browser has no WebCrypto");
+        if (typeof COSE_WASM === "undefined") throw new Error("cose_wasm.js is missing: ci/web_module builds it");
+        state.cose = await Cose.load(Uint8Array.from(atob(COSE_WASM), (one) => one.charCodeAt(0)));
+        await run();
+    } catch (fault) {
+        const message = fault instanceof Error ? fault.message : String(fault);
+        showVerdict("unknown", "This browser can't verify", [`${message}.`]);
+    }
+}
+
+start();

@@ -1,0 +1,1 @@
+../bindings/js/reasons.js
