@@ -38,7 +38,7 @@ const REASONS = Object.freeze(
         [23, "AlgUnprotected", "Only the unprotected bucket names an algorithm, and no key with this algorithm as its own fits", "payload head", "own"],
         [24, "NoKey", "The protected bucket names an algorithm, and no key fits", "payload head", "(RFC 9052 section 7.1)"],
         [25, "AmbiguousKey", "Two or more keys fit", "payload head", "own"],
-        [26, "Detached", "The payload is nil", "payload head", "(RFC 9052 sections 4.1 and 6.1)"],
+        [26, "Detached", "The payload is nil", "payload head", "(RFC 9052 sections 4.2 and 6.2)"],
         [27, "BadAuthLength", "The tag or signature doesn't have the length of its algorithm; while inspecting, it has more than 65,535 bytes", "the head of the tag or signature", "RFC 9053 sections 2.1 and 3.1"],
         [28, "BadAuth", "The tag isn't the MAC of the structure, or the EcVerifier says no to the signature", "the head of the tag or signature", "RFC 9052 sections 6.3 and 4.4"],
         [29, "PayloadTooLong", "The payload has 2^56 bytes or more, or more than the context's limit", "payload head", "own"],
