@@ -1,7 +1,7 @@
 // The page: reads the inputs, asks the library, and shows the answer.
 "use strict";
 
-/** Files up to this size are shown in the text fields, in hexadecimal. */
+/** A message up to this size is shown in its field, in hexadecimal. */
 const SHOWN_FILE = 16384;
 /** Messages are held in memory up to this size. */
 const LONGEST_MESSAGE = 2 ** 26;
@@ -161,8 +161,9 @@ function showExample(example) {
 }
 
 function showNames() {
-    byId("message_name").textContent = state.message ? `a file of ${bytesCount(state.message.length)}` : "";
-    byId("message").toggleAttribute("readonly", Boolean(state.message));
+    const file = state.message ? `a file of ${bytesCount(state.message.length)}` : "";
+    byId("message_name").textContent = file;
+    byId("message").setAttribute("placeholder", file && `${file}, too long for this field`);
     const { payload } = state;
     byId("payload_name").textContent = payload ? `${payload instanceof File ? payload.name : "a file"}, ${bytesCount(payload.size)}` : "none";
     byId("payload_remove").hidden = !payload;
@@ -193,9 +194,9 @@ async function openText(field, file) {
     const bytes = new Uint8Array(await file.arrayBuffer());
     const text = textOf(bytes);
     const isText = text !== undefined && /^[\x09\x0a\x0d\x20-\x7e]+$/.test(text);
-    if (field === "message") state.message = undefined;
-    input.value = isText ? text : hexOf(bytes.subarray(0, SHOWN_FILE));
-    if (!isText && field === "message" && bytes.length > SHOWN_FILE) state.message = bytes;
+    const isLong = field === "message" && !isText && bytes.length > SHOWN_FILE;
+    if (field === "message") state.message = isLong ? bytes : undefined;
+    input.value = isText ? text : isLong ? "" : hexOf(bytes);
 }
 
 /** Runs soon, since more is typed. */
