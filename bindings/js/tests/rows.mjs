@@ -363,15 +363,22 @@ export function runFile(schema) {
 /** @param {{leftOut: Map<string, number>}} counts */
 export const leftOutOf = ({ leftOut }) => [...leftOut.values()].reduce((sum, it) => sum + it, 0);
 
+/**
+ * What became of the rows of a file, in a line.
+ * @param {string} schema
+ * @param {{rows: number, differ: string[], leftOut: Map<string, number>}} counts
+ */
+export function lineOf(schema, counts) {
+    const why = [...counts.leftOut].map(([reason, number]) => `${reason}: ${number}`).join("; ");
+    const left = leftOutOf(counts);
+    const text = `${schema}: ${counts.rows} rows, ${counts.rows - left} run, ${left} left out, ${counts.differ.length} differ`;
+    return why ? `${text} (${why})` : text;
+}
+
 if (process.argv[1] === fileURLToPath(import.meta.url)) {
     for (const schema of SCHEMAS) {
         const counts = runFile(schema);
-        const why = [...counts.leftOut].map(([reason, number]) => `${reason}: ${number}`).join("; ");
-        const left = leftOutOf(counts);
-        for (const line of counts.differ) console.log(line);
-        console.log(
-            `${schema}: ${counts.rows} rows, ${counts.rows - left} run, ${left} left out, ${counts.differ.length} differ` + (why && ` (${why})`),
-        );
+        console.log([...counts.differ, lineOf(schema, counts)].join("\n"));
         if (counts.differ.length) process.exitCode = 1;
     }
 }

@@ -1,14 +1,15 @@
 // The rows of rows/, a test a file.
 import assert from "node:assert/strict";
 import { test } from "node:test";
-import { leftOutOf, runFile, SCHEMAS } from "./rows.mjs";
+import { leftOutOf, lineOf, runFile, SCHEMAS } from "./rows.mjs";
 
 /** How many rows of each file are left out, so that no more are. */
 const LEFT_OUT = { messages: 68, detached: 7, shapes: 7, tokens: 4, claims: 23, keys: 2, sets: 11, made: 1 };
 
 for (const schema of SCHEMAS) {
-    test(`each row of ${schema} that the interface can ask is answered as it says`, () => {
+    test(`each row of ${schema} that the interface can ask is answered as it says`, (t) => {
         const counts = runFile(schema);
+        t.diagnostic(lineOf(schema, counts));
         assert.deepEqual(counts.differ, []);
         assert.equal(leftOutOf(counts), LEFT_OUT[schema]);
         assert.ok(counts.rows > LEFT_OUT[schema]);
