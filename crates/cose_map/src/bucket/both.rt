@@ -121,9 +121,11 @@ fn with_next_element<'b>(
     with_fault(least, is_unknown, Reason::CritUnknown, element.place)
 }
 
-/// The least fault of the elements of the protected crit, which come in any order.
+/// The least fault of the elements of the protected crit, which come in any order. Not inlined, so that the set's memory
+/// on the stack is that of this call alone.
+#[inline(never)]
 #[tactic(auto, using(crate::proofs::lemmas::Bucket::Both::fold_more))]
-fn least_in_any_order(
+fn least_of_elements_in_any_order(
     elements: Items<'_>,
     protected: &Bucket<'_>,
     understood: &[Label<'_>],
@@ -169,7 +171,7 @@ fn least_of_elements(
 {
     let mut search = Search::new(protected.pairs());
     if !search.is_rising || !are_rising(elements) {
-        return least_in_any_order(elements, protected, understood);
+        return least_of_elements_in_any_order(elements, protected, understood);
     }
     let mut least = None;
     'elements: for element in elements {
@@ -233,9 +235,11 @@ fn with_next_pair<'b>(
     with_fault(least, is_crit, Reason::CritUnprotected, item.place)
 }
 
-/// The least fault so far, with those of the unprotected bucket, whose labels come in any order.
+/// The least fault so far, with those of the unprotected bucket, whose labels come in any order. Not inlined, so that the
+/// set's memory on the stack is that of this call alone.
+#[inline(never)]
 #[tactic(auto, using(crate::proofs::lemmas::Bucket::Both::fold_more))]
-fn with_any_order(
+fn with_unprotected_in_any_order(
     so_far: Option<Refusal>,
     protected: &Bucket<'_>,
     unprotected: &Bucket<'_>,
@@ -271,7 +275,7 @@ fn with_unprotected(
     }
     let mut search = Search::new(protected.pairs());
     if !search.is_rising || !is_rising(unprotected.pairs()) {
-        return with_any_order(so_far, protected, unprotected);
+        return with_unprotected_in_any_order(so_far, protected, unprotected);
     }
     let mut least = so_far;
     'pairs: for (name, item, _value) in unprotected.pairs() {

@@ -68,7 +68,9 @@ fn check_new<'a, F: Form>(
     }
 }
 
-/// The pairs of a map from its children, each with a new label and a value of its form. The labels come in any order.
+/// The pairs of a map from its children, each with a new label and a value of its form. The labels come in any order. Not
+/// inlined, so that the set's memory on the stack is that of this call alone.
+#[inline(never)]
 fn check_in_any_order<'a, F: Form>(form: &F, items: Items<'a>) -> Result<Pairs<'a>, Refusal>
     ensures { seen_by pairs_left result
         ≡ check_pairs (F.table form.now) [] (items_left items.entry) }

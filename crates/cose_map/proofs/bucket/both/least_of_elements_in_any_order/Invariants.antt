@@ -7,7 +7,7 @@ use Rattle.cose_map.specs.Map.Lookup.{IsSettled}
 use Rattle.cose_map.specs.Map.Names.{element_names}
 use Rattle.cose_map.specs.Map.View.{pairs_left}
 use Rattle.cose_map.specs.Label.View.{label_value}
-use Rattle.cose_map.proofs.bucket.both.least_in_any_order.Given as goal
+use Rattle.cose_map.proofs.bucket.both.least_of_elements_in_any_order.Given as goal
 
 -- the least so far, with the elements left, is the least of all
 abbrev pub invariant-elements : goal.invariant-elements

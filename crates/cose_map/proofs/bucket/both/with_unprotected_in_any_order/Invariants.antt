@@ -5,7 +5,7 @@ use Rattle.cose_map.specs.Map.Lookup.{IsSettled}
 use Rattle.cose_map.specs.Map.Names.{names_of}
 use Rattle.cose_map.specs.Map.View.{pairs_left}
 use Rattle.cose_map.specs.Bucket.Both.{lesser, unprotected_faults}
-use Rattle.cose_map.proofs.bucket.both.with_any_order.Given as goal
+use Rattle.cose_map.proofs.bucket.both.with_unprotected_in_any_order.Given as goal
 
 -- the least so far, with the pairs left, is the least of all
 abbrev pub invariant-pairs : goal.invariant-pairs
