@@ -11,10 +11,10 @@ use crate::label::Label;
 use crate::map::labels::others::other::Other;
 use arrayvec::ArrayVec;
 
-/// At most 8 labels.
+/// At most 12 labels.
 #[derive(Drop)]
 pub(crate) struct Others<'a> {
-    pub(crate) labels: ArrayVec<Other<'a>, 8>,
+    pub(crate) labels: ArrayVec<Other<'a>, 12>,
     /// No label is in it twice.
     pub ghost distinct: { spec.differ (map (λ other. label_value other.label) labels.items) ≡ true },
 }
@@ -55,9 +55,9 @@ impl<'a> Others<'a> {
 
     /// Whether there is room for one more.
     pub(crate) fn has_room(&self) -> bool
-        ensures { result ≡ nat_lt (length (labels_in self.now)) 8 }
+        ensures { result ≡ nat_lt (length (labels_in self.now)) 12 }
     {
-        self.labels.len() < 8
+        self.labels.len() < 12
     }
 
     /// Whether a label is in the set.
@@ -69,7 +69,7 @@ impl<'a> Others<'a> {
 
     /// Adds a label.
     pub(crate) fn add(&mut self, name: Label<'a>)
-        requires room { nat_lt (length (labels_in self.old)) 8 ≡ true }
+        requires room { nat_lt (length (labels_in self.old)) 12 ≡ true }
         ensures added { (other : LabelValue) → spec.is_among other (labels_in self.new)
             ≡ (same_label other (label_value name.entry) || spec.is_among other (labels_in self.old)) }
     {
