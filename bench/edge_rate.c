@@ -1,12 +1,14 @@
-/* How much processor time the library for callers in C takes: 256 MiB through cose_feed in pieces of 4,096 bytes, and a
- * million tokens of 123 bytes through cose_table_verify_cwt, each with its MAC right. `bench/edge_rate` runs it next to
- * the calls that it stands on.
+/* How much processor time the library for callers in C takes: a long message through cose_feed, in pieces of 4,096 bytes and
+ * whole, and a million tokens through cose_table_verify_cwt, each with its MAC right. `bench/edge_rate` runs it next to the
+ * calls that it stands on.
  *
- * usage: edge_rate MESSAGE TOKEN      the long message and the token */
+ * usage: edge_rate feed MESSAGE
+ *        edge_rate tokens TOKEN [COUNT] */
 #define _POSIX_C_SOURCE 200809L
 #include "cose.h"
 #include <stdio.h>
 #include <stdlib.h>
+#include <string.h>
 #include <time.h>
 
 enum { PIECE = 4096, TOKENS = 1000000 };
@@ -41,7 +43,7 @@ static uint8_t *file(const char *path, size_t *length)
     return bytes;
 }
 
-static void feed(const uint8_t *message, size_t length)
+static void feed(const uint8_t *message, size_t length, size_t piece)
 {
     struct cose_verifier verifier = {aligned_alloc(cose_verifier_align(), cose_verifier_size())};
     struct cose_status status;
@@ -52,17 +54,17 @@ static void feed(const uint8_t *message, size_t length)
     cose_open(&verifier, keys, sizeof keys, NULL, 0, COSE_TAGGED, &status);
     for (size_t at = 0; status.status == COSE_MORE && at < length;) {
         struct cose_fed fed;
-        cose_feed(&verifier, message + at, length - at < PIECE ? length - at : PIECE, &fed);
+        cose_feed(&verifier, message + at, length - at < piece ? length - at : piece, &fed);
         at += fed.used;
         status = fed.status;
     }
     cose_verdict(&verifier, 0, &verdict);
-    printf("C: fed in pieces of %d: %.0f ms (authentic: %s)\n", PIECE, milliseconds() - start,
+    printf("C: fed in pieces of %zu: %.0f ms (authentic: %s)\n", piece, milliseconds() - start,
            verdict.status == COSE_AUTHENTIC ? "true" : "false");
     free(verifier.at);
 }
 
-static void tokens(const uint8_t *token, size_t length)
+static void tokens(const uint8_t *token, size_t length, long count)
 {
     struct cose_table table = {aligned_alloc(cose_table_align(), cose_table_size())};
     struct cose_key_set key_set;
@@ -74,26 +76,29 @@ static void tokens(const uint8_t *token, size_t length)
     cose_table_begin(table.at);
     cose_table_read(&table, keys, sizeof keys, &key_set);
     start = milliseconds();
-    for (long i = 0; i < TOKENS; i++) {
+    for (long i = 0; i < count; i++) {
         cose_table_verify_cwt(&table, NULL, 0, &policy, token, length, &claims);
         admitted += claims.status == COSE_AUTHENTIC;
     }
-    printf("C: a table of 1: %d tokens %.0f ms (admitted: %ld)\n", TOKENS, milliseconds() - start, admitted);
+    printf("C: a table of 1: %ld tokens %.0f ms (admitted: %ld)\n", count, milliseconds() - start, admitted);
     free(table.at);
 }
 
 int main(int count, char **arguments)
 {
-    size_t message_length, token_length;
-    if (count != 3) {
-        fputs("usage: edge_rate MESSAGE TOKEN\n", stderr);
+    size_t length;
+    uint8_t *bytes;
+    if (count < 3) {
+        fputs("usage: edge_rate feed MESSAGE\n       edge_rate tokens TOKEN [COUNT]\n", stderr);
         return 2;
     }
-    uint8_t *message = file(arguments[1], &message_length);
-    uint8_t *token = file(arguments[2], &token_length);
-    feed(message, message_length);
-    tokens(token, token_length);
-    free(message);
-    free(token);
+    bytes = file(arguments[2], &length);
+    if (strcmp(arguments[1], "feed") == 0) {
+        feed(bytes, length, PIECE);
+        feed(bytes, length, length);
+    } else {
+        tokens(bytes, length, count > 3 ? atol(arguments[3]) : TOKENS);
+    }
+    free(bytes);
     return 0;
 }

@@ -9,13 +9,13 @@ ghost use Rattle.cose_cwt.specs.Claims.Labels as names;
 ghost use Rattle.cose_cwt.specs.Confirmation.View.{confirmation_value};
 
 pub mod audience;
-mod checked;
 mod form;
+pub mod known;
 pub(crate) mod labels;
 
 use crate::claims::audience::Auds;
-use crate::claims::checked::Checked;
 use crate::claims::form::ClaimsForm;
+use crate::claims::known::Known;
 use crate::confirmation::{Cnf, Confirmation};
 use crate::laws::claims_refusals_stand_inside;
 use cose_map::{ItemRef, KeySet, Label, Pairs, Reason, Refusal, check_map, refused};
@@ -27,11 +27,16 @@ use cose_map::{ItemRef, KeySet, Label, Pairs, Reason, Refusal, check_map, refuse
 pub struct Claims<'a> {
     pub(crate) pairs: Pairs<'a>,
     confirmation: Option<Confirmation<'a>>,
-    pub(crate) checked: Checked<'a>,
-    /// The claims that are checked are those of the pairs.
-    pub ghost aud_found: { option_map placed checked.aud ≡ value_of names.aud (pairs_left pairs) },
-    pub ghost exp_found: { option_map placed checked.exp ≡ value_of names.exp (pairs_left pairs) },
-    pub ghost nbf_found: { option_map placed checked.nbf ≡ value_of names.nbf (pairs_left pairs) },
+    pub(crate) known: Known<'a>,
+    /// The known claims are those of the pairs.
+    pub ghost iss_found: { option_map placed known.iss ≡ value_of names.iss (pairs_left pairs) },
+    pub ghost sub_found: { option_map placed known.sub ≡ value_of names.sub (pairs_left pairs) },
+    pub ghost aud_found: { option_map placed known.aud ≡ value_of names.aud (pairs_left pairs) },
+    pub ghost exp_found: { option_map placed known.exp ≡ value_of names.exp (pairs_left pairs) },
+    pub ghost nbf_found: { option_map placed known.nbf ≡ value_of names.nbf (pairs_left pairs) },
+    pub ghost iat_found: { option_map placed known.iat ≡ value_of names.iat (pairs_left pairs) },
+    pub ghost cti_found: { option_map placed known.cti ≡ value_of names.cti (pairs_left pairs) },
+    pub ghost cnf_found: { option_map placed known.cnf ≡ value_of names.cnf (pairs_left pairs) },
 }
 
 /// Whether the tag is one of COSE (RFC 9052 section 2) or that of CWT (RFC 8392 section 6).
@@ -81,12 +86,12 @@ impl<'a> Claims<'a> {
     {
         let item = not_nested(ItemRef::read(bytes, 0, depth)?)?;
         let pairs = check_map(&ClaimsForm, &item)?;
-        let checked = Checked::of(pairs);
-        let confirmation = confirmation_at(checked.cnf)?;
+        let known = Known::of(pairs);
+        let confirmation = confirmation_at(known.cnf)?;
         Ok(Claims {
             pairs,
             confirmation,
-            checked,
+            known,
         })
     }
 
@@ -116,6 +121,20 @@ impl<'a> Claims<'a> {
             ≡ value_of (label_value label.now) (claims_value self.now).pairs }
     {
         self.pairs.get(label)
+    }
+
+    /// The known claims, each as its item (RFC 8392 section 3.1, RFC 8747 section 3.1).
+    pub fn known(&self) -> &Known<'a>
+        ensures iss { option_map placed result.now.iss ≡ value_of names.iss (claims_value self.now).pairs }
+        ensures sub { option_map placed result.now.sub ≡ value_of names.sub (claims_value self.now).pairs }
+        ensures aud { option_map placed result.now.aud ≡ value_of names.aud (claims_value self.now).pairs }
+        ensures exp { option_map placed result.now.exp ≡ value_of names.exp (claims_value self.now).pairs }
+        ensures nbf { option_map placed result.now.nbf ≡ value_of names.nbf (claims_value self.now).pairs }
+        ensures iat { option_map placed result.now.iat ≡ value_of names.iat (claims_value self.now).pairs }
+        ensures cti { option_map placed result.now.cti ≡ value_of names.cti (claims_value self.now).pairs }
+        ensures cnf { option_map placed result.now.cnf ≡ value_of names.cnf (claims_value self.now).pairs }
+    {
+        &self.known
     }
 
     /// The issuer of the token (iss, RFC 8392 section 3.1.1).

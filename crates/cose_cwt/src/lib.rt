@@ -53,6 +53,7 @@ mod token;
 
 pub use claims::Claims;
 pub use claims::audience::Auds;
+pub use claims::known::Known;
 pub use confirmation::Cnf;
 pub use cose_map::{Key, KeySet, Label, Material, Ops, Reason, Refusal, Y};
 pub use cose_msg::{

@@ -89,7 +89,7 @@ impl Claims<'_> {
         ensures { result ≡ spec.not_expired (policy_value policy.entry.now)
             (claims_value self.now) }
     {
-        let Some(value) = self.checked.exp else {
+        let Some(value) = self.known.exp else {
             return Ok(());
         };
         match value.as_int() {
@@ -102,7 +102,7 @@ impl Claims<'_> {
     fn not_early(&self, policy: &Policy<'_>) -> Result<(), Refusal>
         ensures { result ≡ spec.not_early (policy_value policy.entry.now) (claims_value self.now) }
     {
-        let Some(value) = self.checked.nbf else {
+        let Some(value) = self.known.nbf else {
             return Ok(());
         };
         match value.as_int() {
@@ -116,7 +116,7 @@ impl Claims<'_> {
         ensures { result ≡ spec.not_for_others (policy_value policy.entry.now)
             (claims_value self.now) }
     {
-        match self.checked.aud {
+        match self.known.aud {
             Some(value) if policy.is_for_others(Auds::of(&value)) => {
                 Err(refused(Reason::WrongAudience, &value))
             }
