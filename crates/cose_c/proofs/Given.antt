@@ -56,6 +56,8 @@ elsewhere payload (Ok claims) told at count g = record {
   exp = g.exp;
   nbf = g.nbf;
   iat = g.iat;
+  cnf_crv = g.cnf_crv;
+  cnf_y_sign = g.cnf_y_sign;
 }
 elsewhere payload (Err status) told at count g = g
 

@@ -1,9 +1,9 @@
 -- The content of a claim's string is a range of the payload.
-use Rattle.std.proofs.Common.{◌≡◌, ℕ, ◌+◌, ◌-◌, ◌≤◌, Bool, true, false, List, [], ◌∷◌, length, take, drop, Option, Some, None, Ok, refl, sym, ap, subst, ◌∙◌, arith}
+use Rattle.std.proofs.Common.{◌≡◌, ℕ, suc, ◌+◌, ◌-◌, ◌≤◌, Bool, true, false, List, [], ◌∷◌, length, take, drop, Option, Some, None, Ok, refl, sym, ap, subst, ◌∙◌, arith}
 use Rattle.std.proofs.lemmas.Bool.Decides.{nat_tests}
 use Rattle.std.proofs.lemmas.List.{length-drop}
 use Rattle.std.specs.List.{AllByRecursion}
-use Rattle.std.specs.Prelude.{nat_eq, is_some, ◌==◌, option_and_then}
+use Rattle.std.specs.Prelude.{nat_eq, is_some, min, ◌==◌, ◌^◌, option_and_then}
 use Rattle.std.specs.Str.{is_utf8}
 use Rattle.cose_head.specs.declared.head.Head.{Head}
 use Rattle.cose_head.specs.Placed.{Placed, bytes_in, children_of, head_of_item, if_utf8, is_an_array, look, look_with, text_in}
@@ -124,6 +124,55 @@ one_text n (Some text) z = rw z refl
 no_text_numbered : (n : ℕ) (text : Option (List ℕ)) → (n == 0) ≡ false → text_numbered n (text_before [] text) ≡ None
 no_text_numbered n None z = refl
 no_text_numbered n (Some text) z = rw z refl
+
+-- ---- the number of an audience's text strings
+
+pub no_texts : length (texts_from []) ≡ 0
+unfolding texts_from
+no_texts = refl
+
+counted_before : (others : List (List ℕ)) (text : Option (List ℕ)) → is_some text ≡ true → length (text_before others text) ≡ suc (length others)
+counted_before others None some = absurd cc
+counted_before others (Some text) some = refl
+
+pub text_counted : (x : Placed) (xs : List Placed) → is_some (text_in (look x)) ≡ true → length (texts_from (x ∷ xs)) ≡ suc (length (texts_from xs))
+unfolding texts_from
+text_counted x xs some = counted_before (texts_from xs) (text_in (look x)) some
+
+none_before : (others : List (List ℕ)) (text : Option (List ℕ)) → is_some text ≡ false → length (text_before others text) ≡ 0
+none_before others None none = refl
+none_before others (Some text) none = absurd cc
+
+pub texts_ended : (x : Placed) (xs : List Placed) → is_some (text_in (look x)) ≡ false → length (texts_from (x ∷ xs)) ≡ 0
+unfolding texts_from
+texts_ended x xs none = none_before (texts_from xs) (text_in (look x)) none
+
+-- A count that is at most 2^64 - 1, of the text strings so far, and those that are left.
+module _ (count total : ℕ) (items others : List Placed) (x : Placed) (steps : items ≡ x ∷ others) (so_far : min (count + length (texts_from items)) (2 ^ 64 - 1) ≡ total) where
+  pub counts_on : (added : ℕ) → is_some (text_in (look x)) ≡ true → added ≡ min (count + 1) (2 ^ 64 - 1) → min (added + length (texts_from others)) (2 ^ 64 - 1) ≡ total
+  counts_on added some is =
+      let one : length (texts_from items) ≡ suc (length (texts_from others)) = ap (λ (l : List Placed). length (texts_from l)) steps ∙ text_counted x others some in
+      grind (arith)
+
+  pub counts_end : is_some (text_in (look x)) ≡ false → count ≤ 2 ^ 64 - 1 → count ≡ total
+  counts_end none few =
+      let zero_left : length (texts_from items) ≡ 0 = ap (λ (l : List Placed). length (texts_from l)) steps ∙ texts_ended x others none in
+      grind (arith)
+
+pub counts_all : (count total : ℕ) (items : List Placed) → items ≡ [] → min (count + length (texts_from items)) (2 ^ 64 - 1) ≡ total → count ≤ 2 ^ 64 - 1 → count ≡ total
+counts_all count total items none so_far few =
+    let zero_left : length (texts_from items) ≡ 0 = ap (λ (l : List Placed). length (texts_from l)) none ∙ no_texts in
+    grind (arith)
+
+present_as_counted : (v : Placed) (text : Option (List ℕ)) (range : CoseRange) → range ≡ content_range v text → range.present ≡ min (length (text_before [] text)) (2 ^ 64 - 1)
+present_as_counted v None range e = ap (λ (r : CoseRange). r.present) e
+present_as_counted v (Some text) range e = ap (λ (r : CoseRange). r.present) e
+
+pub several_counted : (v : Placed) → is_an_array (look v) ≡ true → texts_of v ≡ texts_from (children_of v)
+several_counted v array = rw array refl
+
+pub one_counted : (v : Placed) (range : CoseRange) → is_an_array (look v) ≡ false → range ≡ text_range (Some v) → range.present ≡ min (length (texts_of v)) (2 ^ 64 - 1)
+one_counted v range single e = rw single (present_as_counted v (text_in (look v)) range e)
 
 module _ (tree : ClaimsAreOfTree) (ends : ChildrenEndInside) (depth : ℕ) (payload : List ℕ) (claims : ClaimsValue) (shallow : depth ≤ 32)
     (read : claims_of depth (record { bytes = payload; place = 0 }) ≡ Ok claims) where

@@ -14,7 +14,7 @@ use Rattle.cose_c.specs.declared.told.CoseClaims.{CoseClaims}
 use Rattle.cose_c.specs.declared.told.CoseRange.{CoseRange}
 use Rattle.cose_c.specs.Message.{Covers, payload_read, verdict_read}
 use Rattle.cose_c.specs.Numbers.{plain_status, refused_status}
-use Rattle.cose_c.specs.Told.{Ranges, date_numbers, no_claims, no_range, text_numbered}
+use Rattle.cose_c.specs.Told.{Ranges, confirmed_curve, confirmed_sign, date_numbers, no_claims, no_range, text_numbered}
 
 abbrev pub policy_for : ℤ → ℕ → Option (List ℕ) → PolicyValue
 policy_for now leeway name = record { now = now; leeway = leeway; mine = option_map (λ text. text ∷ []) name }
@@ -61,6 +61,8 @@ pub record GivesClaims (payload : List ℕ) (value : ClaimsValue) (told : CoseCl
   pub exp : told.exp ≡ date_numbers (exp_of value)
   pub nbf : told.nbf ≡ date_numbers (nbf_of value)
   pub iat : told.iat ≡ date_numbers (iat_of value)
+  pub cnf_crv : told.cnf_crv ≡ confirmed_curve value.confirmation
+  pub cnf_y_sign : told.cnf_y_sign ≡ confirmed_sign value.confirmation
 
 -- Or why there are none. (Where the payload is in the token is said apart.)
 abbrev pub without_payload : CoseClaims → CoseClaims

@@ -2,7 +2,9 @@
 use Rattle.std.specs.Prelude.{◌≡◌, ℕ, ℤ, pos, negsuc, ◌+◌, ◌-◌, ◌≤◌, ◌==◌, if◌then◌else◌, is_some, List, [], ◌∷◌, length, Option, Some, None, option_and_then, ⊤}
 use Rattle.cose_head.specs.Placed.{Placed, bytes_in, children_of, head_of_item, integer_in, is_an_array, look, text_in}
 use Rattle.cose_head.specs.PlacedLaws.{end_of}
+use Rattle.cose_map.specs.Key.Value.{KeyValue, MaterialValue, YValue, coordinate, elliptic, sign, symmetric}
 use Rattle.cose_map.specs.Map.Form.{Table}
+use Rattle.cose_cwt.specs.Confirmation.{ConfirmationValue}
 use Rattle.cose_c.specs.declared.numbers.CoseStatus.{CoseStatus}
 use Rattle.cose_c.specs.declared.told.CoseClaims.{CoseClaims}
 use Rattle.cose_c.specs.declared.told.CoseDate.{CoseDate}
@@ -93,6 +95,36 @@ no_claims s = record {
   cnf_crv = 0;
   cnf_y_sign = 0;
 }
+
+-- The number of the curve of a key on one (RFC 9053 section 7.1), and the sign of its coordinate y, where it has that alone: 1 even, 2 odd.
+abbrev pub curve_of_material : MaterialValue → ℕ
+curve_of_material (symmetric secret) = 0
+curve_of_material (elliptic curve x y) = curve
+
+abbrev pub sign_of_y : YValue → ℕ
+sign_of_y (coordinate y) = 0
+sign_of_y (sign odd) = if odd then 2 else 1
+
+abbrev pub sign_of_material : MaterialValue → ℕ
+sign_of_material (symmetric secret) = 0
+sign_of_material (elliptic curve x y) = sign_of_y y
+
+abbrev pub curve_number : Option KeyValue → ℕ
+curve_number None = 0
+curve_number (Some key) = curve_of_material key.material
+
+abbrev pub sign_number : Option KeyValue → ℕ
+sign_number None = 0
+sign_number (Some key) = sign_of_material key.material
+
+-- Those of the key that a token confirms (RFC 8747 section 3.2), 0 where it confirms none.
+abbrev pub confirmed_curve : Option ConfirmationValue → ℕ
+confirmed_curve None = 0
+confirmed_curve (Some confirmation) = curve_number confirmation.key
+
+abbrev pub confirmed_sign : Option ConfirmationValue → ℕ
+confirmed_sign None = 0
+confirmed_sign (Some confirmation) = sign_number confirmation.key
 
 -- A map any of whose values will do.
 abbrev pub any_value : Table

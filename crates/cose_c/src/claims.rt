@@ -3,8 +3,8 @@
 ghost use Rattle.std.specs.Prelude.{◌≡◌, ◌≢◌, ◌≤◌, ◌-◌, ◌^◌, min, length, ℕ, false, [], drop, take, Ok, option_map};
 ghost use Rattle.cose_head.specs.ItemRef.{placed};
 ghost use Rattle.cose_head.specs.Placed.{children_of, if_utf8};
+ghost use Rattle.cose_map.specs.Key.View.{key_value};
 ghost use Rattle.cose_map.specs.KeySet.{keys_of};
-ghost use Rattle.cose_map.specs.Label.View.{label_value};
 ghost use Rattle.cose_map.specs.Map.Pairs.{value_of};
 ghost use Rattle.cose_map.specs.Map.View.{seen_by};
 ghost use Rattle.cose_msg.specs.Kept.{HasTaken, is_inspecting};
@@ -12,13 +12,13 @@ ghost use Rattle.cose_msg.specs.Task.{to_verify};
 ghost use Rattle.cose_msg.specs.Verifier.{is_detached, setting_in};
 ghost use Rattle.cose_cwt.specs.Admission.{admitted_claims};
 ghost use Rattle.cose_cwt.specs.Admission.View.{policy_value};
-ghost use Rattle.cose_cwt.specs.Claims.{auds_of, claims_of, integer_under};
+ghost use Rattle.cose_cwt.specs.Claims.{auds_of, claims_of, texts_at, texts_from};
 ghost use Rattle.cose_cwt.specs.Claims.Labels as names;
 ghost use Rattle.cose_cwt.specs.Claims.Audience.{text_value};
 ghost use Rattle.cose_cwt.specs.Claims.View.{claims_value};
 ghost use Rattle.cose_c.specs.Claims.{Gives, GivesAudience, GivesClaims, GivesToken, GivesTokenIn, claims_given, name_given, name_seen, policy_for, policy_given, status_in, unless_refused};
 ghost use Rattle.cose_c.specs.Terms.{setting_given};
-ghost use Rattle.cose_c.specs.Told.{Ranges, StartsInside, audience_item, bytes_range, date_numbers, element_numbered, no_claims, text_numbered, text_range};
+ghost use Rattle.cose_c.specs.Told.{Ranges, StartsInside, audience_item, confirmed_curve, confirmed_sign, curve_number, element_numbered, no_claims, sign_number, text_numbered, text_range};
 
 use crate::input::blank_input;
 use crate::message::read_whole;
@@ -26,9 +26,7 @@ use crate::numbers::{
     AUTHENTIC, BAD_AUDIENCE, CLAIMS_REFUSED, CoseStatus, CoseVerdict, plain_status, refused_status,
 };
 use crate::terms::{HEADER, LARGE_HEADER, LARGE_NESTING, NESTING, context};
-use crate::told::{
-    CoseClaims, CoseDate, CoseRange, bytes_range, date_in, no_claims, no_range, text_range,
-};
+use crate::told::{CoseClaims, CoseRange, bytes_range, date_in, no_claims, no_range, text_range};
 use cose_cwt::laws::claims_are_of_a_tree;
 use cose_cwt::{Audience, Claims, Policy};
 use cose_head::laws::children_are_of_tree;
@@ -36,22 +34,8 @@ use cose_map::{Form, ItemRef, Items, Key, Label, Material, Reason, Y, check_map}
 use cose_msg::{Keys, Refusal, Verifier};
 use std::slice;
 
-/// The labels of the claims (RFC 8392 section 3.1).
-const ISS: Label<'static> = Label::Int(1);
-
-const SUB: Label<'static> = Label::Int(2);
-
+/// The label of the audience (RFC 8392 section 3.1.3).
 const AUD: Label<'static> = Label::Int(3);
-
-const EXP: Label<'static> = Label::Int(4);
-
-const NBF: Label<'static> = Label::Int(5);
-
-const IAT: Label<'static> = Label::Int(6);
-
-const CTI: Label<'static> = Label::Int(7);
-
-const CNF: Label<'static> = Label::Int(8);
 
 /// The labels of the members of a confirmation (RFC 8747 section 7.2).
 const COSE_KEY: Label<'static> = Label::Int(1);
@@ -166,15 +150,56 @@ fn audience_at(claims: &Claims<'_>, index: u64) -> CoseRange
     text_range(audience_item(claims.value(&AUD), index))
 }
 
-/// How many text strings the audience has.
-fn audience_count(claims: &Claims<'_>) -> u64
-    ensures { result ≡ min (length (auds_of (claims_value claims.now))) (2 ^ 64 - 1) }
+/// How many text strings an array has before an element that isn't one.
+fn texts_in(array: &ItemRef<'_>) -> u64
+    ensures { result
+        ≡ min (length (texts_from (children_of (placed array.now)))) (2 ^ 64 - 1) }
 {
     let mut count = 0u64;
-    'texts: for _text in claims.auds() {
+    'elements: for element in Items::of(array) {
+        if element.as_text().is_none() {
+            return count;
+        }
         count = count.saturating_add(1);
     }
     count
+}
+
+/// The text strings of an audience.
+#[derive(Clone, Copy)]
+struct Texts {
+    /// The first one.
+    first: CoseRange,
+    /// How many there are.
+    count: u64,
+}
+
+/// The text strings of an audience, whose item this is.
+#[tactic(auto, using(crate::proofs::Strings::several_counted, crate::proofs::Strings::one_counted))]
+fn texts_of(value: Option<ItemRef<'_>>) -> Texts
+    ensures first { result.first
+        ≡ text_range (audience_item 0 (option_map placed value.entry)) }
+    ensures inside { StartsInside (audience_item 0 (option_map placed value.entry)) result.first }
+    ensures count { result.count
+        ≡ min (length (texts_at (option_map placed value.entry))) (2 ^ 64 - 1) }
+{
+    let Some(value) = value else {
+        return Texts {
+            first: no_range(),
+            count: 0,
+        };
+    };
+    if value.is_array() {
+        return Texts {
+            first: text_range(element(&value, 0)),
+            count: texts_in(&value),
+        };
+    }
+    let first = text_range(Some(value));
+    Texts {
+        first,
+        count: u64::from(first.present),
+    }
 }
 
 /// The table of a map any of whose values will do: it was read before.
@@ -190,80 +215,91 @@ impl Form for AnyForm {
     }
 }
 
-/// The confirmation of a token, in the form of the C interface.
+/// The point of a key, without its coordinates.
 #[derive(Clone, Copy)]
-struct Confirmed {
-    kid: CoseRange,
-    x: CoseRange,
-    y: CoseRange,
+struct Point {
+    /// The number of its curve, 0 where there is no key.
     crv: u8,
+    /// The sign of y, where the key has that alone: 1 even, 2 odd. Otherwise 0.
     y_sign: u8,
 }
 
-/// Gives the point of the key that is confirmed, whose item this is (RFC 8747 section 3.2).
-fn give_key(key: &Key<'_>, item: &ItemRef<'_>, confirmed: &mut Confirmed) {
-    let Material::Ec { crv, y, .. } = key.material else {
-        return;
+/// The point of a key that is confirmed, if there is one (RFC 8747 section 3.2).
+fn point_of(key: Option<Key<'_>>) -> Point
+    ensures crv { result.crv ≡ curve_number (option_map key_value key.entry) }
+    ensures y_sign { result.y_sign ≡ sign_number (option_map key_value key.entry) }
+{
+    let Some(key) = key else {
+        return Point { crv: 0, y_sign: 0 };
     };
-    let Ok(members) = check_map(&AnyForm, item) else {
-        return;
-    };
-    confirmed.crv = crv;
-    confirmed.x = bytes_range(members.get(&X));
-    match y {
-        Y::Bytes(_) => confirmed.y = bytes_range(members.get(&Y_COORDINATE)),
-        Y::Sign(odd) => confirmed.y_sign = if odd { 2 } else { 1 },
+    match key.material {
+        Material::Ec {
+            crv,
+            y: Y::Sign(odd),
+            ..
+        } => Point {
+            crv,
+            y_sign: if odd { 2 } else { 1 },
+        },
+        Material::Ec {
+            crv,
+            y: Y::Bytes(_),
+            ..
+        } => Point { crv, y_sign: 0 },
+        Material::Symmetric(_) => Point { crv: 0, y_sign: 0 },
     }
 }
 
-/// The confirmation of a token, if it has one (RFC 8747 section 3).
-fn confirmed_by(claims: &Claims<'_>) -> Confirmed {
-    let mut confirmed = Confirmed {
+/// Where the strings of a confirmation are.
+#[derive(Clone, Copy)]
+struct Strings {
+    kid: CoseRange,
+    x: CoseRange,
+    y: CoseRange,
+}
+
+/// The coordinates of the key that is confirmed, whose item this is (RFC 8747 section 3.2).
+fn give_coordinates(key: &ItemRef<'_>, point: Point, strings: &mut Strings) {
+    let Ok(members) = check_map(&AnyForm, key) else {
+        return;
+    };
+    strings.x = bytes_range(members.get(&X));
+    if point.y_sign == 0 {
+        strings.y = bytes_range(members.get(&Y_COORDINATE));
+    }
+}
+
+/// The strings of a confirmation, whose item this is, if there is one (RFC 8747 section 3).
+fn strings_of(cnf: Option<ItemRef<'_>>, point: Point) -> Strings {
+    let mut strings = Strings {
         kid: no_range(),
         x: no_range(),
         y: no_range(),
-        crv: 0,
-        y_sign: 0,
     };
-    let (Some(cnf), Some(item)) = (claims.cnf(), claims.value(&CNF)) else {
-        return confirmed;
+    let Some(cnf) = cnf else {
+        return strings;
     };
-    let Ok(members) = check_map(&AnyForm, &item) else {
-        return confirmed;
+    let Ok(members) = check_map(&AnyForm, &cnf) else {
+        return strings;
     };
-    confirmed.kid = bytes_range(members.get(&KID));
-    if let (Some(key), Some(item)) = (cnf.key, members.get(&COSE_KEY)) {
-        give_key(&key, &item, &mut confirmed);
+    strings.kid = bytes_range(members.get(&KID));
+    if let Some(key) = members.get(&COSE_KEY)
+        && point.crv > 0
+    {
+        give_coordinates(&key, point, &mut strings);
     }
-    confirmed
+    strings
 }
 
-/// The range of the text string that is the value of a claim.
-fn text_of(claims: &Claims<'_>, label: &Label<'_>) -> CoseRange
-    ensures value { result
-        ≡ text_range (value_of (label_value label.now) (claims_value claims.now).pairs) }
-    ensures inside { StartsInside (value_of (label_value label.now) (claims_value claims.now).pairs)
-        result }
+/// The point of the key that a token confirms, if it does.
+fn point_confirmed(claims: &Claims<'_>) -> Point
+    ensures crv { result.crv ≡ confirmed_curve (claims_value claims.now).confirmation }
+    ensures y_sign { result.y_sign ≡ confirmed_sign (claims_value claims.now).confirmation }
 {
-    text_range(claims.value(label))
-}
-
-/// The range of the byte string that is the value of a claim.
-fn bytes_of(claims: &Claims<'_>, label: &Label<'_>) -> CoseRange
-    ensures value { result
-        ≡ bytes_range (value_of (label_value label.now) (claims_value claims.now).pairs) }
-    ensures inside { StartsInside (value_of (label_value label.now) (claims_value claims.now).pairs)
-        result }
-{
-    bytes_range(claims.value(label))
-}
-
-/// The date that is the value of a claim.
-fn date_of(claims: &Claims<'_>, label: &Label<'_>) -> CoseDate
-    ensures { result
-        ≡ date_numbers (integer_under (label_value label.now) (claims_value claims.now)) }
-{
-    date_in(claims.value(label))
+    match claims.cnf() {
+        Some(cnf) => point_of(cnf.key),
+        None => Point { crv: 0, y_sign: 0 },
+    }
 }
 
 /// The claims that are admitted.
@@ -275,15 +311,16 @@ fn told_claims(claims: &Claims<'_>, payload: &[u8]) -> CoseClaims
     // Laws that the proof cites.
     claims_are_of_a_tree();
     children_are_of_tree();
-    let iss = text_of(claims, &ISS);
-    let sub = text_of(claims, &SUB);
-    let aud = audience_at(claims, 0);
-    let cti = bytes_of(claims, &CTI);
-    let aud_count = audience_count(claims);
-    let exp = date_of(claims, &EXP);
-    let nbf = date_of(claims, &NBF);
-    let iat = date_of(claims, &IAT);
-    let cnf = confirmed_by(claims);
+    let known = claims.known();
+    let iss = text_range(known.iss);
+    let sub = text_range(known.sub);
+    let texts = texts_of(known.aud);
+    let cti = bytes_range(known.cti);
+    let exp = date_in(known.exp);
+    let nbf = date_in(known.nbf);
+    let iat = date_in(known.iat);
+    let point = point_confirmed(claims);
+    let strings = strings_of(known.cnf, point);
     CoseClaims {
         status: AUTHENTIC,
         reason: 0,
@@ -292,17 +329,17 @@ fn told_claims(claims: &Claims<'_>, payload: &[u8]) -> CoseClaims
         payload_length: payload.len() as u64,
         iss,
         sub,
-        aud,
+        aud: texts.first,
         cti,
-        aud_count,
+        aud_count: texts.count,
         exp,
         nbf,
         iat,
-        cnf_kid: cnf.kid,
-        cnf_x: cnf.x,
-        cnf_y: cnf.y,
-        cnf_crv: cnf.crv,
-        cnf_y_sign: cnf.y_sign,
+        cnf_kid: strings.kid,
+        cnf_x: strings.x,
+        cnf_y: strings.y,
+        cnf_crv: point.crv,
+        cnf_y_sign: point.y_sign,
     }
 }
 
