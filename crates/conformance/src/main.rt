@@ -17,6 +17,7 @@ mod keys;
 mod macs;
 mod made;
 mod messages;
+mod requirements;
 mod sets;
 mod setting;
 mod shapes;
@@ -34,7 +35,7 @@ use std::rt::Files;
 use std::{fs, io};
 
 /// The files, by their schema: those of rows/ but `commands`, which is for the program.
-const SCHEMAS: [&str; 18] = [
+const SCHEMAS: [&str; 19] = [
     "algorithms",
     "heads",
     "items",
@@ -53,6 +54,7 @@ const SCHEMAS: [&str; 18] = [
     "made",
     "claims",
     "tokens",
+    "requirements",
 ];
 
 /// How many tests were run, and how many of them differ.
@@ -83,6 +85,7 @@ fn run_test(alloc: Global, schema: &str, group: &Value, test: &Value) -> Result<
         "made" => made::run_test(alloc, group, test),
         "claims" => claims::run_test(alloc, group, test),
         "tokens" => tokens::run_test(alloc, group, test),
+        "requirements" => requirements::run_test(alloc, group, test),
         _ => Err(Difference::Setting),
     }
 }

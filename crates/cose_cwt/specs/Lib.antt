@@ -1,5 +1,6 @@
 pub mod Claims
 pub mod Confirmation
 pub mod Admission
+pub mod Requirements
 pub mod Token
 pub mod Laws

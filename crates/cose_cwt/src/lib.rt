@@ -49,6 +49,7 @@ mod claims;
 mod confirmation;
 pub mod laws;
 mod policy;
+mod requirements;
 mod token;
 
 pub use claims::Claims;
@@ -61,6 +62,7 @@ pub use cose_msg::{
     Verifier, Wanted,
 };
 pub use policy::{Audience, Policy};
+pub use requirements::{Claim, Requirement, Requirements, Unmet};
 pub use token::{CwtStop, verify_cwt};
 
 #[cfg(test)]

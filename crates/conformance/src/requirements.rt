@@ -1,0 +1,104 @@
+//! What is required of the claims of a payload.
+
+ghost use Rattle.std.specs.Prelude.{◌≤◌};
+
+use crate::fields::{Difference, Way, array, boolean, bytes, holds, integer, number, object, text};
+use cose_cwt::{Claim, Claims, Requirement, Requirements, Unmet};
+use serde_json::Value;
+use std::alloc::Global;
+
+/// The claim of a name.
+fn claim_named(name: &str) -> Option<Claim> {
+    match name {
+        "iss" => Some(Claim::Iss),
+        "sub" => Some(Claim::Sub),
+        "aud" => Some(Claim::Aud),
+        "exp" => Some(Claim::Exp),
+        "nbf" => Some(Claim::Nbf),
+        "iat" => Some(Claim::Iat),
+        "cti" => Some(Claim::Cti),
+        _ => None,
+    }
+}
+
+/// The claims of an array, by their names, as far as there is memory.
+fn claims_of(alloc: Global, group: &Value) -> Vec<Claim> {
+    let mut claims = Vec::new(alloc);
+    for name in array(group, "present") {
+        if let Some(claim) = name.as_str().and_then(claim_named) {
+            let _ = claims.push(claim);
+        }
+    }
+    claims
+}
+
+/// A text, where the field is there.
+fn optional_text<'v>(group: &'v Value, name: &str) -> Option<&'v str> {
+    group.get(name).and_then(Value::as_str)
+}
+
+/// A number of seconds, where the field is there.
+fn seconds(group: &Value, name: &str) -> Option<u64> {
+    let _field = group.get(name)?;
+    u64::try_from(number(group, name)).ok()
+}
+
+/// The requirements of a group.
+fn requirements<'v>(group: &'v Value, present: &'v [Claim]) -> Requirements<'v> {
+    Requirements {
+        now: i64::try_from(number(group, "now")).unwrap_or(0),
+        leeway: u32::try_from(integer(group, "leeway")).unwrap_or(0),
+        present,
+        iss: optional_text(group, "iss"),
+        sub: optional_text(group, "sub"),
+        aud: optional_text(group, "aud"),
+        lifetime: seconds(group, "lifetime"),
+        age: seconds(group, "age"),
+        issued: boolean(group, "issued").unwrap_or(false),
+    }
+}
+
+/// The requirement of a result.
+fn requirement(expected: &Value) -> Option<Requirement> {
+    match text(expected, "requirement") {
+        "Present" => Some(Requirement::Present(claim_named(text(expected, "claim"))?)),
+        "Issuer" => Some(Requirement::Issuer),
+        "Subject" => Some(Requirement::Subject),
+        "Audience" => Some(Requirement::Audience),
+        "Lifetime" => Some(Requirement::Lifetime),
+        "Age" => Some(Requirement::Age),
+        "Issued" => Some(Requirement::Issued),
+        _ => None,
+    }
+}
+
+/// Whether this is the expected result.
+fn is_expected(seen: Result<(), Unmet>, expected: &Value) -> bool {
+    match (text(expected, "verdict"), seen) {
+        ("met", Ok(())) => true,
+        ("unmet", Err(unmet)) => {
+            requirement(expected) == Some(unmet.requirement)
+                && integer(expected, "place") == unmet.place
+        }
+        _ => false,
+    }
+}
+
+/// Runs a test.
+pub fn run_test(alloc: Global, group: &Value, test: &Value) -> Result<(), Difference> {
+    let payload = bytes(alloc, test, "payload");
+    let nesting = integer(group, "nesting");
+    if nesting > 32 {
+        return Err(Difference::Setting);
+    }
+    let present = claims_of(alloc, group);
+    let requirements = requirements(group, present.as_slice());
+    let Ok(claims) = Claims::read(payload.as_slice(), nesting as usize) else {
+        return Err(Difference::Setting);
+    };
+    let expected = object(test, "result");
+    holds(
+        is_expected(claims.meets(&requirements), expected),
+        Way::Slice,
+    )
+}
