@@ -1,6 +1,6 @@
 -- From a run of the verifier to the result for a token.
 use Rattle.std.proofs.Common.{◌≡◌, ◌∙◌, ℕ, ◌≤◌, Bool, true, false, List, [], ◌++◌, length, Option, Some, None, Ok, Err, refl, sym, ap, subst}
-use Rattle.std.specs.Prelude.{Result}
+use Rattle.std.specs.Prelude.{Result, ◌↔◌}
 use Rattle.std.proofs.lemmas.List.{append-nil}
 use Rattle.cose_head.specs.declared.refusal.Refusal.{Refusal}
 use Rattle.cose_map.specs.Laws.Inside.{RefusedBy}
@@ -15,11 +15,12 @@ use Rattle.cose_msg.specs.Message.{Decides, Setting, verifying}
 use Rattle.cose_msg.specs.Reading.{Reading}
 use Rattle.cose_msg.specs.Answer.{decided}
 use Rattle.cose_msg.specs.Rules.{Rules}
-use Rattle.cose_msg.specs.Run.{Run, is_intake_stop, is_sink_stop, stops_for_sink}
+use Rattle.cose_msg.specs.Run.{Run, is_intake_stop, is_sink_stop, stop_in as stop_of, stops_for_sink}
+use Rattle.cose_cwt.specs.declared.token.CwtStop.{CwtStop}
 use Rattle.cose_cwt.specs.declared.token.CwtStop.TheVariants as stops
 use Rattle.cose_cwt.specs.Admission.{PolicyValue, admitted_claims}
 use Rattle.cose_cwt.specs.Claims.{ClaimsValue}
-use Rattle.cose_cwt.specs.Token.{IsToken, Outcome, UnlessStopped, is_for_intake, is_for_store, of_claims, read_as, stop_in, token_of}
+use Rattle.cose_cwt.specs.Token.{IsToken, Outcome, UnlessStopped, is_for_intake, is_for_store, of_claims, read_as, refusal_in, stop_in, token_of}
 
 -- the contents of a store before and after, where they are known
 pub with_contents : (rules : Rules) (come come_after contents contents_after : Option (List ℕ)) (ended : Bool) (verdict : Result Verdict Stop) (taken payload : List ℕ) →
@@ -119,3 +120,36 @@ pub kept_is_no_failure : (depth : ℕ) (policy : PolicyValue) (payload : List �
 kept_is_no_failure depth policy payload stopped known verdict answer outcome comes kept same =
     let all : outcome ≡ token_of depth policy answer payload = comes ∙ ap (λ (a : Result Verdict Stop). token_of depth policy a payload) same in
     subst (λ (o : Outcome). (is_for_intake (stop_in o) ≡ false) × (is_for_store (stop_in o) ≡ false)) (sym all) (no_failure depth policy payload stopped known answer kept)
+
+-- The outcome of which this is the refusal.
+pub refusal_is : (outcome : Outcome) (stop told : CwtStop) → refusal_in outcome ≡ Some stop → told ≡ stop → Err told ≡ outcome
+refusal_is (Ok claims) stop told found same = absurd cc
+refusal_is (Err other) stop told found same = cc
+
+-- A kept answer comes with nothing in the store, which was cleared.
+pub answers_again : (depth : ℕ) (policy : PolicyValue) (verdict answer : Result Verdict Stop) (payload : List ℕ) (outcome : Outcome) →
+    outcome ≡ token_of depth policy verdict payload → verdict ≡ answer → payload ≡ [] → outcome ≡ token_of depth policy answer []
+answers_again depth policy verdict answer payload outcome comes same none =
+    comes ∙ ap (λ (v : Result Verdict Stop). token_of depth policy v payload) same ∙ ap (token_of depth policy answer) none
+
+pub nothing_held : {S : Type 0} (contents : S → Option (List ℕ)) (before after : S) (payload : List ℕ) →
+    contents before ≡ Some [] → after ≡ before → contents after ≡ Some payload → payload ≡ []
+nothing_held {S} contents before after payload empty same held =
+    let e : Some payload ≡ Some [] = sym held ∙ ap contents same ∙ empty in cc
+
+-- The token stops for what the verifier stops for.
+token_stop : (depth : ℕ) (policy : PolicyValue) (verdict : Result Verdict Stop) (payload : List ℕ) → stop_in (token_of depth policy verdict payload) ≡ stop_of verdict
+token_stop depth policy (Ok (Authentic kind alg length taken)) payload = no_stop (admitted_claims depth policy payload)
+token_stop depth policy (Ok (Refused refusal)) payload = refl
+token_stop depth policy (Err stop) payload = refl
+
+stops_for : (verdict : Result Verdict Stop) (stop : Stop) → stop_of verdict ≡ Some stop → verdict ≡ Err stop
+stops_for (Ok verdict) stop e = absurd cc
+stops_for (Err other) stop e = cc
+
+pub stopped_before : {P : Type 0} (depth : ℕ) (policy : PolicyValue) (verdict : Result Verdict Stop) (payload : List ℕ) (outcome : Outcome) → outcome ≡ token_of depth policy verdict payload →
+    ((verdict ≡ Err Again) ↔ P) → ((outcome ≡ Err (stops.Stopped Again)) ↔ P)
+stopped_before {P} depth policy verdict payload outcome comes before = (
+  λ e. before.0 (stops_for verdict Again (sym (token_stop depth policy verdict payload) ∙ sym (ap stop_in comes) ∙ ap stop_in e)),
+  λ p. comes ∙ ap (λ (v : Result Verdict Stop). token_of depth policy v payload) (before.1 p),
+)

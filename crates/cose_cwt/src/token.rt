@@ -13,14 +13,14 @@ ghost use Rattle.cose_cwt.specs.declared.token.CwtStop.{CwtStop};
 ghost use Rattle.cose_cwt.specs.Admission.{admitted_claims as admitted_claims_of};
 ghost use Rattle.cose_cwt.specs.Admission.View.{policy_value};
 ghost use Rattle.cose_cwt.specs.Claims.View.{claims_value};
-ghost use Rattle.cose_cwt.specs.Token.{IsRun, IsToken, UnlessStopped, claims_seen, is_for_intake, is_for_store, stop_in, token_of};
+ghost use Rattle.cose_cwt.specs.Token.{IsRun, IsToken, UnlessStopped, claims_seen, is_for_intake, is_for_store, refusal_in, stop_in, token_of};
 
 use crate::claims::Claims;
 use crate::laws::claims_refusals_stand_inside;
 use crate::policy::Policy;
 use cose_map::{Keys, Refusal};
 use cose_msg::laws::settled_stays;
-use cose_msg::{EcVerifier, Intake, Stop, Store, Verdict, Verifier, verify};
+use cose_msg::{EcVerifier, Intake, Sink, Stop, Store, Verdict, Verifier, verify};
 
 /// Why [`verify_cwt`] returns no claims.
 #[derive(Clone, Copy, Debug, PartialEq, Eq)]
@@ -68,11 +68,34 @@ fn claims_after<'a>(
     }
 }
 
+/// Why there are no claims, if there are none.
+fn stop_after(
+    verdict: Result<Verdict, Stop>,
+    payload: &[u8],
+    depth: usize,
+    policy: &Policy<'_>,
+) -> Option<CwtStop>
+    requires { depth ≤ 32 }
+    ensures { result
+        ≡ refusal_in (token_of depth (policy_value policy.entry.now) verdict payload.now) }
+{
+    claims_after(verdict, payload, depth, policy).err()
+}
+
+/// Clears a store where there are no claims, so that nothing of a refused payload is left in it.
+fn cleared<const L: usize>(store: &mut Store<L>, stop: CwtStop) -> CwtStop
+    ensures stop { result ≡ stop }
+    ensures empty { ⟦<Store<L> as Sink>⟧.contents store.new ≡ Some [] }
+{
+    Store::clear(store);
+    stop
+}
+
 /// Verifies one token, and returns its claims where the message is authentic and the claims are admitted.
 ///
 /// The call resets the store, and the payload goes into it. The claims borrow the store, and are read only after the
 /// message is known to be authentic, so no claim of another message is ever returned. After a refusal or a stop the
-/// store may hold the payload of the refused message, or a part of it: [`Store::clear`] drops it.
+/// store holds nothing.
 ///
 /// The verifier isn't one that [`Verifier::inspecting`] or [`Verifier::detached`] made, and must have taken nothing yet.
 /// Its context must allow the CWT tag, and no payload that the store can't hold. After a verdict or a stop the verifier
@@ -147,5 +170,8 @@ pub fn verify_cwt<
     let _none = verifier.taken();
     store.clear();
     let verdict = verify::<C, H, D, K, I, Store<L>, E>(verifier, intake, store, ec);
+    if let Some(stop) = stop_after(verdict, store.bytes(), D, policy) {
+        return Err(cleared(store, stop));
+    }
     claims_after(verdict, store.bytes(), D, policy)
 }

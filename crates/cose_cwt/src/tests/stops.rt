@@ -1,6 +1,6 @@
 //! Intakes that fail, verdicts that are kept, and a store that failed before.
 
-use crate::tests::{CLAIMS, JEFE, TOKEN, at, context, equal, refusal};
+use crate::tests::{JEFE, TOKEN, at, context, equal, refusal};
 use crate::{CwtStop, verify_cwt};
 use cose_map::Reason;
 use cose_msg::{KeySet, Never, ReadIntake, Sink, SliceIntake, Stop, Store, Verifier};
@@ -109,30 +109,56 @@ fn answers_a_kept_refusal_again(rt: HostRuntime) -> Result<(), Fail> {
     Ok(())
 }
 
-#[test]
-fn may_hold_a_refused_payload(rt: HostRuntime) -> Result<(), Fail> {
-    let keys = KeySet::read(JEFE)?;
+/// What is left in a store that is full of other bytes, after these bytes stop or are refused so.
+fn leaves(rt: &impl Abort, keys: KeySet<'_>, bytes: &[u8], now: i64, stop: CwtStop) {
     let mut verifier: Verifier<64, 4> = Verifier::new(context(keys));
+    let mut intake = SliceIntake::new(bytes, 64);
+    let mut store: Store<4096> = Store::new();
+    let _ = store.put(&[0; 4096]);
+    let token = verify_cwt::<64, 64, 4, 4096, _, SliceIntake, Never>(
+        &mut verifier,
+        &mut intake,
+        &mut store,
+        &Never,
+        &at(now, 0),
+    );
+    equal(rt, token.err(), Some(stop));
+    equal(rt, store.bytes(), b"".as_slice());
+}
+
+#[test]
+fn holds_no_refused_payload(rt: HostRuntime) -> Result<(), Fail> {
+    let keys = KeySet::read(JEFE)?;
     let (front, tag) = TOKEN.split_at(91);
     equal(&rt, tag.len(), 32);
     let mut changed = [0; 123];
     changed[..91].copy_from_slice(front);
-    let mut intake = SliceIntake::new(&changed, 64);
+    let bad_auth = CwtStop::Message(refusal(Reason::BadAuth, 89));
+    leaves(&rt, keys, &changed, 1_444_064_943, bad_auth);
+    let truncated = CwtStop::Message(refusal(Reason::Truncated, 91));
+    leaves(&rt, keys, front, 1_444_064_943, truncated);
+    let expired = CwtStop::Claims(refusal(Reason::Expired, 59));
+    leaves(&rt, keys, TOKEN, 1_444_064_944, expired);
+    Ok(())
+}
+
+/// The payload has come whole when the reader fails, at the tag.
+#[test]
+fn holds_nothing_after_a_failure(rt: HostRuntime) -> Result<(), Fail> {
+    let mut verifier: Verifier<64, 4> = Verifier::new(context(KeySet::read(JEFE)?));
+    let mut intake = ReadIntake::new(FailingReader {
+        reads: 0,
+        fails_at: 100,
+    });
     let mut store: Store<4096> = Store::new();
-    let token = verify_cwt::<64, 64, 4, 4096, _, SliceIntake, Never>(
+    let token = verify_cwt::<64, 64, 4, 4096, _, ReadIntake<FailingReader>, Never>(
         &mut verifier,
         &mut intake,
         &mut store,
         &Never,
         &at(1_444_064_943, 0),
     );
-    equal(
-        &rt,
-        token.err(),
-        Some(CwtStop::Message(refusal(Reason::BadAuth, 89))),
-    );
-    equal(&rt, store.bytes(), CLAIMS);
-    store.clear();
+    equal(&rt, token.err(), Some(CwtStop::Stopped(Stop::Intake)));
     equal(&rt, store.bytes(), b"".as_slice());
     Ok(())
 }
