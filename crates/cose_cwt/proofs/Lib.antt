@@ -1,4 +1,5 @@
 pub mod Tokens
+pub mod RequiredTokens
 pub mod Inside
 pub mod Trees
 pub mod FirstUnmet

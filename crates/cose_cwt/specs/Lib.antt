@@ -3,4 +3,5 @@ pub mod Confirmation
 pub mod Admission
 pub mod Requirements
 pub mod Token
+pub mod Required
 pub mod Laws

@@ -49,6 +49,7 @@ mod claims;
 mod confirmation;
 pub mod laws;
 mod policy;
+mod required;
 mod requirements;
 mod token;
 
@@ -58,10 +59,11 @@ pub use claims::known::Known;
 pub use confirmation::Cnf;
 pub use cose_map::{Key, KeySet, Label, Material, Ops, Reason, Refusal, Y};
 pub use cose_msg::{
-    Context, EcVerifier, Intake, IntakeFault, Never, ReadIntake, SliceIntake, Stop, Store,
-    Verifier, Wanted,
+    Alg, Context, EcVerifier, Intake, IntakeFault, Kind, Never, ReadIntake, SliceIntake, Stop,
+    Store, Verifier, Wanted,
 };
 pub use policy::{Audience, Policy};
+pub use required::{Token, TokenStop, verify_token};
 pub use requirements::{Claim, Requirement, Requirements, Unmet};
 pub use token::{CwtStop, verify_cwt};
 

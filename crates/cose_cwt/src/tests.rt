@@ -5,6 +5,7 @@ mod confirmation;
 mod debug;
 mod examples;
 mod messages;
+mod required;
 mod stops;
 
 ghost use Rattle.std.specs.Prelude.{◌≡◌, ◌≤◌, length, true};

@@ -34,7 +34,7 @@ pub enum CwtStop {
 }
 
 /// The claims of a payload, if they are admitted.
-fn admitted_claims<'a>(
+pub(crate) fn admitted_claims<'a>(
     payload: &'a [u8],
     depth: usize,
     policy: &Policy<'_>,

@@ -1,0 +1,60 @@
+-- The result for a token of which something is required: its claims, the kind of its message and the algorithm.
+use Rattle.std.specs.Prelude.{◌≡◌, ℕ, Bool, List, Option, Some, None, Result, Ok, Err}
+use Rattle.cose_head.specs.declared.algorithm.Alg.{Alg}
+use Rattle.cose_head.specs.declared.kind.Kind.{Kind}
+use Rattle.cose_msg.specs.declared.verdict.Stop.{Stop}
+use Rattle.cose_msg.specs.declared.verdict.Verdict.{Verdict}
+use Rattle.cose_msg.specs.declared.verdict.Verdict.TheVariants.{Authentic, Refused}
+use Rattle.cose_msg.specs.declared.verifier.Verifier.{Verifier}
+use Rattle.cose_msg.specs.Message.{Decides, Setting}
+use Rattle.cose_cwt.specs.declared.required.Token.{Token}
+use Rattle.cose_cwt.specs.declared.required.TokenStop.{TokenStop}
+use Rattle.cose_cwt.specs.declared.required.TokenStop.TheVariants as stops
+use Rattle.cose_cwt.specs.declared.requirements.Unmet.{Unmet}
+use Rattle.cose_cwt.specs.declared.token.CwtStop.TheVariants as cwt_stops
+use Rattle.cose_cwt.specs.Admission.{PolicyValue, admitted_claims}
+use Rattle.cose_cwt.specs.Claims.{ClaimsValue}
+use Rattle.cose_cwt.specs.Claims.View.{claims_value}
+use Rattle.cose_cwt.specs.Requirements.{RequirementsValue, met}
+use Rattle.cose_cwt.specs.Token.{IsRun, Outcome, of_claims}
+
+pub record TokenValue : Type 0 where
+  pub claims : ClaimsValue
+  pub kind : Kind
+  pub alg : Alg
+
+abbrev pub Required : Type 0
+Required = Result TokenValue TokenStop
+
+abbrev pub token_value : Token → TokenValue
+token_value token = record { claims = claims_value token.claims; kind = token.kind; alg = token.alg }
+
+abbrev pub token_seen : Result Token TokenStop → Required
+token_seen (Ok token) = Ok (token_value token)
+token_seen (Err stop) = Err stop
+
+-- Admitted claims that meet the requirements.
+abbrev pub if_met : TokenValue → Result (Unit {0}) Unmet → Required
+if_met token (Ok done) = Ok token
+if_met token (Err unmet) = Err (stops.Unmet unmet)
+
+abbrev pub if_admitted : RequirementsValue → Kind → Alg → Outcome → Required
+if_admitted requirements kind alg (Ok claims) = if_met (record { claims = claims; kind = kind; alg = alg }) (met requirements claims)
+if_admitted requirements kind alg (Err stop) = Err (stops.Cwt stop)
+
+-- The token of an authentic message, by its kind and algorithm, if its claims are admitted and meet the requirements.
+abbrev pub required_of : ℕ → PolicyValue → RequirementsValue → Result Verdict Stop → List ℕ → Required
+required_of depth policy requirements (Ok (Authentic kind alg length taken)) payload = if_admitted requirements kind alg (of_claims (admitted_claims depth policy payload))
+required_of depth policy requirements (Ok (Refused refusal)) payload = Err (stops.Cwt (cwt_stops.Message refusal))
+required_of depth policy requirements (Err stop) payload = Err (stops.Cwt (cwt_stops.Stopped stop))
+
+-- Why there is no token, if there is none.
+abbrev pub stop_of : Required → Option TokenStop
+stop_of (Ok token) = None
+stop_of (Err stop) = Some stop
+
+-- The effect of a call: that of `verify_cwt`, with an outcome of its own, and the token by the same verdict and payload.
+pub record IsRequiredRun {H D : ℕ} {S : Type 0} {K : _} (setting : Setting) (decides : Decides) (policy : PolicyValue) (requirements : RequirementsValue) (come come_after : Option (List ℕ)) (ended : Bool) (v : Verifier H D S K) (outcome : Required) : Type 0 where
+  pub cwt : Outcome
+  pub run : IsRun setting decides policy come come_after ended v cwt
+  pub comes : outcome ≡ required_of D policy requirements run.verdict run.payload

@@ -1,0 +1,154 @@
+//! A token of which something is required, from its bytes to its claims, the kind of its message and the algorithm.
+
+ghost use Rattle.std.specs.Prelude.{◌≡◌, ◌≤◌, ℕ, true, false, List, [], Some, Result};
+ghost use Rattle.cose_msg.specs.declared.verdict.Stop.{Stop};
+ghost use Rattle.cose_msg.specs.declared.verdict.Verdict.{Verdict};
+ghost use Rattle.cose_msg.specs.Kept.{HasTaken, bytes_taken, is_inspecting, kept_answer};
+ghost use Rattle.cose_msg.specs.Message.{Setting};
+ghost use Rattle.cose_msg.specs.Task.{to_verify};
+ghost use Rattle.cose_msg.specs.Verifier.{is_detached, setting_in};
+ghost use Rattle.cose_cwt.specs.Admission.{admitted_claims as admitted_claims_of};
+ghost use Rattle.cose_cwt.specs.Admission.View.{policy_value};
+ghost use Rattle.cose_cwt.specs.Requirements.View.{requirements_value};
+ghost use Rattle.cose_cwt.specs.Required.{IsRequiredRun, if_admitted, required_of, stop_of, token_seen};
+ghost use Rattle.cose_cwt.specs.Token.{of_claims};
+
+use crate::claims::Claims;
+use crate::laws::claims_refusals_stand_inside;
+use crate::policy::Policy;
+use crate::requirements::{Requirements, Unmet};
+use crate::token::{CwtStop, admitted_claims};
+use cose_map::Keys;
+use cose_msg::{Alg, EcVerifier, Intake, Kind, Stop, Store, Verdict, Verifier, verify};
+
+/// A token that is admitted, and meets what the caller requires of it.
+#[derive(Clone, Copy, Debug)]
+pub struct Token<'a> {
+    /// The claims.
+    pub claims: Claims<'a>,
+    /// The kind of the message.
+    pub kind: Kind,
+    /// The algorithm that authenticates the message.
+    pub alg: Alg,
+}
+
+/// Why [`verify_token`] returns no token.
+#[derive(Clone, Copy, Debug, PartialEq, Eq)]
+pub enum TokenStop {
+    /// No claims are admitted, as [`verify_cwt`](crate::verify_cwt) says it.
+    Cwt(CwtStop),
+    /// The message is authentic and its claims are admitted, and a requirement isn't met.
+    Unmet(Unmet),
+}
+
+/// The token of an authentic payload, if it is admitted and meets the requirements.
+fn authentic_token<'a>(
+    kind: Kind,
+    alg: Alg,
+    payload: &'a [u8],
+    depth: usize,
+    policy: &Policy<'_>,
+    requirements: &Requirements<'_>,
+) -> Result<Token<'a>, TokenStop>
+    requires { depth ≤ 32 }
+    ensures { token_seen result ≡ if_admitted (requirements_value requirements.entry.now) kind alg
+        (of_claims (admitted_claims_of depth (policy_value policy.entry.now) payload.entry.now)) }
+{
+    match admitted_claims(payload, depth, policy) {
+        Ok(claims) => match claims.meets(requirements) {
+            Ok(()) => Ok(Token { claims, kind, alg }),
+            Err(unmet) => Err(TokenStop::Unmet(unmet)),
+        },
+        Err(refusal) => Err(TokenStop::Cwt(CwtStop::Claims(refusal))),
+    }
+}
+
+/// The result for a token, by the verdict on the message and its payload.
+fn token_after<'a>(
+    verdict: Result<Verdict, Stop>,
+    payload: &'a [u8],
+    depth: usize,
+    policy: &Policy<'_>,
+    requirements: &Requirements<'_>,
+) -> Result<Token<'a>, TokenStop>
+    requires { depth ≤ 32 }
+    ensures { token_seen result ≡ required_of depth (policy_value policy.entry.now)
+        (requirements_value requirements.entry.now) verdict payload.entry.now }
+{
+    match verdict {
+        Ok(Verdict::Authentic { kind, alg, .. }) => {
+            authentic_token(kind, alg, payload, depth, policy, requirements)
+        }
+        Ok(Verdict::Refused(refusal)) => Err(TokenStop::Cwt(CwtStop::Message(refusal))),
+        Err(stop) => Err(TokenStop::Cwt(CwtStop::Stopped(stop))),
+    }
+}
+
+/// Why there is no token, if there is none.
+fn stop_after(
+    verdict: Result<Verdict, Stop>,
+    payload: &[u8],
+    depth: usize,
+    policy: &Policy<'_>,
+    requirements: &Requirements<'_>,
+) -> Option<TokenStop>
+    requires { depth ≤ 32 }
+    ensures { result ≡ stop_of (required_of depth (policy_value policy.entry.now)
+        (requirements_value requirements.entry.now) verdict payload.now) }
+{
+    token_after(verdict, payload, depth, policy, requirements).err()
+}
+
+/// Verifies one token as [`verify_cwt`](crate::verify_cwt) does, and returns it where its claims meet the requirements
+/// too, with the kind of its message and the algorithm. After a refusal or a stop the store holds nothing.
+pub fn verify_token<
+    'a,
+    'k,
+    const C: usize,
+    const H: usize,
+    const D: usize,
+    const L: usize,
+    K: Keys<'k>,
+    I: Intake,
+    E: EcVerifier,
+>(
+    verifier: &mut Verifier<'k, H, D, K>,
+    intake: &mut I,
+    store: &'a mut Store<L>,
+    ec: &E,
+    policy: &Policy<'_>,
+    requirements: &Requirements<'_>,
+) -> Result<Token<'a>, TokenStop>
+    requires some { 1 ≤ C }
+    requires limit { C ≤ 65536 }
+    requires nesting { D ≤ 32 }
+    requires some_store { 16 ≤ L }
+    requires store_limit { L ≤ 65535 }
+    requires verifies { is_inspecting verifier.old ≡ false }
+    requires attached { is_detached verifier.old ≡ false }
+    requires none_taken { bytes_taken verifier.old ≡ 0 }
+    requires cwt { (setting_in verifier.old).cwt ≡ true }
+    requires payload_limit { (setting_in verifier.old).payload_limit ≤ L }
+    // What `verify_cwt` does and says of it, and the token by the same verdict and payload.
+    ensures run { (setting : Setting) → HasTaken (to_verify setting) [] [] verifier.old →
+        IsRequiredRun setting (E.decides ec.now) (policy_value policy.entry.now)
+        (requirements_value requirements.entry.now) (I.to_come intake.old) (I.to_come intake.new)
+        (I.ended intake.new) verifier.new (token_seen result) }
+    // A verdict or stop that was kept is answered again.
+    ensures again { (answer : Result Verdict Stop) → kept_answer verifier.old ≡ Some answer →
+        (token_seen result ≡ required_of D (policy_value policy.entry.now)
+        (requirements_value requirements.entry.now) answer [])
+        × (verifier.new ≡ verifier.old) × (intake.new ≡ intake.old) }
+    ensures inspects { is_inspecting verifier.new ≡ false }
+    ensures attached { is_detached verifier.new ≡ false }
+{
+    // Laws that the proof cites: the places of refusals of claims.
+    claims_refusals_stand_inside();
+    store.clear();
+    let verdict = verify::<C, H, D, K, I, Store<L>, E>(verifier, intake, store, ec);
+    if let Some(stop) = stop_after(verdict, store.bytes(), D, policy, requirements) {
+        store.clear();
+        return Err(stop);
+    }
+    token_after(verdict, store.bytes(), D, policy, requirements)
+}
