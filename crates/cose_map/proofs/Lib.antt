@@ -4,4 +4,5 @@ pub mod WorkedBuckets
 pub mod WorkedKeys
 pub mod WorkedTables
 pub mod WorkedChoice
+pub mod WorkedRestrictions
 mod WorkedReasons

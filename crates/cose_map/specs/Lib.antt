@@ -6,3 +6,4 @@ pub mod KeySet
 pub mod KeyTable
 pub mod Choice
 pub mod Laws
+pub mod Restrictions

@@ -2,6 +2,7 @@
 
 ghost use Rattle.std.specs.Prelude.{◌≤◌};
 
+mod restricted;
 mod slot;
 
 use crate::choice::fitting::Fitting;

@@ -58,6 +58,7 @@ mod keys;
 mod label;
 pub mod laws;
 mod map;
+mod restrictions;
 
 pub use bucket::both::check_pair;
 pub use bucket::{Bucket, header};
@@ -74,3 +75,4 @@ pub use map::first::first_value;
 pub use map::form::Form;
 pub use map::pairs::Pairs;
 pub use map::read::{check_map, read_map, refused};
+pub use restrictions::Restrictions;

@@ -8,7 +8,8 @@ ghost use Rattle.cose_msg.specs.Sink.{Puts};
 #[derive(Clone, Copy, Debug, PartialEq, Eq)]
 pub struct SinkFault;
 
-/// Where the payload goes, piece by piece, before the verdict is known.
+/// Where the payload goes, piece by piece, before the verdict is known. After a refusal or a stop it has what came of a
+/// payload that isn't known to be authentic, and its owner drops that.
 ///
 /// A contract sees what the sink holds, where the sink makes that known to it, whether the sink has failed, and how
 /// many bytes it is sure to take.

@@ -9,7 +9,9 @@ ghost use Rattle.cose_msg.specs.Store.{room_left};
 use crate::sink::{Sink, SinkFault};
 use arrayvec::ArrayVec;
 
-/// Holds up to `L` bytes. A piece that doesn't fit fails, and so does each after it; neither is kept.
+/// Holds up to `L` bytes. A piece that doesn't fit fails, and so does each after it; neither is kept. After a refusal by
+/// [`verify`](crate::verify), or a stop, it holds what came of a payload that isn't known to be authentic:
+/// [`Store::clear`] drops it.
 #[derive(Drop)]
 pub struct Store<const L: usize> {
     failed: bool,

@@ -1,0 +1,14 @@
+-- The keys that are kept, and the allowed ones among the items that are left, are those of the set.
+use Rattle.std.proofs.Common.{◌≡◌, ◌++◌, map, Ok}
+use Rattle.std.specs.Prelude.{filter_map}
+use Rattle.cose_map.specs.KeySet.Items.{key_items_left}
+use Rattle.cose_map.specs.KeySet.{keys_of, usable}
+use Rattle.cose_map.specs.KeyTable.{slot_value}
+use Rattle.cose_map.specs.Restrictions.{allowed_in, allowed_of}
+use Rattle.cose_map.specs.Restrictions.View.{restrictions_value}
+use Rattle.cose_map.proofs.key_table.KeyTable.read_restricted.Given as goal
+
+abbrev pub invariant-loop-item : goal.invariant-loop-item
+invariant-loop-item g l =
+    Ok (map slot_value l.slots.items ++ allowed_of (restrictions_value l.restrictions) (filter_map usable (key_items_left l.item-iterator)))
+    ≡ allowed_in (restrictions_value l.restrictions) (keys_of l.fn.bytes)
