@@ -1,9 +1,11 @@
 //! The choice of a key, in a key set, in a table of its keys and in a reference to one.
 
-use crate::fields::{Difference, Way, bytes, holds, integer, object, optional_bytes, text};
+use crate::fields::{
+    Difference, Way, array, bytes, holds, integer, object, optional_bytes, optional_integer, text,
+};
 use crate::keys::are_bytes;
 use crate::setting::label;
-use cose_map::{Key, KeySet, KeyTable, Keys, Kind, Label, Material, Query};
+use cose_map::{Key, KeySet, KeyTable, Keys, Kind, Label, Material, Query, Restrictions};
 use serde_json::Value;
 use std::alloc::Global;
 
@@ -52,6 +54,37 @@ fn is_chosen<'k, K: Keys<'k>>(
     holds(is_expected, Way::Slice)
 }
 
+/// The numbers of an array, as far as there is memory, where the field is there.
+fn optional_numbers(alloc: Global, group: &Value, name: &str) -> Option<Vec<i128>> {
+    let _field = group.get(name)?;
+    let mut numbers = Vec::new(alloc);
+    for value in array(group, name) {
+        if let Some(number) = value.as_i64() {
+            let _ = numbers.push(i128::from(number));
+        }
+    }
+    Some(numbers)
+}
+
+/// Whether the expected key is found in a table of the keys that a group allows.
+fn is_chosen_of_allowed(
+    alloc: Global,
+    keys: &[u8],
+    group: &Value,
+    query: &Query<'_>,
+    expected: &Value,
+) -> Result<(), Difference> {
+    let algorithms = optional_numbers(alloc, group, "algorithms");
+    let restrictions = Restrictions {
+        algorithms: algorithms.as_ref().map(Vec::as_slice),
+        least_secret: optional_integer(group, "leastSecret").unwrap_or(0) as usize,
+    };
+    match KeyTable::<256>::read_restricted(keys, &restrictions) {
+        Ok(table) => is_chosen(alloc, &table, query, expected),
+        Err(_) => Err(Difference::Setting),
+    }
+}
+
 /// Runs a test.
 pub fn run_test(alloc: Global, group: &Value, test: &Value) -> Result<(), Difference> {
     let keys = bytes(alloc, group, "keys");
@@ -66,6 +99,10 @@ pub fn run_test(alloc: Global, group: &Value, test: &Value) -> Result<(), Differ
         kid: kid.as_ref().map(Vec::as_slice),
     };
     let expected = object(test, "result");
+    is_chosen_of_allowed(alloc, keys, group, &query, expected)?;
+    if group.get("algorithms").is_some() || group.get("leastSecret").is_some() {
+        return Ok(());
+    }
     let (Ok(set), Ok(table)) = (KeySet::read(keys), KeyTable::<256>::read(keys)) else {
         return Err(Difference::Setting);
     };
