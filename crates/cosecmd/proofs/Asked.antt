@@ -1,5 +1,5 @@
 -- The job of some arguments prints what they ask for.
-use Rattle.std.proofs.Common.{◌≡◌, ℕ, ℤ, List, Option, Some, Bor, length, option_map, refl, subst, arith}
+use Rattle.std.proofs.Common.{◌≡◌, ℕ, ℤ, Bool, true, false, List, Option, Some, Bor, length, option_map, refl, subst, arith}
 use Rattle.std.proofs.Math.Seq.{take-length}
 use Rattle.std.proofs.lemmas.Bool.{le-ltb}
 use Rattle.cose_map.specs.Key.View.{contents}
@@ -12,13 +12,25 @@ use Rattle.cosecmd.specs.declared.request.Request.{Request}
 use Rattle.cosecmd.specs.declared.request.Request.TheVariants as asks
 use Rattle.cosecmd.specs.declared.request.Verify.{Verify as VerifyWords}
 use Rattle.cosecmd.specs.declared.job.FileJob.{FileJob}
-use Rattle.cosecmd.specs.Printed.{EndsWith, Output, printed}
+use Rattle.cosecmd.specs.Printed.{EndsWith, Fails, Output, printed}
 use Rattle.cosecmd.specs.Stated.{verified_from}
-use Rattle.cosecmd.specs.Words.{admitted_for, asked_for, digested_for, made_for, verified_for}
+use Rattle.cosecmd.specs.Words.{admitted_for, asked_for, digested_for, made_for, makes, verified_for}
 
 -- A run that ends with one output ends with an equal one.
 pub ends_with : {said asked : Output} (old new : Option (List ℕ)) (status : ℕ) → said ≡ asked → EndsWith said old new status → EndsWith asked old new status
 ends_with old new status e ends = subst (λ (output : Output). EndsWith output old new status) e ends
+
+-- What a run that ends with a fault leaves of one output it leaves of an equal one.
+pub fails_with : {said asked : Output} (old new : Option (List ℕ)) → said ≡ asked → Fails said old new → Fails asked old new
+fails_with old new e fails = subst (λ (output : Output). Fails output old new) e fails
+
+-- A message is made only by the command of this name.
+pub not_made : (request : Request) (A : Type 0) → (makes request ≡ true → A) → (A → ⊥) → makes request ≡ false
+not_made (asks.Make words) A by_name other = absurd (other (by_name refl))
+not_made (asks.Show wanted) A by_name other = refl
+not_made (asks.Verify words from) A by_name other = refl
+not_made (asks.Cwt words) A by_name other = refl
+not_made (asks.Digest words) A by_name other = refl
 
 pub verify_words : (words : VerifyWords) (keys aad : Bor (List ℕ)) (vouch payload : Option (Bor (List ℕ))) (detached : Option (List ℕ)) (bytes : List ℕ) →
     keys.now ≡ words.keys.items → aad.now ≡ words.aad.items → option_map contents vouch ≡ option_map (λ word. word.items) words.vouch → option_map contents payload ≡ detached →

@@ -1,5 +1,6 @@
 -- A request whose fields are the values of the options asks for what is printed for these options.
-use Rattle.std.proofs.Common.{◌≡◌, ◌∙◌, ℕ, List, Option, Some, None, ap, subst, sym, refl, option_map, codes}
+use Rattle.std.proofs.Common.{◌≡◌, ◌≢◌, ◌∙◌, false, ℕ, List, Option, Some, None, ap, subst, sym, refl, option_map, codes}
+use Rattle.std.specs.Prelude.{string_bytes}
 use Rattle.clap.specs.Matches.{subcommand_name_of}
 use Rattle.clap.specs.Simple.{subcommand_rows_of}
 use Rattle.clap.specs.Walk.{Text}
@@ -7,7 +8,7 @@ use Rattle.clap.specs.declared.parser.matches.ArgMatches.{ArgMatches}
 use Rattle.clap.specs.declared.parser.matches.ArgMatches.TheViews.{out-ArgMatches}
 use Rattle.cose_map.specs.Key.{key_of}
 use Rattle.cosecmd.specs.Admitted.{program_policy}
-use Rattle.cosecmd.specs.CommandLine.{IsFoundIn, IsReadFrom, command_prints, cwt_prints, digest_prints, line_prints, make_prints, matches_print, verify_prints}
+use Rattle.cosecmd.specs.CommandLine.{IsFoundIn, IsReadFrom, begins_as_answer, command_prints, cwt_prints, digest_prints, line_prints, make_prints, matches_print, verify_prints}
 use Rattle.cosecmd.specs.Fields.{CwtFields, DigestFields, MakeFields, VerifyFields}
 use Rattle.cosecmd.specs.Options.{Options, key_in, key_set_in, kind_in, payload_in, text_in}
 use Rattle.cosecmd.specs.Printed.{Output, admitted_under, digested_under, made_under, program_keys, verified_under}
@@ -16,8 +17,10 @@ use Rattle.cosecmd.specs.declared.request.Cwt.{Cwt}
 use Rattle.cosecmd.specs.declared.request.Digest.{Digest}
 use Rattle.cosecmd.specs.declared.request.Make.{Make}
 use Rattle.cosecmd.specs.declared.request.Verify.{Verify}
+use Rattle.cosecmd.specs.declared.reply.Reply.{Reply}
+use Rattle.cosecmd.specs.declared.reply.Status.TheVariants as statuses
 use Rattle.cosecmd.specs.declared.words.Parsed.{Parsed}
-use Rattle.cosecmd.specs.declared.words.Parsed.TheVariants.{Matches}
+use Rattle.cosecmd.specs.declared.words.Parsed.TheVariants.{Matches, Text as ClapText}
 
 pub verify_asks : (content : List ℕ → Option (List ℕ)) (options : Options) (words : Verify) (payload : Option (Option (List ℕ))) (bytes : List ℕ) (said : Output)
     → VerifyFields content options words → payload ≡ payload_in content options → verify_prints content options bytes ≡ Some said
@@ -115,3 +118,7 @@ command_asked content matches name options bytes said n o prints =
 -- What was parsed, where it is the options that clap found.
 pub found_in : (words : List Text) (parsed : Parsed) (matches : ArgMatches) → parsed ≡ Matches matches → IsReadFrom words parsed → IsFoundIn words matches
 found_in words parsed matches is read = subst (IsReadFrom words) is read
+
+-- And where it is a text of clap's.
+pub text_read : (words : List Text) (parsed : Parsed) (reply : Reply) → parsed ≡ ClapText reply → IsReadFrom words parsed → (reply.status ≢ statuses.Refused) × (begins_as_answer (string_bytes reply.text) ≡ false)
+text_read words parsed reply is read = subst (IsReadFrom words) is read

@@ -1,5 +1,5 @@
 -- A reply with the verdict of an input.
-use Rattle.std.proofs.Common.{◌≡◌, ℕ, ◌<◌, List, Option, Some, Result, Ok, ◌⊎◌, inl, inr, refl, sym, ap, subst, ◌∙◌, arith}
+use Rattle.std.proofs.Common.{◌≡◌, ◌≢◌, ℕ, ◌<◌, List, Option, Some, Result, Ok, ◌⊎◌, inl, inr, refl, sym, ap, subst, ◌∙◌, arith}
 use Rattle.std.specs.Prelude.{IfOk}
 use Rattle.std.specs.Io.KnownBytes.{Appends}
 use Rattle.cose_map.specs.Key.Value.{KeyValue}
@@ -13,7 +13,7 @@ use Rattle.cosecmd.specs.declared.reply.Status.TheVariants as statuses
 use Rattle.cosecmd.specs.declared.fault.Fault.{Fault}
 use Rattle.cosecmd.specs.declared.fault.Fault.TheVariants as faults
 use Rattle.cosecmd.specs.Faults.{WritesLine}
-use Rattle.cosecmd.specs.Printed.{Fails, Output, Prints, Says, WritesPart, code_of, input_answer, output_of, program_setting, said_of, verified_under, with_payload}
+use Rattle.cosecmd.specs.Printed.{EndsWith, Fails, Output, Prints, Says, WritesPart, code_of, input_answer, output_of, program_setting, said_of, verified_under, with_payload}
 use Rattle.cosecmd.specs.Vouch.{vouching}
 
 pub says_verified : {F : Type 0} (set : Read (List KeyValue)) (keys : List KeyValue) (aad : List ℕ) (wanted : Wanted) (vouch payload : Option (List ℕ)) (bytes : List ℕ) (verdict : Verdict) (reply : Result Reply F) →
@@ -44,6 +44,17 @@ part_fails old new text status said same_text same_status (inr (is, grown)) = in
 pub line_fails : (old new : Option (List ℕ)) (fault : Fault) (said : Output) → WritesLine fault old new ⊎ WritesLine faults.Memory old new → Fails said old new
 line_fails old new fault said (inl line) = inl (fault, line)
 line_fails old new fault said (inr line) = inl (faults.Memory, line)
+
+-- A text of clap's ends a run with status 0, or with a fault.
+pub ends_with_text : (old new : Option (List ℕ)) (text : List ℕ) (given status : Status) → given ≢ statuses.Refused → (status ≢ statuses.Fault → status ≡ given) → (status ≢ statuses.Fault → Appends old new text) →
+    EndsWith (record { text = text; status = statuses.Done }) old new (code_of status)
+ends_with_text old new text given statuses.Done other same written = λ well. (refl, written (λ e. absurd cc))
+ends_with_text old new text given statuses.Refused other same written = λ well. absurd (other (sym (same (λ e. absurd cc))))
+ends_with_text old new text given statuses.Fault other same written = λ well. absurd (omega (arith, well))
+
+pub some_line : (old new : Option (List ℕ)) (fault : Fault) → WritesLine fault old new ⊎ WritesLine faults.Memory old new → (fault : Fault) × WritesLine fault old new
+some_line old new fault (inl line) = (fault, line)
+some_line old new fault (inr line) = (faults.Memory, line)
 
 -- The fault of the arguments of `make` is the one that is printed, before which nothing was written.
 pub made_line : (old mid new : Option (List ℕ)) (made fault : Fault) (status : Status) → Some made ≡ Some fault → mid ≡ old → status ≡ statuses.Fault →

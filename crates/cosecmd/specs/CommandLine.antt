@@ -1,17 +1,21 @@
 -- What the program prints for the options of a command that clap found, and how it ends: where each argument is in order,
 -- and the bytes of the files that are named are known.
-use Rattle.std.specs.Prelude.{◌≡◌, ◌≢◌, ◌⊎◌, ℕ, List, Option, Some, None, codes, if◌then◌else◌}
+use Rattle.std.specs.Prelude.{◌≡◌, ◌≢◌, ◌⊎◌, ◌||◌, ℕ, Bool, false, List, length, take, Option, Some, None, codes, string_bytes, if◌then◌else◌}
 use Rattle.std.specs.Str.{bytes_eq}
 use Rattle.clap.specs.Built.{IsParsedFrom}
+use Rattle.clap.specs.Matches.{subcommand_name_of}
 use Rattle.clap.specs.Simple.{HasMatchesOf, app_of, subcommand_rows_of}
 use Rattle.clap.specs.Walk.{Text}
 use Rattle.clap.specs.declared.builder.command.Command.{Command}
 use Rattle.clap.specs.declared.parser.matches.ArgMatches.{ArgMatches}
 use Rattle.cose_map.specs.Key.{key_of}
+use Rattle.cose_msg.specs.Sink.{AppendsFront}
 use Rattle.cosecmd.specs.Admitted.{program_policy}
+use Rattle.cosecmd.specs.Faults.{WritesLine}
 use Rattle.cosecmd.specs.Options.{Options, algorithm_in, bytes_in, integer_in, key_in, key_set_in, kind_in, number_in, optional_bytes_in, payload_in, text_in}
-use Rattle.cosecmd.specs.Printed.{EndsWith, Output, admitted_under, digested_under, made_under, program_keys, shown, verified_under}
+use Rattle.cosecmd.specs.Printed.{EndsWith, Fails, Output, admitted_under, digested_under, made_under, program_keys, shown, verified_under}
 use Rattle.cosecmd.specs.Words.{asked_for, payload_for}
+use Rattle.cosecmd.specs.declared.fault.Fault.{Fault}
 use Rattle.cosecmd.specs.declared.reply.Status.TheVariants as statuses
 use Rattle.cosecmd.specs.declared.request.Request.{Request}
 use Rattle.cosecmd.specs.declared.words.Parsed.{Parsed}
@@ -80,14 +84,32 @@ AsksFor content request bytes said = (payload : Option (List ℕ)) × (payload_f
 abbrev pub IsFoundIn : List Text → ArgMatches → Type 0
 IsFoundIn words matches = (command : Command) × IsParsedFrom command matches × HasMatchesOf (app_of command) words matches
 
+abbrev pub begins_with : Text → Text → Bool
+begins_with word text = bytes_eq word (take (length word) text)
+
+-- An answer begins with one of these words. No text of clap's does.
+abbrev pub begins_as_answer : Text → Bool
+begins_as_answer text =
+    begins_with (codes "authentic ") text || begins_with (codes "refused ") text || begins_with (codes "admitted") text || begins_with (codes "shape ") text || begins_with (codes "vouch ") text
+
 -- A text of clap's is help or the version, or says what is wrong with the arguments.
 abbrev pub IsReadFrom : List Text → Parsed → Type 0
 IsReadFrom words (Matches matches) = IsFoundIn words matches
-IsReadFrom words (Reply reply) = reply.status ≢ statuses.Refused
+IsReadFrom words (Reply reply) = (reply.status ≢ statuses.Refused) × (begins_as_answer (string_bytes reply.text) ≡ false)
 
 -- A run with these arguments that ends with this status: unless there is a fault, it printed a text of clap's and ended with
 -- status 0, or it printed what is printed for what clap found, and ended with its status.
 abbrev pub Answers : (List ℕ → Option (List ℕ)) → List Text → List ℕ → Option (List ℕ) → Option (List ℕ) → ℕ → Type 0
 Answers content words bytes old new status =
-    ((text : Text) × EndsWith (record { text = text; status = statuses.Done }) old new status)
+    ((text : Text) × (begins_as_answer text ≡ false) × EndsWith (record { text = text; status = statuses.Done }) old new status)
     ⊎ ((matches : ArgMatches) × IsFoundIn words matches × ((said : Output) → matches_print content matches bytes ≡ Some said → EndsWith said old new status))
+
+-- What a run with these arguments has written that ends with status 2: the line of a fault, or a text of clap's, or, for
+-- what clap found, a fault's line or a part of what is printed for it. Any of them may be cut short where the output fails.
+-- `make` may have begun its message.
+abbrev pub FailsOn : (List ℕ → Option (List ℕ)) → List Text → List ℕ → Option (List ℕ) → Option (List ℕ) → Type 0
+FailsOn content words bytes old new =
+    ((fault : Fault) × WritesLine fault old new)
+    ⊎ (((text : Text) × (begins_as_answer text ≡ false) × AppendsFront old new text)
+    ⊎ ((matches : ArgMatches) × IsFoundIn words matches
+    × ((said : Output) → matches_print content matches bytes ≡ Some said → subcommand_name_of matches ≢ Some (codes "make") → Fails said old new)))

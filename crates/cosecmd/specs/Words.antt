@@ -1,5 +1,5 @@
 -- What is printed for the arguments of a command, and how it ends: the output of the job that these arguments ask for.
-use Rattle.std.specs.Prelude.{ℕ, List, Option, Some, None, option_map}
+use Rattle.std.specs.Prelude.{ℕ, Bool, true, false, List, Option, Some, None, option_map}
 use Rattle.cose_cwt.specs.Claims.Audience.{text_value}
 use Rattle.cose_map.specs.Key.{key_of}
 use Rattle.cosecmd.specs.Admitted.{program_policy}
@@ -43,3 +43,11 @@ asked_for (asks.Verify words from) payload bytes = verified_for words payload by
 asked_for (asks.Cwt words) payload bytes = admitted_for words bytes
 asked_for (asks.Digest words) payload bytes = digested_for words bytes
 asked_for (asks.Make words) payload bytes = made_for words bytes
+
+-- Whether a message is to be made.
+abbrev pub makes : Request → Bool
+makes (asks.Make words) = true
+makes (asks.Show wanted) = false
+makes (asks.Verify words from) = false
+makes (asks.Cwt words) = false
+makes (asks.Digest words) = false

@@ -1,11 +1,12 @@
 //! A run of the program: its arguments, and then its job.
 
-ghost use Rattle.std.specs.Prelude.{◌≡◌, ◌≤◌, ℕ, List, Option, Some, None, map, option_map};
+ghost use Rattle.std.specs.Prelude.{◌≡◌, ◌≢◌, ◌≤◌, ℕ, false, List, Option, Some, None, codes, map, option_map};
+ghost use Rattle.clap.specs.Matches.{subcommand_name_of};
 ghost use Rattle.cose_map.specs.Key.View.{contents};
-ghost use Rattle.cosecmd.specs.CommandLine.{Answers, matches_print};
+ghost use Rattle.cosecmd.specs.CommandLine.{Answers, FailsOn, matches_print};
 ghost use Rattle.cosecmd.specs.Payload.{detached_in};
-ghost use Rattle.cosecmd.specs.Printed.{EndsWith, Output};
-ghost use Rattle.cosecmd.specs.Words.{admitted_for, asked_for, digested_for, made_for, payload_for, verified_for};
+ghost use Rattle.cosecmd.specs.Printed.{EndsWith, Fails, Output};
+ghost use Rattle.cosecmd.specs.Words.{admitted_for, asked_for, digested_for, made_for, makes, payload_for, verified_for};
 
 use crate::answer::{answer, answer_with_payload_file};
 use crate::fault::Fault;
@@ -40,6 +41,9 @@ fn answer_verify<R: Read, W: Write>(
     ensures printed { (bytes : List ℕ) → R.remaining input.old ≡ Some bytes →
         EndsWith (verified_for words.now (option_map contents payload.entry) bytes)
         (W.contents output.old) (W.contents output.new) result }
+    ensures fails { (bytes : List ℕ) → R.remaining input.old ≡ Some bytes → result ≡ 2 →
+        Fails (verified_for words.now (option_map contents payload.entry) bytes)
+        (W.contents output.old) (W.contents output.new) }
 {
     let job = Job::Verify {
         keys: words.keys.as_slice(),
@@ -65,6 +69,10 @@ fn answer_verify_with_file<F: NamedFiles, R: Read, W: Write>(
         F.content files.now name.now ≡ Some payload →
         EndsWith (verified_for words.now (Some payload) bytes) (W.contents output.old)
         (W.contents output.new) result }
+    ensures fails { (bytes payload : List ℕ) → R.remaining input.old ≡ Some bytes →
+        F.content files.now name.now ≡ Some payload → result ≡ 2 →
+        Fails (verified_for words.now (Some payload) bytes) (W.contents output.old)
+        (W.contents output.new) }
 {
     let (mut file, length) = match files.open_with_length(name) {
         Ok(opened) => opened,
@@ -88,6 +96,9 @@ fn answer_cwt<R: Read, W: Write>(alloc: Global, words: &Cwt, input: &mut R, outp
     ensures printed { (bytes : List ℕ) → R.remaining input.old ≡ Some bytes →
         EndsWith (admitted_for words.entry.now bytes) (W.contents output.old)
         (W.contents output.new) result }
+    ensures fails { (bytes : List ℕ) → R.remaining input.old ≡ Some bytes → result ≡ 2 →
+        Fails (admitted_for words.entry.now bytes) (W.contents output.old)
+        (W.contents output.new) }
 {
     let verify = &words.verify;
     let job = Job::Cwt {
@@ -113,6 +124,8 @@ fn answer_digest<R: Read, W: Write>(
     ensures printed { (bytes : List ℕ) → R.remaining input.old ≡ Some bytes →
         EndsWith (digested_for words.now bytes) (W.contents output.old) (W.contents output.new)
         result }
+    ensures fails { (bytes : List ℕ) → R.remaining input.old ≡ Some bytes → result ≡ 2 →
+        Fails (digested_for words.now bytes) (W.contents output.old) (W.contents output.new) }
 {
     let job = Job::Digest {
         keys: words.keys.as_slice(),
@@ -153,6 +166,11 @@ fn answer_verify_request<F: NamedFiles, R: Read, W: Write>(
         detached_in (F.content files.now) payload.entry.now ≡ Some detached →
         EndsWith (verified_for words.now detached bytes) (W.contents output.old)
         (W.contents output.new) result }
+    ensures fails { (bytes : List ℕ) (detached : Option (List ℕ))
+        → R.remaining input.old ≡ Some bytes →
+        detached_in (F.content files.now) payload.entry.now ≡ Some detached → result ≡ 2 →
+        Fails (verified_for words.now detached bytes) (W.contents output.old)
+        (W.contents output.new) }
 {
     match payload {
         Payload::InMessage => answer_verify(alloc, words, None, input, output),
@@ -179,6 +197,13 @@ fn answer_request<F: NamedFiles, R: Read, W: Write>(
         payload_for (F.content files.now) request.entry.now ≡ Some payload →
         EndsWith (asked_for request.entry.now payload bytes) (W.contents output.old)
         (W.contents output.new) result }
+    // With status 2 it prints a fault's line, or a part of the output; `make` may have begun its message.
+    ensures fails { (bytes : List ℕ) (payload : Option (List ℕ))
+        → R.remaining input.old ≡ Some bytes →
+        payload_for (F.content files.now) request.entry.now ≡ Some payload →
+        makes request.entry.now ≡ false → result ≡ 2 →
+        Fails (asked_for request.entry.now payload bytes) (W.contents output.old)
+        (W.contents output.new) }
 {
     match request {
         Request::Show(wanted) => answer(alloc, &Job::Show { wanted: *wanted }, input, output),
@@ -205,6 +230,10 @@ fn answer_matches<F: NamedFiles, R: Read, W: Write>(
     ensures printed { (bytes : List ℕ) (said : Output) → R.remaining input.old ≡ Some bytes →
         matches_print (F.content files.now) matches.now bytes ≡ Some said →
         EndsWith said (W.contents output.old) (W.contents output.new) result }
+    ensures fails { (bytes : List ℕ) (said : Output) → R.remaining input.old ≡ Some bytes →
+        matches_print (F.content files.now) matches.now bytes ≡ Some said →
+        subcommand_name_of matches.now ≢ Some (codes "make") → result ≡ 2 →
+        Fails said (W.contents output.old) (W.contents output.new) }
 {
     match request_of(alloc, files, matches) {
         Ok(request) => answer_request(alloc, files, &request, input, output),
@@ -223,6 +252,9 @@ pub fn run<'a, R: Read, W: Write>(
     ensures printed { (bytes : List ℕ) → R.remaining input.old ≡ Some bytes →
         Answers (λ _. None) (map (λ word. word.now) words.entry.now) bytes
         (W.contents output.old) (W.contents output.new) result }
+    ensures fails { (bytes : List ℕ) → R.remaining input.old ≡ Some bytes → result ≡ 2 →
+        FailsOn (λ _. None) (map (λ word. word.now) words.entry.now) bytes
+        (W.contents output.old) (W.contents output.new) }
 {
     run_with_files(alloc, words, &NoFiles, input, output)
 }
@@ -248,6 +280,10 @@ pub fn run_with_files<'a, F: NamedFiles, R: Read, W: Write>(
     ensures printed { (bytes : List ℕ) → R.remaining input.old ≡ Some bytes →
         Answers (F.content files.now) (map (λ word. word.now) words.entry.now) bytes
         (W.contents output.old) (W.contents output.new) result }
+    // With status 2 it prints a fault's line, what is wrong with the arguments, or a part of the output, and no more.
+    ensures fails { (bytes : List ℕ) → R.remaining input.old ≡ Some bytes → result ≡ 2 →
+        FailsOn (F.content files.now) (map (λ word. word.now) words.entry.now) bytes
+        (W.contents output.old) (W.contents output.new) }
 {
     match parse(alloc, words) {
         Ok(Parsed::Matches(matches)) => answer_matches(alloc, files, &matches, input, output),

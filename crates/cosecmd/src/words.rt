@@ -1,13 +1,14 @@
 //! The arguments of the command line.
 
-ghost use Rattle.std.specs.Prelude.{◌≡◌, ◌≢◌, ◌≤◌, ◌⊎◌, ℕ, List, Option, Some, IfErr, IfOk, codes, length as length_in, map, option_map};
-ghost use Rattle.clap.specs.Matches.{first_value, found_of};
+ghost use Rattle.std.specs.Prelude.{◌≡◌, ◌≢◌, ◌≤◌, ◌⊎◌, ℕ, true, false, List, Option, Some, IfErr, IfOk, codes, length as length_in, map, option_map, string_bytes};
+ghost use Rattle.clap.specs.Matches.{first_value, found_of, subcommand_name_of};
 ghost use Rattle.cose_cwt.specs.Claims.Audience.{text_value};
-ghost use Rattle.cosecmd.specs.CommandLine.{AsksFor, IsReadFrom, matches_print, verify_prints};
+ghost use Rattle.cosecmd.specs.CommandLine.{AsksFor, IsReadFrom, begins_as_answer, matches_print, verify_prints};
 ghost use Rattle.cosecmd.specs.Fields.{CwtFields, DigestFields, HasKeysOf, IsKeyOf, MakeFields, VerifyFields};
 ghost use Rattle.cosecmd.specs.Options.{algorithm_in, bytes_in, hex_bytes, integer_in, kind_in, kind_named, number_in, optional_bytes_in, options_of, payload_in, text_in};
 ghost use Rattle.cosecmd.specs.Payload.{IsFile, detached_in};
 ghost use Rattle.cosecmd.specs.Printed.{Output};
+ghost use Rattle.cosecmd.specs.Words.{makes};
 
 use crate::commands::line;
 use crate::fault::Fault;
@@ -32,9 +33,23 @@ pub enum Parsed<'w> {
     Text(Reply),
 }
 
-/// The text of a line that is refused, which repeats none of its arguments, or the help or version that it asks for.
+/// Whether a text begins as an answer does.
+fn is_like_answer(text: &str) -> bool
+    ensures { result ≡ begins_as_answer text.now }
+{
+    let bytes = text.as_bytes();
+    bytes.starts_with(b"authentic ")
+        || bytes.starts_with(b"refused ")
+        || bytes.starts_with(b"admitted")
+        || bytes.starts_with(b"shape ")
+        || bytes.starts_with(b"vouch ")
+}
+
+/// The text of a line that is refused, which repeats none of its arguments, or the help or version that it asks for. None of them
+/// can be taken for an answer.
 fn refused_line(alloc: Global, error: clap::Error) -> Result<Reply, Fault>
-    ensures { IfOk result (λ reply. reply.status ≢ Status.Refused) }
+    ensures status { IfOk result (λ reply. reply.status ≢ Status.Refused) }
+    ensures text { IfOk result (λ reply. begins_as_answer (string_bytes reply.text) ≡ false) }
 {
     if matches!(error.kind(), ErrorKind::OutOfMemory) {
         return Err(Fault::Memory);
@@ -45,6 +60,9 @@ fn refused_line(alloc: Global, error: clap::Error) -> Result<Reply, Fault>
         Status::Done
     };
     let text = mistake(alloc, error.kind(), format!(in alloc; "{error}")?.as_str())?;
+    if is_like_answer(text.as_str()) {
+        return Err(Fault::Line("command"));
+    }
     Ok(Reply { status, text })
 }
 
@@ -291,9 +309,10 @@ fn verify_request<'a, F: NamedFiles>(
     files: &F,
     matches: &ArgMatches<'a>,
 ) -> Result<Request<'a>, Fault>
-    ensures { IfOk result (λ request. (bytes : List ℕ) (said : Output) →
+    ensures asks { IfOk result (λ request. (bytes : List ℕ) (said : Output) →
         verify_prints (F.content files.now) (options_of matches.now) bytes ≡ Some said →
         AsksFor (F.content files.now) request bytes said) }
+    ensures verifies { IfOk result (λ request. makes request ≡ false) }
 {
     let words = verify_of(alloc, files, matches)?;
     let payload = payload_of(alloc, matches)?;
@@ -316,9 +335,12 @@ pub fn request_of<'a, F: NamedFiles>(
     files: &F,
     matches: &ArgMatches<'a>,
 ) -> Result<Request<'a>, Fault>
-    ensures { IfOk result (λ request. (bytes : List ℕ) (said : Output) →
+    ensures asks { IfOk result (λ request. (bytes : List ℕ) (said : Output) →
         matches_print (F.content files.now) matches.now bytes ≡ Some said →
         AsksFor (F.content files.now) request bytes said) }
+    // Only `make` makes a message.
+    ensures making { IfOk result (λ request. makes request ≡ true
+        → subcommand_name_of matches.now ≡ Some (codes "make")) }
 {
     if let Some(show) = matches.subcommand_matches("show") {
         return Ok(Request::Show(kind_of(show)));

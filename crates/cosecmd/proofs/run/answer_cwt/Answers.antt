@@ -1,6 +1,6 @@
-use Rattle.std.proofs.Common.{SFits, rules, w64}
+use Rattle.std.proofs.Common.{SFits, refl, rules, w64}
 use Rattle.std.proofs.lemmas.Int.{to_z-of_z}
-use Rattle.cosecmd.proofs.Asked.{cwt_words, ends_with}
+use Rattle.cosecmd.proofs.Asked.{cwt_words, ends_with, fails_with}
 use Rattle.cosecmd.proofs.run.answer_cwt.Goals as goal
 
 pub returns-clause-printed : goal.returns-clause-printed
@@ -8,3 +8,9 @@ returns-clause-printed g c = λ bytes e.
     let in_range : SFits w64 c.args.words.now.now = search rules in
     ends_with _ _ _ (cwt_words c.args.words.now c.as_slice.result c.as_slice-2.result c.slice_of.result _ bytes c.as_slice.ensures.value c.as_slice-2.ensures.value c.slice_of.ensures (to_z-of_z w64 c.args.words.now.now in_range))
     (c.answer.ensures.printed bytes e)
+
+pub returns-clause-fails : goal.returns-clause-fails
+returns-clause-fails g c = λ bytes e two.
+    let in_range : SFits w64 c.args.words.now.now = search rules in
+    fails_with _ _ (cwt_words c.args.words.now c.as_slice.result c.as_slice-2.result c.slice_of.result _ bytes c.as_slice.ensures.value c.as_slice-2.ensures.value c.slice_of.ensures (to_z-of_z w64 c.args.words.now.now in_range))
+    (c.answer.ensures.fails bytes e refl two)

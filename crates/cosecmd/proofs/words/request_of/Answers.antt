@@ -4,16 +4,16 @@ use Rattle.cosecmd.specs.Options.{options_of}
 use Rattle.cosecmd.proofs.CommandLines.{command_asked, cwt_asks, make_asks}
 use Rattle.cosecmd.proofs.words.request_of.Goals as goal
 
-pub returns-in-Some-subcommand_matches-2 : goal.returns-in-Some-subcommand_matches-2
-returns-in-Some-subcommand_matches-2 g c = λ bytes said prints.
+pub returns-in-Some-subcommand_matches-2-clause-asks : goal.returns-in-Some-subcommand_matches-2-clause-asks
+returns-in-Some-subcommand_matches-2-clause-asks g c = λ bytes said prints.
     let content = g.F.NamedFiles.content c.args.files.now in
     let met = c.in-Some-subcommand_matches-2 in
     let options = options_of met.cwt.now in
     let asked : cwt_prints content options bytes ≡ Some said = command_asked content c.args.matches.now (codes "cwt") options bytes said (met.ensures.found.0 refl) met.ensures.rows prints in
     (None, refl, cwt_asks content options c.in_ok-cwt_of.field-0 bytes said c.in_ok-cwt_of.ensures asked)
 
-pub returns-in_ok-make_of-in-Some-subcommand_matches-4 : goal.returns-in_ok-make_of-in-Some-subcommand_matches-4
-returns-in_ok-make_of-in-Some-subcommand_matches-4 g c = λ bytes said prints.
+pub returns-in_ok-make_of-in-Some-subcommand_matches-4-clause-asks : goal.returns-in_ok-make_of-in-Some-subcommand_matches-4-clause-asks
+returns-in_ok-make_of-in-Some-subcommand_matches-4-clause-asks g c = λ bytes said prints.
     let content = g.F.NamedFiles.content c.args.files.now in
     let met = c.in-Some-subcommand_matches-4 in
     let options = options_of met.make.now in

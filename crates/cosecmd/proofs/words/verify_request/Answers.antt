@@ -2,7 +2,7 @@ use Rattle.cosecmd.specs.Options.{options_of}
 use Rattle.cosecmd.proofs.CommandLines.{verify_asks}
 use Rattle.cosecmd.proofs.words.verify_request.Goals as goal
 
-pub returns : goal.returns
-returns g c = λ bytes said.
+pub returns-clause-asks : goal.returns-clause-asks
+returns-clause-asks g c = λ bytes said.
     let content = g.F.NamedFiles.content c.args.files.now in
     verify_asks content (options_of c.args.matches.now) c.in_ok-words.words _ bytes said c.in_ok-words.ensures (c.in_ok-payload.ensures.value content)
