@@ -11,9 +11,10 @@ use Rattle.cosecmd.specs.declared.request.Make.{Make as MakeWords}
 use Rattle.cosecmd.specs.declared.request.Request.{Request}
 use Rattle.cosecmd.specs.declared.request.Request.TheVariants as asks
 use Rattle.cosecmd.specs.declared.request.Verify.{Verify as VerifyWords}
+use Rattle.cosecmd.specs.declared.job.DigestFileJob.{DigestFileJob}
 use Rattle.cosecmd.specs.declared.job.FileJob.{FileJob}
 use Rattle.cosecmd.specs.Printed.{EndsWith, Fails, Output, printed}
-use Rattle.cosecmd.specs.Stated.{verified_from}
+use Rattle.cosecmd.specs.Stated.{digested_from, verified_from}
 use Rattle.cosecmd.specs.Words.{admitted_for, asked_for, digested_for, made_for, makes, verified_for}
 
 -- A run that ends with one output ends with an equal one.
@@ -30,7 +31,7 @@ not_made (asks.Make words) A by_name other = absurd (other (by_name refl))
 not_made (asks.Show wanted) A by_name other = refl
 not_made (asks.Verify words from) A by_name other = refl
 not_made (asks.Cwt words) A by_name other = refl
-not_made (asks.Digest words) A by_name other = refl
+not_made (asks.Digest words from) A by_name other = refl
 
 pub verify_words : (words : VerifyWords) (keys aad : Bor (List ℕ)) (vouch payload : Option (Bor (List ℕ))) (detached : Option (List ℕ)) (bytes : List ℕ) →
     keys.now ≡ words.keys.items → aad.now ≡ words.aad.items → option_map contents vouch ≡ option_map (λ word. word.items) words.vouch → option_map contents payload ≡ detached →
@@ -44,10 +45,10 @@ pub cwt_words : (words : CwtWords) (keys aad : Bor (List ℕ)) (vouch : Option (
 unfolding printed
 cwt_words words keys aad vouch now bytes k a v n = rw (k, a, v, n) refl
 
-pub digest_words : (words : DigestWords) (keys aad : Bor (List ℕ)) (bytes : List ℕ) → keys.now ≡ words.keys.items → aad.now ≡ words.aad.items →
-    printed (Digest keys aad) bytes ≡ digested_for words bytes
+pub digest_words : (words : DigestWords) (keys aad : Bor (List ℕ)) (payload : Option (Bor (List ℕ))) (detached : Option (List ℕ)) (bytes : List ℕ) → keys.now ≡ words.keys.items → aad.now ≡ words.aad.items →
+    option_map contents payload ≡ detached → printed (Digest keys aad payload) bytes ≡ digested_for words detached bytes
 unfolding printed
-digest_words words keys aad bytes k a = rw (k, a) refl
+digest_words words keys aad payload detached bytes k a p = rw (k, a, p) refl
 
 pub make_words : (words : MakeWords) (key aad : Bor (List ℕ)) (kid : Option (Bor (List ℕ))) (bytes : List ℕ) → key.now ≡ words.key.items → aad.now ≡ words.aad.items →
     option_map contents kid ≡ option_map (λ word. word.items) words.kid → printed (Make words.alg key words.length kid aad) bytes ≡ made_for words bytes
@@ -63,3 +64,7 @@ show_words request wanted payload bytes is = rw is refl
 pub file_words : (words : VerifyWords) (job : FileJob) (payload bytes : List ℕ) → job.keys.now ≡ words.keys.items → job.aad.now ≡ words.aad.items → job.wanted ≡ words.wanted →
     option_map contents job.vouch ≡ option_map (λ word. word.items) words.vouch → job.length ≡ length payload → verified_from job payload bytes ≡ verified_for words (Some payload) bytes
 file_words words job payload bytes k a w v n = rw (k, a, w, v, n, le-ltb (length payload) (length payload) (omega arith), take-length payload) refl
+
+pub digest_file_words : (words : DigestWords) (job : DigestFileJob) (payload bytes : List ℕ) → job.keys.now ≡ words.keys.items → job.aad.now ≡ words.aad.items → job.length ≡ length payload →
+    digested_from job payload bytes ≡ digested_for words (Some payload) bytes
+digest_file_words words job payload bytes k a n = rw (k, a, n, le-ltb (length payload) (length payload) (omega arith), take-length payload) refl

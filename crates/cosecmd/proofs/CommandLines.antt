@@ -60,18 +60,23 @@ cwt_asks content options words bytes said fields prints = go (key_set_in content
         let same : admitted_under (program_keys known) words.verify.aad.items (kind_in options) vouch (program_policy words.now words.leeway (text_in (codes "aud") options)) bytes ≡ said = cc in
         rw (fields.verify.keys known keys, fields.verify.kind, fields.aud) same
 
-pub digest_asks : (content : List ℕ → Option (List ℕ)) (options : Options) (words : Digest) (bytes : List ℕ) (said : Output) → DigestFields content options words →
-    digest_prints content options bytes ≡ Some said → digested_for words bytes ≡ said
-digest_asks content options words bytes said fields prints = go (key_set_in content options) refl
+pub digest_asks : (content : List ℕ → Option (List ℕ)) (options : Options) (words : Digest) (payload : Option (Option (List ℕ))) (bytes : List ℕ) (said : Output)
+    → DigestFields content options words → payload ≡ payload_in content options → digest_prints content options bytes ≡ Some said
+    → (detached : Option (List ℕ)) × (payload ≡ Some detached) × (digested_for words detached bytes ≡ said)
+digest_asks content options words payload bytes said fields is prints = go (key_set_in content options) refl (payload_in content options) refl
   where
-    go : (known : Option (List ℕ)) → key_set_in content options ≡ known → digested_for words bytes ≡ said
-    go None keys =
+    go : (known : Option (List ℕ)) → key_set_in content options ≡ known → (found : Option (Option (List ℕ))) → payload_in content options ≡ found
+        → (detached : Option (List ℕ)) × (payload ≡ Some detached) × (digested_for words detached bytes ≡ said)
+    go None keys found has =
         let none : None ≡ Some said = rw keys at prints in
         cc
-    go (Some known) keys =
-        let some : Some (digested_under (program_keys known) words.aad.items bytes) ≡ Some said = rw (keys, fields.aad) at prints in
-        let same : digested_under (program_keys known) words.aad.items bytes ≡ said = cc in
-        rw (fields.keys known keys) same
+    go (Some known) keys None has =
+        let none : None ≡ Some said = rw (keys, fields.aad, has) at prints in
+        cc
+    go (Some known) keys (Some detached) has =
+        let some : Some (digested_under (program_keys known) words.aad.items detached bytes) ≡ Some said = rw (keys, fields.aad, has) at prints in
+        let same : digested_under (program_keys known) words.aad.items detached bytes ≡ said = cc in
+        (detached, is ∙ has, rw (fields.keys known keys) same)
 
 pub make_asks : (content : List ℕ → Option (List ℕ)) (options : Options) (words : Make) (bytes : List ℕ) (said : Output) → MakeFields content options words →
     make_prints content options bytes ≡ Some said → made_for words bytes ≡ said

@@ -1,14 +1,12 @@
 -- A reply that prints what the signature of an input is verified with.
-use Rattle.std.proofs.Common.{◌≡◌, ℕ, ◌<◌, ◌≤◌, Bool, true, false, List, [], ◌++◌, length, take, Option, Some, None, Result, Ok, refl, sym, ap, subst, ◌∙◌, arith, append-nil}
+use Rattle.std.proofs.Common.{◌≡◌, ℕ, ◌<◌, ◌≤◌, Bool, true, false, List, [], ◌∷◌, ◌++◌, length, take, Option, Some, None, Result, refl, sym, ap, subst, ◌∙◌, arith, append-nil}
 use Rattle.std.specs.Prelude.{IfOk, nat_lt, option_map}
 use Rattle.std.specs.Str.{bytes_eq}
 use Rattle.std.specs.Io.KnownBytes.{Consumes, IsAtEnd}
 use Rattle.std.proofs.lemmas.Bool.{ltb-true, ltb-false}
 use Rattle.cose_head.specs.Algorithm.{is_mac_of}
+use Rattle.cose_head.specs.declared.reason.Reason.TheVariants.{Trailing}
 use Rattle.cose_head.specs.declared.refusal.Refusal.{Refusal}
-use Rattle.cose_map.specs.Key.Value.{KeyValue}
-use Rattle.cose_map.specs.Map.Read.{Read}
-use Rattle.cose_msg.specs.declared.context.Wanted.TheVariants as wants
 use Rattle.cose_msg.specs.declared.verdict.Verdict.{Verdict}
 use Rattle.cose_msg.specs.declared.verdict.Verdict.TheVariants.{Refused}
 use Rattle.cose_msg.specs.Answer.{Answer, decided, complete, shaped, Chosen, Whole}
@@ -22,7 +20,8 @@ use Rattle.cose_msg.specs.Unrefused.{BeginsWithMessage, IsUnrefused, UnrefusedIs
 use Rattle.cose_msg.specs.Reader.{Counts}
 use Rattle.cosecmd.proofs.Trailing.{all_taken, kept_at_end, left_of_input, refused_past, trails}
 use Rattle.cosecmd.specs.declared.reply.Reply.{Reply}
-use Rattle.cosecmd.specs.Printed.{Output, Says, trailing_refusal, digested, digested_as, digested_under, input_compared, program_setting, said_of, trailed, vouched, followed_by}
+use Rattle.cosecmd.specs.Printed.{Output, Says, trailing_refusal, digested, digested_as, digested_before, digested_in, said_of, trailed, vouched, followed_by}
+use Rattle.cosecmd.specs.Stated.{payload_wanted_by_digest}
 use Rattle.cosecmd.specs.Vouch.{vouch_word}
 
 -- ---- a message without a signature
@@ -89,48 +88,40 @@ module _ (is_read : MessageIsRead) (is_message : UnrefusedIsMessage) (rules : Ru
       from true e = let contrary : false ≡ true = sym (earlier whole.taken (ltb-true whole.taken (length taken) e)) ∙ settled_by_it in absurd cc
       from false e = let far : length taken ≤ whole.taken = ltb-false whole.taken (length taken) e in omega (arith, far, begins.within)
 
-module _ {F : Type 0} (set : Read (List KeyValue)) (keys : List KeyValue) (good : set ≡ Ok keys) (aad : List ℕ) (setting : Setting) (under : setting ≡ program_setting keys aad wants.Sign1)
-    (bytes : List ℕ) (reply : Result Reply F) where
+-- A run over the input, whatever decides on signatures in it, has taken these bytes and left the rest.
+module _ (setting : Setting) (bytes : List ℕ) (stays : MessageStays) (last : VerifyingGoesLast) (decides : Decides) (taken rest : List ℕ) (split : bytes ≡ taken ++ rest)
+    (ended : (message (verifying 1024 8 setting decides) taken).settled ≡ false → rest ≡ []) where
   rules : Rules
   rules = comparing 1024 8 setting
 
-  told_so : (output : Output) → digested_as setting.aad (trailed (length bytes) (message rules bytes).answer) ≡ output → IfOk reply (Says output) → IfOk reply (Says (digested_under set aad bytes))
+  verified_after : (s : List ℕ) → message (verifying 1024 8 setting decides) s ≡ answered (then_verified setting.aad decides) (message rules s)
   unfolding rules
-  told_so output e s =
-      let same : digested_as setting.aad (trailed (length bytes) (message rules bytes).answer) ≡ digested_under (Ok keys) aad bytes = ap (λ (x : Setting). digested_as x.aad (input_compared x bytes)) under in
-      let whole : output ≡ digested_under set aad bytes = sym e ∙ same ∙ ap (λ (t : Read (List KeyValue)). digested_under t aad bytes) (sym good) in
-      subst (λ (o : Output). IfOk reply (Says o)) whole s
+  verified_after s = last 1024 8 setting decides s
 
-  -- A run over the input, whatever decides on signatures in it.
-  module _ (stays : MessageStays) (last : VerifyingGoesLast) (decides : Decides) (come come_after : Option (List ℕ)) (taken : List ℕ) (told : come ≡ Some bytes) (consumes : Consumes come come_after taken)
-      (ended : (message (verifying 1024 8 setting decides) taken).settled ≡ false → IsAtEnd come_after) where
-    verified_after : (s : List ℕ) → message (verifying 1024 8 setting decides) s ≡ answered (then_verified setting.aad decides) (message rules s)
+  as_settled : (s : List ℕ) → (message (verifying 1024 8 setting decides) s).settled ≡ (message rules s).settled
+  as_settled s = ap (λ (r : Reading). r.settled) (verified_after s)
+
+  read_whole : message rules bytes ≡ message rules taken
+  read_whole = all_come_to stays rules bytes taken rest split (λ unsettled. ended (as_settled taken ∙ unsettled))
+
+  -- So many bytes of a payload are wanted.
+  pub wanted_whole : payload_wanted_by_digest setting bytes ≡ (message (verifying 1024 8 setting decides) taken).payload_wanted
+  unfolding rules
+  wanted_whole = ap (λ (r : Reading). r.payload_wanted) read_whole ∙ sym (ap (λ (r : Reading). r.payload_wanted) (verified_after taken))
+
+  module _ (is_read : MessageIsRead) (is_message : UnrefusedIsMessage) (earlier : (n : ℕ) → n < length taken → (message (verifying 1024 8 setting decides) (take n taken)).settled ≡ false)
+      (verdict : Verdict) (answer : (message (verifying 1024 8 setting decides) taken).answer ≡ decided verdict) (counts : Counts verdict (length taken)) (count : ℕ) (counted : count ≡ length taken) where
+    undigested : None ≡ sign_input_in setting.aad (message (comparing 1024 8 setting) taken).answer → said_of (followed_by rest verdict) ≡ digested_in setting bytes
     unfolding rules
-    verified_after s = last 1024 8 setting decides s
-
-    as_settled : (s : List ℕ) → (message (verifying 1024 8 setting decides) s).settled ≡ (message rules s).settled
-    as_settled s = ap (λ (r : Reading). r.settled) (verified_after s)
-
-    read_whole : message rules bytes ≡ message rules taken
-    read_whole =
-        let o = left_of_input come come_after bytes taken told consumes in
-        all_come_to stays rules bytes taken o.0 o.2 (λ unsettled. let end = rw o.1 at ended (as_settled taken ∙ unsettled) in end)
-
-    pub says_undigested : (verdict whole : Verdict) → (message (verifying 1024 8 setting decides) taken).answer ≡ decided verdict → Counts verdict (length taken) →
-        None ≡ sign_input_in setting.aad (message (comparing 1024 8 setting) taken).answer → ((rest : List ℕ) → come_after ≡ Some rest → whole ≡ followed_by rest verdict) →
-        IfOk reply (Says (said_of whole)) → IfOk reply (Says (digested_under set aad bytes))
-    unfolding rules
-    says_undigested verdict whole answer counted none h s =
-        let o = left_of_input come come_after bytes taken told consumes in
+    undigested none =
         let compared : (message rules taken).answer ≡ decided verdict =
         undecided setting.aad decides (message rules taken).answer verdict none (sym (ap (λ (r : Reading). r.answer) (verified_after taken)) ∙ answer) in
         let all : (message rules bytes).answer ≡ decided verdict = ap (λ (r : Reading). r.answer) read_whole ∙ compared in
-        let ends : trailed (length bytes) (message rules bytes).answer ≡ decided whole =
-        ap (λ (a : Answer). trailed (length bytes) a) all ∙ trails bytes taken o.0 verdict o.2 counted ∙ ap decided (sym (h o.0 o.1)) in
-        told_so (said_of whole) (ap (digested_as setting.aad) ends) s
+        let ends : trailed (length bytes) (message rules bytes).answer ≡ decided (followed_by rest verdict) =
+        ap (λ (a : Answer). trailed (length bytes) a) all ∙ trails bytes taken rest verdict split counts in
+        sym (ap (digested_as setting.aad) ends)
 
-    module _ (is_read : MessageIsRead) (is_message : UnrefusedIsMessage) (earlier : (n : ℕ) → n < length taken → (message (verifying 1024 8 setting decides) (take n taken)).settled ≡ false)
-        (input : SignInput) (signed : Some input ≡ sign_input_in setting.aad (message (comparing 1024 8 setting) taken).answer) (count : ℕ) (counted : count ≡ length taken) where
+    module _ (input : SignInput) (signed : Some input ≡ sign_input_in setting.aad (message (comparing 1024 8 setting) taken).answer) where
       -- The message is whole, and ends with the bytes taken.
       is_whole : (whole : Whole) × ((message rules bytes).answer ≡ complete whole) × (whole.taken ≡ count) × (Some input ≡ sign_input_in setting.aad (complete whole))
       unfolding rules
@@ -139,21 +130,74 @@ module _ {F : Type 0} (set : Read (List KeyValue)) (keys : List KeyValue) (good 
           let ends = ends_with_it is_read is_message rules setting.aad (λ whole. refl) taken w.0 w.1 (λ n short. sym (as_settled (take n taken)) ∙ earlier n short) in
           (w.0, ap (λ (r : Reading). r.answer) read_whole ∙ w.1, ends ∙ sym counted, signed ∙ ap (sign_input_in setting.aad) w.1)
 
-      pub says_longer : (refusal : Refusal) → ((rest : List ℕ) → come_after ≡ Some rest → Some refusal ≡ trailing_refusal rest count) → IfOk reply (Says (said_of (Refused refusal))) →
-          IfOk reply (Says (digested_under set aad bytes))
-      says_longer refusal h s =
-          let o = left_of_input come come_after bytes taken told consumes in
+      longer : (refusal : Refusal) → Some refusal ≡ trailing_refusal rest count → said_of (Refused refusal) ≡ digested_in setting bytes
+      unfolding rules
+      longer refusal far =
           let w = is_whole in
           let e : trailed (length bytes) (message rules bytes).answer ≡ decided (Refused refusal) =
-          ap (λ (a : Answer). trailed (length bytes) a) w.1 ∙ refused_past bytes taken o.0 (complete w.0) count refusal (ap Some w.2) o.2 counted (h o.0 o.1) in
-          told_so (said_of (Refused refusal)) (ap (digested_as setting.aad) e) s
+          ap (λ (a : Answer). trailed (length bytes) a) w.1 ∙ refused_past bytes taken rest (complete w.0) count refusal (ap Some w.2) split counted far in
+          sym (ap (digested_as setting.aad) e)
 
-      pub says_vouched : (word : List ℕ) → word ≡ vouch_word input → ((rest : List ℕ) → come_after ≡ Some rest → None ≡ trailing_refusal rest count) → IfOk reply (Says (vouched word)) →
-          IfOk reply (Says (digested_under set aad bytes))
-      says_vouched word is h s =
-          let o = left_of_input come come_after bytes taken told consumes in
+      whole_and_signed : None ≡ trailing_refusal rest count → vouched (vouch_word input) ≡ digested_in setting bytes
+      unfolding rules
+      whole_and_signed none =
           let w = is_whole in
-          let all = all_taken bytes taken o.0 count o.2 (h o.0 o.1) in
+          let all = all_taken bytes taken rest count split none in
           let e : trailed (length bytes) (message rules bytes).answer ≡ complete w.0 =
           ap (λ (a : Answer). trailed (length bytes) a) w.1 ∙ kept_at_end bytes taken (complete w.0) count (ap Some w.2) all counted in
-          told_so (vouched word) (ap (digested_as setting.aad) e ∙ ap (λ (i : Option SignInput). digested i (complete w.0)) (sym w.3) ∙ ap vouched (sym is)) s
+          sym (ap (digested_as setting.aad) e ∙ ap (λ (i : Option SignInput). digested i (complete w.0)) (sym w.3))
+
+    by_rest : (left : List ℕ) → left ≡ rest → (input : SignInput) → Some input ≡ sign_input_in setting.aad (message (comparing 1024 8 setting) taken).answer →
+        digested_before left (Some input) count verdict ≡ digested_in setting bytes
+    by_rest [] is input signed = whole_and_signed input signed (ap (λ (l : List ℕ). trailing_refusal l count) is)
+    by_rest (byte ∷ more) is input signed = longer input signed (record { reason = Trailing; place = count }) (ap (λ (l : List ℕ). trailing_refusal l count) is)
+
+    pub is_digested : (input : Option SignInput) → input ≡ sign_input_in setting.aad (message (comparing 1024 8 setting) taken).answer → digested_before rest input count verdict ≡ digested_in setting bytes
+    is_digested None none = undigested none
+    is_digested (Some input) signed = by_rest rest refl input signed
+
+-- ---- replies
+
+pub says_equal : {F : Type 0} (reply : Result Reply F) (said asked : Output) → said ≡ asked → IfOk reply (Says said) → IfOk reply (Says asked)
+says_equal reply said asked same says = subst (λ (o : Output). IfOk reply (Says o)) same says
+
+-- The reply to an input whose bytes are known.
+pub says_digested : {F : Type 0} (setting : Setting) (bytes : List ℕ) (stays : MessageStays) (last : VerifyingGoesLast) (decides : Decides) (is_read : MessageIsRead) (is_message : UnrefusedIsMessage)
+    (come come_after : Option (List ℕ)) (taken : List ℕ) (verdict : Verdict) (count : ℕ) (input : Option SignInput) (reply : Result Reply F) → come ≡ Some bytes → Consumes come come_after taken →
+    ((message (verifying 1024 8 setting decides) taken).settled ≡ false → IsAtEnd come_after) →
+    ((n : ℕ) → n < length taken → (message (verifying 1024 8 setting decides) (take n taken)).settled ≡ false) → (message (verifying 1024 8 setting decides) taken).answer ≡ decided verdict →
+    Counts verdict (length taken) → count ≡ length taken → input ≡ sign_input_in setting.aad (message (comparing 1024 8 setting) taken).answer →
+    ((rest : List ℕ) → come_after ≡ Some rest → IfOk reply (Says (digested_before rest input count verdict))) → IfOk reply (Says (digested_in setting bytes))
+says_digested setting bytes stays last decides is_read is_message come come_after taken verdict count input reply told consumes ended earlier answer counts counted is says =
+    let o = left_of_input come come_after bytes taken told consumes in
+    let at_end : (message (verifying 1024 8 setting decides) taken).settled ≡ false → o.0 ≡ [] = λ unsettled. let end = rw o.1 at ended unsettled in end in
+    says_equal reply _ _ (is_digested setting bytes stays last decides taken o.0 o.2 at_end is_read is_message earlier verdict answer counts count counted input is) (says o.0 o.1)
+
+-- The replies of the three cases.
+pub says_unsigned : {F : Type 0} (rest : List ℕ) (input : Option SignInput) (count : ℕ) (verdict whole : Verdict) (reply : Result Reply F) → None ≡ input → whole ≡ followed_by rest verdict →
+    IfOk reply (Says (said_of whole)) → IfOk reply (Says (digested_before rest input count verdict))
+says_unsigned rest input count verdict whole reply none is says =
+    says_equal reply _ _ (ap said_of is ∙ ap (λ (i : Option SignInput). digested_before rest i count verdict) none) says
+
+says_followed : {F : Type 0} (rest : List ℕ) (sign_input : SignInput) (count : ℕ) (verdict : Verdict) (refusal : Refusal) (reply : Result Reply F) → Some refusal ≡ trailing_refusal rest count →
+    IfOk reply (Says (said_of (Refused refusal))) → IfOk reply (Says (digested_before rest (Some sign_input) count verdict))
+says_followed [] sign_input count verdict refusal reply is says = absurd cc
+says_followed (byte ∷ rest) sign_input count verdict refusal reply is says =
+    let same : refusal ≡ record { reason = Trailing; place = count } = cc in
+    says_equal reply _ _ (ap (λ (r : Refusal). said_of (Refused r)) same) says
+
+pub says_longer : {F : Type 0} (rest : List ℕ) (input : Option SignInput) (sign_input : SignInput) (count : ℕ) (verdict : Verdict) (refusal : Refusal) (reply : Result Reply F) → Some sign_input ≡ input →
+    Some refusal ≡ trailing_refusal rest count → IfOk reply (Says (said_of (Refused refusal))) → IfOk reply (Says (digested_before rest input count verdict))
+says_longer rest input sign_input count verdict refusal reply some is says =
+    says_equal reply _ _ (ap (λ (i : Option SignInput). digested_before rest i count verdict) some) (says_followed rest sign_input count verdict refusal reply is says)
+
+says_alone : {F : Type 0} (rest : List ℕ) (sign_input : SignInput) (count : ℕ) (verdict : Verdict) (reply : Result Reply F) → None ≡ trailing_refusal rest count →
+    IfOk reply (Says (vouched (vouch_word sign_input))) → IfOk reply (Says (digested_before rest (Some sign_input) count verdict))
+says_alone [] sign_input count verdict reply is says = says
+says_alone (byte ∷ rest) sign_input count verdict reply is says = absurd cc
+
+pub says_vouched : {F : Type 0} (rest : List ℕ) (input : Option SignInput) (sign_input : SignInput) (count : ℕ) (verdict : Verdict) (word : List ℕ) (reply : Result Reply F) → Some sign_input ≡ input →
+    None ≡ trailing_refusal rest count → word ≡ vouch_word sign_input → IfOk reply (Says (vouched word)) → IfOk reply (Says (digested_before rest input count verdict))
+says_vouched rest input sign_input count verdict word reply some none is says =
+    says_equal reply _ _ (ap (λ (i : Option SignInput). digested_before rest i count verdict) some)
+    (says_alone rest sign_input count verdict reply none (says_equal reply _ _ (ap vouched is) says))

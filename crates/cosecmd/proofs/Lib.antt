@@ -1,6 +1,7 @@
 pub mod Admissions
 pub mod Asked
 pub mod CommandLines
+pub mod DigestPayloads
 pub mod Digests
 pub mod Failures
 pub mod KeyFiles

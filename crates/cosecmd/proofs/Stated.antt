@@ -72,12 +72,12 @@ came_first n left content after came false e fewer small small_left within consu
     sym (length-append content (never (2 ^ 65))) ∙ ap (λ (b : List ℕ). length b) split ∙ length-append came (take left after) in
     absurd (omega (arith, total, length_of_never (2 ^ 65), first, within, small, small_left))
 
-came_of_short : (n left : ℕ) (content : List ℕ) (after : Option (List ℕ)) (came : List ℕ) → length content < n → n < 2 ^ 64 → left < 2 ^ 64 → length came ≤ n →
+pub came_of_short : (n left : ℕ) (content : List ℕ) (after : Option (List ℕ)) (came : List ℕ) → length content < n → n < 2 ^ 64 → left < 2 ^ 64 → length came ≤ n →
     Consumes (Some (content ++ never (2 ^ 65))) (counted left after) came → (rest : List ℕ) × (content ≡ came ++ rest) × (0 < left)
 came_of_short n left content None came fewer small small_left within consumes = absurd consumes
 came_of_short n left content (Some after) came fewer small small_left within consumes = came_first n left content after came (nat_lt (length after) left) refl fewer small small_left within consumes
 
-none_of : (n : ℕ) → (0 < n → ⊥) → n ≡ 0
+pub none_of : (n : ℕ) → (0 < n → ⊥) → n ≡ 0
 none_of zero none = refl
 none_of (suc n) none = absurd (none (omega arith))
 

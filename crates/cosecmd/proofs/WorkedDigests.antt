@@ -1,6 +1,6 @@
 -- What the program prints that signatures are verified with, on examples, by computing. The digest is left as it is
 -- defined.
-use Rattle.std.specs.Prelude.{◌≡◌, ℕ, true, false, List, [], ◌∷◌, ◌++◌, map, replicate, refl}
+use Rattle.std.specs.Prelude.{◌≡◌, ℕ, true, false, List, [], ◌∷◌, ◌++◌, map, replicate, Some, None, refl}
 use Rattle.std.specs.Fmt.{digits}
 use Rattle.std.specs.Str.{is_utf8, chars}
 use Rattle.cose_head.specs.Head.{bare_head, shortest_head}
@@ -31,7 +31,12 @@ use Rattle.cosecmd.proofs.WorkedPrinted.{Prints, any, hex, line, plain, point, w
 
 unfoldable digests : List ℕ → List ℕ → List ℕ → Output
 unfolding printed keys_of key_of key_table material_of message with_head with_string with_item bucket_of bucket_table check_pairs pair_faults chosen children_of items_from look head_of_item bare_head read head depth_of is_utf8 chars lib.Utf8.encode digits
-digests keys aad input = printed (Digest (word keys) (word aad)) input
+digests keys aad input = printed (Digest (word keys) (word aad) None) input
+
+-- With this payload next to the message.
+unfoldable digests_beside : List ℕ → List ℕ → List ℕ → Output
+unfolding printed keys_of key_of key_table material_of message with_head with_string with_item bucket_of bucket_table check_pairs pair_faults chosen children_of items_from look head_of_item bare_head read head depth_of is_utf8 chars lib.Utf8.encode digits
+digests_beside keys payload input = printed (Digest (word keys) (word []) (Some (word payload))) input
 
 -- The digest of the structure, the signature, and the point; the message may come after its tag or without it.
 abbrev told : (ℕ → ℕ) → Output
@@ -48,6 +53,23 @@ untagged byte = refl
 in_cwt : (byte : ℕ → ℕ) → digests point [] (hex "d83dd28443a10126a0 40 5840" ++ any byte 64) ≡ told byte
 unfolding digests structure sig_structure shortest shortest_all shortest_head
 in_cwt byte = refl
+
+-- A payload next to the message is signed as one in it is; without it nil is refused.
+detached : (byte : ℕ → ℕ) → digests_beside point (hex "6869") (hex "d28443a10126a0 f6 5840" ++ any byte 64) ≡
+    vouched (word_for 1 (replicate 32 7) (coordinate (replicate 32 8)) (digest_of Es256 (hex "846a5369676e61747572653143a1012640426869")) (any byte 64))
+unfolding digests_beside structure sig_structure shortest shortest_all shortest_head
+detached byte = refl
+
+refused_beside : Prints (digests_beside point (hex "6869")) (
+    ("d28443a10126a0", line "refused Truncated at 7" statuses.Refused) ∷
+    ("d28443a10126a0426869", line "refused Attached at 7" statuses.Refused) ∷
+    ("d28443a10126a0f6", line "refused Truncated at 8" statuses.Refused) ∷ [])
+unfolding digests_beside digits
+refused_beside = refl
+
+without_payload : digests point [] (hex "d28443a10126a0f6") ≡ line "refused Detached at 7" statuses.Refused
+unfolding digests
+without_payload = refl
 
 -- A point on P-384 for ES384, and one on P-521 for ES512.
 abbrev point_on_p_384 : List ℕ

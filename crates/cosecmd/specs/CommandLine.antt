@@ -47,7 +47,8 @@ abbrev pub digest_prints : (List ℕ → Option (List ℕ)) → Options → List
 digest_prints content options bytes = do
   keys ← key_set_in content options
   aad ← bytes_in (codes "aad") options
-  Some (digested_under (program_keys keys) aad bytes)
+  payload ← payload_in content options
+  Some (digested_under (program_keys keys) aad payload bytes)
 
 abbrev pub make_prints : (List ℕ → Option (List ℕ)) → Options → List ℕ → Option Output
 make_prints content options bytes = do

@@ -59,7 +59,7 @@ making_fault (Make alg key payload_length kid aad) =
 making_fault (Show wanted) = None
 making_fault (Verify keys aad wanted vouch payload) = None
 making_fault (Cwt keys aad wanted vouch now leeway aud) = None
-making_fault (Digest keys aad) = None
+making_fault (Digest keys aad payload) = None
 
 abbrev pub fault_text : Fault → List ℕ
 fault_text faults.Memory = codes "fault memory"

@@ -37,6 +37,7 @@ use Rattle.cose_cwt.specs.Token.{Outcome}
 use Rattle.cosecmd.specs.Admitted.{input_token, outcome_status, outcome_text, program_policy}
 use Rattle.cosecmd.specs.Faults.{WritesLine}
 use Rattle.cosecmd.specs.declared.fault.Fault.{Fault}
+use Rattle.cosecmd.specs.declared.job.DigestFileJob.{DigestFileJob}
 use Rattle.cosecmd.specs.declared.job.FileJob.{FileJob}
 use Rattle.cosecmd.specs.declared.job.Job.{Job}
 use Rattle.cosecmd.specs.declared.job.Job.TheVariants.{Show, Verify, Cwt, Digest, Make}
@@ -208,9 +209,27 @@ digested_as aad answer = digested (sign_input_in aad answer) answer
 abbrev pub input_compared : Setting → List ℕ → Answer
 input_compared setting bytes = trailed (length bytes) (message (comparing 1024 8 setting) bytes).answer
 
-abbrev pub digested_under : Read (List KeyValue) → List ℕ → List ℕ → Output
-digested_under (Ok keys) aad bytes = digested_as aad (input_compared (program_setting keys aad wants.Sign1) bytes)
-digested_under (Err refusal) aad bytes = fault_of_keys refusal
+-- The setting that `digest` reads a message under.
+abbrev pub digest_setting : List KeyValue → List ℕ → Setting
+digest_setting keys aad = program_setting keys aad wants.Sign1
+
+abbrev pub digested_in : Setting → List ℕ → Output
+digested_in setting bytes = digested_as setting.aad (input_compared setting bytes)
+
+abbrev pub digested_under : Read (List KeyValue) → List ℕ → Option (List ℕ) → List ℕ → Output
+digested_under (Ok keys) aad payload bytes = digested_in (with_payload payload (digest_setting keys aad)) bytes
+digested_under (Err refusal) aad payload bytes = fault_of_keys refusal
+
+-- The same for a job whose payload comes from a file, and has these bytes.
+abbrev pub digested_with : DigestFileJob → List ℕ → List ℕ → Output
+digested_with job payload bytes = digested_under (program_keys job.keys.now) job.aad.now (Some payload) bytes
+
+-- The output after a message that ends at this place, of which a signature was found, or this verdict, where these bytes
+-- are left of the input.
+abbrev pub digested_before : List ℕ → Option SignInput → ℕ → Verdict → Output
+digested_before rest None taken verdict = said_of (followed_by rest verdict)
+digested_before [] (Some input) taken verdict = vouched (vouch_word input)
+digested_before (byte ∷ rest) (Some input) taken verdict = said_of (Refused (record { reason = Trailing; place = taken }))
 
 -- A message that isn't made.
 abbrev pub fault_of_key : Refusal → Output
@@ -249,7 +268,7 @@ printed (Verify keys aad wanted vouch payload) bytes =
     verified_under (program_keys keys.now) aad.now wanted (option_map contents vouch) (option_map contents payload) bytes
 printed (Cwt keys aad wanted vouch now leeway aud) bytes =
     admitted_under (program_keys keys.now) aad.now wanted (option_map contents vouch) (program_policy now leeway (option_map text_value aud)) bytes
-printed (Digest keys aad) bytes = digested_under (program_keys keys.now) aad.now bytes
+printed (Digest keys aad payload) bytes = digested_under (program_keys keys.now) aad.now (option_map contents payload) bytes
 printed (Make alg key payload_length kid aad) bytes =
     made_under (key_of (record { bytes = key.now; place = 0 })) alg payload_length (option_map contents kid) aad.now bytes
 

@@ -1,16 +1,18 @@
 -- What is printed of a message whose payload comes from a reader, where the number of its bytes is stated.
 use Rattle.std.specs.Prelude.{◌≡◌, ℕ, zero, suc, ◌<◌, ◌≤◌, Bool, true, List, length, take, Option, Ok, Err, option_map, codes, nat_lt, if◌then◌else◌}
-use Rattle.std.specs.Io.KnownBytes.{Consumes}
+use Rattle.std.specs.Io.KnownBytes.{Consumes, IsAtEnd}
 use Rattle.cose_map.specs.Key.Value.{KeyValue}
 use Rattle.cose_map.specs.Key.View.{contents}
 use Rattle.cose_map.specs.Map.Read.{Read}
 use Rattle.cose_msg.specs.declared.verdict.Verdict.{Verdict}
 use Rattle.cose_msg.specs.Answer.{decided}
-use Rattle.cose_msg.specs.Message.{Decides, Setting, message, verifying}
+use Rattle.cose_msg.specs.Message.{Decides, Setting, comparing, message, verifying}
 use Rattle.cose_msg.specs.Source.{detached}
+use Rattle.cosecmd.specs.declared.job.DigestFileJob.{DigestFileJob}
 use Rattle.cosecmd.specs.declared.job.FileJob.{FileJob}
+use Rattle.cosecmd.specs.declared.reply.Reply.{Reply}
 use Rattle.cosecmd.specs.declared.reply.Status.TheVariants as statuses
-use Rattle.cosecmd.specs.Printed.{Output, fault_of_keys, input_answer, output_of, program_keys, program_setting, verified_with}
+use Rattle.cosecmd.specs.Printed.{Output, Says, digest_setting, digested_in, digested_with, fault_of_keys, input_answer, output_of, program_keys, program_setting, verified_with}
 use Rattle.cosecmd.specs.Vouch.{vouching}
 
 -- The payload is detached: these bytes of it have come, and so many are stated.
@@ -43,6 +45,21 @@ abbrev pub verified_from : FileJob → List ℕ → List ℕ → Output
 verified_from job content bytes =
     if nat_lt (length content) job.length then verified_short (program_keys job.keys.now) job content bytes else verified_with job (take job.length content) bytes
 
+-- The same of `digest`: how many bytes of the payload are still wanted, and what is printed.
+abbrev pub payload_wanted_by_digest : Setting → List ℕ → ℕ
+payload_wanted_by_digest setting bytes = (message (comparing 1024 8 setting) bytes).payload_wanted
+
+abbrev pub digested_of_short : Setting → List ℕ → Output
+digested_of_short setting bytes = unless_missing (payload_wanted_by_digest setting bytes) (digested_in setting bytes)
+
+abbrev pub digested_short : Read (List KeyValue) → DigestFileJob → List ℕ → List ℕ → Output
+digested_short (Ok keys) job content bytes = digested_of_short (stating content job.length (digest_setting keys job.aad.now)) bytes
+digested_short (Err refusal) job content bytes = fault_of_keys refusal
+
+abbrev pub digested_from : DigestFileJob → List ℕ → List ℕ → Output
+digested_from job content bytes =
+    if nat_lt (length content) job.length then digested_short (program_keys job.keys.now) job content bytes else digested_with job (take job.length content) bytes
+
 -- A verdict on the bytes of an input. These bytes came of what was to come of the payload, no more than are stated; where
 -- the message wants more of them, the intake of the payload has ended.
 pub record CameOf (setting : Setting) (decides : Decides) (stated : ℕ) (bytes : List ℕ) (come come_after : Option (List ℕ)) (ended : Bool) (verdict : Verdict) : Type 0 where
@@ -51,3 +68,12 @@ pub record CameOf (setting : Setting) (decides : Decides) (stated : ℕ) (bytes 
   pub within : length came ≤ stated
   pub ends : 0 < payload_wanted_of (stating came stated setting) decides bytes → ended ≡ true
   pub answer : input_answer (stating came stated setting) decides bytes ≡ decided verdict
+
+-- What `digest` says of the bytes of an input. These bytes came of what was to come of the payload, no more than are stated;
+-- where the message wants more of them, the intake of the payload has ended.
+pub record DigestedOf (setting : Setting) (stated : ℕ) (bytes : List ℕ) (come come_after : Option (List ℕ)) (ended : Bool) (reply : Reply) : Type 0 where
+  pub came : List ℕ
+  pub consumes : Consumes come come_after came
+  pub within : length came ≤ stated
+  pub ends : 0 < payload_wanted_by_digest (stating came stated setting) bytes → (ended ≡ true) × IsAtEnd come_after
+  pub says : Says (digested_in (stating came stated setting) bytes) reply

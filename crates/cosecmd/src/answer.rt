@@ -4,7 +4,7 @@ ghost use Rattle.std.specs.Prelude.{◌≡◌, ◌≤◌, ◌⊎◌, ℕ, false,
 ghost use Rattle.cosecmd.specs.Faults.{WritesLine, making_fault};
 ghost use Rattle.cosecmd.specs.Job.{aad_of, is_make};
 ghost use Rattle.cosecmd.specs.Printed.{EndsWith, Fails, Prints, printed};
-ghost use Rattle.cosecmd.specs.Stated.{verified_from};
+ghost use Rattle.cosecmd.specs.Stated.{digested_from, verified_from};
 
 mod cwt;
 mod digest;
@@ -13,11 +13,11 @@ mod show;
 mod verify;
 
 use crate::fault::Fault;
-use crate::job::{FileJob, Job};
+use crate::job::{DigestFileJob, FileJob, Job};
 use crate::print::{print_fault, print_reply};
 use crate::reply::Status;
 use cwt::{cwt_reply, policy_of};
-use digest::digest_reply;
+use digest::{digest_reply, digest_reply_with_file};
 use make::make_message;
 use show::show_reply;
 use std::alloc::Global;
@@ -66,8 +66,8 @@ fn status_of<R: Read, W: Write>(alloc: Global, job: &Job, input: &mut R, output:
             let reply = cwt_reply(alloc, keys, aad, *wanted, *vouch, &policy, input);
             print_reply(alloc, reply, output)
         }
-        Job::Digest { keys, aad } => {
-            let reply = digest_reply(alloc, keys, aad, input);
+        Job::Digest { keys, aad, payload } => {
+            let reply = digest_reply(alloc, keys, aad, *payload, input);
             print_reply(alloc, reply, output)
         }
         Job::Make {
@@ -140,4 +140,31 @@ pub fn answer_with_payload_file<P: Read, R: Read, W: Write>(
 {
     let reply = verify_reply_with_file(alloc, job, payload, input);
     print_reply(alloc, reply, output).code()
+}
+
+/// Does the job `digest` with a payload that comes from a reader, next to the message: its first bytes, as many as the job
+/// states. In all else it is as [`answer_with_payload_file`].
+pub fn answer_digest_with_payload_file<P: Read, R: Read, W: Write>(
+    alloc: Global,
+    job: &DigestFileJob,
+    payload: &mut P,
+    input: &mut R,
+    output: &mut W,
+) -> u8
+    requires external { length_of job.now.aad.now ≤ 65535 }
+    ensures status { result ≤ 2 }
+    // Unless there is a fault, it prints the output for the stated bytes of the payload and all that the input gives, and
+    // ends with its status. Where the reader has fewer bytes, and the message wants them, there is a fault.
+    ensures printed { (bytes content : List ℕ) → R.remaining input.old ≡ Some bytes →
+        P.remaining payload.old ≡ Some content →
+        EndsWith (digested_from job.now content bytes) (W.contents output.old)
+        (W.contents output.new) result }
+    ensures fails { (bytes content : List ℕ) → R.remaining input.old ≡ Some bytes →
+        P.remaining payload.old ≡ Some content → result ≡ 2
+        → Fails (digested_from job.now content bytes) (W.contents output.old)
+        (W.contents output.new) }
+{
+    let reply = digest_reply_with_file(alloc, job, payload, input);
+    let status = print_reply(alloc, reply, output);
+    status.code()
 }

@@ -296,7 +296,7 @@ const COMMANDS: &[Subcommand] = &[
         name: "digest",
         about: "Prints what the signature of the COSE_Sign1 on standard input has to be verified with",
         notes: DIGEST_NOTES,
-        options: &[KEYS, KEYS_FILE, AAD],
+        options: &[KEYS, KEYS_FILE, AAD, DETACHED, PAYLOAD_FILE],
         one_of: KEY_SET,
     },
     Subcommand {

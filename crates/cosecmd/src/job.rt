@@ -46,6 +46,8 @@ pub enum Job<'j> {
         keys: &'j [u8],
         /// The externally supplied data (RFC 9052 section 4.3).
         aad: &'j [u8],
+        /// The detached payload, where there is one (RFC 9052 section 4.2).
+        payload: Option<&'j [u8]>,
     },
     /// To make a COSE_Mac0 of the payload on the input.
     Make {
@@ -74,5 +76,17 @@ pub struct FileJob<'j> {
     /// The argument of `--vouch`, where there is one.
     pub vouch: Option<&'j [u8]>,
     /// The number of bytes of the detached payload (RFC 9052 sections 4.2 and 6.2).
+    pub length: u64,
+}
+
+/// What a run is asked to do that prints what the signature of the message on the input is verified with, where the payload
+/// comes from a file.
+#[derive(Clone, Copy)]
+pub struct DigestFileJob<'j> {
+    /// The bytes of the key set (RFC 9052 section 7).
+    pub keys: &'j [u8],
+    /// The externally supplied data (RFC 9052 section 4.3).
+    pub aad: &'j [u8],
+    /// The number of bytes of the detached payload (RFC 9052 section 4.2).
     pub length: u64,
 }

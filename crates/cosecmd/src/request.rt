@@ -31,7 +31,7 @@ pub struct Cwt<'w> {
     pub aud: Option<&'w str>,
 }
 
-/// The arguments of `digest`.
+/// The arguments of `digest`, without the payload.
 #[derive(Drop)]
 pub struct Digest {
     /// The bytes of the key set.
@@ -83,7 +83,12 @@ pub enum Request<'w> {
     /// To admit a token.
     Cwt(Cwt<'w>),
     /// To print what a signature is verified with.
-    Digest(Digest),
+    Digest {
+        /// Its arguments but the payload.
+        words: Digest,
+        /// The payload.
+        payload: Payload<'w>,
+    },
     /// To make a message.
     Make(Make),
 }

@@ -8,10 +8,10 @@ ghost use Rattle.cosecmd.specs.Payload.{detached_in};
 ghost use Rattle.cosecmd.specs.Printed.{EndsWith, Fails, Output};
 ghost use Rattle.cosecmd.specs.Words.{admitted_for, asked_for, digested_for, made_for, makes, payload_for, verified_for};
 
-use crate::answer::{answer, answer_with_payload_file};
+use crate::answer::{answer, answer_digest_with_payload_file, answer_with_payload_file};
 use crate::fault::Fault;
 use crate::files::{NamedFiles, NoFiles};
-use crate::job::{FileJob, Job};
+use crate::job::{DigestFileJob, FileJob, Job};
 use crate::print::{print, print_fault};
 use crate::request::{Cwt, Digest, Make, Payload, Request, Verify};
 use crate::words::{Parsed, parse, request_of};
@@ -113,25 +113,61 @@ fn answer_cwt<R: Read, W: Write>(alloc: Global, words: &Cwt, input: &mut R, outp
     answer(alloc, &job, input, output)
 }
 
-/// The job of the command `digest`.
+/// The job of the command `digest`, where the payload is in the message, or is these bytes.
 fn answer_digest<R: Read, W: Write>(
     alloc: Global,
     words: &Digest,
+    payload: Option<&[u8]>,
     input: &mut R,
     output: &mut W,
 ) -> u8
     ensures status { result ≤ 2 }
     ensures printed { (bytes : List ℕ) → R.remaining input.old ≡ Some bytes →
-        EndsWith (digested_for words.now bytes) (W.contents output.old) (W.contents output.new)
-        result }
+        EndsWith (digested_for words.now (option_map contents payload.entry) bytes)
+        (W.contents output.old) (W.contents output.new) result }
     ensures fails { (bytes : List ℕ) → R.remaining input.old ≡ Some bytes → result ≡ 2 →
-        Fails (digested_for words.now bytes) (W.contents output.old) (W.contents output.new) }
+        Fails (digested_for words.now (option_map contents payload.entry) bytes)
+        (W.contents output.old) (W.contents output.new) }
 {
     let job = Job::Digest {
         keys: words.keys.as_slice(),
         aad: words.aad.as_slice(),
+        payload,
     };
     answer(alloc, &job, input, output)
+}
+
+/// The job of the command `digest`, where the payload is in the file of this name.
+fn answer_digest_with_file<F: NamedFiles, R: Read, W: Write>(
+    alloc: Global,
+    files: &F,
+    words: &Digest,
+    name: &str,
+    input: &mut R,
+    output: &mut W,
+) -> u8
+    ensures status { result ≤ 2 }
+    ensures printed { (bytes payload : List ℕ) → R.remaining input.old ≡ Some bytes →
+        F.content files.now name.now ≡ Some payload →
+        EndsWith (digested_for words.now (Some payload) bytes) (W.contents output.old)
+        (W.contents output.new) result }
+    ensures fails { (bytes payload : List ℕ) → R.remaining input.old ≡ Some bytes →
+        F.content files.now name.now ≡ Some payload → result ≡ 2 →
+        Fails (digested_for words.now (Some payload) bytes) (W.contents output.old)
+        (W.contents output.new) }
+{
+    let (mut file, payload_length) = match files.open_with_length(name) {
+        Ok(opened) => opened,
+        Err(error) => {
+            return print_fault(alloc, Fault::file("payload-file", &error), output).code();
+        }
+    };
+    let job = DigestFileJob {
+        keys: words.keys.as_slice(),
+        aad: words.aad.as_slice(),
+        length: payload_length,
+    };
+    answer_digest_with_payload_file(alloc, &job, &mut file, input, output)
 }
 
 /// The job of the command `make`.
@@ -181,6 +217,36 @@ fn answer_verify_request<F: NamedFiles, R: Read, W: Write>(
     }
 }
 
+/// Does what the arguments of `digest` ask for.
+fn answer_digest_request<F: NamedFiles, R: Read, W: Write>(
+    alloc: Global,
+    files: &F,
+    words: &Digest,
+    payload: &Payload,
+    input: &mut R,
+    output: &mut W,
+) -> u8
+    ensures status { result ≤ 2 }
+    ensures printed { (bytes : List ℕ) (detached : Option (List ℕ))
+        → R.remaining input.old ≡ Some bytes →
+        detached_in (F.content files.now) payload.entry.now ≡ Some detached →
+        EndsWith (digested_for words.now detached bytes) (W.contents output.old)
+        (W.contents output.new) result }
+    ensures fails { (bytes : List ℕ) (detached : Option (List ℕ))
+        → R.remaining input.old ≡ Some bytes →
+        detached_in (F.content files.now) payload.entry.now ≡ Some detached → result ≡ 2 →
+        Fails (digested_for words.now detached bytes) (W.contents output.old)
+        (W.contents output.new) }
+{
+    match payload {
+        Payload::InMessage => answer_digest(alloc, words, None, input, output),
+        Payload::Bytes(bytes) => {
+            answer_digest(alloc, words, Some(bytes.as_slice()), input, output)
+        }
+        Payload::File(name) => { answer_digest_with_file(alloc, files, words, name, input, output) }
+    }
+}
+
 /// Does what the arguments ask for, and returns how the run ends.
 fn answer_request<F: NamedFiles, R: Read, W: Write>(
     alloc: Global,
@@ -211,7 +277,9 @@ fn answer_request<F: NamedFiles, R: Read, W: Write>(
             answer_verify_request(alloc, files, words, payload, input, output)
         }
         Request::Cwt(words) => answer_cwt(alloc, words, input, output),
-        Request::Digest(words) => answer_digest(alloc, words, input, output),
+        Request::Digest { words, payload } => {
+            answer_digest_request(alloc, files, words, payload, input, output)
+        }
         Request::Make(words) => answer_make(alloc, words, input, output),
     }
 }

@@ -3,7 +3,7 @@
 ghost use Rattle.std.specs.Prelude.{◌≡◌, ◌≢◌, ◌≤◌, ◌⊎◌, ℕ, true, false, List, Option, Some, IfErr, IfOk, codes, length as length_in, map, option_map, string_bytes};
 ghost use Rattle.clap.specs.Matches.{first_value, found_of, subcommand_name_of};
 ghost use Rattle.cose_cwt.specs.Claims.Audience.{text_value};
-ghost use Rattle.cosecmd.specs.CommandLine.{AsksFor, IsReadFrom, begins_as_answer, matches_print, verify_prints};
+ghost use Rattle.cosecmd.specs.CommandLine.{AsksFor, IsReadFrom, begins_as_answer, digest_prints, matches_print, verify_prints};
 ghost use Rattle.cosecmd.specs.Fields.{CwtFields, DigestFields, HasKeysOf, IsKeyOf, MakeFields, VerifyFields};
 ghost use Rattle.cosecmd.specs.Options.{algorithm_in, bytes_in, hex_bytes, integer_in, kind_in, kind_named, number_in, optional_bytes_in, options_of, payload_in, text_in};
 ghost use Rattle.cosecmd.specs.Payload.{IsFile, detached_in};
@@ -276,7 +276,7 @@ fn cwt_of<'a, F: NamedFiles>(
     })
 }
 
-/// The arguments of `digest`, in the order in which help lists them.
+/// The arguments of `digest` but the payload, in the order in which help lists them.
 fn digest_of<F: NamedFiles>(alloc: Global, files: &F, matches: &ArgMatches) -> Result<Digest, Fault>
     ensures { IfOk result (DigestFields (F.content files.now) (options_of matches.now)) }
 {
@@ -319,6 +319,22 @@ fn verify_request<'a, F: NamedFiles>(
     Ok(Request::Verify { words, payload })
 }
 
+/// What the arguments of `digest` ask for. The payload goes last, as help lists it.
+fn digest_request<'a, F: NamedFiles>(
+    alloc: Global,
+    files: &F,
+    matches: &ArgMatches<'a>,
+) -> Result<Request<'a>, Fault>
+    ensures asks { IfOk result (λ request. (bytes : List ℕ) (said : Output) →
+        digest_prints (F.content files.now) (options_of matches.now) bytes ≡ Some said →
+        AsksFor (F.content files.now) request bytes said) }
+    ensures digests { IfOk result (λ request. makes request ≡ false) }
+{
+    let words = digest_of(alloc, files, matches)?;
+    let payload = payload_of(alloc, matches)?;
+    Ok(Request::Digest { words, payload })
+}
+
 /// What the arguments, the first of which is the program's name, say to clap.
 pub fn parse<'a>(alloc: Global, words: &'a [&'a str]) -> Result<Parsed<'a>, Fault>
     ensures { IfOk result (IsReadFrom (map (λ word. word.now) words.entry.now)) }
@@ -352,7 +368,7 @@ pub fn request_of<'a, F: NamedFiles>(
         return Ok(Request::Cwt(cwt_of(alloc, files, cwt)?));
     }
     if let Some(digest) = matches.subcommand_matches("digest") {
-        return Ok(Request::Digest(digest_of(alloc, files, digest)?));
+        return digest_request(alloc, files, digest);
     }
     match matches.subcommand_matches("make") {
         Some(make) => Ok(Request::Make(make_of(alloc, files, make)?)),

@@ -1,18 +1,33 @@
 //! The line of the job `digest`: what the signature of a message is verified with.
 
-ghost use Rattle.std.specs.Prelude.{◌≡◌, ◌≤◌, ◌↔◌, ◌||◌, ℕ, List, Some, Ok, Err, IfErr, IfOk, length};
+ghost use Rattle.std.specs.Prelude.{◌≡◌, ◌≤◌, ◌↔◌, ◌||◌, ◌⊎◌, ℕ, false, List, Some, Ok, Err, IfErr, IfOk, codes, length, option_map};
 ghost use Rattle.cose_head.specs.declared.refusal.Refusal.{Refusal};
-ghost use Rattle.cosecmd.specs.Faults.{fails_by_input};
-ghost use Rattle.cosecmd.specs.Printed.{Says, digested_under, program_keys, vouched};
+ghost use Rattle.cose_map.specs.Key.View.{contents};
+ghost use Rattle.cose_map.specs.KeyTable.{keys as usable};
+ghost use Rattle.cose_msg.specs.Detached.{EitherFails};
+ghost use Rattle.cose_msg.specs.Kept.{bytes_taken};
+ghost use Rattle.cose_msg.specs.Shown.{sign_input_of};
+ghost use Rattle.cose_msg.specs.Verifier.{setting_of};
+ghost use Rattle.cosecmd.specs.Faults.{NamesOption, fails_by_file, fails_by_input};
+ghost use Rattle.cosecmd.specs.PayloadFile.{counted};
+ghost use Rattle.cosecmd.specs.Printed.{Says, digested_before, digested_in, digested_under, program_keys, vouched, with_payload};
+ghost use Rattle.cosecmd.specs.Stated.{DigestedOf, digested_from};
 
 use crate::answer::verify::{
     CHUNK, HEADER, KEYS, NESTING, program_context, reply_of, trailing_at, whole_verdict,
 };
 use crate::fault::Fault;
+use crate::job::DigestFileJob;
+use crate::payload_file::PayloadFile;
 use crate::reply::{Reply, Status};
 use crate::vouch::word_for;
-use cose_msg::laws::{deciding_goes_last, settled_stays, spelled_is_read, unrefused_is_message};
-use cose_msg::{Intake, KeyTable, Never, Nothing, ReadIntake, Verdict, Verifier, Wanted, verify};
+use cose_msg::laws::{
+    deciding_goes_last, payload_stays, settled_stays, spelled_is_read, unrefused_is_message,
+};
+use cose_msg::{
+    Context, Intake, KeyTable, Never, Nothing, ReadIntake, SliceIntake, Verdict, Verifier, Wanted,
+    verify, verify_detached,
+};
 use std::alloc::Global;
 use std::io::Read;
 
@@ -27,45 +42,21 @@ fn word_reply(alloc: Global, word: &[u8]) -> Result<Reply, Fault>
     Ok(Reply { status, text })
 }
 
-/// The reply to the message of an intake: no byte may follow a message whose signature is there.
-fn digested_reply<I: Intake>(
+/// The reply after a message that the verifier has read, and that has this verdict as long as nobody decides on its signature:
+/// no byte may follow a message whose signature is there.
+fn signed_reply<'k, I: Intake>(
     alloc: Global,
-    keys: &[u8],
-    aad: &[u8],
+    verdict: Verdict,
+    verifier: &Verifier<'k, HEADER, NESTING, KeyTable<'k, KEYS>>,
     intake: &mut I,
 ) -> Result<Reply, Fault>
-    requires external { length aad.now ≤ 65535 }
-    ensures says { (bytes : List ℕ) → I.to_come intake.old ≡ Some bytes →
-        IfOk result (Says (digested_under (program_keys keys.now) aad.now bytes)) }
-    ensures keys { (refusal : Refusal)
-        → program_keys keys.now ≡ Err refusal ↔ result ≡ Err (Fault.Keys refusal) }
-    // Its fault is that the input failed exactly where the intake failed in this call.
+    ensures says { (rest : List ℕ) → I.to_come intake.old ≡ Some rest →
+        IfOk result (Says (digested_before rest (sign_input_of verifier.now)
+        (bytes_taken verifier.now) verdict)) }
+    // Its fault is that the input failed exactly where the intake failed in this call, or else that there is no memory.
+    ensures fault { IfErr result (λ fault. (fault ≡ Fault.Memory) ⊎ (fault ≡ Fault.Input)) }
     ensures input { I.has_failed intake.new ≡ (I.has_failed intake.old || fails_by_input result) }
 {
-    // Laws of messages that the proof cites.
-    settled_stays();
-    deciding_goes_last();
-    spelled_is_read();
-    unrefused_is_message();
-    let keys = match KeyTable::<KEYS>::read(keys) {
-        Ok(keys) => keys,
-        Err(refusal) => return Err(Fault::Keys(refusal)),
-    };
-    let mut verifier = Verifier::<HEADER, NESTING, KeyTable<'_, KEYS>>::new(program_context(
-        keys,
-        aad,
-        Wanted::Sign1,
-    ));
-    let verdict = match verify::<CHUNK, HEADER, NESTING, _, _, _, _>(
-        &mut verifier,
-        intake,
-        &mut Nothing,
-        &Never,
-    ) {
-        Ok(verdict) => verdict,
-        // The sink `Nothing` never fails, and a new verifier hasn't stopped.
-        Err(_) => return Err(Fault::Input),
-    };
     let Some((key, digest, signature)) = verifier.sign_input() else {
         let verdict = whole_verdict(verdict, intake)?;
         return reply_of(alloc, verdict);
@@ -79,18 +70,195 @@ fn digested_reply<I: Intake>(
     }
 }
 
+/// The reply to the message of an intake, which has its payload.
+fn attached_reply<'j, I: Intake>(
+    alloc: Global,
+    context: Context<'j, KeyTable<'j, KEYS>>,
+    intake: &mut I,
+) -> Result<Reply, Fault>
+    requires external { length context.aad.now ≤ 65535 }
+    ensures says { (bytes : List ℕ) → I.to_come intake.old ≡ Some bytes →
+        IfOk result (Says (digested_in (setting_of usable context.entry) bytes)) }
+    ensures fault { IfErr result (λ fault. (fault ≡ Fault.Memory) ⊎ (fault ≡ Fault.Input)) }
+    ensures input { I.has_failed intake.new ≡ (I.has_failed intake.old || fails_by_input result) }
+{
+    // Laws of messages that the proof cites.
+    settled_stays();
+    deciding_goes_last();
+    spelled_is_read();
+    unrefused_is_message();
+    let mut verifier = Verifier::<HEADER, NESTING, KeyTable<'_, KEYS>>::new(context);
+    let verdict = verify::<CHUNK, HEADER, NESTING, _, _, _, _>(
+        &mut verifier,
+        intake,
+        &mut Nothing,
+        &Never,
+    );
+    match verdict {
+        Ok(verdict) => signed_reply(alloc, verdict, &verifier, intake),
+        // The sink `Nothing` never fails, and a new verifier hasn't stopped.
+        Err(_) => Err(Fault::Input),
+    }
+}
+
+/// The reply to the message of an intake, which has nil in the place of the payload. The payload has so many bytes, and they
+/// come from an intake of their own.
+fn detached_reply<'j, I: Intake, P: Intake>(
+    alloc: Global,
+    context: Context<'j, KeyTable<'j, KEYS>>,
+    payload_length: u64,
+    payload: &mut P,
+    intake: &mut I,
+) -> Result<Reply, Fault>
+    requires external { length context.aad.now ≤ 65535 }
+    ensures came { (bytes : List ℕ) → I.to_come intake.old ≡ Some bytes →
+        IfOk result (λ said. DigestedOf (setting_of usable context.entry) payload_length bytes
+        (P.to_come payload.old) (P.to_come payload.new) (P.ended payload.new) said) }
+    ensures fault { IfErr result (λ fault. (fault ≡ Fault.Memory) ⊎ (fault ≡ Fault.Input)) }
+    // One of the intakes has failed in this call, where the fault is of an input, and otherwise none.
+    ensures failure { EitherFails (fails_by_input result)
+        (I.has_failed intake.old) (I.has_failed intake.new)
+        (P.has_failed payload.old) (P.has_failed payload.new) }
+{
+    // Laws of messages that the proof cites.
+    settled_stays();
+    deciding_goes_last();
+    spelled_is_read();
+    unrefused_is_message();
+    let mut verifier = Verifier::<HEADER, NESTING, KeyTable<'_, KEYS>>::detached(
+        context,
+        payload_length,
+    );
+    let verdict = verify_detached::<CHUNK, HEADER, NESTING, _, _, _, _, _>(
+        &mut verifier,
+        intake,
+        payload,
+        &mut Nothing,
+        &Never,
+    );
+    match verdict {
+        Ok(verdict) => signed_reply(alloc, verdict, &verifier, intake),
+        // The sink `Nothing` never fails, and a new verifier hasn't stopped.
+        Err(_stop) => Err(Fault::Input),
+    }
+}
+
+/// The reply to the message of an intake, which has nil in the place of the payload. The payload's bytes are these.
+fn reply_with_bytes<'j, I: Intake>(
+    alloc: Global,
+    context: Context<'j, KeyTable<'j, KEYS>>,
+    payload: &[u8],
+    intake: &mut I,
+) -> Result<Reply, Fault>
+    requires external { length context.aad.now ≤ 65535 }
+    ensures says { (bytes : List ℕ) → I.to_come intake.old ≡ Some bytes →
+        IfOk result
+        (Says (digested_in (with_payload (Some payload.now) (setting_of usable context.entry))
+        bytes)) }
+    ensures fault { IfErr result (λ fault. (fault ≡ Fault.Memory) ⊎ (fault ≡ Fault.Input)) }
+    ensures input { I.has_failed intake.new ≡ (I.has_failed intake.old || fails_by_input result) }
+{
+    // The law that the proof cites: what comes of a payload changes nothing where none of it is wanted.
+    payload_stays();
+    let payload_length = payload.len() as u64;
+    let mut payload_intake = SliceIntake::new(payload, CHUNK);
+    detached_reply(alloc, context, payload_length, &mut payload_intake, intake)
+}
+
+/// The reply to the message of an intake: the key set is read before the intake is asked.
+fn digested_reply<I: Intake>(
+    alloc: Global,
+    keys: &[u8],
+    aad: &[u8],
+    payload: Option<&[u8]>,
+    intake: &mut I,
+) -> Result<Reply, Fault>
+    requires external { length aad.now ≤ 65535 }
+    ensures says { (bytes : List ℕ) → I.to_come intake.old ≡ Some bytes →
+        IfOk result (Says (digested_under (program_keys keys.now) aad.now
+        (option_map contents payload.entry) bytes)) }
+    ensures keys { (refusal : Refusal)
+        → program_keys keys.now ≡ Err refusal ↔ result ≡ Err (Fault.Keys refusal) }
+    // Its fault is that the input failed exactly where the intake failed in this call.
+    ensures input { I.has_failed intake.new ≡ (I.has_failed intake.old || fails_by_input result) }
+{
+    let keys = match KeyTable::<KEYS>::read(keys) {
+        Ok(keys) => keys,
+        Err(refusal) => return Err(Fault::Keys(refusal)),
+    };
+    let context = program_context(keys, aad, Wanted::Sign1);
+    match payload {
+        Some(payload) => reply_with_bytes(alloc, context, payload, intake),
+        None => attached_reply(alloc, context, intake),
+    }
+}
+
 /// The reply to the job `digest`: the key set is read before the input.
 pub fn digest_reply<R: Read>(
     alloc: Global,
     keys: &[u8],
     aad: &[u8],
+    payload: Option<&[u8]>,
     input: &mut R,
 ) -> Result<Reply, Fault>
     requires external { length aad.now ≤ 65535 }
     ensures says { (bytes : List ℕ) → R.remaining input.old ≡ Some bytes →
-        IfOk result (Says (digested_under (program_keys keys.now) aad.now bytes)) }
+        IfOk result (Says (digested_under (program_keys keys.now) aad.now
+        (option_map contents payload.entry) bytes)) }
     ensures keys { (refusal : Refusal) →
         program_keys keys.now ≡ Err refusal ↔ result ≡ Err (Fault.Keys refusal) }
 {
-    digested_reply(alloc, keys, aad, &mut ReadIntake::new(input))
+    digested_reply(alloc, keys, aad, payload, &mut ReadIntake::new(input))
+}
+
+/// The reply to the message of an intake whose payload comes from a file: the key set is read before either is asked.
+fn digested_with_file<I: Intake, R: Read>(
+    alloc: Global,
+    job: &DigestFileJob,
+    payload: &mut PayloadFile<R>,
+    intake: &mut I,
+) -> Result<Reply, Fault>
+    requires external { length job.now.aad.now ≤ 65535 }
+    requires sound { ⟦<PayloadFile<R> as Intake>⟧.has_failed payload.old ≡ false }
+    ensures says { (bytes content : List ℕ) → I.to_come intake.old ≡ Some bytes →
+        ⟦<PayloadFile<R> as Intake>⟧.to_come payload.old ≡ counted job.now.length (Some content)
+        → IfOk result (Says (digested_from job.now content bytes)) }
+    ensures keys { (refusal : Refusal) →
+        program_keys job.now.keys.now ≡ Err refusal ↔ result ≡ Err (Fault.Keys refusal) }
+    // Its fault is that the file failed, or the input, exactly where it failed in this call.
+    ensures file { ⟦<PayloadFile<R> as Intake>⟧.has_failed payload.new ≡ fails_by_file result }
+    ensures option { IfErr result (NamesOption (codes "payload-file")) }
+    ensures input { I.has_failed intake.new ≡ (I.has_failed intake.old || fails_by_input result) }
+{
+    // The law that the proof cites: what comes of a payload changes nothing where none of it is wanted.
+    payload_stays();
+    let keys = match KeyTable::<KEYS>::read(job.keys) {
+        Ok(keys) => keys,
+        Err(refusal) => return Err(Fault::Keys(refusal)),
+    };
+    let context = program_context(keys, job.aad, Wanted::Sign1);
+    match detached_reply(alloc, context, job.length, payload, intake) {
+        Ok(reply) => Ok(reply),
+        Err(_) if payload.has_failed() => Err(Fault::File("payload-file")),
+        Err(fault) => Err(fault),
+    }
+}
+
+/// The reply to the job `digest`, where the payload comes from a reader. Its bytes after the stated length are left unread.
+pub fn digest_reply_with_file<P: Read, R: Read>(
+    alloc: Global,
+    job: &DigestFileJob,
+    payload: &mut P,
+    input: &mut R,
+) -> Result<Reply, Fault>
+    requires external { length job.now.aad.now ≤ 65535 }
+    ensures says { (bytes content : List ℕ) → R.remaining input.old ≡ Some bytes →
+        P.remaining payload.old ≡ Some content →
+        IfOk result (Says (digested_from job.now content bytes)) }
+    ensures keys { (refusal : Refusal) →
+        program_keys job.now.keys.now ≡ Err refusal ↔ result ≡ Err (Fault.Keys refusal) }
+{
+    let mut intake = ReadIntake::new(input);
+    let mut payload_file = PayloadFile::new(payload, job.length);
+    digested_with_file(alloc, job, &mut payload_file, &mut intake)
 }
