@@ -450,7 +450,7 @@ class Round:
         if draft.command != "show":
             items.append(("keys", self.argument(draft.keys)))
         protected, payload, auth = map(self.string, (draft.protected, draft.payload, draft.auth))
-        if draft.command == "verify" and self.happens(0.2):
+        if draft.command in ("verify", "digest") and self.happens(0.2):
             items.append(("payload", self.argument(draft.payload[:ARGUMENT_BYTES])))
             payload = payload if self.slips() else NIL
         self.chance.shuffle(items)
