@@ -19,16 +19,18 @@ mod print;
 mod reply;
 mod request;
 mod run;
+mod streams;
 mod vouch;
 mod words;
 mod write_sink;
 
 use run::run_with_files;
 use std::alloc::{AllocError, Global};
-use std::io::{ErrorKind, Write};
+use std::io::{ErrorKind, IsTerminal, Write};
 use std::process::ExitCode;
 use std::rt::Env;
 use std::{env, io};
+use streams::{Noted, hold_closed, reads_input};
 
 /// The arguments of the command line, each of them UTF-8.
 fn owned_words(rt: &(impl Env + Alloc<A = Global>)) -> io::Result<Vec<String>> {
@@ -57,22 +59,42 @@ fn complain<W: Write>(output: &mut W, text: &str) -> ExitCode
     ExitCode::from(2)
 }
 
-fn main(rt: HostRuntime) -> ExitCode {
+/// Runs `make`. The output is meant to be a message, so a fault's line goes to standard error too.
+fn run_make(rt: &HostRuntime, words: &[&str]) -> u8 {
+    let mut output = Noted::new(rt.stdout());
+    let status = run_with_files(rt.alloc(), words, rt, &mut rt.stdin(), &mut output);
+    if let (2, Some(line)) = (status, output.fault()) {
+        let _ = rt.stderr().write_all(line);
+    }
+    status
+}
+
+/// Runs the command of these arguments over the standard streams, and says on standard error that it waits for a terminal.
+fn run_command(rt: &HostRuntime, words: &[&str]) -> u8 {
+    if reads_input(words) && rt.stdin().is_terminal() {
+        let _ = rt.eprintln("cosecmd: reading from this terminal, up to its end of file");
+    }
+    if words.get(1) == Some(&"make") {
+        return run_make(rt, words);
+    }
     let mut output = rt.stdout();
+    run_with_files(rt.alloc(), words, rt, &mut rt.stdin(), &mut output)
+}
+
+fn main(rt: HostRuntime) -> ExitCode {
+    let _input = hold_closed(&rt, "/dev/fd/0");
+    let _output = hold_closed(&rt, "/dev/fd/1");
+    let _error = hold_closed(&rt, "/dev/fd/2");
     let owned = match owned_words(&rt) {
         Ok(owned) => owned,
         Err(error) if matches!(error.kind(), ErrorKind::InvalidData) => {
             let text = "error: invalid UTF-8 was detected in one or more arguments\n";
-            return complain(&mut output, text);
+            return complain(&mut rt.stdout(), text);
         }
-        Err(_) => return complain(&mut output, "fault memory\n"),
+        Err(_) => return complain(&mut rt.stdout(), "fault memory\n"),
     };
     match borrowed_words(rt.alloc(), owned.as_slice()) {
-        Ok(words) => {
-            let mut input = rt.stdin();
-            let status = run_with_files(rt.alloc(), words.as_slice(), &rt, &mut input, &mut output);
-            ExitCode::from(status)
-        }
-        Err(_) => complain(&mut output, "fault memory\n"),
+        Ok(words) => ExitCode::from(run_command(&rt, words.as_slice())),
+        Err(_) => complain(&mut rt.stdout(), "fault memory\n"),
     }
 }
