@@ -6,6 +6,7 @@ mod debug;
 mod examples;
 mod messages;
 mod required;
+mod restricted;
 mod stops;
 
 ghost use Rattle.std.specs.Prelude.{◌≡◌, ◌≤◌, length, true};
