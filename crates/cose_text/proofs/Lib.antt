@@ -1,0 +1,7 @@
+pub mod Calendar
+pub mod Dates
+pub mod Levels
+pub mod Texts
+pub mod Trees
+pub mod WorkedDates
+pub mod WorkedDiagnostic

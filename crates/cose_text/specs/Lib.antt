@@ -1,0 +1,4 @@
+pub mod Date
+pub mod Diagnostic
+pub mod Quoted
+pub mod Shown
