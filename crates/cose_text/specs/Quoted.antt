@@ -1,5 +1,5 @@
 -- Texts in quotes (RFC 8949 section 8): a string of JSON (RFC 8259 section 7), of printable ASCII characters alone.
-use Rattle.std.specs.Prelude.{ℕ, ◌+◌, ◌-◌, ◌/◌, ◌%◌, List, [], ◌∷◌, ◌++◌, map, codes, nat_lt, ◌==◌, ◌&&◌, ◌||◌, if◌then◌else◌}
+use Rattle.std.specs.Prelude.{◌≡◌, ℕ, ◌+◌, ◌-◌, ◌/◌, ◌%◌, List, [], ◌∷◌, ◌++◌, map, Option, Some, None, codes, nat_lt, ◌==◌, ◌&&◌, ◌||◌, if◌then◌else◌}
 use Rattle.std.specs.List.{concat}
 use Rattle.std.specs.Int.{w16, to_be_bytes}
 use Rattle.std.specs.Str.{chars}
@@ -32,3 +32,15 @@ chars_text content = concat (map char_text (chars content))
 
 abbrev pub quoted : List ℕ → List ℕ
 quoted content = 34 ∷ chars_text content ++ codes "\""
+
+-- What follows a text in quotes, for a reader that is past the first quote (RFC 8259 section 7): a backslash and the character
+-- after it are passed together, and the next quote ends the text.
+unfoldable pub past_quotes : List ℕ → Option (List ℕ)
+past_quotes [] = None
+past_quotes (c ∷ []) = if c == 34 then Some [] else None
+past_quotes (c ∷ d ∷ rest) =
+    if c == 34 then Some (d ∷ rest) else if c == 92 then past_quotes rest else past_quotes (d ∷ rest)
+
+-- So a text ends where its quotes do, whatever its characters are and whatever follows.
+abbrev pub QuotesEnd : Type 0
+QuotesEnd = (content rest : List ℕ) → past_quotes (chars_text content ++ 34 ∷ rest) ≡ Some rest

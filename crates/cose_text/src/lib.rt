@@ -1,13 +1,13 @@
 //! What people read of a message: an item in diagnostic notation (RFC 8949 section 8), a text in quotes, and a date
 //! (RFC 3339).
 //!
-//! Each text is of printable ASCII characters alone, whatever the bytes are, and each in a form that ends where it
-//! says: no text of a message can look like another item, line or date. The texts are appended to a `String` of the
-//! caller, which may be refused memory.
+//! A text is written in printable ASCII characters, and ends where its quotes do, whatever its bytes are
+//! ([`laws::quotes_end`]). All is appended to a `String` of the caller, which may be refused memory.
 #![tactic(auto)]
 
 mod date;
 mod diagnostic;
+pub mod laws;
 mod quoted;
 
 pub use date::Date;
