@@ -127,19 +127,19 @@ is_followed setting decides policy bytes come_after count claims refusal left h 
     sym (left.2 ∙ ap (λ (r : Option Refusal). or_trailing r claims) (sym (h left.0 left.1)))
 
 -- A reply with the outcome for a token, where nothing stopped it.
-says_unless : {F : Type 0} (outcome whole : Outcome) (reply : Result Reply F) → UnlessStopped outcome (outcome ≡ whole) → IfOk reply (Says (outcome_said outcome)) → IfOk reply (λ _. stop_in outcome ≡ None) →
-    IfOk reply (Says (outcome_said whole))
-says_unless outcome whole (Err fault) is says unstopped = tt
-says_unless (Ok claims) whole (Ok reply) is says unstopped = subst (λ (o : Outcome). Says (outcome_said o) reply) is says
-says_unless (Err (stops.Message refusal)) whole (Ok reply) is says unstopped = subst (λ (o : Outcome). Says (outcome_said o) reply) is says
-says_unless (Err (stops.Claims refusal)) whole (Ok reply) is says unstopped = subst (λ (o : Outcome). Says (outcome_said o) reply) is says
-says_unless (Err (stops.Stopped stop)) whole (Ok reply) is says unstopped = absurd cc
+says_unless : {F : Type 0} (readable : Bool) (outcome whole : Outcome) (reply : Result Reply F) → UnlessStopped outcome (outcome ≡ whole) → IfOk reply (Says (outcome_said readable outcome)) → IfOk reply (λ _. stop_in outcome ≡ None) →
+    IfOk reply (Says (outcome_said readable whole))
+says_unless readable outcome whole (Err fault) is says unstopped = tt
+says_unless readable (Ok claims) whole (Ok reply) is says unstopped = subst (λ (o : Outcome). Says (outcome_said readable o) reply) is says
+says_unless readable (Err (stops.Message refusal)) whole (Ok reply) is says unstopped = subst (λ (o : Outcome). Says (outcome_said readable o) reply) is says
+says_unless readable (Err (stops.Claims refusal)) whole (Ok reply) is says unstopped = subst (λ (o : Outcome). Says (outcome_said readable o) reply) is says
+says_unless readable (Err (stops.Stopped stop)) whole (Ok reply) is says unstopped = absurd cc
 
-pub says_admitted : {F : Type 0} (set : Read (List KeyValue)) (keys : List KeyValue) (setting : Setting) (aad : List ℕ) (wanted : Wanted) (vouch : Option (List ℕ)) (policy : PolicyValue) (bytes : List ℕ) (outcome : Outcome) (reply : Result Reply F) →
-    set ≡ Ok keys → setting ≡ token_setting keys aad wanted → UnlessStopped outcome (outcome ≡ input_token setting (vouching vouch) policy bytes) → IfOk reply (Says (outcome_said outcome)) →
-    IfOk reply (λ _. stop_in outcome ≡ None) → IfOk reply (Says (admitted_under set aad wanted vouch policy bytes))
-says_admitted set keys setting aad wanted vouch policy bytes outcome reply usable under is says unstopped =
-    let said = says_unless outcome (input_token setting (vouching vouch) policy bytes) reply is says unstopped in
-    let same : outcome_said (input_token setting (vouching vouch) policy bytes) ≡ admitted_under set aad wanted vouch policy bytes =
-    ap (λ (x : Setting). outcome_said (input_token x (vouching vouch) policy bytes)) under ∙ ap (λ (t : Read (List KeyValue)). admitted_under t aad wanted vouch policy bytes) (sym usable) in
+pub says_admitted : {F : Type 0} (set : Read (List KeyValue)) (keys : List KeyValue) (setting : Setting) (aad : List ℕ) (wanted : Wanted) (vouch : Option (List ℕ)) (policy : PolicyValue) (readable : Bool) (bytes : List ℕ) (outcome : Outcome) (reply : Result Reply F) →
+    set ≡ Ok keys → setting ≡ token_setting keys aad wanted → UnlessStopped outcome (outcome ≡ input_token setting (vouching vouch) policy bytes) → IfOk reply (Says (outcome_said readable outcome)) →
+    IfOk reply (λ _. stop_in outcome ≡ None) → IfOk reply (Says (admitted_under set aad wanted vouch policy readable bytes))
+says_admitted set keys setting aad wanted vouch policy readable bytes outcome reply usable under is says unstopped =
+    let said = says_unless readable outcome (input_token setting (vouching vouch) policy bytes) reply is says unstopped in
+    let same : outcome_said readable (input_token setting (vouching vouch) policy bytes) ≡ admitted_under set aad wanted vouch policy readable bytes =
+    ap (λ (x : Setting). outcome_said readable (input_token x (vouching vouch) policy bytes)) under ∙ ap (λ (t : Read (List KeyValue)). admitted_under t aad wanted vouch policy readable bytes) (sym usable) in
     subst (λ o. IfOk reply (Says o)) same said

@@ -4,7 +4,7 @@ use Rattle.std.proofs.Math.Seq.{take-length}
 use Rattle.std.proofs.lemmas.Bool.{le-ltb}
 use Rattle.cose_map.specs.Key.View.{contents}
 use Rattle.cose_msg.specs.declared.context.Wanted.{Wanted}
-use Rattle.cosecmd.specs.declared.job.Job.TheVariants.{Show, Verify, Cwt, Digest, Make}
+use Rattle.cosecmd.specs.declared.job.Job.TheVariants.{Verify, Cwt, Digest, Make}
 use Rattle.cosecmd.specs.declared.request.Cwt.{Cwt as CwtWords}
 use Rattle.cosecmd.specs.declared.request.Digest.{Digest as DigestWords}
 use Rattle.cosecmd.specs.declared.request.Make.{Make as MakeWords}
@@ -13,7 +13,7 @@ use Rattle.cosecmd.specs.declared.request.Request.TheVariants as asks
 use Rattle.cosecmd.specs.declared.request.Verify.{Verify as VerifyWords}
 use Rattle.cosecmd.specs.declared.job.DigestFileJob.{DigestFileJob}
 use Rattle.cosecmd.specs.declared.job.FileJob.{FileJob}
-use Rattle.cosecmd.specs.Printed.{EndsWith, Fails, Output, printed}
+use Rattle.cosecmd.specs.Printed.{EndsWith, Fails, Output, printed, shown}
 use Rattle.cosecmd.specs.Stated.{digested_from, verified_from}
 use Rattle.cosecmd.specs.Words.{admitted_for, asked_for, digested_for, made_for, makes, verified_for}
 
@@ -28,7 +28,7 @@ fails_with old new e fails = subst (λ (output : Output). Fails output old new) 
 -- A message is made only by the command of this name.
 pub not_made : (request : Request) (A : Type 0) → (makes request ≡ true → A) → (A → ⊥) → makes request ≡ false
 not_made (asks.Make words) A by_name other = absurd (other (by_name refl))
-not_made (asks.Show wanted) A by_name other = refl
+not_made (asks.Show wanted diagnostic) A by_name other = refl
 not_made (asks.Verify words from) A by_name other = refl
 not_made (asks.Cwt words) A by_name other = refl
 not_made (asks.Digest words from) A by_name other = refl
@@ -41,7 +41,7 @@ verify_words words keys aad vouch payload detached bytes k a v p = rw (k, a, v, 
 
 pub cwt_words : (words : CwtWords) (keys aad : Bor (List ℕ)) (vouch : Option (Bor (List ℕ))) (now : ℤ) (bytes : List ℕ) → keys.now ≡ words.verify.keys.items → aad.now ≡ words.verify.aad.items →
     option_map contents vouch ≡ option_map (λ word. word.items) words.verify.vouch → now ≡ words.now →
-    printed (Cwt keys aad words.verify.wanted vouch now words.leeway words.aud) bytes ≡ admitted_for words bytes
+    printed (Cwt keys aad words.verify.wanted vouch now words.leeway words.aud words.readable) bytes ≡ admitted_for words bytes
 unfolding printed
 cwt_words words keys aad vouch now bytes k a v n = rw (k, a, v, n) refl
 
@@ -55,9 +55,9 @@ pub make_words : (words : MakeWords) (key aad : Bor (List ℕ)) (kid : Option (B
 unfolding printed
 make_words words key aad kid bytes k a v = rw (k, a, v) refl
 
-pub show_words : (request : Request) (wanted : Wanted) (payload : Option (List ℕ)) (bytes : List ℕ) → request ≡ asks.Show wanted → printed (Show wanted) bytes ≡ asked_for request payload bytes
-unfolding printed
-show_words request wanted payload bytes is = rw is refl
+pub show_words : (request : Request) (wanted : Wanted) (diagnostic : Bool) (payload : Option (List ℕ)) (bytes : List ℕ) → request ≡ asks.Show wanted diagnostic →
+    shown wanted diagnostic bytes ≡ asked_for request payload bytes
+show_words request wanted diagnostic payload bytes is = rw is refl
 
 -- ---- a payload in a file
 

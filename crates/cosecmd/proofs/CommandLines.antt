@@ -10,7 +10,7 @@ use Rattle.cose_map.specs.Key.{key_of}
 use Rattle.cosecmd.specs.Admitted.{program_policy}
 use Rattle.cosecmd.specs.CommandLine.{IsFoundIn, IsReadFrom, begins_as_answer, command_prints, cwt_prints, digest_prints, line_prints, make_prints, matches_print, verify_prints}
 use Rattle.cosecmd.specs.Fields.{CwtFields, DigestFields, MakeFields, VerifyFields}
-use Rattle.cosecmd.specs.Options.{Options, key_in, key_set_in, kind_in, payload_in, text_in}
+use Rattle.cosecmd.specs.Options.{Options, flag_in, key_in, key_set_in, kind_in, payload_in, text_in}
 use Rattle.cosecmd.specs.Printed.{Output, admitted_under, digested_under, made_under, program_keys, verified_under}
 use Rattle.cosecmd.specs.Words.{admitted_for, digested_for, made_for, verified_for}
 use Rattle.cosecmd.specs.declared.request.Cwt.{Cwt}
@@ -55,10 +55,10 @@ cwt_asks content options words bytes said fields prints = go (key_set_in content
         let none : None ≡ Some said = rw keys at prints in
         cc
     go (Some known) keys =
-        let some : Some (admitted_under (program_keys known) words.verify.aad.items (kind_in options) vouch (program_policy words.now words.leeway (text_in (codes "aud") options)) bytes) ≡ Some said =
+        let some : Some (admitted_under (program_keys known) words.verify.aad.items (kind_in options) vouch (program_policy words.now words.leeway (text_in (codes "aud") options)) (flag_in (codes "text") options) bytes) ≡ Some said =
         rw (keys, fields.verify.aad, fields.verify.vouch, fields.now, fields.leeway) at prints in
-        let same : admitted_under (program_keys known) words.verify.aad.items (kind_in options) vouch (program_policy words.now words.leeway (text_in (codes "aud") options)) bytes ≡ said = cc in
-        rw (fields.verify.keys known keys, fields.verify.kind, fields.aud) same
+        let same : admitted_under (program_keys known) words.verify.aad.items (kind_in options) vouch (program_policy words.now words.leeway (text_in (codes "aud") options)) (flag_in (codes "text") options) bytes ≡ said = cc in
+        rw (fields.verify.keys known keys, fields.verify.kind, fields.aud, fields.readable) same
 
 pub digest_asks : (content : List ℕ → Option (List ℕ)) (options : Options) (words : Digest) (payload : Option (Option (List ℕ))) (bytes : List ℕ) (said : Output)
     → DigestFields content options words → payload ≡ payload_in content options → digest_prints content options bytes ≡ Some said

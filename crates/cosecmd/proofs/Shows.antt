@@ -1,5 +1,5 @@
 -- A reply that prints what is shown of an input.
-use Rattle.std.proofs.Common.{◌≡◌, ℕ, List, ◌∷◌, ◌++◌, length, Option, Some, None, Result, refl, sym, ap, subst, ◌∙◌, append_assoc}
+use Rattle.std.proofs.Common.{◌≡◌, ℕ, Bool, List, ◌∷◌, ◌++◌, length, Option, Some, None, Result, refl, sym, ap, subst, ◌∙◌, append_assoc}
 use Rattle.std.specs.Prelude.{IfOk}
 use Rattle.std.specs.Io.KnownBytes.{Consumes}
 use Rattle.cose_head.specs.declared.kind.Kind.{Kind}
@@ -15,35 +15,35 @@ use Rattle.cosecmd.specs.declared.reply.Reply.{Reply}
 use Rattle.cosecmd.specs.Printed.{Output, Says, trailing_refusal, bucket_lines, pair_line, program_setting, said_of, shape_said, shown, shown_as, shown_of, trailed}
 use Rattle.cosecmd.proofs.Trailing.{all_taken, kept_at_end, left_of_input, refused_past}
 
-module _ {F : Type 0} (setting : Setting) (keys : List KeyValue) (aad : List ℕ) (wanted : Wanted) (under : setting ≡ program_setting keys aad wanted) (bytes : List ℕ) (reply : Result Reply F) where
+module _ {F : Type 0} (setting : Setting) (keys : List KeyValue) (aad : List ℕ) (wanted : Wanted) (diagnostic : Bool) (under : setting ≡ program_setting keys aad wanted) (bytes : List ℕ) (reply : Result Reply F) where
   -- Inspecting looks at no key and at no external data.
   rules : Rules
   rules = inspecting 1024 8 setting
 
-  shown_so : (output : Output) → shown_of (length bytes) (message rules bytes) ≡ output → IfOk reply (Says output) → IfOk reply (Says (shown wanted bytes))
+  shown_so : (output : Output) → shown_of diagnostic (length bytes) (message rules bytes) ≡ output → IfOk reply (Says output) → IfOk reply (Says (shown wanted diagnostic bytes))
   unfolding rules
   shown_so output e s =
-      let same : shown_of (length bytes) (message rules bytes) ≡ shown wanted bytes = ap (λ (x : Setting). shown_of (length bytes) (message (inspecting 1024 8 x) bytes)) under in
+      let same : shown_of diagnostic (length bytes) (message rules bytes) ≡ shown wanted diagnostic bytes = ap (λ (x : Setting). shown_of diagnostic (length bytes) (message (inspecting 1024 8 x) bytes)) under in
       subst (λ (o : Output). IfOk reply (Says o)) (sym e ∙ same) s
 
-  pub says_refused : (refusal : Refusal) → (message (inspecting 1024 8 setting) bytes).answer ≡ decided (Refused refusal) → IfOk reply (Says (said_of (Refused refusal))) → IfOk reply (Says (shown wanted bytes))
+  pub says_refused : (refusal : Refusal) → (message (inspecting 1024 8 setting) bytes).answer ≡ decided (Refused refusal) → IfOk reply (Says (said_of (Refused refusal))) → IfOk reply (Says (shown wanted diagnostic bytes))
   unfolding rules
   says_refused refusal e s =
-      shown_so (said_of (Refused refusal)) (ap (λ (a : Answer). shown_as (message rules bytes).told (trailed (length bytes) a)) e) s
+      shown_so (said_of (Refused refusal)) (ap (λ (a : Answer). shown_as diagnostic (message rules bytes).told (trailed (length bytes) a)) e) s
 
   module _ (come come_after : Option (List ℕ)) (taken : List ℕ) (kind : Kind) (payload auth count : ℕ) (told : come ≡ Some bytes) (consumes : Consumes come come_after taken) (counted : count ≡ length taken)
       (shape : (message (inspecting 1024 8 setting) bytes).answer ≡ shaped kind payload auth count) where
-    pub says_trailing : (refusal : Refusal) → ((rest : List ℕ) → come_after ≡ Some rest → Some refusal ≡ trailing_refusal rest count) → IfOk reply (Says (said_of (Refused refusal))) → IfOk reply (Says (shown wanted bytes))
+    pub says_trailing : (refusal : Refusal) → ((rest : List ℕ) → come_after ≡ Some rest → Some refusal ≡ trailing_refusal rest count) → IfOk reply (Says (said_of (Refused refusal))) → IfOk reply (Says (shown wanted diagnostic bytes))
     unfolding rules
     says_trailing refusal h s =
         let o = left_of_input come come_after bytes taken told consumes in
         let e : trailed (length bytes) (message rules bytes).answer ≡ decided (Refused refusal) =
         ap (λ (a : Answer). trailed (length bytes) a) shape ∙ refused_past bytes taken o.0 (shaped kind payload auth count) count refusal refl o.2 counted (h o.0 o.1) in
-        shown_so (said_of (Refused refusal)) (ap (shown_as (message rules bytes).told) e) s
+        shown_so (said_of (Refused refusal)) (ap (shown_as diagnostic (message rules bytes).told) e) s
 
     pub says_shape : (protected unprotected : Option (List Pair)) → ((rest : List ℕ) → come_after ≡ Some rest → None ≡ trailing_refusal rest count) →
         protected ≡ (message (inspecting 1024 8 setting) taken).told.protected → unprotected ≡ (message (inspecting 1024 8 setting) taken).told.unprotected →
-        IfOk reply (Says (shape_said kind payload auth count protected unprotected)) → IfOk reply (Says (shown wanted bytes))
+        IfOk reply (Says (shape_said diagnostic kind payload auth count protected unprotected)) → IfOk reply (Says (shown wanted diagnostic bytes))
     unfolding rules
     says_shape protected unprotected h p u s =
         let o = left_of_input come come_after bytes taken told consumes in
@@ -52,11 +52,11 @@ module _ {F : Type 0} (setting : Setting) (keys : List KeyValue) (aad : List ℕ
         ap (λ (a : Answer). trailed (length bytes) a) shape ∙ kept_at_end bytes taken (shaped kind payload auth count) count refl all counted in
         let q : protected ≡ (message rules bytes).told.protected = p ∙ ap (λ (t : List ℕ). (message rules t).told.protected) (sym all) in
         let w : unprotected ≡ (message rules bytes).told.unprotected = u ∙ ap (λ (t : List ℕ). (message rules t).told.unprotected) (sym all) in
-        shown_so (shape_said kind payload auth count protected unprotected)
-        (ap (shown_as (message rules bytes).told) e ∙ rw (← q, ← w) refl) s
+        shown_so (shape_said diagnostic kind payload auth count protected unprotected)
+        (ap (shown_as diagnostic (message rules bytes).told) e ∙ rw (← q, ← w) refl) s
 
 -- One line more, and one pair fewer is left.
-pub one_line_more : (bucket text text_after all : List ℕ) (pair : Pair) (left : List Pair) → text ++ bucket_lines bucket (Some (pair ∷ left)) ≡ all →
-    text_after ≡ text ++ pair_line bucket pair → text_after ++ bucket_lines bucket (Some left) ≡ all
-one_line_more bucket text text_after all pair left e more =
-    ap (λ (t : List ℕ). t ++ bucket_lines bucket (Some left)) more ∙ append_assoc text (pair_line bucket pair) (bucket_lines bucket (Some left)) ∙ e
+pub one_line_more : (diagnostic : Bool) (bucket text text_after all : List ℕ) (pair : Pair) (left : List Pair) → text ++ bucket_lines diagnostic bucket (Some (pair ∷ left)) ≡ all →
+    text_after ≡ text ++ pair_line diagnostic bucket pair → text_after ++ bucket_lines diagnostic bucket (Some left) ≡ all
+one_line_more diagnostic bucket text text_after all pair left e more =
+    ap (λ (t : List ℕ). t ++ bucket_lines diagnostic bucket (Some left)) more ∙ append_assoc text (pair_line diagnostic bucket pair) (bucket_lines diagnostic bucket (Some left)) ∙ e

@@ -47,7 +47,7 @@ use Rattle.hex.specs.Hex.{encode_with}
 -- text names.
 unfoldable said : ℕ → ℕ → Option String → List ℕ → Output
 unfolding admitted claims_of claims_table members_table confirmation_of texts_from key_of key_table material_of check_pairs children_of items_from look head_of_item bare_head read head depth_of is_utf8 chars lib.Utf8.encode digits encode_with
-said now leeway aud payload = outcome_said (of_claims (admitted_claims 8 (program_policy (pos now) leeway (option_map codes aud)) payload))
+said now leeway aud payload = outcome_said false (of_claims (admitted_claims 8 (program_policy (pos now) leeway (option_map codes aud)) payload))
 
 -- The claims of RFC 8392 appendix A.1: exp is 1444064944 at 59, nbf 1443944944 at 65, and the audience is at 32.
 abbrev example : String
@@ -144,7 +144,7 @@ confirmed_sign = refl
 
 -- To admit a token of either kind under a key set, at a current time, whatever its audience.
 abbrev admitting : List ℕ → ℕ → Job
-admitting keys now = Cwt (word keys) (word []) wants.Tagged None (pos now) 0 None
+admitting keys now = Cwt (word keys) (word []) wants.Tagged None (pos now) 0 None false
 
 unfoldable prints : List ℕ → ℕ → List ℕ → Output
 unfolding printed admitted claims_of claims_table members_table confirmation_of texts_from keys_of key_of key_table material_of message with_head with_string with_item bucket_of bucket_table check_pairs pair_faults chosen children_of items_from look head_of_item bare_head read head depth_of is_utf8 chars lib.Utf8.encode digits encode_with
@@ -187,13 +187,13 @@ found = record { key = record { kid = None; alg = None; operations = None; mater
 
 unfoldable said_behind : ℕ → ℕ → Bool → Output
 unfolding said
-said_behind now n holds = outcome_said (token_told n (program_policy (pos now) 0 None) (hex example)
+said_behind now n holds = outcome_said false (token_told n (program_policy (pos now) 0 None) (hex example)
     (verified [] (vouching None) (Some found) (if holds then decided (Authentic Mac0 Hmac256 80 123) else refused BadAuth 89)))
 
 -- For an authentic message with this payload; its claims nest at most 8 deep.
 unfoldable said_of_payload : List ℕ → Output
 unfolding said
-said_of_payload payload = outcome_said (token_told 0 (program_policy (pos 0) 0 None) payload (decided (Authentic Mac0 Hmac256 0 0)))
+said_of_payload payload = outcome_said false (token_told 0 (program_policy (pos 0) 0 None) payload (decided (Authentic Mac0 Hmac256 0 0)))
 
 nested_claims : Prints said_of_payload (
     ("a10a8181818181818100", lines ("admitted" ∷ [])) ∷

@@ -1,5 +1,5 @@
 -- What the options of a command say, and what is printed for a command line, on examples, by computing.
-use Rattle.std.specs.Prelude.{◌≡◌, ℕ, List, [], ◌∷◌, Option, Some, None, codes, pos, refl}
+use Rattle.std.specs.Prelude.{◌≡◌, ℕ, true, false, List, [], ◌∷◌, Option, Some, None, codes, pos, refl}
 use Rattle.clap.specs.Walk.{Row, Text}
 use Rattle.clap.specs.declared.builder.value_parser.Reading.TheVariants as readings
 use Rattle.clap.specs.declared.parser.matches.ValueSource.TheVariants.{CommandLine}
@@ -82,8 +82,15 @@ in_the_message = refl
 
 -- ---- command lines
 
-show_line : (bytes : List ℕ) → line_prints no_file (Some (codes "show", given (codes "kind") (codes "sign1") ∷ [])) bytes ≡ Some (shown Sign1 bytes)
+show_line : (bytes : List ℕ) → line_prints no_file (Some (codes "show", given (codes "kind") (codes "sign1") ∷ [])) bytes ≡ Some (shown Sign1 false bytes)
 show_line bytes = refl
+
+diagnostic_line : (bytes : List ℕ) → line_prints no_file (Some (codes "show", given (codes "kind") (codes "mac0") ∷ given (codes "diagnostic") (codes "true") ∷ [])) bytes ≡ Some (shown Mac0 true bytes)
+diagnostic_line bytes = refl
+
+-- Where a flag is left out, clap gives it this argument.
+plain_line : (bytes : List ℕ) → line_prints no_file (Some (codes "show", given (codes "diagnostic") (codes "false") ∷ [])) bytes ≡ Some (shown Tagged false bytes)
+plain_line bytes = refl
 
 verify_line : (bytes : List ℕ) → line_prints any_file (Some (codes "verify", given (codes "keys") (codes "80") ∷ given (codes "payload-file") (codes "a") ∷ given (codes "vouch") (codes "01") ∷ [])) bytes ≡
     Some (verified_under (program_keys (128 ∷ [])) [] Tagged (Some (1 ∷ [])) (Some (1 ∷ 97 ∷ [])) bytes)
@@ -91,9 +98,14 @@ unfolding decode_pairs
 verify_line bytes = refl
 
 cwt_line : (bytes : List ℕ) → line_prints no_file (Some (codes "cwt", given (codes "keys") (codes "80") ∷ number (codes "now") (codes "9") ∷ number (codes "leeway") (codes "5") ∷ given (codes "aud") (codes "x") ∷ [])) bytes ≡
-    Some (admitted_under (program_keys (128 ∷ [])) [] Tagged None (program_policy (pos 9) 5 (Some (120 ∷ []))) bytes)
+    Some (admitted_under (program_keys (128 ∷ [])) [] Tagged None (program_policy (pos 9) 5 (Some (120 ∷ []))) false bytes)
 unfolding decode_pairs
 cwt_line bytes = refl
+
+text_line : (bytes : List ℕ) → line_prints no_file (Some (codes "cwt", given (codes "keys") (codes "80") ∷ number (codes "now") (codes "9") ∷ number (codes "leeway") (codes "5") ∷ given (codes "text") (codes "true") ∷ [])) bytes ≡
+    Some (admitted_under (program_keys (128 ∷ [])) [] Tagged None (program_policy (pos 9) 5 None) true bytes)
+unfolding decode_pairs
+text_line bytes = refl
 
 make_line : (bytes : List ℕ) → line_prints no_file (Some (codes "make", number (codes "alg") (codes "5") ∷ given (codes "key") (codes "a0") ∷ number (codes "length") (codes "2") ∷ given (codes "kid") (codes "0b") ∷ [])) bytes ≡
     Some (made_under (key_of (record { bytes = 160 ∷ []; place = 0 })) Hmac256 2 (Some (11 ∷ [])) [] bytes)

@@ -1,5 +1,5 @@
 -- What the program prints for messages that it shows, on examples, by computing.
-use Rattle.std.specs.Prelude.{◌≡◌, ℕ, List, [], ◌∷◌, ◌++◌, replicate, codes, refl}
+use Rattle.std.specs.Prelude.{◌≡◌, ℕ, true, false, List, [], ◌∷◌, ◌++◌, replicate, codes, refl}
 use Prim.Native.String.{String}
 use Rattle.std.specs.Fmt.{digits}
 use Rattle.std.specs.Str.{is_utf8, chars}
@@ -14,6 +14,7 @@ use Rattle.cose_map.specs.Map.Read.{check_pairs}
 use Rattle.cose_msg.specs.Message.{message}
 use Rattle.cose_msg.specs.Reading.{with_head, with_string, with_item}
 use Rattle.cose_msg.specs.declared.context.Wanted.TheVariants as wants
+use Rattle.cose_text.specs.Diagnostic.{diagnostic}
 use Rattle.cosecmd.specs.declared.job.Job.{Job}
 use Rattle.cosecmd.specs.declared.job.Job.TheVariants.{Show}
 use Rattle.cosecmd.specs.declared.reply.Status.TheVariants as statuses
@@ -22,7 +23,7 @@ use Rattle.cosecmd.proofs.WorkedPrinted.{hex, line, Prints}
 use Rattle.hex.specs.Hex.{encode_with}
 
 unfoldable prints : Job → List ℕ → Output
-unfolding printed message with_head with_string with_item bucket_of bucket_table check_pairs pair_faults children_of items_from look head_of_item bare_head read head depth_of is_utf8 chars lib.Utf8.encode digits encode_with
+unfolding printed diagnostic message with_head with_string with_item bucket_of bucket_table check_pairs pair_faults children_of items_from look head_of_item bare_head read head depth_of is_utf8 chars lib.Utf8.encode digits encode_with
 prints job input = printed job input
 
 -- Lines of a run that ends with status `Done`.
@@ -37,31 +38,38 @@ lines texts = record { text = all texts; status = statuses.Done }
 abbrev after : String → ℕ → List ℕ
 after front n = hex front ++ replicate n 0
 
-shape_of_mac0 : prints (Show wants.Tagged) (after "d18443a10105a0 426869 5820" 32) ≡ lines ("shape mac0 payload 2 auth 32 taken 44" ∷ "protected 01 05" ∷ [])
+shape_of_mac0 : prints (Show wants.Tagged false) (after "d18443a10105a0 426869 5820" 32) ≡ lines ("shape mac0 payload 2 auth 32 taken 44" ∷ "protected 01 05" ∷ [])
 unfolding prints
 shape_of_mac0 = refl
 
-shape_of_sign1 : prints (Show wants.Tagged) (after "d28443a10126a0 40 5840" 64) ≡ lines ("shape sign1 payload 0 auth 64 taken 74" ∷ "protected 01 26" ∷ [])
+shape_of_sign1 : prints (Show wants.Tagged false) (after "d28443a10126a0 40 5840" 64) ≡ lines ("shape sign1 payload 0 auth 64 taken 74" ∷ "protected 01 26" ∷ [])
 unfolding prints
 shape_of_sign1 = refl
 
-nested_value : prints (Show wants.Tagged) (after "d18443a10105a10a81818100 426869 5820" 32) ≡
+nested_value : prints (Show wants.Tagged false) (after "d18443a10105a10a81818100 426869 5820" 32) ≡
     lines ("shape mac0 payload 2 auth 32 taken 49" ∷ "protected 01 05" ∷ "unprotected 0a 81818100" ∷ [])
 unfolding prints
 nested_value = refl
 
 -- In the order of the message, the bytes as they were received; no key is required, and no length of the tag.
-order_of_message : prints (Show wants.Mac0) (hex "8447a2180a61780105a0 40 40") ≡ lines ("shape mac0 payload 0 auth 0 taken 12" ∷ "protected 180a 6178" ∷ "protected 01 05" ∷ [])
+order_of_message : prints (Show wants.Mac0 false) (hex "8447a2180a61780105a0 40 40") ≡ lines ("shape mac0 payload 0 auth 0 taken 12" ∷ "protected 180a 6178" ∷ "protected 01 05" ∷ [])
 unfolding prints
 order_of_message = refl
 
+-- In diagnostic notation too: a text ends no line, and no quotes.
+in_notation : prints (Show wants.Mac0 true) (hex "844ba2180a6522203a0a0a0105a1186482f943c1a16101f6 40 40") ≡ lines (
+    "shape mac0 payload 0 auth 0 taken 26" ∷ "protected 180a 6522203a0a0a 10: \"\\\" :\\u000a\\u000a\"" ∷ "protected 01 05 1: 5" ∷
+    "unprotected 1864 82f943c1a16101f6 100: [float'43c1', {\"\\u0001\": null}]" ∷ [])
+unfolding prints
+in_notation = refl
+
 -- The tag of a CWT may come first.
-in_cwt : prints (Show wants.Tagged) (hex "d83dd18443a10105a0 40 40") ≡ lines ("shape mac0 payload 0 auth 0 taken 11" ∷ "protected 01 05" ∷ [])
+in_cwt : prints (Show wants.Tagged false) (hex "d83dd18443a10105a0 40 40") ≡ lines ("shape mac0 payload 0 auth 0 taken 11" ∷ "protected 01 05" ∷ [])
 unfolding prints
 in_cwt = refl
 
 -- The limits are those of `verify`, and no label is understood in addition to the standard's.
-at_the_limits : Prints (prints (Show wants.Tagged)) (
+at_the_limits : Prints (prints (Show wants.Tagged false)) (
     ("d184590400", line "refused Truncated at 5" statuses.Refused) ∷
     ("d184590401", line "refused PastRoom at 2" statuses.Refused) ∷
     ("d1844aa10a8181818181818100", line "refused Truncated at 13" statuses.Refused) ∷
@@ -76,7 +84,7 @@ at_the_limits : Prints (prints (Show wants.Tagged)) (
 unfolding prints
 at_the_limits = refl
 
-not_shown : Prints (prints (Show wants.Tagged)) (
+not_shown : Prints (prints (Show wants.Tagged false)) (
     ("", line "refused Truncated at 0" statuses.Refused) ∷
     ("d18443a10105a0 40 40 ff", line "refused Trailing at 9" statuses.Refused) ∷
     ("8443a10105a0 40 40", line "refused WrongTag at 0" statuses.Refused) ∷

@@ -1,5 +1,5 @@
 -- What the program prints of a token (RFC 8392 section 7.2), and how it ends: the claims that are admitted, or why there are none.
-use Rattle.std.specs.Prelude.{ℕ, ℤ, true, false, List, [], ◌∷◌, ◌++◌, length, map, Option, Some, None, Ok, Err, option_map, codes, nat_lt, if◌then◌else◌}
+use Rattle.std.specs.Prelude.{ℕ, ℤ, Bool, true, false, List, [], ◌∷◌, ◌++◌, length, map, Option, Some, None, Ok, Err, option_map, codes, nat_lt, if◌then◌else◌}
 use Rattle.std.specs.List.{concat}
 use Rattle.std.specs.Fmt.{decimal, signed_decimal}
 use Rattle.cose_head.specs.declared.reason.Reason.TheVariants.{Trailing}
@@ -18,6 +18,7 @@ use Rattle.cose_cwt.specs.Confirmation.{ConfirmationValue}
 use Rattle.cose_cwt.specs.Token.{Outcome, of_claims, read_as}
 use Rattle.cosecmd.specs.declared.reply.Status.{Status}
 use Rattle.cosecmd.specs.declared.reply.Status.TheVariants as statuses
+use Rattle.cosecmd.specs.Readable.{date_notation, text_notation}
 use Rattle.hex.specs.Hex.{encode_lower}
 
 -- What a token has to meet: where there is a text and the token names an audience, the token is for that text. Without
@@ -55,12 +56,16 @@ abbrev pub where_present : {A : Type 0} → (A → List ℕ) → Option A → Li
 where_present line None = []
 where_present line (Some value) = line value
 
--- Texts and bytes in lower case hexadecimal, dates in decimal.
+-- Texts and bytes in lower case hexadecimal, dates in decimal; after a text and a date, where it is asked for, the text in
+-- quotes and the date as RFC 3339 has it.
+abbrev pub text_line : Bool → List ℕ → List ℕ → List ℕ
+text_line readable name text = name ++ codes " " ++ encode_lower text ++ text_notation readable text ++ codes "\n"
+
 abbrev pub bytes_line : List ℕ → List ℕ → List ℕ
 bytes_line name bytes = name ++ codes " " ++ encode_lower bytes ++ codes "\n"
 
-abbrev pub date_line : List ℕ → ℤ → List ℕ
-date_line name date = name ++ codes " " ++ signed_decimal date ++ codes "\n"
+abbrev pub date_line : Bool → List ℕ → ℤ → List ℕ
+date_line readable name date = name ++ codes " " ++ signed_decimal date ++ date_notation readable date ++ codes "\n"
 
 -- The key that is confirmed: its curve, x and y, or the sign of y. A symmetric one isn't confirmed.
 abbrev pub y_word : YValue → List ℕ
@@ -80,14 +85,14 @@ confirmation_lines confirmation = where_present key_line confirmation.key ++ whe
 
 -- The registered claims (RFC 8392 section 3.1) in the order of their labels, and last the confirmation (RFC 8747 section 3.1).
 -- A line for each text of the audience.
-abbrev pub claims_lines : ClaimsValue → List ℕ
-claims_lines claims =
-    where_present (bytes_line (codes "iss")) (iss_of claims)
-    ++ where_present (bytes_line (codes "sub")) (sub_of claims)
-    ++ concat (map (bytes_line (codes "aud")) (auds_of claims))
-    ++ where_present (date_line (codes "exp")) (exp_of claims)
-    ++ where_present (date_line (codes "nbf")) (nbf_of claims)
-    ++ where_present (date_line (codes "iat")) (iat_of claims)
+abbrev pub claims_lines : Bool → ClaimsValue → List ℕ
+claims_lines readable claims =
+    where_present (text_line readable (codes "iss")) (iss_of claims)
+    ++ where_present (text_line readable (codes "sub")) (sub_of claims)
+    ++ concat (map (text_line readable (codes "aud")) (auds_of claims))
+    ++ where_present (date_line readable (codes "exp")) (exp_of claims)
+    ++ where_present (date_line readable (codes "nbf")) (nbf_of claims)
+    ++ where_present (date_line readable (codes "iat")) (iat_of claims)
     ++ where_present (bytes_line (codes "cti")) (cti_of claims)
     ++ where_present confirmation_lines claims.confirmation
 
@@ -95,11 +100,11 @@ claims_lines claims =
 abbrev pub refused_line : List ℕ → Refusal → List ℕ
 refused_line part refusal = codes "refused " ++ part ++ codes " " ++ refusal_text refusal ++ codes "\n"
 
-abbrev pub outcome_text : Outcome → List ℕ
-outcome_text (Ok claims) = codes "admitted\n" ++ claims_lines claims
-outcome_text (Err (stops.Message refusal)) = refused_line (codes "message") refusal
-outcome_text (Err (stops.Claims refusal)) = refused_line (codes "claims") refusal
-outcome_text (Err (stops.Stopped stop)) = []
+abbrev pub outcome_text : Bool → Outcome → List ℕ
+outcome_text readable (Ok claims) = codes "admitted\n" ++ claims_lines readable claims
+outcome_text readable (Err (stops.Message refusal)) = refused_line (codes "message") refusal
+outcome_text readable (Err (stops.Claims refusal)) = refused_line (codes "claims") refusal
+outcome_text readable (Err (stops.Stopped stop)) = []
 
 abbrev pub outcome_status : Outcome → Status
 outcome_status (Ok claims) = statuses.Done

@@ -12,7 +12,7 @@ use Rattle.cose_map.specs.Key.{key_of}
 use Rattle.cose_msg.specs.Sink.{AppendsFront}
 use Rattle.cosecmd.specs.Admitted.{program_policy}
 use Rattle.cosecmd.specs.Faults.{WritesLine}
-use Rattle.cosecmd.specs.Options.{Options, algorithm_in, bytes_in, integer_in, key_in, key_set_in, kind_in, number_in, optional_bytes_in, payload_in, text_in}
+use Rattle.cosecmd.specs.Options.{Options, algorithm_in, bytes_in, flag_in, integer_in, key_in, key_set_in, kind_in, number_in, optional_bytes_in, payload_in, text_in}
 use Rattle.cosecmd.specs.Printed.{EndsWith, Fails, Output, admitted_under, digested_under, made_under, program_keys, shown, verified_under}
 use Rattle.cosecmd.specs.Words.{asked_for, payload_for}
 use Rattle.cosecmd.specs.declared.fault.Fault.{Fault}
@@ -41,7 +41,7 @@ cwt_prints content options bytes = do
   vouch ← optional_bytes_in (codes "vouch") options
   now ← integer_in (codes "now") options
   leeway ← number_in (codes "leeway") options
-  Some (admitted_under (program_keys keys) aad (kind_in options) vouch (program_policy now leeway (text_in (codes "aud") options)) bytes)
+  Some (admitted_under (program_keys keys) aad (kind_in options) vouch (program_policy now leeway (text_in (codes "aud") options)) (flag_in (codes "text") options) bytes)
 
 abbrev pub digest_prints : (List ℕ → Option (List ℕ)) → Options → List ℕ → Option Output
 digest_prints content options bytes = do
@@ -62,7 +62,7 @@ make_prints content options bytes = do
 -- By the name of the command and its options.
 abbrev pub command_prints : (List ℕ → Option (List ℕ)) → Text → Options → List ℕ → Option Output
 command_prints content name options bytes =
-    if bytes_eq name (codes "show") then Some (shown (kind_in options) bytes)
+    if bytes_eq name (codes "show") then Some (shown (kind_in options) (flag_in (codes "diagnostic") options) bytes)
     else if bytes_eq name (codes "verify") then verify_prints content options bytes
     else if bytes_eq name (codes "cwt") then cwt_prints content options bytes
     else if bytes_eq name (codes "digest") then digest_prints content options bytes

@@ -1,7 +1,7 @@
 -- What the arguments of a command ask for: each field is the value of the option of its name.
 use Rattle.std.specs.Prelude.{◌≡◌, ℕ, List, Option, Some, codes, option_map}
 use Rattle.cose_cwt.specs.Claims.Audience.{text_value}
-use Rattle.cosecmd.specs.Options.{Options, algorithm_in, bytes_in, integer_in, key_in, key_set_in, kind_in, number_in, optional_bytes_in, text_in}
+use Rattle.cosecmd.specs.Options.{Options, algorithm_in, bytes_in, flag_in, integer_in, key_in, key_set_in, kind_in, number_in, optional_bytes_in, text_in}
 use Rattle.cosecmd.specs.Printed.{program_keys}
 use Rattle.cosecmd.specs.declared.request.Cwt.{Cwt}
 use Rattle.cosecmd.specs.declared.request.Digest.{Digest}
@@ -27,6 +27,7 @@ pub record CwtFields (content : List ℕ → Option (List ℕ)) (options : Optio
   pub now : integer_in (codes "now") options ≡ Some words.now
   pub leeway : number_in (codes "leeway") options ≡ Some words.leeway
   pub aud : option_map text_value words.aud ≡ text_in (codes "aud") options
+  pub readable : words.readable ≡ flag_in (codes "text") options
 
 pub record DigestFields (content : List ℕ → Option (List ℕ)) (options : Options) (words : Digest) : Type 0 where
   pub keys : HasKeysOf content options words.keys.items

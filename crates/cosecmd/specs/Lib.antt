@@ -8,6 +8,7 @@ pub mod Options
 pub mod Payload
 pub mod PayloadFile
 pub mod Printed
+pub mod Readable
 pub mod Stated
 pub mod Vouch
 pub mod Words

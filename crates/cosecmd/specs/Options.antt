@@ -1,5 +1,5 @@
 -- What the options of a command say: the value of each, by the argument that clap found for its name.
-use Rattle.std.specs.Prelude.{ℕ, ℤ, List, [], Option, Some, None, Result, Ok, Err, option_and_then, option_map, unwrap_or, codes, pos, if◌then◌else◌}
+use Rattle.std.specs.Prelude.{ℕ, ℤ, Bool, List, [], Option, Some, None, Result, Ok, Err, option_and_then, option_map, unwrap_or, codes, pos, if◌then◌else◌}
 use Rattle.std.specs.Str.{bytes_eq}
 use Rattle.std.specs.Str.Parse.{digits_value, signed_digits_value, without_leading_plus}
 use Rattle.clap.specs.Matches.{found_of}
@@ -67,6 +67,10 @@ kind_named text = if bytes_eq text (codes "mac0") then wants.Mac0 else if bytes_
 
 abbrev pub kind_in : Options → Wanted
 kind_in options = kind_named (unwrap_or (text_in (codes "kind") options) (codes "tagged"))
+
+-- An option without an argument: clap gives it the argument `true`, and `false` where it is left out.
+abbrev pub flag_in : Text → Options → Bool
+flag_in name options = bytes_eq (unwrap_or (text_in name options) (codes "false")) (codes "true")
 
 abbrev pub algorithm_in : Options → Option Alg
 algorithm_in options = option_and_then (λ number. algorithm_numbered (pos number)) (number_in (codes "alg") options)

@@ -1,5 +1,5 @@
 -- What the program prints for a job and an input, and how it ends.
-use Rattle.std.specs.Prelude.{◌≡◌, ◌≢◌, ◌⊎◌, ℕ, ◌<◌, ◌-◌, ◌^◌, true, List, [], ◌∷◌, ◌++◌, length, map, take, Option, Some, None, Ok, Err, option_map, codes, string_bytes, nat_lt, if◌then◌else◌}
+use Rattle.std.specs.Prelude.{◌≡◌, ◌≢◌, ◌⊎◌, ℕ, ◌<◌, ◌-◌, ◌^◌, Bool, true, List, [], ◌∷◌, ◌++◌, length, map, take, Option, Some, None, Ok, Err, option_map, codes, string_bytes, nat_lt, if◌then◌else◌}
 use Rattle.std.specs.List.{concat}
 use Rattle.std.specs.Fmt.{decimal, signed_decimal}
 use Rattle.std.specs.Io.KnownBytes.{Appends}
@@ -7,6 +7,7 @@ use Rattle.cose_head.specs.declared.kind.Kind.{Kind}
 use Rattle.cose_head.specs.declared.kind.Kind.TheVariants.{Mac0, Sign1}
 use Rattle.cose_head.specs.declared.reason.Reason.TheVariants.{Trailing}
 use Rattle.cose_head.specs.declared.refusal.Refusal.{Refusal}
+use Rattle.cose_head.specs.Placed.{Placed}
 use Rattle.cose_head.specs.Refusal.{refusal_text}
 use Rattle.cose_head.specs.declared.algorithm.Alg.{Alg}
 use Rattle.cose_head.specs.Algorithm.{algorithm_number}
@@ -44,6 +45,7 @@ use Rattle.cosecmd.specs.declared.job.Job.TheVariants.{Show, Verify, Cwt, Digest
 use Rattle.cosecmd.specs.declared.reply.Reply.{Reply}
 use Rattle.cosecmd.specs.declared.reply.Status.{Status}
 use Rattle.cosecmd.specs.declared.reply.Status.TheVariants as statuses
+use Rattle.cosecmd.specs.Readable.{pair_notation}
 use Rattle.cosecmd.specs.Vouch.{vouch_word, vouching}
 use Rattle.hex.specs.Hex.{encode_lower}
 
@@ -153,12 +155,12 @@ verified_with job payload bytes =
 abbrev pub token_setting : List KeyValue → List ℕ → Wanted → Setting
 token_setting keys aad wanted = record (program_setting keys aad wanted) { payload_limit = 4096 }
 
-abbrev pub outcome_said : Outcome → Output
-outcome_said outcome = record { text = outcome_text outcome; status = outcome_status outcome }
+abbrev pub outcome_said : Bool → Outcome → Output
+outcome_said readable outcome = record { text = outcome_text readable outcome; status = outcome_status outcome }
 
-abbrev pub admitted_under : Read (List KeyValue) → List ℕ → Wanted → Option (List ℕ) → PolicyValue → List ℕ → Output
-admitted_under (Ok keys) aad wanted vouch policy bytes = outcome_said (input_token (token_setting keys aad wanted) (vouching vouch) policy bytes)
-admitted_under (Err refusal) aad wanted vouch policy bytes = fault_of_keys refusal
+abbrev pub admitted_under : Read (List KeyValue) → List ℕ → Wanted → Option (List ℕ) → PolicyValue → Bool → List ℕ → Output
+admitted_under (Ok keys) aad wanted vouch policy readable bytes = outcome_said readable (input_token (token_setting keys aad wanted) (vouching vouch) policy bytes)
+admitted_under (Err refusal) aad wanted vouch policy readable bytes = fault_of_keys refusal
 
 -- The shape of a message: its kind, and the numbers of bytes of its payload, of its tag or signature, and of the whole.
 abbrev pub shape_line : Kind → ℕ → ℕ → ℕ → List ℕ
@@ -166,32 +168,36 @@ shape_line kind payload auth taken =
     codes "shape " ++ word_of_kind kind ++ codes " payload " ++ decimal payload ++ codes " auth " ++ decimal auth ++ codes " taken " ++ decimal taken ++ codes "\n"
 
 -- A line for each pair of a bucket, in the order of the message: the bytes of its label and of its value as they were
--- received.
-abbrev pub pair_line : List ℕ → Pair → List ℕ
-pair_line bucket pair = bucket ++ codes " " ++ encode_lower pair.label.bytes ++ codes " " ++ encode_lower pair.value.bytes ++ codes "\n"
+-- received, and their notation where it is asked for.
+abbrev pub item_line : Bool → List ℕ → Placed → Placed → List ℕ
+item_line diagnostic bucket label value =
+    bucket ++ codes " " ++ encode_lower label.bytes ++ codes " " ++ encode_lower value.bytes ++ pair_notation diagnostic label value ++ codes "\n"
 
-abbrev pub bucket_lines : List ℕ → Option (List Pair) → List ℕ
-bucket_lines bucket None = []
-bucket_lines bucket (Some pairs) = concat (map (pair_line bucket) pairs)
+abbrev pub pair_line : Bool → List ℕ → Pair → List ℕ
+pair_line diagnostic bucket pair = item_line diagnostic bucket pair.label pair.value
+
+abbrev pub bucket_lines : Bool → List ℕ → Option (List Pair) → List ℕ
+bucket_lines diagnostic bucket None = []
+bucket_lines diagnostic bucket (Some pairs) = concat (map (pair_line diagnostic bucket) pairs)
 
 -- The shape, then the pairs of the protected bucket, then those of the unprotected one.
-abbrev pub shape_said : Kind → ℕ → ℕ → ℕ → Option (List Pair) → Option (List Pair) → Output
-shape_said kind payload auth taken protected unprotected = record {
-  text = shape_line kind payload auth taken ++ bucket_lines (codes "protected") protected ++ bucket_lines (codes "unprotected") unprotected;
+abbrev pub shape_said : Bool → Kind → ℕ → ℕ → ℕ → Option (List Pair) → Option (List Pair) → Output
+shape_said diagnostic kind payload auth taken protected unprotected = record {
+  text = shape_line kind payload auth taken ++ bucket_lines diagnostic (codes "protected") protected ++ bucket_lines diagnostic (codes "unprotected") unprotected;
   status = statuses.Done;
 }
 
-abbrev pub shown_as : Told → Answer → Output
-shown_as told (shaped kind payload auth taken) = shape_said kind payload auth taken told.protected told.unprotected
-shown_as told (decided verdict) = said_of verdict
-shown_as told (complete whole) = none_said
+abbrev pub shown_as : Bool → Told → Answer → Output
+shown_as diagnostic told (shaped kind payload auth taken) = shape_said diagnostic kind payload auth taken told.protected told.unprotected
+shown_as diagnostic told (decided verdict) = said_of verdict
+shown_as diagnostic told (complete whole) = none_said
 
-abbrev pub shown_of : ℕ → Reading → Output
-shown_of n reading = shown_as reading.told (trailed n reading.answer)
+abbrev pub shown_of : Bool → ℕ → Reading → Output
+shown_of diagnostic n reading = shown_as diagnostic reading.told (trailed n reading.answer)
 
 -- A message is shown as it is when it is only inspected: under no key.
-abbrev pub shown : Wanted → List ℕ → Output
-shown wanted bytes = shown_of (length bytes) (message (inspecting 1024 8 (program_setting [] [] wanted)) bytes)
+abbrev pub shown : Wanted → Bool → List ℕ → Output
+shown wanted diagnostic bytes = shown_of diagnostic (length bytes) (message (inspecting 1024 8 (program_setting [] [] wanted)) bytes)
 
 -- The line that prints the argument of `--vouch`, with which a signature passes `verify`.
 abbrev pub vouched : List ℕ → Output
@@ -263,11 +269,11 @@ made_under (Err refusal) alg payload_length kid aad bytes = fault_of_key refusal
 -- What is printed for a job, where the input is these bytes. A text of status Fault is what the program's documents
 -- say; no clause requires a run that ends so to print all of it.
 unfoldable pub printed : Job → List ℕ → Output
-printed (Show wanted) bytes = shown wanted bytes
+printed (Show wanted diagnostic) bytes = shown wanted diagnostic bytes
 printed (Verify keys aad wanted vouch payload) bytes =
     verified_under (program_keys keys.now) aad.now wanted (option_map contents vouch) (option_map contents payload) bytes
-printed (Cwt keys aad wanted vouch now leeway aud) bytes =
-    admitted_under (program_keys keys.now) aad.now wanted (option_map contents vouch) (program_policy now leeway (option_map text_value aud)) bytes
+printed (Cwt keys aad wanted vouch now leeway aud readable) bytes =
+    admitted_under (program_keys keys.now) aad.now wanted (option_map contents vouch) (program_policy now leeway (option_map text_value aud)) readable bytes
 printed (Digest keys aad payload) bytes = digested_under (program_keys keys.now) aad.now (option_map contents payload) bytes
 printed (Make alg key payload_length kid aad) bytes =
     made_under (key_of (record { bytes = key.now; place = 0 })) alg payload_length (option_map contents kid) aad.now bytes

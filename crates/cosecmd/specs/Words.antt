@@ -19,7 +19,7 @@ verified_for words payload bytes =
 abbrev pub admitted_for : Cwt → List ℕ → Output
 admitted_for words bytes =
     admitted_under (program_keys words.verify.keys.items) words.verify.aad.items words.verify.wanted (option_map (λ word. word.items) words.verify.vouch)
-    (program_policy words.now words.leeway (option_map text_value words.aud)) bytes
+    (program_policy words.now words.leeway (option_map text_value words.aud)) words.readable bytes
 
 abbrev pub digested_for : Digest → Option (List ℕ) → List ℕ → Output
 digested_for words payload bytes = digested_under (program_keys words.keys.items) words.aad.items payload bytes
@@ -31,14 +31,14 @@ made_for words bytes =
 -- The detached payload that the arguments of `verify` or `digest` name, as far as it is known. No other command has one.
 abbrev pub payload_for : (List ℕ → Option (List ℕ)) → Request → Option (Option (List ℕ))
 payload_for content (asks.Verify words payload) = detached_in content payload
-payload_for content (asks.Show wanted) = Some None
+payload_for content (asks.Show wanted diagnostic) = Some None
 payload_for content (asks.Cwt words) = Some None
 payload_for content (asks.Digest words payload) = detached_in content payload
 payload_for content (asks.Make words) = Some None
 
 -- With this detached payload, where there is one.
 abbrev pub asked_for : Request → Option (List ℕ) → List ℕ → Output
-asked_for (asks.Show wanted) payload bytes = shown wanted bytes
+asked_for (asks.Show wanted diagnostic) payload bytes = shown wanted diagnostic bytes
 asked_for (asks.Verify words from) payload bytes = verified_for words payload bytes
 asked_for (asks.Cwt words) payload bytes = admitted_for words bytes
 asked_for (asks.Digest words from) payload bytes = digested_for words payload bytes
@@ -47,7 +47,7 @@ asked_for (asks.Make words) payload bytes = made_for words bytes
 -- Whether a message is to be made.
 abbrev pub makes : Request → Bool
 makes (asks.Make words) = true
-makes (asks.Show wanted) = false
+makes (asks.Show wanted diagnostic) = false
 makes (asks.Verify words from) = false
 makes (asks.Cwt words) = false
 makes (asks.Digest words from) = false

@@ -39,8 +39,8 @@ fn status_of<R: Read, W: Write>(alloc: Global, job: &Job, input: &mut R, output:
         ⊎ WritesLine Fault.Memory (W.contents output.old) (W.contents output.new)) }
 {
     match job {
-        Job::Show { wanted } => {
-            let reply = show_reply(alloc, *wanted, input);
+        Job::Show { wanted, diagnostic } => {
+            let reply = show_reply(alloc, *wanted, *diagnostic, input);
             print_reply(alloc, reply, output)
         }
         Job::Verify {
@@ -61,9 +61,10 @@ fn status_of<R: Read, W: Write>(alloc: Global, job: &Job, input: &mut R, output:
             now,
             leeway,
             aud,
+            readable,
         } => {
             let policy = policy_of(*now, *leeway, aud);
-            let reply = cwt_reply(alloc, keys, aad, *wanted, *vouch, &policy, input);
+            let reply = cwt_reply(alloc, keys, aad, *wanted, *vouch, &policy, *readable, input);
             print_reply(alloc, reply, output)
         }
         Job::Digest { keys, aad, payload } => {

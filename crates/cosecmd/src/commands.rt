@@ -1,6 +1,6 @@
 //! The commands of the program and their options, as tables, and what clap gets of them.
 
-use clap::{Arg, ArgGroup, Command, value_parser};
+use clap::{Arg, ArgAction, ArgGroup, Command, value_parser};
 use std::alloc::{AllocError, Global};
 
 /// The version of the program, which `--version` prints.
@@ -64,6 +64,8 @@ enum Value {
     Mac,
     /// The number of bytes of a payload.
     Length,
+    /// It has none.
+    Flag,
 }
 
 /// Whether an option has to be there.
@@ -79,7 +81,7 @@ enum Presence {
     Without(&'static str),
 }
 
-/// An option, which has one argument.
+/// An option, which has one argument, or none.
 #[derive(Clone, Copy)]
 struct CommandOption {
     /// Its name, without its dashes.
@@ -156,6 +158,15 @@ const KIND: CommandOption = CommandOption {
     help: "The kind of message; with `tagged` either kind, as its tag says",
 };
 
+/// Diagnostic notation.
+const DIAGNOSTIC: CommandOption = CommandOption {
+    name: "diagnostic",
+    argument: "",
+    value: Value::Flag,
+    presence: Presence::Optional,
+    help: "Print each pair in diagnostic notation too (RFC 8949 section 8), after its bytes",
+};
+
 /// The signature that is good.
 const VOUCH: CommandOption = CommandOption {
     name: "vouch",
@@ -208,6 +219,15 @@ const AUD: CommandOption = CommandOption {
     value: Value::Text,
     presence: Presence::Optional,
     help: "The audience that a token has to name, where it names one; without this option the audience isn't compared",
+};
+
+/// Texts and dates as people read them.
+const TEXT: CommandOption = CommandOption {
+    name: "text",
+    argument: "",
+    value: Value::Flag,
+    presence: Presence::Optional,
+    help: "Print iss, sub and aud in quotes too, and dates as RFC 3339 has them, after the value",
 };
 
 /// The algorithm.
@@ -275,7 +295,7 @@ const COMMANDS: &[Subcommand] = &[
         name: "show",
         about: "Shows the shape and the headers of the COSE message on standard input, under no key",
         notes: SHOW_NOTES,
-        options: &[KIND],
+        options: &[KIND, DIAGNOSTIC],
         one_of: None,
     },
     Subcommand {
@@ -289,7 +309,7 @@ const COMMANDS: &[Subcommand] = &[
         name: "cwt",
         about: "Admits the CBOR Web Token on standard input and prints its claims",
         notes: CWT_NOTES,
-        options: &[KEYS, KEYS_FILE, AAD, KIND, VOUCH, NOW, LEEWAY, AUD],
+        options: &[KEYS, KEYS_FILE, AAD, KIND, VOUCH, NOW, LEEWAY, AUD, TEXT],
         one_of: KEY_SET,
     },
     Subcommand {
@@ -309,10 +329,14 @@ const COMMANDS: &[Subcommand] = &[
 ];
 
 impl Value {
-    /// The option, which takes such an argument.
-    fn limits<'a>(self, arg: Arg<'a>) -> Arg<'a> {
+    /// The option, which takes such an argument, with this name in help.
+    fn limits<'a>(self, arg: Arg<'a>, name: &'static str) -> Arg<'a> {
+        let arg = match self {
+            Value::Flag => return arg.action(ArgAction::SetTrue),
+            _ => arg.value_name(name),
+        };
         match self {
-            Value::Text => arg,
+            Value::Text | Value::Flag => arg,
             Value::Kind => arg.value_parser(KINDS),
             Value::Time => arg.value_parser(value_parser!(i64).range(0..)),
             Value::Seconds => arg.value_parser(value_parser!(u32)),
@@ -325,11 +349,8 @@ impl Value {
 impl CommandOption {
     /// The option as clap takes it.
     fn arg<'a>(self, alloc: Global) -> Result<Arg<'a>, AllocError> {
-        let arg = Arg::new(alloc, self.name)
-            .long(self.name)
-            .value_name(self.argument)
-            .help(self.help);
-        let arg = self.value.limits(arg);
+        let arg = Arg::new(alloc, self.name).long(self.name).help(self.help);
+        let arg = self.value.limits(arg, self.argument);
         match self.presence {
             Presence::Optional => Ok(arg),
             Presence::Required => Ok(arg.required(true)),

@@ -9,6 +9,8 @@ pub enum Job<'j> {
     Show {
         /// The kinds of messages that are wanted.
         wanted: Wanted,
+        /// Whether each pair is printed in diagnostic notation too (RFC 8949 section 8).
+        diagnostic: bool,
     },
     /// To verify the message on the input.
     Verify {
@@ -39,6 +41,8 @@ pub enum Job<'j> {
         leeway: u32,
         /// The text of the audience, where a token that names an audience has to be for it.
         aud: Option<&'j str>,
+        /// Whether texts are printed in quotes too, and dates as RFC 3339 has them.
+        readable: bool,
     },
     /// To print what the signature of the message on the input, a COSE_Sign1, is verified with.
     Digest {

@@ -29,6 +29,8 @@ pub struct Cwt<'w> {
     pub leeway: u32,
     /// The text of the audience, where there is one.
     pub aud: Option<&'w str>,
+    /// Whether texts are printed in quotes too, and dates as RFC 3339 has them.
+    pub readable: bool,
 }
 
 /// The arguments of `digest`, without the payload.
@@ -72,7 +74,12 @@ pub enum Payload<'w> {
 #[derive(Drop)]
 pub enum Request<'w> {
     /// To show a message of these kinds.
-    Show(Wanted),
+    Show {
+        /// The kinds of messages that are wanted.
+        wanted: Wanted,
+        /// Whether each pair is printed in diagnostic notation too.
+        diagnostic: bool,
+    },
     /// To verify a message.
     Verify {
         /// Those of its arguments that `cwt` has too.

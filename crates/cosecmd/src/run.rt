@@ -5,7 +5,7 @@ ghost use Rattle.clap.specs.Matches.{subcommand_name_of};
 ghost use Rattle.cose_map.specs.Key.View.{contents};
 ghost use Rattle.cosecmd.specs.CommandLine.{Answers, FailsOn, matches_print};
 ghost use Rattle.cosecmd.specs.Payload.{detached_in};
-ghost use Rattle.cosecmd.specs.Printed.{EndsWith, Fails, Output};
+ghost use Rattle.cosecmd.specs.Printed.{EndsWith, Fails, Output, shown};
 ghost use Rattle.cosecmd.specs.Words.{admitted_for, asked_for, digested_for, made_for, makes, payload_for, verified_for};
 
 use crate::answer::{answer, answer_digest_with_payload_file, answer_with_payload_file};
@@ -16,6 +16,7 @@ use crate::print::{print, print_fault};
 use crate::request::{Cwt, Digest, Make, Payload, Request, Verify};
 use crate::words::{Parsed, parse, request_of};
 use clap::ArgMatches;
+use cose_msg::Wanted;
 use std::alloc::Global;
 use std::io::{Read, Write};
 
@@ -27,6 +28,24 @@ fn slice_of(word: &Option<Vec<u8>>) -> Option<&[u8]>
         Some(word) => Some(word.as_slice()),
         None => None,
     }
+}
+
+/// The job of the command `show`.
+fn answer_show<R: Read, W: Write>(
+    alloc: Global,
+    wanted: Wanted,
+    diagnostic: bool,
+    input: &mut R,
+    output: &mut W,
+) -> u8
+    ensures status { result ≤ 2 }
+    ensures printed { (bytes : List ℕ) → R.remaining input.old ≡ Some bytes →
+        EndsWith (shown wanted diagnostic bytes) (W.contents output.old) (W.contents output.new)
+        result }
+    ensures fails { (bytes : List ℕ) → R.remaining input.old ≡ Some bytes → result ≡ 2 →
+        Fails (shown wanted diagnostic bytes) (W.contents output.old) (W.contents output.new) }
+{
+    answer(alloc, &Job::Show { wanted, diagnostic }, input, output)
 }
 
 /// The job of the command `verify`, where the payload is in the message, or is these bytes.
@@ -109,6 +128,7 @@ fn answer_cwt<R: Read, W: Write>(alloc: Global, words: &Cwt, input: &mut R, outp
         now: words.now,
         leeway: words.leeway,
         aud: words.aud,
+        readable: words.readable,
     };
     answer(alloc, &job, input, output)
 }
@@ -272,7 +292,9 @@ fn answer_request<F: NamedFiles, R: Read, W: Write>(
         (W.contents output.new) }
 {
     match request {
-        Request::Show(wanted) => answer(alloc, &Job::Show { wanted: *wanted }, input, output),
+        Request::Show { wanted, diagnostic } => {
+            answer_show(alloc, *wanted, *diagnostic, input, output)
+        }
         Request::Verify { words, payload } => {
             answer_verify_request(alloc, files, words, payload, input, output)
         }

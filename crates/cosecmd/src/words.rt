@@ -5,7 +5,7 @@ ghost use Rattle.clap.specs.Matches.{first_value, found_of, subcommand_name_of};
 ghost use Rattle.cose_cwt.specs.Claims.Audience.{text_value};
 ghost use Rattle.cosecmd.specs.CommandLine.{AsksFor, IsReadFrom, begins_as_answer, digest_prints, matches_print, verify_prints};
 ghost use Rattle.cosecmd.specs.Fields.{CwtFields, DigestFields, HasKeysOf, IsKeyOf, MakeFields, VerifyFields};
-ghost use Rattle.cosecmd.specs.Options.{algorithm_in, bytes_in, hex_bytes, integer_in, kind_in, kind_named, number_in, optional_bytes_in, options_of, payload_in, text_in};
+ghost use Rattle.cosecmd.specs.Options.{algorithm_in, bytes_in, flag_in, hex_bytes, integer_in, kind_in, kind_named, number_in, optional_bytes_in, options_of, payload_in, text_in};
 ghost use Rattle.cosecmd.specs.Payload.{IsFile, detached_in};
 ghost use Rattle.cosecmd.specs.Printed.{Output};
 ghost use Rattle.cosecmd.specs.Words.{makes};
@@ -174,6 +174,13 @@ fn kind_of(matches: &ArgMatches) -> Wanted
     wanted_of(text_of(matches, "kind").unwrap_or("tagged"))
 }
 
+/// Whether an option without an argument is there.
+fn flag_of(matches: &ArgMatches, option: &str) -> bool
+    ensures { result ≡ flag_in option.now (options_of matches.now) }
+{
+    text_of(matches, option).unwrap_or("false") == "true"
+}
+
 /// The externally supplied data, which is limited.
 fn external_of(alloc: Global, matches: &ArgMatches) -> Result<Vec<u8>, Fault>
     ensures limit { IfOk result (λ aad. length_in aad.items ≤ 65535) }
@@ -268,11 +275,13 @@ fn cwt_of<'a, F: NamedFiles>(
     let now = now_of(matches)?;
     let leeway = leeway_of(matches)?;
     let aud = text_of(matches, "aud");
+    let readable = flag_of(matches, "text");
     Ok(Cwt {
         verify,
         now,
         leeway,
         aud,
+        readable,
     })
 }
 
@@ -359,7 +368,10 @@ pub fn request_of<'a, F: NamedFiles>(
         → subcommand_name_of matches.now ≡ Some (codes "make")) }
 {
     if let Some(show) = matches.subcommand_matches("show") {
-        return Ok(Request::Show(kind_of(show)));
+        return Ok(Request::Show {
+            wanted: kind_of(show),
+            diagnostic: flag_of(show, "diagnostic"),
+        });
     }
     if let Some(verify) = matches.subcommand_matches("verify") {
         return verify_request(alloc, files, verify);

@@ -13,9 +13,10 @@ ghost use Rattle.cose_cwt.specs.Claims.Audience.{text_value, texts_left};
 ghost use Rattle.cose_cwt.specs.Claims.View.{claims_value};
 ghost use Rattle.cose_cwt.specs.Confirmation.View.{cnf_value};
 ghost use Rattle.cose_cwt.specs.Token.{UnlessStopped, claims_seen, stop_in};
-ghost use Rattle.cosecmd.specs.Admitted.{bytes_line, claims_lines, confirmation_lines, date_line, input_token, key_line, program_policy, refused_line, where_present};
+ghost use Rattle.cosecmd.specs.Admitted.{bytes_line, claims_lines, confirmation_lines, date_line, input_token, key_line, program_policy, refused_line, text_line, where_present};
 ghost use Rattle.cosecmd.specs.Faults.{fails_by_input};
 ghost use Rattle.cosecmd.specs.Printed.{Says, admitted_under, outcome_said, program_keys, token_setting};
+ghost use Rattle.cosecmd.specs.Readable.{date_notation, text_notation};
 ghost use Rattle.cosecmd.specs.Vouch.{vouching};
 
 use crate::answer::verify::{CHUNK, HEADER, KEYS, NESTING, program_context, trailing_at};
@@ -28,6 +29,7 @@ use cose_msg::laws::settled_stays;
 use cose_msg::{
     Context, Intake, Key, KeyTable, Keys, ReadIntake, Refusal, Stop, Store, Verifier, Wanted,
 };
+use cose_text::{Date, push_quoted};
 use std::alloc::Global;
 use std::io::Read;
 use std::slice;
@@ -72,40 +74,105 @@ fn push_bytes(
     Ok(())
 }
 
-/// The bytes of a text, where there is one.
-fn bytes_of(text: Option<&str>) -> Option<&[u8]>
-    ensures { option_map contents result ≡ option_map text_value text.entry }
+/// Appends a text in quotes, where it is asked for.
+fn push_quotes(alloc: Global, lines: &mut String, text: &str, readable: bool) -> Result<(), Fault>
+    ensures text { IfOk result (λ _. string_bytes lines.new
+        ≡ string_bytes lines.old ++ text_notation readable text.now) }
+    ensures fault { IfErr result (λ fault. fault ≡ Fault.Memory) }
 {
-    match text {
-        Some(text) => Some(text.as_bytes()),
-        None => None,
+    if !readable {
+        return Ok(());
     }
+    lines.push_str(" ")?;
+    push_quoted(alloc, lines, text)?;
+    Ok(())
+}
+
+/// Appends a line of a text, where there is one: its bytes in hexadecimal, and after them the text.
+fn push_text(
+    alloc: Global,
+    lines: &mut String,
+    name: &str,
+    text: Option<&str>,
+    readable: bool,
+) -> Result<(), Fault>
+    ensures lines { IfOk result (λ _. string_bytes lines.new
+        ≡ string_bytes lines.old ++ where_present (text_line readable name.now)
+        (option_map text_value text.entry)) }
+    ensures fault { IfErr result (λ fault. fault ≡ Fault.Memory) }
+{
+    let Some(text) = text else {
+        return Ok(());
+    };
+    let bytes = hex::encode(alloc, text.as_bytes())?;
+    let line = format!(in alloc; "{name} {bytes}")?;
+    lines.push_str(line.as_str())?;
+    push_quotes(alloc, lines, text, readable)?;
+    lines.push_str("\n")?;
+    Ok(())
 }
 
 /// Appends a line for each text of an audience.
-fn push_audience(alloc: Global, lines: &mut String, texts: Auds) -> Result<(), Fault>
+fn push_audience(
+    alloc: Global,
+    lines: &mut String,
+    texts: Auds,
+    readable: bool,
+) -> Result<(), Fault>
     ensures lines { IfOk result (λ _. string_bytes lines.new
         ≡ string_bytes lines.old ++ concat
-        (map (bytes_line (codes "aud")) (texts_left texts.entry))) }
+        (map (text_line readable (codes "aud")) (texts_left texts.entry))) }
     ensures fault { IfErr result (λ fault. fault ≡ Fault.Memory) }
 {
     'texts: for text in texts {
-        push_bytes(alloc, lines, "aud", Some(text.as_bytes()))?;
+        push_text(alloc, lines, "aud", Some(text), readable)?;
     }
     Ok(())
 }
 
+/// Appends a date as RFC 3339 has it, where it is asked for and the year has four digits.
+fn push_calendar(
+    alloc: Global,
+    lines: &mut String,
+    seconds: i128,
+    readable: bool,
+) -> Result<(), Fault>
+    ensures date { IfOk result (λ _. string_bytes lines.new
+        ≡ string_bytes lines.old ++ date_notation readable seconds) }
+    ensures fault { IfErr result (λ fault. fault ≡ Fault.Memory) }
+{
+    if !readable {
+        return Ok(());
+    }
+    match Date::of(seconds) {
+        Some(date) => {
+            let text = format!(in alloc; " {date}")?;
+            lines.push_str(text.as_str())?;
+            Ok(())
+        }
+        None => Ok(()),
+    }
+}
+
 /// Appends the line of a date, where there is one.
-fn push_date(alloc: Global, lines: &mut String, name: &str, date: Option<i128>) -> Result<(), Fault>
+fn push_date(
+    alloc: Global,
+    lines: &mut String,
+    name: &str,
+    date: Option<i128>,
+    readable: bool,
+) -> Result<(), Fault>
     ensures lines { IfOk result (λ _. string_bytes lines.new
-        ≡ string_bytes lines.old ++ where_present (date_line name.now) date) }
+        ≡ string_bytes lines.old ++ where_present (date_line readable name.now) date) }
     ensures fault { IfErr result (λ fault. fault ≡ Fault.Memory) }
 {
     let Some(date) = date else {
         return Ok(());
     };
-    let line = format!(in alloc; "{name} {date}\n")?;
+    let line = format!(in alloc; "{name} {date}")?;
     lines.push_str(line.as_str())?;
+    push_calendar(alloc, lines, date, readable)?;
+    lines.push_str("\n")?;
     Ok(())
 }
 
@@ -148,17 +215,22 @@ fn push_confirmation(alloc: Global, lines: &mut String, cnf: Option<Cnf>) -> Res
 }
 
 /// Appends the lines of the registered claims, in the order of their labels, and those of the confirmation.
-fn push_claims(alloc: Global, lines: &mut String, claims: &Claims) -> Result<(), Fault>
+fn push_claims(
+    alloc: Global,
+    lines: &mut String,
+    claims: &Claims,
+    readable: bool,
+) -> Result<(), Fault>
     ensures lines { IfOk result (λ _. string_bytes lines.new
-        ≡ string_bytes lines.old ++ claims_lines (claims_value claims.now)) }
+        ≡ string_bytes lines.old ++ claims_lines readable (claims_value claims.now)) }
     ensures fault { IfErr result (λ fault. fault ≡ Fault.Memory) }
 {
-    push_bytes(alloc, lines, "iss", bytes_of(claims.iss()))?;
-    push_bytes(alloc, lines, "sub", bytes_of(claims.sub()))?;
-    push_audience(alloc, lines, claims.auds())?;
-    push_date(alloc, lines, "exp", claims.exp())?;
-    push_date(alloc, lines, "nbf", claims.nbf())?;
-    push_date(alloc, lines, "iat", claims.iat())?;
+    push_text(alloc, lines, "iss", claims.iss(), readable)?;
+    push_text(alloc, lines, "sub", claims.sub(), readable)?;
+    push_audience(alloc, lines, claims.auds(), readable)?;
+    push_date(alloc, lines, "exp", claims.exp(), readable)?;
+    push_date(alloc, lines, "nbf", claims.nbf(), readable)?;
+    push_date(alloc, lines, "iat", claims.iat(), readable)?;
     push_bytes(alloc, lines, "cti", claims.cti())?;
     push_confirmation(alloc, lines, claims.cnf())?;
     Ok(())
@@ -176,8 +248,12 @@ fn refused_reply(alloc: Global, part: &str, refusal: Refusal) -> Result<Reply, F
 }
 
 /// The lines of a token, or why it has none.
-fn token_reply(alloc: Global, token: Result<Claims, CwtStop>) -> Result<Reply, Fault>
-    ensures says { IfOk result (Says (outcome_said (claims_seen token.entry))) }
+fn token_reply(
+    alloc: Global,
+    token: Result<Claims, CwtStop>,
+    readable: bool,
+) -> Result<Reply, Fault>
+    ensures says { IfOk result (Says (outcome_said readable (claims_seen token.entry))) }
     ensures unstopped { IfOk result (λ _. stop_in (claims_seen token.entry) ≡ None) }
     ensures input { fails_by_input result ≡ is_some (stop_in (claims_seen token.entry)) }
     ensures fault { (refusal : Refusal) → result ≢ Err (Fault.Keys refusal) }
@@ -186,7 +262,7 @@ fn token_reply(alloc: Global, token: Result<Claims, CwtStop>) -> Result<Reply, F
         Ok(claims) => {
             let status = Status::Done;
             let mut text = format!(in alloc; "admitted\n")?;
-            push_claims(alloc, &mut text, &claims)?;
+            push_claims(alloc, &mut text, &claims, readable)?;
             Ok(Reply { status, text })
         }
         Err(CwtStop::Message(refusal)) => refused_reply(alloc, "message", refusal),
@@ -251,12 +327,13 @@ fn admitted_reply<I: Intake>(
     wanted: Wanted,
     vouch: Option<&[u8]>,
     policy: &Policy,
+    readable: bool,
     intake: &mut I,
 ) -> Result<Reply, Fault>
     requires external { length aad.now ≤ 65535 }
     ensures says { (bytes : List ℕ) → I.to_come intake.old ≡ Some bytes →
         IfOk result (Says (admitted_under (program_keys keys.now) aad.now wanted
-        (option_map contents vouch.entry) (policy_value policy.entry.now) bytes)) }
+        (option_map contents vouch.entry) (policy_value policy.entry.now) readable bytes)) }
     ensures keys { (refusal : Refusal)
         → program_keys keys.now ≡ Err refusal ↔ result ≡ Err (Fault.Keys refusal) }
     // Its fault is that the input failed exactly where the intake failed in this call.
@@ -272,7 +349,7 @@ fn admitted_reply<I: Intake>(
     let mut store = Store::<CLAIMS>::new();
     let vouch = Vouch { word: vouch };
     let token = whole_token(&mut verifier, intake, &mut store, &vouch, policy);
-    token_reply(alloc, token)
+    token_reply(alloc, token, readable)
 }
 
 /// The reply to the job `cwt`.
@@ -283,15 +360,25 @@ pub fn cwt_reply<R: Read>(
     wanted: Wanted,
     vouch: Option<&[u8]>,
     policy: &Policy,
+    readable: bool,
     input: &mut R,
 ) -> Result<Reply, Fault>
     requires external { length aad.now ≤ 65535 }
     ensures says { (bytes : List ℕ) → R.remaining input.old ≡ Some bytes →
         IfOk result (Says (admitted_under (program_keys keys.now) aad.now wanted
-        (option_map contents vouch.entry) (policy_value policy.entry.now) bytes)) }
+        (option_map contents vouch.entry) (policy_value policy.entry.now) readable bytes)) }
     ensures keys { (refusal : Refusal) →
         program_keys keys.now ≡ Err refusal ↔ result ≡ Err (Fault.Keys refusal) }
 {
     let mut intake = ReadIntake::new(input);
-    admitted_reply(alloc, keys, aad, wanted, vouch, policy, &mut intake)
+    admitted_reply(
+        alloc,
+        keys,
+        aad,
+        wanted,
+        vouch,
+        policy,
+        readable,
+        &mut intake,
+    )
 }

@@ -1,19 +1,23 @@
 //! The lines of the job `show`: the shape of a message, and what is in its headers.
 
 ghost use Rattle.std.specs.Prelude.{◌≡◌, ◌++◌, ◌||◌, ℕ, List, Some, IfErr, IfOk, option_map, string_bytes};
+ghost use Rattle.cose_head.specs.ItemRef.{placed};
 ghost use Rattle.cose_map.specs.Bucket.View.{bucket_pairs};
 ghost use Rattle.cose_msg.specs.Shown.{protected_of, unprotected_of};
 ghost use Rattle.cosecmd.specs.Faults.{fails_by_input};
-ghost use Rattle.cosecmd.specs.Printed.{Says, bucket_lines, shape_said, shown};
+ghost use Rattle.cosecmd.specs.Printed.{Says, bucket_lines, item_line, shape_said, shown};
+ghost use Rattle.cosecmd.specs.Readable.{pair_notation};
 
 use crate::answer::verify::{CHUNK, HEADER, NESTING, program_context, reply_of, trailing_at};
 use crate::fault::Fault;
 use crate::line::word_of;
 use crate::reply::{Reply, Status};
+use cose_head::ItemRef;
 use cose_map::Bucket;
 use cose_msg::{
     Inspected, Intake, KeySet, Kind, Nothing, ReadIntake, Verdict, Verifier, Wanted, inspect,
 };
+use cose_text::push_diagnostic;
 use std::alloc::Global;
 use std::io::Read;
 
@@ -29,25 +33,68 @@ struct Shape {
     taken: u64,
 }
 
-/// Appends a line for each pair of a bucket, in the order of the message: the bytes of its label and of its value.
+/// Appends a label and a value in diagnostic notation, where it is asked for.
+fn push_notation(
+    alloc: Global,
+    text: &mut String,
+    label: &ItemRef,
+    value: &ItemRef,
+    diagnostic: bool,
+) -> Result<(), Fault>
+    ensures text { IfOk result (λ _. string_bytes text.new ≡ string_bytes text.old
+        ++ pair_notation diagnostic (placed label.now) (placed value.now)) }
+    ensures fault { IfErr result (λ fault. fault ≡ Fault.Memory) }
+{
+    if !diagnostic {
+        return Ok(());
+    }
+    text.push_str(" ")?;
+    push_diagnostic(alloc, text, label)?;
+    text.push_str(": ")?;
+    push_diagnostic(alloc, text, value)?;
+    Ok(())
+}
+
+/// Appends the line of a pair: the bytes of its label and of its value.
+fn push_pair(
+    alloc: Global,
+    text: &mut String,
+    name: &str,
+    label: &ItemRef,
+    value: &ItemRef,
+    diagnostic: bool,
+) -> Result<(), Fault>
+    ensures line { IfOk result (λ _. string_bytes text.new ≡ string_bytes text.old
+        ++ item_line diagnostic name.now (placed label.now) (placed value.now)) }
+    ensures fault { IfErr result (λ fault. fault ≡ Fault.Memory) }
+{
+    let label_bytes = hex::encode(alloc, label.bytes)?;
+    let value_bytes = hex::encode(alloc, value.bytes)?;
+    let line = format!(in alloc; "{name} {label_bytes} {value_bytes}")?;
+    text.push_str(line.as_str())?;
+    push_notation(alloc, text, label, value, diagnostic)?;
+    text.push_str("\n")?;
+    Ok(())
+}
+
+/// Appends a line for each pair of a bucket, in the order of the message.
 fn push_pairs(
     alloc: Global,
     text: &mut String,
     name: &str,
     bucket: Option<Bucket>,
+    diagnostic: bool,
 ) -> Result<(), Fault>
     ensures lines { IfOk result (λ _. string_bytes text.new
-        ≡ string_bytes text.old ++ bucket_lines name.now (option_map bucket_pairs bucket.entry)) }
+        ≡ string_bytes text.old ++ bucket_lines diagnostic name.now
+        (option_map bucket_pairs bucket.entry)) }
     ensures fault { IfErr result (λ fault. fault ≡ Fault.Memory) }
 {
     let Some(bucket) = bucket else {
         return Ok(());
     };
     'pairs: for (_label, label, value) in bucket.pairs() {
-        let label = hex::encode(alloc, label.bytes)?;
-        let value = hex::encode(alloc, value.bytes)?;
-        let line = format!(in alloc; "{name} {label} {value}\n")?;
-        text.push_str(line.as_str())?;
+        push_pair(alloc, text, name, &label, &value, diagnostic)?;
     }
     Ok(())
 }
@@ -57,9 +104,10 @@ fn shape_reply(
     alloc: Global,
     shape: Shape,
     verifier: &Verifier<HEADER, NESTING>,
+    diagnostic: bool,
 ) -> Result<Reply, Fault>
     ensures says { IfOk result
-        (Says (shape_said shape.kind shape.payload shape.auth shape.taken
+        (Says (shape_said diagnostic shape.kind shape.payload shape.auth shape.taken
         (protected_of verifier.now) (unprotected_of verifier.now))) }
     ensures fault { IfErr result (λ fault. fault ≡ Fault.Memory) }
 {
@@ -71,16 +119,33 @@ fn shape_reply(
     } = shape;
     let kind = word_of(kind);
     let mut text = format!(in alloc; "shape {kind} payload {payload} auth {auth} taken {taken}\n")?;
-    push_pairs(alloc, &mut text, "protected", verifier.protected())?;
-    push_pairs(alloc, &mut text, "unprotected", verifier.unprotected())?;
+    push_pairs(
+        alloc,
+        &mut text,
+        "protected",
+        verifier.protected(),
+        diagnostic,
+    )?;
+    push_pairs(
+        alloc,
+        &mut text,
+        "unprotected",
+        verifier.unprotected(),
+        diagnostic,
+    )?;
     let status = Status::Done;
     Ok(Reply { status, text })
 }
 
 /// The reply to the message of an intake: no byte may follow a message that has a shape.
-fn shown_reply<I: Intake>(alloc: Global, wanted: Wanted, intake: &mut I) -> Result<Reply, Fault>
+fn shown_reply<I: Intake>(
+    alloc: Global,
+    wanted: Wanted,
+    diagnostic: bool,
+    intake: &mut I,
+) -> Result<Reply, Fault>
     ensures says { (bytes : List ℕ) → I.to_come intake.old ≡ Some bytes →
-        IfOk result (Says (shown wanted bytes)) }
+        IfOk result (Says (shown wanted diagnostic bytes)) }
     // Its fault is that the input failed exactly where the intake failed in this call.
     ensures input { I.has_failed intake.new ≡ (I.has_failed intake.old || fails_by_input result) }
 {
@@ -106,7 +171,7 @@ fn shown_reply<I: Intake>(alloc: Global, wanted: Wanted, intake: &mut I) -> Resu
                     auth,
                     taken,
                 };
-                shape_reply(alloc, shape, &verifier)
+                shape_reply(alloc, shape, &verifier, diagnostic)
             }
         },
         Ok(Inspected::Refused(refusal)) => reply_of(alloc, Verdict::Refused(refusal)),
@@ -116,9 +181,14 @@ fn shown_reply<I: Intake>(alloc: Global, wanted: Wanted, intake: &mut I) -> Resu
 }
 
 /// The reply to the job `show`.
-pub fn show_reply<R: Read>(alloc: Global, wanted: Wanted, input: &mut R) -> Result<Reply, Fault>
+pub fn show_reply<R: Read>(
+    alloc: Global,
+    wanted: Wanted,
+    diagnostic: bool,
+    input: &mut R,
+) -> Result<Reply, Fault>
     ensures says { (bytes : List ℕ) → R.remaining input.old ≡ Some bytes →
-        IfOk result (Says (shown wanted bytes)) }
+        IfOk result (Says (shown wanted diagnostic bytes)) }
 {
-    shown_reply(alloc, wanted, &mut ReadIntake::new(input))
+    shown_reply(alloc, wanted, diagnostic, &mut ReadIntake::new(input))
 }

@@ -7,4 +7,4 @@ use Rattle.cosecmd.specs.Printed.{bucket_lines}
 use Rattle.cosecmd.proofs.answer.show.push_pairs.Given as goal
 
 abbrev pub invariant-pairs : goal.invariant-pairs
-invariant-pairs l = string_bytes l.text ++ bucket_lines l.name (Some (pairs_left l._label-iterator)) ≡ string_bytes l.fn.text ++ bucket_lines l.name (option_map bucket_pairs l.fn.bucket)
+invariant-pairs l = string_bytes l.text ++ bucket_lines l.diagnostic l.name (Some (pairs_left l._label-iterator)) ≡ string_bytes l.fn.text ++ bucket_lines l.diagnostic l.name (option_map bucket_pairs l.fn.bucket)
