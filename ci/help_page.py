@@ -34,17 +34,17 @@ def capital(text):
 
 
 class Option:
-    """An option of a table: its name and its argument, and its cell."""
+    """An option of a table: its name, its argument where it has one, and its cell."""
 
     def __init__(self, word, cell):
-        self.name, self.argument = re.fullmatch(r"`--([a-z-]+) ([A-Z]+)`", word).groups()
+        self.name, self.argument = re.fullmatch(r"`--([a-z-]+)(?: ([A-Z]+))?`", word).groups()
         self.cell = plain(cell)
         other = re.search(r"Required, unless `--([a-z-]+)` is there", self.cell)
         self.other = other.group(1) if other else None
         self.required = not other and bool(re.search(r"\bRequired\b", self.cell))
 
     def usage(self):
-        return f"--{self.name} <{self.argument}>"
+        return f"--{self.name} <{self.argument}>" if self.argument else f"--{self.name}"
 
     def line(self):
         """What help says of it: the first sentence of its cell, its default and its values."""
