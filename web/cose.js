@@ -1,1 +1,0 @@
-../bindings/js/cose.js

@@ -1,1 +1,0 @@
-../bindings/js/signatures.js
