@@ -125,14 +125,22 @@ impl<'a> Claims<'a> {
 
     /// The known claims, each as its item (RFC 8392 section 3.1, RFC 8747 section 3.1).
     pub fn known(&self) -> &Known<'a>
-        ensures iss { option_map placed result.now.iss ≡ value_of names.iss (claims_value self.now).pairs }
-        ensures sub { option_map placed result.now.sub ≡ value_of names.sub (claims_value self.now).pairs }
-        ensures aud { option_map placed result.now.aud ≡ value_of names.aud (claims_value self.now).pairs }
-        ensures exp { option_map placed result.now.exp ≡ value_of names.exp (claims_value self.now).pairs }
-        ensures nbf { option_map placed result.now.nbf ≡ value_of names.nbf (claims_value self.now).pairs }
-        ensures iat { option_map placed result.now.iat ≡ value_of names.iat (claims_value self.now).pairs }
-        ensures cti { option_map placed result.now.cti ≡ value_of names.cti (claims_value self.now).pairs }
-        ensures cnf { option_map placed result.now.cnf ≡ value_of names.cnf (claims_value self.now).pairs }
+        ensures iss { option_map placed result.now.iss
+            ≡ value_of names.iss (claims_value self.now).pairs }
+        ensures sub { option_map placed result.now.sub
+            ≡ value_of names.sub (claims_value self.now).pairs }
+        ensures aud { option_map placed result.now.aud
+            ≡ value_of names.aud (claims_value self.now).pairs }
+        ensures exp { option_map placed result.now.exp
+            ≡ value_of names.exp (claims_value self.now).pairs }
+        ensures nbf { option_map placed result.now.nbf
+            ≡ value_of names.nbf (claims_value self.now).pairs }
+        ensures iat { option_map placed result.now.iat
+            ≡ value_of names.iat (claims_value self.now).pairs }
+        ensures cti { option_map placed result.now.cti
+            ≡ value_of names.cti (claims_value self.now).pairs }
+        ensures cnf { option_map placed result.now.cnf
+            ≡ value_of names.cnf (claims_value self.now).pairs }
     {
         &self.known
     }
