@@ -4,8 +4,6 @@ use Rattle.std.specs.Prelude.{IfOk, Result}
 use Rattle.std.proofs.lemmas.Bool.{lt-ltb, le-ltb}
 use Rattle.cose_head.specs.declared.refusal.Refusal.{Refusal}
 use Rattle.cose_map.specs.Key.Value.{KeyValue}
-use Rattle.cose_map.specs.Map.Read.{Read}
-use Rattle.cose_msg.specs.declared.context.Wanted.{Wanted}
 use Rattle.cose_msg.specs.declared.verdict.Stop.{Stop}
 use Rattle.cose_msg.specs.declared.verdict.Verdict.{Verdict}
 use Rattle.cose_msg.specs.declared.verdict.Verdict.TheVariants.{Authentic, Refused}
@@ -23,7 +21,9 @@ use Rattle.cose_cwt.specs.Token.{IsRun, IsToken, Outcome, UnlessStopped, of_clai
 use Rattle.cosecmd.specs.declared.reply.Reply.{Reply}
 use Rattle.cosecmd.specs.Admitted.{input_token, token_told, unless_trailed}
 use Rattle.cosecmd.specs.Printed.{Says, admitted_under, trailing_refusal, outcome_said, token_setting}
+use Rattle.cosecmd.specs.Under.{Under}
 use Rattle.cosecmd.specs.Vouch.{vouching}
+use Rattle.cosecmd.proofs.Replies.{said_with_keys}
 
 -- The lines of a part after those so far, by the values that the code gave for it.
 pub first_lines : {A : Type 0} (lines : A → List ℕ) (told wanted : A) (before all : List ℕ) → told ≡ wanted → all ≡ before ++ lines told → all ≡ before ++ lines wanted
@@ -135,11 +135,11 @@ says_unless readable (Err (stops.Message refusal)) whole (Ok reply) is says unst
 says_unless readable (Err (stops.Claims refusal)) whole (Ok reply) is says unstopped = subst (λ (o : Outcome). Says (outcome_said readable o) reply) is says
 says_unless readable (Err (stops.Stopped stop)) whole (Ok reply) is says unstopped = absurd cc
 
-pub says_admitted : {F : Type 0} (set : Read (List KeyValue)) (keys : List KeyValue) (setting : Setting) (aad : List ℕ) (wanted : Wanted) (vouch : Option (List ℕ)) (policy : PolicyValue) (readable : Bool) (bytes : List ℕ) (outcome : Outcome) (reply : Result Reply F) →
-    set ≡ Ok keys → setting ≡ token_setting keys aad wanted → UnlessStopped outcome (outcome ≡ input_token setting (vouching vouch) policy bytes) → IfOk reply (Says (outcome_said readable outcome)) →
-    IfOk reply (λ _. stop_in outcome ≡ None) → IfOk reply (Says (admitted_under set aad wanted vouch policy readable bytes))
-says_admitted set keys setting aad wanted vouch policy readable bytes outcome reply usable under is says unstopped =
-    let said = says_unless readable outcome (input_token setting (vouching vouch) policy bytes) reply is says unstopped in
-    let same : outcome_said readable (input_token setting (vouching vouch) policy bytes) ≡ admitted_under set aad wanted vouch policy readable bytes =
-    ap (λ (x : Setting). outcome_said readable (input_token x (vouching vouch) policy bytes)) under ∙ ap (λ (t : Read (List KeyValue)). admitted_under t aad wanted vouch policy readable bytes) (sym usable) in
+pub says_admitted : {F : Type 0} (under : Under) (keys : List KeyValue) (setting : Setting) (policy : PolicyValue) (readable : Bool) (bytes : List ℕ) (outcome : Outcome) (reply : Result Reply F) →
+    under.keys ≡ Ok keys → setting ≡ token_setting keys under.aad under.wanted → UnlessStopped outcome (outcome ≡ input_token setting (vouching under.vouch) policy bytes) → IfOk reply (Says (outcome_said readable outcome)) →
+    IfOk reply (λ _. stop_in outcome ≡ None) → IfOk reply (Says (admitted_under under policy readable bytes))
+says_admitted under keys setting policy readable bytes outcome reply usable set is says unstopped =
+    let said = says_unless readable outcome (input_token setting (vouching under.vouch) policy bytes) reply is says unstopped in
+    let same : outcome_said readable (input_token setting (vouching under.vouch) policy bytes) ≡ admitted_under under policy readable bytes =
+    ap (λ (x : Setting). outcome_said readable (input_token x (vouching under.vouch) policy bytes)) set ∙ sym (said_with_keys under.keys keys _ usable) in
     subst (λ o. IfOk reply (Says o)) same said

@@ -8,75 +8,43 @@ use Rattle.clap.specs.declared.parser.matches.ArgMatches.{ArgMatches}
 use Rattle.clap.specs.declared.parser.matches.ArgMatches.TheViews.{out-ArgMatches}
 use Rattle.cose_map.specs.Key.{key_of}
 use Rattle.cosecmd.specs.Admitted.{program_policy}
-use Rattle.cosecmd.specs.CommandLine.{IsFoundIn, IsReadFrom, begins_as_answer, command_prints, cwt_prints, digest_prints, line_prints, make_prints, matches_print, verify_prints}
-use Rattle.cosecmd.specs.Fields.{CwtFields, DigestFields, MakeFields, VerifyFields}
-use Rattle.cosecmd.specs.Options.{Options, flag_in, key_in, key_set_in, kind_in, payload_in, text_in}
-use Rattle.cosecmd.specs.Printed.{Output, admitted_under, digested_under, made_under, program_keys, verified_under}
-use Rattle.cosecmd.specs.Words.{admitted_for, digested_for, made_for, verified_for}
+use Rattle.cosecmd.specs.CommandLine.{IsFoundIn, IsReadFrom, begins_as_answer, command_prints, cwt_prints, line_prints, make_prints, matches_print}
+use Rattle.cosecmd.specs.Fields.{AreChecks, CwtFields, MakeFields, checks_in}
+use Rattle.cosecmd.specs.Options.{Options, ◌>>=◌, flag_in, key_in, text_in}
+use Rattle.cosecmd.specs.Printed.{Output, admitted_under, made_under}
+use Rattle.cosecmd.specs.Under.{Under, owned_under}
+use Rattle.cosecmd.specs.Words.{admitted_for, made_for}
 use Rattle.cosecmd.specs.declared.request.Cwt.{Cwt}
-use Rattle.cosecmd.specs.declared.request.Digest.{Digest}
 use Rattle.cosecmd.specs.declared.request.Make.{Make}
-use Rattle.cosecmd.specs.declared.request.Verify.{Verify}
+use Rattle.cosecmd.specs.declared.request.OwnedChecks.{OwnedChecks}
 use Rattle.cosecmd.specs.declared.reply.Reply.{Reply}
 use Rattle.cosecmd.specs.declared.reply.Status.TheVariants as statuses
 use Rattle.cosecmd.specs.declared.words.Parsed.{Parsed}
 use Rattle.cosecmd.specs.declared.words.Parsed.TheVariants.{Matches, Text as ClapText}
 
-pub verify_asks : (content : List ℕ → Option (List ℕ)) (options : Options) (words : Verify) (payload : Option (Option (List ℕ))) (bytes : List ℕ) (said : Output)
-    → VerifyFields content options words → payload ≡ payload_in content options → verify_prints content options bytes ≡ Some said
-    → (detached : Option (List ℕ)) × (payload ≡ Some detached) × (verified_for words detached bytes ≡ said)
-verify_asks content options words payload bytes said fields is prints = go (key_set_in content options) refl (payload_in content options) refl
-  where
-    vouch : Option (List ℕ)
-    vouch = option_map (λ bytes. bytes.items) words.vouch
-
-    go : (known : Option (List ℕ)) → key_set_in content options ≡ known → (found : Option (Option (List ℕ))) → payload_in content options ≡ found
-        → (detached : Option (List ℕ)) × (payload ≡ Some detached) × (verified_for words detached bytes ≡ said)
-    go None keys found has =
-        let none : None ≡ Some said = rw keys at prints in
-        cc
-    go (Some known) keys None has =
-        let none : None ≡ Some said = rw (keys, fields.aad, fields.vouch, has) at prints in
-        cc
-    go (Some known) keys (Some detached) has =
-        let some : Some (verified_under (program_keys known) words.aad.items (kind_in options) vouch detached bytes) ≡ Some said = rw (keys, fields.aad, fields.vouch, has) at prints in
-        let same : verified_under (program_keys known) words.aad.items (kind_in options) vouch detached bytes ≡ said = cc in
-        (detached, is ∙ has, rw (fields.keys known keys, fields.kind) same)
+-- The checks and the payload that the options state are those that they ask for, and this is printed for them.
+pub payload_asks : (prints : Under → Option (List ℕ) → List ℕ → Output) (under : Option Under) (found : Option (Option (List ℕ))) (checks : OwnedChecks) (payload : Option (Option (List ℕ))) (bytes : List ℕ) (said : Output)
+    → AreChecks under checks → payload ≡ found → (do under ← under; payload ← found; Some (prints under payload bytes)) ≡ Some said
+    → (detached : Option (List ℕ)) × (payload ≡ Some detached) × (prints (owned_under checks) detached bytes ≡ said)
+payload_asks prints None found checks payload bytes said are is e = cc
+payload_asks prints (Some under) None checks payload bytes said are is e = cc
+payload_asks prints (Some under) (Some detached) checks payload bytes said are is e =
+    let same : prints under detached bytes ≡ said = cc in
+    (detached, is, ap (λ (u : Under). prints u detached bytes) (are under refl) ∙ same)
 
 pub cwt_asks : (content : List ℕ → Option (List ℕ)) (options : Options) (words : Cwt) (bytes : List ℕ) (said : Output) → CwtFields content options words → cwt_prints content options bytes ≡ Some said →
     admitted_for words bytes ≡ said
-cwt_asks content options words bytes said fields prints = go (key_set_in content options) refl
+cwt_asks content options words bytes said fields prints = go (checks_in content options) refl
   where
-    vouch : Option (List ℕ)
-    vouch = option_map (λ bytes. bytes.items) words.verify.vouch
-
-    go : (known : Option (List ℕ)) → key_set_in content options ≡ known → admitted_for words bytes ≡ said
-    go None keys =
-        let none : None ≡ Some said = rw keys at prints in
+    go : (known : Option Under) → checks_in content options ≡ known → admitted_for words bytes ≡ said
+    go None checks =
+        let none : None ≡ Some said = rw checks at prints in
         cc
-    go (Some known) keys =
-        let some : Some (admitted_under (program_keys known) words.verify.aad.items (kind_in options) vouch (program_policy words.now words.leeway (text_in (codes "aud") options)) (flag_in (codes "text") options) bytes) ≡ Some said =
-        rw (keys, fields.verify.aad, fields.verify.vouch, fields.now, fields.leeway) at prints in
-        let same : admitted_under (program_keys known) words.verify.aad.items (kind_in options) vouch (program_policy words.now words.leeway (text_in (codes "aud") options)) (flag_in (codes "text") options) bytes ≡ said = cc in
-        rw (fields.verify.keys known keys, fields.verify.kind, fields.aud, fields.readable) same
-
-pub digest_asks : (content : List ℕ → Option (List ℕ)) (options : Options) (words : Digest) (payload : Option (Option (List ℕ))) (bytes : List ℕ) (said : Output)
-    → DigestFields content options words → payload ≡ payload_in content options → digest_prints content options bytes ≡ Some said
-    → (detached : Option (List ℕ)) × (payload ≡ Some detached) × (digested_for words detached bytes ≡ said)
-digest_asks content options words payload bytes said fields is prints = go (key_set_in content options) refl (payload_in content options) refl
-  where
-    go : (known : Option (List ℕ)) → key_set_in content options ≡ known → (found : Option (Option (List ℕ))) → payload_in content options ≡ found
-        → (detached : Option (List ℕ)) × (payload ≡ Some detached) × (digested_for words detached bytes ≡ said)
-    go None keys found has =
-        let none : None ≡ Some said = rw keys at prints in
-        cc
-    go (Some known) keys None has =
-        let none : None ≡ Some said = rw (keys, fields.aad, has) at prints in
-        cc
-    go (Some known) keys (Some detached) has =
-        let some : Some (digested_under (program_keys known) words.aad.items detached bytes) ≡ Some said = rw (keys, fields.aad, has) at prints in
-        let same : digested_under (program_keys known) words.aad.items detached bytes ≡ said = cc in
-        (detached, is ∙ has, rw (fields.keys known keys) same)
+    go (Some under) checks =
+        let some : Some (admitted_under under (program_policy words.now words.leeway (text_in (codes "aud") options)) (flag_in (codes "text") options) bytes) ≡ Some said =
+        rw (checks, fields.now, fields.leeway) at prints in
+        let same : admitted_under under (program_policy words.now words.leeway (text_in (codes "aud") options)) (flag_in (codes "text") options) bytes ≡ said = cc in
+        rw (fields.checks under checks, fields.aud, fields.readable) same
 
 pub make_asks : (content : List ℕ → Option (List ℕ)) (options : Options) (words : Make) (bytes : List ℕ) (said : Output) → MakeFields content options words →
     make_prints content options bytes ≡ Some said → made_for words bytes ≡ said

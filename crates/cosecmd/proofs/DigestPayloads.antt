@@ -15,10 +15,10 @@ use Rattle.cose_msg.specs.Reader.{Counts}
 use Rattle.cose_msg.specs.Reading.{Reading}
 use Rattle.cose_msg.specs.Shown.{SignInput, sign_input_in}
 use Rattle.cose_msg.specs.Unrefused.{UnrefusedIsMessage}
-use Rattle.cosecmd.specs.declared.job.DigestFileJob.{DigestFileJob}
+use Rattle.cosecmd.specs.declared.job.FileJob.{FileJob}
 use Rattle.cosecmd.specs.declared.reply.Reply.{Reply}
 use Rattle.cosecmd.specs.PayloadFile.{counted, never}
-use Rattle.cosecmd.specs.Printed.{Output, Says, digest_setting, digested_as, digested_before, digested_in, digested_under, program_keys, trailed}
+use Rattle.cosecmd.specs.Printed.{Output, Says, digested_as, digested_before, digested_in, digested_under, setting_under, trailed, with_payload}
 use Rattle.cosecmd.specs.Stated.{DigestedOf, digested_from, digested_of_short, digested_short, payload_wanted_by_digest, stating, unless_missing}
 use Rattle.cosecmd.proofs.Digests.{is_digested, says_equal, wanted_whole}
 use Rattle.cosecmd.proofs.Stated.{came_of_short, none_of}
@@ -89,10 +89,10 @@ says_of_whole stays setting stated bytes more come after ended (Ok said) told of
 
 -- ---- a payload in a file, which may have fewer bytes than are stated
 
-module _ (stays : PayloadStays) (job : DigestFileJob) (keys : List KeyValue) (content bytes : List ℕ) (left : ℕ) (after : Option (List ℕ)) (ended : Bool)
-    (read : program_keys job.keys.now ≡ Ok keys) (small : job.length < 2 ^ 64) (small_left : left < 2 ^ 64) where
+module _ (stays : PayloadStays) (job : FileJob) (keys : List KeyValue) (content bytes : List ℕ) (left : ℕ) (after : Option (List ℕ)) (ended : Bool)
+    (read : (job_under job.checks).keys ≡ Ok keys) (small : job.length < 2 ^ 64) (small_left : left < 2 ^ 64) where
   abbrev setting : Setting
-  setting = digest_setting keys job.aad.now
+  setting = setting_under (job_under job.checks) keys
 
   short_said : (said : Reply) → nat_lt (length content) job.length ≡ true → DigestedOf setting job.length bytes (counted job.length (Some content)) (counted left after) ended said → (ended ≡ true → left ≡ 0) →
       Says (digested_from job content bytes) said
@@ -105,10 +105,10 @@ module _ (stays : PayloadStays) (job : DigestFileJob) (keys : List KeyValue) (co
       let more = with_more stays setting job.length bytes of.came part.0 none in
       let same : digested_of_short (stating content job.length setting) bytes ≡ digested_in (stating of.came job.length setting) bytes =
       ap (λ (c : List ℕ). digested_of_short (stating c job.length setting) bytes) part.1
-      ∙ ap (λ (r : Reading). unless_missing r.payload_wanted (digested_as job.aad.now (trailed (length bytes) r.answer))) more
+      ∙ ap (λ (r : Reading). unless_missing r.payload_wanted (digested_as setting.aad (trailed (length bytes) r.answer))) more
       ∙ ap (λ (n : ℕ). unless_missing n (digested_in (stating of.came job.length setting) bytes)) none in
-      let from : digested_from job content bytes ≡ digested_short (program_keys job.keys.now) job content bytes = rw e refl in
-      let short : digested_short (program_keys job.keys.now) job content bytes ≡ digested_of_short (stating content job.length setting) bytes = ap (λ (t : Read (List KeyValue)). digested_short t job content bytes) read in
+      let from : digested_from job content bytes ≡ digested_short (job_under job.checks) job.length content bytes = rw e refl in
+      let short : digested_short (job_under job.checks) job.length content bytes ≡ digested_of_short (stating content job.length setting) bytes = said_with_keys (job_under job.checks).keys keys _ read in
       subst (λ (o : Output). Says o said) (sym (from ∙ short ∙ same)) of.says
 
   whole_said : {F : Type 0} (reply : Result Reply F) → nat_lt (length content) job.length ≡ false → IfOk reply (λ said. DigestedOf setting job.length bytes (counted job.length (Some content)) (counted left after) ended said) →
@@ -118,11 +118,10 @@ module _ (stays : PayloadStays) (job : DigestFileJob) (keys : List KeyValue) (co
       let count : length (take job.length content) ≡ job.length = length-take-le job.length content enough in
       let told : counted job.length (Some content) ≡ Some (take job.length content) = rw e refl in
       let said = says_of_whole stays setting job.length bytes (take job.length content) (counted job.length (Some content)) (counted left after) ended reply told of in
-      let stated : digested_in (stating (take job.length content) job.length setting) bytes ≡ digested_under (Ok keys) job.aad.now (Some (take job.length content)) bytes =
+      let stated : digested_in (stating (take job.length content) job.length setting) bytes ≡ digested_in (with_payload (Some (take job.length content)) setting) bytes =
       ap (λ (n : ℕ). digested_in (stating (take job.length content) n setting) bytes) (sym count) in
-      let from : digested_from job content bytes ≡ digested_under (program_keys job.keys.now) job.aad.now (Some (take job.length content)) bytes = rw e refl in
-      let by_keys : digested_under (program_keys job.keys.now) job.aad.now (Some (take job.length content)) bytes ≡ digested_under (Ok keys) job.aad.now (Some (take job.length content)) bytes =
-      ap (λ (t : Read (List KeyValue)). digested_under t job.aad.now (Some (take job.length content)) bytes) read in
+      let from : digested_from job content bytes ≡ digested_under (job_under job.checks) (Some (take job.length content)) bytes = rw e refl in
+      let by_keys : digested_under (job_under job.checks) (Some (take job.length content)) bytes ≡ digested_in (with_payload (Some (take job.length content)) setting) bytes = said_with_keys (job_under job.checks).keys keys _ read in
       says_equal reply _ _ (stated ∙ sym (from ∙ by_keys)) said
 
   by_length : {F : Type 0} (short : Bool) → nat_lt (length content) job.length ≡ short → (reply : Result Reply F) →

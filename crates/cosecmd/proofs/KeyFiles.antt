@@ -3,7 +3,7 @@ use Rattle.std.proofs.Common.{◌≡◌, ℕ, ◌≤◌, ◌<◌, Bool, true, fa
 use Rattle.std.specs.Prelude.{IfSome}
 use Rattle.std.proofs.lemmas.Bool.{lt-ltb, ltb-false, ltb-true}
 use Rattle.std.proofs.lemmas.List.{length-take, take_all}
-use Rattle.cosecmd.specs.Printed.{program_keys}
+use Rattle.cosecmd.specs.Under.{program_keys}
 use Rattle.cose_map.specs.KeySet.{keys_of}
 
 pub first_read : (left : Option (List ℕ)) (limit : ℕ) (old new bytes : List ℕ) → left ≡ Some bytes → limit ≡ 65536 → old ≡ [] →

@@ -4,7 +4,6 @@ use Rattle.std.specs.Prelude.{IfOk}
 use Rattle.std.specs.Io.KnownBytes.{Appends}
 use Rattle.cose_map.specs.Key.Value.{KeyValue}
 use Rattle.cose_map.specs.Map.Read.{Read}
-use Rattle.cose_msg.specs.declared.context.Wanted.{Wanted}
 use Rattle.cose_msg.specs.declared.verdict.Verdict.{Verdict}
 use Rattle.cose_msg.specs.Answer.{decided}
 use Rattle.cosecmd.specs.declared.reply.Reply.{Reply}
@@ -13,15 +12,20 @@ use Rattle.cosecmd.specs.declared.reply.Status.TheVariants as statuses
 use Rattle.cosecmd.specs.declared.fault.Fault.{Fault}
 use Rattle.cosecmd.specs.declared.fault.Fault.TheVariants as faults
 use Rattle.cosecmd.specs.Faults.{WritesLine}
-use Rattle.cosecmd.specs.Printed.{EndsWith, Fails, Output, Prints, Says, WritesPart, code_of, input_answer, output_of, program_setting, said_of, verified_under, with_payload}
+use Rattle.cosecmd.specs.Printed.{EndsWith, Fails, Output, Prints, Says, WritesPart, code_of, input_answer, output_of, said_of, setting_under, verified_under, with_keys, with_payload}
+use Rattle.cosecmd.specs.Under.{Under}
 use Rattle.cosecmd.specs.Vouch.{vouching}
 
-pub says_verified : {F : Type 0} (set : Read (List KeyValue)) (keys : List KeyValue) (aad : List ℕ) (wanted : Wanted) (vouch payload : Option (List ℕ)) (bytes : List ℕ) (verdict : Verdict) (reply : Result Reply F) →
-    set ≡ Ok keys → input_answer (with_payload payload (program_setting keys aad wanted)) (vouching vouch) bytes ≡ decided verdict → IfOk reply (Says (said_of verdict)) →
-    IfOk reply (Says (verified_under set aad wanted vouch payload bytes))
-says_verified set keys aad wanted vouch payload bytes verdict reply d b s =
-    let e : verified_under set aad wanted vouch payload bytes ≡ said_of verdict = ap (λ (t : Read (List KeyValue)). verified_under t aad wanted vouch payload bytes) d ∙ ap output_of b in
-    subst (λ (o : Output). IfOk reply (Says o)) (sym e) s
+-- What is said under keys, where the key set has these.
+pub said_with_keys : (set : Read (List KeyValue)) (keys : List KeyValue) (said : List KeyValue → Output) → set ≡ Ok keys → with_keys set said ≡ said keys
+said_with_keys set keys said read = ap (λ (t : Read (List KeyValue)). with_keys t said) read
+
+pub says_verified : {F : Type 0} (under : Under) (keys : List KeyValue) (payload : Option (List ℕ)) (bytes : List ℕ) (verdict : Verdict) (reply : Result Reply F) →
+    under.keys ≡ Ok keys → input_answer (with_payload payload (setting_under under keys)) (vouching under.vouch) bytes ≡ decided verdict → IfOk reply (Says (said_of verdict)) →
+    IfOk reply (Says (verified_under under payload bytes))
+says_verified under keys payload bytes verdict reply read answered said =
+    let e : verified_under under payload bytes ≡ said_of verdict = said_with_keys under.keys keys _ read ∙ ap output_of answered in
+    subst (λ (o : Output). IfOk reply (Says o)) (sym e) said
 
 -- Unless there is a fault, a run ends with the output's status.
 pub ends_so : (old new : Option (List ℕ)) (output : Output) (status : Status) → Prints output old new status → code_of status < 2 →

@@ -16,11 +16,12 @@ use Rattle.cose_msg.specs.Reading.{Reading}
 use Rattle.cosecmd.specs.declared.job.FileJob.{FileJob}
 use Rattle.cosecmd.specs.declared.reply.Reply.{Reply}
 use Rattle.cosecmd.specs.PayloadFile.{counted, never}
-use Rattle.cosecmd.specs.Printed.{Output, Says, followed_by, input_answer, output_of, program_keys, program_setting, said_of, trailed, verified_with, with_payload}
+use Rattle.cosecmd.specs.Printed.{Output, Says, followed_by, input_answer, output_of, said_of, setting_under, trailed, verified_with, with_payload}
 use Rattle.cosecmd.specs.Stated.{CameOf, payload_wanted_of, said_of_short, stating, unless_missing, verified_from, verified_short}
+use Rattle.cosecmd.specs.Under.{job_under}
 use Rattle.cosecmd.specs.Vouch.{vouching}
 use Rattle.cosecmd.proofs.Digests.{all_come_to}
-use Rattle.cosecmd.proofs.Replies.{says_verified}
+use Rattle.cosecmd.proofs.Replies.{said_with_keys, says_verified}
 use Rattle.cosecmd.proofs.Trailing.{trails}
 
 at_end : (rest : List ℕ) → IsAtEnd (Some rest) → rest ≡ []
@@ -94,12 +95,12 @@ said_short stays setting decides stated bytes content came rest verdict split no
     ∙ ap output_of answered
 
 module _ (stays : PayloadStays) {F : Type 0} (job : FileJob) (keys : List KeyValue) (content bytes : List ℕ) (left : ℕ) (after : Option (List ℕ)) (ended : Bool) (verdict : Verdict) (reply : Result Reply F)
-    (read : program_keys job.keys.now ≡ Ok keys) (small : job.length < 2 ^ 64) (small_left : left < 2 ^ 64) (says : IfOk reply (Says (said_of verdict))) where
+    (read : (job_under job.checks).keys ≡ Ok keys) (small : job.length < 2 ^ 64) (small_left : left < 2 ^ 64) (says : IfOk reply (Says (said_of verdict))) where
   abbrev decides : Decides
-  decides = vouching (option_map contents job.vouch)
+  decides = vouching (job_under job.checks).vouch
 
   abbrev setting : Setting
-  setting = program_setting keys job.aad.now job.wanted
+  setting = setting_under (job_under job.checks) keys
 
   by_length : (short : Bool) → nat_lt (length content) job.length ≡ short →
       ((more : List ℕ) → counted job.length (Some content) ≡ Some more → length more ≡ job.length → input_answer (with_payload (Some more) setting) decides bytes ≡ decided verdict) →
@@ -112,14 +113,14 @@ module _ (stays : PayloadStays) {F : Type 0} (job : FileJob) (keys : List KeyVal
       none_of _ (λ some. let zero_left = ends (came_of.ends some) in omega (arith, zero_left, part.2)) in
       let said : said_of_short (stating content job.length setting) decides bytes ≡ said_of verdict =
       said_short stays setting decides job.length bytes content came_of.came part.0 verdict part.1 none came_of.answer in
-      let from : verified_from job content bytes ≡ verified_short (program_keys job.keys.now) job content bytes = rw e refl in
-      let short : verified_short (program_keys job.keys.now) job content bytes ≡ said_of_short (stating content job.length setting) decides bytes = ap (λ (t : Read (List KeyValue)). verified_short t job content bytes) read in
+      let from : verified_from job content bytes ≡ verified_short (job_under job.checks) job.length content bytes = rw e refl in
+      let short : verified_short (job_under job.checks) job.length content bytes ≡ said_of_short (stating content job.length setting) decides bytes = said_with_keys (job_under job.checks).keys keys _ read in
       subst (λ (o : Output). IfOk reply (Says o)) (sym (from ∙ short ∙ said)) says
   by_length false e whole came_of ends =
       let enough : job.length ≤ length content = let f = ltb-false (length content) job.length e in omega (arith, f) in
       let answered = whole (take job.length content) (rw e refl) (length-take-le job.length content enough) in
       let from : verified_from job content bytes ≡ verified_with job (take job.length content) bytes = rw e refl in
-      let said = says_verified (program_keys job.keys.now) keys job.aad.now job.wanted (option_map contents job.vouch) (Some (take job.length content)) bytes verdict reply read answered says in
+      let said = says_verified (job_under job.checks) keys (Some (take job.length content)) bytes verdict reply read answered says in
       subst (λ (o : Output). IfOk reply (Says o)) (sym from) said
 
   pub says_from : (context : Setting) (come : Option (List ℕ)) → context ≡ setting → come ≡ counted job.length (Some content) →

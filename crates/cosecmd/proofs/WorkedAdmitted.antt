@@ -39,7 +39,7 @@ use Rattle.cosecmd.specs.declared.reply.Status.TheVariants as statuses
 use Rattle.cosecmd.specs.Admitted.{program_policy, token_told}
 use Rattle.cosecmd.specs.Printed.{Output, outcome_said, printed}
 use Rattle.cosecmd.specs.Vouch.{vouching}
-use Rattle.cosecmd.proofs.WorkedPrinted.{hex, any, line, word, Prints, plain, jefe, point}
+use Rattle.cosecmd.proofs.WorkedPrinted.{hex, any, checks_for, line, Prints, plain, jefe, point}
 use Rattle.cosecmd.proofs.WorkedShown.{lines}
 use Rattle.hex.specs.Hex.{encode_with}
 
@@ -144,7 +144,7 @@ confirmed_sign = refl
 
 -- To admit a token of either kind under a key set, at a current time, whatever its audience.
 abbrev admitting : List ℕ → ℕ → Job
-admitting keys now = Cwt (word keys) (word []) wants.Tagged None (pos now) 0 None false
+admitting keys now = Cwt (checks_for keys [] wants.Tagged None) (pos now) 0 None false
 
 unfoldable prints : List ℕ → ℕ → List ℕ → Output
 unfolding printed admitted claims_of claims_table members_table confirmation_of texts_from keys_of key_of key_table material_of message with_head with_string with_item bucket_of bucket_table check_pairs pair_faults chosen children_of items_from look head_of_item bare_head read head depth_of is_utf8 chars lib.Utf8.encode digits encode_with

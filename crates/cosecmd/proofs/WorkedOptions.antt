@@ -10,7 +10,8 @@ use Rattle.cose_msg.specs.declared.context.Wanted.TheVariants.{Mac0, Sign1, Tagg
 use Rattle.cosecmd.specs.Admitted.{program_policy}
 use Rattle.cosecmd.specs.CommandLine.{line_prints}
 use Rattle.cosecmd.specs.Options.{algorithm_in, bytes_in, integer_in, key_set_in, kind_in, number_in, optional_bytes_in, payload_in, text_in}
-use Rattle.cosecmd.specs.Printed.{admitted_under, made_under, program_keys, shown, verified_under}
+use Rattle.cosecmd.specs.Printed.{admitted_under, made_under, shown, verified_under}
+use Rattle.cosecmd.specs.Under.{Under, program_keys}
 
 -- An option with this argument; and one whose range has no negative number.
 abbrev given : Text → Text → Row
@@ -92,18 +93,22 @@ diagnostic_line bytes = refl
 plain_line : (bytes : List ℕ) → line_prints no_file (Some (codes "show", given (codes "diagnostic") (codes "false") ∷ [])) bytes ≡ Some (shown Tagged false bytes)
 plain_line bytes = refl
 
+-- Under the key set without keys, the array 80, and with this argument of `--vouch`.
+abbrev no_keys : Option (List ℕ) → Under
+no_keys vouch = record { keys = program_keys (128 ∷ []); aad = []; wanted = Tagged; vouch = vouch }
+
 verify_line : (bytes : List ℕ) → line_prints any_file (Some (codes "verify", given (codes "keys") (codes "80") ∷ given (codes "payload-file") (codes "a") ∷ given (codes "vouch") (codes "01") ∷ [])) bytes ≡
-    Some (verified_under (program_keys (128 ∷ [])) [] Tagged (Some (1 ∷ [])) (Some (1 ∷ 97 ∷ [])) bytes)
+    Some (verified_under (no_keys (Some (1 ∷ []))) (Some (1 ∷ 97 ∷ [])) bytes)
 unfolding decode_pairs
 verify_line bytes = refl
 
 cwt_line : (bytes : List ℕ) → line_prints no_file (Some (codes "cwt", given (codes "keys") (codes "80") ∷ number (codes "now") (codes "9") ∷ number (codes "leeway") (codes "5") ∷ given (codes "aud") (codes "x") ∷ [])) bytes ≡
-    Some (admitted_under (program_keys (128 ∷ [])) [] Tagged None (program_policy (pos 9) 5 (Some (120 ∷ []))) false bytes)
+    Some (admitted_under (no_keys None) (program_policy (pos 9) 5 (Some (120 ∷ []))) false bytes)
 unfolding decode_pairs
 cwt_line bytes = refl
 
 text_line : (bytes : List ℕ) → line_prints no_file (Some (codes "cwt", given (codes "keys") (codes "80") ∷ number (codes "now") (codes "9") ∷ number (codes "leeway") (codes "5") ∷ given (codes "text") (codes "true") ∷ [])) bytes ≡
-    Some (admitted_under (program_keys (128 ∷ [])) [] Tagged None (program_policy (pos 9) 5 None) true bytes)
+    Some (admitted_under (no_keys None) (program_policy (pos 9) 5 None) true bytes)
 unfolding decode_pairs
 text_line bytes = refl
 

@@ -31,11 +31,11 @@ use Rattle.cosecmd.specs.declared.job.Job.TheVariants.{Verify}
 use Rattle.cosecmd.specs.declared.reply.Status.TheVariants as statuses
 use Rattle.cosecmd.specs.Printed.{Output, output_of, printed, trailed}
 use Rattle.cosecmd.specs.Vouch.{vouching}
-use Rattle.cosecmd.proofs.WorkedPrinted.{Prints, any, either, found, hex, is_mac_of, line, plain, point, word}
+use Rattle.cosecmd.proofs.WorkedPrinted.{Prints, any, checks_for, either, found, hex, is_mac_of, line, plain, point, word}
 
 -- To verify a message of either kind under a key set, with this payload next to it.
 abbrev verifying : List ℕ → List ℕ → Job
-verifying keys payload = Verify (word keys) (word []) wants.Tagged None (Some (word payload))
+verifying keys payload = Verify (checks_for keys [] wants.Tagged None) (Some (word payload))
 
 unfoldable prints : List ℕ → List ℕ → List ℕ → Output
 unfolding printed keys_of key_of key_table material_of message with_head with_string with_item bucket_of bucket_table check_pairs pair_faults chosen children_of items_from look head_of_item bare_head read head depth_of is_utf8 chars lib.Utf8.encode digits

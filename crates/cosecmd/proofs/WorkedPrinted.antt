@@ -26,11 +26,13 @@ use Rattle.cose_map.specs.Key.Material.{material_of}
 use Rattle.cose_map.specs.Key.Value.{coordinate, symmetric}
 use Rattle.cose_map.specs.KeySet.{keys_of}
 use Rattle.cose_map.specs.Map.Read.{check_pairs}
+use Rattle.cose_msg.specs.declared.context.Wanted.{Wanted}
 use Rattle.cose_msg.specs.declared.context.Wanted.TheVariants as wants
 use Rattle.cose_msg.specs.declared.verdict.Verdict.TheVariants.{Authentic}
 use Rattle.cose_msg.specs.Answer.{Chosen, decided, refused}
 use Rattle.cose_msg.specs.Message.{message, structure, verified}
 use Rattle.cose_msg.specs.Reading.{with_head, with_string, with_item}
+use Rattle.cosecmd.specs.declared.job.Checks.{Checks}
 use Rattle.cosecmd.specs.declared.job.Job.{Job}
 use Rattle.cosecmd.specs.declared.job.Job.TheVariants.{Verify}
 use Rattle.cosecmd.specs.declared.reply.Status.{Status}
@@ -68,8 +70,11 @@ Prints f rows = map (λ row. f (hex row.0)) rows ≡ map (λ row. row.1) rows
 abbrev pub word : List ℕ → Bor (List ℕ)
 word bytes = record { ref_ptr = (0, 0); now = bytes }
 
+abbrev pub checks_for : List ℕ → List ℕ → Wanted → Option (List ℕ) → Checks
+checks_for keys aad wanted vouch = record { keys = word keys; aad = word aad; wanted = wanted; vouch = option_map word vouch }
+
 abbrev verifying : List ℕ → Option (List ℕ) → Job
-verifying keys vouch = Verify (word keys) (word []) wants.Tagged (option_map word vouch) None
+verifying keys vouch = Verify (checks_for keys [] wants.Tagged vouch) None
 
 unfoldable prints : List ℕ → Option (List ℕ) → List ℕ → Output
 unfolding printed keys_of key_of key_table material_of message with_head with_string with_item bucket_of bucket_table check_pairs pair_faults chosen children_of items_from look head_of_item bare_head read head depth_of is_utf8 chars lib.Utf8.encode digits

@@ -12,8 +12,9 @@ use Rattle.cose_map.specs.Key.{key_of}
 use Rattle.cose_msg.specs.Sink.{AppendsFront}
 use Rattle.cosecmd.specs.Admitted.{program_policy}
 use Rattle.cosecmd.specs.Faults.{WritesLine}
-use Rattle.cosecmd.specs.Options.{Options, algorithm_in, bytes_in, flag_in, integer_in, key_in, key_set_in, kind_in, number_in, optional_bytes_in, payload_in, text_in}
-use Rattle.cosecmd.specs.Printed.{EndsWith, Fails, Output, admitted_under, digested_under, made_under, program_keys, shown, verified_under}
+use Rattle.cosecmd.specs.Options.{Options, ◌>>=◌, algorithm_in, bytes_in, flag_in, integer_in, key_in, key_set_in, kind_in, number_in, optional_bytes_in, payload_in, text_in}
+use Rattle.cosecmd.specs.Fields.{checks_in, digest_checks_in}
+use Rattle.cosecmd.specs.Printed.{EndsWith, Fails, Output, admitted_under, digested_under, made_under, shown, verified_under}
 use Rattle.cosecmd.specs.Words.{asked_for, payload_for}
 use Rattle.cosecmd.specs.declared.fault.Fault.{Fault}
 use Rattle.cosecmd.specs.declared.reply.Status.TheVariants as statuses
@@ -21,34 +22,24 @@ use Rattle.cosecmd.specs.declared.request.Request.{Request}
 use Rattle.cosecmd.specs.declared.words.Parsed.{Parsed}
 use Rattle.cosecmd.specs.declared.words.Parsed.TheVariants.{Matches, Text as Reply}
 
-infixl 10 ◌>>=◌
-abbrev pub ◌>>=◌ : {A B : Type 0} → Option A → (A → Option B) → Option B
-None >>= f = None
-Some x >>= f = f x
-
 abbrev pub verify_prints : (List ℕ → Option (List ℕ)) → Options → List ℕ → Option Output
 verify_prints content options bytes = do
-  keys ← key_set_in content options
-  aad ← bytes_in (codes "aad") options
-  vouch ← optional_bytes_in (codes "vouch") options
+  under ← checks_in content options
   payload ← payload_in content options
-  Some (verified_under (program_keys keys) aad (kind_in options) vouch payload bytes)
+  Some (verified_under under payload bytes)
 
 abbrev pub cwt_prints : (List ℕ → Option (List ℕ)) → Options → List ℕ → Option Output
 cwt_prints content options bytes = do
-  keys ← key_set_in content options
-  aad ← bytes_in (codes "aad") options
-  vouch ← optional_bytes_in (codes "vouch") options
+  under ← checks_in content options
   now ← integer_in (codes "now") options
   leeway ← number_in (codes "leeway") options
-  Some (admitted_under (program_keys keys) aad (kind_in options) vouch (program_policy now leeway (text_in (codes "aud") options)) (flag_in (codes "text") options) bytes)
+  Some (admitted_under under (program_policy now leeway (text_in (codes "aud") options)) (flag_in (codes "text") options) bytes)
 
 abbrev pub digest_prints : (List ℕ → Option (List ℕ)) → Options → List ℕ → Option Output
 digest_prints content options bytes = do
-  keys ← key_set_in content options
-  aad ← bytes_in (codes "aad") options
+  under ← digest_checks_in content options
   payload ← payload_in content options
-  Some (digested_under (program_keys keys) aad payload bytes)
+  Some (digested_under under payload bytes)
 
 abbrev pub make_prints : (List ℕ → Option (List ℕ)) → Options → List ℕ → Option Output
 make_prints content options bytes = do

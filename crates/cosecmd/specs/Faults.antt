@@ -57,9 +57,9 @@ abbrev pub making_fault : Job → Option Fault
 making_fault (Make alg key payload_length kid aad) =
     fault_of_making (key_of (record { bytes = key.now; place = 0 })) alg (option_map contents kid) aad.now payload_length
 making_fault (Show wanted diagnostic) = None
-making_fault (Verify keys aad wanted vouch payload) = None
-making_fault (Cwt keys aad wanted vouch now leeway aud readable) = None
-making_fault (Digest keys aad payload) = None
+making_fault (Verify checks payload) = None
+making_fault (Cwt checks now leeway aud readable) = None
+making_fault (Digest checks payload) = None
 
 abbrev pub fault_text : Fault → List ℕ
 fault_text faults.Memory = codes "fault memory"

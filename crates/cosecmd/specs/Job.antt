@@ -5,14 +5,14 @@ use Rattle.cosecmd.specs.declared.job.Job.TheVariants.{Show, Verify, Cwt, Digest
 
 abbrev pub aad_of : Job → List ℕ
 aad_of (Show wanted diagnostic) = []
-aad_of (Verify keys aad wanted vouch payload) = aad.now
-aad_of (Cwt keys aad wanted vouch now leeway aud readable) = aad.now
-aad_of (Digest keys aad payload) = aad.now
+aad_of (Verify checks payload) = checks.aad.now
+aad_of (Cwt checks now leeway aud readable) = checks.aad.now
+aad_of (Digest checks payload) = checks.aad.now
 aad_of (Make alg key length kid aad) = aad.now
 
 abbrev pub is_make : Job → Bool
 is_make (Make alg key length kid aad) = true
 is_make (Show wanted diagnostic) = false
-is_make (Verify keys aad wanted vouch payload) = false
-is_make (Cwt keys aad wanted vouch now leeway aud readable) = false
-is_make (Digest keys aad payload) = false
+is_make (Verify checks payload) = false
+is_make (Cwt checks now leeway aud readable) = false
+is_make (Digest checks payload) = false

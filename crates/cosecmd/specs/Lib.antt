@@ -10,6 +10,7 @@ pub mod PayloadFile
 pub mod Printed
 pub mod Readable
 pub mod Stated
+pub mod Under
 pub mod Vouch
 pub mod Words
 pub mod WriteSink

@@ -19,6 +19,12 @@ Options = List Row
 abbrev pub options_of : ArgMatches → Options
 options_of matches = rows_of (found_of matches)
 
+-- A value of values that are all in order.
+infixl 10 ◌>>=◌
+abbrev pub ◌>>=◌ : {A B : Type 0} → Option A → (A → Option B) → Option B
+None >>= f = None
+Some x >>= f = f x
+
 -- The argument of an option.
 abbrev pub text_in : Text → Options → Option Text
 text_in name options = first_of name options

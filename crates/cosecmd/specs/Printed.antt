@@ -12,8 +12,6 @@ use Rattle.cose_head.specs.Refusal.{refusal_text}
 use Rattle.cose_head.specs.declared.algorithm.Alg.{Alg}
 use Rattle.cose_head.specs.Algorithm.{algorithm_number}
 use Rattle.cose_map.specs.Key.{key_of}
-use Rattle.cose_map.specs.KeySet.{keys_of}
-use Rattle.cose_map.specs.KeyTable.{table_of}
 use Rattle.cose_map.specs.Key.Value.{KeyValue}
 use Rattle.cose_map.specs.Key.View.{contents}
 use Rattle.cose_map.specs.Map.Pairs.{Pair}
@@ -38,7 +36,6 @@ use Rattle.cose_cwt.specs.Token.{Outcome}
 use Rattle.cosecmd.specs.Admitted.{input_token, outcome_status, outcome_text, program_policy}
 use Rattle.cosecmd.specs.Faults.{WritesLine}
 use Rattle.cosecmd.specs.declared.fault.Fault.{Fault}
-use Rattle.cosecmd.specs.declared.job.DigestFileJob.{DigestFileJob}
 use Rattle.cosecmd.specs.declared.job.FileJob.{FileJob}
 use Rattle.cosecmd.specs.declared.job.Job.{Job}
 use Rattle.cosecmd.specs.declared.job.Job.TheVariants.{Show, Verify, Cwt, Digest, Make}
@@ -46,6 +43,7 @@ use Rattle.cosecmd.specs.declared.reply.Reply.{Reply}
 use Rattle.cosecmd.specs.declared.reply.Status.{Status}
 use Rattle.cosecmd.specs.declared.reply.Status.TheVariants as statuses
 use Rattle.cosecmd.specs.Readable.{pair_notation}
+use Rattle.cosecmd.specs.Under.{Under, job_under}
 use Rattle.cosecmd.specs.Vouch.{vouch_word, vouching}
 use Rattle.hex.specs.Hex.{encode_lower}
 
@@ -77,13 +75,13 @@ status_of (Refused refusal) = statuses.Refused
 abbrev pub said_of : Verdict → Output
 said_of verdict = record { text = verdict_line verdict ++ codes "\n"; status = status_of verdict }
 
--- The program has room for 16 usable keys.
-abbrev pub program_keys : List ℕ → Read (List KeyValue)
-program_keys bytes = table_of 16 (keys_of bytes)
-
--- A key set that is refused.
+-- A key set that is refused is a fault.
 abbrev pub fault_of_keys : Refusal → Output
 fault_of_keys refusal = record { text = codes "fault keys " ++ refusal_text refusal ++ codes "\n"; status = statuses.Fault }
+
+abbrev pub with_keys : Read (List KeyValue) → (List KeyValue → Output) → Output
+with_keys (Ok keys) said = said keys
+with_keys (Err refusal) said = fault_of_keys refusal
 
 -- The setting that the program verifies a message under: it knows the CWT tag, understands no label in addition to the
 -- standard's, has no payload limit of its own, and takes no detached payload.
@@ -97,6 +95,9 @@ program_setting keys aad wanted = record {
   payload_limit = 2 ^ 56 - 1;
   source = attached;
 }
+
+abbrev pub setting_under : Under → List KeyValue → Setting
+setting_under under keys = program_setting keys under.aad under.wanted
 
 -- The same, where the payload is detached: all its bytes are passed, and their number is stated.
 abbrev pub with_payload : Option (List ℕ) → Setting → Setting
@@ -142,14 +143,14 @@ output_of (decided verdict) = said_of verdict
 output_of (complete whole) = none_said
 output_of (shaped kind payload auth taken) = none_said
 
-abbrev pub verified_under : Read (List KeyValue) → List ℕ → Wanted → Option (List ℕ) → Option (List ℕ) → List ℕ → Output
-verified_under (Ok keys) aad wanted vouch payload bytes = output_of (input_answer (with_payload payload (program_setting keys aad wanted)) (vouching vouch) bytes)
-verified_under (Err refusal) aad wanted vouch payload bytes = fault_of_keys refusal
+-- With this detached payload, where there is one.
+abbrev pub verified_under : Under → Option (List ℕ) → List ℕ → Output
+verified_under under payload bytes =
+    with_keys under.keys (λ keys. output_of (input_answer (with_payload payload (setting_under under keys)) (vouching under.vouch) bytes))
 
 -- The same for a job whose payload comes from a file, and has these bytes.
 abbrev pub verified_with : FileJob → List ℕ → List ℕ → Output
-verified_with job payload bytes =
-    verified_under (program_keys job.keys.now) job.aad.now job.wanted (option_map contents job.vouch) (Some payload) bytes
+verified_with job payload bytes = verified_under (job_under job.checks) (Some payload) bytes
 
 -- A token is verified as a message is, with a payload of at most 4,096 bytes.
 abbrev pub token_setting : List KeyValue → List ℕ → Wanted → Setting
@@ -158,9 +159,9 @@ token_setting keys aad wanted = record (program_setting keys aad wanted) { paylo
 abbrev pub outcome_said : Bool → Outcome → Output
 outcome_said readable outcome = record { text = outcome_text readable outcome; status = outcome_status outcome }
 
-abbrev pub admitted_under : Read (List KeyValue) → List ℕ → Wanted → Option (List ℕ) → PolicyValue → Bool → List ℕ → Output
-admitted_under (Ok keys) aad wanted vouch policy readable bytes = outcome_said readable (input_token (token_setting keys aad wanted) (vouching vouch) policy bytes)
-admitted_under (Err refusal) aad wanted vouch policy readable bytes = fault_of_keys refusal
+abbrev pub admitted_under : Under → PolicyValue → Bool → List ℕ → Output
+admitted_under under policy readable bytes =
+    with_keys under.keys (λ keys. outcome_said readable (input_token (token_setting keys under.aad under.wanted) (vouching under.vouch) policy bytes))
 
 -- The shape of a message: its kind, and the numbers of bytes of its payload, of its tag or signature, and of the whole.
 abbrev pub shape_line : Kind → ℕ → ℕ → ℕ → List ℕ
@@ -211,24 +212,19 @@ digested None answer = output_of answer
 abbrev pub digested_as : List ℕ → Answer → Output
 digested_as aad answer = digested (sign_input_in aad answer) answer
 
--- A COSE_Sign1, tagged or not, all of whose bytes are there, before its signature is decided on.
+-- A message, all of whose bytes are there, before its signature is decided on.
 abbrev pub input_compared : Setting → List ℕ → Answer
 input_compared setting bytes = trailed (length bytes) (message (comparing 1024 8 setting) bytes).answer
-
--- The setting that `digest` reads a message under.
-abbrev pub digest_setting : List KeyValue → List ℕ → Setting
-digest_setting keys aad = program_setting keys aad wants.Sign1
 
 abbrev pub digested_in : Setting → List ℕ → Output
 digested_in setting bytes = digested_as setting.aad (input_compared setting bytes)
 
-abbrev pub digested_under : Read (List KeyValue) → List ℕ → Option (List ℕ) → List ℕ → Output
-digested_under (Ok keys) aad payload bytes = digested_in (with_payload payload (digest_setting keys aad)) bytes
-digested_under (Err refusal) aad payload bytes = fault_of_keys refusal
+abbrev pub digested_under : Under → Option (List ℕ) → List ℕ → Output
+digested_under under payload bytes = with_keys under.keys (λ keys. digested_in (with_payload payload (setting_under under keys)) bytes)
 
 -- The same for a job whose payload comes from a file, and has these bytes.
-abbrev pub digested_with : DigestFileJob → List ℕ → List ℕ → Output
-digested_with job payload bytes = digested_under (program_keys job.keys.now) job.aad.now (Some payload) bytes
+abbrev pub digested_with : FileJob → List ℕ → List ℕ → Output
+digested_with job payload bytes = digested_under (job_under job.checks) (Some payload) bytes
 
 -- The output after a message that ends at this place, of which a signature was found, or this verdict, where these bytes
 -- are left of the input.
@@ -270,11 +266,9 @@ made_under (Err refusal) alg payload_length kid aad bytes = fault_of_key refusal
 -- say; no clause requires a run that ends so to print all of it.
 unfoldable pub printed : Job → List ℕ → Output
 printed (Show wanted diagnostic) bytes = shown wanted diagnostic bytes
-printed (Verify keys aad wanted vouch payload) bytes =
-    verified_under (program_keys keys.now) aad.now wanted (option_map contents vouch) (option_map contents payload) bytes
-printed (Cwt keys aad wanted vouch now leeway aud readable) bytes =
-    admitted_under (program_keys keys.now) aad.now wanted (option_map contents vouch) (program_policy now leeway (option_map text_value aud)) readable bytes
-printed (Digest keys aad payload) bytes = digested_under (program_keys keys.now) aad.now (option_map contents payload) bytes
+printed (Verify checks payload) bytes = verified_under (job_under checks) (option_map contents payload) bytes
+printed (Cwt checks now leeway aud readable) bytes = admitted_under (job_under checks) (program_policy now leeway (option_map text_value aud)) readable bytes
+printed (Digest checks payload) bytes = digested_under (job_under checks) (option_map contents payload) bytes
 printed (Make alg key payload_length kid aad) bytes =
     made_under (key_of (record { bytes = key.now; place = 0 })) alg payload_length (option_map contents kid) aad.now bytes
 

@@ -8,11 +8,11 @@ use Rattle.cose_msg.specs.declared.verdict.Verdict.{Verdict}
 use Rattle.cose_msg.specs.Answer.{decided}
 use Rattle.cose_msg.specs.Message.{Decides, Setting, comparing, message, verifying}
 use Rattle.cose_msg.specs.Source.{detached}
-use Rattle.cosecmd.specs.declared.job.DigestFileJob.{DigestFileJob}
 use Rattle.cosecmd.specs.declared.job.FileJob.{FileJob}
 use Rattle.cosecmd.specs.declared.reply.Reply.{Reply}
 use Rattle.cosecmd.specs.declared.reply.Status.TheVariants as statuses
-use Rattle.cosecmd.specs.Printed.{Output, Says, digest_setting, digested_in, digested_with, fault_of_keys, input_answer, output_of, program_keys, program_setting, verified_with}
+use Rattle.cosecmd.specs.Printed.{Output, Says, digested_in, digested_with, input_answer, output_of, setting_under, verified_with, with_keys}
+use Rattle.cosecmd.specs.Under.{Under, job_under}
 use Rattle.cosecmd.specs.Vouch.{vouching}
 
 -- The payload is detached: these bytes of it have come, and so many are stated.
@@ -35,15 +35,14 @@ unless_missing (suc missing) output = fault_of_payload_file
 abbrev pub said_of_short : Setting → Decides → List ℕ → Output
 said_of_short setting decides bytes = unless_missing (payload_wanted_of setting decides bytes) (output_of (input_answer setting decides bytes))
 
-abbrev pub verified_short : Read (List KeyValue) → FileJob → List ℕ → List ℕ → Output
-verified_short (Ok keys) job content bytes =
-    said_of_short (stating content job.length (program_setting keys job.aad.now job.wanted)) (vouching (option_map contents job.vouch)) bytes
-verified_short (Err refusal) job content bytes = fault_of_keys refusal
+abbrev pub verified_short : Under → ℕ → List ℕ → List ℕ → Output
+verified_short under stated content bytes =
+    with_keys under.keys (λ keys. said_of_short (stating content stated (setting_under under keys)) (vouching under.vouch) bytes)
 
 -- The payload is the first bytes of the reader, as many as are stated.
 abbrev pub verified_from : FileJob → List ℕ → List ℕ → Output
 verified_from job content bytes =
-    if nat_lt (length content) job.length then verified_short (program_keys job.keys.now) job content bytes else verified_with job (take job.length content) bytes
+    if nat_lt (length content) job.length then verified_short (job_under job.checks) job.length content bytes else verified_with job (take job.length content) bytes
 
 -- The same of `digest`: how many bytes of the payload are still wanted, and what is printed.
 abbrev pub payload_wanted_by_digest : Setting → List ℕ → ℕ
@@ -52,13 +51,12 @@ payload_wanted_by_digest setting bytes = (message (comparing 1024 8 setting) byt
 abbrev pub digested_of_short : Setting → List ℕ → Output
 digested_of_short setting bytes = unless_missing (payload_wanted_by_digest setting bytes) (digested_in setting bytes)
 
-abbrev pub digested_short : Read (List KeyValue) → DigestFileJob → List ℕ → List ℕ → Output
-digested_short (Ok keys) job content bytes = digested_of_short (stating content job.length (digest_setting keys job.aad.now)) bytes
-digested_short (Err refusal) job content bytes = fault_of_keys refusal
+abbrev pub digested_short : Under → ℕ → List ℕ → List ℕ → Output
+digested_short under stated content bytes = with_keys under.keys (λ keys. digested_of_short (stating content stated (setting_under under keys)) bytes)
 
-abbrev pub digested_from : DigestFileJob → List ℕ → List ℕ → Output
+abbrev pub digested_from : FileJob → List ℕ → List ℕ → Output
 digested_from job content bytes =
-    if nat_lt (length content) job.length then digested_short (program_keys job.keys.now) job content bytes else digested_with job (take job.length content) bytes
+    if nat_lt (length content) job.length then digested_short (job_under job.checks) job.length content bytes else digested_with job (take job.length content) bytes
 
 -- A verdict on the bytes of an input. These bytes came of what was to come of the payload, no more than are stated; where
 -- the message wants more of them, the intake of the payload has ended.

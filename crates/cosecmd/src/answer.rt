@@ -13,7 +13,7 @@ mod show;
 mod verify;
 
 use crate::fault::Fault;
-use crate::job::{DigestFileJob, FileJob, Job};
+use crate::job::{FileJob, Job};
 use crate::print::{print_fault, print_reply};
 use crate::reply::Status;
 use cwt::{cwt_reply, policy_of};
@@ -43,32 +43,23 @@ fn status_of<R: Read, W: Write>(alloc: Global, job: &Job, input: &mut R, output:
             let reply = show_reply(alloc, *wanted, *diagnostic, input);
             print_reply(alloc, reply, output)
         }
-        Job::Verify {
-            keys,
-            aad,
-            wanted,
-            vouch,
-            payload,
-        } => {
-            let reply = verify_reply(alloc, keys, aad, *wanted, *vouch, *payload, input);
+        Job::Verify { checks, payload } => {
+            let reply = verify_reply(alloc, checks, *payload, input);
             print_reply(alloc, reply, output)
         }
         Job::Cwt {
-            keys,
-            aad,
-            wanted,
-            vouch,
+            checks,
             now,
             leeway,
             aud,
             readable,
         } => {
             let policy = policy_of(*now, *leeway, aud);
-            let reply = cwt_reply(alloc, keys, aad, *wanted, *vouch, &policy, *readable, input);
+            let reply = cwt_reply(alloc, checks, &policy, *readable, input);
             print_reply(alloc, reply, output)
         }
-        Job::Digest { keys, aad, payload } => {
-            let reply = digest_reply(alloc, keys, aad, *payload, input);
+        Job::Digest { checks, payload } => {
+            let reply = digest_reply(alloc, checks, *payload, input);
             print_reply(alloc, reply, output)
         }
         Job::Make {
@@ -126,7 +117,7 @@ pub fn answer_with_payload_file<P: Read, R: Read, W: Write>(
     input: &mut R,
     output: &mut W,
 ) -> u8
-    requires external { length_of job.now.aad.now ≤ 65535 }
+    requires external { length_of job.now.checks.aad.now ≤ 65535 }
     ensures status { result ≤ 2 }
     // Unless there is a fault, it prints the output for the stated bytes of the payload and all that the input gives, and
     // ends with its status. Where the reader has fewer bytes, and the message wants them, there is a fault.
@@ -147,12 +138,12 @@ pub fn answer_with_payload_file<P: Read, R: Read, W: Write>(
 /// states. In all else it is as [`answer_with_payload_file`].
 pub fn answer_digest_with_payload_file<P: Read, R: Read, W: Write>(
     alloc: Global,
-    job: &DigestFileJob,
+    job: &FileJob,
     payload: &mut P,
     input: &mut R,
     output: &mut W,
 ) -> u8
-    requires external { length_of job.now.aad.now ≤ 65535 }
+    requires external { length_of job.now.checks.aad.now ≤ 65535 }
     ensures status { result ≤ 2 }
     // Unless there is a fault, it prints the output for the stated bytes of the payload and all that the input gives, and
     // ends with its status. Where the reader has fewer bytes, and the message wants them, there is a fault.

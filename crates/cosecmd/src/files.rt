@@ -3,7 +3,7 @@
 ghost use Rattle.std.specs.Prelude.{◌≡◌, ◌≢◌, ◌⊎◌, ℕ, List, Option, Some, None, IfErr, IfOk, length, take};
 ghost use Rattle.std.specs.Fs.{IsFile, file_type, metadata_len};
 ghost use Rattle.std.specs.IoError.{error_kind};
-ghost use Rattle.cosecmd.specs.Printed.{program_keys};
+ghost use Rattle.cosecmd.specs.Under.{program_keys};
 
 use crate::fault::Fault;
 use std::alloc::Global;

@@ -2,6 +2,19 @@
 
 use cose_msg::{Alg, Wanted};
 
+/// What the message on the input is verified under.
+#[derive(Clone, Copy)]
+pub struct Checks<'j> {
+    /// The bytes of the key set (RFC 9052 section 7).
+    pub keys: &'j [u8],
+    /// The externally supplied data (RFC 9052 section 4.3).
+    pub aad: &'j [u8],
+    /// The kinds of messages that are wanted.
+    pub wanted: Wanted,
+    /// The argument of `--vouch`, where there is one.
+    pub vouch: Option<&'j [u8]>,
+}
+
 /// What a run is asked to do, as its arguments say it.
 #[derive(Clone, Copy)]
 pub enum Job<'j> {
@@ -14,27 +27,15 @@ pub enum Job<'j> {
     },
     /// To verify the message on the input.
     Verify {
-        /// The bytes of the key set (RFC 9052 section 7).
-        keys: &'j [u8],
-        /// The externally supplied data (RFC 9052 section 4.3).
-        aad: &'j [u8],
-        /// The kinds of messages that are wanted.
-        wanted: Wanted,
-        /// The argument of `--vouch`, where there is one.
-        vouch: Option<&'j [u8]>,
+        /// What it is verified under.
+        checks: Checks<'j>,
         /// The detached payload, where there is one (RFC 9052 sections 4.2 and 6.2).
         payload: Option<&'j [u8]>,
     },
     /// To admit the token on the input, and to show its claims.
     Cwt {
-        /// The bytes of the key set (RFC 9052 section 7).
-        keys: &'j [u8],
-        /// The externally supplied data (RFC 9052 section 4.3).
-        aad: &'j [u8],
-        /// The kinds of messages that are wanted.
-        wanted: Wanted,
-        /// The argument of `--vouch`, where there is one.
-        vouch: Option<&'j [u8]>,
+        /// What its message is verified under.
+        checks: Checks<'j>,
         /// The current time, in seconds since 1970.
         now: i64,
         /// By how many seconds the clocks of the issuer and of this machine may differ.
@@ -44,12 +45,10 @@ pub enum Job<'j> {
         /// Whether texts are printed in quotes too, and dates as RFC 3339 has them.
         readable: bool,
     },
-    /// To print what the signature of the message on the input, a COSE_Sign1, is verified with.
+    /// To print what the signature of the message on the input is verified with. Nobody vouches for it.
     Digest {
-        /// The bytes of the key set (RFC 9052 section 7).
-        keys: &'j [u8],
-        /// The externally supplied data (RFC 9052 section 4.3).
-        aad: &'j [u8],
+        /// What it is read under.
+        checks: Checks<'j>,
         /// The detached payload, where there is one (RFC 9052 section 4.2).
         payload: Option<&'j [u8]>,
     },
@@ -68,29 +67,12 @@ pub enum Job<'j> {
     },
 }
 
-/// What a run is asked to do that verifies the message on the input with a payload from a file.
+/// What a run is asked to do that verifies the message on the input, or prints what its signature is verified with, with a
+/// payload from a file.
 #[derive(Clone, Copy)]
 pub struct FileJob<'j> {
-    /// The bytes of the key set (RFC 9052 section 7).
-    pub keys: &'j [u8],
-    /// The externally supplied data (RFC 9052 section 4.3).
-    pub aad: &'j [u8],
-    /// The kinds of messages that are wanted.
-    pub wanted: Wanted,
-    /// The argument of `--vouch`, where there is one.
-    pub vouch: Option<&'j [u8]>,
+    /// What the message is verified under.
+    pub checks: Checks<'j>,
     /// The number of bytes of the detached payload (RFC 9052 sections 4.2 and 6.2).
-    pub length: u64,
-}
-
-/// What a run is asked to do that prints what the signature of the message on the input is verified with, where the payload
-/// comes from a file.
-#[derive(Clone, Copy)]
-pub struct DigestFileJob<'j> {
-    /// The bytes of the key set (RFC 9052 section 7).
-    pub keys: &'j [u8],
-    /// The externally supplied data (RFC 9052 section 4.3).
-    pub aad: &'j [u8],
-    /// The number of bytes of the detached payload (RFC 9052 section 4.2).
     pub length: u64,
 }

@@ -1,12 +1,25 @@
 //! What the arguments of the command line ask for.
 
-ghost use Rattle.std.specs.Prelude.{◌≤◌, length as length_of};
+ghost use Rattle.std.specs.Prelude.{◌≡◌, ◌≤◌, length as length_of, option_map};
+ghost use Rattle.cose_map.specs.Key.View.{contents};
+ghost use Rattle.cosecmd.specs.Under.{job_under, owned_under};
 
+use crate::job::Checks;
 use cose_msg::{Alg, Wanted};
 
-/// The arguments that `verify` and `cwt` have.
+/// The bytes of an argument, where there is one.
+pub fn slice_of(word: &Option<Vec<u8>>) -> Option<&[u8]>
+    ensures { option_map contents result ≡ option_map (λ word. word.items) word.now }
+{
+    match word {
+        Some(word) => Some(word.as_slice()),
+        None => None,
+    }
+}
+
+/// What the arguments say that a message is verified under.
 #[derive(Drop)]
-pub struct Verify {
+pub struct OwnedChecks {
     /// The bytes of the key set.
     pub keys: Vec<u8>,
     /// The externally supplied data.
@@ -18,11 +31,26 @@ pub struct Verify {
     ghost external: { length_of aad.items ≤ 65535 },
 }
 
+impl OwnedChecks {
+    /// The same, as a job holds it.
+    pub fn borrowed(&self) -> Checks<'_>
+        ensures same { job_under result ≡ owned_under self.now }
+        ensures external { length_of result.aad.now ≤ 65535 }
+    {
+        Checks {
+            keys: self.keys.as_slice(),
+            aad: self.aad.as_slice(),
+            wanted: self.wanted,
+            vouch: slice_of(&self.vouch),
+        }
+    }
+}
+
 /// The arguments of `cwt`.
 #[derive(Drop)]
 pub struct Cwt<'w> {
-    /// Those that `verify` has too.
-    pub verify: Verify,
+    /// What the token's message is verified under.
+    pub checks: OwnedChecks,
     /// The current time, in seconds since 1970.
     pub now: i64,
     /// By how many seconds clocks may differ.
@@ -31,16 +59,6 @@ pub struct Cwt<'w> {
     pub aud: Option<&'w str>,
     /// Whether texts are printed in quotes too, and dates as RFC 3339 has them.
     pub readable: bool,
-}
-
-/// The arguments of `digest`, without the payload.
-#[derive(Drop)]
-pub struct Digest {
-    /// The bytes of the key set.
-    pub keys: Vec<u8>,
-    /// The externally supplied data.
-    pub aad: Vec<u8>,
-    ghost external: { length_of aad.items ≤ 65535 },
 }
 
 /// The arguments of `make`.
@@ -82,8 +100,8 @@ pub enum Request<'w> {
     },
     /// To verify a message.
     Verify {
-        /// Those of its arguments that `cwt` has too.
-        words: Verify,
+        /// What it is verified under.
+        checks: OwnedChecks,
         /// The payload.
         payload: Payload<'w>,
     },
@@ -91,8 +109,8 @@ pub enum Request<'w> {
     Cwt(Cwt<'w>),
     /// To print what a signature is verified with.
     Digest {
-        /// Its arguments but the payload.
-        words: Digest,
+        /// What the message is read under.
+        checks: OwnedChecks,
         /// The payload.
         payload: Payload<'w>,
     },

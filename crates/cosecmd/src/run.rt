@@ -5,30 +5,21 @@ ghost use Rattle.clap.specs.Matches.{subcommand_name_of};
 ghost use Rattle.cose_map.specs.Key.View.{contents};
 ghost use Rattle.cosecmd.specs.CommandLine.{Answers, FailsOn, matches_print};
 ghost use Rattle.cosecmd.specs.Payload.{detached_in};
-ghost use Rattle.cosecmd.specs.Printed.{EndsWith, Fails, Output, shown};
-ghost use Rattle.cosecmd.specs.Words.{admitted_for, asked_for, digested_for, made_for, makes, payload_for, verified_for};
+ghost use Rattle.cosecmd.specs.Printed.{EndsWith, Fails, Output, digested_under, shown, verified_under};
+ghost use Rattle.cosecmd.specs.Under.{owned_under};
+ghost use Rattle.cosecmd.specs.Words.{admitted_for, asked_for, made_for, makes, payload_for};
 
 use crate::answer::{answer, answer_digest_with_payload_file, answer_with_payload_file};
 use crate::fault::Fault;
 use crate::files::{NamedFiles, NoFiles};
-use crate::job::{DigestFileJob, FileJob, Job};
+use crate::job::{FileJob, Job};
 use crate::print::{print, print_fault};
-use crate::request::{Cwt, Digest, Make, Payload, Request, Verify};
+use crate::request::{Cwt, Make, OwnedChecks, Payload, Request, slice_of};
 use crate::words::{Parsed, parse, request_of};
 use clap::ArgMatches;
 use cose_msg::Wanted;
 use std::alloc::Global;
 use std::io::{Read, Write};
-
-/// The bytes of an argument, where there is one.
-fn slice_of(word: &Option<Vec<u8>>) -> Option<&[u8]>
-    ensures { option_map contents result ≡ option_map (λ word. word.items) word.now }
-{
-    match word {
-        Some(word) => Some(word.as_slice()),
-        None => None,
-    }
-}
 
 /// The job of the command `show`.
 fn answer_show<R: Read, W: Write>(
@@ -51,26 +42,21 @@ fn answer_show<R: Read, W: Write>(
 /// The job of the command `verify`, where the payload is in the message, or is these bytes.
 fn answer_verify<R: Read, W: Write>(
     alloc: Global,
-    words: &Verify,
+    checks: &OwnedChecks,
     payload: Option<&[u8]>,
     input: &mut R,
     output: &mut W,
 ) -> u8
     ensures status { result ≤ 2 }
     ensures printed { (bytes : List ℕ) → R.remaining input.old ≡ Some bytes →
-        EndsWith (verified_for words.now (option_map contents payload.entry) bytes)
+        EndsWith (verified_under (owned_under checks.now) (option_map contents payload.entry) bytes)
         (W.contents output.old) (W.contents output.new) result }
     ensures fails { (bytes : List ℕ) → R.remaining input.old ≡ Some bytes → result ≡ 2 →
-        Fails (verified_for words.now (option_map contents payload.entry) bytes)
+        Fails (verified_under (owned_under checks.now) (option_map contents payload.entry) bytes)
         (W.contents output.old) (W.contents output.new) }
 {
-    let job = Job::Verify {
-        keys: words.keys.as_slice(),
-        aad: words.aad.as_slice(),
-        wanted: words.wanted,
-        vouch: slice_of(&words.vouch),
-        payload,
-    };
+    let checks = checks.borrowed();
+    let job = Job::Verify { checks, payload };
     answer(alloc, &job, input, output)
 }
 
@@ -78,7 +64,7 @@ fn answer_verify<R: Read, W: Write>(
 fn answer_verify_with_file<F: NamedFiles, R: Read, W: Write>(
     alloc: Global,
     files: &F,
-    words: &Verify,
+    checks: &OwnedChecks,
     name: &str,
     input: &mut R,
     output: &mut W,
@@ -86,11 +72,11 @@ fn answer_verify_with_file<F: NamedFiles, R: Read, W: Write>(
     ensures status { result ≤ 2 }
     ensures printed { (bytes payload : List ℕ) → R.remaining input.old ≡ Some bytes →
         F.content files.now name.now ≡ Some payload →
-        EndsWith (verified_for words.now (Some payload) bytes) (W.contents output.old)
+        EndsWith (verified_under (owned_under checks.now) (Some payload) bytes) (W.contents output.old)
         (W.contents output.new) result }
     ensures fails { (bytes payload : List ℕ) → R.remaining input.old ≡ Some bytes →
         F.content files.now name.now ≡ Some payload → result ≡ 2 →
-        Fails (verified_for words.now (Some payload) bytes) (W.contents output.old)
+        Fails (verified_under (owned_under checks.now) (Some payload) bytes) (W.contents output.old)
         (W.contents output.new) }
 {
     let (mut file, length) = match files.open_with_length(name) {
@@ -99,13 +85,8 @@ fn answer_verify_with_file<F: NamedFiles, R: Read, W: Write>(
             return print_fault(alloc, Fault::file("payload-file", &error), output).code();
         }
     };
-    let job = FileJob {
-        keys: words.keys.as_slice(),
-        aad: words.aad.as_slice(),
-        wanted: words.wanted,
-        vouch: slice_of(&words.vouch),
-        length,
-    };
+    let checks = checks.borrowed();
+    let job = FileJob { checks, length };
     answer_with_payload_file(alloc, &job, &mut file, input, output)
 }
 
@@ -119,12 +100,8 @@ fn answer_cwt<R: Read, W: Write>(alloc: Global, words: &Cwt, input: &mut R, outp
         Fails (admitted_for words.entry.now bytes) (W.contents output.old)
         (W.contents output.new) }
 {
-    let verify = &words.verify;
     let job = Job::Cwt {
-        keys: verify.keys.as_slice(),
-        aad: verify.aad.as_slice(),
-        wanted: verify.wanted,
-        vouch: slice_of(&verify.vouch),
+        checks: words.checks.borrowed(),
         now: words.now,
         leeway: words.leeway,
         aud: words.aud,
@@ -136,24 +113,21 @@ fn answer_cwt<R: Read, W: Write>(alloc: Global, words: &Cwt, input: &mut R, outp
 /// The job of the command `digest`, where the payload is in the message, or is these bytes.
 fn answer_digest<R: Read, W: Write>(
     alloc: Global,
-    words: &Digest,
+    checks: &OwnedChecks,
     payload: Option<&[u8]>,
     input: &mut R,
     output: &mut W,
 ) -> u8
     ensures status { result ≤ 2 }
     ensures printed { (bytes : List ℕ) → R.remaining input.old ≡ Some bytes →
-        EndsWith (digested_for words.now (option_map contents payload.entry) bytes)
+        EndsWith (digested_under (owned_under checks.now) (option_map contents payload.entry) bytes)
         (W.contents output.old) (W.contents output.new) result }
     ensures fails { (bytes : List ℕ) → R.remaining input.old ≡ Some bytes → result ≡ 2 →
-        Fails (digested_for words.now (option_map contents payload.entry) bytes)
+        Fails (digested_under (owned_under checks.now) (option_map contents payload.entry) bytes)
         (W.contents output.old) (W.contents output.new) }
 {
-    let job = Job::Digest {
-        keys: words.keys.as_slice(),
-        aad: words.aad.as_slice(),
-        payload,
-    };
+    let checks = checks.borrowed();
+    let job = Job::Digest { checks, payload };
     answer(alloc, &job, input, output)
 }
 
@@ -161,7 +135,7 @@ fn answer_digest<R: Read, W: Write>(
 fn answer_digest_with_file<F: NamedFiles, R: Read, W: Write>(
     alloc: Global,
     files: &F,
-    words: &Digest,
+    checks: &OwnedChecks,
     name: &str,
     input: &mut R,
     output: &mut W,
@@ -169,24 +143,21 @@ fn answer_digest_with_file<F: NamedFiles, R: Read, W: Write>(
     ensures status { result ≤ 2 }
     ensures printed { (bytes payload : List ℕ) → R.remaining input.old ≡ Some bytes →
         F.content files.now name.now ≡ Some payload →
-        EndsWith (digested_for words.now (Some payload) bytes) (W.contents output.old)
+        EndsWith (digested_under (owned_under checks.now) (Some payload) bytes) (W.contents output.old)
         (W.contents output.new) result }
     ensures fails { (bytes payload : List ℕ) → R.remaining input.old ≡ Some bytes →
         F.content files.now name.now ≡ Some payload → result ≡ 2 →
-        Fails (digested_for words.now (Some payload) bytes) (W.contents output.old)
+        Fails (digested_under (owned_under checks.now) (Some payload) bytes) (W.contents output.old)
         (W.contents output.new) }
 {
-    let (mut file, payload_length) = match files.open_with_length(name) {
+    let (mut file, length) = match files.open_with_length(name) {
         Ok(opened) => opened,
         Err(error) => {
             return print_fault(alloc, Fault::file("payload-file", &error), output).code();
         }
     };
-    let job = DigestFileJob {
-        keys: words.keys.as_slice(),
-        aad: words.aad.as_slice(),
-        length: payload_length,
-    };
+    let checks = checks.borrowed();
+    let job = FileJob { checks, length };
     answer_digest_with_payload_file(alloc, &job, &mut file, input, output)
 }
 
@@ -211,7 +182,7 @@ fn answer_make<R: Read, W: Write>(alloc: Global, words: &Make, input: &mut R, ou
 fn answer_verify_request<F: NamedFiles, R: Read, W: Write>(
     alloc: Global,
     files: &F,
-    words: &Verify,
+    checks: &OwnedChecks,
     payload: &Payload,
     input: &mut R,
     output: &mut W,
@@ -220,20 +191,22 @@ fn answer_verify_request<F: NamedFiles, R: Read, W: Write>(
     ensures printed { (bytes : List ℕ) (detached : Option (List ℕ))
         → R.remaining input.old ≡ Some bytes →
         detached_in (F.content files.now) payload.entry.now ≡ Some detached →
-        EndsWith (verified_for words.now detached bytes) (W.contents output.old)
+        EndsWith (verified_under (owned_under checks.now) detached bytes) (W.contents output.old)
         (W.contents output.new) result }
     ensures fails { (bytes : List ℕ) (detached : Option (List ℕ))
         → R.remaining input.old ≡ Some bytes →
         detached_in (F.content files.now) payload.entry.now ≡ Some detached → result ≡ 2 →
-        Fails (verified_for words.now detached bytes) (W.contents output.old)
+        Fails (verified_under (owned_under checks.now) detached bytes) (W.contents output.old)
         (W.contents output.new) }
 {
     match payload {
-        Payload::InMessage => answer_verify(alloc, words, None, input, output),
+        Payload::InMessage => answer_verify(alloc, checks, None, input, output),
         Payload::Bytes(bytes) => {
-            answer_verify(alloc, words, Some(bytes.as_slice()), input, output)
+            answer_verify(alloc, checks, Some(bytes.as_slice()), input, output)
         }
-        Payload::File(name) => { answer_verify_with_file(alloc, files, words, name, input, output) }
+        Payload::File(name) => {
+            answer_verify_with_file(alloc, files, checks, name, input, output)
+        }
     }
 }
 
@@ -241,7 +214,7 @@ fn answer_verify_request<F: NamedFiles, R: Read, W: Write>(
 fn answer_digest_request<F: NamedFiles, R: Read, W: Write>(
     alloc: Global,
     files: &F,
-    words: &Digest,
+    checks: &OwnedChecks,
     payload: &Payload,
     input: &mut R,
     output: &mut W,
@@ -250,20 +223,22 @@ fn answer_digest_request<F: NamedFiles, R: Read, W: Write>(
     ensures printed { (bytes : List ℕ) (detached : Option (List ℕ))
         → R.remaining input.old ≡ Some bytes →
         detached_in (F.content files.now) payload.entry.now ≡ Some detached →
-        EndsWith (digested_for words.now detached bytes) (W.contents output.old)
+        EndsWith (digested_under (owned_under checks.now) detached bytes) (W.contents output.old)
         (W.contents output.new) result }
     ensures fails { (bytes : List ℕ) (detached : Option (List ℕ))
         → R.remaining input.old ≡ Some bytes →
         detached_in (F.content files.now) payload.entry.now ≡ Some detached → result ≡ 2 →
-        Fails (digested_for words.now detached bytes) (W.contents output.old)
+        Fails (digested_under (owned_under checks.now) detached bytes) (W.contents output.old)
         (W.contents output.new) }
 {
     match payload {
-        Payload::InMessage => answer_digest(alloc, words, None, input, output),
+        Payload::InMessage => answer_digest(alloc, checks, None, input, output),
         Payload::Bytes(bytes) => {
-            answer_digest(alloc, words, Some(bytes.as_slice()), input, output)
+            answer_digest(alloc, checks, Some(bytes.as_slice()), input, output)
         }
-        Payload::File(name) => { answer_digest_with_file(alloc, files, words, name, input, output) }
+        Payload::File(name) => {
+            answer_digest_with_file(alloc, files, checks, name, input, output)
+        }
     }
 }
 
@@ -295,12 +270,12 @@ fn answer_request<F: NamedFiles, R: Read, W: Write>(
         Request::Show { wanted, diagnostic } => {
             answer_show(alloc, *wanted, *diagnostic, input, output)
         }
-        Request::Verify { words, payload } => {
-            answer_verify_request(alloc, files, words, payload, input, output)
+        Request::Verify { checks, payload } => {
+            answer_verify_request(alloc, files, checks, payload, input, output)
         }
         Request::Cwt(words) => answer_cwt(alloc, words, input, output),
-        Request::Digest { words, payload } => {
-            answer_digest_request(alloc, files, words, payload, input, output)
+        Request::Digest { checks, payload } => {
+            answer_digest_request(alloc, files, checks, payload, input, output)
         }
         Request::Make(words) => answer_make(alloc, words, input, output),
     }

@@ -4,7 +4,7 @@ ghost use Rattle.std.specs.Prelude.{◌≡◌, ◌≢◌, ◌≤◌, ◌⊎◌, 
 ghost use Rattle.clap.specs.Matches.{first_value, found_of, subcommand_name_of};
 ghost use Rattle.cose_cwt.specs.Claims.Audience.{text_value};
 ghost use Rattle.cosecmd.specs.CommandLine.{AsksFor, IsReadFrom, begins_as_answer, digest_prints, matches_print, verify_prints};
-ghost use Rattle.cosecmd.specs.Fields.{CwtFields, DigestFields, HasKeysOf, IsKeyOf, MakeFields, VerifyFields};
+ghost use Rattle.cosecmd.specs.Fields.{AreChecks, CwtFields, HasKeysOf, IsKeyOf, MakeFields, checks_in, digest_checks_in};
 ghost use Rattle.cosecmd.specs.Options.{algorithm_in, bytes_in, flag_in, hex_bytes, integer_in, kind_in, kind_named, number_in, optional_bytes_in, options_of, payload_in, text_in};
 ghost use Rattle.cosecmd.specs.Payload.{IsFile, detached_in};
 ghost use Rattle.cosecmd.specs.Printed.{Output};
@@ -15,7 +15,7 @@ use crate::fault::Fault;
 use crate::files::{NamedFiles, key_bytes, key_set_bytes};
 use crate::mistake::mistake;
 use crate::reply::{Reply, Status};
-use crate::request::{Cwt, Digest, Make, Payload, Request, Verify};
+use crate::request::{Cwt, Make, OwnedChecks, Payload, Request};
 use clap::ArgMatches;
 use clap::error::ErrorKind;
 use cose_msg::{Alg, Wanted};
@@ -247,15 +247,19 @@ fn payload_of<'a>(alloc: Global, matches: &ArgMatches<'a>) -> Result<Payload<'a>
     }
 }
 
-/// The arguments that `verify` and `cwt` have, in the order in which help lists them.
-fn verify_of<F: NamedFiles>(alloc: Global, files: &F, matches: &ArgMatches) -> Result<Verify, Fault>
-    ensures { IfOk result (VerifyFields (F.content files.now) (options_of matches.now)) }
+/// What the arguments of `verify` and `cwt` say that a message is verified under, in the order in which help lists them.
+fn checks_of<F: NamedFiles>(
+    alloc: Global,
+    files: &F,
+    matches: &ArgMatches,
+) -> Result<OwnedChecks, Fault>
+    ensures { IfOk result (AreChecks (checks_in (F.content files.now) (options_of matches.now))) }
 {
     let keys = key_set_of(alloc, files, matches)?;
     let aad = external_of(alloc, matches)?;
     let wanted = kind_of(matches);
     let vouch = optional_bytes_of(alloc, matches, "vouch")?;
-    Ok(Verify {
+    Ok(OwnedChecks {
         keys,
         aad,
         wanted,
@@ -271,13 +275,13 @@ fn cwt_of<'a, F: NamedFiles>(
 ) -> Result<Cwt<'a>, Fault>
     ensures { IfOk result (CwtFields (F.content files.now) (options_of matches.now)) }
 {
-    let verify = verify_of(alloc, files, matches)?;
+    let checks = checks_of(alloc, files, matches)?;
     let now = now_of(matches)?;
     let leeway = leeway_of(matches)?;
     let aud = text_of(matches, "aud");
     let readable = flag_of(matches, "text");
     Ok(Cwt {
-        verify,
+        checks,
         now,
         leeway,
         aud,
@@ -285,13 +289,23 @@ fn cwt_of<'a, F: NamedFiles>(
     })
 }
 
-/// The arguments of `digest` but the payload, in the order in which help lists them.
-fn digest_of<F: NamedFiles>(alloc: Global, files: &F, matches: &ArgMatches) -> Result<Digest, Fault>
-    ensures { IfOk result (DigestFields (F.content files.now) (options_of matches.now)) }
+/// What the arguments of `digest` say that a message, a COSE_Sign1, is read under, in the order in which help lists them.
+fn digest_checks_of<F: NamedFiles>(
+    alloc: Global,
+    files: &F,
+    matches: &ArgMatches,
+) -> Result<OwnedChecks, Fault>
+    ensures { IfOk result
+        (AreChecks (digest_checks_in (F.content files.now) (options_of matches.now))) }
 {
     let keys = key_set_of(alloc, files, matches)?;
     let aad = external_of(alloc, matches)?;
-    Ok(Digest { keys, aad })
+    Ok(OwnedChecks {
+        keys,
+        aad,
+        wanted: Wanted::Sign1,
+        vouch: None,
+    })
 }
 
 /// The arguments of `make`, in the order in which help lists them.
@@ -323,9 +337,9 @@ fn verify_request<'a, F: NamedFiles>(
         AsksFor (F.content files.now) request bytes said) }
     ensures verifies { IfOk result (λ request. makes request ≡ false) }
 {
-    let words = verify_of(alloc, files, matches)?;
+    let checks = checks_of(alloc, files, matches)?;
     let payload = payload_of(alloc, matches)?;
-    Ok(Request::Verify { words, payload })
+    Ok(Request::Verify { checks, payload })
 }
 
 /// What the arguments of `digest` ask for. The payload goes last, as help lists it.
@@ -339,9 +353,9 @@ fn digest_request<'a, F: NamedFiles>(
         AsksFor (F.content files.now) request bytes said) }
     ensures digests { IfOk result (λ request. makes request ≡ false) }
 {
-    let words = digest_of(alloc, files, matches)?;
+    let checks = digest_checks_of(alloc, files, matches)?;
     let payload = payload_of(alloc, matches)?;
-    Ok(Request::Digest { words, payload })
+    Ok(Request::Digest { checks, payload })
 }
 
 /// What the arguments, the first of which is the program's name, say to clap.

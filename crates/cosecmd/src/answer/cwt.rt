@@ -15,12 +15,14 @@ ghost use Rattle.cose_cwt.specs.Confirmation.View.{cnf_value};
 ghost use Rattle.cose_cwt.specs.Token.{UnlessStopped, claims_seen, stop_in};
 ghost use Rattle.cosecmd.specs.Admitted.{bytes_line, claims_lines, confirmation_lines, date_line, input_token, key_line, program_policy, refused_line, text_line, where_present};
 ghost use Rattle.cosecmd.specs.Faults.{fails_by_input};
-ghost use Rattle.cosecmd.specs.Printed.{Says, admitted_under, outcome_said, program_keys, token_setting};
+ghost use Rattle.cosecmd.specs.Printed.{Says, admitted_under, outcome_said, token_setting};
 ghost use Rattle.cosecmd.specs.Readable.{date_notation, text_notation};
+ghost use Rattle.cosecmd.specs.Under.{job_under, program_keys};
 ghost use Rattle.cosecmd.specs.Vouch.{vouching};
 
 use crate::answer::verify::{CHUNK, HEADER, KEYS, NESTING, program_context, trailing_at};
 use crate::fault::Fault;
+use crate::job::Checks;
 use crate::reply::{Reply, Status};
 use crate::vouch::Vouch;
 use cose_cwt::{Audience, Auds, Claims, Cnf, CwtStop, Policy, verify_cwt};
@@ -322,32 +324,31 @@ fn whole_token<'a, 'j, I: Intake>(
 /// The reply to the token of an intake: the key set is read before the intake is asked.
 fn admitted_reply<I: Intake>(
     alloc: Global,
-    keys: &[u8],
-    aad: &[u8],
-    wanted: Wanted,
-    vouch: Option<&[u8]>,
+    checks: &Checks,
     policy: &Policy,
     readable: bool,
     intake: &mut I,
 ) -> Result<Reply, Fault>
-    requires external { length aad.now ≤ 65535 }
+    requires external { length checks.now.aad.now ≤ 65535 }
     ensures says { (bytes : List ℕ) → I.to_come intake.old ≡ Some bytes →
-        IfOk result (Says (admitted_under (program_keys keys.now) aad.now wanted
-        (option_map contents vouch.entry) (policy_value policy.entry.now) readable bytes)) }
+        IfOk result (Says (admitted_under (job_under checks.now) (policy_value policy.entry.now) readable
+        bytes)) }
     ensures keys { (refusal : Refusal)
-        → program_keys keys.now ≡ Err refusal ↔ result ≡ Err (Fault.Keys refusal) }
+        → program_keys checks.now.keys.now ≡ Err refusal ↔ result ≡ Err (Fault.Keys refusal) }
     // Its fault is that the input failed exactly where the intake failed in this call.
     ensures input { I.has_failed intake.new ≡ (I.has_failed intake.old || fails_by_input result) }
 {
-    let keys = match KeyTable::<KEYS>::read(keys) {
+    let keys = match KeyTable::<KEYS>::read(checks.keys) {
         Ok(keys) => keys,
         Err(refusal) => return Err(Fault::Keys(refusal)),
     };
     let mut verifier = Verifier::<HEADER, NESTING, KeyTable<'_, KEYS>>::new(token_context(
-        keys, aad, wanted,
+        keys,
+        checks.aad,
+        checks.wanted,
     ));
     let mut store = Store::<CLAIMS>::new();
-    let vouch = Vouch { word: vouch };
+    let vouch = Vouch { word: checks.vouch };
     let token = whole_token(&mut verifier, intake, &mut store, &vouch, policy);
     token_reply(alloc, token, readable)
 }
@@ -355,30 +356,18 @@ fn admitted_reply<I: Intake>(
 /// The reply to the job `cwt`.
 pub fn cwt_reply<R: Read>(
     alloc: Global,
-    keys: &[u8],
-    aad: &[u8],
-    wanted: Wanted,
-    vouch: Option<&[u8]>,
+    checks: &Checks,
     policy: &Policy,
     readable: bool,
     input: &mut R,
 ) -> Result<Reply, Fault>
-    requires external { length aad.now ≤ 65535 }
+    requires external { length checks.now.aad.now ≤ 65535 }
     ensures says { (bytes : List ℕ) → R.remaining input.old ≡ Some bytes →
-        IfOk result (Says (admitted_under (program_keys keys.now) aad.now wanted
-        (option_map contents vouch.entry) (policy_value policy.entry.now) readable bytes)) }
+        IfOk result (Says (admitted_under (job_under checks.now) (policy_value policy.entry.now) readable
+        bytes)) }
     ensures keys { (refusal : Refusal) →
-        program_keys keys.now ≡ Err refusal ↔ result ≡ Err (Fault.Keys refusal) }
+        program_keys checks.now.keys.now ≡ Err refusal ↔ result ≡ Err (Fault.Keys refusal) }
 {
     let mut intake = ReadIntake::new(input);
-    admitted_reply(
-        alloc,
-        keys,
-        aad,
-        wanted,
-        vouch,
-        policy,
-        readable,
-        &mut intake,
-    )
+    admitted_reply(alloc, checks, policy, readable, &mut intake)
 }

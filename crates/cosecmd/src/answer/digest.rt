@@ -10,14 +10,15 @@ ghost use Rattle.cose_msg.specs.Shown.{sign_input_of};
 ghost use Rattle.cose_msg.specs.Verifier.{setting_of};
 ghost use Rattle.cosecmd.specs.Faults.{NamesOption, fails_by_file, fails_by_input};
 ghost use Rattle.cosecmd.specs.PayloadFile.{counted};
-ghost use Rattle.cosecmd.specs.Printed.{Says, digested_before, digested_in, digested_under, program_keys, vouched, with_payload};
+ghost use Rattle.cosecmd.specs.Printed.{Says, digested_before, digested_in, digested_under, vouched, with_payload};
 ghost use Rattle.cosecmd.specs.Stated.{DigestedOf, digested_from};
+ghost use Rattle.cosecmd.specs.Under.{job_under, program_keys};
 
 use crate::answer::verify::{
     CHUNK, HEADER, KEYS, NESTING, program_context, reply_of, trailing_at, whole_verdict,
 };
 use crate::fault::Fault;
-use crate::job::DigestFileJob;
+use crate::job::{Checks, FileJob};
 use crate::payload_file::PayloadFile;
 use crate::reply::{Reply, Status};
 use crate::vouch::word_for;
@@ -25,8 +26,8 @@ use cose_msg::laws::{
     deciding_goes_last, payload_stays, settled_stays, spelled_is_read, unrefused_is_message,
 };
 use cose_msg::{
-    Context, Intake, KeyTable, Never, Nothing, ReadIntake, SliceIntake, Verdict, Verifier, Wanted,
-    verify, verify_detached,
+    Context, Intake, KeyTable, Never, Nothing, ReadIntake, SliceIntake, Verdict, Verifier, verify,
+    verify_detached,
 };
 use std::alloc::Global;
 use std::io::Read;
@@ -168,25 +169,23 @@ fn reply_with_bytes<'j, I: Intake>(
 /// The reply to the message of an intake: the key set is read before the intake is asked.
 fn digested_reply<I: Intake>(
     alloc: Global,
-    keys: &[u8],
-    aad: &[u8],
+    checks: &Checks,
     payload: Option<&[u8]>,
     intake: &mut I,
 ) -> Result<Reply, Fault>
-    requires external { length aad.now ≤ 65535 }
+    requires external { length checks.now.aad.now ≤ 65535 }
     ensures says { (bytes : List ℕ) → I.to_come intake.old ≡ Some bytes →
-        IfOk result (Says (digested_under (program_keys keys.now) aad.now
-        (option_map contents payload.entry) bytes)) }
+        IfOk result (Says (digested_under (job_under checks.now) (option_map contents payload.entry) bytes)) }
     ensures keys { (refusal : Refusal)
-        → program_keys keys.now ≡ Err refusal ↔ result ≡ Err (Fault.Keys refusal) }
+        → program_keys checks.now.keys.now ≡ Err refusal ↔ result ≡ Err (Fault.Keys refusal) }
     // Its fault is that the input failed exactly where the intake failed in this call.
     ensures input { I.has_failed intake.new ≡ (I.has_failed intake.old || fails_by_input result) }
 {
-    let keys = match KeyTable::<KEYS>::read(keys) {
+    let keys = match KeyTable::<KEYS>::read(checks.keys) {
         Ok(keys) => keys,
         Err(refusal) => return Err(Fault::Keys(refusal)),
     };
-    let context = program_context(keys, aad, Wanted::Sign1);
+    let context = program_context(keys, checks.aad, checks.wanted);
     match payload {
         Some(payload) => reply_with_bytes(alloc, context, payload, intake),
         None => attached_reply(alloc, context, intake),
@@ -196,35 +195,33 @@ fn digested_reply<I: Intake>(
 /// The reply to the job `digest`: the key set is read before the input.
 pub fn digest_reply<R: Read>(
     alloc: Global,
-    keys: &[u8],
-    aad: &[u8],
+    checks: &Checks,
     payload: Option<&[u8]>,
     input: &mut R,
 ) -> Result<Reply, Fault>
-    requires external { length aad.now ≤ 65535 }
+    requires external { length checks.now.aad.now ≤ 65535 }
     ensures says { (bytes : List ℕ) → R.remaining input.old ≡ Some bytes →
-        IfOk result (Says (digested_under (program_keys keys.now) aad.now
-        (option_map contents payload.entry) bytes)) }
+        IfOk result (Says (digested_under (job_under checks.now) (option_map contents payload.entry) bytes)) }
     ensures keys { (refusal : Refusal) →
-        program_keys keys.now ≡ Err refusal ↔ result ≡ Err (Fault.Keys refusal) }
+        program_keys checks.now.keys.now ≡ Err refusal ↔ result ≡ Err (Fault.Keys refusal) }
 {
-    digested_reply(alloc, keys, aad, payload, &mut ReadIntake::new(input))
+    digested_reply(alloc, checks, payload, &mut ReadIntake::new(input))
 }
 
 /// The reply to the message of an intake whose payload comes from a file: the key set is read before either is asked.
 fn digested_with_file<I: Intake, R: Read>(
     alloc: Global,
-    job: &DigestFileJob,
+    job: &FileJob,
     payload: &mut PayloadFile<R>,
     intake: &mut I,
 ) -> Result<Reply, Fault>
-    requires external { length job.now.aad.now ≤ 65535 }
+    requires external { length job.now.checks.aad.now ≤ 65535 }
     requires sound { ⟦<PayloadFile<R> as Intake>⟧.has_failed payload.old ≡ false }
     ensures says { (bytes content : List ℕ) → I.to_come intake.old ≡ Some bytes →
         ⟦<PayloadFile<R> as Intake>⟧.to_come payload.old ≡ counted job.now.length (Some content)
         → IfOk result (Says (digested_from job.now content bytes)) }
     ensures keys { (refusal : Refusal) →
-        program_keys job.now.keys.now ≡ Err refusal ↔ result ≡ Err (Fault.Keys refusal) }
+        program_keys job.now.checks.keys.now ≡ Err refusal ↔ result ≡ Err (Fault.Keys refusal) }
     // Its fault is that the file failed, or the input, exactly where it failed in this call.
     ensures file { ⟦<PayloadFile<R> as Intake>⟧.has_failed payload.new ≡ fails_by_file result }
     ensures option { IfErr result (NamesOption (codes "payload-file")) }
@@ -232,11 +229,11 @@ fn digested_with_file<I: Intake, R: Read>(
 {
     // The law that the proof cites: what comes of a payload changes nothing where none of it is wanted.
     payload_stays();
-    let keys = match KeyTable::<KEYS>::read(job.keys) {
+    let keys = match KeyTable::<KEYS>::read(job.checks.keys) {
         Ok(keys) => keys,
         Err(refusal) => return Err(Fault::Keys(refusal)),
     };
-    let context = program_context(keys, job.aad, Wanted::Sign1);
+    let context = program_context(keys, job.checks.aad, job.checks.wanted);
     match detached_reply(alloc, context, job.length, payload, intake) {
         Ok(reply) => Ok(reply),
         Err(_) if payload.has_failed() => Err(Fault::File("payload-file")),
@@ -247,16 +244,16 @@ fn digested_with_file<I: Intake, R: Read>(
 /// The reply to the job `digest`, where the payload comes from a reader. Its bytes after the stated length are left unread.
 pub fn digest_reply_with_file<P: Read, R: Read>(
     alloc: Global,
-    job: &DigestFileJob,
+    job: &FileJob,
     payload: &mut P,
     input: &mut R,
 ) -> Result<Reply, Fault>
-    requires external { length job.now.aad.now ≤ 65535 }
+    requires external { length job.now.checks.aad.now ≤ 65535 }
     ensures says { (bytes content : List ℕ) → R.remaining input.old ≡ Some bytes →
         P.remaining payload.old ≡ Some content →
         IfOk result (Says (digested_from job.now content bytes)) }
     ensures keys { (refusal : Refusal) →
-        program_keys job.now.keys.now ≡ Err refusal ↔ result ≡ Err (Fault.Keys refusal) }
+        program_keys job.now.checks.keys.now ≡ Err refusal ↔ result ≡ Err (Fault.Keys refusal) }
 {
     let mut intake = ReadIntake::new(input);
     let mut payload_file = PayloadFile::new(payload, job.length);

@@ -10,12 +10,13 @@ ghost use Rattle.cose_msg.specs.Verifier.{setting_of};
 ghost use Rattle.cose_msg.specs.declared.verdict.Verdict.{Verdict};
 ghost use Rattle.cosecmd.specs.Faults.{NamesOption, fails_by_file, fails_by_input};
 ghost use Rattle.cosecmd.specs.PayloadFile.{counted, left_of};
-ghost use Rattle.cosecmd.specs.Printed.{Says, input_answer, trailing_refusal, program_keys, program_setting, said_of, verified_under, verified_with, followed_by, with_payload};
+ghost use Rattle.cosecmd.specs.Printed.{Says, input_answer, trailing_refusal, program_setting, said_of, verified_under, verified_with, followed_by, with_payload};
 ghost use Rattle.cosecmd.specs.Stated.{CameOf, verified_from};
+ghost use Rattle.cosecmd.specs.Under.{job_under, program_keys};
 ghost use Rattle.cosecmd.specs.Vouch.{vouching};
 
 use crate::fault::Fault;
-use crate::job::FileJob;
+use crate::job::{Checks, FileJob};
 use crate::line::Line;
 use crate::payload_file::PayloadFile;
 use crate::reply::{Reply, Status};
@@ -234,50 +235,43 @@ fn verdict_of_input<'j, I: Intake>(
 /// The reply to the message of an intake: the key set is read before the intake is asked.
 fn verified_reply<I: Intake>(
     alloc: Global,
-    keys: &[u8],
-    aad: &[u8],
-    wanted: Wanted,
-    vouch: Option<&[u8]>,
+    checks: &Checks,
     payload: Option<&[u8]>,
     intake: &mut I,
 ) -> Result<Reply, Fault>
-    requires external { length aad.now ≤ 65535 }
+    requires external { length checks.now.aad.now ≤ 65535 }
     ensures says { (bytes : List ℕ) → I.to_come intake.old ≡ Some bytes →
-        IfOk result (Says (verified_under (program_keys keys.now) aad.now wanted
-        (option_map contents vouch.entry) (option_map contents payload.entry) bytes)) }
+        IfOk result (Says (verified_under (job_under checks.now) (option_map contents payload.entry) bytes)) }
     ensures keys { (refusal : Refusal)
-        → program_keys keys.now ≡ Err refusal ↔ result ≡ Err (Fault.Keys refusal) }
+        → program_keys checks.now.keys.now ≡ Err refusal ↔ result ≡ Err (Fault.Keys refusal) }
     // Its fault is that the input failed exactly where the intake failed in this call.
     ensures input { I.has_failed intake.new ≡ (I.has_failed intake.old || fails_by_input result) }
 {
-    let keys = match KeyTable::<KEYS>::read(keys) {
+    let keys = match KeyTable::<KEYS>::read(checks.keys) {
         Ok(keys) => keys,
         Err(refusal) => return Err(Fault::Keys(refusal)),
     };
-    let context = program_context(keys, aad, wanted);
-    let verdict = verdict_of_input(context, &Vouch { word: vouch }, payload, intake)?;
+    let context = program_context(keys, checks.aad, checks.wanted);
+    let vouch = Vouch { word: checks.vouch };
+    let verdict = verdict_of_input(context, &vouch, payload, intake)?;
     reply_of(alloc, verdict)
 }
 
 /// The reply to the job `verify`.
 pub fn verify_reply<R: Read>(
     alloc: Global,
-    keys: &[u8],
-    aad: &[u8],
-    wanted: Wanted,
-    vouch: Option<&[u8]>,
+    checks: &Checks,
     payload: Option<&[u8]>,
     input: &mut R,
 ) -> Result<Reply, Fault>
-    requires external { length aad.now ≤ 65535 }
+    requires external { length checks.now.aad.now ≤ 65535 }
     ensures says { (bytes : List ℕ) → R.remaining input.old ≡ Some bytes →
-        IfOk result (Says (verified_under (program_keys keys.now) aad.now wanted
-        (option_map contents vouch.entry) (option_map contents payload.entry) bytes)) }
+        IfOk result (Says (verified_under (job_under checks.now) (option_map contents payload.entry) bytes)) }
     ensures keys { (refusal : Refusal) →
-        program_keys keys.now ≡ Err refusal ↔ result ≡ Err (Fault.Keys refusal) }
+        program_keys checks.now.keys.now ≡ Err refusal ↔ result ≡ Err (Fault.Keys refusal) }
 {
     let mut intake = ReadIntake::new(input);
-    verified_reply(alloc, keys, aad, wanted, vouch, payload, &mut intake)
+    verified_reply(alloc, checks, payload, &mut intake)
 }
 
 /// The reply to the message of an intake whose payload comes from a file: the key set is read before either is asked.
@@ -287,7 +281,7 @@ fn reply_with_file<I: Intake, R: Read>(
     payload: &mut PayloadFile<R>,
     intake: &mut I,
 ) -> Result<Reply, Fault>
-    requires external { length job.now.aad.now ≤ 65535 }
+    requires external { length job.now.checks.aad.now ≤ 65535 }
     requires sound { ⟦<PayloadFile<R> as Intake>⟧.has_failed payload.old ≡ false }
     ensures says { (bytes more : List ℕ) → I.to_come intake.old ≡ Some bytes →
         ⟦<PayloadFile<R> as Intake>⟧.to_come payload.old ≡ Some more → length more ≡ job.now.length
@@ -297,7 +291,7 @@ fn reply_with_file<I: Intake, R: Read>(
         ⟦<PayloadFile<R> as Intake>⟧.to_come payload.old ≡ counted job.now.length (Some content)
         → IfOk result (Says (verified_from job.now content bytes)) }
     ensures keys { (refusal : Refusal) →
-        program_keys job.now.keys.now ≡ Err refusal ↔ result ≡ Err (Fault.Keys refusal) }
+        program_keys job.now.checks.keys.now ≡ Err refusal ↔ result ≡ Err (Fault.Keys refusal) }
     // Its fault is that the file failed, or the input, exactly where it failed in this call.
     ensures file { ⟦<PayloadFile<R> as Intake>⟧.has_failed payload.new ≡ fails_by_file result }
     ensures option { IfErr result (NamesOption (codes "payload-file")) }
@@ -305,12 +299,14 @@ fn reply_with_file<I: Intake, R: Read>(
 {
     // The law that the proof cites: what comes of a payload changes nothing where none of it is wanted.
     payload_stays();
-    let keys = match KeyTable::<KEYS>::read(job.keys) {
+    let keys = match KeyTable::<KEYS>::read(job.checks.keys) {
         Ok(keys) => keys,
         Err(refusal) => return Err(Fault::Keys(refusal)),
     };
-    let context = program_context(keys, job.aad, job.wanted);
-    let vouch = Vouch { word: job.vouch };
+    let context = program_context(keys, job.checks.aad, job.checks.wanted);
+    let vouch = Vouch {
+        word: job.checks.vouch,
+    };
     match detached_verdict(context, &vouch, job.length, payload, intake) {
         Ok(verdict) => reply_of(alloc, verdict),
         Err(_) if payload.has_failed() => Err(Fault::File("payload-file")),
@@ -325,12 +321,12 @@ pub fn verify_reply_with_file<P: Read, R: Read>(
     payload: &mut P,
     input: &mut R,
 ) -> Result<Reply, Fault>
-    requires external { length job.now.aad.now ≤ 65535 }
+    requires external { length job.now.checks.aad.now ≤ 65535 }
     ensures says { (bytes content : List ℕ) → R.remaining input.old ≡ Some bytes →
         P.remaining payload.old ≡ Some content →
         IfOk result (Says (verified_from job.now content bytes)) }
     ensures keys { (refusal : Refusal) →
-        program_keys job.now.keys.now ≡ Err refusal ↔ result ≡ Err (Fault.Keys refusal) }
+        program_keys job.now.checks.keys.now ≡ Err refusal ↔ result ≡ Err (Fault.Keys refusal) }
 {
     let mut intake = ReadIntake::new(input);
     let mut payload_file = PayloadFile::new(payload, job.length);

@@ -6,11 +6,9 @@ use Rattle.cosecmd.proofs.run.answer_cwt.Goals as goal
 pub returns-clause-printed : goal.returns-clause-printed
 returns-clause-printed g c = λ bytes e.
     let in_range : SFits w64 c.args.words.now.now = search rules in
-    ends_with _ _ _ (cwt_words c.args.words.now c.as_slice.result c.as_slice-2.result c.slice_of.result _ bytes c.as_slice.ensures.value c.as_slice-2.ensures.value c.slice_of.ensures (to_z-of_z w64 c.args.words.now.now in_range))
-    (c.answer.ensures.printed bytes e)
+    ends_with _ _ _ (cwt_words c.args.words.now c.borrowed.result _ bytes c.borrowed.ensures.same (to_z-of_z w64 c.args.words.now.now in_range)) (c.answer.ensures.printed bytes e)
 
 pub returns-clause-fails : goal.returns-clause-fails
 returns-clause-fails g c = λ bytes e two.
     let in_range : SFits w64 c.args.words.now.now = search rules in
-    fails_with _ _ (cwt_words c.args.words.now c.as_slice.result c.as_slice-2.result c.slice_of.result _ bytes c.as_slice.ensures.value c.as_slice-2.ensures.value c.slice_of.ensures (to_z-of_z w64 c.args.words.now.now in_range))
-    (c.answer.ensures.fails bytes e refl two)
+    fails_with _ _ (cwt_words c.args.words.now c.borrowed.result _ bytes c.borrowed.ensures.same (to_z-of_z w64 c.args.words.now.now in_range)) (c.answer.ensures.fails bytes e refl two)

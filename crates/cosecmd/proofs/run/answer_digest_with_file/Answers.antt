@@ -1,4 +1,4 @@
-use Rattle.cosecmd.specs.declared.job.DigestFileJob.{DigestFileJob}
+use Rattle.cosecmd.specs.declared.job.FileJob.{FileJob}
 use Rattle.cosecmd.proofs.Asked.{digest_file_words, ends_with, fails_with}
 use Rattle.cosecmd.proofs.Replies.{line_fails}
 use Rattle.cosecmd.proofs.run.answer_digest_with_file.Goals as goal
@@ -6,24 +6,14 @@ use Rattle.cosecmd.proofs.run.answer_digest_with_file.Goals as goal
 pub returns-clause-printed : goal.returns-clause-printed
 returns-clause-printed g c = λ bytes payload e known.
     let opened = c.in-Ok.ensures payload known in
-    let job : DigestFileJob = record {
-      keys = c.as_slice.result;
-      aad = c.as_slice-2.result;
-      length = c.in-Ok.opened.1;
-    } in
-    ends_with _ _ _ (digest_file_words c.args.words.now job payload bytes c.as_slice.ensures.value c.as_slice-2.ensures.value opened.1)
-    (c.answer_digest_with_payload_file.ensures.printed bytes payload e opened.0)
+    let job : FileJob = record { checks = c.borrowed-checks.result; length = c.in-Ok.opened.1 } in
+    ends_with _ _ _ (digest_file_words c.args.checks.now job payload bytes c.borrowed-checks.ensures.same opened.1) (c.answer_digest_with_payload_file.ensures.printed bytes payload e opened.0)
 
 pub returns-clause-fails : goal.returns-clause-fails
 returns-clause-fails g c = λ bytes payload e known two.
     let opened = c.in-Ok.ensures payload known in
-    let job : DigestFileJob = record {
-      keys = c.as_slice.result;
-      aad = c.as_slice-2.result;
-      length = c.in-Ok.opened.1;
-    } in
-    fails_with _ _ (digest_file_words c.args.words.now job payload bytes c.as_slice.ensures.value c.as_slice-2.ensures.value opened.1)
-    (c.answer_digest_with_payload_file.ensures.fails bytes payload e opened.0 two)
+    let job : FileJob = record { checks = c.borrowed-checks.result; length = c.in-Ok.opened.1 } in
+    fails_with _ _ (digest_file_words c.args.checks.now job payload bytes c.borrowed-checks.ensures.same opened.1) (c.answer_digest_with_payload_file.ensures.fails bytes payload e opened.0 two)
 
 pub returns-in-Err-clause-fails : goal.returns-in-Err-clause-fails
 returns-in-Err-clause-fails g c = λ bytes payload e known two. line_fails _ _ _ _ c.print_fault.ensures.line

@@ -5,7 +5,7 @@ use Rattle.cosecmd.proofs.words.cwt_of.Goals as goal
 pub returns : goal.returns
 returns g c =
     let in_range : SFits w64 c.in_ok-now.now = search rules in record {
-      verify = c.in_ok-verify.ensures;
+      checks = c.in_ok-checks.ensures;
       now = c.in_ok-now.ensures ∙ ap Some (sym (to_z-of_z w64 c.in_ok-now.now in_range));
       leeway = c.in_ok-leeway.ensures;
       aud = search rules;

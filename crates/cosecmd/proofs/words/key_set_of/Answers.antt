@@ -1,7 +1,7 @@
 use Rattle.std.proofs.Common.{ap, codes}
 use Rattle.std.proofs.lemmas.Result.{IfOk-weaker}
 use Rattle.cosecmd.specs.Options.{options_of}
-use Rattle.cosecmd.specs.Printed.{program_keys}
+use Rattle.cosecmd.specs.Under.{program_keys}
 use Rattle.cosecmd.proofs.Options.{given, left_out, of_named_file, of_no_file, where_known}
 use Rattle.cosecmd.proofs.words.key_set_of.Goals as goal
 

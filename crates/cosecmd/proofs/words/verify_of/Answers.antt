@@ -1,9 +1,0 @@
-use Rattle.cosecmd.proofs.words.verify_of.Goals as goal
-
-pub returns : goal.returns
-returns g c = record {
-  keys = c.in_ok-keys.ensures;
-  aad = c.in_ok-aad.ensures.value;
-  kind = c.kind_of-wanted.ensures;
-  vouch = c.in_ok-vouch.ensures;
-}

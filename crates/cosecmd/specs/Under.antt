@@ -1,0 +1,39 @@
+-- What a message is verified under, as the arguments of the command line say it.
+use Rattle.std.specs.Prelude.{ℕ, List, Option, option_map}
+use Rattle.cose_map.specs.Key.Value.{KeyValue}
+use Rattle.cose_map.specs.Key.View.{contents}
+use Rattle.cose_map.specs.KeySet.{keys_of}
+use Rattle.cose_map.specs.KeyTable.{table_of}
+use Rattle.cose_map.specs.Map.Read.{Read}
+use Rattle.cose_msg.specs.declared.context.Wanted.{Wanted}
+use Rattle.cosecmd.specs.declared.job.Checks.{Checks}
+use Rattle.cosecmd.specs.declared.request.OwnedChecks.{OwnedChecks}
+
+-- The keys of a key set, or why it is refused; the externally supplied data; the kinds of messages that are wanted; the argument
+-- of `--vouch`, where there is one.
+pub record Under : Type 0 where
+  pub keys : Read (List KeyValue)
+  pub aad : List ℕ
+  pub wanted : Wanted
+  pub vouch : Option (List ℕ)
+
+-- The program has room for 16 usable keys.
+abbrev pub program_keys : List ℕ → Read (List KeyValue)
+program_keys bytes = table_of 16 (keys_of bytes)
+
+-- As a job holds it, and as the arguments do.
+abbrev pub job_under : Checks → Under
+job_under checks = record {
+  keys = program_keys checks.keys.now;
+  aad = checks.aad.now;
+  wanted = checks.wanted;
+  vouch = option_map contents checks.vouch;
+}
+
+abbrev pub owned_under : OwnedChecks → Under
+owned_under checks = record {
+  keys = program_keys checks.keys.items;
+  aad = checks.aad.items;
+  wanted = checks.wanted;
+  vouch = option_map (λ word. word.items) checks.vouch;
+}
