@@ -1,11 +1,14 @@
 -- The job of some arguments prints what they ask for.
-use Rattle.std.proofs.Common.{◌≡◌, ℕ, ℤ, Bool, true, false, List, Option, Some, Bor, length, option_map, refl, ap, subst, ◌∙◌, arith}
+use Rattle.std.proofs.Common.{◌≡◌, ◌≤◌, ℕ, ℤ, Bool, true, false, List, Option, Some, Bor, length, option_map, refl, ap, subst, ◌∙◌, arith}
 use Rattle.std.proofs.Math.Seq.{take-length}
 use Rattle.std.proofs.lemmas.Bool.{le-ltb}
 use Rattle.cose_cwt.specs.Claims.Audience.{text_value}
 use Rattle.cose_map.specs.Key.View.{contents}
 use Rattle.cose_msg.specs.declared.context.Wanted.{Wanted}
-use Rattle.cosecmd.specs.declared.job.Job.TheVariants.{Verify, Cwt, Digest, Make}
+use Rattle.cosecmd.specs.declared.job.Job.{Job}
+use Rattle.cosecmd.specs.declared.job.Job.TheVariants.{Cwt, Make}
+use Rattle.cosecmd.specs.declared.job.Question.{Question}
+use Rattle.cosecmd.specs.declared.job.Question.TheVariants as questions
 use Rattle.cosecmd.specs.declared.request.Cwt.{Cwt as CwtWords}
 use Rattle.cosecmd.specs.declared.request.Make.{Make as MakeWords}
 use Rattle.cosecmd.specs.declared.request.Request.{Request}
@@ -14,8 +17,9 @@ use Rattle.cosecmd.specs.declared.request.OwnedChecks.{OwnedChecks}
 use Rattle.cosecmd.specs.declared.job.Checks.{Checks}
 use Rattle.cosecmd.specs.declared.job.FileJob.{FileJob}
 use Rattle.cosecmd.specs.Admitted.{program_policy}
-use Rattle.cosecmd.specs.Printed.{EndsWith, Fails, Output, admitted_under, digested_under, printed, shown, verified_under}
-use Rattle.cosecmd.specs.Stated.{digested_from, verified_from}
+use Rattle.cosecmd.specs.Printed.{EndsWith, Fails, Output, admitted_under, answered_under, digested_under, printed, shown, verified_under}
+use Rattle.cosecmd.specs.Job.{aad_of, is_make, job_of}
+use Rattle.cosecmd.specs.Stated.{answered_from, digested_from, verified_from}
 use Rattle.cosecmd.specs.Under.{Under, job_under, owned_under}
 use Rattle.cosecmd.specs.Words.{admitted_for, asked_for, made_for, makes}
 
@@ -31,25 +35,29 @@ fails_with old new e fails = subst (λ (output : Output). Fails output old new) 
 pub not_made : (request : Request) (A : Type 0) → (makes request ≡ true → A) → (A → ⊥) → makes request ≡ false
 not_made (asks.Make words) A by_name other = absurd (other (by_name refl))
 not_made (asks.Show wanted diagnostic) A by_name other = refl
-not_made (asks.Verify checks from) A by_name other = refl
+not_made (asks.Message question checks from) A by_name other = refl
 not_made (asks.Cwt words) A by_name other = refl
-not_made (asks.Digest checks from) A by_name other = refl
 
-pub verify_words : (owned : OwnedChecks) (checks : Checks) (payload : Option (Bor (List ℕ))) (detached : Option (List ℕ)) (bytes : List ℕ) → job_under checks ≡ owned_under owned →
-    option_map contents payload ≡ detached → printed (Verify checks payload) bytes ≡ verified_under (owned_under owned) detached bytes
+pub message_words : (question : Question) (owned : OwnedChecks) (checks : Checks) (payload : Option (Bor (List ℕ))) (detached : Option (List ℕ)) (bytes : List ℕ) (job : Job) → job ≡ job_of question checks payload →
+    job_under checks ≡ owned_under owned → option_map contents payload ≡ detached → printed job bytes ≡ answered_under question (owned_under owned) detached bytes
 unfolding printed
-verify_words owned checks payload detached bytes same p = rw p (ap (λ (under : Under). verified_under under detached bytes) same)
+message_words questions.Verdict owned checks payload detached bytes job is same p = rw (is, p) (ap (λ (under : Under). verified_under under detached bytes) same)
+message_words questions.Digest owned checks payload detached bytes job is same p = rw (is, p) (ap (λ (under : Under). digested_under under detached bytes) same)
+
+-- It makes no message.
+pub message_is_no_make : (question : Question) (checks : Checks) (payload : Option (Bor (List ℕ))) (job : Job) → job ≡ job_of question checks payload → is_make job ≡ false
+message_is_no_make questions.Verdict checks payload job is = rw is refl
+message_is_no_make questions.Digest checks payload job is = rw is refl
+
+pub message_external : (question : Question) (checks : Checks) (payload : Option (Bor (List ℕ))) (job : Job) → job ≡ job_of question checks payload → length checks.aad.now ≤ 65535 → length (aad_of job) ≤ 65535
+message_external questions.Verdict checks payload job is few = rw is few
+message_external questions.Digest checks payload job is few = rw is few
 
 pub cwt_words : (words : CwtWords) (checks : Checks) (now : ℤ) (bytes : List ℕ) → job_under checks ≡ owned_under words.checks → now ≡ words.now →
     printed (Cwt checks now words.leeway words.aud words.readable) bytes ≡ admitted_for words bytes
 unfolding printed
 cwt_words words checks now bytes same n =
     rw n (ap (λ (under : Under). admitted_under under (program_policy words.now words.leeway (option_map text_value words.aud)) words.readable bytes) same)
-
-pub digest_words : (owned : OwnedChecks) (checks : Checks) (payload : Option (Bor (List ℕ))) (detached : Option (List ℕ)) (bytes : List ℕ) → job_under checks ≡ owned_under owned →
-    option_map contents payload ≡ detached → printed (Digest checks payload) bytes ≡ digested_under (owned_under owned) detached bytes
-unfolding printed
-digest_words owned checks payload detached bytes same p = rw p (ap (λ (under : Under). digested_under under detached bytes) same)
 
 pub make_words : (words : MakeWords) (key aad : Bor (List ℕ)) (kid : Option (Bor (List ℕ))) (bytes : List ℕ) → key.now ≡ words.key.items → aad.now ≡ words.aad.items →
     option_map contents kid ≡ option_map (λ word. word.items) words.kid → printed (Make words.alg key words.length kid aad) bytes ≡ made_for words bytes
@@ -62,16 +70,10 @@ show_words request wanted diagnostic payload bytes is = rw is refl
 
 -- ---- a payload in a file
 
-pub file_words : (owned : OwnedChecks) (job : FileJob) (payload bytes : List ℕ) → job_under job.checks ≡ owned_under owned → job.length ≡ length payload →
-    verified_from job payload bytes ≡ verified_under (owned_under owned) (Some payload) bytes
-file_words owned job payload bytes same n =
-    let whole : verified_from job payload bytes ≡ verified_under (job_under job.checks) (Some payload) bytes =
+pub file_words : (job : FileJob) (payload bytes : List ℕ) → job.length ≡ length payload → answered_from job payload bytes ≡ answered_under job.question (job_under job.checks) (Some payload) bytes
+file_words job payload bytes n =
+    let verdict : verified_from job payload bytes ≡ verified_under (job_under job.checks) (Some payload) bytes =
     rw (n, le-ltb (length payload) (length payload) (omega arith), take-length payload) refl in
-    whole ∙ ap (λ (under : Under). verified_under under (Some payload) bytes) same
-
-pub digest_file_words : (owned : OwnedChecks) (job : FileJob) (payload bytes : List ℕ) → job_under job.checks ≡ owned_under owned → job.length ≡ length payload →
-    digested_from job payload bytes ≡ digested_under (owned_under owned) (Some payload) bytes
-digest_file_words owned job payload bytes same n =
-    let whole : digested_from job payload bytes ≡ digested_under (job_under job.checks) (Some payload) bytes =
+    let digest : digested_from job payload bytes ≡ digested_under (job_under job.checks) (Some payload) bytes =
     rw (n, le-ltb (length payload) (length payload) (omega arith), take-length payload) refl in
-    whole ∙ ap (λ (under : Under). digested_under under (Some payload) bytes) same
+    rw (verdict, digest) refl

@@ -39,6 +39,8 @@ use Rattle.cosecmd.specs.declared.fault.Fault.{Fault}
 use Rattle.cosecmd.specs.declared.job.FileJob.{FileJob}
 use Rattle.cosecmd.specs.declared.job.Job.{Job}
 use Rattle.cosecmd.specs.declared.job.Job.TheVariants.{Show, Verify, Cwt, Digest, Make}
+use Rattle.cosecmd.specs.declared.job.Question.{Question}
+use Rattle.cosecmd.specs.declared.job.Question.TheVariants as questions
 use Rattle.cosecmd.specs.declared.reply.Reply.{Reply}
 use Rattle.cosecmd.specs.declared.reply.Status.{Status}
 use Rattle.cosecmd.specs.declared.reply.Status.TheVariants as statuses
@@ -225,6 +227,14 @@ digested_under under payload bytes = with_keys under.keys (λ keys. digested_in 
 -- The same for a job whose payload comes from a file, and has these bytes.
 abbrev pub digested_with : FileJob → List ℕ → List ℕ → Output
 digested_with job payload bytes = digested_under (job_under job.checks) (Some payload) bytes
+
+-- What is printed by what is asked of a message.
+abbrev pub by_question : Question → Output → Output → Output
+by_question questions.Verdict verdict digest = verdict
+by_question questions.Digest verdict digest = digest
+
+abbrev pub answered_under : Question → Under → Option (List ℕ) → List ℕ → Output
+answered_under question under payload bytes = by_question question (verified_under under payload bytes) (digested_under under payload bytes)
 
 -- The output after a message that ends at this place, of which a signature was found, or this verdict, where these bytes
 -- are left of the input.

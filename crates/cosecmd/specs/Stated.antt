@@ -11,7 +11,7 @@ use Rattle.cose_msg.specs.Source.{detached}
 use Rattle.cosecmd.specs.declared.job.FileJob.{FileJob}
 use Rattle.cosecmd.specs.declared.reply.Reply.{Reply}
 use Rattle.cosecmd.specs.declared.reply.Status.TheVariants as statuses
-use Rattle.cosecmd.specs.Printed.{Output, Says, digested_in, digested_with, input_answer, output_of, setting_under, verified_with, with_keys}
+use Rattle.cosecmd.specs.Printed.{Output, Says, by_question, digested_in, digested_with, input_answer, output_of, setting_under, verified_with, with_keys}
 use Rattle.cosecmd.specs.Under.{Under, job_under}
 use Rattle.cosecmd.specs.Vouch.{vouching}
 
@@ -57,6 +57,10 @@ digested_short under stated content bytes = with_keys under.keys (λ keys. diges
 abbrev pub digested_from : FileJob → List ℕ → List ℕ → Output
 digested_from job content bytes =
     if nat_lt (length content) job.length then digested_short (job_under job.checks) job.length content bytes else digested_with job (take job.length content) bytes
+
+-- By what is asked.
+abbrev pub answered_from : FileJob → List ℕ → List ℕ → Output
+answered_from job content bytes = by_question job.question (verified_from job content bytes) (digested_from job content bytes)
 
 -- A verdict on the bytes of an input. These bytes came of what was to come of the payload, no more than are stated; where
 -- the message wants more of them, the intake of the payload has ended.

@@ -4,7 +4,7 @@ ghost use Rattle.std.specs.Prelude.{◌≡◌, ◌≤◌, ◌⊎◌, ℕ, false,
 ghost use Rattle.cosecmd.specs.Faults.{WritesLine, making_fault};
 ghost use Rattle.cosecmd.specs.Job.{aad_of, is_make};
 ghost use Rattle.cosecmd.specs.Printed.{EndsWith, Fails, Prints, printed};
-ghost use Rattle.cosecmd.specs.Stated.{digested_from, verified_from};
+ghost use Rattle.cosecmd.specs.Stated.{answered_from};
 
 mod cwt;
 mod digest;
@@ -13,7 +13,7 @@ mod show;
 mod verify;
 
 use crate::fault::Fault;
-use crate::job::{FileJob, Job};
+use crate::job::{FileJob, Job, Question};
 use crate::print::{print_fault, print_reply};
 use crate::reply::Status;
 use cwt::{cwt_reply, policy_of};
@@ -106,7 +106,8 @@ pub fn answer<R: Read, W: Write>(alloc: Global, job: &Job, input: &mut R, output
     status_of(alloc, job, input, output).code()
 }
 
-/// Does the job `verify` with a payload that comes from a reader, next to the message: its first bytes, as many as the job states.
+/// Answers what is asked of the message on the input, with a payload that comes from a reader, next to the message: its first
+/// bytes, as many as the job states.
 ///
 /// Of `payload` it reads nothing before the message's nil, in pieces of at most 4,096 bytes, and nothing after the stated length.
 /// In all else it is as [`answer`]: an error of `payload`, and an end before the stated length, is a fault, and no verdict.
@@ -123,40 +124,16 @@ pub fn answer_with_payload_file<P: Read, R: Read, W: Write>(
     // ends with its status. Where the reader has fewer bytes, and the message wants them, there is a fault.
     ensures printed { (bytes content : List ℕ) → R.remaining input.old ≡ Some bytes →
         P.remaining payload.old ≡ Some content →
-        EndsWith (verified_from job.now content bytes) (W.contents output.old)
+        EndsWith (answered_from job.now content bytes) (W.contents output.old)
         (W.contents output.new) result }
     ensures fails { (bytes content : List ℕ) → R.remaining input.old ≡ Some bytes →
         P.remaining payload.old ≡ Some content → result ≡ 2
-        → Fails (verified_from job.now content bytes) (W.contents output.old)
+        → Fails (answered_from job.now content bytes) (W.contents output.old)
         (W.contents output.new) }
 {
-    let reply = verify_reply_with_file(alloc, job, payload, input);
+    let reply = match job.question {
+        Question::Verdict => verify_reply_with_file(alloc, job, payload, input),
+        Question::Digest => digest_reply_with_file(alloc, job, payload, input),
+    };
     print_reply(alloc, reply, output).code()
-}
-
-/// Does the job `digest` with a payload that comes from a reader, next to the message: its first bytes, as many as the job
-/// states. In all else it is as [`answer_with_payload_file`].
-pub fn answer_digest_with_payload_file<P: Read, R: Read, W: Write>(
-    alloc: Global,
-    job: &FileJob,
-    payload: &mut P,
-    input: &mut R,
-    output: &mut W,
-) -> u8
-    requires external { length_of job.now.checks.aad.now ≤ 65535 }
-    ensures status { result ≤ 2 }
-    // Unless there is a fault, it prints the output for the stated bytes of the payload and all that the input gives, and
-    // ends with its status. Where the reader has fewer bytes, and the message wants them, there is a fault.
-    ensures printed { (bytes content : List ℕ) → R.remaining input.old ≡ Some bytes →
-        P.remaining payload.old ≡ Some content →
-        EndsWith (digested_from job.now content bytes) (W.contents output.old)
-        (W.contents output.new) result }
-    ensures fails { (bytes content : List ℕ) → R.remaining input.old ≡ Some bytes →
-        P.remaining payload.old ≡ Some content → result ≡ 2
-        → Fails (digested_from job.now content bytes) (W.contents output.old)
-        (W.contents output.new) }
-{
-    let reply = digest_reply_with_file(alloc, job, payload, input);
-    let status = print_reply(alloc, reply, output);
-    status.code()
 }

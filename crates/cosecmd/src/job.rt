@@ -1,5 +1,8 @@
 //! What a run is asked to do.
 
+ghost use Rattle.std.specs.Prelude.{◌≡◌};
+ghost use Rattle.cosecmd.specs.Job.{job_of};
+
 use cose_msg::{Alg, Wanted};
 
 /// What the message on the input is verified under.
@@ -13,6 +16,27 @@ pub struct Checks<'j> {
     pub wanted: Wanted,
     /// The argument of `--vouch`, where there is one.
     pub vouch: Option<&'j [u8]>,
+}
+
+/// What is asked of a message, whose payload may be elsewhere.
+#[derive(Clone, Copy)]
+pub enum Question {
+    /// Its verdict: the command `verify`.
+    Verdict,
+    /// What its signature has to be verified with: the command `digest`.
+    Digest,
+}
+
+impl Question {
+    /// The job that asks it, with this detached payload, where there is one.
+    pub fn job<'j>(self, checks: Checks<'j>, payload: Option<&'j [u8]>) -> Job<'j>
+        ensures asks { result ≡ job_of self checks payload }
+    {
+        match self {
+            Question::Verdict => Job::Verify { checks, payload },
+            Question::Digest => Job::Digest { checks, payload },
+        }
+    }
 }
 
 /// What a run is asked to do, as its arguments say it.
@@ -67,10 +91,11 @@ pub enum Job<'j> {
     },
 }
 
-/// What a run is asked to do that verifies the message on the input, or prints what its signature is verified with, with a
-/// payload from a file.
+/// What a run is asked of the message on the input, with a payload from a file.
 #[derive(Clone, Copy)]
 pub struct FileJob<'j> {
+    /// The question.
+    pub question: Question,
     /// What the message is verified under.
     pub checks: Checks<'j>,
     /// The number of bytes of the detached payload (RFC 9052 sections 4.2 and 6.2).

@@ -4,7 +4,7 @@ ghost use Rattle.std.specs.Prelude.{◌≡◌, ◌≤◌, length as length_of, o
 ghost use Rattle.cose_map.specs.Key.View.{contents};
 ghost use Rattle.cosecmd.specs.Under.{job_under, owned_under};
 
-use crate::job::Checks;
+use crate::job::{Checks, Question};
 use cose_msg::{Alg, Wanted};
 
 /// The bytes of an argument, where there is one.
@@ -98,8 +98,10 @@ pub enum Request<'w> {
         /// Whether each pair is printed in diagnostic notation too.
         diagnostic: bool,
     },
-    /// To verify a message.
-    Verify {
+    /// To verify a message, or to print what its signature is verified with.
+    Message {
+        /// What is asked of it.
+        question: Question,
         /// What it is verified under.
         checks: OwnedChecks,
         /// The payload.
@@ -107,13 +109,6 @@ pub enum Request<'w> {
     },
     /// To admit a token.
     Cwt(Cwt<'w>),
-    /// To print what a signature is verified with.
-    Digest {
-        /// What the message is read under.
-        checks: OwnedChecks,
-        /// The payload.
-        payload: Payload<'w>,
-    },
     /// To make a message.
     Make(Make),
 }

@@ -1,18 +1,17 @@
 //! A run of the program: its arguments, and then its job.
 
-ghost use Rattle.std.specs.Prelude.{◌≡◌, ◌≢◌, ◌≤◌, ℕ, false, List, Option, Some, None, codes, map, option_map};
+ghost use Rattle.std.specs.Prelude.{◌≡◌, ◌≢◌, ◌≤◌, ℕ, false, List, Option, Some, None, codes, length, map};
 ghost use Rattle.clap.specs.Matches.{subcommand_name_of};
-ghost use Rattle.cose_map.specs.Key.View.{contents};
 ghost use Rattle.cosecmd.specs.CommandLine.{Answers, FailsOn, matches_print};
 ghost use Rattle.cosecmd.specs.Payload.{detached_in};
-ghost use Rattle.cosecmd.specs.Printed.{EndsWith, Fails, Output, digested_under, shown, verified_under};
-ghost use Rattle.cosecmd.specs.Under.{owned_under};
+ghost use Rattle.cosecmd.specs.Printed.{EndsWith, Fails, Output, answered_under, shown};
+ghost use Rattle.cosecmd.specs.Under.{job_under, owned_under};
 ghost use Rattle.cosecmd.specs.Words.{admitted_for, asked_for, made_for, makes, payload_for};
 
-use crate::answer::{answer, answer_digest_with_payload_file, answer_with_payload_file};
+use crate::answer::{answer, answer_with_payload_file};
 use crate::fault::Fault;
 use crate::files::{NamedFiles, NoFiles};
-use crate::job::{FileJob, Job};
+use crate::job::{Checks, FileJob, Job, Question};
 use crate::print::{print, print_fault};
 use crate::request::{Cwt, Make, OwnedChecks, Payload, Request, slice_of};
 use crate::words::{Parsed, parse, request_of};
@@ -39,45 +38,26 @@ fn answer_show<R: Read, W: Write>(
     answer(alloc, &Job::Show { wanted, diagnostic }, input, output)
 }
 
-/// The job of the command `verify`, where the payload is in the message, or is these bytes.
-fn answer_verify<R: Read, W: Write>(
-    alloc: Global,
-    checks: &OwnedChecks,
-    payload: Option<&[u8]>,
-    input: &mut R,
-    output: &mut W,
-) -> u8
-    ensures status { result ≤ 2 }
-    ensures printed { (bytes : List ℕ) → R.remaining input.old ≡ Some bytes →
-        EndsWith (verified_under (owned_under checks.now) (option_map contents payload.entry) bytes)
-        (W.contents output.old) (W.contents output.new) result }
-    ensures fails { (bytes : List ℕ) → R.remaining input.old ≡ Some bytes → result ≡ 2 →
-        Fails (verified_under (owned_under checks.now) (option_map contents payload.entry) bytes)
-        (W.contents output.old) (W.contents output.new) }
-{
-    let checks = checks.borrowed();
-    let job = Job::Verify { checks, payload };
-    answer(alloc, &job, input, output)
-}
-
-/// The job of the command `verify`, where the payload is in the file of this name.
-fn answer_verify_with_file<F: NamedFiles, R: Read, W: Write>(
+/// What is asked of a message, where the payload is in the file of this name.
+fn answer_with_file<F: NamedFiles, R: Read, W: Write>(
     alloc: Global,
     files: &F,
-    checks: &OwnedChecks,
+    question: Question,
+    checks: Checks,
     name: &str,
     input: &mut R,
     output: &mut W,
 ) -> u8
+    requires external { length checks.aad.now ≤ 65535 }
     ensures status { result ≤ 2 }
     ensures printed { (bytes payload : List ℕ) → R.remaining input.old ≡ Some bytes →
         F.content files.now name.now ≡ Some payload →
-        EndsWith (verified_under (owned_under checks.now) (Some payload) bytes) (W.contents output.old)
-        (W.contents output.new) result }
+        EndsWith (answered_under question (job_under checks) (Some payload) bytes)
+        (W.contents output.old) (W.contents output.new) result }
     ensures fails { (bytes payload : List ℕ) → R.remaining input.old ≡ Some bytes →
         F.content files.now name.now ≡ Some payload → result ≡ 2 →
-        Fails (verified_under (owned_under checks.now) (Some payload) bytes) (W.contents output.old)
-        (W.contents output.new) }
+        Fails (answered_under question (job_under checks) (Some payload) bytes)
+        (W.contents output.old) (W.contents output.new) }
 {
     let (mut file, length) = match files.open_with_length(name) {
         Ok(opened) => opened,
@@ -85,9 +65,47 @@ fn answer_verify_with_file<F: NamedFiles, R: Read, W: Write>(
             return print_fault(alloc, Fault::file("payload-file", &error), output).code();
         }
     };
-    let checks = checks.borrowed();
-    let job = FileJob { checks, length };
+    let job = FileJob {
+        question,
+        checks,
+        length,
+    };
     answer_with_payload_file(alloc, &job, &mut file, input, output)
+}
+
+/// What is asked of a message, wherever its payload is.
+fn answer_message<F: NamedFiles, R: Read, W: Write>(
+    alloc: Global,
+    files: &F,
+    question: Question,
+    checks: &OwnedChecks,
+    payload: &Payload,
+    input: &mut R,
+    output: &mut W,
+) -> u8
+    ensures status { result ≤ 2 }
+    ensures printed { (bytes : List ℕ) (detached : Option (List ℕ))
+        → R.remaining input.old ≡ Some bytes →
+        detached_in (F.content files.now) payload.entry.now ≡ Some detached →
+        EndsWith (answered_under question (owned_under checks.now) detached bytes)
+        (W.contents output.old) (W.contents output.new) result }
+    ensures fails { (bytes : List ℕ) (detached : Option (List ℕ))
+        → R.remaining input.old ≡ Some bytes →
+        detached_in (F.content files.now) payload.entry.now ≡ Some detached → result ≡ 2 →
+        Fails (answered_under question (owned_under checks.now) detached bytes)
+        (W.contents output.old) (W.contents output.new) }
+{
+    let checks = checks.borrowed();
+    match payload {
+        Payload::InMessage => answer(alloc, &question.job(checks, None), input, output),
+        Payload::Bytes(bytes) => {
+            let job = question.job(checks, Some(bytes.as_slice()));
+            answer(alloc, &job, input, output)
+        }
+        Payload::File(name) => {
+            answer_with_file(alloc, files, question, checks, name, input, output)
+        }
+    }
 }
 
 /// The job of the command `cwt`.
@@ -110,57 +128,6 @@ fn answer_cwt<R: Read, W: Write>(alloc: Global, words: &Cwt, input: &mut R, outp
     answer(alloc, &job, input, output)
 }
 
-/// The job of the command `digest`, where the payload is in the message, or is these bytes.
-fn answer_digest<R: Read, W: Write>(
-    alloc: Global,
-    checks: &OwnedChecks,
-    payload: Option<&[u8]>,
-    input: &mut R,
-    output: &mut W,
-) -> u8
-    ensures status { result ≤ 2 }
-    ensures printed { (bytes : List ℕ) → R.remaining input.old ≡ Some bytes →
-        EndsWith (digested_under (owned_under checks.now) (option_map contents payload.entry) bytes)
-        (W.contents output.old) (W.contents output.new) result }
-    ensures fails { (bytes : List ℕ) → R.remaining input.old ≡ Some bytes → result ≡ 2 →
-        Fails (digested_under (owned_under checks.now) (option_map contents payload.entry) bytes)
-        (W.contents output.old) (W.contents output.new) }
-{
-    let checks = checks.borrowed();
-    let job = Job::Digest { checks, payload };
-    answer(alloc, &job, input, output)
-}
-
-/// The job of the command `digest`, where the payload is in the file of this name.
-fn answer_digest_with_file<F: NamedFiles, R: Read, W: Write>(
-    alloc: Global,
-    files: &F,
-    checks: &OwnedChecks,
-    name: &str,
-    input: &mut R,
-    output: &mut W,
-) -> u8
-    ensures status { result ≤ 2 }
-    ensures printed { (bytes payload : List ℕ) → R.remaining input.old ≡ Some bytes →
-        F.content files.now name.now ≡ Some payload →
-        EndsWith (digested_under (owned_under checks.now) (Some payload) bytes) (W.contents output.old)
-        (W.contents output.new) result }
-    ensures fails { (bytes payload : List ℕ) → R.remaining input.old ≡ Some bytes →
-        F.content files.now name.now ≡ Some payload → result ≡ 2 →
-        Fails (digested_under (owned_under checks.now) (Some payload) bytes) (W.contents output.old)
-        (W.contents output.new) }
-{
-    let (mut file, length) = match files.open_with_length(name) {
-        Ok(opened) => opened,
-        Err(error) => {
-            return print_fault(alloc, Fault::file("payload-file", &error), output).code();
-        }
-    };
-    let checks = checks.borrowed();
-    let job = FileJob { checks, length };
-    answer_digest_with_payload_file(alloc, &job, &mut file, input, output)
-}
-
 /// The job of the command `make`.
 fn answer_make<R: Read, W: Write>(alloc: Global, words: &Make, input: &mut R, output: &mut W) -> u8
     ensures status { result ≤ 2 }
@@ -176,70 +143,6 @@ fn answer_make<R: Read, W: Write>(alloc: Global, words: &Make, input: &mut R, ou
         aad,
     };
     answer(alloc, &job, input, output)
-}
-
-/// Does what the arguments of `verify` ask for.
-fn answer_verify_request<F: NamedFiles, R: Read, W: Write>(
-    alloc: Global,
-    files: &F,
-    checks: &OwnedChecks,
-    payload: &Payload,
-    input: &mut R,
-    output: &mut W,
-) -> u8
-    ensures status { result ≤ 2 }
-    ensures printed { (bytes : List ℕ) (detached : Option (List ℕ))
-        → R.remaining input.old ≡ Some bytes →
-        detached_in (F.content files.now) payload.entry.now ≡ Some detached →
-        EndsWith (verified_under (owned_under checks.now) detached bytes) (W.contents output.old)
-        (W.contents output.new) result }
-    ensures fails { (bytes : List ℕ) (detached : Option (List ℕ))
-        → R.remaining input.old ≡ Some bytes →
-        detached_in (F.content files.now) payload.entry.now ≡ Some detached → result ≡ 2 →
-        Fails (verified_under (owned_under checks.now) detached bytes) (W.contents output.old)
-        (W.contents output.new) }
-{
-    match payload {
-        Payload::InMessage => answer_verify(alloc, checks, None, input, output),
-        Payload::Bytes(bytes) => {
-            answer_verify(alloc, checks, Some(bytes.as_slice()), input, output)
-        }
-        Payload::File(name) => {
-            answer_verify_with_file(alloc, files, checks, name, input, output)
-        }
-    }
-}
-
-/// Does what the arguments of `digest` ask for.
-fn answer_digest_request<F: NamedFiles, R: Read, W: Write>(
-    alloc: Global,
-    files: &F,
-    checks: &OwnedChecks,
-    payload: &Payload,
-    input: &mut R,
-    output: &mut W,
-) -> u8
-    ensures status { result ≤ 2 }
-    ensures printed { (bytes : List ℕ) (detached : Option (List ℕ))
-        → R.remaining input.old ≡ Some bytes →
-        detached_in (F.content files.now) payload.entry.now ≡ Some detached →
-        EndsWith (digested_under (owned_under checks.now) detached bytes) (W.contents output.old)
-        (W.contents output.new) result }
-    ensures fails { (bytes : List ℕ) (detached : Option (List ℕ))
-        → R.remaining input.old ≡ Some bytes →
-        detached_in (F.content files.now) payload.entry.now ≡ Some detached → result ≡ 2 →
-        Fails (digested_under (owned_under checks.now) detached bytes) (W.contents output.old)
-        (W.contents output.new) }
-{
-    match payload {
-        Payload::InMessage => answer_digest(alloc, checks, None, input, output),
-        Payload::Bytes(bytes) => {
-            answer_digest(alloc, checks, Some(bytes.as_slice()), input, output)
-        }
-        Payload::File(name) => {
-            answer_digest_with_file(alloc, files, checks, name, input, output)
-        }
-    }
 }
 
 /// Does what the arguments ask for, and returns how the run ends.
@@ -270,13 +173,12 @@ fn answer_request<F: NamedFiles, R: Read, W: Write>(
         Request::Show { wanted, diagnostic } => {
             answer_show(alloc, *wanted, *diagnostic, input, output)
         }
-        Request::Verify { checks, payload } => {
-            answer_verify_request(alloc, files, checks, payload, input, output)
-        }
+        Request::Message {
+            question,
+            checks,
+            payload,
+        } => answer_message(alloc, files, *question, checks, payload, input, output),
         Request::Cwt(words) => answer_cwt(alloc, words, input, output),
-        Request::Digest { checks, payload } => {
-            answer_digest_request(alloc, files, checks, payload, input, output)
-        }
         Request::Make(words) => answer_make(alloc, words, input, output),
     }
 }

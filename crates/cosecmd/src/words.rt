@@ -13,6 +13,7 @@ ghost use Rattle.cosecmd.specs.Words.{makes};
 use crate::commands::line;
 use crate::fault::Fault;
 use crate::files::{NamedFiles, key_bytes, key_set_bytes};
+use crate::job::Question;
 use crate::mistake::mistake;
 use crate::reply::{Reply, Status};
 use crate::request::{Cwt, Make, OwnedChecks, Payload, Request};
@@ -339,7 +340,11 @@ fn verify_request<'a, F: NamedFiles>(
 {
     let checks = checks_of(alloc, files, matches)?;
     let payload = payload_of(alloc, matches)?;
-    Ok(Request::Verify { checks, payload })
+    Ok(Request::Message {
+        question: Question::Verdict,
+        checks,
+        payload,
+    })
 }
 
 /// What the arguments of `digest` ask for. The payload goes last, as help lists it.
@@ -355,7 +360,11 @@ fn digest_request<'a, F: NamedFiles>(
 {
     let checks = digest_checks_of(alloc, files, matches)?;
     let payload = payload_of(alloc, matches)?;
-    Ok(Request::Digest { checks, payload })
+    Ok(Request::Message {
+        question: Question::Digest,
+        checks,
+        payload,
+    })
 }
 
 /// What the arguments, the first of which is the program's name, say to clap.
