@@ -1,5 +1,6 @@
 -- The externally supplied data of a job, whether it makes a message, and the job that asks a question.
-use Rattle.std.specs.Prelude.{ℕ, Bool, true, false, List, [], Option, Bor}
+use Rattle.std.specs.Prelude.{ℕ, Bool, true, false, List, [], Option}
+use Rattle.std.specs.Borrow.{Bor}
 use Rattle.cosecmd.specs.declared.job.Checks.{Checks}
 use Rattle.cosecmd.specs.declared.job.Job.{Job}
 use Rattle.cosecmd.specs.declared.job.Job.TheVariants.{Show, Verify, Cwt, Digest, Make}

@@ -30,7 +30,7 @@ pub enum Question {
 impl Question {
     /// The job that asks it, with this detached payload, where there is one.
     pub fn job<'j>(self, checks: Checks<'j>, payload: Option<&'j [u8]>) -> Job<'j>
-        ensures asks { result ≡ job_of self checks payload }
+        ensures asks { result ≡ job_of self checks.entry payload.entry }
     {
         match self {
             Question::Verdict => Job::Verify { checks, payload },

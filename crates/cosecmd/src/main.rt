@@ -7,6 +7,7 @@ ghost use Rattle.std.specs.Prelude.{◌≡◌};
 ghost use Rattle.std.specs.Process.{exit_status};
 
 mod answer;
+mod checks;
 mod commands;
 mod fault;
 mod files;

@@ -1,21 +1,9 @@
 //! What the arguments of the command line ask for.
 
-ghost use Rattle.std.specs.Prelude.{◌≡◌, ◌≤◌, length as length_of, option_map};
-ghost use Rattle.cose_map.specs.Key.View.{contents};
-ghost use Rattle.cosecmd.specs.Under.{job_under, owned_under};
+ghost use Rattle.std.specs.Prelude.{◌≤◌, length as length_of};
 
-use crate::job::{Checks, Question};
+use crate::job::Question;
 use cose_msg::{Alg, Wanted};
-
-/// The bytes of an argument, where there is one.
-pub fn slice_of(word: &Option<Vec<u8>>) -> Option<&[u8]>
-    ensures { option_map contents result ≡ option_map (λ word. word.items) word.now }
-{
-    match word {
-        Some(word) => Some(word.as_slice()),
-        None => None,
-    }
-}
 
 /// What the arguments say that a message is verified under.
 #[derive(Drop)]
@@ -29,21 +17,6 @@ pub struct OwnedChecks {
     /// The argument of `--vouch`, where there is one.
     pub vouch: Option<Vec<u8>>,
     ghost external: { length_of aad.items ≤ 65535 },
-}
-
-impl OwnedChecks {
-    /// The same, as a job holds it.
-    pub fn borrowed(&self) -> Checks<'_>
-        ensures same { job_under result ≡ owned_under self.now }
-        ensures external { length_of result.aad.now ≤ 65535 }
-    {
-        Checks {
-            keys: self.keys.as_slice(),
-            aad: self.aad.as_slice(),
-            wanted: self.wanted,
-            vouch: slice_of(&self.vouch),
-        }
-    }
 }
 
 /// The arguments of `cwt`.

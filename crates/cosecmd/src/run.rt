@@ -9,11 +9,12 @@ ghost use Rattle.cosecmd.specs.Under.{job_under, owned_under};
 ghost use Rattle.cosecmd.specs.Words.{admitted_for, asked_for, made_for, makes, payload_for};
 
 use crate::answer::{answer, answer_with_payload_file};
+use crate::checks::slice_of;
 use crate::fault::Fault;
 use crate::files::{NamedFiles, NoFiles};
 use crate::job::{Checks, FileJob, Job, Question};
 use crate::print::{print, print_fault};
-use crate::request::{Cwt, Make, OwnedChecks, Payload, Request, slice_of};
+use crate::request::{Cwt, Make, OwnedChecks, Payload, Request};
 use crate::words::{Parsed, parse, request_of};
 use clap::ArgMatches;
 use cose_msg::Wanted;
@@ -52,11 +53,11 @@ fn answer_with_file<F: NamedFiles, R: Read, W: Write>(
     ensures status { result ≤ 2 }
     ensures printed { (bytes payload : List ℕ) → R.remaining input.old ≡ Some bytes →
         F.content files.now name.now ≡ Some payload →
-        EndsWith (answered_under question (job_under checks) (Some payload) bytes)
+        EndsWith (answered_under question (job_under checks.entry) (Some payload) bytes)
         (W.contents output.old) (W.contents output.new) result }
     ensures fails { (bytes payload : List ℕ) → R.remaining input.old ≡ Some bytes →
         F.content files.now name.now ≡ Some payload → result ≡ 2 →
-        Fails (answered_under question (job_under checks) (Some payload) bytes)
+        Fails (answered_under question (job_under checks.entry) (Some payload) bytes)
         (W.contents output.old) (W.contents output.new) }
 {
     let (mut file, length) = match files.open_with_length(name) {
