@@ -1,33 +1,36 @@
--- Checks whose fields are the values of the options are those that the options state.
-use Rattle.std.proofs.Common.{◌≡◌, ℕ, List, Option, Some, None, ap, refl, sym, ◌∙◌, option_map, codes}
+-- What a message is verified under by the values of the options is what the options state.
+use Rattle.std.proofs.Common.{◌≡◌, ℕ, List, Option, Some, None, refl, codes}
+use Rattle.cose_msg.specs.declared.context.Wanted.{Wanted}
 use Rattle.cose_msg.specs.declared.context.Wanted.TheVariants as wants
-use Rattle.cosecmd.specs.Fields.{AreChecks, HasKeysOf, checks_in, digest_checks_in}
+use Rattle.cosecmd.specs.Fields.{HasKeysOf, checks_in, digest_checks_in}
 use Rattle.cosecmd.specs.Options.{Options, ◌>>=◌, bytes_in, key_set_in, kind_in, optional_bytes_in}
-use Rattle.cosecmd.specs.Under.{Under, owned_under, program_keys}
-use Rattle.cosecmd.specs.declared.request.OwnedChecks.{OwnedChecks}
+use Rattle.cosecmd.specs.Under.{Under, program_keys}
 
-pub checks_said : (content : List ℕ → Option (List ℕ)) (options : Options) (checks : OwnedChecks) → HasKeysOf content options checks.keys.items → bytes_in (codes "aad") options ≡ Some checks.aad.items →
-    checks.wanted ≡ kind_in options → optional_bytes_in (codes "vouch") options ≡ Some (option_map (λ bytes. bytes.items) checks.vouch) → AreChecks (checks_in content options) checks
-checks_said content options checks keys aad kind vouch = λ under e. go under e (key_set_in content options) refl
-  where
-    go : (under : Under) → checks_in content options ≡ Some under → (known : Option (List ℕ)) → key_set_in content options ≡ known → owned_under checks ≡ under
-    go under e None has =
-        let none : None ≡ Some under = rw has at e in
-        cc
-    go under e (Some known) has =
-        let said : Some (record { keys = program_keys known; aad = checks.aad.items; wanted = kind_in options; vouch = option_map (λ bytes. bytes.items) checks.vouch }) ≡ Some under = rw (has, aad, vouch) at e in
-        let same : record { keys = program_keys known; aad = checks.aad.items; wanted = kind_in options; vouch = option_map (λ bytes. bytes.items) checks.vouch } ≡ under = cc in
-        rw (keys known has, kind) same
+abbrev pub stated : List ℕ → List ℕ → Wanted → Option (List ℕ) → Under
+stated keys aad wanted vouch = record { keys = program_keys keys; aad = aad; wanted = wanted; vouch = vouch }
 
-pub digest_checks_said : (content : List ℕ → Option (List ℕ)) (options : Options) (checks : OwnedChecks) → HasKeysOf content options checks.keys.items → bytes_in (codes "aad") options ≡ Some checks.aad.items →
-    checks.wanted ≡ wants.Sign1 → checks.vouch ≡ None → AreChecks (digest_checks_in content options) checks
-digest_checks_said content options checks keys aad kind vouch = λ under e. go under e (key_set_in content options) refl
+pub checks_said : (content : List ℕ → Option (List ℕ)) (options : Options) (keys aad : List ℕ) (wanted : Wanted) (vouch : Option (List ℕ)) → HasKeysOf content options keys → bytes_in (codes "aad") options ≡ Some aad →
+    wanted ≡ kind_in options → optional_bytes_in (codes "vouch") options ≡ Some vouch → (under : Under) → checks_in content options ≡ Some under → stated keys aad wanted vouch ≡ under
+checks_said content options keys aad wanted vouch has said kind vouched under e = go (key_set_in content options) refl
   where
-    go : (under : Under) → digest_checks_in content options ≡ Some under → (known : Option (List ℕ)) → key_set_in content options ≡ known → owned_under checks ≡ under
-    go under e None has =
-        let none : None ≡ Some under = rw has at e in
+    go : (known : Option (List ℕ)) → key_set_in content options ≡ known → stated keys aad wanted vouch ≡ under
+    go None is =
+        let none : None ≡ Some under = rw is at e in
         cc
-    go under e (Some known) has =
-        let said : Some (record { keys = program_keys known; aad = checks.aad.items; wanted = wants.Sign1; vouch = None }) ≡ Some under = rw (has, aad) at e in
-        let same : record { keys = program_keys known; aad = checks.aad.items; wanted = wants.Sign1; vouch = None } ≡ under = cc in
-        rw (keys known has, kind, vouch) same
+    go (Some known) is =
+        let some : Some (stated known aad (kind_in options) vouch) ≡ Some under = rw (is, said, vouched) at e in
+        let same : stated known aad (kind_in options) vouch ≡ under = cc in
+        rw (has known is, kind) same
+
+pub digest_checks_said : (content : List ℕ → Option (List ℕ)) (options : Options) (keys aad : List ℕ) → HasKeysOf content options keys → bytes_in (codes "aad") options ≡ Some aad →
+    (under : Under) → digest_checks_in content options ≡ Some under → stated keys aad wants.Sign1 None ≡ under
+digest_checks_said content options keys aad has said under e = go (key_set_in content options) refl
+  where
+    go : (known : Option (List ℕ)) → key_set_in content options ≡ known → stated keys aad wants.Sign1 None ≡ under
+    go None is =
+        let none : None ≡ Some under = rw is at e in
+        cc
+    go (Some known) is =
+        let some : Some (stated known aad wants.Sign1 None) ≡ Some under = rw (is, said) at e in
+        let same : stated known aad wants.Sign1 None ≡ under = cc in
+        rw (has known is) same

@@ -1,5 +1,5 @@
 -- A request whose fields are the values of the options asks for what is printed for these options.
-use Rattle.std.proofs.Common.{◌≡◌, ◌≢◌, ◌∙◌, false, ℕ, List, Option, Some, None, ap, subst, sym, refl, option_map, codes}
+use Rattle.std.proofs.Common.{◌≡◌, ◌≢◌, ◌∙◌, Bool, false, ℕ, List, Option, Some, None, ap, subst, sym, refl, option_map, codes}
 use Rattle.std.specs.Prelude.{string_bytes}
 use Rattle.clap.specs.Matches.{subcommand_name_of}
 use Rattle.clap.specs.Simple.{subcommand_rows_of}
@@ -44,7 +44,10 @@ cwt_asks content options words bytes said fields prints = go (checks_in content 
         let some : Some (admitted_under under (program_policy words.now words.leeway (text_in (codes "aud") options)) (flag_in (codes "text") options) bytes) ≡ Some said =
         rw (checks, fields.now, fields.leeway) at prints in
         let same : admitted_under under (program_policy words.now words.leeway (text_in (codes "aud") options)) (flag_in (codes "text") options) bytes ≡ said = cc in
-        rw (fields.checks under checks, fields.aud, fields.readable) same
+        let fields_said : admitted_for words bytes ≡ admitted_under (owned_under words.checks) (program_policy words.now words.leeway (text_in (codes "aud") options)) (flag_in (codes "text") options) bytes =
+        ap (λ (aud : Option (List ℕ)). admitted_under (owned_under words.checks) (program_policy words.now words.leeway aud) words.readable bytes) fields.aud
+        ∙ ap (λ (readable : Bool). admitted_under (owned_under words.checks) (program_policy words.now words.leeway (text_in (codes "aud") options)) readable bytes) fields.readable in
+        fields_said ∙ ap (λ (u : Under). admitted_under u (program_policy words.now words.leeway (text_in (codes "aud") options)) (flag_in (codes "text") options) bytes) (fields.checks under checks) ∙ same
 
 pub make_asks : (content : List ℕ → Option (List ℕ)) (options : Options) (words : Make) (bytes : List ℕ) (said : Output) → MakeFields content options words →
     make_prints content options bytes ≡ Some said → made_for words bytes ≡ said

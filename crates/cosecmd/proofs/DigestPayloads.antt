@@ -5,7 +5,6 @@ use Rattle.std.specs.Io.KnownBytes.{Consumes, IsAtEnd}
 use Rattle.std.proofs.lemmas.Bool.{ltb-true, ltb-false}
 use Rattle.std.proofs.lemmas.List.{length-take-le}
 use Rattle.cose_map.specs.Key.Value.{KeyValue}
-use Rattle.cose_map.specs.Map.Read.{Read}
 use Rattle.cose_msg.specs.declared.verdict.Verdict.{Verdict}
 use Rattle.cose_msg.specs.Answer.{decided}
 use Rattle.cose_msg.specs.GrammarLaws.{MessageIsRead}
@@ -20,7 +19,9 @@ use Rattle.cosecmd.specs.declared.reply.Reply.{Reply}
 use Rattle.cosecmd.specs.PayloadFile.{counted, never}
 use Rattle.cosecmd.specs.Printed.{Output, Says, digested_as, digested_before, digested_in, digested_under, setting_under, trailed, with_payload}
 use Rattle.cosecmd.specs.Stated.{DigestedOf, digested_from, digested_of_short, digested_short, payload_wanted_by_digest, stating, unless_missing}
+use Rattle.cosecmd.specs.Under.{job_under}
 use Rattle.cosecmd.proofs.Digests.{is_digested, says_equal, wanted_whole}
+use Rattle.cosecmd.proofs.Replies.{said_with_keys}
 use Rattle.cosecmd.proofs.Stated.{came_of_short, none_of}
 use Rattle.cosecmd.proofs.Trailing.{left_of_input}
 

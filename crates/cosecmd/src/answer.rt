@@ -1,9 +1,9 @@
 //! What the program answers to a job, over any reader and writer.
 
-ghost use Rattle.std.specs.Prelude.{◌≡◌, ◌≤◌, ◌⊎◌, ℕ, false, List, Some, length as length_of};
+ghost use Rattle.std.specs.Prelude.{◌≡◌, ◌≤◌, ◌⊎◌, ℕ, false, List, Some, IfOk, length as length_of};
 ghost use Rattle.cosecmd.specs.Faults.{WritesLine, making_fault};
 ghost use Rattle.cosecmd.specs.Job.{aad_of, is_make};
-ghost use Rattle.cosecmd.specs.Printed.{EndsWith, Fails, Prints, printed};
+ghost use Rattle.cosecmd.specs.Printed.{EndsWith, Fails, Prints, Says, printed};
 ghost use Rattle.cosecmd.specs.Stated.{answered_from};
 
 mod cwt;
@@ -15,7 +15,7 @@ mod verify;
 use crate::fault::Fault;
 use crate::job::{FileJob, Job, Question};
 use crate::print::{print_fault, print_reply};
-use crate::reply::Status;
+use crate::reply::{Reply, Status};
 use cwt::{cwt_reply, policy_of};
 use digest::{digest_reply, digest_reply_with_file};
 use make::make_message;
@@ -106,6 +106,24 @@ pub fn answer<R: Read, W: Write>(alloc: Global, job: &Job, input: &mut R, output
     status_of(alloc, job, input, output).code()
 }
 
+/// The reply to what is asked of the message on the input, with a payload that comes from a reader.
+fn reply_with_file<P: Read, R: Read>(
+    alloc: Global,
+    job: &FileJob,
+    payload: &mut P,
+    input: &mut R,
+) -> Result<Reply, Fault>
+    requires external { length_of job.now.checks.aad.now ≤ 65535 }
+    ensures says { (bytes content : List ℕ) → R.remaining input.old ≡ Some bytes →
+        P.remaining payload.old ≡ Some content →
+        IfOk result (Says (answered_from job.now content bytes)) }
+{
+    match job.question {
+        Question::Verdict => verify_reply_with_file(alloc, job, payload, input),
+        Question::Digest => digest_reply_with_file(alloc, job, payload, input),
+    }
+}
+
 /// Answers what is asked of the message on the input, with a payload that comes from a reader, next to the message: its first
 /// bytes, as many as the job states.
 ///
@@ -131,9 +149,6 @@ pub fn answer_with_payload_file<P: Read, R: Read, W: Write>(
         → Fails (answered_from job.now content bytes) (W.contents output.old)
         (W.contents output.new) }
 {
-    let reply = match job.question {
-        Question::Verdict => verify_reply_with_file(alloc, job, payload, input),
-        Question::Digest => digest_reply_with_file(alloc, job, payload, input),
-    };
+    let reply = reply_with_file(alloc, job, payload, input);
     print_reply(alloc, reply, output).code()
 }
