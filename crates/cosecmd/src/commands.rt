@@ -6,18 +6,27 @@ use std::alloc::{AllocError, Global};
 /// The version of the program, which `--version` prints.
 const VERSION: &str = "0.1.0";
 
-/// What help says below the options.
+/// What help says below the commands.
 const NOTES: &str =
     "HMAC is computed here; for ECDSA (ES256, ES384, ES512) the digest is computed, and --vouch decides; no curve \
 arithmetic is included.
 Arguments in hexadecimal have an even number of digits, no prefix and no spaces.
-Exit status: 0 authentic, 1 refused, 2 no verdict (command line, keys, memory, input or output).";
+Exit status: 0 accepted, shown, printed or made, 1 refused, 2 no answer; the help of each command has its own, and an example.";
+
+/// What help says below the options of `verify`.
+const VERIFY_NOTES: &str =
+    "HMAC is computed here; for ECDSA (ES256, ES384, ES512) the digest is computed, and --vouch decides; no curve \
+arithmetic is included.
+Arguments in hexadecimal have an even number of digits, no prefix and no spaces.
+Exit status: 0 authentic, 1 refused, 2 no verdict (command line, keys, memory, input or output).
+Example: cosecmd verify --keys-file keys < message";
 
 /// What help says below the options of `make`.
 const MAKE_NOTES: &str =
     "Arguments in hexadecimal have an even number of digits, no prefix and no spaces.
 The message has its tag, 17, and its shortest spelling. It is written while the payload is read.
-Exit status: 0 made, 2 not or not whole (command line, key, memory, input or output): drop what was written.";
+Exit status: 0 made, 2 not or not whole (command line, key, memory, input or output): drop what was written.
+Example: cosecmd make --alg 5 --key-file key --length $(stat -c %s payload) < payload > message";
 
 /// What help says below the options of `digest`.
 const DIGEST_NOTES: &str =
@@ -26,13 +35,15 @@ Arguments in hexadecimal have an even number of digits, no prefix and no spaces.
 It prints the argument of `verify --vouch`: the curve of the key in one byte, the digest of the structure that is signed, \
 the signature, x and y. The signature isn't verified yet: pass this argument to `verify` only where another program has \
 verified it.
-Exit status: 0 printed, 1 refused, 2 no answer (command line, keys, memory, input or output).";
+Exit status: 0 printed, 1 refused, 2 no answer (command line, keys, memory, input or output).
+Example: cosecmd digest --keys-file keys < message";
 
 /// What help says below the options of `show`.
 const SHOW_NOTES: &str =
     "It prints the shape of the message, and a line for each pair of the protected and of the unprotected header, \
 in the order of the message: the bytes of the label and of the value in hexadecimal. Nothing of it is authenticated.
-Exit status: 0 shown, 1 refused, 2 no answer (command line, memory, input or output).";
+Exit status: 0 shown, 1 refused, 2 no answer (command line, memory, input or output).
+Example: cosecmd show --diagnostic < message";
 
 /// What help says below the options of `cwt`.
 const CWT_NOTES: &str =
@@ -41,7 +52,8 @@ arithmetic is included.
 Arguments in hexadecimal have an even number of digits, no prefix and no spaces.
 It prints `admitted`, and then a line for each registered claim and for each text of the audience: texts and bytes in \
 hexadecimal, dates in seconds since 1970; of a confirmation the key (curve, x, y) and its identifier.
-Exit status: 0 admitted, 1 refused, 2 no answer (command line, keys, memory, input or output).";
+Exit status: 0 admitted, 1 refused, 2 no answer (command line, keys, memory, input or output).
+Example: cosecmd cwt --keys-file keys --now $(date +%s) < token";
 
 /// The values of `--kind`, the kinds of messages that are wanted.
 const KINDS: &[&str] = &["mac0", "sign1", "tagged"];
@@ -301,7 +313,7 @@ const COMMANDS: &[Subcommand] = &[
     Subcommand {
         name: "verify",
         about: "Verifies the COSE message on standard input and prints the verdict",
-        notes: NOTES,
+        notes: VERIFY_NOTES,
         options: &[KEYS, KEYS_FILE, AAD, KIND, VOUCH, DETACHED, PAYLOAD_FILE],
         one_of: KEY_SET,
     },
