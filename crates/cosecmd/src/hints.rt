@@ -47,14 +47,6 @@ impl First {
         self.length <= ROOM
     }
 
-    /// Whether the first is a character of ASCII, with which no message begins, and no key.
-    pub fn is_text(&self) -> bool {
-        match self.known().first() {
-            Some(byte) => byte.is_ascii_graphic(),
-            None => false,
-        }
-    }
-
     /// Whether there are enough of them to tell what they begin as.
     pub fn is_enough(&self) -> bool {
         self.length >= ENOUGH
@@ -75,11 +67,23 @@ pub enum Form {
     Hexadecimal,
     /// Base64url (RFC 4648 section 5).
     Base64url,
+    /// Letters and digits, of which no more is known.
+    Letters,
 }
 
 /// Whether a byte is a character of base64url.
 fn is_base64url(byte: u8) -> bool {
     byte.is_ascii_alphanumeric() || byte == b'-' || byte == b'_'
+}
+
+/// The form of a text that begins with this byte, which is all that is read of such an input.
+pub fn form_of_first(byte: u8) -> Option<Form> {
+    match byte {
+        b'-' => Some(Form::Pem),
+        b'{' => Some(Form::Json),
+        _ if is_base64url(byte) => Some(Form::Letters),
+        _ => None,
+    }
 }
 
 /// The form of a text that these bytes begin as, where they do.
@@ -113,6 +117,7 @@ impl Form {
             Form::JsonWebToken => "a JSON Web Token",
             Form::Hexadecimal => "hexadecimal",
             Form::Base64url => "base64url",
+            Form::Letters => "base64url or hexadecimal",
         }
     }
 
@@ -124,6 +129,7 @@ impl Form {
             Form::Hexadecimal => "it has to be CBOR: decode it first, as `xxd -r -p` does",
             Form::Base64url =>
                 "it has to be CBOR: decode it first, as `basenc --base64url -d` does",
+            Form::Letters => "it has to be CBOR: decode it first (a JSON Web Token is none)",
         }
     }
 

@@ -1,7 +1,7 @@
 //! The standard streams of the process: those that are closed, a terminal that the input comes from, a fault's line that goes to
 //! standard error too, and an input that begins as a text does.
 
-use crate::hints::{First, Form, form_of};
+use crate::hints::{First, Form, form_of_first};
 use std::fs::File;
 use std::io::{Read, Write};
 use std::{fs, io};
@@ -48,17 +48,11 @@ impl<S> Noted<S> {
         }
         None
     }
-}
 
-impl<R: Read> Noted<R> {
-    /// The form of a text that the input begins as, where it does. Of such an input a run reads the first byte alone, with
-    /// which no message begins, so one piece more is read here.
-    pub fn form(&mut self) -> Option<Form> {
-        if self.first.is_text() && !self.first.is_enough() {
-            let mut piece = [0; 64];
-            let _ = self.read(&mut piece);
-        }
-        form_of(self.first.known())
+    /// The form of a text that the input begins as, where it does. No message begins with such a byte, so a run reads no more
+    /// of it, and nothing is read here, where it might wait.
+    pub fn form(&self) -> Option<Form> {
+        form_of_first(*self.first.known().first()?)
     }
 }
 
