@@ -91,6 +91,8 @@ enum Presence {
     Default(&'static str),
     /// It may be left out, and has to be where the option of this name is there.
     Without(&'static str),
+    /// It may be left out, and the option of this name has to be there where it is.
+    With(&'static str),
 }
 
 /// An option, which has one argument, or none.
@@ -203,7 +205,16 @@ const PAYLOAD_FILE: CommandOption = CommandOption {
     argument: "PATH",
     value: Value::Text,
     presence: Presence::Without("payload"),
-    help: "The regular file that has the bytes of the payload, in place of --payload; it is read while the message is verified",
+    help: "The file or block device that has the bytes of the payload, in place of --payload; it is read while the message is verified",
+};
+
+/// The number of bytes of the detached payload that are read of its file.
+const PAYLOAD_LENGTH: CommandOption = CommandOption {
+    name: "payload-length",
+    argument: "N",
+    value: Value::Length,
+    presence: Presence::With("payload-file"),
+    help: "The number of bytes of the payload, below 2^56: the first of --payload-file, which may be a pipe then",
 };
 
 /// The current time.
@@ -314,7 +325,16 @@ const COMMANDS: &[Subcommand] = &[
         name: "verify",
         about: "Verifies the COSE message on standard input and prints the verdict",
         notes: VERIFY_NOTES,
-        options: &[KEYS, KEYS_FILE, AAD, KIND, VOUCH, DETACHED, PAYLOAD_FILE],
+        options: &[
+            KEYS,
+            KEYS_FILE,
+            AAD,
+            KIND,
+            VOUCH,
+            DETACHED,
+            PAYLOAD_FILE,
+            PAYLOAD_LENGTH,
+        ],
         one_of: KEY_SET,
     },
     Subcommand {
@@ -328,7 +348,7 @@ const COMMANDS: &[Subcommand] = &[
         name: "digest",
         about: "Prints what the signature of the COSE_Sign1 on standard input has to be verified with",
         notes: DIGEST_NOTES,
-        options: &[KEYS, KEYS_FILE, AAD, DETACHED, PAYLOAD_FILE],
+        options: &[KEYS, KEYS_FILE, AAD, DETACHED, PAYLOAD_FILE, PAYLOAD_LENGTH],
         one_of: KEY_SET,
     },
     Subcommand {
@@ -368,6 +388,7 @@ impl CommandOption {
             Presence::Required => Ok(arg.required(true)),
             Presence::Default(argument) => Ok(arg.default_value(argument)),
             Presence::Without(other) => arg.conflicts_with(other),
+            Presence::With(other) => arg.requires_arg(other),
         }
     }
 }

@@ -67,8 +67,8 @@ impl<'r> NamedFiles for NotedFiles<'r> {
         })
     }
 
-    fn open_with_length(&self, name: &str) -> io::Result<(Self::File, u64)> {
-        let (file, length) = self.rt.open_with_length(name)?;
+    fn open_with_length(&self, name: &str, stated: Option<u64>) -> io::Result<(Self::File, u64)> {
+        let (file, length) = self.rt.open_with_length(name, stated)?;
         let noted = NotedFile {
             rt: self.rt,
             option: self.option,
