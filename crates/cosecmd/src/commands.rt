@@ -91,8 +91,8 @@ enum Presence {
     Default(&'static str),
     /// It may be left out, and has to be where the option of this name is there.
     Without(&'static str),
-    /// It may be left out, and the option of this name has to be there where it is.
-    With(&'static str),
+    /// It may be left out. Where it is there, so is the option of the first name, and that of the second isn't.
+    WithAndWithout(&'static str, &'static str),
 }
 
 /// An option, which has one argument, or none.
@@ -213,7 +213,7 @@ const PAYLOAD_LENGTH: CommandOption = CommandOption {
     name: "payload-length",
     argument: "N",
     value: Value::Length,
-    presence: Presence::With("payload-file"),
+    presence: Presence::WithAndWithout("payload-file", "payload"),
     help: "The number of bytes of the payload, below 2^56: the first of --payload-file, which may be a pipe then",
 };
 
@@ -388,7 +388,9 @@ impl CommandOption {
             Presence::Required => Ok(arg.required(true)),
             Presence::Default(argument) => Ok(arg.default_value(argument)),
             Presence::Without(other) => arg.conflicts_with(other),
-            Presence::With(other) => arg.requires_arg(other),
+            Presence::WithAndWithout(needed, other) => {
+                arg.requires_arg(needed)?.conflicts_with(other)
+            }
         }
     }
 }
