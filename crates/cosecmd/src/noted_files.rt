@@ -1,5 +1,7 @@
 //! The files of the process, of which standard error says what their first bytes show.
 
+ghost use Rattle.std.specs.Prelude.{None};
+
 use crate::files::NamedFiles;
 use crate::hints::{First, form_of, is_secret};
 use std::fs::File;
