@@ -1,5 +1,6 @@
 -- The job of some arguments prints what they ask for.
 use Rattle.std.proofs.Common.{◌≡◌, ◌≤◌, ℕ, ℤ, Bool, true, false, List, Option, Some, Bor, length, option_map, refl, ap, subst, ◌∙◌, arith}
+use Rattle.std.specs.Prelude.{nat_lt, option_and_then, take, unwrap_or}
 use Rattle.std.proofs.Math.Seq.{take-length}
 use Rattle.std.proofs.lemmas.Bool.{le-ltb}
 use Rattle.cose_cwt.specs.Claims.Audience.{text_value}
@@ -19,6 +20,7 @@ use Rattle.cosecmd.specs.declared.job.FileJob.{FileJob}
 use Rattle.cosecmd.specs.Admitted.{program_policy}
 use Rattle.cosecmd.specs.Printed.{EndsWith, Fails, Output, admitted_under, answered_under, digested_under, printed, shown, verified_under}
 use Rattle.cosecmd.specs.Job.{aad_of, is_make, job_of}
+use Rattle.cosecmd.specs.Options.{stated_part}
 use Rattle.cosecmd.specs.Stated.{answered_from, digested_from, verified_from}
 use Rattle.cosecmd.specs.Under.{Under, job_under, owned_under}
 use Rattle.cosecmd.specs.Words.{admitted_for, asked_for, made_for, makes}
@@ -70,10 +72,39 @@ show_words request wanted diagnostic payload bytes is = rw is refl
 
 -- ---- a payload in a file
 
-pub file_words : (job : FileJob) (payload bytes : List ℕ) → job.length ≡ length payload → answered_from job payload bytes ≡ answered_under job.question (job_under job.checks) (Some payload) bytes
-file_words job payload bytes n =
-    let verdict : verified_from job payload bytes ≡ verified_under (job_under job.checks) (Some payload) bytes =
-    rw (n, le-ltb (length payload) (length payload) (omega arith), take-length payload) refl in
-    let digest : digested_from job payload bytes ≡ digested_under (job_under job.checks) (Some payload) bytes =
-    rw (n, le-ltb (length payload) (length payload) (omega arith), take-length payload) refl in
+-- The content of a file has as many bytes as are stated, and the payload is as many of them.
+pub record Part (stated : ℕ) (content payload : List ℕ) : Type 0 where
+  pub enough : nat_lt (length content) stated ≡ false
+  pub part : take stated content ≡ payload
+
+pub stated_is_part : (stated : Option ℕ) (content payload : List ℕ) → stated_part stated content ≡ Some payload → Part (unwrap_or stated (length content)) content payload
+stated_is_part None content payload is =
+    let same : content ≡ payload = cc in
+    record { enough = le-ltb (length content) (length content) (omega arith); part = take-length content ∙ same }
+stated_is_part (Some count) content payload is = go (nat_lt (length content) count) refl
+  where
+    go : (short : Bool) → nat_lt (length content) count ≡ short → Part count content payload
+    go true e =
+        let none : None ≡ Some payload = rw e at is in
+        cc
+    go false e =
+        let some : Some (take count content) ≡ Some payload = rw e at is in
+        let same : take count content ≡ payload = cc in
+        record { enough = e; part = same }
+
+-- A file whose part is known has a content that is known.
+pub record KnownPart (content : Option (List ℕ)) (stated : Option ℕ) (payload : List ℕ) : Type 0 where
+  pub bytes : List ℕ
+  pub known : content ≡ Some bytes
+  pub part : Part (unwrap_or stated (length bytes)) bytes payload
+
+pub known_part : (content : Option (List ℕ)) (stated : Option ℕ) (payload : List ℕ) → option_and_then (stated_part stated) content ≡ Some payload → KnownPart content stated payload
+known_part None stated payload is = cc
+known_part (Some bytes) stated payload is = record { bytes = bytes; known = refl; part = stated_is_part stated bytes payload is }
+
+pub file_words : (job : FileJob) (content payload bytes : List ℕ) → Part job.length content payload →
+    answered_from job content bytes ≡ answered_under job.question (job_under job.checks) (Some payload) bytes
+file_words job content payload bytes is =
+    let verdict : verified_from job content bytes ≡ verified_under (job_under job.checks) (Some payload) bytes = rw (is.enough, is.part) refl in
+    let digest : digested_from job content bytes ≡ digested_under (job_under job.checks) (Some payload) bytes = rw (is.enough, is.part) refl in
     rw (verdict, digest) refl

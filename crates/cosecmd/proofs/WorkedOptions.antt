@@ -81,6 +81,22 @@ unknown_file = refl
 in_the_message : payload_in no_file [] ≡ Some None
 in_the_message = refl
 
+-- The file `ab` has the bytes 1, 97 and 98.
+abbrev of_stated : Text → List Row
+of_stated stated = given (codes "payload-file") (codes "ab") ∷ number (codes "payload-length") stated ∷ []
+
+stated_fewer : payload_in any_file (of_stated (codes "2")) ≡ Some (Some (1 ∷ 97 ∷ []))
+stated_fewer = refl
+
+stated_all : payload_in any_file (of_stated (codes "3")) ≡ Some (Some (1 ∷ 97 ∷ 98 ∷ []))
+stated_all = refl
+
+stated_more : payload_in any_file (of_stated (codes "4")) ≡ None
+stated_more = refl
+
+stated_none : payload_in any_file (given (codes "payload-file") (codes "ab") ∷ []) ≡ Some (Some (1 ∷ 97 ∷ 98 ∷ []))
+stated_none = refl
+
 -- ---- command lines
 
 show_line : (bytes : List ℕ) → line_prints no_file (Some (codes "show", given (codes "kind") (codes "sign1") ∷ [])) bytes ≡ Some (shown Sign1 false bytes)

@@ -1,5 +1,5 @@
 -- What the options of a command say: the value of each, by the argument that clap found for its name.
-use Rattle.std.specs.Prelude.{ℕ, ℤ, Bool, List, [], Option, Some, None, Result, Ok, Err, option_and_then, option_map, unwrap_or, codes, pos, if◌then◌else◌}
+use Rattle.std.specs.Prelude.{ℕ, ℤ, Bool, List, [], Option, Some, None, Result, Ok, Err, length, take, nat_lt, option_and_then, option_map, unwrap_or, codes, pos, if◌then◌else◌}
 use Rattle.std.specs.Str.{bytes_eq}
 use Rattle.std.specs.Str.Parse.{digits_value, signed_digits_value, without_leading_plus}
 use Rattle.clap.specs.Matches.{found_of}
@@ -93,10 +93,19 @@ key_set_in content options = of_file content (text_in (codes "keys-file") option
 abbrev pub key_in : (List ℕ → Option (List ℕ)) → Options → Option (List ℕ)
 key_in content options = of_file content (text_in (codes "key-file") options) (bytes_in (codes "key") options)
 
--- The detached payload, where there is one.
-abbrev pub payload_from : (List ℕ → Option (List ℕ)) → Option Text → Option (Option (List ℕ)) → Option (Option (List ℕ))
-payload_from content (Some name) argument = option_map Some (content name)
-payload_from content None argument = argument
+-- So many first bytes as are stated, where there are as many; all bytes, where no number is stated.
+abbrev pub stated_part : Option ℕ → List ℕ → Option (List ℕ)
+stated_part None bytes = Some bytes
+stated_part (Some count) bytes = if nat_lt (length bytes) count then None else Some (take count bytes)
+
+abbrev pub part_of_file : (List ℕ → Option (List ℕ)) → Text → Option ℕ → Option (List ℕ)
+part_of_file content name stated = option_and_then (stated_part stated) (content name)
+
+-- The detached payload, where there is one. Of a file with fewer bytes than are stated there is none.
+abbrev pub payload_from : (List ℕ → Option (List ℕ)) → Option ℕ → Option Text → Option (Option (List ℕ)) → Option (Option (List ℕ))
+payload_from content stated (Some name) argument = option_map Some (part_of_file content name stated)
+payload_from content stated None argument = argument
 
 abbrev pub payload_in : (List ℕ → Option (List ℕ)) → Options → Option (Option (List ℕ))
-payload_in content options = payload_from content (text_in (codes "payload-file") options) (optional_bytes_in (codes "payload") options)
+payload_in content options =
+    payload_from content (number_in (codes "payload-length") options) (text_in (codes "payload-file") options) (optional_bytes_in (codes "payload") options)

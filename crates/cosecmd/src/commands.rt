@@ -6,18 +6,27 @@ use std::alloc::{AllocError, Global};
 /// The version of the program, which `--version` prints.
 const VERSION: &str = "0.1.0";
 
-/// What help says below the options.
+/// What help says below the commands.
 const NOTES: &str =
     "HMAC is computed here; for ECDSA (ES256, ES384, ES512) the digest is computed, and --vouch decides; no curve \
 arithmetic is included.
 Arguments in hexadecimal have an even number of digits, no prefix and no spaces.
-Exit status: 0 authentic, 1 refused, 2 no verdict (command line, keys, memory, input or output).";
+Exit status: 0 accepted, shown, printed or made, 1 refused, 2 no answer; the help of each command has its own, and an example.";
+
+/// What help says below the options of `verify`.
+const VERIFY_NOTES: &str =
+    "HMAC is computed here; for ECDSA (ES256, ES384, ES512) the digest is computed, and --vouch decides; no curve \
+arithmetic is included.
+Arguments in hexadecimal have an even number of digits, no prefix and no spaces.
+Exit status: 0 authentic, 1 refused, 2 no verdict (command line, keys, memory, input or output).
+Example: cosecmd verify --keys-file keys < message";
 
 /// What help says below the options of `make`.
 const MAKE_NOTES: &str =
     "Arguments in hexadecimal have an even number of digits, no prefix and no spaces.
 The message has its tag, 17, and its shortest spelling. It is written while the payload is read.
-Exit status: 0 made, 2 not or not whole (command line, key, memory, input or output): drop what was written.";
+Exit status: 0 made, 2 not or not whole (command line, key, memory, input or output): drop what was written.
+Example: cosecmd make --alg 5 --key-file key --length $(stat -c %s payload) < payload > message";
 
 /// What help says below the options of `digest`.
 const DIGEST_NOTES: &str =
@@ -26,13 +35,15 @@ Arguments in hexadecimal have an even number of digits, no prefix and no spaces.
 It prints the argument of `verify --vouch`: the curve of the key in one byte, the digest of the structure that is signed, \
 the signature, x and y. The signature isn't verified yet: pass this argument to `verify` only where another program has \
 verified it.
-Exit status: 0 printed, 1 refused, 2 no answer (command line, keys, memory, input or output).";
+Exit status: 0 printed, 1 refused, 2 no answer (command line, keys, memory, input or output).
+Example: cosecmd digest --keys-file keys < message";
 
 /// What help says below the options of `show`.
 const SHOW_NOTES: &str =
     "It prints the shape of the message, and a line for each pair of the protected and of the unprotected header, \
 in the order of the message: the bytes of the label and of the value in hexadecimal. Nothing of it is authenticated.
-Exit status: 0 shown, 1 refused, 2 no answer (command line, memory, input or output).";
+Exit status: 0 shown, 1 refused, 2 no answer (command line, memory, input or output).
+Example: cosecmd show --diagnostic < message";
 
 /// What help says below the options of `cwt`.
 const CWT_NOTES: &str =
@@ -41,7 +52,8 @@ arithmetic is included.
 Arguments in hexadecimal have an even number of digits, no prefix and no spaces.
 It prints `admitted`, and then a line for each registered claim and for each text of the audience: texts and bytes in \
 hexadecimal, dates in seconds since 1970; of a confirmation the key (curve, x, y) and its identifier.
-Exit status: 0 admitted, 1 refused, 2 no answer (command line, keys, memory, input or output).";
+Exit status: 0 admitted, 1 refused, 2 no answer (command line, keys, memory, input or output).
+Example: cosecmd cwt --keys-file keys --now $(date +%s) < token";
 
 /// The values of `--kind`, the kinds of messages that are wanted.
 const KINDS: &[&str] = &["mac0", "sign1", "tagged"];
@@ -79,6 +91,8 @@ enum Presence {
     Default(&'static str),
     /// It may be left out, and has to be where the option of this name is there.
     Without(&'static str),
+    /// It may be left out. Where it is there, so is the option of the first name, and that of the second isn't.
+    WithAndWithout(&'static str, &'static str),
 }
 
 /// An option, which has one argument, or none.
@@ -191,7 +205,16 @@ const PAYLOAD_FILE: CommandOption = CommandOption {
     argument: "PATH",
     value: Value::Text,
     presence: Presence::Without("payload"),
-    help: "The regular file that has the bytes of the payload, in place of --payload; it is read while the message is verified",
+    help: "The file or block device that has the bytes of the payload, in place of --payload; it is read while the message is verified",
+};
+
+/// The number of bytes of the detached payload that are read of its file.
+const PAYLOAD_LENGTH: CommandOption = CommandOption {
+    name: "payload-length",
+    argument: "N",
+    value: Value::Length,
+    presence: Presence::WithAndWithout("payload-file", "payload"),
+    help: "The number of bytes of the payload, below 2^56: the first of --payload-file, which may be a pipe then",
 };
 
 /// The current time.
@@ -301,8 +324,17 @@ const COMMANDS: &[Subcommand] = &[
     Subcommand {
         name: "verify",
         about: "Verifies the COSE message on standard input and prints the verdict",
-        notes: NOTES,
-        options: &[KEYS, KEYS_FILE, AAD, KIND, VOUCH, DETACHED, PAYLOAD_FILE],
+        notes: VERIFY_NOTES,
+        options: &[
+            KEYS,
+            KEYS_FILE,
+            AAD,
+            KIND,
+            VOUCH,
+            DETACHED,
+            PAYLOAD_FILE,
+            PAYLOAD_LENGTH,
+        ],
         one_of: KEY_SET,
     },
     Subcommand {
@@ -316,7 +348,7 @@ const COMMANDS: &[Subcommand] = &[
         name: "digest",
         about: "Prints what the signature of the COSE_Sign1 on standard input has to be verified with",
         notes: DIGEST_NOTES,
-        options: &[KEYS, KEYS_FILE, AAD, DETACHED, PAYLOAD_FILE],
+        options: &[KEYS, KEYS_FILE, AAD, DETACHED, PAYLOAD_FILE, PAYLOAD_LENGTH],
         one_of: KEY_SET,
     },
     Subcommand {
@@ -356,6 +388,9 @@ impl CommandOption {
             Presence::Required => Ok(arg.required(true)),
             Presence::Default(argument) => Ok(arg.default_value(argument)),
             Presence::Without(other) => arg.conflicts_with(other),
+            Presence::WithAndWithout(needed, other) => {
+                arg.requires_arg(needed)?.conflicts_with(other)
+            }
         }
     }
 }

@@ -57,8 +57,13 @@ pub enum Payload<'w> {
     InMessage,
     /// It is these bytes, and the message has nil in its place.
     Bytes(Vec<u8>),
-    /// In the file of this name, and the message has nil in its place.
-    File(&'w str),
+    /// In a file, and the message has nil in its place.
+    File {
+        /// The name of the file.
+        name: &'w str,
+        /// The number of its first bytes that are the payload, where it is stated.
+        length: Option<u64>,
+    },
 }
 
 /// What the arguments ask for.

@@ -3,6 +3,7 @@
 ghost use Rattle.std.specs.Prelude.{◌≡◌, ◌≢◌, ◌≤◌, ℕ, false, List, Option, Some, None, codes, length, map};
 ghost use Rattle.clap.specs.Matches.{subcommand_name_of};
 ghost use Rattle.cosecmd.specs.CommandLine.{Answers, FailsOn, matches_print};
+ghost use Rattle.cosecmd.specs.Options.{part_of_file};
 ghost use Rattle.cosecmd.specs.Payload.{detached_in};
 ghost use Rattle.cosecmd.specs.Printed.{EndsWith, Fails, Output, answered_under, shown};
 ghost use Rattle.cosecmd.specs.Under.{job_under, owned_under};
@@ -46,21 +47,22 @@ fn answer_with_file<F: NamedFiles, R: Read, W: Write>(
     question: Question,
     checks: Checks,
     name: &str,
+    stated: Option<u64>,
     input: &mut R,
     output: &mut W,
 ) -> u8
     requires external { length checks.aad.now ≤ 65535 }
     ensures status { result ≤ 2 }
     ensures printed { (bytes payload : List ℕ) → R.remaining input.old ≡ Some bytes →
-        F.content files.now name.now ≡ Some payload →
+        part_of_file (F.content files.now) name.now stated ≡ Some payload →
         EndsWith (answered_under question (job_under checks.entry) (Some payload) bytes)
         (W.contents output.old) (W.contents output.new) result }
     ensures fails { (bytes payload : List ℕ) → R.remaining input.old ≡ Some bytes →
-        F.content files.now name.now ≡ Some payload → result ≡ 2 →
+        part_of_file (F.content files.now) name.now stated ≡ Some payload → result ≡ 2 →
         Fails (answered_under question (job_under checks.entry) (Some payload) bytes)
         (W.contents output.old) (W.contents output.new) }
 {
-    let (mut file, length) = match files.open_with_length(name) {
+    let (mut file, length) = match files.open_with_length(name, stated) {
         Ok(opened) => opened,
         Err(error) => {
             return print_fault(alloc, Fault::file("payload-file", &error), output).code();
@@ -103,9 +105,10 @@ fn answer_message<F: NamedFiles, R: Read, W: Write>(
             let job = question.job(checks, Some(bytes.as_slice()));
             answer(alloc, &job, input, output)
         }
-        Payload::File(name) => {
-            answer_with_file(alloc, files, question, checks, name, input, output)
-        }
+        Payload::File {
+            name,
+            length: stated,
+        } => answer_with_file(alloc, files, question, checks, name, *stated, input, output),
     }
 }
 

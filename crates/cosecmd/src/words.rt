@@ -233,6 +233,31 @@ fn payload_in_line<'a>(alloc: Global, matches: &ArgMatches) -> Result<Payload<'a
     }
 }
 
+/// How many bytes of a file the arguments state as the payload, where they do.
+fn stated_length_of(matches: &ArgMatches) -> Result<Option<u64>, Fault>
+    ensures { IfOk result (λ stated. number_in (codes "payload-length") (options_of matches.now)
+        ≡ stated) }
+{
+    match text_of(matches, "payload-length") {
+        Some(_) => match matches.get_one::<u64>("payload-length") {
+            Some(length) => Ok(Some(length)),
+            None => Err(Fault::Line("payload-length")),
+        },
+        None => Ok(None),
+    }
+}
+
+/// The payload in the file of this name.
+fn payload_in_file<'a>(matches: &ArgMatches<'a>, name: &'a str) -> Result<Payload<'a>, Fault>
+    ensures { IfOk result (λ payload. payload ≡ Payload.File name.entry
+        (number_in (codes "payload-length") (options_of matches.now))) }
+{
+    match stated_length_of(matches) {
+        Ok(length) => Ok(Payload::File { name, length }),
+        Err(fault) => Err(fault),
+    }
+}
+
 /// Where the arguments say that the payload is. A file isn't opened yet.
 fn payload_of<'a>(alloc: Global, matches: &ArgMatches<'a>) -> Result<Payload<'a>, Fault>
     ensures value { IfOk result (λ payload. (content : List ℕ → Option (List ℕ)) →
@@ -243,7 +268,7 @@ fn payload_of<'a>(alloc: Global, matches: &ArgMatches<'a>) -> Result<Payload<'a>
         IfOk result (IsFile name) }
 {
     match text_of(matches, "payload-file") {
-        Some(name) => Ok(Payload::File(name)),
+        Some(name) => payload_in_file(matches, name),
         None => payload_in_line(alloc, matches),
     }
 }
