@@ -6,6 +6,7 @@ pub mod DigestPayloads
 pub mod Digests
 pub mod Failures
 pub mod KeyFiles
+pub mod Listings
 pub mod Makings
 pub mod Options
 pub mod PayloadFiles

@@ -8,6 +8,7 @@ ghost use Rattle.cosecmd.specs.Stated.{answered_from};
 
 mod cwt;
 mod digest;
+mod keys;
 mod make;
 mod show;
 mod verify;
@@ -18,6 +19,7 @@ use crate::print::{print_fault, print_reply};
 use crate::reply::Status;
 use cwt::{cwt_reply, policy_of};
 use digest::{digest_reply, digest_reply_with_file};
+use keys::keys_reply;
 use make::make_message;
 use show::show_reply;
 use std::alloc::Global;
@@ -60,6 +62,10 @@ fn status_of<R: Read, W: Write>(alloc: Global, job: &Job, input: &mut R, output:
         }
         Job::Digest { checks, payload } => {
             let reply = digest_reply(alloc, checks, *payload, input);
+            print_reply(alloc, reply, output)
+        }
+        Job::Keys { keys } => {
+            let reply = keys_reply(alloc, keys);
             print_reply(alloc, reply, output)
         }
         Job::Make {

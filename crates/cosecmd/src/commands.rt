@@ -28,6 +28,13 @@ the signature, x and y. The signature isn't verified yet: pass this argument to 
 verified it.
 Exit status: 0 printed, 1 refused, 2 no answer (command line, keys, memory, input or output).";
 
+/// What help says below the options of `keys`.
+const KEYS_NOTES: &str =
+    "Arguments in hexadecimal have an even number of digits, no prefix and no spaces.
+It prints a line for each item of the set: its place, its members kty, crv, kid (in hexadecimal), alg and key_ops, and \
+`usable`, or why it is refused; and a last line with the number of usable keys. It prints no byte of a secret.
+Exit status: 0 listed, 1 listed, but no other command takes as many keys, 2 no answer (command line, keys, memory or output).";
+
 /// What help says below the options of `show`.
 const SHOW_NOTES: &str =
     "It prints the shape of the message, and a line for each pair of the protected and of the unprotected header, \
@@ -317,6 +324,13 @@ const COMMANDS: &[Subcommand] = &[
         about: "Prints what the signature of the COSE_Sign1 on standard input has to be verified with",
         notes: DIGEST_NOTES,
         options: &[KEYS, KEYS_FILE, AAD, DETACHED, PAYLOAD_FILE],
+        one_of: KEY_SET,
+    },
+    Subcommand {
+        name: "keys",
+        about: "Lists the items of a key set: the usable keys, and why an item is none",
+        notes: KEYS_NOTES,
+        options: &[KEYS, KEYS_FILE],
         one_of: KEY_SET,
     },
     Subcommand {
