@@ -10,7 +10,7 @@ use Rattle.cose_map.specs.Key.{key_of}
 use Rattle.cosecmd.specs.Admitted.{program_policy}
 use Rattle.cosecmd.specs.CommandLine.{IsFoundIn, IsReadFrom, begins_as_answer, command_prints, cwt_prints, keys_prints, line_prints, make_prints, matches_print}
 use Rattle.cosecmd.specs.Fields.{AreChecks, CwtFields, KeysFields, MakeFields, checks_in}
-use Rattle.cosecmd.specs.Options.{Options, ◌>>=◌, flag_in, key_in, text_in}
+use Rattle.cosecmd.specs.Options.{Options, ◌>>=◌, flag_in, key_in, key_set_in, text_in}
 use Rattle.cosecmd.specs.Printed.{Output, admitted_under, keys_listed, made_under}
 use Rattle.cosecmd.specs.Under.{Under, owned_under}
 use Rattle.cosecmd.specs.Words.{admitted_for, made_for}

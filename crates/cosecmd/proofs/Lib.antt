@@ -17,6 +17,7 @@ pub mod Trailing
 pub mod Vouches
 pub mod WorkedAdmitted
 pub mod WorkedDigests
+pub mod WorkedListed
 pub mod WorkedMade
 pub mod WorkedOptions
 pub mod WorkedPayloads

@@ -1,12 +1,11 @@
 //! The lines of the job `keys`: what each item of a key set is, and which of them are usable keys. No byte of a secret.
 
-ghost use Rattle.std.specs.Prelude.{◌≡◌, ◌↔◌, ◌++◌, List, Ok, Err, IfErr, IfOk, codes, filter, length, map, option_map, string_bytes};
+ghost use Rattle.std.specs.Prelude.{◌≡◌, ◌↔◌, ◌++◌, Err, IfErr, IfOk, codes, filter, length, map, option_map, string_bytes};
 ghost use Rattle.std.specs.Fmt.{decimal};
 ghost use Rattle.std.specs.List.{concat};
 ghost use Rattle.cose_head.specs.declared.refusal.Refusal.{Refusal};
 ghost use Rattle.cose_head.specs.ItemRef.{placed};
 ghost use Rattle.cose_head.specs.Items.{items_left};
-ghost use Rattle.cose_map.specs.Key.Value.{KeyValue};
 ghost use Rattle.cose_map.specs.Key.View.{contents, key_value, material_value, operations_of};
 ghost use Rattle.cose_map.specs.KeySet.{items_in, keys_of};
 ghost use Rattle.cose_map.specs.Label.View.{label_value};
@@ -267,15 +266,16 @@ fn set_reply(alloc: Global, set: &ItemRef, usable: usize) -> Result<Reply, Fault
 /// The reply to the job `keys`. It reads no input.
 pub fn keys_reply(alloc: Global, keys: &[u8]) -> Result<Reply, Fault>
     ensures says { IfOk result (Says (keys_listed keys.now)) }
-    ensures keys { (refusal : Refusal) → keys_of keys.now ≡ Err refusal ↔ result ≡ Err (Fault.Keys refusal) }
-    ensures memory { (set : List KeyValue) → keys_of keys.now ≡ Ok set → IfErr result (λ fault. fault ≡ Fault.Memory) }
+    ensures keys { (refusal : Refusal)
+        → keys_of keys.now ≡ Err refusal ↔ result ≡ Err (Fault.Keys refusal) }
 {
-    let usable = match KeySet::read(keys) {
-        Ok(set) => set.count(),
+    let set = match KeySet::read(keys) {
+        Ok(set) => set,
         Err(refusal) => return Err(Fault::Keys(refusal)),
     };
     match ItemRef::read(keys, 0, NESTING) {
-        Ok(set) => set_reply(alloc, &set, usable),
+        Ok(item) => set_reply(alloc, &item, set.count()),
+        // It was read as a set.
         Err(refusal) => Err(Fault::Keys(refusal)),
     }
 }
