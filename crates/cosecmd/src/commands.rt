@@ -31,9 +31,9 @@ Exit status: 0 printed, 1 refused, 2 no answer (command line, keys, memory, inpu
 /// What help says below the options of `keys`.
 const KEYS_NOTES: &str =
     "Arguments in hexadecimal have an even number of digits, no prefix and no spaces.
-It prints a line for each item of the set: its place, its members kty, crv, kid (in hexadecimal), alg and key_ops, and \
-`usable`, or why it is refused; and a last line with the number of usable keys. It prints no byte of a secret.
-Exit status: 0 listed, 1 listed, but no other command takes as many keys, 2 no answer (command line, keys, memory or output).";
+It prints for each item of the set its place, and its kty, crv, kid (in hexadecimal), alg and key_ops and `usable`, or \
+why it is refused; and last how many are usable. No byte of a secret is printed.
+Exit status: 0 listed, 1 listed, and too many usable keys for other commands, 2 no answer (command line, keys, memory or output).";
 
 /// What help says below the options of `show`.
 const SHOW_NOTES: &str =

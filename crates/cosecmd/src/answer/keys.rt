@@ -1,7 +1,6 @@
 //! The lines of the job `keys`: what each item of a key set is, and which of them are usable keys. No byte of a secret.
 
-ghost use Rattle.std.specs.Prelude.{◌≡◌, ◌↔◌, ◌++◌, Err, IfErr, IfOk, codes, filter, length, map, option_map, string_bytes};
-ghost use Rattle.std.specs.Fmt.{decimal};
+ghost use Rattle.std.specs.Prelude.{◌≡◌, ◌↔◌, ◌++◌, ℕ, List, ◌∷◌, Err, IfErr, IfOk, codes, filter, length, map, option_map, string_bytes};
 ghost use Rattle.std.specs.List.{concat};
 ghost use Rattle.cose_head.specs.declared.refusal.Refusal.{Refusal};
 ghost use Rattle.cose_head.specs.ItemRef.{placed};
@@ -87,20 +86,27 @@ fn push_alg(alloc: Global, line: &mut String, alg: Option<Label>) -> Result<(), 
     }
 }
 
-/// Appends the number of an operation after a separator.
+/// Appends the number of an operation after a separator, where a key lists it, and returns the separator of the next one.
 fn push_operation(
     alloc: Global,
     line: &mut String,
-    separator: &str,
+    ops: &Ops,
+    separator: &'static str,
     operation: u8,
-) -> Result<(), Fault>
-    ensures words { IfOk result (λ _. string_bytes line.new
-        ≡ string_bytes line.old ++ separator.now ++ decimal operation) }
+) -> Result<&'static str, Fault>
+    // With these numbers after it, all is as with this one before them.
+    ensures words { (left : List ℕ) → IfOk result (λ next. string_bytes line.new
+        ++ spec.numbers_after next.now (filter (spec.lists (operations_of ops.now)) left)
+        ≡ string_bytes line.old ++ spec.numbers_after separator.now
+        (filter (spec.lists (operations_of ops.now)) (operation ∷ left))) }
     ensures fault { IfErr result (λ fault. fault ≡ Fault.Memory) }
 {
+    if !ops.holds(i128::from(operation)) {
+        return Ok(separator);
+    }
     let words = format!(in alloc; "{separator}{operation}")?;
     line.push_str(words.as_str())?;
-    Ok(())
+    Ok(",")
 }
 
 /// Appends the numbers of those of these operations that a key lists.
@@ -116,10 +122,7 @@ fn push_operations(
 {
     let mut separator = " ";
     'operations: for operation in operations {
-        if ops.holds(i128::from(*operation)) {
-            push_operation(alloc, line, separator, *operation)?;
-            separator = ",";
-        }
+        separator = push_operation(alloc, line, ops, separator, *operation)?;
     }
     Ok(())
 }
@@ -206,6 +209,17 @@ fn push_items(alloc: Global, text: &mut String, items: Items) -> Result<u128, Fa
     Ok(count)
 }
 
+/// Appends the line of the only item of a set, and returns how many there are.
+fn push_only(alloc: Global, text: &mut String, item: &ItemRef) -> Result<u128, Fault>
+    ensures line { IfOk result (λ _. string_bytes text.new
+        ≡ string_bytes text.old ++ spec.item_line (placed item.now)) }
+    ensures count { IfOk result (λ count. count ≡ 1) }
+    ensures fault { IfErr result (λ fault. fault ≡ Fault.Memory) }
+{
+    push_item(alloc, text, item)?;
+    Ok(1)
+}
+
 /// Appends a line for each item of a set that should be a key, and returns how many there are.
 fn push_set(alloc: Global, text: &mut String, set: &ItemRef) -> Result<u128, Fault>
     ensures lines { IfOk result (λ _. string_bytes text.new
@@ -213,15 +227,14 @@ fn push_set(alloc: Global, text: &mut String, set: &ItemRef) -> Result<u128, Fau
     ensures count { IfOk result (λ count. count ≡ length (items_in (placed set.now))) }
     ensures fault { IfErr result (λ fault. fault ≡ Fault.Memory) }
 {
-    let head = set.head();
-    match head.major {
-        4 => push_items(alloc, text, Items::of(set)),
-        5 => {
-            push_item(alloc, text, set)?;
-            Ok(1)
-        }
-        _ => Ok(0),
+    let major = set.head().major;
+    if major == 4 {
+        return push_items(alloc, text, Items::of(set));
     }
+    if major == 5 {
+        return push_only(alloc, text, set);
+    }
+    Ok(0)
 }
 
 /// Appends how many items are usable keys, and whether these are more than the other commands have room for.
