@@ -23,6 +23,15 @@ is_make (Cwt checks now leeway aud readable) = false
 is_make (Digest checks payload) = false
 is_make (Keys keys) = false
 
+-- To list a key set the input isn't read.
+abbrev pub reads_input : Job → Bool
+reads_input (Keys keys) = false
+reads_input (Show wanted diagnostic) = true
+reads_input (Verify checks payload) = true
+reads_input (Cwt checks now leeway aud readable) = true
+reads_input (Digest checks payload) = true
+reads_input (Make alg key length kid aad) = true
+
 abbrev pub job_of : Question → Checks → Option (Bor (List ℕ)) → Job
 job_of questions.Verdict checks payload = Verify checks payload
 job_of questions.Digest checks payload = Digest checks payload

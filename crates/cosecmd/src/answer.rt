@@ -2,7 +2,7 @@
 
 ghost use Rattle.std.specs.Prelude.{◌≡◌, ◌≤◌, ◌⊎◌, ℕ, false, List, Some, length as length_of};
 ghost use Rattle.cosecmd.specs.Faults.{WritesLine, making_fault};
-ghost use Rattle.cosecmd.specs.Job.{aad_of, is_make};
+ghost use Rattle.cosecmd.specs.Job.{aad_of, is_make, reads_input};
 ghost use Rattle.cosecmd.specs.Printed.{EndsWith, Fails, Prints, printed};
 ghost use Rattle.cosecmd.specs.Stated.{answered_from};
 
@@ -35,6 +35,7 @@ fn status_of<R: Read, W: Write>(alloc: Global, job: &Job, input: &mut R, output:
     ensures fails { (bytes : List ℕ) → R.remaining input.old ≡ Some bytes → is_make job.now ≡ false
         → result ≡ Status.Fault
         → Fails (printed job.now bytes) (W.contents output.old) (W.contents output.new) }
+    ensures listing { reads_input job.now ≡ false → input.new ≡ input.old }
     ensures unread { (fault : Fault) → making_fault job.now ≡ Some fault → input.new ≡ input.old }
     ensures line { (fault : Fault) → making_fault job.now ≡ Some fault → (result ≡ Status.Fault)
         × (WritesLine fault (W.contents output.old) (W.contents output.new)
@@ -102,6 +103,8 @@ pub fn answer<R: Read, W: Write>(alloc: Global, job: &Job, input: &mut R, output
     ensures fails { (bytes : List ℕ) → R.remaining input.old ≡ Some bytes → is_make job.now ≡ false
         → result ≡ 2
         → Fails (printed job.now bytes) (W.contents output.old) (W.contents output.new) }
+    // To list a key set it reads nothing.
+    ensures listing { reads_input job.now ≡ false → input.new ≡ input.old }
     // Where the key or another argument of `make` is at fault, it reads nothing, and prints the line of this fault, unless
     // there is no memory for it.
     ensures unread { (fault : Fault) → making_fault job.now ≡ Some fault → input.new ≡ input.old }

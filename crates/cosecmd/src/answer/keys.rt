@@ -162,7 +162,11 @@ fn push_key(alloc: Global, line: &mut String, key: &Key) -> Result<(), Fault>
 }
 
 /// Appends what an item is: a usable key, or refused.
-fn push_outcome(alloc: Global, line: &mut String, outcome: Result<Key, Refusal>) -> Result<(), Fault>
+fn push_outcome(
+    alloc: Global,
+    line: &mut String,
+    outcome: Result<Key, Refusal>,
+) -> Result<(), Fault>
     ensures words { IfOk result (λ _. string_bytes line.new
         ≡ string_bytes line.old ++ spec.outcome_words (seen_by key_value outcome.entry)) }
     ensures fault { IfErr result (λ fault. fault ≡ Fault.Memory) }
