@@ -7,10 +7,11 @@ use Rattle.cose_cwt.specs.Claims.Audience.{text_value}
 use Rattle.cose_map.specs.Key.View.{contents}
 use Rattle.cose_msg.specs.declared.context.Wanted.{Wanted}
 use Rattle.cosecmd.specs.declared.job.Job.{Job}
-use Rattle.cosecmd.specs.declared.job.Job.TheVariants.{Cwt, Make}
+use Rattle.cosecmd.specs.declared.job.Job.TheVariants.{Cwt, Keys, Make}
 use Rattle.cosecmd.specs.declared.job.Question.{Question}
 use Rattle.cosecmd.specs.declared.job.Question.TheVariants as questions
 use Rattle.cosecmd.specs.declared.request.Cwt.{Cwt as CwtWords}
+use Rattle.cosecmd.specs.declared.request.Keys.{Keys as KeysWords}
 use Rattle.cosecmd.specs.declared.request.Make.{Make as MakeWords}
 use Rattle.cosecmd.specs.declared.request.Request.{Request}
 use Rattle.cosecmd.specs.declared.request.Request.TheVariants as asks
@@ -18,7 +19,7 @@ use Rattle.cosecmd.specs.declared.request.OwnedChecks.{OwnedChecks}
 use Rattle.cosecmd.specs.declared.job.Checks.{Checks}
 use Rattle.cosecmd.specs.declared.job.FileJob.{FileJob}
 use Rattle.cosecmd.specs.Admitted.{program_policy}
-use Rattle.cosecmd.specs.Printed.{EndsWith, Fails, Output, admitted_under, answered_under, digested_under, printed, shown, verified_under}
+use Rattle.cosecmd.specs.Printed.{EndsWith, Fails, Output, admitted_under, answered_under, digested_under, keys_listed, printed, shown, verified_under}
 use Rattle.cosecmd.specs.Job.{aad_of, is_make, job_of}
 use Rattle.cosecmd.specs.Options.{stated_part}
 use Rattle.cosecmd.specs.Stated.{answered_from, digested_from, verified_from}
@@ -39,6 +40,7 @@ not_made (asks.Make words) A by_name other = absurd (other (by_name refl))
 not_made (asks.Show wanted diagnostic) A by_name other = refl
 not_made (asks.Message question checks from) A by_name other = refl
 not_made (asks.Cwt words) A by_name other = refl
+not_made (asks.Keys words) A by_name other = refl
 
 pub message_words : (question : Question) (owned : OwnedChecks) (checks : Checks) (payload : Option (Bor (List ℕ))) (detached : Option (List ℕ)) (bytes : List ℕ) (job : Job) → job ≡ job_of question checks payload →
     job_under checks ≡ owned_under owned → option_map contents payload ≡ detached → printed job bytes ≡ answered_under question (owned_under owned) detached bytes
@@ -60,6 +62,10 @@ pub cwt_words : (words : CwtWords) (checks : Checks) (now : ℤ) (bytes : List �
 unfolding printed
 cwt_words words checks now bytes same n =
     rw n (ap (λ (under : Under). admitted_under under (program_policy words.now words.leeway (option_map text_value words.aud)) words.readable bytes) same)
+
+pub keys_words : (words : KeysWords) (keys : Bor (List ℕ)) (bytes : List ℕ) → keys.now ≡ words.keys.items → printed (Keys keys) bytes ≡ keys_listed words.keys.items
+unfolding printed
+keys_words words keys bytes k = rw k refl
 
 pub make_words : (words : MakeWords) (key aad : Bor (List ℕ)) (kid : Option (Bor (List ℕ))) (bytes : List ℕ) → key.now ≡ words.key.items → aad.now ≡ words.aad.items →
     option_map contents kid ≡ option_map (λ word. word.items) words.kid → printed (Make words.alg key words.length kid aad) bytes ≡ made_for words bytes

@@ -8,13 +8,14 @@ use Rattle.clap.specs.declared.parser.matches.ArgMatches.{ArgMatches}
 use Rattle.clap.specs.declared.parser.matches.ArgMatches.TheViews.{out-ArgMatches}
 use Rattle.cose_map.specs.Key.{key_of}
 use Rattle.cosecmd.specs.Admitted.{program_policy}
-use Rattle.cosecmd.specs.CommandLine.{IsFoundIn, IsReadFrom, begins_as_answer, command_prints, cwt_prints, line_prints, make_prints, matches_print}
-use Rattle.cosecmd.specs.Fields.{AreChecks, CwtFields, MakeFields, checks_in}
-use Rattle.cosecmd.specs.Options.{Options, ◌>>=◌, flag_in, key_in, text_in}
-use Rattle.cosecmd.specs.Printed.{Output, admitted_under, made_under}
+use Rattle.cosecmd.specs.CommandLine.{IsFoundIn, IsReadFrom, begins_as_answer, command_prints, cwt_prints, keys_prints, line_prints, make_prints, matches_print}
+use Rattle.cosecmd.specs.Fields.{AreChecks, CwtFields, KeysFields, MakeFields, checks_in}
+use Rattle.cosecmd.specs.Options.{Options, ◌>>=◌, flag_in, key_in, key_set_in, text_in}
+use Rattle.cosecmd.specs.Printed.{Output, admitted_under, keys_listed, made_under}
 use Rattle.cosecmd.specs.Under.{Under, owned_under}
 use Rattle.cosecmd.specs.Words.{admitted_for, made_for}
 use Rattle.cosecmd.specs.declared.request.Cwt.{Cwt}
+use Rattle.cosecmd.specs.declared.request.Keys.{Keys}
 use Rattle.cosecmd.specs.declared.request.Make.{Make}
 use Rattle.cosecmd.specs.declared.request.OwnedChecks.{OwnedChecks}
 use Rattle.cosecmd.specs.declared.reply.Reply.{Reply}
@@ -48,6 +49,19 @@ cwt_asks content options words bytes said fields prints = go (checks_in content 
         ap (λ (aud : Option (List ℕ)). admitted_under (owned_under words.checks) (program_policy words.now words.leeway aud) words.readable bytes) fields.aud
         ∙ ap (λ (readable : Bool). admitted_under (owned_under words.checks) (program_policy words.now words.leeway (text_in (codes "aud") options)) readable bytes) fields.readable in
         fields_said ∙ ap (λ (u : Under). admitted_under u (program_policy words.now words.leeway (text_in (codes "aud") options)) (flag_in (codes "text") options) bytes) (fields.checks under checks) ∙ same
+
+pub keys_asks : (content : List ℕ → Option (List ℕ)) (options : Options) (words : Keys) (said : Output) → KeysFields content options words →
+    keys_prints content options ≡ Some said → keys_listed words.keys.items ≡ said
+keys_asks content options words said fields prints = go (key_set_in content options) refl
+  where
+    go : (known : Option (List ℕ)) → key_set_in content options ≡ known → keys_listed words.keys.items ≡ said
+    go None keys =
+        let none : None ≡ Some said = rw keys at prints in
+        cc
+    go (Some known) keys =
+        let some : Some (keys_listed known) ≡ Some said = rw keys at prints in
+        let same : keys_listed known ≡ said = cc in
+        fields.keys known keys ∙ same
 
 pub make_asks : (content : List ℕ → Option (List ℕ)) (options : Options) (words : Make) (bytes : List ℕ) (said : Output) → MakeFields content options words →
     make_prints content options bytes ≡ Some said → made_for words bytes ≡ said

@@ -6,6 +6,7 @@ pub mod DigestPayloads
 pub mod Digests
 pub mod Failures
 pub mod KeyFiles
+pub mod Listings
 pub mod Makings
 pub mod Options
 pub mod PayloadFiles
@@ -16,6 +17,7 @@ pub mod Trailing
 pub mod Vouches
 pub mod WorkedAdmitted
 pub mod WorkedDigests
+pub mod WorkedListed
 pub mod WorkedMade
 pub mod WorkedOptions
 pub mod WorkedPayloads

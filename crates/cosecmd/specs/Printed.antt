@@ -13,6 +13,7 @@ use Rattle.cose_head.specs.declared.algorithm.Alg.{Alg}
 use Rattle.cose_head.specs.Algorithm.{algorithm_number}
 use Rattle.cose_map.specs.Key.{key_of}
 use Rattle.cose_map.specs.Key.Value.{KeyValue}
+use Rattle.cose_map.specs.KeySet.{items_in, keys_of}
 use Rattle.cose_map.specs.Key.View.{contents}
 use Rattle.cose_map.specs.Map.Pairs.{Pair}
 use Rattle.cose_map.specs.Map.Read.{Read}
@@ -35,10 +36,11 @@ use Rattle.cose_cwt.specs.Claims.Audience.{text_value}
 use Rattle.cose_cwt.specs.Token.{Outcome}
 use Rattle.cosecmd.specs.Admitted.{input_token, outcome_status, outcome_text, program_policy}
 use Rattle.cosecmd.specs.Faults.{WritesLine}
+use Rattle.cosecmd.specs.KeysListed.{set_status, set_text}
 use Rattle.cosecmd.specs.declared.fault.Fault.{Fault}
 use Rattle.cosecmd.specs.declared.job.FileJob.{FileJob}
 use Rattle.cosecmd.specs.declared.job.Job.{Job}
-use Rattle.cosecmd.specs.declared.job.Job.TheVariants.{Show, Verify, Cwt, Digest, Make}
+use Rattle.cosecmd.specs.declared.job.Job.TheVariants.{Show, Verify, Cwt, Digest, Keys, Make}
 use Rattle.cosecmd.specs.declared.job.Question.{Question}
 use Rattle.cosecmd.specs.declared.job.Question.TheVariants as questions
 use Rattle.cosecmd.specs.declared.reply.Reply.{Reply}
@@ -272,6 +274,14 @@ made_under (Ok key) alg payload_length kid aad bytes =
     unless_faulty (make_fault alg key kid aad payload_length) (message_made key alg payload_length kid aad bytes)
 made_under (Err refusal) alg payload_length kid aad bytes = fault_of_key refusal
 
+-- The lines of a key set with these usable keys. One that is refused as a whole has none.
+abbrev pub set_listed : Placed → Read (List KeyValue) → Output
+set_listed set (Ok usable) = record { text = set_text (items_in set) (length usable); status = set_status (length usable) }
+set_listed set (Err refusal) = fault_of_keys refusal
+
+abbrev pub keys_listed : List ℕ → Output
+keys_listed bytes = set_listed (record { bytes = bytes; place = 0 }) (keys_of bytes)
+
 -- What is printed for a job, where the input is these bytes. A text of status Fault is what the program's documents
 -- say; no clause requires a run that ends so to print all of it.
 unfoldable pub printed : Job → List ℕ → Output
@@ -279,6 +289,7 @@ printed (Show wanted diagnostic) bytes = shown wanted diagnostic bytes
 printed (Verify checks payload) bytes = verified_under (job_under checks) (option_map contents payload) bytes
 printed (Cwt checks now leeway aud readable) bytes = admitted_under (job_under checks) (program_policy now leeway (option_map text_value aud)) readable bytes
 printed (Digest checks payload) bytes = digested_under (job_under checks) (option_map contents payload) bytes
+printed (Keys keys) bytes = keys_listed keys.now
 printed (Make alg key payload_length kid aad) bytes =
     made_under (key_of (record { bytes = key.now; place = 0 })) alg payload_length (option_map contents kid) aad.now bytes
 

@@ -4,7 +4,7 @@ use Rattle.cose_cwt.specs.Claims.Audience.{text_value}
 use Rattle.cose_map.specs.Key.{key_of}
 use Rattle.cosecmd.specs.Admitted.{program_policy}
 use Rattle.cosecmd.specs.Payload.{detached_in}
-use Rattle.cosecmd.specs.Printed.{Output, admitted_under, answered_under, made_under, shown}
+use Rattle.cosecmd.specs.Printed.{Output, admitted_under, answered_under, keys_listed, made_under, shown}
 use Rattle.cosecmd.specs.Under.{owned_under}
 use Rattle.cosecmd.specs.declared.request.Cwt.{Cwt}
 use Rattle.cosecmd.specs.declared.request.Make.{Make}
@@ -24,6 +24,7 @@ abbrev pub payload_for : (List ℕ → Option (List ℕ)) → Request → Option
 payload_for content (asks.Message question checks payload) = detached_in content payload
 payload_for content (asks.Show wanted diagnostic) = Some None
 payload_for content (asks.Cwt words) = Some None
+payload_for content (asks.Keys words) = Some None
 payload_for content (asks.Make words) = Some None
 
 -- With this detached payload, where there is one.
@@ -31,6 +32,7 @@ abbrev pub asked_for : Request → Option (List ℕ) → List ℕ → Output
 asked_for (asks.Show wanted diagnostic) payload bytes = shown wanted diagnostic bytes
 asked_for (asks.Message question checks from) payload bytes = answered_under question (owned_under checks) payload bytes
 asked_for (asks.Cwt words) payload bytes = admitted_for words bytes
+asked_for (asks.Keys words) payload bytes = keys_listed words.keys.items
 asked_for (asks.Make words) payload bytes = made_for words bytes
 
 -- Whether a message is to be made.
@@ -39,3 +41,4 @@ makes (asks.Make words) = true
 makes (asks.Show wanted diagnostic) = false
 makes (asks.Message question checks from) = false
 makes (asks.Cwt words) = false
+makes (asks.Keys words) = false

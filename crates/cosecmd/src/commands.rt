@@ -38,6 +38,15 @@ verified it.
 Exit status: 0 printed, 1 refused, 2 no answer (command line, keys, memory, input or output).
 Example: cosecmd digest --keys-file keys < message";
 
+/// What help says below the options of `keys`.
+const KEYS_NOTES: &str =
+    "Arguments in hexadecimal have an even number of digits, no prefix and no spaces.
+It prints for each item of the set its place, and its kty, crv, kid (in hexadecimal), alg and key_ops and `usable`, or \
+why it is refused; and last how many are usable. No byte of a secret is printed.
+Exit status: 0 listed, 1 listed, and too many usable keys for other commands, 2 no answer (command line, keys, memory or \
+output).
+Example: cosecmd keys --keys-file keys";
+
 /// What help says below the options of `show`.
 const SHOW_NOTES: &str =
     "It prints the shape of the message, and a line for each pair of the protected and of the unprotected header, \
@@ -349,6 +358,13 @@ const COMMANDS: &[Subcommand] = &[
         about: "Prints what the signature of the COSE_Sign1 on standard input has to be verified with",
         notes: DIGEST_NOTES,
         options: &[KEYS, KEYS_FILE, AAD, DETACHED, PAYLOAD_FILE, PAYLOAD_LENGTH],
+        one_of: KEY_SET,
+    },
+    Subcommand {
+        name: "keys",
+        about: "Lists the items of a key set: the usable keys, and why an item is none",
+        notes: KEYS_NOTES,
+        options: &[KEYS, KEYS_FILE],
         one_of: KEY_SET,
     },
     Subcommand {

@@ -3,6 +3,7 @@
 ghost use Rattle.std.specs.Prelude.{◌≡◌, ◌≢◌, ◌⊎◌, ℕ, List, Option, Some, None, IfErr, IfOk, length, take, unwrap_or};
 ghost use Rattle.std.specs.Fs.{IsFile, file_type, metadata_len};
 ghost use Rattle.std.specs.IoError.{error_kind};
+ghost use Rattle.cosecmd.specs.Printed.{keys_listed};
 ghost use Rattle.cosecmd.specs.Under.{program_keys};
 
 use crate::fault::Fault;
@@ -124,6 +125,8 @@ pub fn key_set_bytes<F: NamedFiles>(
 ) -> Result<Vec<u8>, Fault>
     ensures keys { (bytes : List ℕ) → F.content files.now name.now ≡ Some bytes →
         IfOk result (λ read. program_keys read.items ≡ program_keys bytes) }
+    ensures listed { (bytes : List ℕ) → F.content files.now name.now ≡ Some bytes →
+        IfOk result (λ read. keys_listed read.items ≡ keys_listed bytes) }
     ensures fault { IfErr result (λ fault. (fault ≡ Fault.Memory)
         ⊎ (fault ≡ Fault.File option.entry)) }
 {

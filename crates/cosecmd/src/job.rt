@@ -76,6 +76,11 @@ pub enum Job<'j> {
         /// The detached payload, where there is one (RFC 9052 section 4.2).
         payload: Option<&'j [u8]>,
     },
+    /// To list the items of a key set. Nothing of the input is read.
+    Keys {
+        /// The bytes of the key set (RFC 9052 section 7).
+        keys: &'j [u8],
+    },
     /// To make a COSE_Mac0 of the payload on the input.
     Make {
         /// The algorithm of the MAC.

@@ -34,6 +34,13 @@ pub struct Cwt<'w> {
     pub readable: bool,
 }
 
+/// The arguments of `keys`.
+#[derive(Drop)]
+pub struct Keys {
+    /// The bytes of the key set.
+    pub keys: Vec<u8>,
+}
+
 /// The arguments of `make`.
 #[derive(Drop)]
 pub struct Make {
@@ -87,6 +94,8 @@ pub enum Request<'w> {
     },
     /// To admit a token.
     Cwt(Cwt<'w>),
+    /// To list the items of a key set.
+    Keys(Keys),
     /// To make a message.
     Make(Make),
 }

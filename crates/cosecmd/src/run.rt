@@ -5,7 +5,7 @@ ghost use Rattle.clap.specs.Matches.{subcommand_name_of};
 ghost use Rattle.cosecmd.specs.CommandLine.{Answers, FailsOn, matches_print};
 ghost use Rattle.cosecmd.specs.Options.{part_of_file};
 ghost use Rattle.cosecmd.specs.Payload.{detached_in};
-ghost use Rattle.cosecmd.specs.Printed.{EndsWith, Fails, Output, answered_under, shown};
+ghost use Rattle.cosecmd.specs.Printed.{EndsWith, Fails, Output, answered_under, keys_listed, shown};
 ghost use Rattle.cosecmd.specs.Under.{job_under, owned_under};
 ghost use Rattle.cosecmd.specs.Words.{admitted_for, asked_for, made_for, makes, payload_for};
 
@@ -15,7 +15,7 @@ use crate::fault::Fault;
 use crate::files::{NamedFiles, NoFiles};
 use crate::job::{Checks, FileJob, Job, Question};
 use crate::print::{print, print_fault};
-use crate::request::{Cwt, Make, OwnedChecks, Payload, Request};
+use crate::request::{Cwt, Keys, Make, OwnedChecks, Payload, Request};
 use crate::words::{Parsed, parse, request_of};
 use clap::ArgMatches;
 use cose_msg::Wanted;
@@ -132,6 +132,19 @@ fn answer_cwt<R: Read, W: Write>(alloc: Global, words: &Cwt, input: &mut R, outp
     answer(alloc, &job, input, output)
 }
 
+/// The job of the command `keys`.
+fn answer_keys<R: Read, W: Write>(alloc: Global, words: &Keys, input: &mut R, output: &mut W) -> u8
+    ensures status { result ≤ 2 }
+    ensures printed { (bytes : List ℕ) → R.remaining input.old ≡ Some bytes →
+        EndsWith (keys_listed words.now.keys.items) (W.contents output.old)
+        (W.contents output.new) result }
+    ensures fails { (bytes : List ℕ) → R.remaining input.old ≡ Some bytes → result ≡ 2 →
+        Fails (keys_listed words.now.keys.items) (W.contents output.old) (W.contents output.new) }
+{
+    let keys = words.keys.as_slice();
+    answer(alloc, &Job::Keys { keys }, input, output)
+}
+
 /// The job of the command `make`.
 fn answer_make<R: Read, W: Write>(alloc: Global, words: &Make, input: &mut R, output: &mut W) -> u8
     ensures status { result ≤ 2 }
@@ -183,6 +196,7 @@ fn answer_request<F: NamedFiles, R: Read, W: Write>(
             payload,
         } => answer_message(alloc, files, *question, checks, payload, input, output),
         Request::Cwt(words) => answer_cwt(alloc, words, input, output),
+        Request::Keys(words) => answer_keys(alloc, words, input, output),
         Request::Make(words) => answer_make(alloc, words, input, output),
     }
 }

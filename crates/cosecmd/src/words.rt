@@ -4,7 +4,7 @@ ghost use Rattle.std.specs.Prelude.{◌≡◌, ◌≢◌, ◌≤◌, ◌⊎◌, 
 ghost use Rattle.clap.specs.Matches.{first_value, found_of, subcommand_name_of};
 ghost use Rattle.cose_cwt.specs.Claims.Audience.{text_value};
 ghost use Rattle.cosecmd.specs.CommandLine.{AsksFor, IsReadFrom, begins_as_answer, digest_prints, matches_print, verify_prints};
-ghost use Rattle.cosecmd.specs.Fields.{AreChecks, CwtFields, HasKeysOf, IsKeyOf, MakeFields, checks_in, digest_checks_in};
+ghost use Rattle.cosecmd.specs.Fields.{AreChecks, CwtFields, HasKeysOf, IsKeyOf, IsListedAs, KeysFields, MakeFields, checks_in, digest_checks_in};
 ghost use Rattle.cosecmd.specs.Options.{algorithm_in, bytes_in, flag_in, hex_bytes, integer_in, kind_in, kind_named, number_in, optional_bytes_in, options_of, payload_in, text_in};
 ghost use Rattle.cosecmd.specs.Payload.{IsFile, detached_in};
 ghost use Rattle.cosecmd.specs.Printed.{Output};
@@ -16,7 +16,7 @@ use crate::files::{NamedFiles, key_bytes, key_set_bytes};
 use crate::job::Question;
 use crate::mistake::mistake;
 use crate::reply::{Reply, Status};
-use crate::request::{Cwt, Make, OwnedChecks, Payload, Request};
+use crate::request::{Cwt, Keys, Make, OwnedChecks, Payload, Request};
 use clap::ArgMatches;
 use clap::error::ErrorKind;
 use cose_msg::{Alg, Wanted};
@@ -44,6 +44,7 @@ fn is_like_answer(text: &str) -> bool
         || bytes.starts_with(b"admitted")
         || bytes.starts_with(b"shape ")
         || bytes.starts_with(b"vouch ")
+        || bytes.starts_with(b"key at ")
 }
 
 /// The text of a line that is refused, which repeats none of its arguments, or the help or version that it asks for. None of them
@@ -201,7 +202,9 @@ fn key_set_of<F: NamedFiles>(
     files: &F,
     matches: &ArgMatches,
 ) -> Result<Vec<u8>, Fault>
-    ensures { IfOk result (λ keys. HasKeysOf (F.content files.now) (options_of matches.now)
+    ensures keys { IfOk result (λ keys. HasKeysOf (F.content files.now) (options_of matches.now)
+        keys.items) }
+    ensures listed { IfOk result (λ keys. IsListedAs (F.content files.now) (options_of matches.now)
         keys.items) }
 {
     match text_of(matches, "keys-file") {
@@ -334,6 +337,14 @@ fn digest_checks_of<F: NamedFiles>(
     })
 }
 
+/// The arguments of `keys`.
+fn keys_of<F: NamedFiles>(alloc: Global, files: &F, matches: &ArgMatches) -> Result<Keys, Fault>
+    ensures { IfOk result (KeysFields (F.content files.now) (options_of matches.now)) }
+{
+    let keys = key_set_of(alloc, files, matches)?;
+    Ok(Keys { keys })
+}
+
 /// The arguments of `make`, in the order in which help lists them.
 fn make_of<F: NamedFiles>(alloc: Global, files: &F, matches: &ArgMatches) -> Result<Make, Fault>
     ensures { IfOk result (MakeFields (F.content files.now) (options_of matches.now)) }
@@ -429,6 +440,9 @@ pub fn request_of<'a, F: NamedFiles>(
     }
     if let Some(digest) = matches.subcommand_matches("digest") {
         return digest_request(alloc, files, digest);
+    }
+    if let Some(keys) = matches.subcommand_matches("keys") {
+        return Ok(Request::Keys(keys_of(alloc, files, keys)?));
     }
     match matches.subcommand_matches("make") {
         Some(make) => Ok(Request::Make(make_of(alloc, files, make)?)),
