@@ -10,6 +10,7 @@ mod cwt;
 mod digest;
 mod make;
 mod show;
+mod unmet;
 mod verify;
 
 use crate::fault::Fault;
@@ -52,10 +53,11 @@ fn status_of<R: Read, W: Write>(alloc: Global, job: &Job, input: &mut R, output:
             now,
             leeway,
             aud,
+            requirements,
             readable,
         } => {
             let policy = policy_of(*now, *leeway, aud);
-            let reply = cwt_reply(alloc, checks, &policy, *readable, input);
+            let reply = cwt_reply(alloc, checks, &policy, requirements, *readable, input);
             print_reply(alloc, reply, output)
         }
         Job::Digest { checks, payload } => {

@@ -19,6 +19,7 @@ mod payload_file;
 mod print;
 mod reply;
 mod request;
+mod required;
 mod run;
 mod streams;
 mod vouch;
