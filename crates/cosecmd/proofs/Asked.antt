@@ -3,7 +3,10 @@ use Rattle.std.proofs.Common.{◌≡◌, ◌≤◌, ℕ, ℤ, Bool, true, false,
 use Rattle.std.specs.Prelude.{nat_lt, option_and_then, take, unwrap_or}
 use Rattle.std.proofs.Math.Seq.{take-length}
 use Rattle.std.proofs.lemmas.Bool.{le-ltb}
+use Rattle.cose_cwt.specs.declared.requirements.Requirements.{Requirements}
 use Rattle.cose_cwt.specs.Claims.Audience.{text_value}
+use Rattle.cose_cwt.specs.Requirements.{RequirementsValue}
+use Rattle.cose_cwt.specs.Requirements.View.{requirements_value}
 use Rattle.cose_map.specs.Key.View.{contents}
 use Rattle.cose_msg.specs.declared.context.Wanted.{Wanted}
 use Rattle.cosecmd.specs.declared.job.Job.{Job}
@@ -23,6 +26,7 @@ use Rattle.cosecmd.specs.Printed.{EndsWith, Fails, Output, admitted_under, answe
 use Rattle.cosecmd.specs.Job.{aad_of, is_make, job_of}
 use Rattle.cosecmd.specs.Options.{stated_part}
 use Rattle.cosecmd.specs.Stated.{answered_from, digested_from, verified_from}
+use Rattle.cosecmd.specs.Requirements.{requirements_for}
 use Rattle.cosecmd.specs.Under.{Under, job_under, owned_under}
 use Rattle.cosecmd.specs.Words.{admitted_for, asked_for, made_for, makes}
 
@@ -57,11 +61,14 @@ pub message_external : (question : Question) (checks : Checks) (payload : Option
 message_external questions.Verdict checks payload job is few = rw is few
 message_external questions.Digest checks payload job is few = rw is few
 
-pub cwt_words : (words : CwtWords) (checks : Checks) (now : ℤ) (bytes : List ℕ) → job_under checks ≡ owned_under words.checks → now ≡ words.now →
-    printed (Cwt checks now words.leeway words.aud words.readable) bytes ≡ admitted_for words bytes
+pub cwt_words : (words : CwtWords) (checks : Checks) (now : ℤ) (requirements : Requirements) (bytes : List ℕ) → job_under checks ≡ owned_under words.checks → now ≡ words.now →
+    requirements_value requirements ≡ requirements_for now words.leeway words.required →
+    printed (Cwt checks now words.leeway words.aud requirements words.readable) bytes ≡ admitted_for words bytes
 unfolding printed
-cwt_words words checks now bytes same n =
-    rw n (ap (λ (under : Under). admitted_under under (program_policy words.now words.leeway (option_map text_value words.aud)) words.readable bytes) same)
+cwt_words words checks now requirements bytes same n required =
+    ap (λ (r : RequirementsValue). admitted_under (job_under checks) (program_policy now words.leeway (option_map text_value words.aud)) r words.readable bytes) required
+    ∙ ap (λ (at : ℤ). admitted_under (job_under checks) (program_policy at words.leeway (option_map text_value words.aud)) (requirements_for at words.leeway words.required) words.readable bytes) n
+    ∙ ap (λ (under : Under). admitted_under under (program_policy words.now words.leeway (option_map text_value words.aud)) (requirements_for words.now words.leeway words.required) words.readable bytes) same
 
 pub keys_words : (words : KeysWords) (keys : Bor (List ℕ)) (bytes : List ℕ) → keys.now ≡ words.keys.items → printed (Keys keys) bytes ≡ keys_listed words.keys.items
 unfolding printed

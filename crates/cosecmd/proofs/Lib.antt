@@ -11,6 +11,7 @@ pub mod Makings
 pub mod Options
 pub mod PayloadFiles
 pub mod Replies
+pub mod RequiredOptions
 pub mod Shows
 pub mod Stated
 pub mod Trailing
@@ -22,5 +23,6 @@ pub mod WorkedMade
 pub mod WorkedOptions
 pub mod WorkedPayloads
 pub mod WorkedPrinted
+pub mod WorkedRequired
 pub mod WorkedShown
 pub mod Writes

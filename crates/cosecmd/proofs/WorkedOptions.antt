@@ -11,10 +11,11 @@ use Rattle.cosecmd.specs.Admitted.{program_policy}
 use Rattle.cosecmd.specs.CommandLine.{line_prints}
 use Rattle.cosecmd.specs.Options.{algorithm_in, bytes_in, integer_in, key_set_in, kind_in, number_in, optional_bytes_in, payload_in, text_in}
 use Rattle.cosecmd.specs.Printed.{admitted_under, made_under, shown, verified_under}
+use Rattle.cosecmd.specs.Requirements.{required_at}
 use Rattle.cosecmd.specs.Under.{Under, program_keys}
 
 -- An option with this argument; and one whose range has no negative number.
-abbrev given : Text → Text → Row
+abbrev pub given : Text → Text → Row
 given name argument = record {
   id = name;
   values = argument ∷ [];
@@ -23,7 +24,7 @@ given name argument = record {
   reading = readings.AsWritten;
 }
 
-abbrev number : Text → Text → Row
+abbrev pub number : Text → Text → Row
 number name argument = record (given name argument) { reading = readings.WithoutMinus }
 
 -- No file is known; and each file has a byte and then its name.
@@ -119,12 +120,12 @@ unfolding decode_pairs
 verify_line bytes = refl
 
 cwt_line : (bytes : List ℕ) → line_prints no_file (Some (codes "cwt", given (codes "keys") (codes "80") ∷ number (codes "now") (codes "9") ∷ number (codes "leeway") (codes "5") ∷ given (codes "aud") (codes "x") ∷ [])) bytes ≡
-    Some (admitted_under (no_keys None) (program_policy (pos 9) 5 (Some (120 ∷ []))) false bytes)
+    Some (admitted_under (no_keys None) (program_policy (pos 9) 5 (Some (120 ∷ []))) (required_at (pos 9) 5 [] None None None None None) false bytes)
 unfolding decode_pairs
 cwt_line bytes = refl
 
 text_line : (bytes : List ℕ) → line_prints no_file (Some (codes "cwt", given (codes "keys") (codes "80") ∷ number (codes "now") (codes "9") ∷ number (codes "leeway") (codes "5") ∷ given (codes "text") (codes "true") ∷ [])) bytes ≡
-    Some (admitted_under (no_keys None) (program_policy (pos 9) 5 None) true bytes)
+    Some (admitted_under (no_keys None) (program_policy (pos 9) 5 None) (required_at (pos 9) 5 [] None None None None None) true bytes)
 unfolding decode_pairs
 text_line bytes = refl
 

@@ -15,6 +15,7 @@ use Rattle.cosecmd.specs.Faults.{WritesLine}
 use Rattle.cosecmd.specs.Options.{Options, ◌>>=◌, algorithm_in, bytes_in, flag_in, integer_in, key_in, key_set_in, kind_in, number_in, optional_bytes_in, payload_in, text_in}
 use Rattle.cosecmd.specs.Fields.{checks_in, digest_checks_in}
 use Rattle.cosecmd.specs.Printed.{EndsWith, Fails, Output, admitted_under, digested_under, keys_listed, made_under, shown, verified_under}
+use Rattle.cosecmd.specs.Requirements.{requirements_in}
 use Rattle.cosecmd.specs.Words.{asked_for, payload_for}
 use Rattle.cosecmd.specs.declared.fault.Fault.{Fault}
 use Rattle.cosecmd.specs.declared.reply.Status.TheVariants as statuses
@@ -33,7 +34,8 @@ cwt_prints content options bytes = do
   under ← checks_in content options
   now ← integer_in (codes "now") options
   leeway ← number_in (codes "leeway") options
-  Some (admitted_under under (program_policy now leeway (text_in (codes "aud") options)) (flag_in (codes "text") options) bytes)
+  requirements ← requirements_in now leeway options
+  Some (admitted_under under (program_policy now leeway (text_in (codes "aud") options)) requirements (flag_in (codes "text") options) bytes)
 
 abbrev pub digest_prints : (List ℕ → Option (List ℕ)) → Options → List ℕ → Option Output
 digest_prints content options bytes = do

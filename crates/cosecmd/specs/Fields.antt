@@ -46,6 +46,7 @@ pub record CwtFields (content : List ℕ → Option (List ℕ)) (options : Optio
   pub now : integer_in (codes "now") options ≡ Some words.now
   pub leeway : number_in (codes "leeway") options ≡ Some words.leeway
   pub aud : option_map text_value words.aud ≡ text_in (codes "aud") options
+  pub required : RequiredFields options words.required
   pub readable : words.readable ≡ flag_in (codes "text") options
 
 pub record KeysFields (content : List ℕ → Option (List ℕ)) (options : Options) (words : Keys) : Type 0 where

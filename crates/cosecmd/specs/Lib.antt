@@ -10,6 +10,7 @@ pub mod Payload
 pub mod PayloadFile
 pub mod Printed
 pub mod Readable
+pub mod Requirements
 pub mod Stated
 pub mod Under
 pub mod Vouch

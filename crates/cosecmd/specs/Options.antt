@@ -58,7 +58,7 @@ optional_bytes_in name options = bytes_where_given (text_in name options)
 -- ---- numbers
 
 -- The number that an option's argument writes in decimal, where a plus and zeros may come first. Where no negative number is
--- in the option's range, as of `--now`, `--leeway` and `--alg`, clap's getters leave out a minus (`one_of`): clap accepts one
+-- in the option's range, as of `--now`, `--leeway`, `--max-age` and `--alg`, clap's getters leave out a minus (`one_of`): clap accepts one
 -- before zeros alone.
 abbrev pub number_in : Text → Options → Option ℕ
 number_in name options = option_map (λ text. digits_value 10 (without_leading_plus text)) (one_of name options)

@@ -33,8 +33,9 @@ use Rattle.cose_msg.specs.Shown.{SignInput, sign_input_in}
 use Rattle.cose_msg.specs.Writes.{front_of}
 use Rattle.cose_cwt.specs.Admission.{PolicyValue}
 use Rattle.cose_cwt.specs.Claims.Audience.{text_value}
-use Rattle.cose_cwt.specs.Token.{Outcome}
-use Rattle.cosecmd.specs.Admitted.{input_token, outcome_status, outcome_text, program_policy}
+use Rattle.cose_cwt.specs.Requirements.{RequirementsValue}
+use Rattle.cose_cwt.specs.Requirements.View.{requirements_value}
+use Rattle.cosecmd.specs.Admitted.{Admission, input_token, outcome_status, outcome_text, program_policy}
 use Rattle.cosecmd.specs.Faults.{WritesLine}
 use Rattle.cosecmd.specs.KeysListed.{set_status, set_text}
 use Rattle.cosecmd.specs.declared.fault.Fault.{Fault}
@@ -160,12 +161,12 @@ verified_with job payload bytes = verified_under (job_under job.checks) (Some pa
 abbrev pub token_setting : List KeyValue → List ℕ → Wanted → Setting
 token_setting keys aad wanted = record (program_setting keys aad wanted) { payload_limit = 4096 }
 
-abbrev pub outcome_said : Bool → Outcome → Output
+abbrev pub outcome_said : Bool → Admission → Output
 outcome_said readable outcome = record { text = outcome_text readable outcome; status = outcome_status outcome }
 
-abbrev pub admitted_under : Under → PolicyValue → Bool → List ℕ → Output
-admitted_under under policy readable bytes =
-    with_keys under.keys (λ keys. outcome_said readable (input_token (token_setting keys under.aad under.wanted) (vouching under.vouch) policy bytes))
+abbrev pub admitted_under : Under → PolicyValue → RequirementsValue → Bool → List ℕ → Output
+admitted_under under policy requirements readable bytes =
+    with_keys under.keys (λ keys. outcome_said readable (input_token (token_setting keys under.aad under.wanted) (vouching under.vouch) policy requirements bytes))
 
 -- The shape of a message: its kind, and the numbers of bytes of its payload, of its tag or signature, and of the whole.
 abbrev pub shape_line : Kind → ℕ → ℕ → ℕ → List ℕ
@@ -287,7 +288,8 @@ keys_listed bytes = set_listed (record { bytes = bytes; place = 0 }) (keys_of by
 unfoldable pub printed : Job → List ℕ → Output
 printed (Show wanted diagnostic) bytes = shown wanted diagnostic bytes
 printed (Verify checks payload) bytes = verified_under (job_under checks) (option_map contents payload) bytes
-printed (Cwt checks now leeway aud readable) bytes = admitted_under (job_under checks) (program_policy now leeway (option_map text_value aud)) readable bytes
+printed (Cwt checks now leeway aud requirements readable) bytes =
+    admitted_under (job_under checks) (program_policy now leeway (option_map text_value aud)) (requirements_value requirements) readable bytes
 printed (Digest checks payload) bytes = digested_under (job_under checks) (option_map contents payload) bytes
 printed (Keys keys) bytes = keys_listed keys.now
 printed (Make alg key payload_length kid aad) bytes =

@@ -5,6 +5,7 @@ use Rattle.cose_map.specs.Key.{key_of}
 use Rattle.cosecmd.specs.Admitted.{program_policy}
 use Rattle.cosecmd.specs.Payload.{detached_in}
 use Rattle.cosecmd.specs.Printed.{Output, admitted_under, answered_under, keys_listed, made_under, shown}
+use Rattle.cosecmd.specs.Requirements.{requirements_for}
 use Rattle.cosecmd.specs.Under.{owned_under}
 use Rattle.cosecmd.specs.declared.request.Cwt.{Cwt}
 use Rattle.cosecmd.specs.declared.request.Make.{Make}
@@ -13,7 +14,7 @@ use Rattle.cosecmd.specs.declared.request.Request.TheVariants as asks
 
 abbrev pub admitted_for : Cwt → List ℕ → Output
 admitted_for words bytes =
-    admitted_under (owned_under words.checks) (program_policy words.now words.leeway (option_map text_value words.aud)) words.readable bytes
+    admitted_under (owned_under words.checks) (program_policy words.now words.leeway (option_map text_value words.aud)) (requirements_for words.now words.leeway words.required) words.readable bytes
 
 abbrev pub made_for : Make → List ℕ → Output
 made_for words bytes =

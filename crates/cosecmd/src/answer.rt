@@ -11,6 +11,7 @@ mod digest;
 mod keys;
 mod make;
 mod show;
+mod unmet;
 mod verify;
 
 use crate::fault::Fault;
@@ -55,10 +56,11 @@ fn status_of<R: Read, W: Write>(alloc: Global, job: &Job, input: &mut R, output:
             now,
             leeway,
             aud,
+            requirements,
             readable,
         } => {
             let policy = policy_of(*now, *leeway, aud);
-            let reply = cwt_reply(alloc, checks, &policy, *readable, input);
+            let reply = cwt_reply(alloc, checks, &policy, requirements, *readable, input);
             print_reply(alloc, reply, output)
         }
         Job::Digest { checks, payload } => {

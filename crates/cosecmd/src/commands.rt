@@ -67,6 +67,9 @@ Example: cosecmd cwt --keys-file keys --now $(date +%s) < token";
 /// The values of `--kind`, the kinds of messages that are wanted.
 const KINDS: &[&str] = &["mac0", "sign1", "tagged"];
 
+/// The values of `--require`, the registered claims (RFC 8392 section 3.1).
+const CLAIMS: &[&str] = &["iss", "sub", "aud", "exp", "nbf", "iat", "cti"];
+
 /// A payload has fewer bytes.
 const PAYLOAD: i64 = 1 << 56;
 
@@ -77,10 +80,14 @@ enum Value {
     Text,
     /// The kind of a message.
     Kind,
+    /// The name of a claim. The option may be there several times.
+    Claim,
     /// A time, in seconds since 1970.
     Time,
     /// A number of seconds.
     Seconds,
+    /// A number of seconds that may be as great as dates are.
+    Duration,
     /// The number of an HMAC algorithm (RFC 9053 section 3.1).
     Mac,
     /// The number of bytes of a payload.
@@ -253,6 +260,60 @@ const AUD: CommandOption = CommandOption {
     help: "The audience that a token has to name, where it names one; without this option the audience isn't compared",
 };
 
+/// The audience, also where a token names none.
+const REQUIRE_AUD: CommandOption = CommandOption {
+    name: "require-aud",
+    argument: "",
+    value: Value::Flag,
+    presence: Presence::Optional,
+    help: "Refuse a token that doesn't name the audience of --aud, or, without --aud, that names none",
+};
+
+/// The issuer.
+const ISS: CommandOption = CommandOption {
+    name: "iss",
+    argument: "TEXT",
+    value: Value::Text,
+    presence: Presence::Optional,
+    help: "The issuer that a token has to name",
+};
+
+/// The subject.
+const SUB: CommandOption = CommandOption {
+    name: "sub",
+    argument: "TEXT",
+    value: Value::Text,
+    presence: Presence::Optional,
+    help: "The subject that a token has to name",
+};
+
+/// The claims that have to be present.
+const REQUIRE: CommandOption = CommandOption {
+    name: "require",
+    argument: "CLAIM",
+    value: Value::Claim,
+    presence: Presence::Optional,
+    help: "A claim that a token has to have; the option may be there several times",
+};
+
+/// The longest lifetime.
+const MAX_LIFETIME: CommandOption = CommandOption {
+    name: "max-lifetime",
+    argument: "N",
+    value: Value::Duration,
+    presence: Presence::Optional,
+    help: "The most seconds from now, and from iat, to exp, which has to be there",
+};
+
+/// The greatest age.
+const MAX_AGE: CommandOption = CommandOption {
+    name: "max-age",
+    argument: "N",
+    value: Value::Duration,
+    presence: Presence::Optional,
+    help: "The most seconds since iat, which has to be there and not in the future",
+};
+
 /// Texts and dates as people read them.
 const TEXT: CommandOption = CommandOption {
     name: "text",
@@ -350,7 +411,23 @@ const COMMANDS: &[Subcommand] = &[
         name: "cwt",
         about: "Admits the CBOR Web Token on standard input and prints its claims",
         notes: CWT_NOTES,
-        options: &[KEYS, KEYS_FILE, AAD, KIND, VOUCH, NOW, LEEWAY, AUD, TEXT],
+        options: &[
+            KEYS,
+            KEYS_FILE,
+            AAD,
+            KIND,
+            VOUCH,
+            NOW,
+            LEEWAY,
+            AUD,
+            REQUIRE_AUD,
+            ISS,
+            SUB,
+            REQUIRE,
+            MAX_LIFETIME,
+            MAX_AGE,
+            TEXT,
+        ],
         one_of: KEY_SET,
     },
     Subcommand {
@@ -386,8 +463,10 @@ impl Value {
         match self {
             Value::Text | Value::Flag => arg,
             Value::Kind => arg.value_parser(KINDS),
+            Value::Claim => arg.value_parser(CLAIMS).action(ArgAction::Append),
             Value::Time => arg.value_parser(value_parser!(i64).range(0..)),
             Value::Seconds => arg.value_parser(value_parser!(u32)),
+            Value::Duration => arg.value_parser(value_parser!(u64)),
             Value::Mac => arg.value_parser(value_parser!(u8).range(4..=7)),
             Value::Length => arg.value_parser(value_parser!(u64).range(0..PAYLOAD)),
         }

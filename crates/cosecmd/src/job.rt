@@ -3,6 +3,7 @@
 ghost use Rattle.std.specs.Prelude.{◌≡◌};
 ghost use Rattle.cosecmd.specs.Job.{job_of};
 
+use cose_cwt::Requirements;
 use cose_msg::{Alg, Wanted};
 
 /// What the message on the input is verified under.
@@ -66,6 +67,8 @@ pub enum Job<'j> {
         leeway: u32,
         /// The text of the audience, where a token that names an audience has to be for it.
         aud: Option<&'j str>,
+        /// What is required of the claims beyond their admission.
+        requirements: Requirements<'j>,
         /// Whether texts are printed in quotes too, and dates as RFC 3339 has them.
         readable: bool,
     },

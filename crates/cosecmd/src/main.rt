@@ -21,6 +21,7 @@ mod payload_file;
 mod print;
 mod reply;
 mod request;
+mod required;
 mod run;
 mod streams;
 mod vouch;

@@ -3,6 +3,7 @@
 ghost use Rattle.std.specs.Prelude.{◌≤◌, length as length_of};
 
 use crate::job::Question;
+use crate::required::Required;
 use cose_msg::{Alg, Wanted};
 
 /// What the arguments say that a message is verified under.
@@ -30,6 +31,8 @@ pub struct Cwt<'w> {
     pub leeway: u32,
     /// The text of the audience, where there is one.
     pub aud: Option<&'w str>,
+    /// What is required of the claims.
+    pub required: Required<'w>,
     /// Whether texts are printed in quotes too, and dates as RFC 3339 has them.
     pub readable: bool,
 }

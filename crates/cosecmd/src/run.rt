@@ -16,6 +16,7 @@ use crate::files::{NamedFiles, NoFiles};
 use crate::job::{Checks, FileJob, Job, Question};
 use crate::print::{print, print_fault};
 use crate::request::{Cwt, Keys, Make, OwnedChecks, Payload, Request};
+use crate::required::requirements_of;
 use crate::words::{Parsed, parse, request_of};
 use clap::ArgMatches;
 use cose_msg::Wanted;
@@ -127,6 +128,7 @@ fn answer_cwt<R: Read, W: Write>(alloc: Global, words: &Cwt, input: &mut R, outp
         now: words.now,
         leeway: words.leeway,
         aud: words.aud,
+        requirements: requirements_of(&words.required, words.now, words.leeway),
         readable: words.readable,
     };
     answer(alloc, &job, input, output)

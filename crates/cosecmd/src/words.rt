@@ -17,6 +17,7 @@ use crate::job::Question;
 use crate::mistake::mistake;
 use crate::reply::{Reply, Status};
 use crate::request::{Cwt, Keys, Make, OwnedChecks, Payload, Request};
+use crate::required::required_of;
 use clap::ArgMatches;
 use clap::error::ErrorKind;
 use cose_msg::{Alg, Wanted};
@@ -69,7 +70,7 @@ fn refused_line(alloc: Global, error: clap::Error) -> Result<Reply, Fault>
 }
 
 /// The text of an option's argument, where the option is there or has a default.
-fn text_of<'a>(matches: &ArgMatches<'a>, option: &str) -> Option<&'a str>
+pub fn text_of<'a>(matches: &ArgMatches<'a>, option: &str) -> Option<&'a str>
     ensures { option_map text_value result ≡ text_in option.now (options_of matches.now) }
 {
     matches.get_str(option)
@@ -177,7 +178,7 @@ fn kind_of(matches: &ArgMatches) -> Wanted
 }
 
 /// Whether an option without an argument is there.
-fn flag_of(matches: &ArgMatches, option: &str) -> bool
+pub fn flag_of(matches: &ArgMatches, option: &str) -> bool
     ensures { result ≡ flag_in option.now (options_of matches.now) }
 {
     text_of(matches, option).unwrap_or("false") == "true"
@@ -308,12 +309,14 @@ fn cwt_of<'a, F: NamedFiles>(
     let now = now_of(matches)?;
     let leeway = leeway_of(matches)?;
     let aud = text_of(matches, "aud");
+    let required = required_of(alloc, matches)?;
     let readable = flag_of(matches, "text");
     Ok(Cwt {
         checks,
         now,
         leeway,
         aud,
+        required,
         readable,
     })
 }

@@ -9,5 +9,6 @@ returns g c =
       now = c.in_ok-now.ensures ∙ ap Some (sym (to_z-of_z w64 c.in_ok-now.now in_range));
       leeway = c.in_ok-leeway.ensures;
       aud = search rules;
+      required = c.in_ok-required.ensures;
       readable = c.flag_of-readable.ensures;
     }
