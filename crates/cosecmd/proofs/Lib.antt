@@ -11,11 +11,13 @@ pub mod Options
 pub mod PayloadFiles
 pub mod Replies
 pub mod Shows
+pub mod Sizes
 pub mod Stated
 pub mod Trailing
 pub mod Vouches
 pub mod WorkedAdmitted
 pub mod WorkedDigests
+pub mod WorkedLimits
 pub mod WorkedMade
 pub mod WorkedOptions
 pub mod WorkedPayloads

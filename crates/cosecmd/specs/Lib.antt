@@ -4,6 +4,7 @@ pub mod Faults
 pub mod Fields
 pub mod Input
 pub mod Job
+pub mod Limits
 pub mod Options
 pub mod Payload
 pub mod PayloadFile

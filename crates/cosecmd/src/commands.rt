@@ -46,6 +46,9 @@ Exit status: 0 admitted, 1 refused, 2 no answer (command line, keys, memory, inp
 /// The values of `--kind`, the kinds of messages that are wanted.
 const KINDS: &[&str] = &["mac0", "sign1", "tagged"];
 
+/// The values of `--limits`.
+const LIMITS_NAMED: &[&str] = &["small", "large"];
+
 /// A payload has fewer bytes.
 const PAYLOAD: i64 = 1 << 56;
 
@@ -56,6 +59,8 @@ enum Value {
     Text,
     /// The kind of a message.
     Kind,
+    /// The limits of a run.
+    Limits,
     /// A time, in seconds since 1970.
     Time,
     /// A number of seconds.
@@ -165,6 +170,15 @@ const DIAGNOSTIC: CommandOption = CommandOption {
     value: Value::Flag,
     presence: Presence::Optional,
     help: "Print each pair in diagnostic notation too (RFC 8949 section 8), after its bytes",
+};
+
+/// The limits.
+const LIMITS: CommandOption = CommandOption {
+    name: "limits",
+    argument: "LIMITS",
+    value: Value::Limits,
+    presence: Presence::Optional,
+    help: "How much room there is: `small`, as without this option, or `large` (headers of 65,535 bytes nested 16 deep, 256 keys, claims of 65,535 bytes)",
 };
 
 /// The signature that is good.
@@ -295,28 +309,39 @@ const COMMANDS: &[Subcommand] = &[
         name: "show",
         about: "Shows the shape and the headers of the COSE message on standard input, under no key",
         notes: SHOW_NOTES,
-        options: &[KIND, DIAGNOSTIC],
+        options: &[KIND, DIAGNOSTIC, LIMITS],
         one_of: None,
     },
     Subcommand {
         name: "verify",
         about: "Verifies the COSE message on standard input and prints the verdict",
         notes: NOTES,
-        options: &[KEYS, KEYS_FILE, AAD, KIND, VOUCH, DETACHED, PAYLOAD_FILE],
+        options: &[
+            KEYS,
+            KEYS_FILE,
+            AAD,
+            KIND,
+            VOUCH,
+            DETACHED,
+            PAYLOAD_FILE,
+            LIMITS,
+        ],
         one_of: KEY_SET,
     },
     Subcommand {
         name: "cwt",
         about: "Admits the CBOR Web Token on standard input and prints its claims",
         notes: CWT_NOTES,
-        options: &[KEYS, KEYS_FILE, AAD, KIND, VOUCH, NOW, LEEWAY, AUD, TEXT],
+        options: &[
+            KEYS, KEYS_FILE, AAD, KIND, VOUCH, NOW, LEEWAY, AUD, TEXT, LIMITS,
+        ],
         one_of: KEY_SET,
     },
     Subcommand {
         name: "digest",
         about: "Prints what the signature of the COSE_Sign1 on standard input has to be verified with",
         notes: DIGEST_NOTES,
-        options: &[KEYS, KEYS_FILE, AAD, DETACHED, PAYLOAD_FILE],
+        options: &[KEYS, KEYS_FILE, AAD, DETACHED, PAYLOAD_FILE, LIMITS],
         one_of: KEY_SET,
     },
     Subcommand {
@@ -338,6 +363,7 @@ impl Value {
         match self {
             Value::Text | Value::Flag => arg,
             Value::Kind => arg.value_parser(KINDS),
+            Value::Limits => arg.value_parser(LIMITS_NAMED),
             Value::Time => arg.value_parser(value_parser!(i64).range(0..)),
             Value::Seconds => arg.value_parser(value_parser!(u32)),
             Value::Mac => arg.value_parser(value_parser!(u8).range(4..=7)),

@@ -3,7 +3,7 @@
 ghost use Rattle.std.specs.Prelude.{◌≡◌, ◌≢◌, ◌⊎◌, ℕ, List, Option, Some, None, IfErr, IfOk, length, take};
 ghost use Rattle.std.specs.Fs.{IsFile, file_type, metadata_len};
 ghost use Rattle.std.specs.IoError.{error_kind};
-ghost use Rattle.cosecmd.specs.Under.{program_keys};
+ghost use Rattle.cose_map.specs.KeySet.{keys_of};
 
 use crate::fault::Fault;
 use std::alloc::Global;
@@ -104,7 +104,7 @@ pub fn key_set_bytes<F: NamedFiles>(
     name: &str,
 ) -> Result<Vec<u8>, Fault>
     ensures keys { (bytes : List ℕ) → F.content files.now name.now ≡ Some bytes →
-        IfOk result (λ read. program_keys read.items ≡ program_keys bytes) }
+        IfOk result (λ read. keys_of read.items ≡ keys_of bytes) }
     ensures fault { IfErr result (λ fault. (fault ≡ Fault.Memory)
         ⊎ (fault ≡ Fault.File option.entry)) }
 {

@@ -13,6 +13,7 @@ mod fault;
 mod files;
 mod input;
 mod job;
+mod limits;
 mod line;
 mod mistake;
 mod payload_file;

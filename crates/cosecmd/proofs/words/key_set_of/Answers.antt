@@ -1,7 +1,7 @@
 use Rattle.std.proofs.Common.{ap, codes}
 use Rattle.std.proofs.lemmas.Result.{IfOk-weaker}
 use Rattle.cosecmd.specs.Options.{options_of}
-use Rattle.cosecmd.specs.Under.{program_keys}
+use Rattle.cose_map.specs.KeySet.{keys_of}
 use Rattle.cosecmd.proofs.Options.{given, left_out, of_named_file, of_no_file, where_known}
 use Rattle.cosecmd.proofs.words.key_set_of.Goals as goal
 
@@ -13,4 +13,4 @@ returns-in-Some g c =
 pub returns-in-None : goal.returns-in-None
 returns-in-None g c =
     let unnamed = left_out (codes "keys-file") (options_of c.args.matches.now) c.text_of.result c.text_of.ensures c.in-None.is in
-    IfOk-weaker c.bytes_of.result _ _ (λ keys has bytes known. ap program_keys (of_no_file _ _ _ _ bytes unnamed has known)) c.bytes_of.ensures
+    IfOk-weaker c.bytes_of.result _ _ (λ keys has bytes known. ap keys_of (of_no_file _ _ _ _ bytes unnamed has known)) c.bytes_of.ensures

@@ -11,19 +11,19 @@ use Rattle.cosecmd.proofs.answer.cwt.whole_token.Goals as goal
 pub returns-in_err-claims-clause-whole : goal.returns-in_err-claims-clause-whole
 returns-in_err-claims-clause-whole g c = λ setting bytes h e.
     let p = err_from_is_err_and c.from_residual.result c.from_residual.ensures.1 in
-    rw (p.1, p.2) (unless_admitted setting (vouching (option_map contents c.args.vouch.now.word)) (policy_value c.args.policy.now) bytes (Err c.in_err-claims.field-0.0) c.in_err-claims.field-0.0 refl (c.in_err-claims.ensures.token setting bytes h e))
+    rw (p.1, p.2) (unless_admitted g.row.H g.row.D setting (vouching (option_map contents c.args.vouch.now.word)) (policy_value c.args.policy.now) bytes (Err c.in_err-claims.field-0.0) c.in_err-claims.field-0.0 refl (c.in_err-claims.ensures.token setting bytes h e))
 
 pub returns-in-Ok-None-clause-whole : goal.returns-in-Ok-None-clause-whole
 returns-in-Ok-None-clause-whole g c = λ setting bytes h e.
-    is_alone setting (vouching (option_map contents c.args.vouch.now.word)) (policy_value c.args.policy.now) bytes _ _ (claims_value c.in_ok-claims.claims)
-    (left_of_run c.settled_stays.ensures.verdict setting (vouching (option_map contents c.args.vouch.now.word)) (policy_value c.args.policy.now) _ _ _ _ bytes _ (claims_value c.in_ok-claims.claims) _
+    is_alone g.row.H g.row.D setting (vouching (option_map contents c.args.vouch.now.word)) (policy_value c.args.policy.now) bytes _ _ (claims_value c.in_ok-claims.claims)
+    (left_of_run g.row.H g.row.D c.settled_stays.ensures.verdict setting (vouching (option_map contents c.args.vouch.now.word)) (policy_value c.args.policy.now) _ _ _ _ bytes _ (claims_value c.in_ok-claims.claims) _
     (c.in_ok-claims.ensures.run setting h) (c.in_ok-claims.ensures.token setting bytes h e) refl e c.taken.ensures.value)
     (λ rest s. sym c.in-Ok-None.field-0-is ∙ c.in-Ok-None.ensures.whole rest s)
 
 pub returns-in-Ok-Some-clause-whole : goal.returns-in-Ok-Some-clause-whole
 returns-in-Ok-Some-clause-whole g c = λ setting bytes h e.
-    is_followed setting (vouching (option_map contents c.args.vouch.now.word)) (policy_value c.args.policy.now) bytes _ _ (claims_value c.in_ok-claims.claims) c.in-Ok-Some.refusal
-    (left_of_run c.settled_stays.ensures.verdict setting (vouching (option_map contents c.args.vouch.now.word)) (policy_value c.args.policy.now) _ _ _ _ bytes _ (claims_value c.in_ok-claims.claims) _
+    is_followed g.row.H g.row.D setting (vouching (option_map contents c.args.vouch.now.word)) (policy_value c.args.policy.now) bytes _ _ (claims_value c.in_ok-claims.claims) c.in-Ok-Some.refusal
+    (left_of_run g.row.H g.row.D c.settled_stays.ensures.verdict setting (vouching (option_map contents c.args.vouch.now.word)) (policy_value c.args.policy.now) _ _ _ _ bytes _ (claims_value c.in_ok-claims.claims) _
     (c.in_ok-claims.ensures.run setting h) (c.in_ok-claims.ensures.token setting bytes h e) refl e c.taken.ensures.value)
     (λ rest s. sym c.in-Ok-Some.field-0-is ∙ c.in-Ok-Some.ensures.whole rest s)
 
