@@ -1,5 +1,5 @@
 -- How long and how deep a message may be, how many keys a key set may have, and how long the claims of a token may be.
-use Rattle.std.specs.Prelude.{◌≡◌, ℕ, ◌≤◌}
+use Rattle.std.specs.Prelude.{◌≡◌, ℕ}
 use Rattle.cosecmd.specs.declared.limits.Limits.{Limits}
 use Rattle.cosecmd.specs.declared.limits.Limits.TheVariants.{Small, Large}
 
@@ -20,11 +20,3 @@ pub record AreSizesUnder (limits : Limits) (header nesting keys : ℕ) : Type 0 
   pub header_is : (room_of limits).header ≡ header
   pub nesting_is : (room_of limits).nesting ≡ nesting
   pub keys_are : (room_of limits).keys ≡ keys
-
--- Sizes that a verifier and a table of keys may have.
-pub record AreSizes (header nesting keys : ℕ) : Type 0 where
-  pub some_header : 16 ≤ header
-  pub header_limit : header ≤ 65535
-  pub nesting_limit : nesting ≤ 32
-  pub some_keys : 1 ≤ keys
-  pub keys_limit : keys ≤ 256

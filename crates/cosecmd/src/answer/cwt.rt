@@ -15,7 +15,7 @@ ghost use Rattle.cose_cwt.specs.Confirmation.View.{cnf_value};
 ghost use Rattle.cose_cwt.specs.Token.{UnlessStopped, claims_seen, stop_in};
 ghost use Rattle.cosecmd.specs.Admitted.{bytes_line, claims_lines, confirmation_lines, date_line, input_token, key_line, program_policy, refused_line, text_line, where_present};
 ghost use Rattle.cosecmd.specs.Faults.{fails_by_input};
-ghost use Rattle.cosecmd.specs.Limits.{AreSizes, AreSizesUnder, room_of};
+ghost use Rattle.cosecmd.specs.Limits.{AreSizesUnder, room_of};
 ghost use Rattle.cosecmd.specs.Printed.{Says, admitted_under, outcome_said, token_setting};
 ghost use Rattle.cosecmd.specs.Readable.{date_notation, text_notation};
 ghost use Rattle.cosecmd.specs.Under.{job_under};
@@ -300,7 +300,7 @@ fn whole_token<'a, 'j, const H: usize, const D: usize, const N: usize, const L: 
     vouch: &Vouch,
     policy: &Policy,
 ) -> Result<Claims<'a>, CwtStop>
-    requires sizes { AreSizes H D N }
+    requires nesting { D ≤ 32 }
     requires some_store { 16 ≤ L }
     requires store_limit { L ≤ 65535 }
     requires verifies { is_inspecting verifier.old ≡ false }
@@ -337,6 +337,13 @@ fn admitted_reply<const H: usize, const D: usize, const N: usize, const L: usize
     readable: bool,
     intake: &mut I,
 ) -> Result<Reply, Fault>
+    requires some_room { 16 ≤ H }
+    requires limit { H ≤ 65535 }
+    requires nesting { D ≤ 32 }
+    requires some_keys { 1 ≤ N }
+    requires keys_limit { N ≤ 256 }
+    requires some_store { 16 ≤ L }
+    requires store_limit { L ≤ 65535 }
     requires sizes { AreSizesUnder checks.now.limits H D N }
     requires claims { (room_of checks.now.limits).claims ≡ L }
     requires external { length checks.now.aad.now ≤ 65535 }

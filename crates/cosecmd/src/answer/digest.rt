@@ -9,7 +9,7 @@ ghost use Rattle.cose_msg.specs.Kept.{bytes_taken};
 ghost use Rattle.cose_msg.specs.Shown.{sign_input_of};
 ghost use Rattle.cose_msg.specs.Verifier.{setting_of};
 ghost use Rattle.cosecmd.specs.Faults.{NamesOption, fails_by_file, fails_by_input};
-ghost use Rattle.cosecmd.specs.Limits.{AreSizes, AreSizesUnder};
+ghost use Rattle.cosecmd.specs.Limits.{AreSizesUnder};
 ghost use Rattle.cosecmd.specs.PayloadFile.{counted};
 ghost use Rattle.cosecmd.specs.Printed.{Says, digested_before, digested_in, digested_under, vouched, with_payload};
 ghost use Rattle.cosecmd.specs.Stated.{DigestedOf, digested_from};
@@ -79,7 +79,9 @@ fn attached_reply<'j, const H: usize, const D: usize, const N: usize, I: Intake>
     context: Context<'j, KeyTable<'j, N>>,
     intake: &mut I,
 ) -> Result<Reply, Fault>
-    requires sizes { AreSizes H D N }
+    requires some_room { 16 ≤ H }
+    requires limit { H ≤ 65535 }
+    requires nesting { D ≤ 32 }
     requires external { length context.aad.now ≤ 65535 }
     ensures says { (bytes : List ℕ) → I.to_come intake.old ≡ Some bytes →
         IfOk result (Says (digested_in H D (setting_of usable context.entry) bytes)) }
@@ -109,7 +111,9 @@ fn detached_reply<'j, const H: usize, const D: usize, const N: usize, I: Intake,
     payload: &mut P,
     intake: &mut I,
 ) -> Result<Reply, Fault>
-    requires sizes { AreSizes H D N }
+    requires some_room { 16 ≤ H }
+    requires limit { H ≤ 65535 }
+    requires nesting { D ≤ 32 }
     requires external { length context.aad.now ≤ 65535 }
     ensures came { (bytes : List ℕ) → I.to_come intake.old ≡ Some bytes →
         IfOk result (λ said. DigestedOf H D (setting_of usable context.entry) payload_length bytes
@@ -147,7 +151,9 @@ fn reply_with_bytes<'j, const H: usize, const D: usize, const N: usize, I: Intak
     payload: &[u8],
     intake: &mut I,
 ) -> Result<Reply, Fault>
-    requires sizes { AreSizes H D N }
+    requires some_room { 16 ≤ H }
+    requires limit { H ≤ 65535 }
+    requires nesting { D ≤ 32 }
     requires external { length context.aad.now ≤ 65535 }
     ensures says { (bytes : List ℕ) → I.to_come intake.old ≡ Some bytes →
         IfOk result
@@ -171,6 +177,11 @@ fn digested_reply<const H: usize, const D: usize, const N: usize, I: Intake>(
     payload: Option<&[u8]>,
     intake: &mut I,
 ) -> Result<Reply, Fault>
+    requires some_room { 16 ≤ H }
+    requires limit { H ≤ 65535 }
+    requires nesting { D ≤ 32 }
+    requires some_keys { 1 ≤ N }
+    requires keys_limit { N ≤ 256 }
     requires sizes { AreSizesUnder checks.now.limits H D N }
     requires external { length checks.now.aad.now ≤ 65535 }
     ensures says { (bytes : List ℕ) → I.to_come intake.old ≡ Some bytes →
@@ -229,6 +240,11 @@ fn digested_with_file<const H: usize, const D: usize, const N: usize, I: Intake,
     payload: &mut PayloadFile<R>,
     intake: &mut I,
 ) -> Result<Reply, Fault>
+    requires some_room { 16 ≤ H }
+    requires limit { H ≤ 65535 }
+    requires nesting { D ≤ 32 }
+    requires some_keys { 1 ≤ N }
+    requires keys_limit { N ≤ 256 }
     requires sizes { AreSizesUnder job.now.checks.limits H D N }
     requires external { length job.now.checks.aad.now ≤ 65535 }
     requires sound { ⟦<PayloadFile<R> as Intake>⟧.has_failed payload.old ≡ false }

@@ -9,7 +9,7 @@ ghost use Rattle.cose_msg.specs.Detached.{EitherFails};
 ghost use Rattle.cose_msg.specs.Verifier.{setting_of};
 ghost use Rattle.cose_msg.specs.declared.verdict.Verdict.{Verdict};
 ghost use Rattle.cosecmd.specs.Faults.{NamesOption, fails_by_file, fails_by_input};
-ghost use Rattle.cosecmd.specs.Limits.{AreSizes, AreSizesUnder};
+ghost use Rattle.cosecmd.specs.Limits.{AreSizesUnder};
 ghost use Rattle.cosecmd.specs.PayloadFile.{counted, left_of};
 ghost use Rattle.cosecmd.specs.Printed.{Says, input_answer, trailing_refusal, program_setting, said_of, verified_under, verified_with, followed_by, with_payload};
 ghost use Rattle.cosecmd.specs.Stated.{CameOf, verified_from};
@@ -119,7 +119,9 @@ fn input_verdict<'j, const H: usize, const D: usize, const N: usize, I: Intake>(
     vouch: &Vouch<'j>,
     intake: &mut I,
 ) -> Result<Verdict, Fault>
-    requires sizes { AreSizes H D N }
+    requires some_room { 16 ≤ H }
+    requires limit { H ≤ 65535 }
+    requires nesting { D ≤ 32 }
     requires external { length context.aad.now ≤ 65535 }
     ensures verdict { (bytes : List ℕ) → I.to_come intake.old ≡ Some bytes →
         IfOk result (λ verdict. input_answer H D (setting_of usable context.entry)
@@ -145,7 +147,9 @@ fn detached_verdict<'j, const H: usize, const D: usize, const N: usize, I: Intak
     payload: &mut P,
     intake: &mut I,
 ) -> Result<Verdict, Fault>
-    requires sizes { AreSizes H D N }
+    requires some_room { 16 ≤ H }
+    requires limit { H ≤ 65535 }
+    requires nesting { D ≤ 32 }
     requires external { length context.aad.now ≤ 65535 }
     ensures verdict { (bytes more : List ℕ) → I.to_come intake.old ≡ Some bytes →
         P.to_come payload.old ≡ Some more → length more ≡ payload_length →
@@ -186,7 +190,9 @@ fn verdict_with_bytes<'j, const H: usize, const D: usize, const N: usize, I: Int
     payload: &[u8],
     intake: &mut I,
 ) -> Result<Verdict, Fault>
-    requires sizes { AreSizes H D N }
+    requires some_room { 16 ≤ H }
+    requires limit { H ≤ 65535 }
+    requires nesting { D ≤ 32 }
     requires external { length context.aad.now ≤ 65535 }
     ensures verdict { (bytes : List ℕ) → I.to_come intake.old ≡ Some bytes →
         IfOk result
@@ -207,7 +213,9 @@ fn verdict_of_input<'j, const H: usize, const D: usize, const N: usize, I: Intak
     payload: Option<&[u8]>,
     intake: &mut I,
 ) -> Result<Verdict, Fault>
-    requires sizes { AreSizes H D N }
+    requires some_room { 16 ≤ H }
+    requires limit { H ≤ 65535 }
+    requires nesting { D ≤ 32 }
     requires external { length context.aad.now ≤ 65535 }
     ensures verdict { (bytes : List ℕ) → I.to_come intake.old ≡ Some bytes →
         IfOk result
@@ -231,6 +239,11 @@ fn verified_reply<const H: usize, const D: usize, const N: usize, I: Intake>(
     payload: Option<&[u8]>,
     intake: &mut I,
 ) -> Result<Reply, Fault>
+    requires some_room { 16 ≤ H }
+    requires limit { H ≤ 65535 }
+    requires nesting { D ≤ 32 }
+    requires some_keys { 1 ≤ N }
+    requires keys_limit { N ≤ 256 }
     requires sizes { AreSizesUnder checks.now.limits H D N }
     requires external { length checks.now.aad.now ≤ 65535 }
     ensures says { (bytes : List ℕ) → I.to_come intake.old ≡ Some bytes →
@@ -288,6 +301,11 @@ fn reply_with_file<const H: usize, const D: usize, const N: usize, I: Intake, R:
     payload: &mut PayloadFile<R>,
     intake: &mut I,
 ) -> Result<Reply, Fault>
+    requires some_room { 16 ≤ H }
+    requires limit { H ≤ 65535 }
+    requires nesting { D ≤ 32 }
+    requires some_keys { 1 ≤ N }
+    requires keys_limit { N ≤ 256 }
     requires sizes { AreSizesUnder job.now.checks.limits H D N }
     requires external { length job.now.checks.aad.now ≤ 65535 }
     requires sound { ⟦<PayloadFile<R> as Intake>⟧.has_failed payload.old ≡ false }
