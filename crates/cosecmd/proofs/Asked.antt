@@ -13,6 +13,7 @@ use Rattle.cosecmd.specs.declared.job.Job.{Job}
 use Rattle.cosecmd.specs.declared.job.Job.TheVariants.{Cwt, Keys, Make}
 use Rattle.cosecmd.specs.declared.job.Question.{Question}
 use Rattle.cosecmd.specs.declared.job.Question.TheVariants as questions
+use Rattle.cosecmd.specs.declared.limits.Limits.{Limits}
 use Rattle.cosecmd.specs.declared.request.Cwt.{Cwt as CwtWords}
 use Rattle.cosecmd.specs.declared.request.Keys.{Keys as KeysWords}
 use Rattle.cosecmd.specs.declared.request.Make.{Make as MakeWords}
@@ -41,7 +42,7 @@ fails_with old new e fails = subst (λ (output : Output). Fails output old new) 
 -- A message is made only by the command of this name.
 pub not_made : (request : Request) (A : Type 0) → (makes request ≡ true → A) → (A → ⊥) → makes request ≡ false
 not_made (asks.Make words) A by_name other = absurd (other (by_name refl))
-not_made (asks.Show wanted diagnostic) A by_name other = refl
+not_made (asks.Show limits wanted diagnostic) A by_name other = refl
 not_made (asks.Message question checks from) A by_name other = refl
 not_made (asks.Cwt words) A by_name other = refl
 not_made (asks.Keys words) A by_name other = refl
@@ -79,9 +80,9 @@ pub make_words : (words : MakeWords) (key aad : Bor (List ℕ)) (kid : Option (B
 unfolding printed
 make_words words key aad kid bytes k a v = rw (k, a, v) refl
 
-pub show_words : (request : Request) (wanted : Wanted) (diagnostic : Bool) (payload : Option (List ℕ)) (bytes : List ℕ) → request ≡ asks.Show wanted diagnostic →
-    shown wanted diagnostic bytes ≡ asked_for request payload bytes
-show_words request wanted diagnostic payload bytes is = rw is refl
+pub show_words : (request : Request) (limits : Limits) (wanted : Wanted) (diagnostic : Bool) (payload : Option (List ℕ)) (bytes : List ℕ) → request ≡ asks.Show limits wanted diagnostic →
+    shown limits wanted diagnostic bytes ≡ asked_for request payload bytes
+show_words request limits wanted diagnostic payload bytes is = rw is refl
 
 -- ---- a payload in a file
 

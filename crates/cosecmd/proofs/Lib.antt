@@ -13,11 +13,13 @@ pub mod PayloadFiles
 pub mod Replies
 pub mod RequiredOptions
 pub mod Shows
+pub mod Sizes
 pub mod Stated
 pub mod Trailing
 pub mod Vouches
 pub mod WorkedAdmitted
 pub mod WorkedDigests
+pub mod WorkedLimits
 pub mod WorkedListed
 pub mod WorkedMade
 pub mod WorkedOptions

@@ -197,13 +197,13 @@ found = record { key = record { kid = None; alg = None; operations = None; mater
 
 unfoldable said_behind : ℕ → ℕ → Bool → Output
 unfolding said
-said_behind now n holds = outcome_said false (token_told n (program_policy (pos now) 0 None) (nothing now 0) (hex example)
+said_behind now n holds = outcome_said false (token_told 8 n (program_policy (pos now) 0 None) (nothing now 0) (hex example)
     (verified [] (vouching None) (Some found) (if holds then decided (Authentic Mac0 Hmac256 80 123) else refused BadAuth 89)))
 
 -- For an authentic message with this payload; its claims nest at most 8 deep.
 unfoldable said_of_payload : List ℕ → Output
 unfolding said
-said_of_payload payload = outcome_said false (token_told 0 (program_policy (pos 0) 0 None) (nothing 0 0) payload (decided (Authentic Mac0 Hmac256 0 0)))
+said_of_payload payload = outcome_said false (token_told 8 0 (program_policy (pos 0) 0 None) (nothing 0 0) payload (decided (Authentic Mac0 Hmac256 0 0)))
 
 nested_claims : Prints said_of_payload (
     ("a10a8181818181818100", lines ("admitted" ∷ [])) ∷

@@ -75,21 +75,22 @@ unless_trailed n taken (Err stop) = Err stop
 abbrev pub none_told : Admission
 none_told = Err (Cwt (stops.Stopped causes.Again))
 
--- The outcome for an input of n bytes as a token, by the payload and the answer of its message. Claims nest at most 8
--- deep.
-abbrev pub token_told : ℕ → PolicyValue → RequirementsValue → List ℕ → Answer → Admission
-token_told n policy requirements payload (decided (Authentic kind alg size taken)) =
-    unless_trailed n taken (if_admitted requirements (of_claims (admitted_claims 8 policy payload)))
-token_told n policy requirements payload (decided (Refused refusal)) = Err (Cwt (stops.Message refusal))
-token_told n policy requirements payload (complete whole) = none_told
-token_told n policy requirements payload (shaped kind size auth taken) = none_told
+-- The outcome for an input of n bytes as a token, by the payload and the answer of its message. Claims nest at most
+-- `nesting` deep.
+abbrev pub token_told : ℕ → ℕ → PolicyValue → RequirementsValue → List ℕ → Answer → Admission
+token_told nesting n policy requirements payload (decided (Authentic kind alg size taken)) =
+    unless_trailed n taken (if_admitted requirements (of_claims (admitted_claims nesting policy payload)))
+token_told nesting n policy requirements payload (decided (Refused refusal)) = Err (Cwt (stops.Message refusal))
+token_told nesting n policy requirements payload (complete whole) = none_told
+token_told nesting n policy requirements payload (shaped kind size auth taken) = none_told
 
-abbrev pub token_read : ℕ → PolicyValue → RequirementsValue → Reading → Admission
-token_read n policy requirements reading = token_told n policy requirements reading.told.payload reading.answer
+abbrev pub token_read : ℕ → ℕ → PolicyValue → RequirementsValue → Reading → Admission
+token_read nesting n policy requirements reading = token_told nesting n policy requirements reading.told.payload reading.answer
 
--- The token that a whole input is, in buckets of at most 1,024 bytes that nest at most 8 deep.
-abbrev pub input_token : Setting → Decides → PolicyValue → RequirementsValue → List ℕ → Admission
-input_token setting decides policy requirements bytes = token_read (length bytes) policy requirements (read_as 1024 8 setting decides bytes)
+-- The token that a whole input is, in buckets of at most `header` bytes that nest at most `nesting` deep.
+abbrev pub input_token : ℕ → ℕ → Setting → Decides → PolicyValue → RequirementsValue → List ℕ → Admission
+input_token header nesting setting decides policy requirements bytes =
+    token_read nesting (length bytes) policy requirements (read_as header nesting setting decides bytes)
 
 -- A line for a value, where there is one, and otherwise none.
 abbrev pub where_present : {A : Type 0} → (A → List ℕ) → Option A → List ℕ

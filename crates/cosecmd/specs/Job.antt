@@ -8,7 +8,7 @@ use Rattle.cosecmd.specs.declared.job.Question.{Question}
 use Rattle.cosecmd.specs.declared.job.Question.TheVariants as questions
 
 abbrev pub aad_of : Job → List ℕ
-aad_of (Show wanted diagnostic) = []
+aad_of (Show limits wanted diagnostic) = []
 aad_of (Verify checks payload) = checks.aad.now
 aad_of (Cwt checks now leeway aud requirements readable) = checks.aad.now
 aad_of (Digest checks payload) = checks.aad.now
@@ -17,7 +17,7 @@ aad_of (Make alg key length kid aad) = aad.now
 
 abbrev pub is_make : Job → Bool
 is_make (Make alg key length kid aad) = true
-is_make (Show wanted diagnostic) = false
+is_make (Show limits wanted diagnostic) = false
 is_make (Verify checks payload) = false
 is_make (Cwt checks now leeway aud requirements readable) = false
 is_make (Digest checks payload) = false

@@ -5,6 +5,7 @@ pub mod Fields
 pub mod Input
 pub mod Job
 pub mod KeysListed
+pub mod Limits
 pub mod Options
 pub mod Payload
 pub mod PayloadFile

@@ -11,6 +11,8 @@ use Rattle.cose_head.specs.declared.algorithm.Alg.{Alg}
 use Rattle.cose_head.specs.Algorithm.{algorithm_numbered}
 use Rattle.cose_msg.specs.declared.context.Wanted.{Wanted}
 use Rattle.cose_msg.specs.declared.context.Wanted.TheVariants as wants
+use Rattle.cosecmd.specs.declared.limits.Limits.{Limits}
+use Rattle.cosecmd.specs.declared.limits.Limits.TheVariants as limits
 
 -- The options of one command, each with its arguments, and with its default where it is left out.
 abbrev pub Options : Type 0
@@ -66,13 +68,20 @@ number_in name options = option_map (λ text. digits_value 10 (without_leading_p
 abbrev pub integer_in : Text → Options → Option ℤ
 integer_in name options = option_map (signed_digits_value 10) (one_of name options)
 
--- ---- kinds and algorithms
+-- ---- kinds, limits and algorithms
 
 abbrev pub kind_named : Text → Wanted
 kind_named text = if bytes_eq text (codes "mac0") then wants.Mac0 else if bytes_eq text (codes "sign1") then wants.Sign1 else wants.Tagged
 
 abbrev pub kind_in : Options → Wanted
 kind_in options = kind_named (unwrap_or (text_in (codes "kind") options) (codes "tagged"))
+
+-- The limits are small where they aren't large.
+abbrev pub limits_named : Text → Limits
+limits_named text = if bytes_eq text (codes "large") then limits.Large else limits.Small
+
+abbrev pub limits_in : Options → Limits
+limits_in options = limits_named (unwrap_or (text_in (codes "limits") options) (codes "small"))
 
 -- An option without an argument: clap gives it the argument `true`, and `false` where it is left out.
 abbrev pub flag_in : Text → Options → Bool

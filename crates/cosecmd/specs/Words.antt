@@ -23,14 +23,14 @@ made_for words bytes =
 -- The detached payload that the arguments of `verify` or `digest` name, as far as it is known. No other command has one.
 abbrev pub payload_for : (List ℕ → Option (List ℕ)) → Request → Option (Option (List ℕ))
 payload_for content (asks.Message question checks payload) = detached_in content payload
-payload_for content (asks.Show wanted diagnostic) = Some None
+payload_for content (asks.Show limits wanted diagnostic) = Some None
 payload_for content (asks.Cwt words) = Some None
 payload_for content (asks.Keys words) = Some None
 payload_for content (asks.Make words) = Some None
 
 -- With this detached payload, where there is one.
 abbrev pub asked_for : Request → Option (List ℕ) → List ℕ → Output
-asked_for (asks.Show wanted diagnostic) payload bytes = shown wanted diagnostic bytes
+asked_for (asks.Show limits wanted diagnostic) payload bytes = shown limits wanted diagnostic bytes
 asked_for (asks.Message question checks from) payload bytes = answered_under question (owned_under checks) payload bytes
 asked_for (asks.Cwt words) payload bytes = admitted_for words bytes
 asked_for (asks.Keys words) payload bytes = keys_listed words.keys.items
@@ -39,7 +39,7 @@ asked_for (asks.Make words) payload bytes = made_for words bytes
 -- Whether a message is to be made.
 abbrev pub makes : Request → Bool
 makes (asks.Make words) = true
-makes (asks.Show wanted diagnostic) = false
+makes (asks.Show limits wanted diagnostic) = false
 makes (asks.Message question checks from) = false
 makes (asks.Cwt words) = false
 makes (asks.Keys words) = false

@@ -43,8 +43,12 @@ fn status_of<R: Read, W: Write>(alloc: Global, job: &Job, input: &mut R, output:
         ⊎ WritesLine Fault.Memory (W.contents output.old) (W.contents output.new)) }
 {
     match job {
-        Job::Show { wanted, diagnostic } => {
-            let reply = show_reply(alloc, *wanted, *diagnostic, input);
+        Job::Show {
+            limits,
+            wanted,
+            diagnostic,
+        } => {
+            let reply = show_reply(alloc, *limits, *wanted, *diagnostic, input);
             print_reply(alloc, reply, output)
         }
         Job::Verify { checks, payload } => {

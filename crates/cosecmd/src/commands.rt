@@ -70,6 +70,9 @@ const KINDS: &[&str] = &["mac0", "sign1", "tagged"];
 /// The values of `--require`, the registered claims (RFC 8392 section 3.1).
 const CLAIMS: &[&str] = &["iss", "sub", "aud", "exp", "nbf", "iat", "cti"];
 
+/// The values of `--limits`.
+const LIMITS_NAMED: &[&str] = &["small", "large"];
+
 /// A payload has fewer bytes.
 const PAYLOAD: i64 = 1 << 56;
 
@@ -82,6 +85,8 @@ enum Value {
     Kind,
     /// The name of a claim. The option may be there several times.
     Claim,
+    /// The limits of a run.
+    Limits,
     /// A time, in seconds since 1970.
     Time,
     /// A number of seconds.
@@ -195,6 +200,15 @@ const DIAGNOSTIC: CommandOption = CommandOption {
     value: Value::Flag,
     presence: Presence::Optional,
     help: "Print each pair in diagnostic notation too (RFC 8949 section 8), after its bytes",
+};
+
+/// The limits.
+const LIMITS: CommandOption = CommandOption {
+    name: "limits",
+    argument: "LIMITS",
+    value: Value::Limits,
+    presence: Presence::Optional,
+    help: "How much room there is: `small`, as without this option, or `large` (headers of 65,535 bytes nested 16 deep, 256 keys, claims of 65,535 bytes)",
 };
 
 /// The signature that is good.
@@ -388,7 +402,7 @@ const COMMANDS: &[Subcommand] = &[
         name: "show",
         about: "Shows the shape and the headers of the COSE message on standard input, under no key",
         notes: SHOW_NOTES,
-        options: &[KIND, DIAGNOSTIC],
+        options: &[KIND, DIAGNOSTIC, LIMITS],
         one_of: None,
     },
     Subcommand {
@@ -404,6 +418,7 @@ const COMMANDS: &[Subcommand] = &[
             DETACHED,
             PAYLOAD_FILE,
             PAYLOAD_LENGTH,
+            LIMITS,
         ],
         one_of: KEY_SET,
     },
@@ -427,6 +442,7 @@ const COMMANDS: &[Subcommand] = &[
             MAX_LIFETIME,
             MAX_AGE,
             TEXT,
+            LIMITS,
         ],
         one_of: KEY_SET,
     },
@@ -434,7 +450,15 @@ const COMMANDS: &[Subcommand] = &[
         name: "digest",
         about: "Prints what the signature of the COSE_Sign1 on standard input has to be verified with",
         notes: DIGEST_NOTES,
-        options: &[KEYS, KEYS_FILE, AAD, DETACHED, PAYLOAD_FILE, PAYLOAD_LENGTH],
+        options: &[
+            KEYS,
+            KEYS_FILE,
+            AAD,
+            DETACHED,
+            PAYLOAD_FILE,
+            PAYLOAD_LENGTH,
+            LIMITS,
+        ],
         one_of: KEY_SET,
     },
     Subcommand {
@@ -464,6 +488,7 @@ impl Value {
             Value::Text | Value::Flag => arg,
             Value::Kind => arg.value_parser(KINDS),
             Value::Claim => arg.value_parser(CLAIMS).action(ArgAction::Append),
+            Value::Limits => arg.value_parser(LIMITS_NAMED),
             Value::Time => arg.value_parser(value_parser!(i64).range(0..)),
             Value::Seconds => arg.value_parser(value_parser!(u32)),
             Value::Duration => arg.value_parser(value_parser!(u64)),

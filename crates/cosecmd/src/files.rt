@@ -3,8 +3,8 @@
 ghost use Rattle.std.specs.Prelude.{◌≡◌, ◌≢◌, ◌⊎◌, ℕ, List, Option, Some, None, IfErr, IfOk, length, take, unwrap_or};
 ghost use Rattle.std.specs.Fs.{IsFile, file_type, metadata_len};
 ghost use Rattle.std.specs.IoError.{error_kind};
+ghost use Rattle.cose_map.specs.KeySet.{keys_of};
 ghost use Rattle.cosecmd.specs.Printed.{keys_listed};
-ghost use Rattle.cosecmd.specs.Under.{program_keys};
 
 use crate::fault::Fault;
 use std::alloc::Global;
@@ -124,7 +124,7 @@ pub fn key_set_bytes<F: NamedFiles>(
     name: &str,
 ) -> Result<Vec<u8>, Fault>
     ensures keys { (bytes : List ℕ) → F.content files.now name.now ≡ Some bytes →
-        IfOk result (λ read. program_keys read.items ≡ program_keys bytes) }
+        IfOk result (λ read. keys_of read.items ≡ keys_of bytes) }
     ensures listed { (bytes : List ℕ) → F.content files.now name.now ≡ Some bytes →
         IfOk result (λ read. keys_listed read.items ≡ keys_listed bytes) }
     ensures fault { IfErr result (λ fault. (fault ≡ Fault.Memory)

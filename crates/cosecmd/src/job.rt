@@ -3,6 +3,7 @@
 ghost use Rattle.std.specs.Prelude.{◌≡◌};
 ghost use Rattle.cosecmd.specs.Job.{job_of};
 
+use crate::limits::Limits;
 use cose_cwt::Requirements;
 use cose_msg::{Alg, Wanted};
 
@@ -17,6 +18,8 @@ pub struct Checks<'j> {
     pub wanted: Wanted,
     /// The argument of `--vouch`, where there is one.
     pub vouch: Option<&'j [u8]>,
+    /// How long and how deep it may be, and how many keys there may be.
+    pub limits: Limits,
 }
 
 /// What is asked of a message, whose payload may be elsewhere.
@@ -45,6 +48,8 @@ impl Question {
 pub enum Job<'j> {
     /// To show what the message on the input has in its headers, under no key.
     Show {
+        /// How long and how deep it may be.
+        limits: Limits,
         /// The kinds of messages that are wanted.
         wanted: Wanted,
         /// Whether each pair is printed in diagnostic notation too (RFC 8949 section 8).

@@ -14,6 +14,7 @@ mod files;
 mod hints;
 mod input;
 mod job;
+mod limits;
 mod line;
 mod mistake;
 mod noted_files;

@@ -3,6 +3,7 @@
 ghost use Rattle.std.specs.Prelude.{◌≤◌, length as length_of};
 
 use crate::job::Question;
+use crate::limits::Limits;
 use crate::required::Required;
 use cose_msg::{Alg, Wanted};
 
@@ -17,6 +18,8 @@ pub struct OwnedChecks {
     pub wanted: Wanted,
     /// The argument of `--vouch`, where there is one.
     pub vouch: Option<Vec<u8>>,
+    /// How long and how deep it may be, and how many keys there may be.
+    pub limits: Limits,
     ghost external: { length_of aad.items ≤ 65535 },
 }
 
@@ -81,6 +84,8 @@ pub enum Payload<'w> {
 pub enum Request<'w> {
     /// To show a message of these kinds.
     Show {
+        /// How long and how deep it may be.
+        limits: Limits,
         /// The kinds of messages that are wanted.
         wanted: Wanted,
         /// Whether each pair is printed in diagnostic notation too.

@@ -14,6 +14,7 @@ use crate::checks::slice_of;
 use crate::fault::Fault;
 use crate::files::{NamedFiles, NoFiles};
 use crate::job::{Checks, FileJob, Job, Question};
+use crate::limits::Limits;
 use crate::print::{print, print_fault};
 use crate::request::{Cwt, Keys, Make, OwnedChecks, Payload, Request};
 use crate::required::requirements_of;
@@ -26,6 +27,7 @@ use std::io::{Read, Write};
 /// The job of the command `show`.
 fn answer_show<R: Read, W: Write>(
     alloc: Global,
+    limits: Limits,
     wanted: Wanted,
     diagnostic: bool,
     input: &mut R,
@@ -33,12 +35,17 @@ fn answer_show<R: Read, W: Write>(
 ) -> u8
     ensures status { result ≤ 2 }
     ensures printed { (bytes : List ℕ) → R.remaining input.old ≡ Some bytes →
-        EndsWith (shown wanted diagnostic bytes) (W.contents output.old) (W.contents output.new)
+        EndsWith (shown limits wanted diagnostic bytes) (W.contents output.old) (W.contents output.new)
         result }
     ensures fails { (bytes : List ℕ) → R.remaining input.old ≡ Some bytes → result ≡ 2 →
-        Fails (shown wanted diagnostic bytes) (W.contents output.old) (W.contents output.new) }
+        Fails (shown limits wanted diagnostic bytes) (W.contents output.old) (W.contents output.new) }
 {
-    answer(alloc, &Job::Show { wanted, diagnostic }, input, output)
+    let job = Job::Show {
+        limits,
+        wanted,
+        diagnostic,
+    };
+    answer(alloc, &job, input, output)
 }
 
 /// What is asked of a message, where the payload is in the file of this name.
@@ -189,9 +196,11 @@ fn answer_request<F: NamedFiles, R: Read, W: Write>(
         (W.contents output.new) }
 {
     match request {
-        Request::Show { wanted, diagnostic } => {
-            answer_show(alloc, *wanted, *diagnostic, input, output)
-        }
+        Request::Show {
+            limits,
+            wanted,
+            diagnostic,
+        } => answer_show(alloc, *limits, *wanted, *diagnostic, input, output),
         Request::Message {
             question,
             checks,

@@ -5,7 +5,7 @@ ghost use Rattle.clap.specs.Matches.{first_value, found_of, subcommand_name_of};
 ghost use Rattle.cose_cwt.specs.Claims.Audience.{text_value};
 ghost use Rattle.cosecmd.specs.CommandLine.{AsksFor, IsReadFrom, begins_as_answer, digest_prints, matches_print, verify_prints};
 ghost use Rattle.cosecmd.specs.Fields.{AreChecks, CwtFields, HasKeysOf, IsKeyOf, IsListedAs, KeysFields, MakeFields, checks_in, digest_checks_in};
-ghost use Rattle.cosecmd.specs.Options.{algorithm_in, bytes_in, flag_in, hex_bytes, integer_in, kind_in, kind_named, number_in, optional_bytes_in, options_of, payload_in, text_in};
+ghost use Rattle.cosecmd.specs.Options.{algorithm_in, bytes_in, flag_in, hex_bytes, integer_in, kind_in, kind_named, limits_in, limits_named, number_in, optional_bytes_in, options_of, payload_in, text_in};
 ghost use Rattle.cosecmd.specs.Payload.{IsFile, detached_in};
 ghost use Rattle.cosecmd.specs.Printed.{Output};
 ghost use Rattle.cosecmd.specs.Words.{makes};
@@ -14,6 +14,7 @@ use crate::commands::line;
 use crate::fault::Fault;
 use crate::files::{NamedFiles, key_bytes, key_set_bytes};
 use crate::job::Question;
+use crate::limits::Limits;
 use crate::mistake::mistake;
 use crate::reply::{Reply, Status};
 use crate::request::{Cwt, Keys, Make, OwnedChecks, Payload, Request};
@@ -177,6 +178,23 @@ fn kind_of(matches: &ArgMatches) -> Wanted
     wanted_of(text_of(matches, "kind").unwrap_or("tagged"))
 }
 
+/// The limits for a value of `--limits`.
+fn limits_named_by(word: &str) -> Limits
+    ensures { result ≡ limits_named word.now }
+{
+    match word {
+        "large" => Limits::Large,
+        _ => Limits::Small,
+    }
+}
+
+/// The limits that the arguments name.
+fn limits_of(matches: &ArgMatches) -> Limits
+    ensures { result ≡ limits_in (options_of matches.now) }
+{
+    limits_named_by(text_of(matches, "limits").unwrap_or("small"))
+}
+
 /// Whether an option without an argument is there.
 pub fn flag_of(matches: &ArgMatches, option: &str) -> bool
     ensures { result ≡ flag_in option.now (options_of matches.now) }
@@ -289,11 +307,13 @@ fn checks_of<F: NamedFiles>(
     let aad = external_of(alloc, matches)?;
     let wanted = kind_of(matches);
     let vouch = optional_bytes_of(alloc, matches, "vouch")?;
+    let limits = limits_of(matches);
     Ok(OwnedChecks {
         keys,
         aad,
         wanted,
         vouch,
+        limits,
     })
 }
 
@@ -332,11 +352,13 @@ fn digest_checks_of<F: NamedFiles>(
 {
     let keys = key_set_of(alloc, files, matches)?;
     let aad = external_of(alloc, matches)?;
+    let limits = limits_of(matches);
     Ok(OwnedChecks {
         keys,
         aad,
         wanted: Wanted::Sign1,
         vouch: None,
+        limits,
     })
 }
 
@@ -431,6 +453,7 @@ pub fn request_of<'a, F: NamedFiles>(
 {
     if let Some(show) = matches.subcommand_matches("show") {
         return Ok(Request::Show {
+            limits: limits_of(show),
             wanted: kind_of(show),
             diagnostic: flag_of(show, "diagnostic"),
         });

@@ -15,15 +15,20 @@ ghost use Rattle.cose_cwt.specs.Confirmation.View.{cnf_value};
 ghost use Rattle.cose_cwt.specs.Requirements.View.{requirements_value};
 ghost use Rattle.cosecmd.specs.Admitted.{admission_seen, bytes_line, claims_lines, confirmation_lines, date_line, input_token, key_line, or_trailing, program_policy, refused_line, required_then, stopped_in, text_line, where_present};
 ghost use Rattle.cosecmd.specs.Faults.{fails_by_input};
+ghost use Rattle.cosecmd.specs.Limits.{AreSizesUnder, room_of};
 ghost use Rattle.cosecmd.specs.Printed.{Says, admitted_under, outcome_said, token_setting, trailing_refusal};
 ghost use Rattle.cosecmd.specs.Readable.{date_notation, text_notation};
-ghost use Rattle.cosecmd.specs.Under.{job_under, program_keys};
+ghost use Rattle.cosecmd.specs.Under.{job_under};
 ghost use Rattle.cosecmd.specs.Vouch.{vouching};
 
 use crate::answer::unmet::unmet_reply;
-use crate::answer::verify::{CHUNK, HEADER, KEYS, NESTING, program_context, trailing_at};
+use crate::answer::verify::{CHUNK, program_context, trailing_at};
 use crate::fault::Fault;
 use crate::job::Checks;
+use crate::limits::{
+    LARGE_CLAIMS, LARGE_HEADER, LARGE_KEYS, LARGE_NESTING, Limits, SMALL_CLAIMS, SMALL_HEADER,
+    SMALL_KEYS, SMALL_NESTING,
+};
 use crate::reply::{Reply, Status};
 use crate::vouch::Vouch;
 use cose_cwt::{Audience, Auds, Claims, Cnf, CwtStop, Policy, Requirements, TokenStop, verify_cwt};
@@ -36,9 +41,6 @@ use cose_text::{Date, push_quoted};
 use std::alloc::Global;
 use std::io::Read;
 use std::slice;
-
-/// The most bytes of the claims of a token.
-const CLAIMS: usize = 4_096;
 
 /// What a token has to meet: where there is a text and the token names an audience, the token is for that text.
 pub fn policy_of<'j>(now: i64, leeway: u32, aud: &'j Option<&'j str>) -> Policy<'j>
@@ -276,14 +278,18 @@ fn token_reply(
     }
 }
 
-/// The context of a token: that of a message, with a payload that the store holds.
-fn token_context<'j, S: Keys<'j>>(keys: S, aad: &'j [u8], wanted: Wanted) -> Context<'j, S>
+/// The context of a token: that of a message, with a payload of at most `L` bytes, which the store holds.
+fn token_context<'j, const L: usize, S: Keys<'j>>(
+    keys: S,
+    aad: &'j [u8],
+    wanted: Wanted,
+) -> Context<'j, S>
     ensures setting { setting_of S.usable result
-        ≡ token_setting (S.usable keys) aad.entry.now wanted }
+        ≡ token_setting L (S.usable keys) aad.entry.now wanted }
     ensures external { result.aad ≡ aad.entry }
 {
     Context {
-        payload_limit: CLAIMS as u64,
+        payload_limit: L as u64,
         ..program_context(keys, aad, wanted)
     }
 }
@@ -329,23 +335,26 @@ fn required_claims<'a, I: Intake>(
 
 /// The token that the whole input is: after one that is admitted and meets what is required, a further byte makes it
 /// `Trailing`.
-fn whole_token<'a, 'j, I: Intake>(
-    verifier: &mut Verifier<'j, HEADER, NESTING, KeyTable<'j, KEYS>>,
+fn whole_token<'a, 'j, const H: usize, const D: usize, const N: usize, const L: usize, I: Intake>(
+    verifier: &mut Verifier<'j, H, D, KeyTable<'j, N>>,
     intake: &mut I,
-    store: &'a mut Store<CLAIMS>,
+    store: &'a mut Store<L>,
     vouch: &Vouch,
     policy: &Policy,
     requirements: &Requirements,
 ) -> Result<Claims<'a>, TokenStop>
+    requires nesting { D ≤ 32 }
+    requires some_store { 16 ≤ L }
+    requires store_limit { L ≤ 65535 }
     requires verifies { is_inspecting verifier.old ≡ false }
     requires attached { is_detached verifier.old ≡ false }
     requires none_taken { bytes_taken verifier.old ≡ 0 }
     requires cwt { (setting_in verifier.old).cwt ≡ true }
-    requires payload_limit { (setting_in verifier.old).payload_limit ≤ 4096 }
+    requires payload_limit { (setting_in verifier.old).payload_limit ≤ L }
     ensures whole { (setting : Setting) (bytes : List ℕ)
         → HasTaken (to_verify setting) [] [] verifier.old → I.to_come intake.old ≡ Some bytes →
         stopped_in (admission_seen result) ≡ None → admission_seen result
-        ≡ input_token setting (vouching (option_map contents vouch.now.word))
+        ≡ input_token H D setting (vouching (option_map contents vouch.now.word))
         (policy_value policy.entry.now) (requirements_value requirements.entry.now) bytes }
     // It stops exactly where the intake failed in this call.
     ensures failure { (setting : Setting) → HasTaken (to_verify setting) [] [] verifier.old →
@@ -354,16 +363,15 @@ fn whole_token<'a, 'j, I: Intake>(
 {
     // The law that the proof cites for the place of a further byte: a verdict stays when bytes follow.
     settled_stays();
-    match verify_cwt::<CHUNK, HEADER, NESTING, CLAIMS, _, _, _>(
-        verifier, intake, store, vouch, policy,
-    ) {
+    match verify_cwt::<CHUNK, H, D, L, _, _, _>(verifier, intake, store, vouch, policy) {
         Ok(claims) => required_claims(claims, requirements, verifier.taken(), intake),
         Err(stop) => Err(TokenStop::Cwt(stop)),
     }
 }
 
 /// The reply to the token of an intake: the key set is read before the intake is asked.
-fn admitted_reply<I: Intake>(
+#[inline(never)]
+fn admitted_reply<const H: usize, const D: usize, const N: usize, const L: usize, I: Intake>(
     alloc: Global,
     checks: &Checks,
     policy: &Policy,
@@ -371,25 +379,34 @@ fn admitted_reply<I: Intake>(
     readable: bool,
     intake: &mut I,
 ) -> Result<Reply, Fault>
+    requires some_room { 16 ≤ H }
+    requires limit { H ≤ 65535 }
+    requires nesting { D ≤ 32 }
+    requires some_keys { 1 ≤ N }
+    requires keys_limit { N ≤ 256 }
+    requires some_store { 16 ≤ L }
+    requires store_limit { L ≤ 65535 }
+    requires sizes { AreSizesUnder checks.now.limits H D N }
+    requires claims { (room_of checks.now.limits).claims ≡ L }
     requires external { length checks.now.aad.now ≤ 65535 }
     ensures says { (bytes : List ℕ) → I.to_come intake.old ≡ Some bytes →
         IfOk result (Says (admitted_under (job_under checks.now) (policy_value policy.entry.now)
         (requirements_value requirements.entry.now) readable bytes)) }
     ensures keys { (refusal : Refusal)
-        → program_keys checks.now.keys.now ≡ Err refusal ↔ result ≡ Err (Fault.Keys refusal) }
+        → (job_under checks.now).keys ≡ Err refusal ↔ result ≡ Err (Fault.Keys refusal) }
     // Its fault is that the input failed exactly where the intake failed in this call.
     ensures input { I.has_failed intake.new ≡ (I.has_failed intake.old || fails_by_input result) }
 {
-    let keys = match KeyTable::<KEYS>::read(checks.keys) {
+    let keys = match KeyTable::<N>::read(checks.keys) {
         Ok(keys) => keys,
         Err(refusal) => return Err(Fault::Keys(refusal)),
     };
-    let mut verifier = Verifier::<HEADER, NESTING, KeyTable<'_, KEYS>>::new(token_context(
+    let mut verifier = Verifier::<H, D, KeyTable<'_, N>>::new(token_context::<L, _>(
         keys,
         checks.aad,
         checks.wanted,
     ));
-    let mut store = Store::<CLAIMS>::new();
+    let mut store = Store::<L>::new();
     let vouch = Vouch { word: checks.vouch };
     let token = whole_token(
         &mut verifier,
@@ -416,8 +433,29 @@ pub fn cwt_reply<R: Read>(
         IfOk result (Says (admitted_under (job_under checks.now) (policy_value policy.entry.now)
         (requirements_value requirements.entry.now) readable bytes)) }
     ensures keys { (refusal : Refusal) →
-        program_keys checks.now.keys.now ≡ Err refusal ↔ result ≡ Err (Fault.Keys refusal) }
+        (job_under checks.now).keys ≡ Err refusal ↔ result ≡ Err (Fault.Keys refusal) }
 {
     let mut intake = ReadIntake::new(input);
-    admitted_reply(alloc, checks, policy, requirements, readable, &mut intake)
+    match checks.limits {
+        Limits::Small => {
+            admitted_reply::<SMALL_HEADER, SMALL_NESTING, SMALL_KEYS, SMALL_CLAIMS, _>(
+                alloc,
+                checks,
+                policy,
+                requirements,
+                readable,
+                &mut intake,
+            )
+        }
+        Limits::Large => {
+            admitted_reply::<LARGE_HEADER, LARGE_NESTING, LARGE_KEYS, LARGE_CLAIMS, _>(
+                alloc,
+                checks,
+                policy,
+                requirements,
+                readable,
+                &mut intake,
+            )
+        }
+    }
 }

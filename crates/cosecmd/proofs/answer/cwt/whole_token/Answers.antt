@@ -10,14 +10,14 @@ use Rattle.cosecmd.proofs.answer.cwt.whole_token.Goals as goal
 
 pub returns-in-Ok-clause-whole : goal.returns-in-Ok-clause-whole
 returns-in-Ok-clause-whole g c = λ setting bytes h e none.
-    of_left setting (vouching (option_map contents c.args.vouch.now.word)) (policy_value c.args.policy.now) (requirements_value c.args.requirements.now) bytes _ _ (claims_value c.in-Ok.claims) _
-    (left_of_run c.settled_stays.ensures.verdict setting (vouching (option_map contents c.args.vouch.now.word)) (policy_value c.args.policy.now) (requirements_value c.args.requirements.now) _ _ _ _ bytes (claims_value c.in-Ok.claims) _
+    of_left g.row.H g.row.D setting (vouching (option_map contents c.args.vouch.now.word)) (policy_value c.args.policy.now) (requirements_value c.args.requirements.now) bytes _ _ (claims_value c.in-Ok.claims) _
+    (left_of_run g.row.H g.row.D c.settled_stays.ensures.verdict setting (vouching (option_map contents c.args.vouch.now.word)) (policy_value c.args.policy.now) (requirements_value c.args.requirements.now) _ _ _ _ bytes (claims_value c.in-Ok.claims) _
     (c.in-Ok.ensures.run setting h) (c.in-Ok.ensures.token setting bytes h e) e c.taken.ensures.value)
     (λ rest s. c.required_claims.ensures.whole rest s none)
 
 pub returns-in-Err-clause-whole : goal.returns-in-Err-clause-whole
 returns-in-Err-clause-whole g c = λ setting bytes h e none.
-    unless_admitted setting (vouching (option_map contents c.args.vouch.now.word)) (policy_value c.args.policy.now) (requirements_value c.args.requirements.now) bytes c.in-Err.stop
+    unless_admitted g.row.H g.row.D setting (vouching (option_map contents c.args.vouch.now.word)) (policy_value c.args.policy.now) (requirements_value c.args.requirements.now) bytes c.in-Err.stop
     (c.in-Err.ensures.token setting bytes h e) none
 
 pub returns-in-Ok-clause-failure : goal.returns-in-Ok-clause-failure
