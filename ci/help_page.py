@@ -1,7 +1,7 @@
-"""The help of the program and of each command, as docs/COMMANDS.md has it.
+"""The help of the program and of each command, as docs/COMMANDS.md and packaging/help_notes.md have it.
 
-A text is built from the first table of the page, the options of the command's section, and the notes of the section on
-help. Blanks and ends of lines are single spaces.
+A text is built from the first table of the first page, the options of the command's section, and the notes of the second
+page. Blanks and ends of lines are single spaces.
 """
 import re
 

@@ -168,7 +168,7 @@ ages = refl
 -- What is required is looked at after the claims are admitted, and before a further byte.
 unfoldable behind : RequirementsValue → ℕ → List ℕ → Output
 unfolding asked
-behind r n payload = outcome_said false (token_told n (program_policy r.now r.leeway None) r payload (decided (Authentic Mac0 Hmac256 0 9)))
+behind r n payload = outcome_said false (token_told 8 n (program_policy r.now r.leeway None) r payload (decided (Authentic Mac0 Hmac256 0 9)))
 
 orders : (behind (requiring (Exp ∷ [])) 9 (hex "a0") ≡ unmet_line "refused policy PresentExp at 0")
     × (behind (requiring (Exp ∷ [])) 10 (hex "a0") ≡ unmet_line "refused policy PresentExp at 0")

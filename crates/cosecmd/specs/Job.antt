@@ -26,9 +26,9 @@ is_make (Keys keys) = false
 -- To list a key set the input isn't read.
 abbrev pub reads_input : Job → Bool
 reads_input (Keys keys) = false
-reads_input (Show wanted diagnostic) = true
+reads_input (Show limits wanted diagnostic) = true
 reads_input (Verify checks payload) = true
-reads_input (Cwt checks now leeway aud readable) = true
+reads_input (Cwt checks now leeway aud requirements readable) = true
 reads_input (Digest checks payload) = true
 reads_input (Make alg key length kid aad) = true
 

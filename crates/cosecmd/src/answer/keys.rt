@@ -13,8 +13,8 @@ ghost use Rattle.cosecmd.specs.Admitted.{where_present};
 ghost use Rattle.cosecmd.specs.KeysListed as spec;
 ghost use Rattle.cosecmd.specs.Printed.{Says, keys_listed};
 
-use crate::answer::verify::{KEYS, NESTING};
 use crate::fault::Fault;
+use crate::limits::{SMALL_KEYS, SMALL_NESTING};
 use crate::reply::{Reply, Status};
 use cose_head::{ItemRef, Items, Refusal};
 use cose_map::{Key, KeySet, Label, Material, Ops};
@@ -249,7 +249,7 @@ fn push_count(alloc: Global, text: &mut String, usable: usize, items: u128) -> R
 {
     let words = format!(in alloc; "usable {usable} of {items}")?;
     text.push_str(words.as_str())?;
-    if usable > KEYS {
+    if usable > SMALL_KEYS {
         text.push_str(" refused BadKeySet at 0")?;
     }
     text.push_str("\n")?;
@@ -260,7 +260,7 @@ fn push_count(alloc: Global, text: &mut String, usable: usize, items: u128) -> R
 fn status_of(usable: usize) -> Status
     ensures { result ≡ spec.set_status usable }
 {
-    if usable > KEYS {
+    if usable > SMALL_KEYS {
         return Status::Refused;
     }
     Status::Done
@@ -290,7 +290,7 @@ pub fn keys_reply(alloc: Global, keys: &[u8]) -> Result<Reply, Fault>
         Ok(set) => set,
         Err(refusal) => return Err(Fault::Keys(refusal)),
     };
-    match ItemRef::read(keys, 0, NESTING) {
+    match ItemRef::read(keys, 0, SMALL_NESTING) {
         Ok(item) => set_reply(alloc, &item, set.count()),
         // It was read as a set.
         Err(refusal) => Err(Fault::Keys(refusal)),
