@@ -25,6 +25,7 @@ use Rattle.cosecmd.specs.declared.reply.Reply.{Reply}
 use Rattle.cosecmd.specs.declared.reply.Status.TheVariants as statuses
 use Rattle.cosecmd.specs.declared.words.Parsed.{Parsed}
 use Rattle.cosecmd.specs.declared.words.Parsed.TheVariants.{Matches, Text as ClapText}
+use Rattle.cosecmd.proofs.RequiredOptions.{same_requirements}
 
 -- The checks and the payload that the options state are those that they ask for, and this is printed for them.
 pub payload_asks : (prints : Under → Option (List ℕ) → List ℕ → Output) (under : Option Under) (found : Option (Option (List ℕ))) (checks : OwnedChecks) (payload : Option (Option (List ℕ))) (bytes : List ℕ) (said : Output)
@@ -45,7 +46,7 @@ cwt_asks content options words bytes said fields prints = go (checks_in content 
         let none : None ≡ Some said = rw checks at prints in
         cc
     go (Some under) checks =
-        let required = requirements_with words.now words.leeway options words.required.present.items in
+        let required : RequirementsValue = requirements_with words.now words.leeway options words.required.present.items in
         let some : Some (admitted_under under (program_policy words.now words.leeway (text_in (codes "aud") options)) required (flag_in (codes "text") options) bytes) ≡ Some said =
         rw (checks, fields.now, fields.leeway, fields.required.present) at prints in
         let same : admitted_under under (program_policy words.now words.leeway (text_in (codes "aud") options)) required (flag_in (codes "text") options) bytes ≡ said = cc in

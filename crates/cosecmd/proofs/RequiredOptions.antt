@@ -15,27 +15,6 @@ use Rattle.cosecmd.specs.Requirements.{RequiredFields, and_named, audience_requi
 
 -- ---- the claims of `--require`
 
--- One name more was read, of claims that were read so far.
-pub name_read : (name : Text) (claim : Claim) (rest : Option (List Claim)) (so_far : List Claim) → claim_named name ≡ Some claim →
-    option_map (λ others. so_far ++ others) (and_named (claim_named name) rest) ≡ option_map (λ others. (so_far ++ claim ∷ []) ++ others) rest
-name_read name claim None so_far is = rw is refl
-name_read name claim (Some others) so_far is = rw is (ap Some (sym (append_assoc so_far (claim ∷ []) others)))
-
-pub none_read : (name : Text) (rest : Option (List Claim)) (so_far : List Claim) → claim_named name ≡ None → option_map (λ others. so_far ++ others) (and_named (claim_named name) rest) ≡ None
-none_read name rest so_far is = rw is refl
-
-none_so_far : (rest : Option (List Claim)) → option_map (λ others. [] ++ others) rest ≡ rest
-none_so_far None = refl
-none_so_far (Some others) = refl
-
-pub at_first : (names : List Text) → option_map (λ others. [] ++ others) (claims_named names) ≡ claims_named names
-at_first names = none_so_far (claims_named names)
-
--- All names were read.
-pub at_last : (claims : List Claim) (rest : List Text) (all : Option (List Claim)) → rest ≡ [] → option_map (λ others. claims ++ others) (claims_named rest) ≡ all → Some claims ≡ all
-at_last claims rest all ended so_far =
-    ap Some (sym (append-nil claims)) ∙ ap (λ (names : List Text). option_map (λ others. claims ++ others) (claims_named names)) (sym ended) ∙ so_far
-
 -- The texts that clap gives for an option.
 pub texts_given : (matches : ArgMatches) (name : Text) (names : List (Bor Text)) → Some (map (λ (text : Bor Text). text.now) names) ≡ option_map raw_values (matched_of (found_of matches) name) →
     texts_in name (options_of matches) ≡ map (λ (text : Bor Text). text.now) names

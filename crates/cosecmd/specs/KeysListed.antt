@@ -1,6 +1,6 @@
 -- What `keys` prints of a key set (RFC 9052 section 7): a line for each item that should be a key, in their order, and a last line
 -- with how many of them are usable. No byte of a secret, and no coordinate of a point.
-use Rattle.std.specs.Prelude.{ℕ, ℤ, Bool, pos, List, [], ◌∷◌, ◌++◌, filter, length, map, Ok, Err, codes, nat_lt, if◌then◌else◌}
+use Rattle.std.specs.Prelude.{ℕ, ℤ, Bool, true, false, pos, List, [], ◌∷◌, ◌++◌, filter, length, map, Ok, Err, codes, nat_lt, if◌then◌else◌}
 use Rattle.std.specs.Fmt.{decimal, signed_decimal}
 use Rattle.std.specs.List.{concat, list_any}
 use Rattle.std.specs.Ordering.{int_eq}
@@ -33,17 +33,21 @@ alg_words (words text) = codes " alg " ++ quoted text
 abbrev pub operations : List ℕ
 operations = 1 ∷ 2 ∷ 3 ∷ 4 ∷ 5 ∷ 6 ∷ 7 ∷ 8 ∷ 9 ∷ 10 ∷ []
 
--- The first number after this separator, and the others after commas.
-abbrev pub numbers_after : List ℕ → List ℕ → List ℕ
-numbers_after separator [] = []
-numbers_after separator (first ∷ others) = separator ++ decimal first ++ numbers_after (codes ",") others
+-- Numbers after a space, with commas between them.
+abbrev pub separator_of : Bool → List ℕ
+separator_of true = codes " "
+separator_of false = codes ","
+
+abbrev pub numbers : Bool → List ℕ → List ℕ
+numbers is_first [] = []
+numbers is_first (first ∷ others) = separator_of is_first ++ decimal first ++ numbers false others
 
 -- Those of these operations that a key lists. It may list others, which have no number here.
 abbrev pub lists : List ℤ → ℕ → Bool
 lists listed operation = list_any (int_eq (pos operation)) listed
 
 abbrev pub ops_words : List ℤ → List ℕ
-ops_words listed = codes " ops" ++ numbers_after (codes " ") (filter (lists listed) operations)
+ops_words listed = codes " ops" ++ numbers true (filter (lists listed) operations)
 
 -- What a key names, in the order of the labels: a word that the key lacks isn't printed.
 abbrev pub key_words : KeyValue → List ℕ

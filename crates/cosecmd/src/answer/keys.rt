@@ -1,6 +1,6 @@
 //! The lines of the job `keys`: what each item of a key set is, and which of them are usable keys. No byte of a secret.
 
-ghost use Rattle.std.specs.Prelude.{◌≡◌, ◌↔◌, ◌++◌, ℕ, List, ◌∷◌, Err, IfErr, IfOk, codes, filter, length, map, option_map, string_bytes};
+ghost use Rattle.std.specs.Prelude.{◌≡◌, ◌↔◌, ◌++◌, ℕ, List, ◌∷◌, Err, true, IfErr, IfOk, filter, length, map, option_map, string_bytes};
 ghost use Rattle.std.specs.List.{concat};
 ghost use Rattle.cose_head.specs.declared.refusal.Refusal.{Refusal};
 ghost use Rattle.cose_head.specs.ItemRef.{placed};
@@ -86,27 +86,38 @@ fn push_alg(alloc: Global, line: &mut String, alg: Option<Label>) -> Result<(), 
     }
 }
 
-/// Appends the number of an operation after a separator, where a key lists it, and returns the separator of the next one.
+/// What comes before the first number of a list, and before another one.
+fn separator(is_first: bool) -> &'static str
+    ensures { result.now ≡ spec.separator_of is_first }
+{
+    match is_first {
+        true => " ",
+        false => ",",
+    }
+}
+
+/// Appends the number of an operation, where a key lists it, and returns whether the next one is still the first.
 fn push_operation(
     alloc: Global,
     line: &mut String,
     ops: &Ops,
-    separator: &'static str,
+    is_first: bool,
     operation: u8,
-) -> Result<&'static str, Fault>
+) -> Result<bool, Fault>
     // With these numbers after it, all is as with this one before them.
     ensures words { (left : List ℕ) → IfOk result (λ next. string_bytes line.new
-        ++ spec.numbers_after next.now (filter (spec.lists (operations_of ops.now)) left)
-        ≡ string_bytes line.old ++ spec.numbers_after separator.now
+        ++ spec.numbers next (filter (spec.lists (operations_of ops.now)) left)
+        ≡ string_bytes line.old ++ spec.numbers is_first
         (filter (spec.lists (operations_of ops.now)) (operation ∷ left))) }
     ensures fault { IfErr result (λ fault. fault ≡ Fault.Memory) }
 {
     if !ops.holds(i128::from(operation)) {
-        return Ok(separator);
+        return Ok(is_first);
     }
+    let separator = separator(is_first);
     let words = format!(in alloc; "{separator}{operation}")?;
     line.push_str(words.as_str())?;
-    Ok(",")
+    Ok(false)
 }
 
 /// Appends the numbers of those of these operations that a key lists.
@@ -117,12 +128,12 @@ fn push_operations(
     operations: &[u8],
 ) -> Result<(), Fault>
     ensures words { IfOk result (λ _. string_bytes line.new ≡ string_bytes line.old
-        ++ spec.numbers_after (codes " ") (filter (spec.lists (operations_of ops.now)) operations.now)) }
+        ++ spec.numbers true (filter (spec.lists (operations_of ops.now)) operations.now)) }
     ensures fault { IfErr result (λ fault. fault ≡ Fault.Memory) }
 {
-    let mut separator = " ";
+    let mut is_first = true;
     'operations: for operation in operations {
-        separator = push_operation(alloc, line, ops, separator, *operation)?;
+        is_first = push_operation(alloc, line, ops, is_first, *operation)?;
     }
     Ok(())
 }
