@@ -20,10 +20,10 @@ use std::fmt;
 /// A key is prepared for the algorithm that it names, and one that names none for HMAC 256/64 and 256/256. By another
 /// algorithm its MACs are made from the secret, as under a [`KeyTable`].
 ///
-/// It holds a `KeyTable`, and 512 bytes for each of its `N` places: each key's secret by reference, and two hashers
-/// that were fed a block each, in which the secret is. They are as secret as the keys: with them any MAC under a key
-/// can be made. They stay in the table's memory, also once it is dropped, until something else is written there, and
-/// nothing of them outlasts [`Verifier::reset`] elsewhere. `Debug` prints how many keys there are, and nothing of them.
+/// It holds the `KeyTable`, and for each of its `N` places some 500 bytes more: a secret by reference, and two hashers
+/// that were fed a block each, which are as secret as the key: with them any MAC under it can be made. They stay in the
+/// table's memory until something else is written there. Several users share a table by reference. `Debug` prints how many
+/// keys there are, and nothing of them.
 #[derive(Drop)]
 pub struct PreparedTable<'a, const N: usize> {
     table: KeyTable<'a, N>,
