@@ -9,8 +9,8 @@ use crate::fields::{Difference, Way, bytes, holds, integer, object};
 use crate::setting::Setting;
 use crate::streams::{Comparison, Signature};
 use cose_msg::{
-    KeySet, KeyTable, Keys, PreparedTable, Reason, Refusal, SliceIntake, Status, Verdict, Verified, Verifier,
-    verify, verify_slice,
+    KeySet, KeyTable, Keys, PreparedTable, Reason, Refusal, SliceIntake, Status, Verdict, Verified,
+    Verifier, verify, verify_slice,
 };
 use serde_json::Value;
 use std::alloc::Global;
