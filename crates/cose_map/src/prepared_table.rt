@@ -20,7 +20,7 @@ use std::fmt;
 /// A key is prepared for the algorithm that it names, and one that names none for HMAC 256/64 and 256/256. By another
 /// algorithm its MACs are made from the secret, as under a [`KeyTable`].
 ///
-/// It holds the `KeyTable`, and for each of its `N` places some 500 bytes more: a secret by reference, and two hashers
+/// It holds the `KeyTable`, and for each of its `N` places 480 bytes more: a secret by reference, and two hashers
 /// that were fed a block each, which are as secret as the key: with them any MAC under it can be made. They stay in the
 /// table's memory until something else is written there. Several users share a table by reference. `Debug` prints how many
 /// keys there are, and nothing of them.
