@@ -1,12 +1,11 @@
 -- What a prepared key holds.
-use Rattle.std.proofs.Common.{◌≡◌, ℕ, List, true}
+use Rattle.std.proofs.Common.{ℕ, List}
 use Rattle.std.proofs.Props as std_props
 use Rattle.sha2.specs.Sha256 as S256
 use Rattle.sha2.specs.Sha512 as S512
-use Rattle.cose_head.specs.declared.algorithm.Alg.{Alg}
 use Rattle.cose_head.specs.declared.algorithm.Hash.{Hash}
 use Rattle.cose_head.specs.declared.algorithm.Hash.TheVariants.{Sha256, Sha384, Sha512}
-use Rattle.cose_mac.specs.Hasher.{Holds, is_of}
+use Rattle.cose_mac.specs.Hasher.{Holds}
 use Rattle.cose_mac.specs.Prepared.{IsPrepared}
 use Rattle.cose_mac.specs.declared.hasher.Hasher.{Hasher}
 use Rattle.cose_mac.specs.declared.hasher.Hasher.TheVariants as Hashers

@@ -1,5 +1,5 @@
 -- Which algorithms a prepared key is prepared for, on examples, by computing.
-use Rattle.std.proofs.Common.{◌≡◌, List, [], ◌∷◌, Bool, true, false, map, refl}
+use Rattle.std.proofs.Common.{◌≡◌, List, [], ◌∷◌, true, false, map, refl}
 use Rattle.sha2.specs.declared.Sha256.{Sha256}
 use Rattle.sha2.specs.declared.Sha512.{Sha512}
 use Rattle.cose_head.specs.declared.algorithm.Alg.{Alg}

@@ -1,5 +1,5 @@
 -- Keys that are prepared for MACs.
-use Rattle.std.proofs.Common.{◌≡◌, ℕ, List, Option, Some, Bool, true, sym}
+use Rattle.std.proofs.Common.{◌≡◌, ℕ, List, Option, Some, true}
 use Rattle.std.proofs.Math.Logic.{∥∥₁_elim}
 use Rattle.std.proofs.lemmas.Slice.Eq.{bytes_eq-Decides}
 use Rattle.std.specs.Option.{ForSome}

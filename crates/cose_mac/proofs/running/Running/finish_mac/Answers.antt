@@ -1,4 +1,4 @@
-use Rattle.std.proofs.Common.{◌≡◌, [], ◌++◌, length, ◌∙◌, ap}
+use Rattle.std.proofs.Common.{◌≡◌, ◌++◌, length, ◌∙◌, ap}
 use Rattle.cose_mac.proofs.HmacLemmas.{length_mac}
 use Rattle.cose_head.specs.Algorithm.{hash_of}
 use Rattle.cose_mac.specs.Hash.{function_of}
