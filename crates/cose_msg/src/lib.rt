@@ -99,7 +99,7 @@ mod verifier;
 pub use context::{Context, Wanted};
 pub use cose_head::{Kind, Reason, Refusal};
 pub use cose_mac::{Alg, same_bytes};
-pub use cose_map::{Bucket, Key, KeySet, KeyTable, Keys, Label};
+pub use cose_map::{Bucket, Key, KeySet, KeyTable, Keys, Label, PreparedTable};
 pub use elliptic::{EcVerifier, Never};
 pub use intake::{Intake, IntakeFault, ReadIntake, SliceIntake};
 pub use make::maker::Maker;
