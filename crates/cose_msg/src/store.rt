@@ -14,7 +14,7 @@ use arrayvec::ArrayVec;
 #[derive(Drop)]
 pub struct Store<const L: usize> {
     failed: bool,
-    /// What is held was dropped, and counts as nothing.
+    /// Whether what is held was dropped, and isn't shown any more.
     dropped: bool,
     held: ArrayVec<u8, L>,
 }
@@ -34,7 +34,20 @@ impl Lender<'_> {
     }
 }
 
+/// The bytes, or none if they are dropped.
+fn shown(dropped: bool, bytes: &[u8]) -> &[u8]
+    ensures { result.now ≡ unless_dropped dropped bytes.now }
+{
+    if dropped {
+        return &[];
+    }
+    bytes
+}
+
 impl<const L: usize> Store<L> {
+    ghost use Rattle.std.specs.Borrow.{sem};
+    ghost use Rattle.cose_msg.specs.Lending.{LendsDropped};
+
     /// An empty store.
     pub fn new() -> Self
         ensures empty { ⟦<Store<L> as Sink>⟧.contents result ≡ Some [] }
@@ -67,26 +80,24 @@ impl<const L: usize> Store<L> {
         ensures sure { ⟦<Store<L> as Sink>⟧.sure self.now
             ≡ room_left L (⟦<Store<L> as Sink>⟧.has_failed self.now) (length result.now) }
     {
-        if self.dropped {
-            return &[];
-        }
-        self.held.as_slice()
+        shown(self.dropped, self.held.as_slice())
     }
 
     /// Lends the bytes that it holds, at most `L`. Where they are refused, the lender is cleared while what was read
     /// still borrows them.
     pub fn lend(&mut self) -> (&[u8], Lender<'_>)
+        ensures* lends { sem 𝓛 (LendsDropped L.row self.entry result.1.dropped) }
         ensures held { ⟦<Store<L> as Sink>⟧.contents self.old ≡ Some result.0.now }
         ensures limit { length result.0.now ≤ L }
     {
-        self.forget_dropped();
+        let bytes = shown(self.dropped, self.held.as_slice());
         let lender = Lender {
             dropped: &mut self.dropped,
         };
-        (self.held.as_slice(), lender)
+        (bytes, lender)
     }
 
-    /// Clears what was dropped, so that all that is held counts.
+    /// Clears what was dropped, so that all that is held is shown.
     fn forget_dropped(&mut self)
         ensures held { self.new.held.items ≡ unless_dropped self.old.dropped self.old.held.items }
         ensures kept { self.new.dropped ≡ false }
