@@ -19,7 +19,7 @@ pub struct Store<const L: usize> {
     held: ArrayVec<u8, L>,
 }
 
-/// A store whose bytes are lent. It keeps them, unless it is cleared.
+/// The lender of a store's bytes ([`Store::lend`]). The store keeps them, unless this is cleared.
 #[derive(Drop)]
 pub struct Lender<'s> {
     dropped: &'s mut bool,
@@ -83,8 +83,8 @@ impl<const L: usize> Store<L> {
         shown(self.dropped, self.held.as_slice())
     }
 
-    /// Lends the bytes that it holds, at most `L`. Where they are refused, the lender is cleared while what was read
-    /// still borrows them.
+    /// Lends the bytes that it holds, at most `L`, with their lender. A caller that refuses them clears the lender: unlike
+    /// [`Store::clear`] that can be done while something borrows them.
     pub fn lend(&mut self) -> (&[u8], Lender<'_>)
         ensures* lends { sem 𝓛 (LendsDropped L.row self.entry result.1.dropped) }
         ensures held { ⟦<Store<L> as Sink>⟧.contents self.old ≡ Some result.0.now }
