@@ -57,11 +57,7 @@ fn keeps_what_it_lends_unless_its_lender_is_cleared(rt: HostRuntime) {
     equal(&rt, store.bytes(), b"".as_slice());
     // there is room for four bytes again
     let put = store.put(b"defg");
-    equal(
-        &rt,
-        (put, store.bytes()),
-        (Ok(()), b"defg".as_slice()),
-    );
+    equal(&rt, (put, store.bytes()), (Ok(()), b"defg".as_slice()));
 }
 
 #[test]
