@@ -1,5 +1,5 @@
 -- What a store ends as whose bytes were lent.
-use Rattle.std.specs.Prelude.{◌≡◌, Bool, List, [], Result, ⊤}
+use Rattle.std.specs.Prelude.{◌≡◌, Bool, [], Result, ⊤}
 use Rattle.std.specs.Borrow.{Fml, Lends, MutBor, RattleType, bool, follows_so}
 use Rattle.std.specs.Result.{OnErr}
 use mathlib.Core.Option.{none}
