@@ -12,9 +12,9 @@ returns-clause-run g c = λ setting h.
       cwt = _;
       run = record {
         taken = r.0;
-        payload = c.lend.result.0.now;
+        payload = c.lend-lender.result.0.now;
         verdict = c.verify-verdict.result;
-        run = with_contents _ _ _ _ _ _ _ _ _ c.clear.ensures.empty c.lend.ensures.held r.1;
+        run = with_contents _ _ _ _ _ _ _ _ _ c.clear.ensures.empty c.lend-lender.ensures.held r.1;
         counted = r.2;
         tells = r.3;
         stands = r.4;
@@ -33,5 +33,5 @@ returns-clause-token g c = λ setting bytes h told.
 pub returns-clause-again : goal.returns-clause-again
 returns-clause-again g c = λ answer kept.
     let before = c.verify-verdict.ensures.again answer kept in
-    let none : c.lend.result.0.now ≡ [] = nothing_held (λ (store : Store g.row.L). Some (unless_dropped store.dropped store.held.items)) _ _ _ c.clear.ensures.empty before.3 c.lend.ensures.held in
+    let none : c.lend-lender.result.0.now ≡ [] = nothing_held (λ (store : Store g.row.L). Some (unless_dropped store.dropped store.held.items)) _ _ _ c.clear.ensures.empty before.3 c.lend-lender.ensures.held in
     (required_again _ _ _ _ _ _ _ c.token_or_cleared.ensures.token before.0 none, before.1, before.2)

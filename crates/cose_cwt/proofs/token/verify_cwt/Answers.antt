@@ -1,4 +1,4 @@
-use Rattle.std.proofs.Common.{◌≡◌, ◌≤◌, ℕ, Bool, [], None, Some, length, subst, sym, arith}
+use Rattle.std.proofs.Common.{◌≡◌, ◌∙◌, ◌≤◌, ℕ, Bool, [], None, Some, length, subst, sym, arith}
 use Rattle.cose_msg.specs.declared.store.Store.{Store}
 use Rattle.cose_msg.specs.Kept.{HasTaken, kept_answer}
 use Rattle.cose_msg.specs.Store.{unless_dropped}
@@ -12,9 +12,9 @@ returns-clause-run g c = λ setting h.
     let r = c.verify-verdict.ensures.run setting [] [] h in
     record {
       taken = r.0;
-      payload = c.lend.result.0.now;
+      payload = c.lend-lender.result.0.now;
       verdict = c.verify-verdict.result;
-      run = with_contents _ _ _ _ _ _ _ _ _ c.clear.ensures.empty c.lend.ensures.held r.1;
+      run = with_contents _ _ _ _ _ _ _ _ _ c.clear.ensures.empty c.lend-lender.ensures.held r.1;
       counted = r.2;
       tells = r.3;
       stands = r.4;
@@ -45,8 +45,8 @@ returns-clause-again_unfailed g c = λ answer kept.
 
 pub returns-clause-within : goal.returns-clause-within
 returns-clause-within g c = λ refusal e.
-    let placed : refusal.place ≤ length c.lend.result.0.now = token_placed _ _ _ _ _ refusal c.claims_or_cleared.ensures.claims e (c.claims_refusals_stand_inside.ensures.admission _ _ _) in
-    omega (arith, placed, c.lend.ensures.limit)
+    let placed : refusal.place ≤ length c.lend-lender.result.0.now = token_placed _ _ _ _ _ refusal c.claims_or_cleared.ensures.claims e (c.claims_refusals_stand_inside.ensures.admission _ _ _) in
+    omega (arith, placed, c.lend-lender.ensures.limit)
 
 pub returns-clause-context : goal.returns-clause-context
 returns-clause-context g c = λ setting h. c.verify-verdict.ensures.context setting [] [] h
@@ -54,7 +54,7 @@ returns-clause-context g c = λ setting h. c.verify-verdict.ensures.context sett
 pub returns-clause-again : goal.returns-clause-again
 returns-clause-again g c = λ answer kept.
     let before = c.verify-verdict.ensures.again answer kept in
-    let none : c.lend.result.0.now ≡ [] = nothing_held (λ (store : Store g.row.L). Some (unless_dropped store.dropped store.held.items)) _ _ _ c.clear.ensures.empty before.3 c.lend.ensures.held in
+    let none : c.lend-lender.result.0.now ≡ [] = nothing_held (λ (store : Store g.row.L). Some (unless_dropped store.dropped store.held.items)) _ _ _ c.clear.ensures.empty before.3 c.lend-lender.ensures.held in
     (answers_again _ _ _ _ _ _ c.claims_or_cleared.ensures.claims before.0 none, before.1, before.2)
 
 pub returns-clause-stopped : goal.returns-clause-stopped
