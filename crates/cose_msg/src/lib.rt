@@ -109,6 +109,6 @@ pub use run::{inspect, verify};
 pub use sink::{Nothing, Sink, SinkFault};
 pub use slice::{Verified, verify_slice};
 pub use status::{Fed, Status};
-pub use store::Store;
+pub use store::{Lender, Store};
 pub use verdict::{Inspected, Stop, Verdict};
 pub use verifier::Verifier;
