@@ -1,11 +1,9 @@
 //! A token of which something is required, from its bytes to its claims, the kind of its message and the algorithm.
 
 ghost use Rattle.std.specs.Prelude.{◌≡◌, ◌≤◌, ℕ, true, false, List, [], Some, Result, IsErr};
-ghost use Rattle.std.specs.Borrow.{sem};
 ghost use Rattle.cose_msg.specs.declared.verdict.Stop.{Stop};
 ghost use Rattle.cose_msg.specs.declared.verdict.Verdict.{Verdict};
 ghost use Rattle.cose_msg.specs.Kept.{HasTaken, bytes_taken, is_inspecting, kept_answer};
-ghost use Rattle.cose_msg.specs.Lending.{EndsEmptyAtErr};
 ghost use Rattle.cose_msg.specs.Message.{Setting};
 ghost use Rattle.cose_msg.specs.Task.{to_verify};
 ghost use Rattle.cose_msg.specs.Verifier.{is_detached, setting_in};
@@ -139,8 +137,6 @@ pub fn verify_token<
     requires none_taken { bytes_taken verifier.old ≡ 0 }
     requires cwt { (setting_in verifier.old).cwt ≡ true }
     requires payload_limit { (setting_in verifier.old).payload_limit ≤ L }
-    // Where there is no token the store ends holding nothing.
-    ensures* cleared { sem 𝓛 (EndsEmptyAtErr L.row store.entry result) }
     // What `verify_cwt` does and says of it, and the token by the same verdict and payload.
     ensures run { (setting : Setting) → HasTaken (to_verify setting) [] [] verifier.old →
         IsRequiredRun setting (E.decides ec.now) (policy_value policy.entry.now)

@@ -1,13 +1,11 @@
 //! A token, from its bytes to its claims (RFC 8392 section 7.2).
 
 ghost use Rattle.std.specs.Prelude.{◌≡◌, ◌↔◌, ◌≤◌, ◌||◌, ℕ, true, false, List, [], Some, Result, Err, IsErr};
-ghost use Rattle.std.specs.Borrow.{sem};
 ghost use Rattle.cose_head.specs.declared.refusal.Refusal.{Refusal};
 ghost use Rattle.cose_map.specs.Map.View.{seen_by};
 ghost use Rattle.cose_msg.specs.declared.verdict.Stop.{Stop};
 ghost use Rattle.cose_msg.specs.declared.verdict.Verdict.{Verdict};
 ghost use Rattle.cose_msg.specs.Kept.{HasTaken, bytes_taken, is_inspecting, is_stopped, kept_answer};
-ghost use Rattle.cose_msg.specs.Lending.{EndsEmptyAtErr};
 ghost use Rattle.cose_msg.specs.Message.{Setting};
 ghost use Rattle.cose_msg.specs.Task.{to_verify};
 ghost use Rattle.cose_msg.specs.Verifier.{is_detached, setting_in};
@@ -127,8 +125,6 @@ pub fn verify_cwt<
     requires none_taken { bytes_taken verifier.old ≡ 0 }
     requires cwt { (setting_in verifier.old).cwt ≡ true }
     requires payload_limit { (setting_in verifier.old).payload_limit ≤ L }
-    // Where there are no claims the store ends holding nothing.
-    ensures* cleared { sem 𝓛 (EndsEmptyAtErr L.row store.entry result) }
     // The bytes that were taken, what the verifier's getters give of them, the verdict that is kept, the payload among
     // them, and the result for the token by that verdict and that payload.
     ensures run { (setting : Setting) → HasTaken (to_verify setting) [] [] verifier.old →
