@@ -70,11 +70,6 @@ pub record IsRun {H D : ℕ} {S : Type 0} {K : _} (setting : Setting) (decides :
   pub comes : outcome ≡ token_of D policy verdict payload
   pub within : (refusal : Refusal) → outcome ≡ Err (stops.Claims refusal) → refusal.place ≤ length payload
 
--- Why there are no claims, if there are none.
-abbrev pub refusal_in : Outcome → Option CwtStop
-refusal_in (Ok claims) = None
-refusal_in (Err stop) = Some stop
-
 -- Why a verifier stopped, if it did.
 abbrev pub stop_in : Outcome → Option Stop
 stop_in (Ok claims) = None

@@ -135,11 +135,11 @@ impl<'k, const H: usize, const D: usize> Reader<'k, H, D> {
     }
 
     /// Begins the hash over the structure, where a key was chosen.
-    fn begin_hashing(chosen: &Option<Chosen<'k>>) -> Hashing
+    fn begin_hashing<K: Keys<'k>>(keys: Option<&K>, chosen: &Option<Chosen<'k>>) -> Hashing
         ensures { HashesFor result (option_map chosen_value chosen.now) [] }
     {
         match chosen {
-            Some(chosen) => Hashing::begin(chosen.alg, secret_of(&chosen.key.material)),
+            Some(chosen) => Hashing::begin(keys, chosen.alg, secret_of(&chosen.key.material)),
             None => Hashing::Nothing,
         }
     }
@@ -168,7 +168,7 @@ impl<'k, const H: usize, const D: usize> Reader<'k, H, D> {
         let after = at + self.unprotected.len() as u64;
         match self.choose(keys, kind, protected_at, at) {
             Ok(choice) => {
-                self.hashing = Self::begin_hashing(&choice.chosen);
+                self.hashing = Self::begin_hashing(keys, &choice.chosen);
                 self.chosen = choice.chosen;
                 self.begin_payload_head(kind, choice.is_bare, after);
             }
