@@ -150,7 +150,7 @@ unfolding said
 confirmed_sign = refl
 
 -- To admit a token of either kind under a key set, at a current time, whatever its audience.
-abbrev no_requirements : ℕ → Requirements
+abbrev pub no_requirements : ℕ → Requirements
 no_requirements now = record { now = pos now; leeway = 0; present = record { ref_ptr = (0, 0); now = [] }; iss = None; sub = None; aud = None; lifetime = None; age = None; issued = false }
 
 abbrev admitting : List ℕ → ℕ → Job

@@ -25,6 +25,7 @@ use Rattle.cosecmd.specs.declared.limits.Limits.{Limits}
 use Rattle.cosecmd.specs.declared.limits.Limits.TheVariants.{Small, Large}
 use Rattle.cosecmd.specs.declared.reply.Status.TheVariants as statuses
 use Rattle.cosecmd.specs.Printed.{Output, printed}
+use Rattle.cosecmd.proofs.WorkedAdmitted.{no_requirements}
 use Rattle.cosecmd.proofs.WorkedPrinted.{Prints, checks_within, hex, line, plain, point}
 
 unfoldable prints : Job → List ℕ → Output
@@ -36,7 +37,7 @@ abbrev verifying : Limits → List ℕ → Job
 verifying limits keys = Verify (checks_within limits keys [] wants.Tagged None) None
 
 abbrev admitting : Limits → Job
-admitting limits = Cwt (checks_within limits plain [] wants.Tagged None) (pos 0) 0 None false
+admitting limits = Cwt (checks_within limits plain [] wants.Tagged None) (pos 0) 0 None (no_requirements 0) false
 
 -- A header bucket has at most 65,535 bytes and nests at most 16 deep.
 at_the_large_limits : Prints (prints (verifying Large plain)) (
