@@ -73,8 +73,12 @@ def options_of(page, command):
 
 def usage_of(command, options):
     named = {it.name: it for it in options}
-    words = ["[OPTIONS]", *(it.usage() for it in options if it.required)]
-    words += [f"<{it.usage()}|{named[it.other].usage()}>" for it in options if it.other]
+    either = [it for it in options if it.other]
+    required = [it for it in options if it.required]
+    wanted = {it.name for it in required + either} | {it.other for it in either}
+    words = ["[OPTIONS]"] if named.keys() - wanted else []
+    words += [it.usage() for it in required]
+    words += [f"<{it.usage()}|{named[it.other].usage()}>" for it in either]
     return f"Usage: cosecmd {command} {' '.join(words)}"
 
 
