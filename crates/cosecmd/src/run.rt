@@ -7,7 +7,7 @@ ghost use Rattle.cosecmd.specs.Options.{part_of_file};
 ghost use Rattle.cosecmd.specs.Payload.{detached_in};
 ghost use Rattle.cosecmd.specs.Printed.{EndsWith, Fails, Output, answered_under, keys_listed, shown};
 ghost use Rattle.cosecmd.specs.Under.{job_under, owned_under};
-ghost use Rattle.cosecmd.specs.Words.{admitted_for, asked_for, made_for, makes, payload_for};
+ghost use Rattle.cosecmd.specs.Arguments.{admitted_for, asked_for, made_for, makes, payload_for};
 
 use crate::answer::{answer, answer_with_payload_file};
 use crate::checks::slice_of;
@@ -18,7 +18,7 @@ use crate::limits::Limits;
 use crate::print::{print, print_fault};
 use crate::request::{Cwt, Keys, Make, OwnedChecks, Payload, Request};
 use crate::required::requirements_of;
-use crate::words::{Parsed, parse, request_of};
+use crate::arguments::{Parsed, parse, request_of};
 use clap::ArgMatches;
 use cose_msg::Wanted;
 use std::alloc::Global;
