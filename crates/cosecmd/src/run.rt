@@ -10,6 +10,7 @@ ghost use Rattle.cosecmd.specs.Under.{job_under, owned_under};
 ghost use Rattle.cosecmd.specs.Arguments.{admitted_for, asked_for, made_for, makes, payload_for};
 
 use crate::answer::{answer, answer_with_payload_file};
+use crate::arguments::{Parsed, parse, request_of};
 use crate::checks::slice_of;
 use crate::fault::Fault;
 use crate::files::{NamedFiles, NoFiles};
@@ -18,7 +19,6 @@ use crate::limits::Limits;
 use crate::print::{print, print_fault};
 use crate::request::{Cwt, Keys, Make, OwnedChecks, Payload, Request};
 use crate::required::requirements_of;
-use crate::arguments::{Parsed, parse, request_of};
 use clap::ArgMatches;
 use cose_msg::Wanted;
 use std::alloc::Global;
