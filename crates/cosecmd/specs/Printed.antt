@@ -206,7 +206,7 @@ shown_as diagnostic told (decided verdict) = said_of verdict
 shown_as diagnostic told (complete whole) = none_said
 
 abbrev pub shown_of : Bool → ℕ → Reading → Output
-shown_of diagnostic n reading = shown_as diagnostic reading.told (trailed n reading.answer)
+shown_of diagnostic n reading = shown_as diagnostic reading.so_far (trailed n reading.answer)
 
 -- A message is shown as it is when it is only inspected: under no key.
 abbrev pub shown_in : ℕ → ℕ → Wanted → Bool → List ℕ → Output
