@@ -5,6 +5,7 @@ pub mod Reading
 pub mod Phases
 pub mod Front
 pub mod Message
+pub mod Naming
 pub mod Grammar
 pub mod Making
 pub mod Authentic

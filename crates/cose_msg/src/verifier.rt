@@ -11,6 +11,7 @@ mod decide;
 mod detached;
 mod feed;
 mod getters;
+mod naming;
 
 /// A verifier of one message at a time, of header buckets of at most `H` bytes each, nested at most `D` deep, under
 /// keys of the type `S`.
