@@ -46,6 +46,7 @@ extern crate std;
 mod block;
 mod claims;
 mod error;
+mod functions;
 #[cfg(feature = "std")]
 mod io;
 mod make;
@@ -53,6 +54,7 @@ mod message;
 mod raw;
 mod reason;
 mod sign_input;
+mod size;
 mod table;
 mod verifier;
 
@@ -68,5 +70,6 @@ pub use message::{
 };
 pub use reason::{Reason, Refusal};
 pub use sign_input::{Curve, PublicKey, SignInput, POINT_ROOM, Y};
+pub use size::{Large, Size, Small};
 pub use table::{KeyTable, TableBlock};
-pub use verifier::{Accepted, Fed, Status, Verifier, VerifierBlock};
+pub use verifier::{Accepted, Fed, LargeVerifierBlock, Status, Verifier, VerifierBlock};

@@ -1,5 +1,6 @@
 //! A table of keys, which are read once.
 
+use crate::block::Memory;
 use crate::error::number;
 use crate::{raw, Block, Claims, Error, Options, Policy, Verdict};
 
