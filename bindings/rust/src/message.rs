@@ -166,7 +166,8 @@ pub fn verify<'m>(keys: &[u8], message: &'m [u8]) -> Result<Verdict<'m>, Error> 
 ///
 /// # Errors
 ///
-/// The key set or the message is refused, or the externally supplied data is too long.
+/// The key set or the message is refused, or the externally supplied data is too long. A header of more than 1,024 bytes is refused
+/// ([`Reason::PastRoom`](crate::Reason::PastRoom)): [`Large`](crate::Large) takes it.
 ///
 /// ```
 /// use cose::{verify_with, Options, Reason, Wanted};

@@ -1,4 +1,4 @@
-//! The two sizes.
+//! The two sizes. A size is a type, and no option, since a block has one already.
 
 use core::fmt::Debug;
 
@@ -6,15 +6,15 @@ use crate::block::Memory;
 use crate::functions::Library;
 use crate::{raw, Claims, Error, LargeVerifierBlock, Options, Policy, Verdict, VerifierBlock};
 
-/// Header buckets of at most 1,024 bytes, which nest 8 deep, and claims that nest 8 deep: the size of what has no other.
+/// Header buckets of at most 1,024 bytes that nest 8 deep, and claims that nest 8 deep: the size where none is named.
 #[derive(Clone, Copy, Debug)]
 pub enum Small {}
 
-/// Header buckets of at most 65,535 bytes, which nest 16 deep, and claims that nest 16 deep: for a message with a chain of certificates
-/// in its header.
+/// Header buckets of at most 65,535 bytes that nest 16 deep, and claims that nest 16 deep: for messages with a chain of certificates in
+/// the header.
 ///
-/// A call over memory ([`Size::verify`], [`Size::verify_detached`], [`Size::verify_cwt`]) needs 160 KiB of stack. A [`Verifier`] has these
-/// bytes in its [`LargeVerifierBlock`] instead, and its calls need 16 KiB, as those of [`Small`].
+/// A call over memory ([`verify`](Size::verify), [`verify_detached`](Size::verify_detached), [`verify_cwt`](Size::verify_cwt)) needs
+/// 160 KiB of stack. A [`Verifier`] has a [`LargeVerifierBlock`] of 132 KiB instead, and its calls need 16 KiB, as those of [`Small`].
 ///
 /// [`Verifier`]: crate::Verifier
 ///

@@ -7,7 +7,12 @@ use crate::{raw, Block, Error, Kind, Options, SignInput, Size, Small};
 /// Memory for a [`Verifier`].
 pub type VerifierBlock = Block<4_096>;
 
-/// Memory for a [`Verifier`] in the size [`Large`](crate::Large).
+/// Memory for a [`Verifier`] in the size [`Large`](crate::Large): 132 KiB, which a stack need not have room for.
+///
+/// ```
+/// let block = Box::<cose::LargeVerifierBlock>::default();
+/// assert_eq!(size_of_val(&*block), 132 * 1_024);
+/// ```
 pub type LargeVerifierBlock = Block<135_168>;
 
 /// The status of a message that isn't refused.
@@ -57,8 +62,8 @@ pub struct Accepted {
     pub taken: u64,
 }
 
-/// A verifier of one message after another, which takes a message in pieces of any lengths and holds at most 2,560 bytes of it. It
-/// borrows its memory, the keys and the externally supplied data.
+/// A verifier of one message after another, which takes a message in pieces of any lengths and holds at most 2,560 bytes of it, and
+/// 131,582 in the size [`Large`](crate::Large). It borrows its memory, the keys and the externally supplied data.
 ///
 /// ```
 /// use cose::{Block, Options, Status, Verifier};
@@ -108,7 +113,7 @@ pub struct Verifier<'k, S: Size = Small> {
 }
 
 impl<'k> Verifier<'k> {
-    /// A verifier of messages that have their payload.
+    /// A verifier of messages that have their payload, in the size [`Small`]. [`open`](Self::open) makes one of a size that is named.
     ///
     /// # Errors
     ///
@@ -158,7 +163,7 @@ impl<'k> Verifier<'k> {
 }
 
 impl<'k, S: Size> Verifier<'k, S> {
-    /// A verifier of messages that have their payload, in a size that is named: `Verifier::<Large>::open`.
+    /// A verifier of messages that have their payload, in a size that is named, as in `Verifier::<Large>::open`.
     ///
     /// # Errors
     ///
@@ -186,7 +191,7 @@ impl<'k, S: Size> Verifier<'k, S> {
         Status::of(&status).map(|_| verifier)
     }
 
-    /// The same of messages whose payload is detached and has so many bytes, as by [`detached`](Verifier::detached).
+    /// A verifier of messages whose payload is detached and has so many bytes, as [`detached`](Verifier::detached) makes one.
     ///
     /// # Errors
     ///
