@@ -7,7 +7,7 @@ use crate::{raw, Block, Error, Kind, Options, SignInput, Size, Small};
 /// Memory for a [`Verifier`].
 pub type VerifierBlock = Block<4_096>;
 
-/// Memory for a [`Verifier`] in the size [`Large`](crate::Large): 132 KiB, which a stack need not have room for.
+/// Memory for a [`Verifier`] in the size [`Large`](crate::Large): 132 KiB, which may be on the heap.
 ///
 /// ```
 /// let block = Box::<cose::LargeVerifierBlock>::default();
