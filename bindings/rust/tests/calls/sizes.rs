@@ -1,5 +1,6 @@
 //! The two sizes: rows of `rows/commands.json`, by their numbers, each message in memory and in pieces.
 
+use std::sync::Mutex;
 use std::thread;
 
 use crate::{hex, JEFE};
@@ -14,6 +15,9 @@ const AFTER: &str = "42686958207d81e964aaee5fbd8adfb3f533657a9ef9f782f04b91877b6
 /// The same of a detached payload.
 const AFTER_DETACHED: &str =
     "f658207d81e964aaee5fbd8adfb3f533657a9ef9f782f04b91877b6004272a0352f960";
+
+/// A token whose claims nest 16 deep: 709.
+const DEEP: &str = "d18443a10105a053a11864818181818181818181818181818181005820e24311281505e2160b1c42e5b4ec442b5e00260face7ea82c79051387ea773db";
 
 const FREE: Policy<'static> = Policy {
     now: 0,
@@ -200,9 +204,9 @@ fn a_detached_payload() {
 
 #[test]
 fn tokens() {
-    // 709 and 710: claims that nest 16 and 17 deep
+    // 710: claims that nest 17 deep
     let claims = |reason, place| Error::Claims(Refusal { reason, place });
-    let token = hex("d18443a10105a053a11864818181818181818181818181818181005820e24311281505e2160b1c42e5b4ec442b5e00260face7ea82c79051387ea773db");
+    let token = hex(DEEP);
     let deeper = hex("d18443a10105a054a118648181818181818181818181818181818100582074019dcdbe1555cd94d82b52c53604825dbd76ec79ef5a82dbbde71d72e98830");
     let keys = hex(JEFE);
     let found = Large::verify_cwt(&keys, b"", &FREE, &token).expect("it is admitted");
@@ -220,16 +224,34 @@ fn tokens() {
     assert_eq!(error.reason(), Some(Reason::TooDeep));
 }
 
+/// What a function answers in a thread that has a stack of so many bytes.
+fn with_stack(bytes: usize, function: fn() -> bool) -> bool {
+    let thread = thread::Builder::new().stack_size(bytes).spawn(function);
+    thread.expect("there are threads").join().expect("no panic")
+}
+
 #[test]
 fn stacks() {
-    let message = row("d18443a10105a20c050a59fff8", 65_528, AFTER);
-    let thread = thread::Builder::new().stack_size(160 << 10);
-    let found = thread.spawn(move || {
-        let verdict = Large::verify(&hex(JEFE), &Options::default(), &message);
-        verdict.map(|verdict| verdict.payload_if(|_| false).map(<[u8]>::to_vec))
-    });
-    let found = found.expect("there are threads").join();
-    assert_eq!(found.expect("it has room"), Ok(Some(b"hi".to_vec())));
+    assert!(with_stack(160 << 10, || {
+        let message = row("d18443a10105a20c050a59fff8", 65_528, AFTER);
+        Large::verify(&hex(JEFE), &Options::default(), &message).is_ok()
+    }));
+    assert!(with_stack(160 << 10, || {
+        let message = row("d18443a10105a20c050a59fff8", 65_528, AFTER_DETACHED);
+        Large::verify_detached(&hex(JEFE), &Options::default(), &message, b"hi").is_ok()
+    }));
+    assert!(with_stack(160 << 10, || {
+        Large::verify_cwt(&hex(JEFE), b"", &FREE, &hex(DEEP)).is_ok()
+    }));
+    // the block isn't on the stack
+    assert!(with_stack(32 << 10, || {
+        static BLOCK: Mutex<LargeVerifierBlock> = Mutex::new(LargeVerifierBlock::new());
+        let (keys, message) = (hex(JEFE), row("d18443a10105a20c050a59fff8", 65_528, AFTER));
+        let mut block = BLOCK.lock().expect("no thread has panicked");
+        let mut verifier = Verifier::<Large>::open(&mut block, &keys, &Options::default())
+            .expect("the keys are good");
+        fed(&mut verifier, &message, 1_000).is_ok()
+    }));
 }
 
 #[test]
