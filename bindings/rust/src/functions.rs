@@ -1,7 +1,6 @@
 //! The library's functions of each size, which are called alike.
 
-use crate::raw;
-use crate::{Large, Small};
+use crate::{raw, Large, Small};
 
 /// What the library has of a size.
 pub(crate) trait Library {
