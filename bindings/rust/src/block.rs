@@ -15,14 +15,23 @@ impl<const N: usize> Block<N> {
     pub const fn new() -> Self {
         Block([MaybeUninit::uninit(); N])
     }
+}
 
+/// A block of any length.
+pub(crate) trait Memory {
     /// Its address. What the library keeps there points to nothing in the block itself.
-    pub(crate) fn at(&mut self) -> *mut u8 {
+    fn at(&mut self) -> *mut u8;
+
+    /// Whether a block has the size and the alignment that the library asks for.
+    fn holds(size: usize, align: usize) -> Result<(), Error>;
+}
+
+impl<const N: usize> Memory for Block<N> {
+    fn at(&mut self) -> *mut u8 {
         self.0.as_mut_ptr().cast()
     }
 
-    /// Whether a block has the size and the alignment that the library asks for.
-    pub(crate) fn holds(size: usize, align: usize) -> Result<(), Error> {
+    fn holds(size: usize, align: usize) -> Result<(), Error> {
         if size <= size_of::<Self>() && align <= align_of::<Self>() {
             Ok(())
         } else {

@@ -3,8 +3,8 @@
 use core::str;
 
 use crate::error::{number, part, Error};
-use crate::raw;
 use crate::sign_input::{Curve, PublicKey, Y};
+use crate::{raw, Size, Small};
 
 /// The conditions under which a token is admitted.
 #[derive(Clone, Copy, Debug, PartialEq, Eq)]
@@ -204,22 +204,7 @@ pub fn verify_cwt<'t>(
     policy: &Policy<'_>,
     token: &'t [u8],
 ) -> Result<Claims<'t>, Error> {
-    let mut claims = raw::Claims::default();
-    // SAFETY: each pointer with its length is that of one slice, which is borrowed for the call, that of the policy too; the call keeps
-    // none of them, and writes to the struct, which is this function's own.
-    unsafe {
-        raw::cose_edge_verify_cwt(
-            keys.as_ptr(),
-            keys.len(),
-            aad.as_ptr(),
-            aad.len(),
-            &policy.raw(),
-            token.as_ptr(),
-            token.len(),
-            &mut claims,
-        );
-    }
-    Claims::of(&claims, token)
+    Small::verify_cwt(keys, aad, policy, token)
 }
 
 /// The claims of a payload **that is known to be authentic**, where they are admitted.
@@ -237,11 +222,5 @@ pub fn verify_cwt<'t>(
 /// # Ok::<(), cose::Error>(())
 /// ```
 pub fn claims<'t>(payload: &'t [u8], policy: &Policy<'_>) -> Result<Claims<'t>, Error> {
-    let mut claims = raw::Claims::default();
-    // SAFETY: each pointer with its length is that of one slice, which is borrowed for the call, that of the policy too; the call keeps
-    // none of them, and writes to the struct, which is this function's own.
-    unsafe {
-        raw::cose_edge_claims(payload.as_ptr(), payload.len(), &policy.raw(), &mut claims);
-    }
-    Claims::of(&claims, payload)
+    Small::claims(payload, policy)
 }

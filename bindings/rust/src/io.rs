@@ -5,7 +5,7 @@ use std::fmt;
 use std::io::{self, Read, Write};
 use std::vec::Vec;
 
-use crate::{Block, Error, Maker, Making, Status, Verifier, HEAD_ROOM, TAIL_ROOM};
+use crate::{Block, Error, Maker, Making, Size, Status, Verifier, HEAD_ROOM, TAIL_ROOM};
 
 /// Why a message from a reader isn't complete.
 #[derive(Debug)]
@@ -39,7 +39,7 @@ impl From<Error> for ReadError {
     }
 }
 
-impl Verifier<'_> {
+impl<S: Size> Verifier<'_, S> {
     /// Feeds one message from a reader, and writes its payload, **which isn't authentic until there is a verdict**: what was written is
     /// dropped unless [`verdict`](Self::verdict) is `Ok`. No byte after the message is read.
     ///

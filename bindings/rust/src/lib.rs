@@ -9,6 +9,7 @@
 //! | a message that comes in pieces, a detached payload of any length | [`Verifier`] |
 //! | a token in memory | [`verify_cwt`], or [`claims`] once its message is authentic |
 //! | many messages under the same keys | [`KeyTable`] |
+//! | a header of more than 1,024 bytes, as with a chain of certificates | [`Large`] |
 //! | a payload that wants a MAC | [`Maker`] |
 //!
 //! HMAC is computed by the library. For ECDSA (ES256, ES384, ES512, ESP256, ESP384, ESP512) it computes the digest, and the caller verifies the signature: a
@@ -34,7 +35,7 @@
 //! ```
 //!
 //! What a caller owes by the C interface is kept by types here: a block stays where it is while something is in it, and so do the keys
-//! and the externally supplied data. A call takes about 16 KB of stack.
+//! and the externally supplied data. A call needs 16 KiB of stack, and one over memory in the size [`Large`] 160 KiB.
 //!
 //! With the feature `std` there are also `Verifier::feed_from`, for readers, and `make`, for vectors.
 #![no_std]
@@ -46,6 +47,7 @@ extern crate std;
 mod block;
 mod claims;
 mod error;
+mod functions;
 #[cfg(feature = "std")]
 mod io;
 mod make;
@@ -53,6 +55,7 @@ mod message;
 mod raw;
 mod reason;
 mod sign_input;
+mod size;
 mod table;
 mod verifier;
 
@@ -68,5 +71,6 @@ pub use message::{
 };
 pub use reason::{Reason, Refusal};
 pub use sign_input::{Curve, PublicKey, SignInput, POINT_ROOM, Y};
+pub use size::{Large, Size, Small};
 pub use table::{KeyTable, TableBlock};
-pub use verifier::{Accepted, Fed, Status, Verifier, VerifierBlock};
+pub use verifier::{Accepted, Fed, LargeVerifierBlock, Status, Verifier, VerifierBlock};

@@ -1,5 +1,6 @@
 //! Making a `COSE_Mac0`.
 
+use crate::block::Memory;
 use crate::error::{number, part};
 use crate::{raw, Block, Error};
 

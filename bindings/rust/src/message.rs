@@ -1,7 +1,7 @@
 //! A message in memory, by one call.
 
 use crate::error::{number, part, Error};
-use crate::{raw, SignInput};
+use crate::{raw, SignInput, Size, Small};
 
 /// The kind of a message.
 #[derive(Clone, Copy, Debug, PartialEq, Eq, Hash)]
@@ -166,7 +166,8 @@ pub fn verify<'m>(keys: &[u8], message: &'m [u8]) -> Result<Verdict<'m>, Error> 
 ///
 /// # Errors
 ///
-/// The key set or the message is refused, or the externally supplied data is too long.
+/// The key set or the message is refused, or the externally supplied data is too long. A header of more than 1,024 bytes is refused
+/// ([`Reason::PastRoom`](crate::Reason::PastRoom)): [`Large`](crate::Large) takes it.
 ///
 /// ```
 /// use cose::{verify_with, Options, Reason, Wanted};
@@ -181,24 +182,7 @@ pub fn verify_with<'m>(
     options: &Options<'_>,
     message: &'m [u8],
 ) -> Result<Verdict<'m>, Error> {
-    let mut verdict = raw::Verdict::default();
-    let mut input = raw::SignInput::BLANK;
-    // SAFETY: each pointer with its length is that of one slice, which is borrowed for the call; the call keeps none of them, and
-    // writes to the two structs, which are this function's own.
-    unsafe {
-        raw::cose_edge_verify(
-            keys.as_ptr(),
-            keys.len(),
-            options.aad.as_ptr(),
-            options.aad.len(),
-            options.wanted as u8,
-            message.as_ptr(),
-            message.len(),
-            &mut verdict,
-            &mut input,
-        );
-    }
-    Verdict::of(&verdict, &input, message)
+    Small::verify(keys, options, message)
 }
 
 /// Verifies a message that has nil for its payload, which is detached and in memory too. The verdict's payload is this one.
@@ -225,27 +209,7 @@ pub fn verify_detached<'p>(
     message: &[u8],
     payload: &'p [u8],
 ) -> Result<Verdict<'p>, Error> {
-    let mut verdict = raw::Verdict::default();
-    let mut input = raw::SignInput::BLANK;
-    // SAFETY: each pointer with its length is that of one slice, which is borrowed for the call; the call keeps none of them, and
-    // writes to the two structs, which are this function's own.
-    unsafe {
-        raw::cose_edge_verify_detached(
-            keys.as_ptr(),
-            keys.len(),
-            options.aad.as_ptr(),
-            options.aad.len(),
-            options.wanted as u8,
-            message.as_ptr(),
-            message.len(),
-            payload.as_ptr(),
-            payload.len(),
-            &mut verdict,
-            &mut input,
-        );
-    }
-    verdict.payload_at = 0;
-    Verdict::of(&verdict, &input, payload)
+    Small::verify_detached(keys, options, message, payload)
 }
 
 /// The shape of a message. **Nothing of it is authenticated**: no key is looked at.

@@ -130,6 +130,24 @@ pub(crate) struct Verifier {
     pub(crate) at: *mut u8,
 }
 
+/// The same in the large size.
+#[repr(C)]
+pub(crate) struct LargeVerifier {
+    pub(crate) at: *mut u8,
+}
+
+impl From<*mut u8> for Verifier {
+    fn from(at: *mut u8) -> Self {
+        Verifier { at }
+    }
+}
+
+impl From<*mut u8> for LargeVerifier {
+    fn from(at: *mut u8) -> Self {
+        LargeVerifier { at }
+    }
+}
+
 #[repr(C)]
 #[derive(Default)]
 pub(crate) struct Fed {
@@ -260,6 +278,92 @@ unsafe extern "C" {
     pub(crate) fn cose_reset(verifier: &mut Verifier);
     pub(crate) fn cose_taken(verifier: &mut Verifier) -> u64;
     pub(crate) fn cose_held(verifier: &mut Verifier) -> u64;
+
+    pub(crate) fn cose_edge_large_verify(
+        keys: *const u8,
+        keys_length: usize,
+        aad: *const u8,
+        aad_length: usize,
+        wanted: u8,
+        message: *const u8,
+        message_length: usize,
+        verdict: &mut Verdict,
+        input: &mut SignInput,
+    );
+    pub(crate) fn cose_edge_large_verify_detached(
+        keys: *const u8,
+        keys_length: usize,
+        aad: *const u8,
+        aad_length: usize,
+        wanted: u8,
+        message: *const u8,
+        message_length: usize,
+        payload: *const u8,
+        payload_length: usize,
+        verdict: &mut Verdict,
+        input: &mut SignInput,
+    );
+    pub(crate) fn cose_edge_large_verify_cwt(
+        keys: *const u8,
+        keys_length: usize,
+        aad: *const u8,
+        aad_length: usize,
+        policy: &Policy,
+        token: *const u8,
+        token_length: usize,
+        claims: &mut Claims,
+    );
+    pub(crate) fn cose_edge_large_claims(
+        payload: *const u8,
+        payload_length: usize,
+        policy: &Policy,
+        claims: &mut Claims,
+    );
+    pub(crate) safe fn cose_large_verifier_size() -> usize;
+    pub(crate) safe fn cose_large_verifier_align() -> usize;
+    pub(crate) fn cose_large_begin(block: *mut u8);
+    pub(crate) fn cose_edge_large_open(
+        verifier: &mut LargeVerifier,
+        keys: *const u8,
+        keys_length: usize,
+        aad: *const u8,
+        aad_length: usize,
+        wanted: u8,
+        status: &mut Status,
+    );
+    pub(crate) fn cose_edge_large_open_detached(
+        verifier: &mut LargeVerifier,
+        keys: *const u8,
+        keys_length: usize,
+        aad: *const u8,
+        aad_length: usize,
+        wanted: u8,
+        payload_length: u64,
+        status: &mut Status,
+    );
+    pub(crate) fn cose_edge_large_feed(
+        verifier: &mut LargeVerifier,
+        piece: *const u8,
+        piece_length: usize,
+        fed: &mut Fed,
+    );
+    pub(crate) fn cose_large_wanted(verifier: &mut LargeVerifier) -> u64;
+    pub(crate) fn cose_large_payload_wanted(verifier: &mut LargeVerifier) -> u64;
+    pub(crate) fn cose_edge_large_feed_payload(
+        verifier: &mut LargeVerifier,
+        piece: *const u8,
+        piece_length: usize,
+    ) -> u64;
+    pub(crate) fn cose_large_end(verifier: &mut LargeVerifier, status: &mut Status);
+    pub(crate) fn cose_large_sign_input(verifier: &mut LargeVerifier, input: &mut SignInput) -> u8;
+    pub(crate) fn cose_large_verdict(
+        verifier: &mut LargeVerifier,
+        signature_is_good: i32,
+        verdict: &mut Verdict,
+    );
+    pub(crate) fn cose_large_reset(verifier: &mut LargeVerifier);
+    pub(crate) fn cose_large_taken(verifier: &mut LargeVerifier) -> u64;
+    pub(crate) fn cose_large_held(verifier: &mut LargeVerifier) -> u64;
 
     pub(crate) safe fn cose_table_size() -> usize;
     pub(crate) safe fn cose_table_align() -> usize;

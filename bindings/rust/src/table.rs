@@ -1,12 +1,14 @@
 //! A table of keys, which are read once.
 
+use crate::block::Memory;
 use crate::error::number;
 use crate::{raw, Block, Claims, Error, Options, Policy, Verdict};
 
 /// Memory for a [`KeyTable`].
 pub type TableBlock = Block<16_384>;
 
-/// A key set whose keys are read once, for many messages: at most 64 usable keys. It borrows its memory and the bytes of the set.
+/// A key set whose keys are read once, for many messages: at most 64 usable keys. It borrows its memory and the bytes of the set. It
+/// has the size [`Small`](crate::Small) alone.
 ///
 /// ```
 /// use cose::{Block, KeyTable, Options};

@@ -1,10 +1,19 @@
 //! A verifier that is fed.
 
+use crate::block::Memory;
 use crate::error::{number, part};
-use crate::{raw, Block, Error, Kind, Options, SignInput};
+use crate::{raw, Block, Error, Kind, Options, SignInput, Size, Small};
 
 /// Memory for a [`Verifier`].
 pub type VerifierBlock = Block<4_096>;
+
+/// Memory for a [`Verifier`] in the size [`Large`](crate::Large): 132 KiB, which may be on the heap.
+///
+/// ```
+/// let block = Box::<cose::LargeVerifierBlock>::default();
+/// assert_eq!(size_of_val(&*block), 132 * 1_024);
+/// ```
+pub type LargeVerifierBlock = Block<135_168>;
 
 /// The status of a message that isn't refused.
 #[derive(Clone, Copy, Debug, PartialEq, Eq, Hash)]
@@ -53,8 +62,8 @@ pub struct Accepted {
     pub taken: u64,
 }
 
-/// A verifier of one message after another, which takes a message in pieces of any lengths and holds at most 2,560 bytes of it. It
-/// borrows its memory, the keys and the externally supplied data.
+/// A verifier of one message after another, which takes a message in pieces of any lengths and holds at most 2,560 bytes of it, and
+/// 131,582 in the size [`Large`](crate::Large). It borrows its memory, the keys and the externally supplied data.
 ///
 /// ```
 /// use cose::{Block, Options, Status, Verifier};
@@ -98,13 +107,13 @@ pub struct Accepted {
 /// verifier.reset();
 /// ```
 #[derive(Debug)]
-pub struct Verifier<'k> {
+pub struct Verifier<'k, S: Size = Small> {
     // what is in it leads to the keys and to the externally supplied data, which stay for `'k` too
-    block: &'k mut VerifierBlock,
+    block: &'k mut S::Block,
 }
 
 impl<'k> Verifier<'k> {
-    /// A verifier of messages that have their payload.
+    /// A verifier of messages that have their payload, in the size [`Small`]. [`open`](Self::open) makes one of a size that is named.
     ///
     /// # Errors
     ///
@@ -114,22 +123,7 @@ impl<'k> Verifier<'k> {
         keys: &'k [u8],
         options: &Options<'k>,
     ) -> Result<Self, Error> {
-        let mut verifier = Self::begun(block)?;
-        let mut status = raw::Status::default();
-        // SAFETY: the block was begun; each pointer with its length is that of one slice, and what the block keeps of these slices
-        // stays as it is while `'k` lasts, so as long as the verifier.
-        unsafe {
-            raw::cose_edge_open(
-                &mut verifier.handle(),
-                keys.as_ptr(),
-                keys.len(),
-                options.aad.as_ptr(),
-                options.aad.len(),
-                options.wanted as u8,
-                &mut status,
-            );
-        }
-        Status::of(&status).map(|_| verifier)
+        Self::open(block, keys, options)
     }
 
     /// A verifier of messages that have nil for their payload, which is detached and has so many bytes. Where [`feed`](Self::feed)
@@ -164,12 +158,56 @@ impl<'k> Verifier<'k> {
         options: &Options<'k>,
         payload_length: u64,
     ) -> Result<Self, Error> {
+        Self::open_detached(block, keys, options, payload_length)
+    }
+}
+
+impl<'k, S: Size> Verifier<'k, S> {
+    /// A verifier of messages that have their payload, in a size that is named, as in `Verifier::<Large>::open`.
+    ///
+    /// # Errors
+    ///
+    /// The key set is refused, or the externally supplied data is too long.
+    pub fn open(
+        block: &'k mut S::Block,
+        keys: &'k [u8],
+        options: &Options<'k>,
+    ) -> Result<Self, Error> {
         let mut verifier = Self::begun(block)?;
         let mut status = raw::Status::default();
         // SAFETY: the block was begun; each pointer with its length is that of one slice, and what the block keeps of these slices
         // stays as it is while `'k` lasts, so as long as the verifier.
         unsafe {
-            raw::cose_edge_open_detached(
+            (S::FUNCTIONS.open)(
+                &mut verifier.handle(),
+                keys.as_ptr(),
+                keys.len(),
+                options.aad.as_ptr(),
+                options.aad.len(),
+                options.wanted as u8,
+                &mut status,
+            );
+        }
+        Status::of(&status).map(|_| verifier)
+    }
+
+    /// A verifier of messages whose payload is detached and has so many bytes, as [`detached`](Verifier::detached) makes one.
+    ///
+    /// # Errors
+    ///
+    /// The key set is refused, or the externally supplied data is too long.
+    pub fn open_detached(
+        block: &'k mut S::Block,
+        keys: &'k [u8],
+        options: &Options<'k>,
+        payload_length: u64,
+    ) -> Result<Self, Error> {
+        let mut verifier = Self::begun(block)?;
+        let mut status = raw::Status::default();
+        // SAFETY: the block was begun; each pointer with its length is that of one slice, and what the block keeps of these slices
+        // stays as it is while `'k` lasts, so as long as the verifier.
+        unsafe {
+            (S::FUNCTIONS.open_detached)(
                 &mut verifier.handle(),
                 keys.as_ptr(),
                 keys.len(),
@@ -184,17 +222,15 @@ impl<'k> Verifier<'k> {
     }
 
     /// A verifier that has no keys yet.
-    fn begun(block: &'k mut VerifierBlock) -> Result<Self, Error> {
-        VerifierBlock::holds(raw::cose_verifier_size(), raw::cose_verifier_align())?;
+    fn begun(block: &'k mut S::Block) -> Result<Self, Error> {
+        S::Block::holds((S::FUNCTIONS.size)(), (S::FUNCTIONS.align)())?;
         // SAFETY: the block has the size and the alignment that the library asks for, and is borrowed, so that it stays where it is.
-        unsafe { raw::cose_begin(block.at()) };
+        unsafe { (S::FUNCTIONS.begin)(block.at()) };
         Ok(Verifier { block })
     }
 
-    fn handle(&mut self) -> raw::Verifier {
-        raw::Verifier {
-            at: self.block.at(),
-        }
+    fn handle(&mut self) -> S::Handle {
+        self.block.at().into()
     }
 
     /// Takes the next bytes of the message: none after its end, and where the payload is detached, none after its nil until
@@ -207,7 +243,7 @@ impl<'k> Verifier<'k> {
         let mut fed = raw::Fed::default();
         // SAFETY: the block was begun, and the pointer with the length is that of one slice, of which the call keeps nothing.
         unsafe {
-            raw::cose_edge_feed(&mut self.handle(), piece.as_ptr(), piece.len(), &mut fed);
+            (S::FUNCTIONS.feed)(&mut self.handle(), piece.as_ptr(), piece.len(), &mut fed);
         }
         let status = Status::of(&fed.status)?;
         Ok(Fed {
@@ -221,7 +257,7 @@ impl<'k> Verifier<'k> {
     pub fn feed_payload(&mut self, piece: &[u8]) -> usize {
         // SAFETY: the block was begun, and the pointer with the length is that of one slice, of which the call keeps nothing.
         let used =
-            unsafe { raw::cose_edge_feed_payload(&mut self.handle(), piece.as_ptr(), piece.len()) };
+            unsafe { (S::FUNCTIONS.feed_payload)(&mut self.handle(), piece.as_ptr(), piece.len()) };
         usize::try_from(used).map_or(piece.len(), |used| used.min(piece.len()))
     }
 
@@ -242,7 +278,7 @@ impl<'k> Verifier<'k> {
     pub fn end(&mut self) -> Result<(), Error> {
         let mut status = raw::Status::default();
         // SAFETY: the block was begun.
-        unsafe { raw::cose_end(&mut self.handle(), &mut status) };
+        unsafe { (S::FUNCTIONS.end)(&mut self.handle(), &mut status) };
         match Status::of(&status)? {
             Status::Complete => Ok(()),
             Status::More | Status::PayloadNext => Err(Error::Incomplete),
@@ -257,7 +293,7 @@ impl<'k> Verifier<'k> {
     pub fn sign_input(&mut self) -> Result<Option<SignInput>, Error> {
         let mut input = raw::SignInput::BLANK;
         // SAFETY: the block was begun, and the call writes to the struct alone.
-        let found = unsafe { raw::cose_sign_input(&mut self.handle(), &mut input) };
+        let found = unsafe { (S::FUNCTIONS.sign_input)(&mut self.handle(), &mut input) };
         (found == 1).then(|| SignInput::of(&input)).transpose()
     }
 
@@ -271,7 +307,7 @@ impl<'k> Verifier<'k> {
         let good = self.sign_input()?.is_some_and(|input| is_good(&input));
         let mut verdict = raw::Verdict::default();
         // SAFETY: the block was begun, and the call writes to the struct alone.
-        unsafe { raw::cose_verdict(&mut self.handle(), i32::from(good), &mut verdict) };
+        unsafe { (S::FUNCTIONS.verdict)(&mut self.handle(), i32::from(good), &mut verdict) };
         match verdict.status {
             number::AUTHENTIC => Ok(Accepted {
                 kind: Kind::from_number(verdict.kind)?,
@@ -286,34 +322,34 @@ impl<'k> Verifier<'k> {
     /// Begins the next message, under the same keys.
     pub fn reset(&mut self) {
         // SAFETY: the block was begun.
-        unsafe { raw::cose_reset(&mut self.handle()) };
+        unsafe { (S::FUNCTIONS.reset)(&mut self.handle()) };
     }
 
     /// How many bytes of the message are wanted at least.
     #[must_use]
     pub fn wanted(&mut self) -> u64 {
         // SAFETY: the block was begun.
-        unsafe { raw::cose_wanted(&mut self.handle()) }
+        unsafe { (S::FUNCTIONS.wanted)(&mut self.handle()) }
     }
 
     /// How many bytes of a detached payload are wanted.
     #[must_use]
     pub fn payload_wanted(&mut self) -> u64 {
         // SAFETY: the block was begun.
-        unsafe { raw::cose_payload_wanted(&mut self.handle()) }
+        unsafe { (S::FUNCTIONS.payload_wanted)(&mut self.handle()) }
     }
 
     /// How many bytes of the message were taken.
     #[must_use]
     pub fn taken(&mut self) -> u64 {
         // SAFETY: the block was begun.
-        unsafe { raw::cose_taken(&mut self.handle()) }
+        unsafe { (S::FUNCTIONS.taken)(&mut self.handle()) }
     }
 
     /// How many bytes of the message are held.
     #[must_use]
     pub fn held(&mut self) -> u64 {
         // SAFETY: the block was begun.
-        unsafe { raw::cose_held(&mut self.handle()) }
+        unsafe { (S::FUNCTIONS.held)(&mut self.handle()) }
     }
 }

@@ -3,6 +3,7 @@
 mod messages;
 mod pieces;
 mod reasons;
+mod sizes;
 mod tokens;
 
 /// The bytes of hexadecimal digits.
