@@ -46,7 +46,7 @@ pub chosen_is_mac : (alg : Alg) (kid : Option (List ℕ)) (keys : List KeyValue)
 unfolding chosen
 chosen_is_mac alg kid keys found e =
     let here : (is_mac_of alg || is_err (chosen (question_made alg kid) keys)) ≡ true = each_algorithm (λ a. is_mac_of a || is_err (chosen (question_made a kid) keys)) refl alg in
-    grind (e, here)
+    grind (arith, e, here)
 
 flat_integer : (n : ℤ) → depth_of (integer_item n) ≡ 0
 unfolding depth_of
