@@ -13,7 +13,7 @@ use Rattle.cose_msg.specs.Feed.{part_of}
 use Rattle.cose_msg.specs.Kept.{HasTaken, bytes_taken, is_inspecting, kept_answer}
 use Rattle.cose_msg.specs.Message.{Setting, message}
 use Rattle.cose_msg.specs.Reading.{Reading}
-use Rattle.cose_msg.specs.Shown.{SignInput, Tells, held, sign_input_of}
+use Rattle.cose_msg.specs.Shown.{ShowsReading, SignInput, held, sign_input_of}
 use Rattle.cose_msg.specs.Status.{is_complete, is_more, is_open, payload_wanted_in, status_in, status_of_reading, wanted_in}
 use Rattle.cose_msg.specs.Task.{Task, rules_of, to_verify}
 use Rattle.cose_msg.specs.Verifier.{detaching, task_of}
@@ -33,7 +33,7 @@ Content room nesting = Option (Verifier room nesting KeySet meaning)
 -- their reading gives. A block that isn't opened has taken none.
 abbrev pub HasRead : {H D : ℕ} → Task → List ℕ → List ℕ → Content H D → Type 0
 HasRead task taken payload None = ⊥
-HasRead task taken payload (Some v) = HasTaken task taken payload v × Tells task taken v
+HasRead task taken payload (Some v) = HasTaken task taken payload v × ShowsReading task taken v
 
 -- ---- opening
 
