@@ -1,15 +1,15 @@
 -- The verdict on bytes in memory, of which the first ones were fed.
-use Rattle.std.proofs.Common.{◌≡◌, inl, inr, ℕ, ◌-◌, ◌≤◌, ℤ, Bool, true, false, List, [], ◌++◌, length, take, drop, Option, Some, None, Result, Ok, Err, refl, sym, ap, subst, ◌∙◌, arith}
+use Rattle.std.proofs.Common.{◌≡◌, inl, inr, ℕ, ◌-◌, ◌≤◌, ℤ, Bool, true, false, List, [], ◌++◌, length, take, drop, Option, Some, None, Result, Ok, Err, refl, sym, ap, subst, ◌∙◌, ◌||◌, not, arith}
 use Rattle.std.proofs.lemmas.Bool.Decides.{nat_tests}
 use Rattle.std.proofs.lemmas.List.{length-drop, length-take, take-append-drop}
 use Rattle.std.proofs.Math.Seq.{take-length}
 use Rattle.std.specs.Prelude.{IfOk, IsSomeAnd, min, nat_lt}
 use Rattle.cose_head.specs.declared.algorithm.Alg.{Alg}
-use Rattle.cose_head.specs.declared.algorithm.Alg.TheVariants.{Hmac64, Hmac256, Hmac384, Hmac512, Es256, Es384, Es512, Esp256, Esp384, Esp512}
 use Rattle.cose_head.specs.declared.kind.Kind.{Kind}
 use Rattle.cose_head.specs.declared.kind.Kind.TheVariants as kinds
 use Rattle.cose_head.specs.declared.reason.Reason.{Reason}
-use Rattle.cose_head.specs.Algorithm.{algorithm_numbered, key_type_of, kind_of}
+use Rattle.cose_head.specs.Algorithm.{algorithm_numbered, is_mac_of, key_type_of, kind_of}
+use Rattle.cose_head.proofs.Algorithms.{each_algorithm}
 use Rattle.cose_map.specs.Choice.{chosen}
 use Rattle.cose_map.specs.Choice.Algorithm.{has_type}
 use Rattle.cose_map.specs.Key.Value.{KeyValue, MaterialValue, elliptic, symmetric}
@@ -143,16 +143,10 @@ covers bytes content from to at count ordered fits is place number =
 -- A key that is chosen for a COSE_Sign1 is a point.
 of_alg : (alg : Alg) (material : MaterialValue) → kind_of alg ≡ kinds.Sign1 → has_type material (key_type_of alg) ≡ true → is_point material ≡ true
 of_alg alg (elliptic curve x y) signs typed = refl
-of_alg Hmac64 (symmetric secret) signs typed = absurd cc
-of_alg Hmac256 (symmetric secret) signs typed = absurd cc
-of_alg Hmac384 (symmetric secret) signs typed = absurd cc
-of_alg Hmac512 (symmetric secret) signs typed = absurd cc
-of_alg Es256 (symmetric secret) signs typed = absurd cc
-of_alg Es384 (symmetric secret) signs typed = absurd cc
-of_alg Es512 (symmetric secret) signs typed = absurd cc
-of_alg Esp256 (symmetric secret) signs typed = absurd cc
-of_alg Esp384 (symmetric secret) signs typed = absurd cc
-of_alg Esp512 (symmetric secret) signs typed = absurd cc
+of_alg alg (symmetric secret) signs typed =
+    let here : (is_mac_of alg || not (has_type (symmetric secret) (key_type_of alg))) ≡ true = each_algorithm (λ a. is_mac_of a || not (has_type (symmetric secret) (key_type_of a))) refl alg in
+    let clash : false ≡ true = rw (signs, typed) at here in
+    absurd cc
 
 chosen_point : (key : KeyValue) (kind : Kind) (found : Chosen) (alg : Option Alg) → kind ≡ kinds.Sign1 → IsSomeAnd alg (λ a. kind_of a ≡ kind) → IsSomeAnd alg (λ a. has_type key.material (key_type_of a) ≡ true) →
     as_choice (with_algorithm key alg) ≡ Ok (Some found) → is_point found.key.material ≡ true

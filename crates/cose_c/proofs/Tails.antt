@@ -1,27 +1,19 @@
 -- What follows the payload of a message that is made: a head of at most two bytes, and a MAC of at most 64.
-use Rattle.std.proofs.Common.{◌≡◌, ℕ, ◌+◌, ◌≤◌, true, false, List, length, ap, ◌∙◌, arith}
+use Rattle.std.proofs.Common.{◌≡◌, ℕ, ◌+◌, ◌≤◌, List, length, refl, ap, ◌∙◌, leb}
+use Rattle.std.proofs.lemmas.Bool.{leb-true}
 use Rattle.std.proofs.lemmas.List.{length-append}
 use Rattle.std.specs.Prelude.{IsTrue}
 use Rattle.cose_head.specs.declared.algorithm.Alg.{Alg}
-use Rattle.cose_head.specs.declared.algorithm.Alg.TheVariants.{Hmac64, Hmac256, Hmac384, Hmac512, Es256, Es384, Es512, Esp256, Esp384, Esp512}
 use Rattle.cose_head.specs.Algorithm.{auth_length_of, is_mac_of}
 use Rattle.cose_head.specs.Head.{shortest_head}
+use Rattle.cose_head.proofs.Algorithms.{each_mac}
 use Rattle.cose_mac.specs.Laws.{MacHasItsLength}
 use Rattle.cose_mac.specs.Structure.{encoded_string}
 use Rattle.cose_msg.specs.Making.{auth_made}
 
 lengths : (alg : Alg) → IsTrue (is_mac_of alg) → length (shortest_head 2 (auth_length_of alg)) + auth_length_of alg ≤ 70
 unfolding shortest_head
-lengths Hmac64 is_mac = omega arith
-lengths Hmac256 is_mac = omega arith
-lengths Hmac384 is_mac = omega arith
-lengths Hmac512 is_mac = omega arith
-lengths Es256 is_mac = let clash : false ≡ true = is_mac in absurd cc
-lengths Es384 is_mac = let clash : false ≡ true = is_mac in absurd cc
-lengths Es512 is_mac = let clash : false ≡ true = is_mac in absurd cc
-lengths Esp256 is_mac = let clash : false ≡ true = is_mac in absurd cc
-lengths Esp384 is_mac = let clash : false ≡ true = is_mac in absurd cc
-lengths Esp512 is_mac = let clash : false ≡ true = is_mac in absurd cc
+lengths alg is_mac = leb-true _ _ (each_mac (λ a. leb (length (shortest_head 2 (auth_length_of a)) + auth_length_of a) 70) refl alg is_mac)
 
 pub tail_fits : MacHasItsLength → (alg : Alg) → IsTrue (is_mac_of alg) → (secret aad payload : List ℕ) → length (encoded_string 2 (auth_made alg secret aad payload)) ≤ 70
 tail_fits law alg is_mac secret aad payload =

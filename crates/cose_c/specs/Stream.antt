@@ -13,7 +13,7 @@ use Rattle.cose_msg.specs.Feed.{part_of}
 use Rattle.cose_msg.specs.Kept.{HasTaken, bytes_taken, is_inspecting, kept_answer}
 use Rattle.cose_msg.specs.Message.{Setting, message}
 use Rattle.cose_msg.specs.Reading.{Reading}
-use Rattle.cose_msg.specs.Shown.{SignInput, ShowsReading, held, sign_input_of}
+use Rattle.cose_msg.specs.Shown.{ShowsReading, SignInput, held, sign_input_of}
 use Rattle.cose_msg.specs.Status.{is_complete, is_more, is_open, payload_wanted_in, status_in, status_of_reading, wanted_in}
 use Rattle.cose_msg.specs.Task.{Task, rules_of, to_verify}
 use Rattle.cose_msg.specs.Verifier.{detaching, task_of}

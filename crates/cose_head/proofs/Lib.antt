@@ -1,3 +1,4 @@
+pub mod Algorithms
 pub mod HeadLemmas
 pub mod WorkedHeads
 pub mod WorkedItems

@@ -1,14 +1,16 @@
 -- The two header buckets of a message that is made: their pairs, and what they ask of the key.
-use Rattle.std.proofs.Common.{◌≡◌, ℕ, ◌+◌, ◌^◌, ◌<◌, ◌≤◌, true, List, [], ◌∷◌, ◌++◌, length, Option, Some, None, refl, ap, ◌∙◌, arith, length-append}
-use Rattle.std.specs.Prelude.{Ok, ℤ, pos, negsuc}
-use Rattle.cose_head.specs.Algorithm.{algorithm_number, algorithm_numbered, is_mac_of}
+use Rattle.std.proofs.Common.{◌≡◌, ℕ, ◌+◌, ◌^◌, ◌<◌, ◌≤◌, true, List, [], ◌∷◌, ◌++◌, length, Option, Some, None, refl, ap, ◌∙◌, ◌||◌, arith, length-append, leb, ltb}
+use Rattle.std.specs.Prelude.{Bool, Ok, ℤ, pos, negsuc}
+use Rattle.std.specs.Result.{is_err}
+use Rattle.std.proofs.lemmas.Bool.{leb-true, ltb-true}
+use Rattle.cose_head.specs.Algorithm.{algorithm_number, is_mac_of}
 use Rattle.cose_head.specs.Head.{shortest_head}
 use Rattle.cose_head.specs.Item.{unsigned, byte_string, depth_of}
 use Rattle.cose_head.specs.Placed.{look, bytes_in}
 use Rattle.cose_head.specs.Shortest.{shortest, shortest_all, HasShortest}
 use Rattle.cose_head.specs.declared.algorithm.Alg.{Alg}
-use Rattle.cose_head.specs.declared.algorithm.Alg.TheVariants.{Hmac64, Hmac256, Hmac384, Hmac512, Es256, Es384, Es512, Esp256, Esp384, Esp512}
 use Rattle.cose_head.specs.declared.kind.Kind.TheVariants.{Mac0}
+use Rattle.cose_head.proofs.Algorithms.{each_algorithm}
 use Rattle.cose_map.specs.Bucket.{bucket_of}
 use Rattle.cose_map.specs.Bucket.Both.{pair_fault, pair_faults}
 use Rattle.cose_map.specs.Bucket.Form.{bucket_table}
@@ -27,44 +29,24 @@ use Rattle.cose_msg.proofs.lemmas.Made.SpelledBuckets.{ShortestLaws, shortest_la
 
 -- ---- algorithms by their numbers
 
-number_short : (alg : Alg) → HasShortest (integer_item (algorithm_number alg))
-unfolding HasShortest
-number_short Hmac64 = omega arith
-number_short Hmac256 = omega arith
-number_short Hmac384 = omega arith
-number_short Hmac512 = omega arith
-number_short Es256 = omega arith
-number_short Es384 = omega arith
-number_short Es512 = omega arith
-number_short Esp256 = omega arith
-number_short Esp384 = omega arith
-number_short Esp512 = omega arith
+abbrev is_short : ℤ → Bool
+is_short (pos n) = ltb n (2 ^ 64)
+is_short (negsuc n) = ltb n (2 ^ 64)
 
-pub numbered : (alg : Alg) → algorithm_numbered (algorithm_number alg) ≡ Some alg
-numbered Hmac64 = refl
-numbered Hmac256 = refl
-numbered Hmac384 = refl
-numbered Hmac512 = refl
-numbered Es256 = refl
-numbered Es384 = refl
-numbered Es512 = refl
-numbered Esp256 = refl
-numbered Esp384 = refl
-numbered Esp512 = refl
+integer_short : (n : ℤ) → is_short n ≡ true → HasShortest (integer_item n)
+unfolding HasShortest
+integer_short (pos n) short = ltb-true n (2 ^ 64) short
+integer_short (negsuc n) short = ltb-true n (2 ^ 64) short
+
+number_short : (alg : Alg) → HasShortest (integer_item (algorithm_number alg))
+number_short alg = integer_short (algorithm_number alg) (each_algorithm (λ a. is_short (algorithm_number a)) refl alg)
 
 -- No key is chosen for the question of a message that is made by an algorithm of signatures.
 pub chosen_is_mac : (alg : Alg) (kid : Option (List ℕ)) (keys : List KeyValue) (found : KeyValue × ℤ) → chosen (question_made alg kid) keys ≡ Ok found → is_mac_of alg ≡ true
 unfolding chosen
-chosen_is_mac Hmac64 kid keys found e = refl
-chosen_is_mac Hmac256 kid keys found e = refl
-chosen_is_mac Hmac384 kid keys found e = refl
-chosen_is_mac Hmac512 kid keys found e = refl
-chosen_is_mac Es256 kid keys found e = absurd cc
-chosen_is_mac Es384 kid keys found e = absurd cc
-chosen_is_mac Es512 kid keys found e = absurd cc
-chosen_is_mac Esp256 kid keys found e = absurd cc
-chosen_is_mac Esp384 kid keys found e = absurd cc
-chosen_is_mac Esp512 kid keys found e = absurd cc
+chosen_is_mac alg kid keys found e =
+    let here : (is_mac_of alg || is_err (chosen (question_made alg kid) keys)) ≡ true = each_algorithm (λ a. is_mac_of a || is_err (chosen (question_made a kid) keys)) refl alg in
+    grind (arith, e, here)
 
 flat_integer : (n : ℤ) → depth_of (integer_item n) ≡ 0
 unfolding depth_of
@@ -78,16 +60,7 @@ integer_label (negsuc n) = refl
 -- The protected header has three bytes, or four where the algorithm's number takes two.
 pub protected_length : (alg : Alg) → length (protected_made alg) ≤ 4
 unfolding shortest shortest_all shortest_head
-protected_length Hmac64 = omega arith
-protected_length Hmac256 = omega arith
-protected_length Hmac384 = omega arith
-protected_length Hmac512 = omega arith
-protected_length Es256 = omega arith
-protected_length Es384 = omega arith
-protected_length Es512 = omega arith
-protected_length Esp256 = omega arith
-protected_length Esp384 = omega arith
-protected_length Esp512 = omega arith
+protected_length alg = leb-true (length (protected_made alg)) 4 (each_algorithm (λ a. leb (length (protected_made a)) 4) refl alg)
 
 -- A map that holds the kid has at least as many bytes as the kid.
 inside : (front label head kid : List ℕ) → length kid ≤ length (front ++ (label ++ ((head ++ kid) ++ [])))

@@ -1,7 +1,7 @@
 -- What is made is a message, and authentic.
-use Rattle.std.proofs.Common.{◌≡◌, ℕ, ◌-◌, ◌^◌, ◌<◌, ◌≤◌, true, false, List, [], ◌∷◌, ◌++◌, length, Option, Some, None, refl, sym, ap, subst, arith, length-append}
+use Rattle.std.proofs.Common.{◌≡◌, ℕ, ◌-◌, ◌^◌, ◌<◌, ◌≤◌, true, false, List, [], ◌∷◌, ◌++◌, length, Option, Some, None, refl, sym, ap, subst, arith, length-append, ltb}
 use Rattle.std.specs.Prelude.{Ok}
-use Rattle.std.proofs.lemmas.Bool.{eq-eqb, le-ltb, lt-leb}
+use Rattle.std.proofs.lemmas.Bool.{eq-eqb, le-ltb, lt-leb, ltb-true}
 use Rattle.std.proofs.lemmas.List.{append-nil, take_at}
 use Rattle.std.proofs.lemmas.Slice.Eq.{bytes_eq-Decides}
 use Rattle.cose_head.specs.Algorithm.{auth_length_of, is_mac_of, algorithm_number}
@@ -9,8 +9,8 @@ use Rattle.cose_head.specs.Head.{shortest_head}
 use Rattle.cose_head.specs.Item.{byte_string, depth_of}
 use Rattle.cose_head.specs.Shortest.{shortest, shortest_all, HasShortest}
 use Rattle.cose_head.specs.declared.algorithm.Alg.{Alg}
-use Rattle.cose_head.specs.declared.algorithm.Alg.TheVariants.{Hmac64, Hmac256, Hmac384, Hmac512, Es256, Es384, Es512, Esp256, Esp384, Esp512}
 use Rattle.cose_head.specs.declared.kind.Kind.TheVariants.{Mac0}
+use Rattle.cose_head.proofs.Algorithms.{each_algorithm, numbered}
 use Rattle.cose_mac.specs.Laws.{MacHasItsLength}
 use Rattle.cose_mac.specs.Structure.{structure_of}
 use Rattle.cose_msg.specs.Answer.{Chosen, Headers, Whole}
@@ -22,7 +22,7 @@ use Rattle.cose_msg.specs.MakingLaws.{Admits, MadeIsAuthentic}
 use Rattle.cose_msg.specs.Message.{Decides, Setting, key_choice_of, structure, tag_of, uncompared}
 use Rattle.cose_msg.specs.Phases.{is_too_long}
 use Rattle.cose_msg.proofs.lemmas.Spelling.Authentications.{message_is_authentic}
-use Rattle.cose_msg.proofs.lemmas.Made.MadeHeaders.{numbered, chosen_is_mac, protected_length, kid_length, KidIsShort, headers_made, good_together, protected_bucket, unprotected_bucket, asks}
+use Rattle.cose_msg.proofs.lemmas.Made.MadeHeaders.{chosen_is_mac, protected_length, kid_length, KidIsShort, headers_made, good_together, protected_bucket, unprotected_bucket, asks}
 use Rattle.cose_msg.proofs.lemmas.Spelling.Spelled.{one_byte_head}
 use Rattle.cose_msg.proofs.lemmas.Made.SpelledBuckets.{ShortestLaws}
 
@@ -73,16 +73,7 @@ not_too_long : (limit n : ℕ) → n < 2 ^ 56 → n ≤ limit → is_too_long li
 not_too_long limit n below within = rw (lt-leb (2 ^ 56) n below, le-ltb limit n within) refl
 
 auth_below : (alg : Alg) → auth_length_of alg < 2 ^ 64
-auth_below Hmac64 = omega arith
-auth_below Hmac256 = omega arith
-auth_below Hmac384 = omega arith
-auth_below Hmac512 = omega arith
-auth_below Es256 = omega arith
-auth_below Es384 = omega arith
-auth_below Es512 = omega arith
-auth_below Esp256 = omega arith
-auth_below Esp384 = omega arith
-auth_below Esp512 = omega arith
+auth_below alg = ltb-true (auth_length_of alg) (2 ^ 64) (each_algorithm (λ a. ltb (auth_length_of a) (2 ^ 64)) refl alg)
 
 -- ---- the message
 

@@ -1,10 +1,11 @@
 -- The message that is made, piece by piece.
-use Rattle.std.proofs.Common.{◌≡◌, ℕ, List, ◌++◌, length, Option, None, Some, refl, ap, append_assoc, append-nil, IsTrue}
+use Rattle.std.proofs.Common.{◌≡◌, ◌==◌, ℕ, List, ◌++◌, length, Option, None, Some, refl, ap, append_assoc, append-nil, IsTrue}
+use Rattle.std.proofs.lemmas.Bool.{eqb-true}
 use Rattle.cose_head.specs.Algorithm.{is_mac_of}
 use Rattle.cose_head.specs.Head.{shortest_head}
 use Rattle.cose_head.specs.Shortest.{shortest, shortest_all}
 use Rattle.cose_head.specs.declared.algorithm.Alg.{Alg}
-use Rattle.cose_head.specs.declared.algorithm.Alg.TheVariants.{Hmac64, Hmac256, Hmac384, Hmac512, Es256, Es384, Es512, Esp256, Esp384, Esp512}
+use Rattle.cose_head.proofs.Algorithms.{each_mac}
 use Rattle.cose_mac.specs.Structure.{encoded_string}
 use Rattle.cose_msg.specs.Writes.{front_of}
 use Rattle.cose_msg.specs.Making.{auth_made, made, protected_made, unprotected_made}
@@ -21,16 +22,7 @@ unprotected_some kid = ap (λ (t : List ℕ). shortest_head 5 1 ++ (shortest_hea
 -- The protected header has three bytes.
 pub protected_bytes : (alg : Alg) → IsTrue (is_mac_of alg) → length (protected_made alg) ≡ 3
 unfolding shortest shortest_all shortest_head
-protected_bytes Hmac64 is_mac = refl
-protected_bytes Hmac256 is_mac = refl
-protected_bytes Hmac384 is_mac = refl
-protected_bytes Hmac512 is_mac = refl
-protected_bytes Es256 is_mac = cc
-protected_bytes Es384 is_mac = cc
-protected_bytes Es512 is_mac = cc
-protected_bytes Esp256 is_mac = cc
-protected_bytes Esp384 is_mac = cc
-protected_bytes Esp512 is_mac = cc
+protected_bytes alg is_mac = eqb-true _ _ (each_mac (λ a. length (protected_made a) == 3) refl alg is_mac)
 
 -- What precedes the payload's content, the payload, and the tag.
 pub in_parts : (alg : Alg) (secret : List ℕ) (kid : Option (List ℕ)) (aad payload : List ℕ) →

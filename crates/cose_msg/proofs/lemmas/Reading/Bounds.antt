@@ -1,26 +1,17 @@
 -- The numbers of bytes that settle a message which is verified or inspected.
-use Rattle.std.proofs.Common.{◌≡◌, ℕ, ◌≤◌, true, Option, Some, None, Result, Ok, Err, arith}
+use Rattle.std.proofs.Common.{◌≡◌, ℕ, ◌≤◌, true, Option, Some, None, Result, Ok, Err, refl, arith, leb}
 use Rattle.std.proofs.lemmas.Bool.{eqb-true, leb-true}
 use Rattle.cose_head.specs.declared.reason.Reason.{Reason}
 use Rattle.cose_head.specs.declared.algorithm.Alg.{Alg}
-use Rattle.cose_head.specs.declared.algorithm.Alg.TheVariants.{Hmac64, Hmac256, Hmac384, Hmac512, Es256, Es384, Es512, Esp256, Esp384, Esp512}
 use Rattle.cose_head.specs.Algorithm.{auth_length_of}
+use Rattle.cose_head.proofs.Algorithms.{each_algorithm}
 use Rattle.cose_msg.specs.Answer.{Answer, Chosen, Whole}
 use Rattle.cose_msg.specs.Laws.{AuthIsAtMost, MessageIsVerifiedWithin, MessageIsInspectedWithin}
 use Rattle.cose_msg.specs.Message.{Setting, rules_with, found_key, as_choice, key_choice_of, has_auth_length, uncompared, comparing, verifying, inspecting}
 use Rattle.cose_msg.proofs.lemmas.Reading.Settles.{BoundLaws, message_is_bounded}
 
 pub algorithms_are_short : (alg : Alg) → auth_length_of alg ≤ 132
-algorithms_are_short Hmac64 = omega arith
-algorithms_are_short Hmac256 = omega arith
-algorithms_are_short Hmac384 = omega arith
-algorithms_are_short Hmac512 = omega arith
-algorithms_are_short Es256 = omega arith
-algorithms_are_short Es384 = omega arith
-algorithms_are_short Es512 = omega arith
-algorithms_are_short Esp256 = omega arith
-algorithms_are_short Esp384 = omega arith
-algorithms_are_short Esp512 = omega arith
+algorithms_are_short alg = leb-true (auth_length_of alg) 132 (each_algorithm (λ a. leb (auth_length_of a) 132) refl alg)
 
 -- Where a key is to be chosen, one is.
 abbrev FitsIn : ℕ → Option Chosen → Type 0
