@@ -40,15 +40,15 @@ same_reading stays H D setting decides taken rest false is ends =
 -- All bytes have the verdict that the bytes taken have, and the payload that was among them.
 pub read_whole : MessageStays → (H D : ℕ) (setting : Setting) (decides : Decides) (come_after : Option (List ℕ)) (ended : Bool) (verdict : Verdict) (taken payload bytes : List ℕ) →
     Run (verifying H D setting decides) decided [] [] (Some bytes) come_after ended (Some []) (Some payload) (Ok verdict) taken →
-    ((read_as H D setting decides bytes).answer ≡ decided verdict) × ((read_as H D setting decides bytes).told.payload ≡ payload)
+    ((read_as H D setting decides bytes).answer ≡ decided verdict) × ((read_as H D setting decides bytes).so_far.payload ≡ payload)
 read_whole stays H D setting decides None ended verdict taken payload bytes run = absurd run.bytes
 read_whole stays H D setting decides (Some rest) ended verdict taken payload bytes run =
     let whole : bytes ≡ taken ++ rest = run.bytes in
     let same : read_as H D setting decides bytes ≡ read_as H D setting decides taken =
     ap (read_as H D setting decides) whole
     ∙ same_reading stays H D setting decides taken rest (read_as H D setting decides taken).settled refl (λ open_yet. (run.answer.ends.unsettled open_yet).1) in
-    let grown : (read_as H D setting decides taken).told.payload ≡ payload = run.payload.1 ∙ sym run.payload.2 in
-    (ap (λ (reading : Reading). reading.answer) same ∙ run.answer.answer, ap (λ (reading : Reading). reading.told.payload) same ∙ grown)
+    let grown : (read_as H D setting decides taken).so_far.payload ≡ payload = run.payload.1 ∙ sym run.payload.2 in
+    (ap (λ (reading : Reading). reading.answer) same ∙ run.answer.answer, ap (λ (reading : Reading). reading.so_far.payload) same ∙ grown)
 
 judged : MessageStays → (H D : ℕ) (setting : Setting) (decides : Decides) (policy : PolicyValue) (come_after : Option (List ℕ)) (ended : Bool) (verdict : Verdict) (taken payload bytes : List ℕ) (outcome : Outcome) →
     Run (verifying H D setting decides) decided [] [] (Some bytes) come_after ended (Some []) (Some payload) (Ok verdict) taken → outcome ≡ token_of D policy (Ok verdict) payload →

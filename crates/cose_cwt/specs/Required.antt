@@ -53,7 +53,7 @@ required_of depth policy requirements (Err stop) payload = Err (stops.Cwt (cwt_s
 pub record IsRequiredToken (room nesting : ℕ) (setting : Setting) (decides : Decides) (policy : PolicyValue) (requirements : RequirementsValue) (bytes : List ℕ) (outcome : Required) : Type 0 where
   pub verdict : Verdict
   pub judged : verdict_of room nesting setting decides bytes ≡ decided verdict
-  pub comes : outcome ≡ required_of nesting policy requirements (Ok verdict) (read_as room nesting setting decides bytes).told.payload
+  pub comes : outcome ≡ required_of nesting policy requirements (Ok verdict) (read_as room nesting setting decides bytes).so_far.payload
 
 -- The same, unless the verifier stopped.
 abbrev pub RequiredUnlessStopped : Required → Type 0 → Type 0

@@ -61,7 +61,7 @@ module _ (header nesting : ℕ) where
       UnlessStopped (Err stop) (IsToken header nesting setting decides policy bytes (Err stop)) → stopped_in (Err (Cwt stop)) ≡ None → Err (Cwt stop) ≡ input_token header nesting setting decides policy requirements bytes
   unless_admitted setting decides policy requirements bytes stop says none =
       let token = unless_stopped (Err stop) says none in
-      refused_token token.verdict (length bytes) policy requirements (read_as header nesting setting decides bytes).told.payload (read_as header nesting setting decides bytes).answer (Err stop) stop token.judged token.comes refl
+      refused_token token.verdict (length bytes) policy requirements (read_as header nesting setting decides bytes).so_far.payload (read_as header nesting setting decides bytes).answer (Err stop) stop token.judged token.comes refl
 
   -- A byte after a token that is admitted, and meets what is required, refuses it.
   unless_behind : (rest taken bytes : List ℕ) (count : ℕ) (claims : ClaimsValue) → bytes ≡ taken ++ rest → count ≡ length taken →
@@ -111,7 +111,7 @@ module _ (header nesting : ℕ) where
       let found : decided token.verdict ≡ decided verdict = sym token.judged ∙ same ∙ run.answer.answer in
       let one : verdict ≡ token.verdict = cc in
       let counted : Counts token.verdict (length taken) = subst (λ (v : Verdict). Counts v (length taken)) one run.answer.counted in
-      (rest, refl, admitted_token token.verdict rest taken bytes policy requirements (read_as header nesting setting decides bytes).told.payload (read_as header nesting setting decides bytes).answer claims whole counted token.judged token.comes)
+      (rest, refl, admitted_token token.verdict rest taken bytes policy requirements (read_as header nesting setting decides bytes).so_far.payload (read_as header nesting setting decides bytes).answer claims whole counted token.judged token.comes)
 
   pub left_of_run : VerdictStays → (setting : Setting) (decides : Decides) (policy : PolicyValue) (requirements : RequirementsValue) (come come_after : Option (List ℕ)) (ended : Bool) {S : Type 0} {K : _} (v : Verifier header nesting S K) (bytes : List ℕ) (claims : ClaimsValue) (count : ℕ) →
       IsRun setting decides policy come come_after ended v (Ok claims) → IsToken header nesting setting decides policy bytes (Ok claims) → come ≡ Some bytes → count ≡ v.taken →

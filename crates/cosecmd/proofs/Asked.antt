@@ -29,7 +29,7 @@ use Rattle.cosecmd.specs.Options.{stated_part}
 use Rattle.cosecmd.specs.Stated.{answered_from, digested_from, verified_from}
 use Rattle.cosecmd.specs.Requirements.{requirements_for}
 use Rattle.cosecmd.specs.Under.{Under, job_under, owned_under}
-use Rattle.cosecmd.specs.Words.{admitted_for, asked_for, made_for, makes}
+use Rattle.cosecmd.specs.Arguments.{admitted_for, asked_for, made_for, makes}
 
 -- A run that ends with one output ends with an equal one.
 pub ends_with : {said asked : Output} (old new : Option (List ℕ)) (status : ℕ) → said ≡ asked → EndsWith said old new status → EndsWith asked old new status

@@ -16,15 +16,15 @@ use Rattle.cosecmd.specs.Options.{Options, ◌>>=◌, flag_in, key_in, key_set_i
 use Rattle.cosecmd.specs.Printed.{Output, admitted_under, keys_listed, made_under}
 use Rattle.cosecmd.specs.Requirements.{requirements_with}
 use Rattle.cosecmd.specs.Under.{Under, owned_under}
-use Rattle.cosecmd.specs.Words.{admitted_for, made_for}
+use Rattle.cosecmd.specs.Arguments.{admitted_for, made_for}
 use Rattle.cosecmd.specs.declared.request.Cwt.{Cwt}
 use Rattle.cosecmd.specs.declared.request.Keys.{Keys}
 use Rattle.cosecmd.specs.declared.request.Make.{Make}
 use Rattle.cosecmd.specs.declared.request.OwnedChecks.{OwnedChecks}
 use Rattle.cosecmd.specs.declared.reply.Reply.{Reply}
 use Rattle.cosecmd.specs.declared.reply.Status.TheVariants as statuses
-use Rattle.cosecmd.specs.declared.words.Parsed.{Parsed}
-use Rattle.cosecmd.specs.declared.words.Parsed.TheVariants.{Matches, Text as ClapText}
+use Rattle.cosecmd.specs.declared.arguments.Parsed.{Parsed}
+use Rattle.cosecmd.specs.declared.arguments.Parsed.TheVariants.{Matches, Text as ClapText}
 use Rattle.cosecmd.proofs.RequiredOptions.{same_requirements}
 
 -- The checks and the payload that the options state are those that they ask for, and this is printed for them.

@@ -1,6 +1,6 @@
 pub mod Admissions
 pub mod Asked
-pub mod Checked
+pub mod ChecksAsked
 pub mod CommandLines
 pub mod DigestPayloads
 pub mod Digests

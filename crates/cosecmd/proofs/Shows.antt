@@ -42,7 +42,7 @@ module _ {F : Type 0} (header nesting : ℕ) (setting : Setting) (keys : List Ke
         shown_so (said_of (Refused refusal)) (ap (shown_as diagnostic (message rules bytes).told) e) s
 
     pub says_shape : (protected unprotected : Option (List Pair)) → ((rest : List ℕ) → come_after ≡ Some rest → None ≡ trailing_refusal rest count) →
-        protected ≡ (message (inspecting header nesting setting) taken).told.protected → unprotected ≡ (message (inspecting header nesting setting) taken).told.unprotected →
+        protected ≡ (message (inspecting header nesting setting) taken).so_far.protected → unprotected ≡ (message (inspecting header nesting setting) taken).so_far.unprotected →
         IfOk reply (Says (shape_said diagnostic kind payload auth count protected unprotected)) → IfOk reply (Says (shown_in header nesting wanted diagnostic bytes))
     unfolding rules
     says_shape protected unprotected h p u s =
@@ -50,8 +50,8 @@ module _ {F : Type 0} (header nesting : ℕ) (setting : Setting) (keys : List Ke
         let all = all_taken bytes taken o.0 count o.2 (h o.0 o.1) in
         let e : trailed (length bytes) (message rules bytes).answer ≡ shaped kind payload auth count =
         ap (λ (a : Answer). trailed (length bytes) a) shape ∙ kept_at_end bytes taken (shaped kind payload auth count) count refl all counted in
-        let q : protected ≡ (message rules bytes).told.protected = p ∙ ap (λ (t : List ℕ). (message rules t).told.protected) (sym all) in
-        let w : unprotected ≡ (message rules bytes).told.unprotected = u ∙ ap (λ (t : List ℕ). (message rules t).told.unprotected) (sym all) in
+        let q : protected ≡ (message rules bytes).so_far.protected = p ∙ ap (λ (t : List ℕ). (message rules t).so_far.protected) (sym all) in
+        let w : unprotected ≡ (message rules bytes).so_far.unprotected = u ∙ ap (λ (t : List ℕ). (message rules t).so_far.unprotected) (sym all) in
         shown_so (shape_said diagnostic kind payload auth count protected unprotected)
         (ap (shown_as diagnostic (message rules bytes).told) e ∙ rw (← q, ← w) refl) s
 

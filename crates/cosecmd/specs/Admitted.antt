@@ -72,8 +72,8 @@ unless_trailed n taken (Ok claims) = or_trailing (if nat_lt taken n then Some (r
 unless_trailed n taken (Err stop) = Err stop
 
 -- An outcome that verifying doesn't have.
-abbrev pub none_told : Admission
-none_told = Err (Cwt (stops.Stopped causes.Again))
+abbrev pub none_so_far : Admission
+none_so_far = Err (Cwt (stops.Stopped causes.Again))
 
 -- The outcome for an input of n bytes as a token, by the payload and the answer of its message. Claims nest at most
 -- `nesting` deep.
@@ -81,11 +81,11 @@ abbrev pub token_told : ℕ → ℕ → PolicyValue → RequirementsValue → Li
 token_told nesting n policy requirements payload (decided (Authentic kind alg size taken)) =
     unless_trailed n taken (if_admitted requirements (of_claims (admitted_claims nesting policy payload)))
 token_told nesting n policy requirements payload (decided (Refused refusal)) = Err (Cwt (stops.Message refusal))
-token_told nesting n policy requirements payload (complete whole) = none_told
-token_told nesting n policy requirements payload (shaped kind size auth taken) = none_told
+token_told nesting n policy requirements payload (complete whole) = none_so_far
+token_told nesting n policy requirements payload (shaped kind size auth taken) = none_so_far
 
 abbrev pub token_read : ℕ → ℕ → PolicyValue → RequirementsValue → Reading → Admission
-token_read nesting n policy requirements reading = token_told nesting n policy requirements reading.told.payload reading.answer
+token_read nesting n policy requirements reading = token_told nesting n policy requirements reading.so_far.payload reading.answer
 
 -- The token that a whole input is, in buckets of at most `header` bytes that nest at most `nesting` deep.
 abbrev pub input_token : ℕ → ℕ → Setting → Decides → PolicyValue → RequirementsValue → List ℕ → Admission

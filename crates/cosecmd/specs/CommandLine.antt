@@ -16,12 +16,12 @@ use Rattle.cosecmd.specs.Options.{Options, ◌>>=◌, algorithm_in, bytes_in, fl
 use Rattle.cosecmd.specs.Fields.{checks_in, digest_checks_in}
 use Rattle.cosecmd.specs.Printed.{EndsWith, Fails, Output, admitted_under, digested_under, keys_listed, made_under, shown, verified_under}
 use Rattle.cosecmd.specs.Requirements.{requirements_in}
-use Rattle.cosecmd.specs.Words.{asked_for, payload_for}
+use Rattle.cosecmd.specs.Arguments.{asked_for, payload_for}
 use Rattle.cosecmd.specs.declared.fault.Fault.{Fault}
 use Rattle.cosecmd.specs.declared.reply.Status.TheVariants as statuses
 use Rattle.cosecmd.specs.declared.request.Request.{Request}
-use Rattle.cosecmd.specs.declared.words.Parsed.{Parsed}
-use Rattle.cosecmd.specs.declared.words.Parsed.TheVariants.{Matches, Text as Reply}
+use Rattle.cosecmd.specs.declared.arguments.Parsed.{Parsed}
+use Rattle.cosecmd.specs.declared.arguments.Parsed.TheVariants.{Matches, Text as Reply}
 
 abbrev pub verify_prints : (List ℕ → Option (List ℕ)) → Options → List ℕ → Option Output
 verify_prints content options bytes = do

@@ -1,4 +1,5 @@
 pub mod Admitted
+pub mod Arguments
 pub mod CommandLine
 pub mod Faults
 pub mod Fields
@@ -17,5 +18,4 @@ pub mod Requirements
 pub mod Stated
 pub mod Under
 pub mod Vouch
-pub mod Words
 pub mod WriteSink

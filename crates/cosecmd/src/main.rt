@@ -7,6 +7,7 @@ ghost use Rattle.std.specs.Prelude.{◌≡◌};
 ghost use Rattle.std.specs.Process.{exit_status};
 
 mod answer;
+mod arguments;
 mod checks;
 mod commands;
 mod fault;
@@ -27,7 +28,6 @@ mod required;
 mod run;
 mod streams;
 mod vouch;
-mod words;
 mod write_sink;
 
 use noted_files::NotedFiles;

@@ -6,8 +6,8 @@ ghost use Rattle.cose_cwt.specs.Requirements.View.{requirements_value};
 ghost use Rattle.cosecmd.specs.Options.{flag_in, number_in, options_of, text_in};
 ghost use Rattle.cosecmd.specs.Requirements as spec;
 
+use crate::arguments::{flag_of, text_of};
 use crate::fault::Fault;
-use crate::words::{flag_of, text_of};
 use clap::ArgMatches;
 use cose_cwt::{Claim, Requirements};
 use std::alloc::{AllocError, Global};

@@ -1,4 +1,0 @@
-use Rattle.cosecmd.proofs.words.keys_of.Goals as goal
-
-pub returns : goal.returns
-returns g c = record { keys = c.in_ok-keys.ensures.listed }
