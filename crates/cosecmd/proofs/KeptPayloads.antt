@@ -30,18 +30,18 @@ where_ok (Err e) P p = tt
 
 -- The payload among the bytes taken is that of the whole input.
 pub payload_of_whole : (stays : MessageStays) (rules : Rules) (bytes taken grown : List ℕ) (come come_after old new : Option (List ℕ)) → come ≡ Some bytes → Consumes come come_after taken →
-    ((message rules taken).settled ≡ false → IsAtEnd come_after) → (message rules taken).told.payload ≡ grown → Appends old new grown → Appends old new (message rules bytes).told.payload
+    ((message rules taken).settled ≡ false → IsAtEnd come_after) → (message rules taken).so_far.payload ≡ grown → Appends old new grown → Appends old new (message rules bytes).so_far.payload
 payload_of_whole stays rules bytes taken grown come come_after old new e consumes ends told grows =
     let left = left_of_input come come_after bytes taken e consumes in
     let same : message rules bytes ≡ message rules taken = all_come_to stays rules bytes taken left.0 left.2 (λ unsettled. subst IsAtEnd left.1 (ends unsettled)) in
-    subst (Appends old new) (sym (ap (λ (reading : Reading). reading.told.payload) same ∙ told)) grows
+    subst (Appends old new) (sym (ap (λ (reading : Reading). reading.so_far.payload) same ∙ told)) grows
 
 -- And it is the one that the definitions give for these keys.
 pub payload_read : {F : Type 0} (under : Under) (keys : List KeyValue) (setting : Setting) (bytes : List ℕ) (old new : Option (List ℕ)) (reply : Result Reply F) →
-    under.keys ≡ Ok keys → setting ≡ setting_under under keys → Appends old new (payload_in setting (vouching under.vouch) bytes) → IfOk reply (λ _. Appends old new (payload_under under bytes))
+    under.keys ≡ Ok keys → setting ≡ setting_under under keys → Appends old new (payload_in under.room.header under.room.nesting setting (vouching under.vouch) bytes) → IfOk reply (λ _. Appends old new (payload_under under bytes))
 payload_read under keys setting bytes old new reply read is grows =
-    let e : payload_under under bytes ≡ payload_in setting (vouching under.vouch) bytes =
-    ap (λ (t : Read (List KeyValue)). payload_where_read under t bytes) read ∙ ap (λ (x : Setting). payload_in x (vouching under.vouch) bytes) (sym is) in
+    let e : payload_under under bytes ≡ payload_in under.room.header under.room.nesting setting (vouching under.vouch) bytes =
+    ap (λ (t : Read (List KeyValue)). payload_where_read under t bytes) read ∙ ap (λ (x : Setting). payload_in under.room.header under.room.nesting x (vouching under.vouch) bytes) (sym is) in
     where_ok reply (Appends old new (payload_under under bytes)) (subst (Appends old new) (sym e) grows)
 
 -- What a sink got is in the file that was lent to it.

@@ -14,7 +14,7 @@ use Rattle.cosecmd.specs.Payload.{detached_in}
 use Rattle.cosecmd.specs.Printed.{setting_under, verified_under}
 use Rattle.cosecmd.specs.Under.{Under, owned_under}
 use Rattle.cosecmd.specs.Vouch.{vouching}
-use Rattle.cosecmd.specs.Words.{asked_for, makes, payload_for}
+use Rattle.cosecmd.specs.Arguments.{asked_for, makes, payload_for}
 use Rattle.cosecmd.specs.declared.fault.Fault.{Fault}
 use Rattle.cosecmd.specs.declared.fault.Fault.TheVariants as faults
 use Rattle.cosecmd.specs.declared.request.OwnedChecks.{OwnedChecks}
@@ -22,12 +22,13 @@ use Rattle.cosecmd.specs.declared.request.Payload.{Payload}
 use Rattle.cosecmd.specs.declared.request.Request.{Request}
 use Rattle.cosecmd.specs.declared.request.Request.TheVariants as asks
 
--- The payload of the message that begins an input: of an authentic one all of it, and of any other its bytes that are there.
-abbrev pub payload_in : Setting → Decides → List ℕ → List ℕ
-payload_in setting decides bytes = (message (verifying 1024 8 setting decides) bytes).told.payload
+-- The payload of the message that begins an input, in buckets of at most `header` bytes that nest at most `nesting` deep: of an
+-- authentic message all of it, and of any other its bytes that are there.
+abbrev pub payload_in : ℕ → ℕ → Setting → Decides → List ℕ → List ℕ
+payload_in header nesting setting decides bytes = (message (verifying header nesting setting decides) bytes).so_far.payload
 
 abbrev pub payload_where_read : Under → Read (List KeyValue) → List ℕ → List ℕ
-payload_where_read under (Ok keys) bytes = payload_in (setting_under under keys) (vouching under.vouch) bytes
+payload_where_read under (Ok keys) bytes = payload_in under.room.header under.room.nesting (setting_under under keys) (vouching under.vouch) bytes
 payload_where_read under (Err refusal) bytes = []
 
 abbrev pub payload_under : Under → List ℕ → List ℕ
@@ -51,9 +52,10 @@ new_file_of (Some command) = if bytes_eq command.0 (codes "verify") then text_in
 -- The new file of a request.
 abbrev pub new_file_for : Request → Option Text
 new_file_for (asks.Keep checks name) = Some name.now
-new_file_for (asks.Show wanted diagnostic) = None
+new_file_for (asks.Show limits wanted diagnostic) = None
 new_file_for (asks.Message question checks payload) = None
 new_file_for (asks.Cwt words) = None
+new_file_for (asks.Keys words) = None
 new_file_for (asks.Make words) = None
 
 -- A request to verify a message under these checks, with this payload.

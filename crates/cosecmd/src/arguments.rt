@@ -411,7 +411,7 @@ fn verify_or_keep<'a>(
     match payload {
         Payload::InMessage => Ok(Request::Keep { checks, name }),
         // clap refuses the options together.
-        Payload::Bytes(_) | Payload::File(_) => Err(Fault::Line("payload-to")),
+        Payload::Bytes(_) | Payload::File { .. } => Err(Fault::Line("payload-to")),
     }
 }
 

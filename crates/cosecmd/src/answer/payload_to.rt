@@ -7,6 +7,7 @@ ghost use Rattle.cose_map.specs.KeyTable.{keys as usable};
 ghost use Rattle.cose_msg.specs.Answer.{decided};
 ghost use Rattle.cose_msg.specs.Verifier.{setting_of};
 ghost use Rattle.cosecmd.specs.Faults.{fails_by_file, fails_by_input};
+ghost use Rattle.cosecmd.specs.Limits.{AreSizesUnder};
 ghost use Rattle.cosecmd.specs.NewFile.{IsRemoved};
 ghost use Rattle.cosecmd.specs.PayloadTo.{IsOfNewFile, WritesFileFault, payload_in, payload_under};
 ghost use Rattle.cosecmd.specs.Printed.{EndsWith, Fails, Output, Says, input_answer, verified_under};
@@ -14,11 +15,12 @@ ghost use Rattle.cosecmd.specs.Under.{job_under};
 ghost use Rattle.cosecmd.specs.Vouch.{vouching};
 ghost use Rattle.cosecmd.specs.declared.new_file.Standing.TheVariants.{Gone, Kept};
 
-use crate::answer::verify::{
-    CHUNK, HEADER, KEYS, NESTING, program_context, reply_of, whole_verdict,
-};
+use crate::answer::verify::{CHUNK, program_context, reply_of, whole_verdict};
 use crate::fault::Fault;
 use crate::job::Checks;
+use crate::limits::{
+    LARGE_HEADER, LARGE_KEYS, LARGE_NESTING, Limits, SMALL_HEADER, SMALL_KEYS, SMALL_NESTING,
+};
 use crate::new_file::{NewFile, NewFiles};
 use crate::print::{print_fault, print_reply};
 use crate::reply::{Reply, Status};
@@ -30,19 +32,22 @@ use std::alloc::Global;
 use std::io::{Read, Write};
 
 /// The verdict of all that an intake gives, a message that has its payload. The payload goes into the sink as it comes.
-pub fn verdict_into<'j, I: Intake, S: Sink>(
-    context: Context<'j, KeyTable<'j, KEYS>>,
+fn verdict_into<'j, const H: usize, const D: usize, const N: usize, I: Intake, S: Sink>(
+    context: Context<'j, KeyTable<'j, N>>,
     vouch: &Vouch<'j>,
     intake: &mut I,
     sink: &mut S,
 ) -> Result<Verdict, Fault>
+    requires some_room { 16 ≤ H }
+    requires limit { H ≤ 65535 }
+    requires nesting { D ≤ 32 }
     requires external { length context.aad.now ≤ 65535 }
     ensures verdict { (bytes : List ℕ) → I.to_come intake.old ≡ Some bytes →
-        IfOk result (λ verdict. input_answer (setting_of usable context.entry)
+        IfOk result (λ verdict. input_answer H D (setting_of usable context.entry)
         (vouching (option_map contents vouch.now.word)) bytes ≡ decided verdict) }
     ensures payload { (bytes : List ℕ) → I.to_come intake.old ≡ Some bytes →
         IfOk result (λ _. Appends (S.contents sink.old) (S.contents sink.new)
-        (payload_in (setting_of usable context.entry)
+        (payload_in H D (setting_of usable context.entry)
         (vouching (option_map contents vouch.now.word)) bytes)) }
     // It fails exactly where the intake or the sink failed in this call.
     ensures fault { IfErr result (λ fault. (fault ≡ Fault.Input)
@@ -54,8 +59,8 @@ pub fn verdict_into<'j, I: Intake, S: Sink>(
 {
     // The law that the proof cites: the reading of a message stays when bytes follow.
     settled_stays();
-    let mut verifier = Verifier::<HEADER, NESTING, KeyTable<'_, KEYS>>::new(context);
-    match verify::<CHUNK, HEADER, NESTING, _, _, _, _>(&mut verifier, intake, sink, vouch) {
+    let mut verifier = Verifier::<H, D, KeyTable<'_, N>>::new(context);
+    match verify::<CHUNK, H, D, _, _, _, _>(&mut verifier, intake, sink, vouch) {
         Ok(verdict) => whole_verdict(verdict, intake),
         Err(Stop::Sink) => Err(Fault::File("payload-to")),
         // A new verifier hasn't stopped.
@@ -64,12 +69,19 @@ pub fn verdict_into<'j, I: Intake, S: Sink>(
 }
 
 /// The reply to the message of an intake, whose payload goes into the sink: the key set is read before the intake is asked.
-fn reply_into<I: Intake, S: Sink>(
+#[inline(never)]
+fn reply_into<const H: usize, const D: usize, const N: usize, I: Intake, S: Sink>(
     alloc: Global,
     checks: &Checks,
     intake: &mut I,
     sink: &mut S,
 ) -> Result<Reply, Fault>
+    requires some_room { 16 ≤ H }
+    requires limit { H ≤ 65535 }
+    requires nesting { D ≤ 32 }
+    requires some_keys { 1 ≤ N }
+    requires keys_limit { N ≤ 256 }
+    requires sizes { AreSizesUnder checks.now.limits H D N }
     requires external { length checks.now.aad.now ≤ 65535 }
     ensures says { (bytes : List ℕ) → I.to_come intake.old ≡ Some bytes →
         IfOk result (Says (verified_under (job_under checks.now) None bytes)) }
@@ -77,13 +89,13 @@ fn reply_into<I: Intake, S: Sink>(
         IfOk result (λ _. Appends (S.contents sink.old) (S.contents sink.new)
         (payload_under (job_under checks.now) bytes)) }
 {
-    let keys = match KeyTable::<KEYS>::read(checks.keys) {
+    let keys = match KeyTable::<N>::read(checks.keys) {
         Ok(keys) => keys,
         Err(refusal) => return Err(Fault::Keys(refusal)),
     };
     let context = program_context(keys, checks.aad, checks.wanted);
     let vouch = Vouch { word: checks.vouch };
-    let verdict = verdict_into(context, &vouch, intake, sink)?;
+    let verdict = verdict_into::<H, D, N, _, _>(context, &vouch, intake, sink)?;
     reply_of(alloc, verdict)
 }
 
@@ -103,7 +115,20 @@ fn reply_written<N: Write, R: Read>(
 {
     let mut intake = ReadIntake::new(input);
     let mut sink = WriteSink::new(file);
-    let reply = reply_into(alloc, checks, &mut intake, &mut sink);
+    let reply = match checks.limits {
+        Limits::Small => reply_into::<SMALL_HEADER, SMALL_NESTING, SMALL_KEYS, _, _>(
+            alloc,
+            checks,
+            &mut intake,
+            &mut sink,
+        ),
+        Limits::Large => reply_into::<LARGE_HEADER, LARGE_NESTING, LARGE_KEYS, _, _>(
+            alloc,
+            checks,
+            &mut intake,
+            &mut sink,
+        ),
+    };
     // The file holds in the end what the sink's writer holds. The proof reads it from this use, which has no run-time effect.
     let writer = sink.into_writer();
     let _ = &*writer;

@@ -22,5 +22,5 @@ returns-in-Ok-clause-payload g c = λ bytes e.
     let setting = setting_of usable c.args.context in
     let run = c.in-Ok.ensures.run setting [] [] c.new-verifier.ensures.none_taken in
     where_ok c.whole_verdict.result _
-    (payload_of_whole c.settled_stays.ensures.message (verifying 1024 8 setting (vouching (option_map contents c.args.vouch.now.word))) bytes run.0 run.1.payload.0 _ _ _ _ e run.1.bytes
+    (payload_of_whole c.settled_stays.ensures.message (verifying g.row.H g.row.D setting (vouching (option_map contents c.args.vouch.now.word))) bytes run.0 run.1.payload.0 _ _ _ _ e run.1.bytes
     (λ unsettled. (run.1.answer.ends.unsettled unsettled).1) run.1.payload.1 run.1.payload.2)
