@@ -253,8 +253,7 @@ const PAYLOAD_TO: CommandOption = CommandOption {
     argument: "PATH",
     value: Value::Text,
     presence: Presence::Without(&["payload", "payload-file"]),
-    help: "The new file, mode 0600, that gets the payload of an authentic message; until the verdict it is PATH.DIGITS.part. \
-Of any other message nothing is left, and a name that exists is a fault",
+    help: "The new file, mode 0600, that gets the payload of an authentic message; a name that exists is a fault",
 };
 
 /// The current time.
