@@ -1,6 +1,6 @@
 //! The arguments of the command line.
 
-ghost use Rattle.std.specs.Prelude.{◌≡◌, ◌≢◌, ◌≤◌, ◌⊎◌, ℕ, true, false, List, Option, Some, IfErr, IfOk, codes, length as length_in, map, option_map, string_bytes};
+ghost use Rattle.std.specs.Prelude.{◌≡◌, ◌≢◌, ◌≤◌, ◌⊎◌, ℕ, true, false, List, Option, Some, None, IfErr, IfOk, codes, length as length_in, map, option_map, string_bytes};
 ghost use Rattle.clap.specs.Matches.{first_value, found_of, subcommand_name_of};
 ghost use Rattle.clap.specs.Simple.{subcommand_rows_of};
 ghost use Rattle.cose_cwt.specs.Claims.Audience.{text_value};
@@ -390,6 +390,22 @@ fn make_of<F: NamedFiles>(alloc: Global, files: &F, matches: &ArgMatches) -> Res
     })
 }
 
+/// To verify under these checks a message that has its payload, and to keep this in a new file of this name.
+fn keep_request<'a>(
+    checks: OwnedChecks,
+    payload: &Payload,
+    name: &'a str,
+) -> Result<Request<'a>, Fault>
+    ensures asks { IfOk result (AsksToVerify checks payload.entry.now) }
+    ensures keeps { IfOk result (λ request. new_file_for request ≡ Some name.entry.now) }
+{
+    match payload {
+        Payload::InMessage => Ok(Request::Keep { checks, name }),
+        // clap refuses the options together.
+        Payload::Bytes(_) | Payload::File { .. } => Err(Fault::Line("payload-to")),
+    }
+}
+
 /// To verify under these checks, with this payload. Where a new file is named, the payload of an authentic message is to be
 /// kept in it.
 fn verify_or_keep<'a>(
@@ -401,17 +417,13 @@ fn verify_or_keep<'a>(
     ensures keeps { IfOk result (λ request. new_file_for request
         ≡ option_map text_value name.entry) }
 {
-    let Some(name) = name else {
-        return Ok(Request::Message {
+    match name {
+        Some(name) => keep_request(checks, &payload, name),
+        None => Ok(Request::Message {
             question: Question::Verdict,
             checks,
             payload,
-        });
-    };
-    match payload {
-        Payload::InMessage => Ok(Request::Keep { checks, name }),
-        // clap refuses the options together.
-        Payload::Bytes(_) | Payload::File { .. } => Err(Fault::Line("payload-to")),
+        }),
     }
 }
 
@@ -444,6 +456,7 @@ fn digest_request<'a, F: NamedFiles>(
         digest_prints (F.content files.now) (options_of matches.now) bytes ≡ Some said →
         AsksFor (F.content files.now) request bytes said) }
     ensures digests { IfOk result (λ request. makes request ≡ false) }
+    ensures keeps { IfOk result (λ request. new_file_for request ≡ None) }
 {
     let checks = digest_checks_of(alloc, files, matches)?;
     let payload = payload_of(alloc, matches)?;
