@@ -99,6 +99,30 @@ fn reply_into<const H: usize, const D: usize, const N: usize, I: Intake, S: Sink
     reply_of(alloc, verdict)
 }
 
+/// The same, in the room that the limits say.
+fn reply_in_room<I: Intake, S: Sink>(
+    alloc: Global,
+    checks: &Checks,
+    intake: &mut I,
+    sink: &mut S,
+) -> Result<Reply, Fault>
+    requires external { length checks.now.aad.now ≤ 65535 }
+    ensures says { (bytes : List ℕ) → I.to_come intake.old ≡ Some bytes →
+        IfOk result (Says (verified_under (job_under checks.now) None bytes)) }
+    ensures payload { (bytes : List ℕ) → I.to_come intake.old ≡ Some bytes →
+        IfOk result (λ _. Appends (S.contents sink.old) (S.contents sink.new)
+        (payload_under (job_under checks.now) bytes)) }
+{
+    match checks.limits {
+        Limits::Small => reply_into::<SMALL_HEADER, SMALL_NESTING, SMALL_KEYS, _, _>(
+            alloc, checks, intake, sink,
+        ),
+        Limits::Large => reply_into::<LARGE_HEADER, LARGE_NESTING, LARGE_KEYS, _, _>(
+            alloc, checks, intake, sink,
+        ),
+    }
+}
+
 /// The reply to the message of a reader, whose payload is written to the file as it comes.
 fn reply_written<N: Write, R: Read>(
     alloc: Global,
@@ -115,20 +139,7 @@ fn reply_written<N: Write, R: Read>(
 {
     let mut intake = ReadIntake::new(input);
     let mut sink = WriteSink::new(file);
-    let reply = match checks.limits {
-        Limits::Small => reply_into::<SMALL_HEADER, SMALL_NESTING, SMALL_KEYS, _, _>(
-            alloc,
-            checks,
-            &mut intake,
-            &mut sink,
-        ),
-        Limits::Large => reply_into::<LARGE_HEADER, LARGE_NESTING, LARGE_KEYS, _, _>(
-            alloc,
-            checks,
-            &mut intake,
-            &mut sink,
-        ),
-    };
+    let reply = reply_in_room(alloc, checks, &mut intake, &mut sink);
     // The file holds in the end what the sink's writer holds. The proof reads it from this use, which has no run-time effect.
     let writer = sink.into_writer();
     let _ = &*writer;

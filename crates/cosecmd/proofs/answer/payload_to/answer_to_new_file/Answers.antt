@@ -1,4 +1,4 @@
-use Rattle.std.proofs.Common.{◌≡◌, ◌≢◌, ap, sym, subst, ◌∙◌}
+use Rattle.std.proofs.Common.{None, ap, sym, subst, ◌∙◌}
 use Rattle.cosecmd.specs.NewFile.{IsRemoved}
 use Rattle.cosecmd.specs.Printed.{code_of, verified_under}
 use Rattle.cosecmd.specs.Under.{job_under}
@@ -9,7 +9,7 @@ use Rattle.cosecmd.proofs.answer.payload_to.answer_to_new_file.Goals as goal
 
 pub returns-clause-printed : goal.returns-clause-printed
 returns-clause-printed g c = λ bytes e well.
-    let said = verified_under (job_under c.args.checks.now) _ bytes in
+    let said = verified_under (job_under c.args.checks.now) None bytes in
     rw c.code.ensures (ends_so _ _ said c.print_reply-status.result
     (c.print_reply-status.ensures.prints said (c.settle_reply-reply.ensures.same said (c.reply_written-written.ensures.says bytes e))) (rw (← c.code.ensures) well))
 
