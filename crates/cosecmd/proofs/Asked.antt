@@ -44,6 +44,7 @@ pub not_made : (request : Request) (A : Type 0) → (makes request ≡ true → 
 not_made (asks.Make words) A by_name other = absurd (other (by_name refl))
 not_made (asks.Show limits wanted diagnostic) A by_name other = refl
 not_made (asks.Message question checks from) A by_name other = refl
+not_made (asks.Keep checks name) A by_name other = refl
 not_made (asks.Cwt words) A by_name other = refl
 not_made (asks.Keys words) A by_name other = refl
 

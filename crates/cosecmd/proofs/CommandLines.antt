@@ -13,6 +13,7 @@ use Rattle.cosecmd.specs.Admitted.{program_policy}
 use Rattle.cosecmd.specs.CommandLine.{IsFoundIn, IsReadFrom, begins_as_answer, command_prints, cwt_prints, keys_prints, line_prints, make_prints, matches_print}
 use Rattle.cosecmd.specs.Fields.{AreChecks, CwtFields, KeysFields, MakeFields, checks_in}
 use Rattle.cosecmd.specs.Options.{Options, ◌>>=◌, flag_in, key_in, key_set_in, text_in}
+use Rattle.cosecmd.specs.PayloadTo.{new_file_of}
 use Rattle.cosecmd.specs.Printed.{Output, admitted_under, keys_listed, made_under}
 use Rattle.cosecmd.specs.Requirements.{requirements_with}
 use Rattle.cosecmd.specs.Under.{Under, owned_under}
@@ -109,6 +110,11 @@ pub command_asked : (content : List ℕ → Option (List ℕ)) (matches : ArgMat
     option_map (λ (command : Text × Options). command.1) (subcommand_rows_of matches) ≡ Some options → matches_print content matches bytes ≡ Some said → command_prints content name options bytes ≡ Some said
 command_asked content matches name options bytes said n o prints =
     sym (ap (λ (command : Option (Text × Options)). line_prints content command bytes) (command_met matches name options n o)) ∙ prints
+
+-- Of the command that clap met, only `verify` names a new file.
+pub file_named : (matches : ArgMatches) (name : Text) (options : Options) (file : Option Text) → subcommand_name_of matches ≡ Some name →
+    option_map (λ (command : Text × Options). command.1) (subcommand_rows_of matches) ≡ Some options → file ≡ new_file_of (Some (name, options)) → file ≡ new_file_of (subcommand_rows_of matches)
+file_named matches name options file n o is = is ∙ sym (ap new_file_of (command_met matches name options n o))
 
 -- What was parsed, where it is the options that clap found.
 pub found_in : (words : List Text) (parsed : Parsed) (matches : ArgMatches) → parsed ≡ Matches matches → IsReadFrom words parsed → IsFoundIn words matches

@@ -5,6 +5,7 @@ pub mod CommandLines
 pub mod DigestPayloads
 pub mod Digests
 pub mod Failures
+pub mod KeptPayloads
 pub mod KeyFiles
 pub mod Listings
 pub mod Makings
@@ -19,6 +20,7 @@ pub mod Trailing
 pub mod Vouches
 pub mod WorkedAdmitted
 pub mod WorkedDigests
+pub mod WorkedKept
 pub mod WorkedLimits
 pub mod WorkedListed
 pub mod WorkedMade

@@ -4,7 +4,7 @@ use Rattle.cose_cwt.specs.Claims.Audience.{text_value}
 use Rattle.cose_map.specs.Key.{key_of}
 use Rattle.cosecmd.specs.Admitted.{program_policy}
 use Rattle.cosecmd.specs.Payload.{detached_in}
-use Rattle.cosecmd.specs.Printed.{Output, admitted_under, answered_under, keys_listed, made_under, shown}
+use Rattle.cosecmd.specs.Printed.{Output, admitted_under, answered_under, keys_listed, made_under, shown, verified_under}
 use Rattle.cosecmd.specs.Requirements.{requirements_for}
 use Rattle.cosecmd.specs.Under.{owned_under}
 use Rattle.cosecmd.specs.declared.request.Cwt.{Cwt}
@@ -23,6 +23,7 @@ made_for words bytes =
 -- The detached payload that the arguments of `verify` or `digest` name, as far as it is known. No other command has one.
 abbrev pub payload_for : (List ℕ → Option (List ℕ)) → Request → Option (Option (List ℕ))
 payload_for content (asks.Message question checks payload) = detached_in content payload
+payload_for content (asks.Keep checks name) = Some None
 payload_for content (asks.Show limits wanted diagnostic) = Some None
 payload_for content (asks.Cwt words) = Some None
 payload_for content (asks.Keys words) = Some None
@@ -32,6 +33,7 @@ payload_for content (asks.Make words) = Some None
 abbrev pub asked_for : Request → Option (List ℕ) → List ℕ → Output
 asked_for (asks.Show limits wanted diagnostic) payload bytes = shown limits wanted diagnostic bytes
 asked_for (asks.Message question checks from) payload bytes = answered_under question (owned_under checks) payload bytes
+asked_for (asks.Keep checks name) payload bytes = verified_under (owned_under checks) payload bytes
 asked_for (asks.Cwt words) payload bytes = admitted_for words bytes
 asked_for (asks.Keys words) payload bytes = keys_listed words.keys.items
 asked_for (asks.Make words) payload bytes = made_for words bytes
@@ -41,5 +43,6 @@ abbrev pub makes : Request → Bool
 makes (asks.Make words) = true
 makes (asks.Show limits wanted diagnostic) = false
 makes (asks.Message question checks from) = false
+makes (asks.Keep checks name) = false
 makes (asks.Cwt words) = false
 makes (asks.Keys words) = false

@@ -7,9 +7,11 @@ pub mod Input
 pub mod Job
 pub mod KeysListed
 pub mod Limits
+pub mod NewFile
 pub mod Options
 pub mod Payload
 pub mod PayloadFile
+pub mod PayloadTo
 pub mod Printed
 pub mod Readable
 pub mod Requirements

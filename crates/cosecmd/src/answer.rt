@@ -10,6 +10,7 @@ mod cwt;
 mod digest;
 mod keys;
 mod make;
+pub mod payload_to;
 mod show;
 mod unmet;
 mod verify;

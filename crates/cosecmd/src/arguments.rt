@@ -1,12 +1,14 @@
 //! The arguments of the command line.
 
-ghost use Rattle.std.specs.Prelude.{◌≡◌, ◌≢◌, ◌≤◌, ◌⊎◌, ℕ, true, false, List, Option, Some, IfErr, IfOk, codes, length as length_in, map, option_map, string_bytes};
+ghost use Rattle.std.specs.Prelude.{◌≡◌, ◌≢◌, ◌≤◌, ◌⊎◌, ℕ, true, false, List, Option, Some, None, IfErr, IfOk, codes, length as length_in, map, option_map, string_bytes};
 ghost use Rattle.clap.specs.Matches.{first_value, found_of, subcommand_name_of};
+ghost use Rattle.clap.specs.Simple.{subcommand_rows_of};
 ghost use Rattle.cose_cwt.specs.Claims.Audience.{text_value};
 ghost use Rattle.cosecmd.specs.CommandLine.{AsksFor, IsReadFrom, begins_as_answer, digest_prints, matches_print, verify_prints};
 ghost use Rattle.cosecmd.specs.Fields.{AreChecks, CwtFields, HasKeysOf, IsKeyOf, IsListedAs, KeysFields, MakeFields, checks_in, digest_checks_in};
 ghost use Rattle.cosecmd.specs.Options.{algorithm_in, bytes_in, flag_in, hex_bytes, integer_in, kind_in, kind_named, limits_in, limits_named, number_in, optional_bytes_in, options_of, payload_in, text_in};
 ghost use Rattle.cosecmd.specs.Payload.{IsFile, detached_in};
+ghost use Rattle.cosecmd.specs.PayloadTo.{AsksToVerify, new_file_for, new_file_of};
 ghost use Rattle.cosecmd.specs.Printed.{Output};
 ghost use Rattle.cosecmd.specs.Arguments.{makes};
 
@@ -388,6 +390,43 @@ fn make_of<F: NamedFiles>(alloc: Global, files: &F, matches: &ArgMatches) -> Res
     })
 }
 
+/// To verify under these checks a message that has its payload, and to keep this in a new file of this name.
+fn keep_request<'a>(
+    checks: OwnedChecks,
+    payload: &Payload,
+    name: &'a str,
+) -> Result<Request<'a>, Fault>
+    ensures asks { IfOk result (AsksToVerify checks payload.entry.now) }
+    ensures keeps { IfOk result (λ request. new_file_for request ≡ Some name.entry.now) }
+{
+    match payload {
+        Payload::InMessage => Ok(Request::Keep { checks, name }),
+        // clap refuses the options together.
+        Payload::Bytes(_) | Payload::File { .. } => Err(Fault::Line("payload-to")),
+    }
+}
+
+/// To verify under these checks, with this payload. Where a new file is named, the payload of an authentic message is to be
+/// kept in it.
+fn verify_or_keep<'a>(
+    checks: OwnedChecks,
+    payload: Payload<'a>,
+    name: Option<&'a str>,
+) -> Result<Request<'a>, Fault>
+    ensures asks { IfOk result (AsksToVerify checks payload.entry) }
+    ensures keeps { IfOk result (λ request. new_file_for request
+        ≡ option_map text_value name.entry) }
+{
+    match name {
+        Some(name) => keep_request(checks, &payload, name),
+        None => Ok(Request::Message {
+            question: Question::Verdict,
+            checks,
+            payload,
+        }),
+    }
+}
+
 /// What the arguments of `verify` ask for. The payload goes last, as help lists it.
 fn verify_request<'a, F: NamedFiles>(
     alloc: Global,
@@ -398,14 +437,13 @@ fn verify_request<'a, F: NamedFiles>(
         verify_prints (F.content files.now) (options_of matches.now) bytes ≡ Some said →
         AsksFor (F.content files.now) request bytes said) }
     ensures verifies { IfOk result (λ request. makes request ≡ false) }
+    // Where the arguments name a new file, the payload is to be kept in it.
+    ensures keeps { IfOk result (λ request. new_file_for request
+        ≡ text_in (codes "payload-to") (options_of matches.now)) }
 {
     let checks = checks_of(alloc, files, matches)?;
     let payload = payload_of(alloc, matches)?;
-    Ok(Request::Message {
-        question: Question::Verdict,
-        checks,
-        payload,
-    })
+    verify_or_keep(checks, payload, text_of(matches, "payload-to"))
 }
 
 /// What the arguments of `digest` ask for. The payload goes last, as help lists it.
@@ -418,6 +456,7 @@ fn digest_request<'a, F: NamedFiles>(
         digest_prints (F.content files.now) (options_of matches.now) bytes ≡ Some said →
         AsksFor (F.content files.now) request bytes said) }
     ensures digests { IfOk result (λ request. makes request ≡ false) }
+    ensures keeps { IfOk result (λ request. new_file_for request ≡ None) }
 {
     let checks = digest_checks_of(alloc, files, matches)?;
     let payload = payload_of(alloc, matches)?;
@@ -450,6 +489,9 @@ pub fn request_of<'a, F: NamedFiles>(
     // Only `make` makes a message.
     ensures making { IfOk result (λ request. makes request ≡ true
         → subcommand_name_of matches.now ≡ Some (codes "make")) }
+    // A new file is made where the arguments name one.
+    ensures keeping { IfOk result (λ request. new_file_for request
+        ≡ new_file_of (subcommand_rows_of matches.now)) }
 {
     if let Some(show) = matches.subcommand_matches("show") {
         return Ok(Request::Show {

@@ -110,8 +110,8 @@ enum Presence {
     Required,
     /// Where it is left out, its argument is this one.
     Default(&'static str),
-    /// It may be left out, and has to be where the option of this name is there.
-    Without(&'static str),
+    /// It may be left out, and has to be where an option of these names is there.
+    Without(&'static [&'static str]),
     /// It may be left out. Where it is there, so is the option of the first name, and that of the second isn't.
     WithAndWithout(&'static str, &'static str),
 }
@@ -234,7 +234,7 @@ const PAYLOAD_FILE: CommandOption = CommandOption {
     name: "payload-file",
     argument: "PATH",
     value: Value::Text,
-    presence: Presence::Without("payload"),
+    presence: Presence::Without(&["payload"]),
     help: "The file or block device that has the bytes of the payload, in place of --payload; it is read while the message is verified",
 };
 
@@ -245,6 +245,15 @@ const PAYLOAD_LENGTH: CommandOption = CommandOption {
     value: Value::Length,
     presence: Presence::WithAndWithout("payload-file", "payload"),
     help: "The number of bytes of the payload, below 2^56: the first of --payload-file, which may be a pipe then",
+};
+
+/// The new file of the payload.
+const PAYLOAD_TO: CommandOption = CommandOption {
+    name: "payload-to",
+    argument: "PATH",
+    value: Value::Text,
+    presence: Presence::Without(&["payload", "payload-file"]),
+    help: "The new file, mode 0600, that gets the payload of an authentic message; a name that exists is a fault",
 };
 
 /// The current time.
@@ -418,6 +427,7 @@ const COMMANDS: &[Subcommand] = &[
             DETACHED,
             PAYLOAD_FILE,
             PAYLOAD_LENGTH,
+            PAYLOAD_TO,
             LIMITS,
         ],
         one_of: KEY_SET,
@@ -507,7 +517,7 @@ impl CommandOption {
             Presence::Optional => Ok(arg),
             Presence::Required => Ok(arg.required(true)),
             Presence::Default(argument) => Ok(arg.default_value(argument)),
-            Presence::Without(other) => arg.conflicts_with(other),
+            Presence::Without(others) => arg.conflicts_with_all(others),
             Presence::WithAndWithout(needed, other) => {
                 arg.requires_arg(needed)?.conflicts_with(other)
             }

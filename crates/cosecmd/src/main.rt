@@ -18,6 +18,7 @@ mod job;
 mod limits;
 mod line;
 mod mistake;
+mod new_file;
 mod noted_files;
 mod payload_file;
 mod print;

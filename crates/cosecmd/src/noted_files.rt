@@ -4,6 +4,8 @@ ghost use Rattle.std.specs.Prelude.{None};
 
 use crate::files::NamedFiles;
 use crate::hints::{First, form_of, is_secret};
+use crate::new_file::{HostFile, NewFiles};
+use std::alloc::Global;
 use std::fs::File;
 use std::io;
 use std::io::Read;
@@ -80,6 +82,21 @@ impl<'r> NamedFiles for NotedFiles<'r> {
             is_said: true,
         };
         Ok((noted, length))
+    }
+}
+
+/// Of a new file nothing is said.
+impl NewFiles for NotedFiles<'_> {
+    type New = HostFile;
+
+    ghost is_taken = { λ _ _. None };
+
+    fn exists(&self, name: &str) -> io::Result<bool> {
+        self.rt.exists(name)
+    }
+
+    fn create(&self, alloc: Global, name: &str) -> io::Result<HostFile> {
+        self.rt.create(alloc, name)
     }
 }
 

@@ -100,6 +100,13 @@ pub enum Request<'w> {
         /// The payload.
         payload: Payload<'w>,
     },
+    /// To verify a message that has its payload, and to keep the payload of an authentic one.
+    Keep {
+        /// What it is verified under.
+        checks: OwnedChecks,
+        /// The name of the new file.
+        name: &'w str,
+    },
     /// To admit a token.
     Cwt(Cwt<'w>),
     /// To list the items of a key set.

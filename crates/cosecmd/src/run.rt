@@ -1,14 +1,17 @@
 //! A run of the program: its arguments, and then its job.
 
-ghost use Rattle.std.specs.Prelude.{◌≡◌, ◌≢◌, ◌≤◌, ℕ, false, List, Option, Some, None, codes, length, map};
+ghost use Rattle.std.specs.Prelude.{◌≡◌, ◌≢◌, ◌≤◌, ℕ, true, false, List, Option, Some, None, codes, length, map};
 ghost use Rattle.clap.specs.Matches.{subcommand_name_of};
+ghost use Rattle.clap.specs.Simple.{subcommand_rows_of};
 ghost use Rattle.cosecmd.specs.CommandLine.{Answers, FailsOn, matches_print};
 ghost use Rattle.cosecmd.specs.Options.{part_of_file};
 ghost use Rattle.cosecmd.specs.Payload.{detached_in};
-ghost use Rattle.cosecmd.specs.Printed.{EndsWith, Fails, Output, answered_under, keys_listed, shown};
+ghost use Rattle.cosecmd.specs.PayloadTo.{ReadsNothingBefore, new_file_for, new_file_of};
+ghost use Rattle.cosecmd.specs.Printed.{EndsWith, Fails, Output, answered_under, keys_listed, shown, verified_under};
 ghost use Rattle.cosecmd.specs.Under.{job_under, owned_under};
 ghost use Rattle.cosecmd.specs.Arguments.{admitted_for, asked_for, made_for, makes, payload_for};
 
+use crate::answer::payload_to::answer_with_payload_to;
 use crate::answer::{answer, answer_with_payload_file};
 use crate::arguments::{Parsed, parse, request_of};
 use crate::checks::slice_of;
@@ -16,6 +19,7 @@ use crate::fault::Fault;
 use crate::files::{NamedFiles, NoFiles};
 use crate::job::{Checks, FileJob, Job, Question};
 use crate::limits::Limits;
+use crate::new_file::NewFiles;
 use crate::print::{print, print_fault};
 use crate::request::{Cwt, Keys, Make, OwnedChecks, Payload, Request};
 use crate::required::requirements_of;
@@ -120,6 +124,30 @@ fn answer_message<F: NamedFiles, R: Read, W: Write>(
     }
 }
 
+/// The job of the command `verify`, where the payload is in the message, and is kept in a new file of this name.
+fn answer_keep<F: NewFiles, R: Read, W: Write>(
+    alloc: Global,
+    files: &F,
+    checks: &OwnedChecks,
+    name: &str,
+    input: &mut R,
+    output: &mut W,
+) -> u8
+    ensures status { result ≤ 2 }
+    ensures printed { (bytes : List ℕ) → R.remaining input.old ≡ Some bytes →
+        EndsWith (verified_under (owned_under checks.now) None bytes) (W.contents output.old)
+        (W.contents output.new) result }
+    ensures fails { (bytes : List ℕ) → R.remaining input.old ≡ Some bytes → result ≡ 2 →
+        Fails (verified_under (owned_under checks.now) None bytes) (W.contents output.old)
+        (W.contents output.new) }
+    // Where the name exists, nothing of the input is read.
+    ensures taken { F.is_taken files.now name.now ≡ Some true →
+        (input.new ≡ input.old) × (result ≡ 2) }
+{
+    let checks = checks.borrowed();
+    answer_with_payload_to(alloc, &checks, files, name, input, output)
+}
+
 /// The job of the command `cwt`.
 fn answer_cwt<R: Read, W: Write>(alloc: Global, words: &Cwt, input: &mut R, output: &mut W) -> u8
     ensures status { result ≤ 2 }
@@ -172,7 +200,7 @@ fn answer_make<R: Read, W: Write>(alloc: Global, words: &Make, input: &mut R, ou
 }
 
 /// Does what the arguments ask for, and returns how the run ends.
-fn answer_request<F: NamedFiles, R: Read, W: Write>(
+fn answer_request<F: NamedFiles + NewFiles, R: Read, W: Write>(
     alloc: Global,
     files: &F,
     request: &Request,
@@ -194,6 +222,9 @@ fn answer_request<F: NamedFiles, R: Read, W: Write>(
         makes request.entry.now ≡ false → result ≡ 2 →
         Fails (asked_for request.entry.now payload bytes) (W.contents output.old)
         (W.contents output.new) }
+    // Where the name of a new file exists, nothing of the input is read.
+    ensures taken { (name : List ℕ) → new_file_for request.entry.now ≡ Some name →
+        F.is_taken files.now name ≡ Some true → (input.new ≡ input.old) × (result ≡ 2) }
 {
     match request {
         Request::Show {
@@ -206,6 +237,7 @@ fn answer_request<F: NamedFiles, R: Read, W: Write>(
             checks,
             payload,
         } => answer_message(alloc, files, *question, checks, payload, input, output),
+        Request::Keep { checks, name } => answer_keep(alloc, files, checks, name, input, output),
         Request::Cwt(words) => answer_cwt(alloc, words, input, output),
         Request::Keys(words) => answer_keys(alloc, words, input, output),
         Request::Make(words) => answer_make(alloc, words, input, output),
@@ -213,7 +245,7 @@ fn answer_request<F: NamedFiles, R: Read, W: Write>(
 }
 
 /// Does what the options ask for that clap found, and returns how the run ends.
-fn answer_matches<F: NamedFiles, R: Read, W: Write>(
+fn answer_matches<F: NamedFiles + NewFiles, R: Read, W: Write>(
     alloc: Global,
     files: &F,
     matches: &ArgMatches,
@@ -230,6 +262,8 @@ fn answer_matches<F: NamedFiles, R: Read, W: Write>(
         matches_print (F.content files.now) matches.now bytes ≡ Some said →
         subcommand_name_of matches.now ≢ Some (codes "make") → result ≡ 2 →
         Fails said (W.contents output.old) (W.contents output.new) }
+    ensures taken { (name : List ℕ) → new_file_of (subcommand_rows_of matches.now) ≡ Some name →
+        F.is_taken files.now name ≡ Some true → (input.new ≡ input.old) × (result ≡ 2) }
 {
     match request_of(alloc, files, matches) {
         Ok(request) => answer_request(alloc, files, &request, input, output),
@@ -258,13 +292,13 @@ pub fn run<'a, R: Read, W: Write>(
 /// Runs the program: `words` are the arguments of the command line, the first of them the program's name. The message,
 /// or the payload of which one is made, comes from `input`; every line goes to `output`, a fault's too, and so does a
 /// message that is made. The keys come from the arguments, or from the file that an option names, and so does a detached
-/// payload, which is read from its file while the message is verified.
+/// payload, which is read from its file while the message is verified. A payload that is to be kept goes into a new file.
 ///
 /// The exit status is 0 for a message that is authentic, shown or made, or whose digest is printed, and for a token
 /// that is admitted (and for help and the version), 1 for a message or a token that is refused, and 2 where there is no
 /// answer and no whole message: the command line is wrong, a file of the keys or of the payload can't be read, the keys are
 /// refused, a request for memory is refused, or the input or the output fails.
-pub fn run_with_files<'a, F: NamedFiles, R: Read, W: Write>(
+pub fn run_with_files<'a, F: NamedFiles + NewFiles, R: Read, W: Write>(
     alloc: Global,
     words: &'a [&'a str],
     files: &F,
@@ -280,6 +314,9 @@ pub fn run_with_files<'a, F: NamedFiles, R: Read, W: Write>(
     ensures fails { (bytes : List ℕ) → R.remaining input.old ≡ Some bytes → result ≡ 2 →
         FailsOn (F.content files.now) (map (λ word. word.now) words.entry.now) bytes
         (W.contents output.old) (W.contents output.new) }
+    // Where the arguments name a new file whose name exists, nothing of the input is read.
+    ensures unread { ReadsNothingBefore (F.is_taken files.now)
+        (map (λ word. word.now) words.entry.now) input.old input.new result }
 {
     match parse(alloc, words) {
         Ok(Parsed::Matches(matches)) => answer_matches(alloc, files, &matches, input, output),

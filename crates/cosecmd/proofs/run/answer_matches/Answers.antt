@@ -1,3 +1,4 @@
+use Rattle.std.proofs.Common.{◌∙◌}
 use Rattle.cosecmd.proofs.Asked.{ends_with, fails_with, not_made}
 use Rattle.cosecmd.proofs.Replies.{line_fails}
 use Rattle.cosecmd.proofs.run.answer_matches.Goals as goal
@@ -14,3 +15,6 @@ returns-in-Ok-clause-fails g c = λ bytes said e asked other two.
 
 pub returns-in-Err-clause-fails : goal.returns-in-Err-clause-fails
 returns-in-Err-clause-fails g c = λ bytes said e asked other two. line_fails _ _ _ _ c.print_fault.ensures.line
+
+pub returns-in-Ok-clause-taken : goal.returns-in-Ok-clause-taken
+returns-in-Ok-clause-taken g c = λ name some taken. c.answer_request.ensures.taken name (c.in-Ok.ensures.keeping ∙ some) taken

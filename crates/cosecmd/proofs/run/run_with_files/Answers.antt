@@ -34,3 +34,9 @@ returns-in-Ok-Text-clause-fails g c = λ bytes e two.
 
 pub returns-in-Err-clause-fails : goal.returns-in-Err-clause-fails
 returns-in-Err-clause-fails g c = λ bytes e two. inl (some_line _ _ _ c.print_fault.ensures.line)
+
+pub returns-in-Ok-Matches-clause-unread : goal.returns-in-Ok-Matches-clause-unread
+returns-in-Ok-Matches-clause-unread g c =
+    let met = c.in-Ok-Matches in
+    let is : met.field-0 ≡ Matches met.matches = search rules in
+    inr (met.matches, found_in _ met.field-0 met.matches is met.ensures, c.answer_matches.ensures.taken)

@@ -1,0 +1,40 @@
+use Rattle.std.proofs.Common.{None, ap, sym, subst, ◌∙◌}
+use Rattle.cosecmd.specs.NewFile.{IsRemoved}
+use Rattle.cosecmd.specs.Printed.{code_of, verified_under}
+use Rattle.cosecmd.specs.Under.{job_under}
+use Rattle.cosecmd.specs.declared.reply.Status.TheVariants as statuses
+use Rattle.cosecmd.proofs.KeptPayloads.{differs_from_fault, is_done, is_refused, payload_kept, where_done, where_refused}
+use Rattle.cosecmd.proofs.Replies.{ends_so, is_fault}
+use Rattle.cosecmd.proofs.answer.payload_to.answer_to_new_file.Goals as goal
+
+pub returns-clause-printed : goal.returns-clause-printed
+returns-clause-printed g c = λ bytes e well.
+    let said = verified_under (job_under c.args.checks.now) None bytes in
+    rw c.code.ensures (ends_so _ _ said c.print_reply-status.result
+    (c.print_reply-status.ensures.prints said (c.settle_reply-reply.ensures.same said (c.reply_written-written.ensures.says bytes e))) (rw (← c.code.ensures) well))
+
+pub returns-clause-fails : goal.returns-clause-fails
+returns-clause-fails g c = λ bytes e two.
+    c.print_reply-status.ensures.fails _ (c.settle_reply-reply.ensures.same _ (c.reply_written-written.ensures.says bytes e)) (is_fault c.print_reply-status.result (sym c.code.ensures ∙ two))
+
+pub returns-clause-kept : goal.returns-clause-kept
+returns-clause-kept g c = λ zero.
+    let done = is_done c.print_reply-status.result (sym c.code.ensures ∙ zero) in
+    ap g.N.NewFile.standing (c.withdraw.ensures.stays (differs_from_fault _ _ done (λ e. absurd cc))) ∙
+    (where_done c.settle_reply-reply.result _ _ c.print_reply-status.result _ c.print_reply-status.ensures.prints done c.settle_reply-reply.ensures.kept).0
+
+pub returns-clause-payload : goal.returns-clause-payload
+returns-clause-payload g c = λ bytes e zero.
+    let done = is_done c.print_reply-status.result (sym c.code.ensures ∙ zero) in
+    rw (c.withdraw.ensures.stays (differs_from_fault _ _ done (λ e. absurd cc)))
+    (payload_kept c.reply_written-written.result c.settle_reply-reply.result _ _ _ _ _ c.print_reply-status.result _ _ (c.reply_written-written.ensures.payload bytes e) c.settle_reply-reply.ensures.fault
+    c.settle_reply-reply.ensures.kept c.print_reply-status.ensures.prints done)
+
+pub returns-clause-refused : goal.returns-clause-refused
+returns-clause-refused g c = λ one.
+    let refused = is_refused c.print_reply-status.result (sym c.code.ensures ∙ one) in
+    ap g.N.NewFile.standing (c.withdraw.ensures.stays (differs_from_fault _ _ refused (λ e. absurd cc))) ∙
+    where_refused c.settle_reply-reply.result _ _ c.print_reply-status.result _ c.print_reply-status.ensures.prints refused c.settle_reply-reply.ensures.gone
+
+pub returns-clause-fault : goal.returns-clause-fault
+returns-clause-fault g c = λ two. c.withdraw.ensures.removed (is_fault c.print_reply-status.result (sym c.code.ensures ∙ two))

@@ -1,0 +1,9 @@
+use Rattle.std.proofs.Common.{◌∙◌, rules}
+use Rattle.cosecmd.proofs.KeptPayloads.{lent_reply}
+use Rattle.cosecmd.proofs.answer.payload_to.reply_written.Goals as goal
+
+pub returns-clause-payload : goal.returns-clause-payload
+returns-clause-payload g c = λ bytes e.
+    lent_reply c.reply_in_room-reply.result _ _ (g.N.Write.contents c.args.file.now) (g.N.Write.contents c.into_writer-writer.result.now) _ _
+    _ c.into_writer-writer.result.ghost_name (c.reply_in_room-reply.ensures.payload bytes (c.new-intake.ensures.known ∙ e)) c.new-sink.ensures.contents
+    c.into_writer-writer.ensures.contents (λ same. search rules)

@@ -1,0 +1,299 @@
+//! The job `verify` with a new file that the payload of an authentic message is kept in.
+
+ghost use Rattle.std.specs.Prelude.{◌≡◌, ◌≢◌, ◌≤◌, ◌⊎◌, ◌||◌, ℕ, true, List, Some, None, IfErr, IfOk, IsErr, length, option_map};
+ghost use Rattle.std.specs.Io.KnownBytes.{Appends, Keeps};
+ghost use Rattle.cose_map.specs.Key.View.{contents};
+ghost use Rattle.cose_map.specs.KeyTable.{keys as usable};
+ghost use Rattle.cose_msg.specs.Answer.{decided};
+ghost use Rattle.cose_msg.specs.Verifier.{setting_of};
+ghost use Rattle.cosecmd.specs.Faults.{fails_by_file, fails_by_input};
+ghost use Rattle.cosecmd.specs.Limits.{AreSizesUnder};
+ghost use Rattle.cosecmd.specs.NewFile.{IsRemoved};
+ghost use Rattle.cosecmd.specs.PayloadTo.{IsOfNewFile, WritesFileFault, payload_in, payload_under};
+ghost use Rattle.cosecmd.specs.Printed.{EndsWith, Fails, Output, Says, input_answer, verified_under};
+ghost use Rattle.cosecmd.specs.Under.{job_under};
+ghost use Rattle.cosecmd.specs.Vouch.{vouching};
+ghost use Rattle.cosecmd.specs.declared.new_file.Standing.TheVariants.{Gone, Kept};
+
+use crate::answer::verify::{CHUNK, program_context, reply_of, whole_verdict};
+use crate::fault::Fault;
+use crate::job::Checks;
+use crate::limits::{
+    LARGE_HEADER, LARGE_KEYS, LARGE_NESTING, Limits, SMALL_HEADER, SMALL_KEYS, SMALL_NESTING,
+};
+use crate::new_file::{NewFile, NewFiles};
+use crate::print::{print_fault, print_reply};
+use crate::reply::{Reply, Status};
+use crate::vouch::Vouch;
+use crate::write_sink::WriteSink;
+use cose_msg::laws::settled_stays;
+use cose_msg::{Context, Intake, KeyTable, ReadIntake, Sink, Stop, Verdict, Verifier, verify};
+use std::alloc::Global;
+use std::io::{Read, Write};
+
+/// The verdict of all that an intake gives, a message that has its payload. The payload goes into the sink as it comes.
+fn verdict_into<'j, const H: usize, const D: usize, const N: usize, I: Intake, S: Sink>(
+    context: Context<'j, KeyTable<'j, N>>,
+    vouch: &Vouch<'j>,
+    intake: &mut I,
+    sink: &mut S,
+) -> Result<Verdict, Fault>
+    requires some_room { 16 ≤ H }
+    requires limit { H ≤ 65535 }
+    requires nesting { D ≤ 32 }
+    requires external { length context.aad.now ≤ 65535 }
+    ensures verdict { (bytes : List ℕ) → I.to_come intake.old ≡ Some bytes →
+        IfOk result (λ verdict. input_answer H D (setting_of usable context.entry)
+        (vouching (option_map contents vouch.now.word)) bytes ≡ decided verdict) }
+    ensures payload { (bytes : List ℕ) → I.to_come intake.old ≡ Some bytes →
+        IfOk result (λ _. Appends (S.contents sink.old) (S.contents sink.new)
+        (payload_in H D (setting_of usable context.entry)
+        (vouching (option_map contents vouch.now.word)) bytes)) }
+    // It fails exactly where the intake or the sink failed in this call.
+    ensures fault { IfErr result (λ fault. (fault ≡ Fault.Input)
+        ⊎ (fails_by_file result ≡ true)) }
+    ensures failure { I.has_failed intake.new
+        ≡ (I.has_failed intake.old || fails_by_input result) }
+    ensures sink_failure { S.has_failed sink.new
+        ≡ (S.has_failed sink.old || fails_by_file result) }
+{
+    // The law that the proof cites: the reading of a message stays when bytes follow.
+    settled_stays();
+    let mut verifier = Verifier::<H, D, KeyTable<'_, N>>::new(context);
+    match verify::<CHUNK, H, D, _, _, _, _>(&mut verifier, intake, sink, vouch) {
+        Ok(verdict) => whole_verdict(verdict, intake),
+        Err(Stop::Sink) => Err(Fault::File("payload-to")),
+        // A new verifier hasn't stopped.
+        Err(Stop::Intake | Stop::Again) => Err(Fault::Input),
+    }
+}
+
+/// The reply to the message of an intake, whose payload goes into the sink: the key set is read before the intake is asked.
+#[inline(never)]
+fn reply_into<const H: usize, const D: usize, const N: usize, I: Intake, S: Sink>(
+    alloc: Global,
+    checks: &Checks,
+    intake: &mut I,
+    sink: &mut S,
+) -> Result<Reply, Fault>
+    requires some_room { 16 ≤ H }
+    requires limit { H ≤ 65535 }
+    requires nesting { D ≤ 32 }
+    requires some_keys { 1 ≤ N }
+    requires keys_limit { N ≤ 256 }
+    requires sizes { AreSizesUnder checks.now.limits H D N }
+    requires external { length checks.now.aad.now ≤ 65535 }
+    ensures says { (bytes : List ℕ) → I.to_come intake.old ≡ Some bytes →
+        IfOk result (Says (verified_under (job_under checks.now) None bytes)) }
+    ensures payload { (bytes : List ℕ) → I.to_come intake.old ≡ Some bytes →
+        IfOk result (λ _. Appends (S.contents sink.old) (S.contents sink.new)
+        (payload_under (job_under checks.now) bytes)) }
+{
+    let keys = match KeyTable::<N>::read(checks.keys) {
+        Ok(keys) => keys,
+        Err(refusal) => return Err(Fault::Keys(refusal)),
+    };
+    let context = program_context(keys, checks.aad, checks.wanted);
+    let vouch = Vouch { word: checks.vouch };
+    let verdict = verdict_into::<H, D, N, _, _>(context, &vouch, intake, sink)?;
+    reply_of(alloc, verdict)
+}
+
+/// The same, in the room that the limits say.
+fn reply_in_room<I: Intake, S: Sink>(
+    alloc: Global,
+    checks: &Checks,
+    intake: &mut I,
+    sink: &mut S,
+) -> Result<Reply, Fault>
+    requires external { length checks.now.aad.now ≤ 65535 }
+    ensures says { (bytes : List ℕ) → I.to_come intake.old ≡ Some bytes →
+        IfOk result (Says (verified_under (job_under checks.now) None bytes)) }
+    ensures payload { (bytes : List ℕ) → I.to_come intake.old ≡ Some bytes →
+        IfOk result (λ _. Appends (S.contents sink.old) (S.contents sink.new)
+        (payload_under (job_under checks.now) bytes)) }
+{
+    match checks.limits {
+        Limits::Small => reply_into::<SMALL_HEADER, SMALL_NESTING, SMALL_KEYS, _, _>(
+            alloc, checks, intake, sink,
+        ),
+        Limits::Large => reply_into::<LARGE_HEADER, LARGE_NESTING, LARGE_KEYS, _, _>(
+            alloc, checks, intake, sink,
+        ),
+    }
+}
+
+/// The reply to the message of a reader, whose payload is written to the file as it comes.
+fn reply_written<N: Write, R: Read>(
+    alloc: Global,
+    checks: &Checks,
+    file: &mut N,
+    input: &mut R,
+) -> Result<Reply, Fault>
+    requires external { length checks.now.aad.now ≤ 65535 }
+    ensures says { (bytes : List ℕ) → R.remaining input.old ≡ Some bytes →
+        IfOk result (Says (verified_under (job_under checks.now) None bytes)) }
+    ensures payload { (bytes : List ℕ) → R.remaining input.old ≡ Some bytes →
+        IfOk result (λ _. Appends (N.contents file.old) (N.contents file.new)
+        (payload_under (job_under checks.now) bytes)) }
+{
+    let mut intake = ReadIntake::new(input);
+    let mut sink = WriteSink::new(file);
+    let reply = reply_in_room(alloc, checks, &mut intake, &mut sink);
+    // The file holds in the end what the sink's writer holds. The proof reads it from this use, which has no run-time effect.
+    let writer = sink.into_writer();
+    let _ = &*writer;
+    reply
+}
+
+/// Gives the file its own name. Where that fails, it is removed.
+fn keep<N: NewFile>(file: &mut N) -> Result<(), Fault>
+    ensures kept { IfOk result (λ _. N.standing file.new ≡ Kept) }
+    ensures bytes { IfOk result (λ _. Keeps (N.contents file.old) (N.contents file.new)) }
+    ensures removed { IfErr result (λ _. IsRemoved (N.standing file.new)) }
+{
+    match file.keep() {
+        Ok(()) => Ok(()),
+        Err(error) => {
+            let _ = file.discard();
+            Err(Fault::file("payload-to", &error))
+        }
+    }
+}
+
+/// Removes the file.
+fn discard<N: NewFile>(file: &mut N) -> Result<(), Fault>
+    ensures gone { IfOk result (λ _. N.standing file.new ≡ Gone) }
+    ensures removed { IsRemoved (N.standing file.new) }
+{
+    match file.discard() {
+        Ok(()) => Ok(()),
+        Err(error) => Err(Fault::file("payload-to", &error)),
+    }
+}
+
+/// Keeps the file where its message is authentic, and removes it where it is refused.
+fn settle<N: NewFile>(reply: Reply, file: &mut N) -> Result<Reply, Fault>
+    ensures same { (said : Output) → Says said reply → IfOk result (Says said) }
+    ensures kept { IfOk result (λ said. said.status ≡ Status.Done →
+        (N.standing file.new ≡ Kept) × Keeps (N.contents file.old) (N.contents file.new)) }
+    ensures gone { IfOk result (λ said. said.status ≢ Status.Done →
+        N.standing file.new ≡ Gone) }
+    ensures removed { IfErr result (λ _. IsRemoved (N.standing file.new)) }
+{
+    match reply.status {
+        Status::Done => keep(file)?,
+        Status::Refused | Status::Fault => discard(file)?,
+    }
+    Ok(reply)
+}
+
+/// The same, where there is a fault perhaps: then the file is removed.
+fn settle_reply<N: NewFile>(reply: Result<Reply, Fault>, file: &mut N) -> Result<Reply, Fault>
+    ensures same { (said : Output) → IfOk reply (Says said) → IfOk result (Says said) }
+    ensures kept { IfOk result (λ said. said.status ≡ Status.Done →
+        (N.standing file.new ≡ Kept) × Keeps (N.contents file.old) (N.contents file.new)) }
+    ensures gone { IfOk result (λ said. said.status ≢ Status.Done →
+        N.standing file.new ≡ Gone) }
+    ensures removed { IfErr result (λ _. IsRemoved (N.standing file.new)) }
+    ensures fault { IfErr reply (λ _. IsErr result) }
+{
+    match reply {
+        Ok(reply) => settle(reply, file),
+        Err(fault) => {
+            let _ = discard(file);
+            Err(fault)
+        }
+    }
+}
+
+/// Removes the file where a run ends with a fault.
+fn withdraw<N: NewFile>(status: Status, file: &mut N)
+    ensures stays { status ≢ Status.Fault → file.new ≡ file.old }
+    ensures removed { status ≡ Status.Fault → IsRemoved (N.standing file.new) }
+{
+    match status {
+        Status::Fault => {
+            let _ = discard(file);
+        }
+        Status::Done | Status::Refused => {}
+    }
+}
+
+/// Does the job `verify` with a new file, to which the payload is written while the message is read. The file is kept only
+/// after the authentic verdict, where no byte follows the message; in all else it is as [`answer`](crate::answer::answer).
+pub fn answer_to_new_file<N: NewFile, R: Read, W: Write>(
+    alloc: Global,
+    checks: &Checks,
+    file: &mut N,
+    input: &mut R,
+    output: &mut W,
+) -> u8
+    requires external { length checks.now.aad.now ≤ 65535 }
+    ensures status { result ≤ 2 }
+    // It prints what it prints without a file.
+    ensures printed { (bytes : List ℕ) → R.remaining input.old ≡ Some bytes →
+        EndsWith (verified_under (job_under checks.now) None bytes)
+        (W.contents output.old) (W.contents output.new) result }
+    ensures fails { (bytes : List ℕ) → R.remaining input.old ≡ Some bytes → result ≡ 2 →
+        Fails (verified_under (job_under checks.now) None bytes)
+        (W.contents output.old) (W.contents output.new) }
+    // Where it says authentic, the file is kept, and exactly the payload was written to it.
+    ensures kept { result ≡ 0 → N.standing file.new ≡ Kept }
+    ensures payload { (bytes : List ℕ) → R.remaining input.old ≡ Some bytes → result ≡ 0 →
+        Appends (N.contents file.old) (N.contents file.new)
+        (payload_under (job_under checks.now) bytes) }
+    // After a refusal the file is gone, and after a fault too, unless the system doesn't remove it.
+    ensures refused { result ≡ 1 → N.standing file.new ≡ Gone }
+    ensures fault { result ≡ 2 → IsRemoved (N.standing file.new) }
+{
+    let written = reply_written(alloc, checks, file, input);
+    let reply = settle_reply(written, file);
+    let status = print_reply(alloc, reply, output);
+    withdraw(status, file);
+    status.code()
+}
+
+/// A new file that is to have this name, where nothing has it yet.
+fn new_file<F: NewFiles>(alloc: Global, files: &F, name: &str) -> Result<F::New, Fault>
+    ensures taken { F.is_taken files.now name.now ≡ Some true → IsErr result }
+    ensures fault { IfErr result IsOfNewFile }
+{
+    match files.exists(name) {
+        Ok(true) => Err(Fault::File("payload-to")),
+        Ok(false) => files
+            .create(alloc, name)
+            .map_err(|error| Fault::file("payload-to", &error)),
+        Err(error) => Err(Fault::file("payload-to", &error)),
+    }
+}
+
+/// Does the job `verify`, and keeps the payload of an authentic message in a new file of this name. A name that exists is a
+/// fault, before the input is read. In all else it is as [`answer_to_new_file`].
+pub fn answer_with_payload_to<F: NewFiles, R: Read, W: Write>(
+    alloc: Global,
+    checks: &Checks,
+    files: &F,
+    name: &str,
+    input: &mut R,
+    output: &mut W,
+) -> u8
+    requires external { length checks.now.aad.now ≤ 65535 }
+    ensures status { result ≤ 2 }
+    ensures printed { (bytes : List ℕ) → R.remaining input.old ≡ Some bytes →
+        EndsWith (verified_under (job_under checks.now) None bytes)
+        (W.contents output.old) (W.contents output.new) result }
+    ensures fails { (bytes : List ℕ) → R.remaining input.old ≡ Some bytes → result ≡ 2 →
+        Fails (verified_under (job_under checks.now) None bytes)
+        (W.contents output.old) (W.contents output.new) }
+    // Where the name exists, there is a fault, and nothing of the input is read.
+    ensures taken { F.is_taken files.now name.now ≡ Some true → (result ≡ 2)
+        × (input.new ≡ input.old)
+        × WritesFileFault (W.contents output.old) (W.contents output.new) }
+{
+    let mut file = match new_file(alloc, files, name) {
+        Ok(file) => file,
+        Err(fault) => return print_fault(alloc, fault, output).code(),
+    };
+    answer_to_new_file(alloc, checks, &mut file, input, output)
+}
