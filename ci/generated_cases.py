@@ -13,6 +13,8 @@ import second_program
 import second_reading as reading
 
 COMMANDS = {"verify": 8, "cwt": 9, "show": 3, "digest": 2, "keys": 2, "make": 5}
+# the commands that may restrict their keys
+RESTRICTED = ("verify", "cwt", "digest")
 # how often a head is wider than it has to be, and how often a part that is made with slips has one: one of these rates
 WIDE_RATES = (0, 0, 0.05, 0.5)
 SLIP_RATES = (0.05, 0.1, 0.2, 0.4)
@@ -33,6 +35,14 @@ NIL = b"\xf6"
 HEADS = bytes.fromhex("00 18 1c 1f 20 38 40 57 58 5b 5f 60 80 84 9b 9f a0 a1 b8 bf c0 c1 d0 d1 d2 d8 f4 f6 f8 f9 fb ff")
 
 
+def words_of(name, words):
+    """An option with its argument, with each of several, or with none. One that begins with a minus comes after `=`."""
+    if words is True:
+        return [f"--{name}"]
+    listed = [words] if isinstance(words, str) else words
+    return [it for word in listed for it in ([f"--{name}={word}"] if word.startswith("-") else [f"--{name}", word])]
+
+
 @dataclass(frozen=True)
 class Case:
     """A run of the program: its command, its options in their order, and its input."""
@@ -42,7 +52,7 @@ class Case:
     data: bytes
 
     def arguments(self):
-        return [self.command, *(it for name, word in self.options.items() for it in (f"--{name}", word))]
+        return [self.command, *(it for name, words in self.options.items() for it in words_of(name, words))]
 
     def answer(self, data=None):
         """What the second reading answers, for this input or another one."""
@@ -210,6 +220,7 @@ class Round:
         self.now = self.pick(0, 5, 1_443_944_944, 1_443_944_944, 2**63 - 1)
         self.leeway = self.pick(0, 0, 1, 60, 2**32 - 1)
         self.audience = self.pick(*TEXTS)
+        self.is_restricted = command in RESTRICTED and self.happens(0.15)
 
     def happens(self, rate):
         return self.chance.random() < rate
@@ -326,7 +337,8 @@ class Round:
 
     def key_set(self):
         """A key set with one key that fits; at a slip with any number of such keys."""
-        alg = self.alg if self.alg_bucket != "protected" and not self.slips() or self.happens(0.3) else None
+        has_own = self.is_restricted or self.alg_bucket != "protected"
+        alg = self.alg if has_own and not self.slips() or self.happens(0.3) else None
         keys = [self.key(self.kind, alg, self.pick(None, self.kid))]
         if self.slips():
             algs, kids = (None, alg, self.alg, 5), (None, self.kid, b"1")
@@ -416,6 +428,10 @@ class Round:
             return options
         if self.command != "digest" and (not self.is_tagged or self.happens(0.3)):
             options["kind"] = self.pick("mac0", "sign1", "tagged") if self.slips() else self.kind
+        if self.is_restricted:
+            options["algs"] = self.algorithms()
+        if self.command in RESTRICTED and self.happens(0.1):
+            options["least-secret"] = str(self.pick(2, 4, 16, 64, 65, 2**64 - 1) if self.slips() else self.pick(0, 1))
         if self.command != "show" and self.happens(0.2):
             options["aad"] = self.argument(self.some_bytes()[:ARGUMENT_BYTES])
         if self.command == "cwt":
@@ -424,7 +440,30 @@ class Round:
                 options["leeway"] = str(self.leeway)
             if self.happens(0.3):
                 options["aud"] = self.pick(*TEXTS) if self.slips() else self.audience
+            if self.happens(0.3):
+                options |= self.requirements()
         return options
+
+    def algorithms(self):
+        """A list with the message's algorithm; at a slip without it, or no list of algorithms."""
+        others = [str(it) for it in reading.ALGORITHMS if it != self.alg and self.happens(0.3)]
+        if self.slips():
+            return self.pick(",".join(others), "3", "5,", ",-7", "+5,+07", "ES256", "5, 7", str(2**64 + 5))
+        self.chance.shuffle(others)
+        return ",".join([str(self.alg), *others] if self.happens(0.5) else [*others, str(self.alg)])
+
+    def requirements(self):
+        """What is required of the claims, some of it at random."""
+        seconds = (0, 1, 60, 3_600, 2**40, 2**63, 2**64 - 1)
+        stated = {
+            "require": self.chance.sample(reading.REQUIRABLE, self.pick(1, 1, 2)),
+            "iss": self.pick(*TEXTS),
+            "sub": self.pick(*TEXTS),
+            "require-aud": True,
+            "max-lifetime": str(self.pick(*seconds)),
+            "max-age": str(self.pick(*seconds)),
+        }
+        return {name: words for name, words in stated.items() if self.happens(0.3)}
 
     def argument(self, content):
         """Hexadecimal, and at some slips none."""

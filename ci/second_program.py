@@ -1,6 +1,7 @@
 """What the program prints by the second reading: one function for each command, from its options and its input.
 
-The options are a dictionary of names and arguments. The lines, the exit statuses and the order in which the arguments
+The options are a dictionary of names and arguments: of an option that may be there several times a list, of one without an
+argument True. The lines, the exit statuses and the order in which the arguments
 are judged are those of README.md and of the section on the program in docs/DECISIONS.md.
 """
 import contextlib
@@ -26,6 +27,10 @@ class Answer:
     def allows(self, status, text):
         is_text = self.text.startswith(text) if self.is_cut else self.text == text
         return self.status == status and is_text
+
+
+class Unmet(Exception):
+    """The first requirement that admitted claims don't meet."""
 
 
 class Fault(Exception):
@@ -57,12 +62,23 @@ def external_data(options):
     return aad
 
 
+def algorithms_of(options):
+    """The numbers of the algorithms that --algs lists, or None where it is absent."""
+    if "algs" not in options:
+        return None
+    words = options["algs"].split(",")
+    if not all(re.fullmatch(r"[+-]?[0-9]+", it, re.ASCII) and int(it) in reading.ALGORITHMS for it in words):
+        raise Fault("line algs")
+    return frozenset(map(int, words))
+
+
 def context_of(command, options):
     """The context of a command with keys. Its arguments are judged in this order, and the key set after them."""
-    keys, aad = hexadecimal(options, "keys"), external_data(options)
+    keys, algorithms, aad = hexadecimal(options, "keys"), algorithms_of(options), external_data(options)
+    least_secret = int(options.get("least-secret", "0"))
     vouch, payload = hexadecimal(options, "vouch"), hexadecimal(options, "payload")
     try:
-        usable = reading.read_key_set(keys)
+        usable = reading.read_key_set(keys, algorithms, least_secret)
     except Refused as refusal:
         raise Fault(f"keys {refusal}") from None
     wanted = "sign1" if command == "digest" else options.get("kind", "tagged")
@@ -126,9 +142,23 @@ def cwt(options, data):
     with refusals_of("claims"):
         claims = reading.read_claims(message.payload)
         reading.admit(claims, int(options["now"]), int(options.get("leeway", "0")), options.get("aud"))
+    for name, place in reading.unmet_requirements(claims, requirements_of(options)):
+        raise Unmet(f"policy {name} at {place}")
     with refusals_of("message"):
         demand_end(data, message)
     return printed(lines_of_claims(claims))
+
+
+def requirements_of(options):
+    """What the options of `cwt` require of claims that are admitted."""
+    present, aud = [*options.get("require", [])], None
+    if "require-aud" in options:
+        aud = options.get("aud")
+        present += ["aud"] if aud is None else []
+    limits = {it: int(options[name]) for it, name in (("lifetime", "max-lifetime"), ("age", "max-age")) if name in options}
+    return reading.Requirements(
+        int(options["now"]), int(options.get("leeway", "0")), tuple(present), options.get("iss"), options.get("sub"), aud, **limits
+    )
 
 
 def lines_of_claims(claims):
@@ -218,6 +248,8 @@ def answer(command, options, data):
         return Answer(0, COMMANDS[command](options, data))
     except Refused as refusal:
         return Answer(1, printed([f"refused {refusal}"]))
+    except Unmet as unmet:
+        return Answer(1, printed([f"refused {unmet}"]))
     except TooMany as listed:
         return Answer(1, listed.args[0])
     except Fault as fault:

@@ -329,11 +329,18 @@ def read_key_items(data):
 
 
 @functools.lru_cache(maxsize=8)
-def read_key_set(data):
-    """The usable keys of a key set. A key that is refused is ignored."""
+def read_key_set(data, algorithms=None, least_secret=0):
+    """The usable keys of a key set that are allowed. A key that is refused, or isn't allowed, is ignored."""
     keys = [it for _place, it in read_key_items(data) if isinstance(it, Key)]
+    keys = [it for it in keys if is_allowed(it, algorithms, least_secret)]
     demand(len(keys) <= USABLE_KEYS, Reason.BadKeySet, 0)
     return keys
+
+
+def is_allowed(key, algorithms, least_secret):
+    """Whether a key is for one of these algorithms, where they are stated, and its secret is long enough."""
+    is_long = key.secret is None or len(key.secret) >= least_secret
+    return is_long and (algorithms is None or key.alg in algorithms)
 
 
 # Algorithms, and the choice of the key (RFC 9053 sections 2.1 and 3.1, RFC 9052 section 7.1)
@@ -602,3 +609,43 @@ def admit(claims, now, leeway, audience):
     if "aud" in claims and audience is not None:
         is_named = audience in [it.text() for it in audience_of(claims)]
         demand(is_named, Reason.WrongAudience, claims["aud"].place)
+
+
+REQUIRABLE = ("iss", "sub", "aud", "exp", "nbf", "iat", "cti")
+
+
+@dataclass(frozen=True)
+class Requirements:
+    """What a token has to meet beyond its admission: claims that are present, texts, and limits in seconds."""
+
+    now: int
+    leeway: int
+    present: tuple = ()
+    iss: str | None = None
+    sub: str | None = None
+    aud: str | None = None
+    lifetime: int | None = None
+    age: int | None = None
+
+
+def unmet_requirements(claims, required):
+    """The names and the places of the requirements that aren't met, in their order."""
+    place = {name: claims[name].place if name in claims else 0 for name in REQUIRABLE}
+    exp, iat = (claims[it].integer() if it in claims else None for it in ("exp", "iat"))
+    for name in required.present:
+        if name not in claims:
+            yield f"Present{name.capitalize()}", 0
+    for name, stated, word in ("iss", required.iss, "Issuer"), ("sub", required.sub, "Subject"):
+        if stated is not None and (name not in claims or claims[name].text() != stated):
+            yield word, place[name]
+    if required.aud is not None and required.aud not in [it.text() for it in audience_of(claims)]:
+        yield "Audience", place["aud"]
+    if required.lifetime is not None:
+        starts = [required.now + required.leeway] + ([] if iat is None else [iat])
+        if exp is None or any(exp > it + required.lifetime for it in starts):
+            yield "Lifetime", place["exp"]
+    if required.age is not None:
+        if iat is None or iat < required.now - required.leeway - required.age:
+            yield "Age", place["iat"]
+        if iat is not None and iat > required.now + required.leeway:
+            yield "Issued", place["iat"]

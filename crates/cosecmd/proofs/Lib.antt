@@ -1,4 +1,5 @@
 pub mod Admissions
+pub mod AllowedKeys
 pub mod Asked
 pub mod ChecksAsked
 pub mod CommandLines

@@ -8,6 +8,7 @@ use Rattle.cose_head.specs.declared.algorithm.Alg.TheVariants.{Hmac256}
 use Rattle.cose_map.specs.Key.{key_of}
 use Rattle.cose_msg.specs.declared.context.Wanted.TheVariants.{Mac0, Sign1, Tagged}
 use Rattle.cosecmd.specs.Admitted.{program_policy}
+use Rattle.cosecmd.specs.Allowed.{unrestricted}
 use Rattle.cosecmd.specs.CommandLine.{line_prints}
 use Rattle.cosecmd.specs.Limits.{room_of}
 use Rattle.cosecmd.specs.Options.{algorithm_in, bytes_in, integer_in, key_set_in, kind_in, limits_in, number_in, optional_bytes_in, payload_in, text_in}
@@ -126,7 +127,7 @@ large_line bytes = refl
 
 -- Under the key set without keys, the array 80, and with this argument of `--vouch`.
 abbrev no_keys : Option (List ℕ) → Under
-no_keys vouch = record { room = room_of Small; keys = program_keys (room_of Small) (128 ∷ []); aad = []; wanted = Tagged; vouch = vouch }
+no_keys vouch = record { room = room_of Small; keys = program_keys (room_of Small) unrestricted (128 ∷ []); aad = []; wanted = Tagged; vouch = vouch }
 
 verify_line : (bytes : List ℕ) → line_prints any_file (Some (codes "verify", given (codes "keys") (codes "80") ∷ given (codes "payload-file") (codes "a") ∷ given (codes "vouch") (codes "01") ∷ [])) bytes ≡
     Some (verified_under (no_keys (Some (1 ∷ []))) (Some (1 ∷ 97 ∷ [])) bytes)
@@ -134,7 +135,7 @@ unfolding decode_pairs
 verify_line bytes = refl
 
 large_verify_line : (bytes : List ℕ) → line_prints no_file (Some (codes "verify", given (codes "keys") (codes "80") ∷ given (codes "limits") (codes "large") ∷ [])) bytes ≡
-    Some (verified_under (record (no_keys None) { room = room_of Large; keys = program_keys (room_of Large) (128 ∷ []) }) None bytes)
+    Some (verified_under (record (no_keys None) { room = room_of Large; keys = program_keys (room_of Large) unrestricted (128 ∷ []) }) None bytes)
 unfolding decode_pairs
 large_verify_line bytes = refl
 

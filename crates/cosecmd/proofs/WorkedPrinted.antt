@@ -73,7 +73,7 @@ abbrev pub word : List ℕ → Bor (List ℕ)
 word bytes = record { ref_ptr = (0, 0); now = bytes }
 
 abbrev pub checks_within : Limits → List ℕ → List ℕ → Wanted → Option (List ℕ) → Checks
-checks_within limits keys aad wanted vouch = record { keys = word keys; aad = word aad; wanted = wanted; vouch = option_map word vouch; limits = limits }
+checks_within limits keys aad wanted vouch = record { keys = word keys; restrictions = record { algorithms = None; least_secret = 0 }; aad = word aad; wanted = wanted; vouch = option_map word vouch; limits = limits }
 
 abbrev pub checks_for : List ℕ → List ℕ → Wanted → Option (List ℕ) → Checks
 checks_for = checks_within Small

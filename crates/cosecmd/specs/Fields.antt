@@ -4,6 +4,7 @@ use Rattle.cose_map.specs.KeySet.{keys_of}
 use Rattle.cose_msg.specs.declared.context.Wanted.TheVariants as wants
 use Rattle.cose_cwt.specs.Claims.Audience.{text_value}
 use Rattle.cosecmd.specs.Options.{Options, ◌>>=◌, algorithm_in, bytes_in, flag_in, integer_in, key_in, key_set_in, kind_in, limits_in, number_in, optional_bytes_in, text_in}
+use Rattle.cosecmd.specs.Allowed.{restrictions_in}
 use Rattle.cosecmd.specs.Limits.{Room, room_of}
 use Rattle.cosecmd.specs.Printed.{keys_listed}
 use Rattle.cosecmd.specs.Requirements.{RequiredFields}
@@ -29,16 +30,18 @@ IsKeyOf content options key = (bytes : List ℕ) → key_in content options ≡ 
 abbrev pub checks_in : (List ℕ → Option (List ℕ)) → Options → Option Under
 checks_in content options = do
   keys ← key_set_in content options
+  restrictions ← restrictions_in options
   aad ← bytes_in (codes "aad") options
   vouch ← optional_bytes_in (codes "vouch") options
-  Some (record { room = room_of (limits_in options); keys = program_keys (room_of (limits_in options)) keys; aad = aad; wanted = kind_in options; vouch = vouch })
+  Some (record { room = room_of (limits_in options); keys = program_keys (room_of (limits_in options)) restrictions keys; aad = aad; wanted = kind_in options; vouch = vouch })
 
 -- What `digest` reads a message under: a COSE_Sign1, for which nobody vouches.
 abbrev pub digest_checks_in : (List ℕ → Option (List ℕ)) → Options → Option Under
 digest_checks_in content options = do
   keys ← key_set_in content options
+  restrictions ← restrictions_in options
   aad ← bytes_in (codes "aad") options
-  Some (record { room = room_of (limits_in options); keys = program_keys (room_of (limits_in options)) keys; aad = aad; wanted = wants.Sign1; vouch = None })
+  Some (record { room = room_of (limits_in options); keys = program_keys (room_of (limits_in options)) restrictions keys; aad = aad; wanted = wants.Sign1; vouch = None })
 
 -- The checks are what the options say.
 abbrev pub AreChecks : Option Under → OwnedChecks → Type 0

@@ -1,4 +1,5 @@
 pub mod Admitted
+pub mod Allowed
 pub mod Arguments
 pub mod CommandLine
 pub mod Faults

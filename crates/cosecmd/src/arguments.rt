@@ -12,6 +12,7 @@ ghost use Rattle.cosecmd.specs.PayloadTo.{AsksToVerify, new_file_for, new_file_o
 ghost use Rattle.cosecmd.specs.Printed.{Output};
 ghost use Rattle.cosecmd.specs.Arguments.{makes};
 
+use crate::allowed::allowed_of;
 use crate::commands::line;
 use crate::fault::Fault;
 use crate::files::{NamedFiles, key_bytes, key_set_bytes};
@@ -306,12 +307,14 @@ fn checks_of<F: NamedFiles>(
     ensures { IfOk result (AreChecks (checks_in (F.content files.now) (options_of matches.now))) }
 {
     let keys = key_set_of(alloc, files, matches)?;
+    let allowed = allowed_of(alloc, matches)?;
     let aad = external_of(alloc, matches)?;
     let wanted = kind_of(matches);
     let vouch = optional_bytes_of(alloc, matches, "vouch")?;
     let limits = limits_of(matches);
     Ok(OwnedChecks {
         keys,
+        allowed,
         aad,
         wanted,
         vouch,
@@ -353,10 +356,12 @@ fn digest_checks_of<F: NamedFiles>(
         (AreChecks (digest_checks_in (F.content files.now) (options_of matches.now))) }
 {
     let keys = key_set_of(alloc, files, matches)?;
+    let allowed = allowed_of(alloc, matches)?;
     let aad = external_of(alloc, matches)?;
     let limits = limits_of(matches);
     Ok(OwnedChecks {
         keys,
+        allowed,
         aad,
         wanted: Wanted::Sign1,
         vouch: None,

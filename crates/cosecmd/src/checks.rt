@@ -25,6 +25,7 @@ impl OwnedChecks {
     {
         Checks {
             keys: self.keys.as_slice(),
+            restrictions: self.allowed.borrowed(),
             aad: self.aad.as_slice(),
             wanted: self.wanted,
             vouch: slice_of(&self.vouch),

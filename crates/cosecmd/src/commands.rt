@@ -93,6 +93,8 @@ enum Value {
     Seconds,
     /// A number of seconds that may be as great as dates are.
     Duration,
+    /// A number of bytes.
+    Count,
     /// The number of an HMAC algorithm (RFC 9053 section 3.1).
     Mac,
     /// The number of bytes of a payload.
@@ -173,6 +175,24 @@ const KEYS_FILE: CommandOption = CommandOption {
     value: Value::Text,
     presence: Presence::Optional,
     help: "The file that has the bytes of the key set, in place of --keys",
+};
+
+/// The algorithms that are allowed.
+const ALGS: CommandOption = CommandOption {
+    name: "algs",
+    argument: "LIST",
+    value: Value::Text,
+    presence: Presence::Optional,
+    help: "The algorithms that are allowed, by number, as in `--algs=5,-7`: a key is used only where its own alg is one of them",
+};
+
+/// The fewest bytes of a secret.
+const LEAST_SECRET: CommandOption = CommandOption {
+    name: "least-secret",
+    argument: "N",
+    value: Value::Count,
+    presence: Presence::Optional,
+    help: "The fewest bytes of a symmetric key: none that is shorter is used",
 };
 
 /// The externally supplied data.
@@ -421,6 +441,8 @@ const COMMANDS: &[Subcommand] = &[
         options: &[
             KEYS,
             KEYS_FILE,
+            ALGS,
+            LEAST_SECRET,
             AAD,
             KIND,
             VOUCH,
@@ -439,6 +461,8 @@ const COMMANDS: &[Subcommand] = &[
         options: &[
             KEYS,
             KEYS_FILE,
+            ALGS,
+            LEAST_SECRET,
             AAD,
             KIND,
             VOUCH,
@@ -463,6 +487,8 @@ const COMMANDS: &[Subcommand] = &[
         options: &[
             KEYS,
             KEYS_FILE,
+            ALGS,
+            LEAST_SECRET,
             AAD,
             DETACHED,
             PAYLOAD_FILE,
@@ -501,7 +527,7 @@ impl Value {
             Value::Limits => arg.value_parser(LIMITS_NAMED),
             Value::Time => arg.value_parser(value_parser!(i64).range(0..)),
             Value::Seconds => arg.value_parser(value_parser!(u32)),
-            Value::Duration => arg.value_parser(value_parser!(u64)),
+            Value::Duration | Value::Count => arg.value_parser(value_parser!(u64)),
             Value::Mac => arg.value_parser(value_parser!(u8).range(4..=7)),
             Value::Length => arg.value_parser(value_parser!(u64).range(0..PAYLOAD)),
         }

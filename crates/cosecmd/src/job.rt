@@ -5,6 +5,7 @@ ghost use Rattle.cosecmd.specs.Job.{job_of};
 
 use crate::limits::Limits;
 use cose_cwt::Requirements;
+use cose_map::Restrictions;
 use cose_msg::{Alg, Wanted};
 
 /// What the message on the input is verified under.
@@ -12,6 +13,8 @@ use cose_msg::{Alg, Wanted};
 pub struct Checks<'j> {
     /// The bytes of the key set (RFC 9052 section 7).
     pub keys: &'j [u8],
+    /// Which of its keys may be used.
+    pub restrictions: Restrictions<'j>,
     /// The externally supplied data (RFC 9052 section 4.3).
     pub aad: &'j [u8],
     /// The kinds of messages that are wanted.

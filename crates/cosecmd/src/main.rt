@@ -6,6 +6,7 @@
 ghost use Rattle.std.specs.Prelude.{◌≡◌};
 ghost use Rattle.std.specs.Process.{exit_status};
 
+mod allowed;
 mod answer;
 mod arguments;
 mod checks;

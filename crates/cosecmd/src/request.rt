@@ -2,6 +2,7 @@
 
 ghost use Rattle.std.specs.Prelude.{◌≤◌, length as length_of};
 
+use crate::allowed::Allowed;
 use crate::job::Question;
 use crate::limits::Limits;
 use crate::required::Required;
@@ -12,6 +13,8 @@ use cose_msg::{Alg, Wanted};
 pub struct OwnedChecks {
     /// The bytes of the key set.
     pub keys: Vec<u8>,
+    /// Which of its keys may be used.
+    pub allowed: Allowed,
     /// The externally supplied data.
     pub aad: Vec<u8>,
     /// The kinds of messages that are wanted.

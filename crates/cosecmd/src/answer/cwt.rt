@@ -397,7 +397,7 @@ fn admitted_reply<const H: usize, const D: usize, const N: usize, const L: usize
     // Its fault is that the input failed exactly where the intake failed in this call.
     ensures input { I.has_failed intake.new ≡ (I.has_failed intake.old || fails_by_input result) }
 {
-    let keys = match KeyTable::<N>::read(checks.keys) {
+    let keys = match KeyTable::<N>::read_restricted(checks.keys, &checks.restrictions) {
         Ok(keys) => keys,
         Err(refusal) => return Err(Fault::Keys(refusal)),
     };

@@ -191,7 +191,7 @@ fn digested_reply<const H: usize, const D: usize, const N: usize, I: Intake>(
     // Its fault is that the input failed exactly where the intake failed in this call.
     ensures input { I.has_failed intake.new ≡ (I.has_failed intake.old || fails_by_input result) }
 {
-    let keys = match KeyTable::<N>::read(checks.keys) {
+    let keys = match KeyTable::<N>::read_restricted(checks.keys, &checks.restrictions) {
         Ok(keys) => keys,
         Err(refusal) => return Err(Fault::Keys(refusal)),
     };
@@ -260,7 +260,7 @@ fn digested_with_file<const H: usize, const D: usize, const N: usize, I: Intake,
 {
     // The law that the proof cites: what comes of a payload changes nothing where none of it is wanted.
     payload_stays();
-    let keys = match KeyTable::<N>::read(job.checks.keys) {
+    let keys = match KeyTable::<N>::read_restricted(job.checks.keys, &job.checks.restrictions) {
         Ok(keys) => keys,
         Err(refusal) => return Err(Fault::Keys(refusal)),
     };

@@ -1,0 +1,133 @@
+//! Which of the usable keys of a set the arguments of `verify`, `cwt` and `digest` allow.
+
+ghost use Rattle.std.specs.Prelude.{◌≡◌, ◌==◌, IfOk, Some, codes, map, option_map, unwrap_or};
+ghost use Rattle.std.specs.List.{slice_split};
+ghost use Rattle.cose_map.specs.Restrictions.View.{numbers, restrictions_value};
+ghost use Rattle.cosecmd.specs.Allowed as spec;
+ghost use Rattle.cosecmd.specs.Options.{number_in, options_of};
+
+use crate::arguments::text_of;
+use crate::fault::Fault;
+use clap::ArgMatches;
+use cose_map::Restrictions;
+use cose_msg::Alg;
+use std::alloc::{AllocError, Global};
+
+/// Which keys may be used.
+#[derive(Drop)]
+pub struct Allowed {
+    /// The numbers of the algorithms that are allowed, where there is a list of them.
+    pub algorithms: Option<Vec<i128>>,
+    /// The fewest bytes of a symmetric key.
+    pub least_secret: usize,
+}
+
+/// A number, where an algorithm has it.
+fn known(number: i128) -> Option<i128>
+    ensures { result ≡ spec.number_known number }
+{
+    let alg = Alg::from_number(number)?;
+    Some(alg.number())
+}
+
+/// The number of an algorithm that a text writes in decimal.
+fn number_of(word: &str) -> Option<i128>
+    ensures { result ≡ spec.algorithm_written word.now }
+{
+    match word.parse::<i64>() {
+        Ok(number) => known(i128::from(number)),
+        Err(_) => None,
+    }
+}
+
+/// The parts of a list between its commas.
+fn parts_of<'a>(alloc: Global, list: &'a str) -> Result<Vec<&'a str>, AllocError>
+    ensures { IfOk result (λ parts. map (λ part. part.now) parts.items
+        ≡ slice_split (λ byte. byte == 44) list.now) }
+{
+    list.split(',').collect(alloc)
+}
+
+/// The numbers of the algorithms that words write, where each writes one.
+fn numbers_of(alloc: Global, words: &[&str]) -> Result<Option<Vec<i128>>, AllocError>
+    ensures { IfOk result (λ numbers. option_map (λ numbers. numbers.items) numbers
+        ≡ spec.algorithms_written (map (λ word. word.now) words.now)) }
+{
+    let mut numbers = Vec::new(alloc);
+    'words: for word in words {
+        match number_of(word) {
+            Some(number) => numbers.push(number)?,
+            None => return Ok(None),
+        }
+    }
+    Ok(Some(numbers))
+}
+
+/// The numbers of the algorithms of a list, where each part of it writes one.
+fn numbers_listed(alloc: Global, list: &str) -> Result<Option<Vec<i128>>, AllocError>
+    ensures { IfOk result (λ numbers. option_map (λ numbers. numbers.items) numbers
+        ≡ spec.algorithms_listed list.now) }
+{
+    let words = parts_of(alloc, list)?;
+    numbers_of(alloc, words.as_slice())
+}
+
+/// The numbers of the algorithms that `--algs` lists, where it is there.
+fn algorithms_of(alloc: Global, matches: &ArgMatches) -> Result<Option<Vec<i128>>, Fault>
+    ensures { IfOk result (λ numbers. spec.algorithms_in (options_of matches.now)
+        ≡ Some (option_map (λ numbers. numbers.items) numbers)) }
+{
+    match text_of(matches, "algs") {
+        Some(list) => match numbers_listed(alloc, list)? {
+            Some(numbers) => Ok(Some(numbers)),
+            None => Err(Fault::Line("algs")),
+        },
+        None => Ok(None),
+    }
+}
+
+/// The fewest bytes of a symmetric key that `--least-secret` states, and 0 where it isn't there.
+fn least_secret_of(matches: &ArgMatches) -> Result<usize, Fault>
+    ensures { IfOk result (λ least. least
+        ≡ unwrap_or (number_in (codes "least-secret") (options_of matches.now)) 0) }
+{
+    match matches.try_get_one::<usize>("least-secret") {
+        Ok(least) => Ok(least.unwrap_or(0)),
+        Err(_) => Err(Fault::Line("least-secret")),
+    }
+}
+
+/// Which keys the arguments allow.
+pub fn allowed_of(alloc: Global, matches: &ArgMatches) -> Result<Allowed, Fault>
+    ensures { IfOk result (λ allowed. spec.restrictions_in (options_of matches.now)
+        ≡ Some (spec.allowed_value allowed)) }
+{
+    let algorithms = algorithms_of(alloc, matches)?;
+    let least_secret = least_secret_of(matches)?;
+    Ok(Allowed {
+        algorithms,
+        least_secret,
+    })
+}
+
+/// The numbers of a list, where there is one.
+fn slice_of_numbers(list: &Option<Vec<i128>>) -> Option<&[i128]>
+    ensures { option_map numbers result ≡ option_map (λ list. list.items) list.now }
+{
+    match list {
+        Some(list) => Some(list.as_slice()),
+        None => None,
+    }
+}
+
+impl Allowed {
+    /// The same, as a table of keys takes it.
+    pub fn borrowed(&self) -> Restrictions<'_>
+        ensures { restrictions_value result ≡ spec.allowed_value self.now }
+    {
+        Restrictions {
+            algorithms: slice_of_numbers(&self.algorithms),
+            least_secret: self.least_secret,
+        }
+    }
+}
