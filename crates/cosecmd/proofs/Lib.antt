@@ -19,6 +19,7 @@ pub mod Stated
 pub mod Trailing
 pub mod Vouches
 pub mod WorkedAdmitted
+pub mod WorkedAllowed
 pub mod WorkedDigests
 pub mod WorkedLimits
 pub mod WorkedListed

@@ -416,8 +416,10 @@ const KEY_BYTES: Option<OneOf> = Some(OneOf {
     other: "key-file",
 });
 
-/// The commands, in the order in which help lists them.
-const COMMANDS: &[Subcommand] = &[
+// The commands, in the order in which help lists them. One table of all of them is more than a check takes.
+
+/// The commands that show or verify a message.
+const MESSAGE_COMMANDS: &[Subcommand] = &[
     Subcommand {
         name: "show",
         about: "Shows the shape and the headers of the COSE message on standard input, under no key",
@@ -444,6 +446,10 @@ const COMMANDS: &[Subcommand] = &[
         ],
         one_of: KEY_SET,
     },
+];
+
+/// The commands that admit a token, or print a digest.
+const TOKEN_COMMANDS: &[Subcommand] = &[
     Subcommand {
         name: "cwt",
         about: "Admits the CBOR Web Token on standard input and prints its claims",
@@ -487,6 +493,10 @@ const COMMANDS: &[Subcommand] = &[
         ],
         one_of: KEY_SET,
     },
+];
+
+/// The commands that read no message.
+const OTHER_COMMANDS: &[Subcommand] = &[
     Subcommand {
         name: "keys",
         about: "Lists the items of a key set: the usable keys, and why an item is none",
@@ -567,9 +577,37 @@ impl Subcommand {
     }
 }
 
+/// A line with these commands too.
+fn with_commands<'a>(
+    alloc: Global,
+    line: Command<'a>,
+    subcommands: &[Subcommand],
+) -> Result<Command<'a>, AllocError> {
+    let mut line = line;
+    for subcommand in subcommands {
+        line = line.subcommand(subcommand.command(alloc)?)?;
+    }
+    Ok(line)
+}
+
+/// A line with the commands on messages too.
+fn with_message_commands<'a>(alloc: Global, line: Command<'a>) -> Result<Command<'a>, AllocError> {
+    with_commands(alloc, line, MESSAGE_COMMANDS)
+}
+
+/// A line with the commands on tokens and digests too.
+fn with_token_commands<'a>(alloc: Global, line: Command<'a>) -> Result<Command<'a>, AllocError> {
+    with_commands(alloc, line, TOKEN_COMMANDS)
+}
+
+/// A line with the other commands too.
+fn with_other_commands<'a>(alloc: Global, line: Command<'a>) -> Result<Command<'a>, AllocError> {
+    with_commands(alloc, line, OTHER_COMMANDS)
+}
+
 /// The commands and their options.
 pub fn line<'a>(alloc: Global) -> Result<Command<'a>, AllocError> {
-    let mut line = Command::new(alloc, "cosecmd")
+    let line = Command::new(alloc, "cosecmd")
         .about(
             "Verifies COSE messages (RFC 9052) and CBOR Web Tokens (RFC 8392) that come on standard input, and makes COSE_Mac0",
         )
@@ -577,8 +615,7 @@ pub fn line<'a>(alloc: Global) -> Result<Command<'a>, AllocError> {
         .after_help(NOTES)
         .subcommand_required(true)
         .arg_required_else_help(true);
-    for subcommand in COMMANDS {
-        line = line.subcommand(subcommand.command(alloc)?)?;
-    }
-    Ok(line)
+    let line = with_message_commands(alloc, line)?;
+    let line = with_token_commands(alloc, line)?;
+    with_other_commands(alloc, line)
 }
