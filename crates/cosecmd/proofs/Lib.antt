@@ -20,6 +20,7 @@ pub mod Stated
 pub mod Trailing
 pub mod Vouches
 pub mod WorkedAdmitted
+pub mod WorkedAllowed
 pub mod WorkedDigests
 pub mod WorkedKept
 pub mod WorkedLimits
