@@ -8,7 +8,9 @@ pub mod Options
 pub mod Payload
 pub mod PayloadFile
 pub mod Printed
+pub mod Part
 pub mod Readable
+pub mod Sequence
 pub mod Stated
 pub mod Under
 pub mod Vouch

@@ -9,6 +9,7 @@ ghost use Rattle.cosecmd.specs.Stated.{answered_from};
 mod cwt;
 mod digest;
 mod make;
+mod sequence;
 mod show;
 mod verify;
 
