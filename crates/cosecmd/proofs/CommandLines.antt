@@ -12,6 +12,7 @@ use Rattle.cosecmd.specs.CommandLine.{IsFoundIn, IsReadFrom, begins_as_answer, c
 use Rattle.cosecmd.specs.Fields.{AreChecks, CwtFields, MakeFields, checks_in}
 use Rattle.cosecmd.specs.Options.{Options, ◌>>=◌, flag_in, key_in, text_in}
 use Rattle.cosecmd.specs.Printed.{Output, admitted_under, made_under}
+use Rattle.cosecmd.specs.Sequence.{verified_sequence}
 use Rattle.cosecmd.specs.Under.{Under, owned_under}
 use Rattle.cosecmd.specs.Words.{admitted_for, made_for}
 use Rattle.cosecmd.specs.declared.request.Cwt.{Cwt}
@@ -31,6 +32,14 @@ payload_asks prints (Some under) None checks payload bytes said are is e = cc
 payload_asks prints (Some under) (Some detached) checks payload bytes said are is e =
     let same : prints under detached bytes ≡ said = cc in
     (detached, is, ap (λ (u : Under). prints u detached bytes) (are under refl) ∙ same)
+
+-- The same of a sequence.
+pub sequence_asks : (under : Option Under) (checks : OwnedChecks) (bytes : List ℕ) (said : Output) → AreChecks under checks → (do under ← under; Some (verified_sequence under bytes)) ≡ Some said →
+    verified_sequence (owned_under checks) bytes ≡ said
+sequence_asks None checks bytes said are e = cc
+sequence_asks (Some under) checks bytes said are e =
+    let same : verified_sequence under bytes ≡ said = cc in
+    ap (λ (u : Under). verified_sequence u bytes) (are under refl) ∙ same
 
 pub cwt_asks : (content : List ℕ → Option (List ℕ)) (options : Options) (words : Cwt) (bytes : List ℕ) (said : Output) → CwtFields content options words → cwt_prints content options bytes ≡ Some said →
     admitted_for words bytes ≡ said

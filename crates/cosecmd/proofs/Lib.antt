@@ -7,9 +7,12 @@ pub mod Digests
 pub mod Failures
 pub mod KeyFiles
 pub mod Makings
+pub mod Nexts
 pub mod Options
+pub mod PartLines
 pub mod PayloadFiles
 pub mod Replies
+pub mod Sequences
 pub mod Shows
 pub mod Stated
 pub mod Trailing

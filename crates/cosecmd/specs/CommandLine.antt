@@ -15,6 +15,7 @@ use Rattle.cosecmd.specs.Faults.{WritesLine}
 use Rattle.cosecmd.specs.Options.{Options, ◌>>=◌, algorithm_in, bytes_in, flag_in, integer_in, key_in, key_set_in, kind_in, number_in, optional_bytes_in, payload_in, text_in}
 use Rattle.cosecmd.specs.Fields.{checks_in, digest_checks_in}
 use Rattle.cosecmd.specs.Printed.{EndsWith, Fails, Output, admitted_under, digested_under, made_under, shown, verified_under}
+use Rattle.cosecmd.specs.Sequence.{verified_sequence}
 use Rattle.cosecmd.specs.Words.{asked_for, payload_for}
 use Rattle.cosecmd.specs.declared.fault.Fault.{Fault}
 use Rattle.cosecmd.specs.declared.reply.Status.TheVariants as statuses
@@ -22,11 +23,21 @@ use Rattle.cosecmd.specs.declared.request.Request.{Request}
 use Rattle.cosecmd.specs.declared.words.Parsed.{Parsed}
 use Rattle.cosecmd.specs.declared.words.Parsed.TheVariants.{Matches, Text as Reply}
 
-abbrev pub verify_prints : (List ℕ → Option (List ℕ)) → Options → List ℕ → Option Output
-verify_prints content options bytes = do
+abbrev pub message_prints : (List ℕ → Option (List ℕ)) → Options → List ℕ → Option Output
+message_prints content options bytes = do
   under ← checks_in content options
   payload ← payload_in content options
   Some (verified_under under payload bytes)
+
+-- Each message of a sequence has its payload.
+abbrev pub sequence_prints : (List ℕ → Option (List ℕ)) → Options → List ℕ → Option Output
+sequence_prints content options bytes = do
+  under ← checks_in content options
+  Some (verified_sequence under bytes)
+
+abbrev pub verify_prints : (List ℕ → Option (List ℕ)) → Options → List ℕ → Option Output
+verify_prints content options bytes =
+    if flag_in (codes "sequence") options then sequence_prints content options bytes else message_prints content options bytes
 
 abbrev pub cwt_prints : (List ℕ → Option (List ℕ)) → Options → List ℕ → Option Output
 cwt_prints content options bytes = do
@@ -68,6 +79,14 @@ line_prints content (Some command) bytes = command_prints content command.0 comm
 abbrev pub matches_print : (List ℕ → Option (List ℕ)) → ArgMatches → List ℕ → Option Output
 matches_print content matches bytes = line_prints content (subcommand_rows_of matches) bytes
 
+-- Whether the command has the option `--sequence`.
+abbrev pub has_sequence : Option (Text × Options) → Bool
+has_sequence None = false
+has_sequence (Some command) = flag_in (codes "sequence") command.1
+
+abbrev pub is_of_sequence : ArgMatches → Bool
+is_of_sequence matches = has_sequence (subcommand_rows_of matches)
+
 -- A request for which this is printed, with the payload that it names.
 abbrev pub AsksFor : (List ℕ → Option (List ℕ)) → Request → List ℕ → Output → Type 0
 AsksFor content request bytes said = (payload : Option (List ℕ)) × (payload_for content request ≡ Some payload) × (asked_for request payload bytes ≡ said)
@@ -98,10 +117,10 @@ Answers content words bytes old new status =
 
 -- What a run with these arguments has written that ends with status 2: the line of a fault, or a text of clap's, or, for
 -- what clap found, a fault's line or a part of what is printed for it. Any of them may be cut short where the output fails.
--- `make` may have begun its message.
+-- `make` may have begun its message, and a sequence may have lines before that of a fault.
 abbrev pub FailsOn : (List ℕ → Option (List ℕ)) → List Text → List ℕ → Option (List ℕ) → Option (List ℕ) → Type 0
 FailsOn content words bytes old new =
     ((fault : Fault) × WritesLine fault old new)
     ⊎ (((text : Text) × (begins_as_answer text ≡ false) × AppendsFront old new text)
     ⊎ ((matches : ArgMatches) × IsFoundIn words matches
-    × ((said : Output) → matches_print content matches bytes ≡ Some said → subcommand_name_of matches ≢ Some (codes "make") → Fails said old new)))
+    × ((said : Output) → matches_print content matches bytes ≡ Some said → subcommand_name_of matches ≢ Some (codes "make") → is_of_sequence matches ≡ false → Fails said old new)))

@@ -5,10 +5,10 @@ pub mod Fields
 pub mod Input
 pub mod Job
 pub mod Options
+pub mod Part
 pub mod Payload
 pub mod PayloadFile
 pub mod Printed
-pub mod Part
 pub mod Readable
 pub mod Sequence
 pub mod Stated

@@ -5,6 +5,7 @@ use Rattle.cose_map.specs.Key.{key_of}
 use Rattle.cosecmd.specs.Admitted.{program_policy}
 use Rattle.cosecmd.specs.Payload.{detached_in}
 use Rattle.cosecmd.specs.Printed.{Output, admitted_under, answered_under, made_under, shown}
+use Rattle.cosecmd.specs.Sequence.{verified_sequence}
 use Rattle.cosecmd.specs.Under.{owned_under}
 use Rattle.cosecmd.specs.declared.request.Cwt.{Cwt}
 use Rattle.cosecmd.specs.declared.request.Make.{Make}
@@ -22,6 +23,7 @@ made_for words bytes =
 -- The detached payload that the arguments of `verify` or `digest` name, as far as it is known. No other command has one.
 abbrev pub payload_for : (List ℕ → Option (List ℕ)) → Request → Option (Option (List ℕ))
 payload_for content (asks.Message question checks payload) = detached_in content payload
+payload_for content (asks.Sequence checks) = Some None
 payload_for content (asks.Show wanted diagnostic) = Some None
 payload_for content (asks.Cwt words) = Some None
 payload_for content (asks.Make words) = Some None
@@ -30,6 +32,7 @@ payload_for content (asks.Make words) = Some None
 abbrev pub asked_for : Request → Option (List ℕ) → List ℕ → Output
 asked_for (asks.Show wanted diagnostic) payload bytes = shown wanted diagnostic bytes
 asked_for (asks.Message question checks from) payload bytes = answered_under question (owned_under checks) payload bytes
+asked_for (asks.Sequence checks) payload bytes = verified_sequence (owned_under checks) bytes
 asked_for (asks.Cwt words) payload bytes = admitted_for words bytes
 asked_for (asks.Make words) payload bytes = made_for words bytes
 
@@ -38,4 +41,13 @@ abbrev pub makes : Request → Bool
 makes (asks.Make words) = true
 makes (asks.Show wanted diagnostic) = false
 makes (asks.Message question checks from) = false
+makes (asks.Sequence checks) = false
 makes (asks.Cwt words) = false
+
+-- Whether the messages of a sequence are to be verified, one after the other.
+abbrev pub is_sequence : Request → Bool
+is_sequence (asks.Sequence checks) = true
+is_sequence (asks.Show wanted diagnostic) = false
+is_sequence (asks.Message question checks from) = false
+is_sequence (asks.Cwt words) = false
+is_sequence (asks.Make words) = false

@@ -79,6 +79,8 @@ enum Presence {
     Default(&'static str),
     /// It may be left out, and has to be where the option of this name is there.
     Without(&'static str),
+    /// The same, where the option of either name is there.
+    WithoutBoth(&'static str, &'static str),
 }
 
 /// An option, which has one argument, or none.
@@ -194,6 +196,16 @@ const PAYLOAD_FILE: CommandOption = CommandOption {
     help: "The regular file that has the bytes of the payload, in place of --payload; it is read while the message is verified",
 };
 
+/// Each message of a sequence.
+const SEQUENCE: CommandOption = CommandOption {
+    name: "sequence",
+    argument: "",
+    value: Value::Flag,
+    presence: Presence::WithoutBoth("payload", "payload-file"),
+    help: "Verify each message of a CBOR sequence (RFC 8742), a line with its place before its own; after a refusal other than BadAuth \
+the next can't be found",
+};
+
 /// The current time.
 const NOW: CommandOption = CommandOption {
     name: "now",
@@ -302,7 +314,16 @@ const COMMANDS: &[Subcommand] = &[
         name: "verify",
         about: "Verifies the COSE message on standard input and prints the verdict",
         notes: NOTES,
-        options: &[KEYS, KEYS_FILE, AAD, KIND, VOUCH, DETACHED, PAYLOAD_FILE],
+        options: &[
+            KEYS,
+            KEYS_FILE,
+            AAD,
+            KIND,
+            VOUCH,
+            DETACHED,
+            PAYLOAD_FILE,
+            SEQUENCE,
+        ],
         one_of: KEY_SET,
     },
     Subcommand {
@@ -356,6 +377,7 @@ impl CommandOption {
             Presence::Required => Ok(arg.required(true)),
             Presence::Default(argument) => Ok(arg.default_value(argument)),
             Presence::Without(other) => arg.conflicts_with(other),
+            Presence::WithoutBoth(one, other) => arg.conflicts_with(one)?.conflicts_with(other),
         }
     }
 }

@@ -80,6 +80,8 @@ pub enum Request<'w> {
         /// The payload.
         payload: Payload<'w>,
     },
+    /// To verify each message of a sequence under these checks.
+    Sequence(OwnedChecks),
     /// To admit a token.
     Cwt(Cwt<'w>),
     /// To make a message.

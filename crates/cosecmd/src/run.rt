@@ -2,13 +2,14 @@
 
 ghost use Rattle.std.specs.Prelude.{◌≡◌, ◌≢◌, ◌≤◌, ℕ, false, List, Option, Some, None, codes, length, map};
 ghost use Rattle.clap.specs.Matches.{subcommand_name_of};
-ghost use Rattle.cosecmd.specs.CommandLine.{Answers, FailsOn, matches_print};
+ghost use Rattle.cosecmd.specs.CommandLine.{Answers, FailsOn, is_of_sequence, matches_print};
 ghost use Rattle.cosecmd.specs.Payload.{detached_in};
 ghost use Rattle.cosecmd.specs.Printed.{EndsWith, Fails, Output, answered_under, shown};
+ghost use Rattle.cosecmd.specs.Sequence.{FailsInSequence, verified_sequence};
 ghost use Rattle.cosecmd.specs.Under.{job_under, owned_under};
-ghost use Rattle.cosecmd.specs.Words.{admitted_for, asked_for, made_for, makes, payload_for};
+ghost use Rattle.cosecmd.specs.Words.{admitted_for, asked_for, is_sequence, made_for, makes, payload_for};
 
-use crate::answer::{answer, answer_with_payload_file};
+use crate::answer::{answer, answer_sequence, answer_with_payload_file};
 use crate::checks::slice_of;
 use crate::fault::Fault;
 use crate::files::{NamedFiles, NoFiles};
@@ -109,6 +110,24 @@ fn answer_message<F: NamedFiles, R: Read, W: Write>(
     }
 }
 
+/// The command `verify`, where the input is a sequence.
+fn answer_messages<R: Read, W: Write>(
+    alloc: Global,
+    checks: &OwnedChecks,
+    input: &mut R,
+    output: &mut W,
+) -> u8
+    ensures status { result ≤ 2 }
+    ensures printed { (bytes : List ℕ) → R.remaining input.old ≡ Some bytes →
+        EndsWith (verified_sequence (owned_under checks.now) bytes) (W.contents output.old)
+        (W.contents output.new) result }
+    ensures fails { (bytes : List ℕ) → R.remaining input.old ≡ Some bytes → result ≡ 2 →
+        FailsInSequence (verified_sequence (owned_under checks.now)) bytes (W.contents output.old)
+        (W.contents output.new) }
+{
+    answer_sequence(alloc, &checks.borrowed(), input, output)
+}
+
 /// The job of the command `cwt`.
 fn answer_cwt<R: Read, W: Write>(alloc: Global, words: &Cwt, input: &mut R, output: &mut W) -> u8
     ensures status { result ≤ 2 }
@@ -166,7 +185,7 @@ fn answer_request<F: NamedFiles, R: Read, W: Write>(
     ensures fails { (bytes : List ℕ) (payload : Option (List ℕ))
         → R.remaining input.old ≡ Some bytes →
         payload_for (F.content files.now) request.entry.now ≡ Some payload →
-        makes request.entry.now ≡ false → result ≡ 2 →
+        makes request.entry.now ≡ false → is_sequence request.entry.now ≡ false → result ≡ 2 →
         Fails (asked_for request.entry.now payload bytes) (W.contents output.old)
         (W.contents output.new) }
 {
@@ -179,6 +198,7 @@ fn answer_request<F: NamedFiles, R: Read, W: Write>(
             checks,
             payload,
         } => answer_message(alloc, files, *question, checks, payload, input, output),
+        Request::Sequence(checks) => answer_messages(alloc, checks, input, output),
         Request::Cwt(words) => answer_cwt(alloc, words, input, output),
         Request::Make(words) => answer_make(alloc, words, input, output),
     }
@@ -200,7 +220,8 @@ fn answer_matches<F: NamedFiles, R: Read, W: Write>(
         EndsWith said (W.contents output.old) (W.contents output.new) result }
     ensures fails { (bytes : List ℕ) (said : Output) → R.remaining input.old ≡ Some bytes →
         matches_print (F.content files.now) matches.now bytes ≡ Some said →
-        subcommand_name_of matches.now ≢ Some (codes "make") → result ≡ 2 →
+        subcommand_name_of matches.now ≢ Some (codes "make") → is_of_sequence matches.now ≡ false →
+        result ≡ 2 →
         Fails said (W.contents output.old) (W.contents output.new) }
 {
     match request_of(alloc, files, matches) {

@@ -3,12 +3,12 @@
 ghost use Rattle.std.specs.Prelude.{◌≡◌, ◌≢◌, ◌≤◌, ◌⊎◌, ℕ, true, false, List, Option, Some, IfErr, IfOk, codes, length as length_in, map, option_map, string_bytes};
 ghost use Rattle.clap.specs.Matches.{first_value, found_of, subcommand_name_of};
 ghost use Rattle.cose_cwt.specs.Claims.Audience.{text_value};
-ghost use Rattle.cosecmd.specs.CommandLine.{AsksFor, IsReadFrom, begins_as_answer, digest_prints, matches_print, verify_prints};
+ghost use Rattle.cosecmd.specs.CommandLine.{AsksFor, IsReadFrom, begins_as_answer, digest_prints, is_of_sequence, matches_print, message_prints, sequence_prints, verify_prints};
 ghost use Rattle.cosecmd.specs.Fields.{AreChecks, CwtFields, HasKeysOf, IsKeyOf, MakeFields, checks_in, digest_checks_in};
 ghost use Rattle.cosecmd.specs.Options.{algorithm_in, bytes_in, flag_in, hex_bytes, integer_in, kind_in, kind_named, number_in, optional_bytes_in, options_of, payload_in, text_in};
 ghost use Rattle.cosecmd.specs.Payload.{IsFile, detached_in};
 ghost use Rattle.cosecmd.specs.Printed.{Output};
-ghost use Rattle.cosecmd.specs.Words.{makes};
+ghost use Rattle.cosecmd.specs.Words.{is_sequence, makes};
 
 use crate::commands::line;
 use crate::fault::Fault;
@@ -327,7 +327,43 @@ fn make_of<F: NamedFiles>(alloc: Global, files: &F, matches: &ArgMatches) -> Res
     })
 }
 
-/// What the arguments of `verify` ask for. The payload goes last, as help lists it.
+/// What the arguments of `verify` ask for, where the input is one message. The payload goes last, as help lists it.
+fn message_request<'a, F: NamedFiles>(
+    alloc: Global,
+    files: &F,
+    matches: &ArgMatches<'a>,
+) -> Result<Request<'a>, Fault>
+    ensures asks { IfOk result (λ request. (bytes : List ℕ) (said : Output) →
+        message_prints (F.content files.now) (options_of matches.now) bytes ≡ Some said →
+        AsksFor (F.content files.now) request bytes said) }
+    ensures verifies { IfOk result (λ request. makes request ≡ false) }
+    ensures one { IfOk result (λ request. is_sequence request ≡ false) }
+{
+    let checks = checks_of(alloc, files, matches)?;
+    let payload = payload_of(alloc, matches)?;
+    Ok(Request::Message {
+        question: Question::Verdict,
+        checks,
+        payload,
+    })
+}
+
+/// What the arguments of `verify` ask for, where the input is a sequence.
+fn sequence_request<'a, F: NamedFiles>(
+    alloc: Global,
+    files: &F,
+    matches: &ArgMatches<'a>,
+) -> Result<Request<'a>, Fault>
+    ensures asks { IfOk result (λ request. (bytes : List ℕ) (said : Output) →
+        sequence_prints (F.content files.now) (options_of matches.now) bytes ≡ Some said →
+        AsksFor (F.content files.now) request bytes said) }
+    ensures verifies { IfOk result (λ request. makes request ≡ false) }
+{
+    let checks = checks_of(alloc, files, matches)?;
+    Ok(Request::Sequence(checks))
+}
+
+/// What the arguments of `verify` ask for.
 fn verify_request<'a, F: NamedFiles>(
     alloc: Global,
     files: &F,
@@ -337,14 +373,14 @@ fn verify_request<'a, F: NamedFiles>(
         verify_prints (F.content files.now) (options_of matches.now) bytes ≡ Some said →
         AsksFor (F.content files.now) request bytes said) }
     ensures verifies { IfOk result (λ request. makes request ≡ false) }
+    // It is a sequence only where the option says so.
+    ensures sequence { IfOk result (λ request. is_sequence request ≡ true
+        → flag_in (codes "sequence") (options_of matches.now) ≡ true) }
 {
-    let checks = checks_of(alloc, files, matches)?;
-    let payload = payload_of(alloc, matches)?;
-    Ok(Request::Message {
-        question: Question::Verdict,
-        checks,
-        payload,
-    })
+    if flag_of(matches, "sequence") {
+        return sequence_request(alloc, files, matches);
+    }
+    message_request(alloc, files, matches)
 }
 
 /// What the arguments of `digest` ask for. The payload goes last, as help lists it.
@@ -357,6 +393,7 @@ fn digest_request<'a, F: NamedFiles>(
         digest_prints (F.content files.now) (options_of matches.now) bytes ≡ Some said →
         AsksFor (F.content files.now) request bytes said) }
     ensures digests { IfOk result (λ request. makes request ≡ false) }
+    ensures one { IfOk result (λ request. is_sequence request ≡ false) }
 {
     let checks = digest_checks_of(alloc, files, matches)?;
     let payload = payload_of(alloc, matches)?;
@@ -389,6 +426,9 @@ pub fn request_of<'a, F: NamedFiles>(
     // Only `make` makes a message.
     ensures making { IfOk result (λ request. makes request ≡ true
         → subcommand_name_of matches.now ≡ Some (codes "make")) }
+    // A sequence is asked for only where the option says so.
+    ensures sequence { IfOk result (λ request. is_sequence request ≡ true
+        → is_of_sequence matches.now ≡ true) }
 {
     if let Some(show) = matches.subcommand_matches("show") {
         return Ok(Request::Show {

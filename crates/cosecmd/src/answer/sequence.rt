@@ -1,14 +1,17 @@
 //! The lines of the messages of a sequence (RFC 8742), each of which is followed at once by the next.
 
 ghost use Rattle.std.specs.Prelude.{◌≡◌, ℕ, Bool, List, Some, IfErr, IfOk, string_bytes};
+ghost use Rattle.cose_msg.specs.Answer.{decided};
 ghost use Rattle.cosecmd.specs.Part.{HasBytes, IsNextOf, MovesOn, Steps, part_text};
 ghost use Rattle.cosecmd.specs.Printed.{Output, Prints};
-ghost use Rattle.cosecmd.specs.Sequence.{FailsAfter, Reads, joined_status, sequence_said};
+ghost use Rattle.cosecmd.specs.Sequence.{FailsAfter, Reads, is_whole, joined_status, sequence_said};
+
+pub mod messages;
 
 use crate::fault::Fault;
 use crate::print::{print, print_fault};
 use crate::reply::{Reply, Status};
-use cose_msg::Intake;
+use cose_msg::{Intake, Reason, Verdict};
 use std::alloc::Global;
 use std::io::Write;
 
@@ -64,6 +67,16 @@ fn joined(first: Status, later: Status) -> Status
     match first {
         Status::Done => later,
         Status::Refused | Status::Fault => first,
+    }
+}
+
+/// Whether a message with this verdict was read to its end.
+fn is_read_whole(verdict: Verdict) -> bool
+    ensures { result ≡ is_whole (decided verdict) }
+{
+    match verdict {
+        Verdict::Authentic { .. } => true,
+        Verdict::Refused(refusal) => matches!(refusal.reason, Reason::BadAuth),
     }
 }
 

@@ -1,4 +1,4 @@
-use Rattle.cosecmd.proofs.Asked.{ends_with, fails_with, not_made}
+use Rattle.cosecmd.proofs.Asked.{ends_with, fails_with, not_made, not_of_sequence}
 use Rattle.cosecmd.proofs.Replies.{line_fails}
 use Rattle.cosecmd.proofs.run.answer_matches.Goals as goal
 
@@ -8,9 +8,9 @@ returns-in-Ok-clause-printed g c = λ bytes said e asked.
     ends_with _ _ _ asks.2 (c.answer_request.ensures.printed bytes asks.0 e asks.1)
 
 pub returns-in-Ok-clause-fails : goal.returns-in-Ok-clause-fails
-returns-in-Ok-clause-fails g c = λ bytes said e asked other two.
+returns-in-Ok-clause-fails g c = λ bytes said e asked other one two.
     let asks = c.in-Ok.ensures.asks bytes said asked in
-    fails_with _ _ asks.2 (c.answer_request.ensures.fails bytes asks.0 e asks.1 (not_made c.in-Ok.request _ c.in-Ok.ensures.making other) two)
+    fails_with _ _ asks.2 (c.answer_request.ensures.fails bytes asks.0 e asks.1 (not_made c.in-Ok.request _ c.in-Ok.ensures.making other) (not_of_sequence c.in-Ok.request _ c.in-Ok.ensures.sequence one) two)
 
 pub returns-in-Err-clause-fails : goal.returns-in-Err-clause-fails
-returns-in-Err-clause-fails g c = λ bytes said e asked other two. line_fails _ _ _ _ c.print_fault.ensures.line
+returns-in-Err-clause-fails g c = λ bytes said e asked other one two. line_fails _ _ _ _ c.print_fault.ensures.line

@@ -1,6 +1,6 @@
 use Rattle.cosecmd.specs.Printed.{verified_under}
 use Rattle.cosecmd.proofs.CommandLines.{payload_asks}
-use Rattle.cosecmd.proofs.words.verify_request.Goals as goal
+use Rattle.cosecmd.proofs.words.message_request.Goals as goal
 
 pub returns-clause-asks : goal.returns-clause-asks
 returns-clause-asks g c = λ bytes said.

@@ -1,0 +1,102 @@
+//! The messages of a sequence, each of which is verified.
+
+ghost use Rattle.std.specs.Prelude.{◌≡◌, ◌≤◌, ℕ, false, List, Some, length, option_map};
+ghost use Rattle.cose_cwt.specs.Token.{read_as};
+ghost use Rattle.cose_map.specs.Key.View.{contents};
+ghost use Rattle.cose_msg.specs.Kept.{is_inspecting};
+ghost use Rattle.cose_msg.specs.Verifier.{is_detached, setting_in};
+ghost use Rattle.cosecmd.specs.Printed.{Prints, input_answer, output_of};
+ghost use Rattle.cosecmd.specs.Sequence.{FailsInSequence, verified_sequence};
+ghost use Rattle.cosecmd.specs.Under.{job_under};
+ghost use Rattle.cosecmd.specs.Vouch.{vouching};
+
+use crate::answer::sequence::{Part, Parts, is_read_whole, print_all};
+use crate::answer::verify::{CHUNK, HEADER, KEYS, NESTING, program_context, reply_of};
+use crate::fault::Fault;
+use crate::job::Checks;
+use crate::print::print_fault;
+use crate::reply::Status;
+use crate::vouch::Vouch;
+use cose_msg::laws::settled_stays;
+use cose_msg::{Intake, KeyTable, Nothing, ReadIntake, Verifier, verify};
+use std::alloc::Global;
+use std::io::{BufReader, Read, Write};
+
+/// What verifies the messages of a sequence.
+#[derive(Drop)]
+pub struct Messages<'j> {
+    verifier: Verifier<'j, HEADER, NESTING, KeyTable<'j, KEYS>>,
+    vouch: Vouch<'j>,
+    ghost verifies: { is_inspecting verifier ≡ false },
+    ghost attached: { is_detached verifier ≡ false },
+}
+
+impl Parts for Messages<'_> {
+    ghost reads = { λ messages. read_as 1024 8 (setting_in messages.verifier)
+        (vouching (option_map contents messages.vouch.word)) };
+
+    ghost alone = { λ messages message. output_of (input_answer (setting_in messages.verifier)
+        (vouching (option_map contents messages.vouch.word)) message) };
+
+    fn next<I: Intake>(&mut self, alloc: Global, intake: &mut I) -> Result<Option<Part>, Fault> {
+        // The law that the proof cites: what isn't settled is Truncated.
+        settled_stays();
+        self.verifier.reset();
+        let verdict = verify::<CHUNK, HEADER, NESTING, _, _, _, _>(
+            &mut self.verifier,
+            intake,
+            &mut Nothing,
+            &self.vouch,
+        );
+        let verdict = match verdict {
+            Ok(verdict) => verdict,
+            // The sink `Nothing` never fails, and a verifier that was reset hasn't stopped.
+            Err(_) => return Err(Fault::Input),
+        };
+        let taken = self.verifier.taken();
+        if taken == 0 {
+            return Ok(None);
+        }
+        let whole = is_read_whole(verdict);
+        match reply_of(alloc, verdict) {
+            Ok(reply) => Ok(Some(Part {
+                reply,
+                taken,
+                whole,
+            })),
+            Err(fault) => Err(fault),
+        }
+    }
+}
+
+/// Verifies each message of a sequence, and writes its lines as soon as its verdict is known.
+pub fn print_verified<R: Read, W: Write>(
+    alloc: Global,
+    checks: &Checks,
+    input: &mut R,
+    output: &mut W,
+) -> Status
+    requires external { length checks.now.aad.now ≤ 65535 }
+    ensures prints { (bytes : List ℕ) → R.remaining input.old ≡ Some bytes →
+        Prints (verified_sequence (job_under checks.now) bytes)
+        (W.contents output.old) (W.contents output.new) result }
+    ensures fails { (bytes : List ℕ) → R.remaining input.old ≡ Some bytes → result ≡ Status.Fault →
+        FailsInSequence (verified_sequence (job_under checks.now)) bytes
+        (W.contents output.old) (W.contents output.new) }
+{
+    let keys = match KeyTable::<KEYS>::read(checks.keys) {
+        Ok(keys) => keys,
+        Err(refusal) => return print_fault(alloc, Fault::Keys(refusal), output),
+    };
+    // One read serves many messages.
+    let reader = match BufReader::with_capacity(alloc, CHUNK, input) {
+        Ok(reader) => reader,
+        Err(_) => return print_fault(alloc, Fault::Memory, output),
+    };
+    let mut intake = ReadIntake::new(reader);
+    let mut messages = Messages {
+        verifier: Verifier::new(program_context(keys, checks.aad, checks.wanted)),
+        vouch: Vouch { word: checks.vouch },
+    };
+    print_all(alloc, &mut messages, &mut intake, output)
+}
