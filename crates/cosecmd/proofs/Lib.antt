@@ -16,6 +16,7 @@ pub mod Sequences
 pub mod Shows
 pub mod Stated
 pub mod Trailing
+pub mod VerifiedSequences
 pub mod Vouches
 pub mod WorkedAdmitted
 pub mod WorkedDigests
@@ -23,5 +24,6 @@ pub mod WorkedMade
 pub mod WorkedOptions
 pub mod WorkedPayloads
 pub mod WorkedPrinted
+pub mod WorkedSequences
 pub mod WorkedShown
 pub mod Writes

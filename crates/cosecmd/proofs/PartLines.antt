@@ -4,10 +4,11 @@ use Rattle.std.specs.Prelude.{string_bytes}
 use Rattle.std.specs.Io.KnownBytes.{Appends}
 use Rattle.cose_msg.specs.Sink.{AppendsFront}
 use Rattle.cosecmd.specs.declared.answer.sequence.Part.{Part}
+use Rattle.cosecmd.specs.declared.answer.sequence.Step.{Step}
 use Rattle.cosecmd.specs.declared.reply.Status.{Status}
 use Rattle.cosecmd.specs.declared.reply.Status.TheVariants as statuses
 use Rattle.cosecmd.specs.Printed.{Output, Prints}
-use Rattle.cosecmd.specs.Part.{Follows, IsNext, IsNextOf, part_text}
+use Rattle.cosecmd.specs.Part.{Follows, IsNext, IsNextOf, Steps, part_text}
 use Rattle.cosecmd.specs.Sequence.{FailsAfter, Reads, is_whole, joined_status, lost, lost_line, message_then, messages_from, place_line, placed, then_said}
 use Rattle.cosecmd.proofs.Sequences.{from_first, text_fails}
 
@@ -42,6 +43,17 @@ text_lost place part said same is =
 pub is_next : (reads : Reads) (alone : List ℕ → Output) (bytes : List ℕ) (come_after : Option (List ℕ)) (found : Option Part) (part : Part) → found ≡ Some part → IsNextOf reads alone bytes come_after found →
     IsNext reads alone bytes come_after part
 is_next reads alone bytes come_after found part is next = subst (IsNextOf reads alone bytes come_after) is next
+
+-- What a step did is the same under the same reading.
+pub same_step : (reads others : Reads) (alone other : List ℕ → Output) (place : ℕ) (bytes : List ℕ) (come_after old new : Option (List ℕ)) (step : Step) → reads ≡ others → alone ≡ other →
+    Steps reads alone place bytes come_after old new step → Steps others other place bytes come_after old new step
+same_step reads others alone other place bytes come_after old new step reading lines steps =
+    subst (λ (f : List ℕ → Output). Steps others f place bytes come_after old new step) lines (subst (λ (f : Reads). Steps f alone place bytes come_after old new step) reading steps)
+
+pub joined_sound : (first later : Status) → first ≢ statuses.Fault → later ≢ statuses.Fault → joined_status first later ≢ statuses.Fault
+joined_sound statuses.Done later first_well later_well = later_well
+joined_sound statuses.Refused later first_well later_well = first_well
+joined_sound statuses.Fault later first_well later_well = first_well
 
 pub part_printed : (reads : Reads) (alone : List ℕ → Output) (place : ℕ) (bytes : List ℕ) (come_after old new : Option (List ℕ)) (part : Part) (text : List ℕ) (status : Status) → IsNext reads alone bytes come_after part →
     part.whole ≡ true → text ≡ part_text place part → status ≡ part.reply.status → Appends old new text → Follows reads alone place bytes come_after old new part.taken status

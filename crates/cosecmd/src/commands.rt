@@ -202,8 +202,7 @@ const SEQUENCE: CommandOption = CommandOption {
     argument: "",
     value: Value::Flag,
     presence: Presence::WithoutBoth("payload", "payload-file"),
-    help: "Verify each message of a CBOR sequence (RFC 8742), a line with its place before its own; after a refusal other than BadAuth \
-the next can't be found",
+    help: "Verify each message of a CBOR sequence (RFC 8742), each after a line with its place, until the next can't be found",
 };
 
 /// The current time.

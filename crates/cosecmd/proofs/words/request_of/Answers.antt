@@ -1,7 +1,8 @@
-use Rattle.std.proofs.Common.{◌≡◌, None, Some, codes, refl}
-use Rattle.cosecmd.specs.CommandLine.{cwt_prints, make_prints}
+use Rattle.std.proofs.Common.{◌≡◌, ◌∙◌, None, Some, ap, codes, false, refl, sym, true}
+use Rattle.std.proofs.lemmas.Result.{IfOk-weaker}
+use Rattle.cosecmd.specs.CommandLine.{cwt_prints, has_sequence, make_prints}
 use Rattle.cosecmd.specs.Options.{options_of}
-use Rattle.cosecmd.proofs.CommandLines.{command_asked, cwt_asks, make_asks}
+use Rattle.cosecmd.proofs.CommandLines.{command_asked, command_met, cwt_asks, make_asks}
 use Rattle.cosecmd.proofs.words.request_of.Goals as goal
 
 pub returns-in-Some-subcommand_matches-2-clause-asks : goal.returns-in-Some-subcommand_matches-2-clause-asks
@@ -20,3 +21,9 @@ returns-in_ok-make_of-in-Some-subcommand_matches-4-clause-asks g c = λ bytes sa
     let made = c.in_ok-make_of-in-Some-subcommand_matches-4 in
     let asked : make_prints content options bytes ≡ Some said = command_asked content c.args.matches.now (codes "make") options bytes said (met.ensures.found.0 refl) met.ensures.rows prints in
     (None, refl, make_asks content options made.field-0 bytes said made.ensures asked)
+
+pub returns-in-Some-subcommand_matches-clause-sequence : goal.returns-in-Some-subcommand_matches-clause-sequence
+returns-in-Some-subcommand_matches-clause-sequence g c =
+    let met = c.in-Some-subcommand_matches in
+    let command = command_met c.args.matches.now (codes "verify") (options_of met.verify.now) (met.ensures.found.0 refl) met.ensures.rows in
+    IfOk-weaker c.verify_request.result _ _ (λ request only is. ap has_sequence command ∙ only is) c.verify_request.ensures.sequence
