@@ -1,6 +1,5 @@
-use Rattle.std.proofs.Common.{ap, arith, option_map, subst, sym, ◌<◌, ◌∙◌}
+use Rattle.std.proofs.Common.{[], arith, option_map, subst, sym, ◌<◌, ◌∙◌}
 use Rattle.cose_map.specs.Key.View.{contents}
-use Rattle.cose_msg.specs.Message.{Setting}
 use Rattle.cose_msg.specs.Verifier.{setting_in}
 use Rattle.cosecmd.specs.Printed.{Output, Says}
 use Rattle.cosecmd.specs.Vouch.{vouching}
@@ -14,7 +13,7 @@ returns-then-taken-eq0-clause-part g c = λ bytes e.
     let has = anew made c.reset.new.self c.args.self.now.verifies c.reset.ensures.none_taken in
     let run = c.in-Ok.ensures.run (setting_in made) [] [] has in
     let these = took c.settled_stays.ensures.truncated (setting_in made) decides _ _ _ _ _ c.in-Ok.verdict run.0 bytes e run.1 in
-    none_left (setting_in made) decides bytes _ run.0 c.in-Ok.verdict c.taken.result these (c.taken.ensures.value ∙ run.2) c.if-taken-eq0.true
+    none_left (setting_in made) decides bytes _ run.0 c.in-Ok.verdict c.taken-taken.result these (c.taken-taken.ensures.value ∙ run.2) c.if-taken-eq0.true
 
 pub returns-in-Ok-reply_of-clause-part : goal.returns-in-Ok-reply_of-clause-part
 returns-in-Ok-reply_of-clause-part g c = λ bytes e.
@@ -23,6 +22,6 @@ returns-in-Ok-reply_of-clause-part g c = λ bytes e.
     let has = anew made c.reset.new.self c.args.self.now.verifies c.reset.ensures.none_taken in
     let run = c.in-Ok.ensures.run (setting_in made) [] [] has in
     let these = took c.settled_stays.ensures.truncated (setting_in made) decides _ _ _ _ _ c.in-Ok.verdict run.0 bytes e run.1 in
-    let some : 0 < c.taken.result = omega (arith, c.if-taken-eq0.false) in
-    next_found _ _ bytes _ run.0 c.in-Ok.verdict _ these (c.taken.ensures.value ∙ run.2) some c.is_read_whole-whole.ensures
+    let some : 0 < c.taken-taken.result = omega (arith, c.if-taken-eq0.false) in
+    next_found _ _ bytes _ run.0 c.in-Ok.verdict _ these (c.taken-taken.ensures.value ∙ run.2) some c.is_read_whole-whole.ensures
     (subst (λ (o : Output). Says o c.in-Ok-reply_of.reply) (verdict_alone (setting_in made) decides run.0 c.in-Ok.verdict these.answer these.counted) c.in-Ok-reply_of.ensures.says)
