@@ -12,7 +12,7 @@ from typing import NamedTuple
 import second_program
 import second_reading as reading
 
-COMMANDS = {"verify": 8, "cwt": 9, "show": 3, "digest": 2, "make": 5}
+COMMANDS = {"verify": 8, "cwt": 9, "show": 3, "digest": 2, "keys": 2, "make": 5}
 # how often a head is wider than it has to be, and how often a part that is made with slips has one: one of these rates
 WIDE_RATES = (0, 0, 0.05, 0.5)
 SLIP_RATES = (0.05, 0.1, 0.2, 0.4)
@@ -412,6 +412,8 @@ class Round:
     def options(self):
         """The options but `keys`, in their order."""
         options = {}
+        if self.command == "keys":
+            return options
         if self.command != "digest" and (not self.is_tagged or self.happens(0.3)):
             options["kind"] = self.pick("mac0", "sign1", "tagged") if self.slips() else self.kind
         if self.command != "show" and self.happens(0.2):

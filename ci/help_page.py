@@ -1,7 +1,7 @@
-"""The help of the program and of each command, as docs/COMMANDS.md has it.
+"""The help of the program and of each command, as docs/COMMANDS.md and packaging/help_notes.md have it.
 
-A text is built from the first table of the page, the options of the command's section, and the notes of the section on
-help. Blanks and ends of lines are single spaces.
+A text is built from the first table of the first page, the options of the command's section, and the notes of the second
+page. Blanks and ends of lines are single spaces.
 """
 import re
 
@@ -73,8 +73,12 @@ def options_of(page, command):
 
 def usage_of(command, options):
     named = {it.name: it for it in options}
-    words = ["[OPTIONS]", *(it.usage() for it in options if it.required)]
-    words += [f"<{it.usage()}|{named[it.other].usage()}>" for it in options if it.other]
+    either = [it for it in options if it.other]
+    required = [it for it in options if it.required]
+    wanted = {it.name for it in required + either} | {it.other for it in either}
+    words = ["[OPTIONS]"] if named.keys() - wanted else []
+    words += [it.usage() for it in required]
+    words += [f"<{it.usage()}|{named[it.other].usage()}>" for it in either]
     return f"Usage: cosecmd {command} {' '.join(words)}"
 
 

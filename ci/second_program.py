@@ -32,6 +32,10 @@ class Fault(Exception):
     """An argument, key or key set that is at fault."""
 
 
+class TooMany(Exception):
+    """A key set with more usable keys than another command takes: what is listed of it."""
+
+
 class CutShort(Exception):
     """A message that can't be made whole, since the payload's bytes end: what is made of it."""
 
@@ -168,7 +172,44 @@ def make(options, data):
     return made + reading.string(reading.mac(alg, key, reading.structure("mac0", protected, aad, payload)))
 
 
-COMMANDS = {"show": show, "verify": verify, "cwt": cwt, "digest": digest, "make": make}
+def keys(options, _data):
+    try:
+        items = reading.read_key_items(hexadecimal(options, "keys"))
+    except Refused as refusal:
+        raise Fault(f"keys {refusal}") from None
+    usable = sum(isinstance(it, reading.Key) for _place, it in items)
+    lines = [f"key at {place} {words_of(it)}" for place, it in items]
+    count = f"usable {usable} of {len(items)}"
+    if usable > reading.USABLE_KEYS:
+        raise TooMany(printed([*lines, f"{count} refused BadKeySet at 0"]))
+    return printed([*lines, count])
+
+
+def words_of(key):
+    """What the line of an item says of a usable key, or of a refusal."""
+    if isinstance(key, Refused):
+        return f"refused {key}"
+    words = [f"kty {key.type}"]
+    if key.curve is not None:
+        words.append(f"crv {key.curve}")
+    if key.kid is not None:
+        words.append(f"kid {key.kid.hex()}")
+    if key.alg is not None:
+        words.append(f"alg {quoted(key.alg) if isinstance(key.alg, str) else key.alg}")
+    if key.operations is not None:
+        listed = ",".join(str(it) for it in range(1, 11) if it in key.operations)
+        words.append(f"ops {listed}".strip())
+    return " ".join([*words, "usable"])
+
+
+def quoted(text):
+    """A text in quotes, in printable ASCII characters."""
+    units = text.encode("utf-16-be")
+    numbers = [int.from_bytes(units[at : at + 2], "big") for at in range(0, len(units), 2)]
+    return '"' + "".join("\\" * (it in (34, 92)) + chr(it) if 32 <= it <= 126 else f"\\u{it:04x}" for it in numbers) + '"'
+
+
+COMMANDS = {"show": show, "verify": verify, "cwt": cwt, "digest": digest, "keys": keys, "make": make}
 
 
 def answer(command, options, data):
@@ -177,6 +218,8 @@ def answer(command, options, data):
         return Answer(0, COMMANDS[command](options, data))
     except Refused as refusal:
         return Answer(1, printed([f"refused {refusal}"]))
+    except TooMany as listed:
+        return Answer(1, listed.args[0])
     except Fault as fault:
         return Answer(2, printed([f"fault {fault}"]))
     except CutShort as made:

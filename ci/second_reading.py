@@ -313,19 +313,25 @@ def read_key(data):
     return key_of(read_whole(data, 0, len(data), KEY_NESTING))
 
 
-@functools.lru_cache(maxsize=8)
-def read_key_set(data):
-    """The usable keys of a key set: one map, or an array of one or more keys. A key that is refused is ignored."""
+def read_key_items(data):
+    """The items of a key set, one map or an array of one or more: of each the place, and its key or why it is refused."""
     demand(len(data) <= KEY_SET_LIMIT, Reason.BadKeySet, 0)
     item = read_whole(data, 0, len(data), KEY_NESTING)
     is_set = item.major == MAP or item.major == ARRAY and item.children
     demand(is_set, Reason.BadKeySet, 0)
-    keys = []
+    items = []
     for element in [item] if item.major == MAP else item.children:
         try:
-            keys.append(key_of(element))
-        except Refused:
-            pass
+            items.append((element.place, key_of(element)))
+        except Refused as refusal:
+            items.append((element.place, refusal))
+    return items
+
+
+@functools.lru_cache(maxsize=8)
+def read_key_set(data):
+    """The usable keys of a key set. A key that is refused is ignored."""
+    keys = [it for _place, it in read_key_items(data) if isinstance(it, Key)]
     demand(len(keys) <= USABLE_KEYS, Reason.BadKeySet, 0)
     return keys
 

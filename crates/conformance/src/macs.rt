@@ -5,7 +5,7 @@ ghost use Rattle.std.specs.Prelude.{◌<◌};
 use crate::fields::{Difference, Way, bytes, holds, object};
 use crate::messages::CUTS;
 use crate::setting::label;
-use cose_mac::{Alg, Running};
+use cose_mac::{Alg, Prepared, Running};
 use cose_msg::Label;
 use serde_json::Value;
 use std::alloc::Global;
@@ -44,6 +44,17 @@ pub fn run_test(alloc: Global, group: &Value, test: &Value) -> Result<(), Differ
     let mac = bytes(alloc, object(test, "result"), "mac");
     for cut in CUTS {
         let running = Running::hmac(alg, key.as_slice());
+        holds(
+            ends_as(running, text.as_slice(), cut, mac.as_slice()),
+            Way::Feed,
+        )?;
+    }
+    let prepared = Prepared::hmac(alg, key.as_slice());
+    if !prepared.serves(alg) {
+        return Err(Difference::Setting);
+    }
+    for cut in CUTS {
+        let running = prepared.begin(alg);
         holds(
             ends_as(running, text.as_slice(), cut, mac.as_slice()),
             Way::Feed,

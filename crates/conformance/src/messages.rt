@@ -9,8 +9,8 @@ use crate::fields::{Difference, Way, bytes, holds, integer, object};
 use crate::setting::Setting;
 use crate::streams::{Comparison, Signature};
 use cose_msg::{
-    KeySet, KeyTable, Keys, Reason, Refusal, SliceIntake, Status, Verdict, Verified, Verifier,
-    verify, verify_slice,
+    KeySet, KeyTable, Keys, PreparedTable, Reason, Refusal, SliceIntake, Status, Verdict, Verified,
+    Verifier, verify, verify_slice,
 };
 use serde_json::Value;
 use std::alloc::Global;
@@ -194,7 +194,28 @@ fn run_under_set<'k, const H: usize, const D: usize>(
     holds(is_read(&mut verifier, case), Way::Slice)
 }
 
-/// Runs a message at a header limit and a nesting, under a key set, a reference to a table of keys and a table.
+/// Runs a message at a header limit and a nesting, under a table of prepared keys.
+fn run_prepared<'k, const H: usize, const D: usize>(
+    setting: &'k Setting<'_>,
+    keys: &'k [u8],
+    case: &Case<'_, '_>,
+) -> Result<(), Difference>
+    requires some_room { 16 ≤ H }
+    requires limit { H ≤ 65535 }
+    requires nesting { D ≤ 32 }
+{
+    let Ok(table) = KeyTable::<16>::read(keys) else {
+        return Err(Difference::Setting);
+    };
+    let prepared = PreparedTable::new(table);
+    let mut shared = Verifier::<H, D, &PreparedTable<'_, 16>>::new(setting.context(&prepared));
+    holds(is_fed(&mut shared, case, 64), Way::Feed)?;
+    let mut owner = Verifier::<H, D, PreparedTable<'_, 16>>::new(setting.context(prepared));
+    holds(is_verified(&mut owner, case, 64), Way::Verify)
+}
+
+/// Runs a message at a header limit and a nesting, under a key set, a reference to a table of keys, a table of keys and a table
+/// of prepared ones.
 fn run_at<'k, const H: usize, const D: usize>(
     setting: &'k Setting<'_>,
     keys: &'k [u8],
@@ -207,6 +228,7 @@ fn run_at<'k, const H: usize, const D: usize>(
     let (Ok(set), Ok(table)) = (KeySet::read(keys), KeyTable::<16>::read(keys)) else {
         return Err(Difference::Setting);
     };
+    run_prepared::<H, D>(setting, keys, case)?;
     run_under_set::<H, D>(setting, set, case)?;
     let mut shared = Verifier::<H, D, &KeyTable<'_, 16>>::new(setting.context(&table));
     holds(is_fed(&mut shared, case, 64), Way::Feed)?;

@@ -24,7 +24,7 @@ use Rattle.cose_msg.specs.Feed.{Uses, part_of}
 use Rattle.cose_msg.specs.GrammarLaws.{AuthenticIsMessage, MessageIsRead}
 use Rattle.cose_msg.specs.Laws.{ComparingGoesLast, MessageStays, answered, then_compared}
 use Rattle.cose_msg.specs.Message.{Decides, Setting, as_choice, comparing, key_choice_of, message, past_chosen, question_of, uncompared, verdict_of, with_algorithm}
-use Rattle.cose_msg.specs.Phases.{headers_told}
+use Rattle.cose_msg.specs.Phases.{headers_so_far}
 use Rattle.cose_msg.specs.Reading.{Reading, settled}
 use Rattle.cose_msg.specs.Rules.{Rules}
 use Rattle.cose_msg.specs.Run.{stops_for_intake, stops_for_sink}
@@ -93,7 +93,7 @@ module _ (law : AuthenticIsMessage) (read : MessageIsRead) (last : ComparingGoes
   pub record Parts (kind : Kind) (payload : ℕ) : Type 0 where
     pub whole : Whole
     pub read_whole : (message (uncompared room nesting setting) bytes).answer ≡ complete whole
-    pub counted : payload ≡ length (message (comparing room nesting setting) bytes).told.payload
+    pub counted : payload ≡ length (message (comparing room nesting setting) bytes).so_far.payload
     pub named : kind ≡ whole.headers.kind
     pub found : Chosen
     pub chosen : whole.chosen ≡ Some found
@@ -104,14 +104,14 @@ module _ (law : AuthenticIsMessage) (read : MessageIsRead) (last : ComparingGoes
       let is = (law room nesting setting always bytes kind alg payload taken).0 e in
       let whole = is.whole in
       let all : bytes ≡ take taken bytes ++ drop taken bytes = sym (take-append-drop taken bytes) in
-      let first : message (uncompared room nesting setting) bytes ≡ settled (headers_told whole.headers whole.payload) (complete whole) =
+      let first : message (uncompared room nesting setting) bytes ≡ settled (headers_so_far whole.headers whole.payload) (complete whole) =
       ap (message (uncompared room nesting setting)) all ∙ read (uncompared room nesting setting) (take taken bytes) (drop taken bytes) whole is.message in
-      let then : message (comparing room nesting setting) bytes ≡ answered (then_compared setting.aad) (settled (headers_told whole.headers whole.payload) (complete whole)) =
+      let then : message (comparing room nesting setting) bytes ≡ answered (then_compared setting.aad) (settled (headers_so_far whole.headers whole.payload) (complete whole)) =
       last room nesting setting bytes ∙ ap (answered (then_compared setting.aad)) first in
       record {
         whole = whole;
         read_whole = ap (λ (r : Reading). r.answer) first;
-        counted = is.payload_is ∙ sym (ap (λ (r : Reading). length r.told.payload) then);
+        counted = is.payload_is ∙ sym (ap (λ (r : Reading). length r.so_far.payload) then);
         named = is.kind_is;
         found = is.found;
         chosen = is.chosen;

@@ -9,7 +9,7 @@ use Rattle.cose_msg.specs.declared.verifier.Verifier.{Verifier}
 use Rattle.cose_msg.specs.Answer.{Answer, decided, complete, shaped, refused}
 use Rattle.cose_msg.specs.Kept.{HasTaken, is_inspecting}
 use Rattle.cose_msg.specs.Message.{Setting}
-use Rattle.cose_msg.specs.Shown.{Tells}
+use Rattle.cose_msg.specs.Shown.{ShowsReading}
 use Rattle.cose_msg.specs.Status.{is_complete, is_open, status_in, status_of_answer}
 use Rattle.cose_msg.specs.Task.{Task}
 use Rattle.cose_msg.specs.Verifier.{setting_in, task_of}
@@ -17,7 +17,7 @@ use Rattle.cose_c.specs.Stream.{Content, HasRead, is_decidable, meaning}
 
 -- What a block has read, its verifier has.
 pub read_in : {H D : ℕ} (task : Task) (taken payload : List ℕ) (content : Content H D) (v : Verifier H D KeySet meaning) → content ≡ Some v →
-    HasRead task taken payload content → HasTaken task taken payload v × Tells task taken v
+    HasRead task taken payload content → HasTaken task taken payload v × ShowsReading task taken v
 read_in task taken payload content v is read = subst (HasRead task taken payload) is read
 
 -- A verifier is for the same task where its setting and its purpose are the same.

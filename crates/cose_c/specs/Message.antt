@@ -28,7 +28,7 @@ verdict_read room nesting setting at bytes =
 
 -- The payload, and what the signature is verified with, if there is one.
 abbrev pub payload_read : ℕ → ℕ → Setting → List ℕ → List ℕ
-payload_read room nesting setting bytes = (reading (rules_of room nesting (to_verify setting)) bytes).told.payload
+payload_read room nesting setting bytes = (reading (rules_of room nesting (to_verify setting)) bytes).so_far.payload
 
 abbrev pub input_read : ℕ → ℕ → Setting → List ℕ → Option SignInput
 input_read room nesting setting bytes = sign_input_in setting.aad (reading (rules_of room nesting (to_verify setting)) bytes).answer

@@ -153,7 +153,7 @@ pub(crate) fn feed<'k, const H: usize, const D: usize>(
     ensures status { (task : Task) (taken payload : List ℕ) → HasRead task taken payload content.old
         → result.status
         ≡ status_numbers (status_after H D task (taken ++ take result.used piece.now)) }
-    ensures stands { result.status ≡ block_status content.new }
+    ensures current { result.status ≡ block_status content.new }
     ensures fits { result.used ≤ length piece.now }
     ensures among { result.payload_at + result.payload_length ≤ result.used }
     ensures again { wants_more content.old ≡ false
@@ -219,7 +219,7 @@ pub(crate) fn end<'k, const H: usize, const D: usize>(
 ) -> CoseStatus
     ensures reads { (task : Task) (taken payload : List ℕ) → HasRead task taken payload content.old
         → result ≡ status_numbers (status_of_answer (reading_of H D task taken).answer) }
-    ensures stands { result ≡ block_status content.new }
+    ensures current { result ≡ block_status content.new }
     ensures again { wants_any content.old ≡ false → content.new ≡ content.old }
     ensures same_task { task_by content.new ≡ task_by content.old }
     ensures taken { taken_by content.new ≡ taken_by content.old }

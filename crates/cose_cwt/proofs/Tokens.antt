@@ -16,11 +16,10 @@ use Rattle.cose_msg.specs.Reading.{Reading}
 use Rattle.cose_msg.specs.Answer.{decided}
 use Rattle.cose_msg.specs.Rules.{Rules}
 use Rattle.cose_msg.specs.Run.{Run, is_intake_stop, is_sink_stop, stop_in as stop_of, stops_for_sink}
-use Rattle.cose_cwt.specs.declared.token.CwtStop.{CwtStop}
 use Rattle.cose_cwt.specs.declared.token.CwtStop.TheVariants as stops
 use Rattle.cose_cwt.specs.Admission.{PolicyValue, admitted_claims}
 use Rattle.cose_cwt.specs.Claims.{ClaimsValue}
-use Rattle.cose_cwt.specs.Token.{IsToken, Outcome, UnlessStopped, is_for_intake, is_for_store, of_claims, read_as, refusal_in, stop_in, token_of}
+use Rattle.cose_cwt.specs.Token.{IsToken, Outcome, UnlessStopped, is_for_intake, is_for_store, of_claims, read_as, stop_in, token_of}
 
 -- the contents of a store before and after, where they are known
 pub with_contents : (rules : Rules) (come come_after contents contents_after : Option (List ℕ)) (ended : Bool) (verdict : Result Verdict Stop) (taken payload : List ℕ) →
@@ -38,24 +37,31 @@ same_reading stays H D setting decides taken rest true is ends = stays (verifyin
 same_reading stays H D setting decides taken rest false is ends =
     ap (read_as H D setting decides) (ap (λ (more : List ℕ). taken ++ more) (ends is) ∙ append-nil taken)
 
-judged : MessageStays → (H D : ℕ) (setting : Setting) (decides : Decides) (policy : PolicyValue) (come_after : Option (List ℕ)) (ended : Bool) (verdict : Verdict) (taken payload bytes : List ℕ) (outcome : Outcome) →
-    Run (verifying H D setting decides) decided [] [] (Some bytes) come_after ended (Some []) (Some payload) (Ok verdict) taken → outcome ≡ token_of D policy (Ok verdict) payload →
-    IsToken H D setting decides policy bytes outcome
-judged stays H D setting decides policy None ended verdict taken payload bytes outcome run comes = absurd run.bytes
-judged stays H D setting decides policy (Some rest) ended verdict taken payload bytes outcome run comes =
+-- All bytes have the verdict that the bytes taken have, and the payload that was among them.
+pub read_whole : MessageStays → (H D : ℕ) (setting : Setting) (decides : Decides) (come_after : Option (List ℕ)) (ended : Bool) (verdict : Verdict) (taken payload bytes : List ℕ) →
+    Run (verifying H D setting decides) decided [] [] (Some bytes) come_after ended (Some []) (Some payload) (Ok verdict) taken →
+    ((read_as H D setting decides bytes).answer ≡ decided verdict) × ((read_as H D setting decides bytes).so_far.payload ≡ payload)
+read_whole stays H D setting decides None ended verdict taken payload bytes run = absurd run.bytes
+read_whole stays H D setting decides (Some rest) ended verdict taken payload bytes run =
     let whole : bytes ≡ taken ++ rest = run.bytes in
     let same : read_as H D setting decides bytes ≡ read_as H D setting decides taken =
     ap (read_as H D setting decides) whole
     ∙ same_reading stays H D setting decides taken rest (read_as H D setting decides taken).settled refl (λ open_yet. (run.answer.ends.unsettled open_yet).1) in
-    let grown : (read_as H D setting decides taken).told.payload ≡ payload = run.payload.1 ∙ sym run.payload.2 in
-    let told : (read_as H D setting decides bytes).told.payload ≡ payload = ap (λ (reading : Reading). reading.told.payload) same ∙ grown in
+    let grown : (read_as H D setting decides taken).so_far.payload ≡ payload = run.payload.1 ∙ sym run.payload.2 in
+    (ap (λ (reading : Reading). reading.answer) same ∙ run.answer.answer, ap (λ (reading : Reading). reading.so_far.payload) same ∙ grown)
+
+judged : MessageStays → (H D : ℕ) (setting : Setting) (decides : Decides) (policy : PolicyValue) (come_after : Option (List ℕ)) (ended : Bool) (verdict : Verdict) (taken payload bytes : List ℕ) (outcome : Outcome) →
+    Run (verifying H D setting decides) decided [] [] (Some bytes) come_after ended (Some []) (Some payload) (Ok verdict) taken → outcome ≡ token_of D policy (Ok verdict) payload →
+    IsToken H D setting decides policy bytes outcome
+judged stays H D setting decides policy come_after ended verdict taken payload bytes outcome run comes =
+    let read = read_whole stays H D setting decides come_after ended verdict taken payload bytes run in
     record {
       verdict = verdict;
-      judged = ap (λ (reading : Reading). reading.answer) same ∙ run.answer.answer;
-      comes = comes ∙ ap (token_of D policy (Ok verdict)) (sym told);
+      judged = read.0;
+      comes = comes ∙ ap (token_of D policy (Ok verdict)) (sym read.1);
     }
 
-unless_stopped : {Says : Type 0} (outcome : Outcome) → Says → UnlessStopped outcome Says
+pub unless_stopped : {Says : Type 0} (outcome : Outcome) → Says → UnlessStopped outcome Says
 unless_stopped (Ok claims) says = says
 unless_stopped (Err (stops.Stopped stop)) says = tt
 unless_stopped (Err (stops.Message refusal)) says = says
@@ -120,11 +126,6 @@ pub kept_is_no_failure : (depth : ℕ) (policy : PolicyValue) (payload : List �
 kept_is_no_failure depth policy payload stopped known verdict answer outcome comes kept same =
     let all : outcome ≡ token_of depth policy answer payload = comes ∙ ap (λ (a : Result Verdict Stop). token_of depth policy a payload) same in
     subst (λ (o : Outcome). (is_for_intake (stop_in o) ≡ false) × (is_for_store (stop_in o) ≡ false)) (sym all) (no_failure depth policy payload stopped known answer kept)
-
--- The outcome of which this is the refusal.
-pub refusal_is : (outcome : Outcome) (stop told : CwtStop) → refusal_in outcome ≡ Some stop → told ≡ stop → Err told ≡ outcome
-refusal_is (Ok claims) stop told found same = absurd cc
-refusal_is (Err other) stop told found same = cc
 
 -- A kept answer comes with nothing in the store, which was cleared.
 pub answers_again : (depth : ℕ) (policy : PolicyValue) (verdict answer : Result Verdict Stop) (payload : List ℕ) (outcome : Outcome) →

@@ -1,12 +1,13 @@
 -- The result for a token of which something is required: its claims, the kind of its message and the algorithm.
-use Rattle.std.specs.Prelude.{◌≡◌, ℕ, Bool, List, Option, Some, None, Result, Ok, Err}
+use Rattle.std.specs.Prelude.{◌≡◌, ℕ, Bool, List, Option, Result, Ok, Err}
 use Rattle.cose_head.specs.declared.algorithm.Alg.{Alg}
 use Rattle.cose_head.specs.declared.kind.Kind.{Kind}
 use Rattle.cose_msg.specs.declared.verdict.Stop.{Stop}
 use Rattle.cose_msg.specs.declared.verdict.Verdict.{Verdict}
 use Rattle.cose_msg.specs.declared.verdict.Verdict.TheVariants.{Authentic, Refused}
 use Rattle.cose_msg.specs.declared.verifier.Verifier.{Verifier}
-use Rattle.cose_msg.specs.Message.{Decides, Setting}
+use Rattle.cose_msg.specs.Answer.{decided}
+use Rattle.cose_msg.specs.Message.{Decides, Setting, verdict_of}
 use Rattle.cose_cwt.specs.declared.required.Token.{Token}
 use Rattle.cose_cwt.specs.declared.required.TokenStop.{TokenStop}
 use Rattle.cose_cwt.specs.declared.required.TokenStop.TheVariants as stops
@@ -16,7 +17,7 @@ use Rattle.cose_cwt.specs.Admission.{PolicyValue, admitted_claims}
 use Rattle.cose_cwt.specs.Claims.{ClaimsValue}
 use Rattle.cose_cwt.specs.Claims.View.{claims_value}
 use Rattle.cose_cwt.specs.Requirements.{RequirementsValue, met}
-use Rattle.cose_cwt.specs.Token.{IsRun, Outcome, of_claims}
+use Rattle.cose_cwt.specs.Token.{IsRun, Outcome, UnlessStopped, of_claims, read_as}
 
 pub record TokenValue : Type 0 where
   pub claims : ClaimsValue
@@ -48,10 +49,17 @@ required_of depth policy requirements (Ok (Authentic kind alg length taken)) pay
 required_of depth policy requirements (Ok (Refused refusal)) payload = Err (stops.Cwt (cwt_stops.Message refusal))
 required_of depth policy requirements (Err stop) payload = Err (stops.Cwt (cwt_stops.Stopped stop))
 
--- Why there is no token, if there is none.
-abbrev pub stop_of : Required → Option TokenStop
-stop_of (Ok token) = None
-stop_of (Err stop) = Some stop
+-- The outcome is the result for the token that all these bytes are.
+pub record IsRequiredToken (room nesting : ℕ) (setting : Setting) (decides : Decides) (policy : PolicyValue) (requirements : RequirementsValue) (bytes : List ℕ) (outcome : Required) : Type 0 where
+  pub verdict : Verdict
+  pub judged : verdict_of room nesting setting decides bytes ≡ decided verdict
+  pub comes : outcome ≡ required_of nesting policy requirements (Ok verdict) (read_as room nesting setting decides bytes).so_far.payload
+
+-- The same, unless the verifier stopped.
+abbrev pub RequiredUnlessStopped : Required → Type 0 → Type 0
+RequiredUnlessStopped (Ok token) says = says
+RequiredUnlessStopped (Err (stops.Cwt stop)) says = UnlessStopped (Err stop) says
+RequiredUnlessStopped (Err (stops.Unmet unmet)) says = says
 
 -- The effect of a call: that of `verify_cwt`, with an outcome of its own, and the token by the same verdict and payload.
 pub record IsRequiredRun {H D : ℕ} {S : Type 0} {K : _} (setting : Setting) (decides : Decides) (policy : PolicyValue) (requirements : RequirementsValue) (come come_after : Option (List ℕ)) (ended : Bool) (v : Verifier H D S K) (outcome : Required) : Type 0 where

@@ -11,7 +11,7 @@ use Rattle.cose_msg.specs.Kept.{answered_again, bytes_taken, kept_answer}
 use Rattle.cose_msg.specs.Message.{Decides, Setting, message, verdict_of, verifying}
 use Rattle.cose_msg.specs.Reading.{Reading}
 use Rattle.cose_msg.specs.Run.{Run, is_intake_stop, is_sink_stop}
-use Rattle.cose_msg.specs.Shown.{Tells}
+use Rattle.cose_msg.specs.Shown.{ShowsReading}
 use Rattle.cose_msg.specs.Status.{status_in, status_left}
 use Rattle.cose_msg.specs.Task.{rules_of, to_verify}
 use Rattle.cose_cwt.specs.declared.claims.Claims.{Claims}
@@ -46,7 +46,7 @@ read_as room nesting setting decides bytes = message (verifying room nesting set
 pub record IsToken (room nesting : ℕ) (setting : Setting) (decides : Decides) (policy : PolicyValue) (bytes : List ℕ) (outcome : Outcome) : Type 0 where
   pub verdict : Verdict
   pub judged : verdict_of room nesting setting decides bytes ≡ decided verdict
-  pub comes : outcome ≡ token_of nesting policy (Ok verdict) (read_as room nesting setting decides bytes).told.payload
+  pub comes : outcome ≡ token_of nesting policy (Ok verdict) (read_as room nesting setting decides bytes).so_far.payload
 
 -- The same, unless the verifier stopped.
 abbrev pub UnlessStopped : Outcome → Type 0 → Type 0
@@ -64,16 +64,11 @@ pub record IsRun {H D : ℕ} {S : Type 0} {K : _} (setting : Setting) (decides :
   pub verdict : Result Verdict Stop
   pub run : Run (verifying H D setting decides) decided [] [] come come_after ended (Some []) (Some payload) verdict taken
   pub counted : bytes_taken v ≡ length taken
-  pub tells : Tells (to_verify setting) taken v
-  pub stands : status_in v ≡ status_left verdict (message (rules_of H D (to_verify setting)) taken)
+  pub shows : ShowsReading (to_verify setting) taken v
+  pub current : status_in v ≡ status_left verdict (message (rules_of H D (to_verify setting)) taken)
   pub kept : kept_answer v ≡ Some (answered_again verdict)
   pub comes : outcome ≡ token_of D policy verdict payload
   pub within : (refusal : Refusal) → outcome ≡ Err (stops.Claims refusal) → refusal.place ≤ length payload
-
--- Why there are no claims, if there are none.
-abbrev pub refusal_in : Outcome → Option CwtStop
-refusal_in (Ok claims) = None
-refusal_in (Err stop) = Some stop
 
 -- Why a verifier stopped, if it did.
 abbrev pub stop_in : Outcome → Option Stop

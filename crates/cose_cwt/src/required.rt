@@ -1,6 +1,6 @@
 //! A token of which something is required, from its bytes to its claims, the kind of its message and the algorithm.
 
-ghost use Rattle.std.specs.Prelude.{◌≡◌, ◌≤◌, ℕ, true, false, List, [], Some, Result};
+ghost use Rattle.std.specs.Prelude.{◌≡◌, ◌≤◌, ℕ, true, false, List, [], Some, Result, IsErr};
 ghost use Rattle.cose_msg.specs.declared.verdict.Stop.{Stop};
 ghost use Rattle.cose_msg.specs.declared.verdict.Verdict.{Verdict};
 ghost use Rattle.cose_msg.specs.Kept.{HasTaken, bytes_taken, is_inspecting, kept_answer};
@@ -10,7 +10,7 @@ ghost use Rattle.cose_msg.specs.Verifier.{is_detached, setting_in};
 ghost use Rattle.cose_cwt.specs.Admission.{admitted_claims as admitted_claims_of};
 ghost use Rattle.cose_cwt.specs.Admission.View.{policy_value};
 ghost use Rattle.cose_cwt.specs.Requirements.View.{requirements_value};
-ghost use Rattle.cose_cwt.specs.Required.{IsRequiredRun, if_admitted, required_of, stop_of, token_seen};
+ghost use Rattle.cose_cwt.specs.Required.{IsRequiredRun, IsRequiredToken, RequiredUnlessStopped, if_admitted, required_of, token_seen};
 ghost use Rattle.cose_cwt.specs.Token.{of_claims};
 
 use crate::claims::Claims;
@@ -19,7 +19,8 @@ use crate::policy::Policy;
 use crate::requirements::{Requirements, Unmet};
 use crate::token::{CwtStop, admitted_claims};
 use cose_map::Keys;
-use cose_msg::{Alg, EcVerifier, Intake, Kind, Stop, Store, Verdict, Verifier, verify};
+use cose_msg::laws::settled_stays;
+use cose_msg::{Alg, EcVerifier, Intake, Kind, Lender, Stop, Store, Verdict, Verifier, verify};
 
 /// A token that is admitted, and meets what the caller requires of it.
 #[derive(Clone, Copy, Debug)]
@@ -84,19 +85,26 @@ fn token_after<'a>(
     }
 }
 
-/// Why there is no token, if there is none.
-fn stop_after(
+/// The same of a payload that a store lends. Where there is no token the store is cleared, so that nothing of a refused
+/// payload is left in it.
+fn token_or_cleared<'a>(
     verdict: Result<Verdict, Stop>,
-    payload: &[u8],
+    payload: &'a [u8],
+    lender: Lender<'_>,
     depth: usize,
     policy: &Policy<'_>,
     requirements: &Requirements<'_>,
-) -> Option<TokenStop>
+) -> Result<Token<'a>, TokenStop>
     requires { depth ≤ 32 }
-    ensures { result ≡ stop_of (required_of depth (policy_value policy.entry.now)
-        (requirements_value requirements.entry.now) verdict payload.now) }
+    ensures token { token_seen result ≡ required_of depth (policy_value policy.entry.now)
+        (requirements_value requirements.entry.now) verdict payload.entry.now }
+    ensures cleared { IsErr result → lender.exit.0.now ≡ true }
 {
-    token_after(verdict, payload, depth, policy, requirements).err()
+    let token = token_after(verdict, payload, depth, policy, requirements);
+    if token.is_err() {
+        lender.clear();
+    }
+    token
 }
 
 /// Verifies one token as [`verify_cwt`](crate::verify_cwt) does, and returns it where its claims meet the requirements
@@ -134,6 +142,12 @@ pub fn verify_token<
         IsRequiredRun setting (E.decides ec.now) (policy_value policy.entry.now)
         (requirements_value requirements.entry.now) (I.to_come intake.old) (I.to_come intake.new)
         (I.ended intake.new) verifier.new (token_seen result) }
+    // Where the intake's bytes are known to the contract, the result is that of all of them.
+    ensures token { (setting : Setting) (bytes : List ℕ)
+        → HasTaken (to_verify setting) [] [] verifier.old → I.to_come intake.old ≡ Some bytes →
+        RequiredUnlessStopped (token_seen result)
+        (IsRequiredToken H D setting (E.decides ec.now) (policy_value policy.entry.now)
+        (requirements_value requirements.entry.now) bytes (token_seen result)) }
     // A verdict or stop that was kept is answered again.
     ensures again { (answer : Result Verdict Stop) → kept_answer verifier.old ≡ Some answer →
         (token_seen result ≡ required_of D (policy_value policy.entry.now)
@@ -142,13 +156,11 @@ pub fn verify_token<
     ensures inspects { is_inspecting verifier.new ≡ false }
     ensures attached { is_detached verifier.new ≡ false }
 {
-    // Laws that the proof cites: the places of refusals of claims.
+    // Laws that the proof cites: a verdict is the same when bytes follow, and the places of refusals of claims.
+    settled_stays();
     claims_refusals_stand_inside();
     store.clear();
     let verdict = verify::<C, H, D, K, I, Store<L>, E>(verifier, intake, store, ec);
-    if let Some(stop) = stop_after(verdict, store.bytes(), D, policy, requirements) {
-        store.clear();
-        return Err(stop);
-    }
-    token_after(verdict, store.bytes(), D, policy, requirements)
+    let (payload, lender) = store.lend();
+    token_or_cleared(verdict, payload, lender, D, policy, requirements)
 }

@@ -1,6 +1,6 @@
 //! A token, from its bytes to its claims (RFC 8392 section 7.2).
 
-ghost use Rattle.std.specs.Prelude.{◌≡◌, ◌↔◌, ◌≤◌, ◌||◌, ℕ, true, false, List, [], Some, Result, Err};
+ghost use Rattle.std.specs.Prelude.{◌≡◌, ◌↔◌, ◌≤◌, ◌||◌, ℕ, true, false, List, [], Some, Result, Err, IsErr};
 ghost use Rattle.cose_head.specs.declared.refusal.Refusal.{Refusal};
 ghost use Rattle.cose_map.specs.Map.View.{seen_by};
 ghost use Rattle.cose_msg.specs.declared.verdict.Stop.{Stop};
@@ -13,14 +13,14 @@ ghost use Rattle.cose_cwt.specs.declared.token.CwtStop.{CwtStop};
 ghost use Rattle.cose_cwt.specs.Admission.{admitted_claims as admitted_claims_of};
 ghost use Rattle.cose_cwt.specs.Admission.View.{policy_value};
 ghost use Rattle.cose_cwt.specs.Claims.View.{claims_value};
-ghost use Rattle.cose_cwt.specs.Token.{IsRun, IsToken, UnlessStopped, claims_seen, is_for_intake, is_for_store, refusal_in, stop_in, token_of};
+ghost use Rattle.cose_cwt.specs.Token.{IsRun, IsToken, UnlessStopped, claims_seen, is_for_intake, is_for_store, stop_in, token_of};
 
 use crate::claims::Claims;
 use crate::laws::claims_refusals_stand_inside;
 use crate::policy::Policy;
 use cose_map::{Keys, Refusal};
 use cose_msg::laws::settled_stays;
-use cose_msg::{EcVerifier, Intake, Sink, Stop, Store, Verdict, Verifier, verify};
+use cose_msg::{EcVerifier, Intake, Lender, Stop, Store, Verdict, Verifier, verify};
 
 /// Why [`verify_cwt`] returns no claims.
 #[derive(Clone, Copy, Debug, PartialEq, Eq)]
@@ -68,27 +68,25 @@ fn claims_after<'a>(
     }
 }
 
-/// Why there are no claims, if there are none.
-fn stop_after(
+/// The same of a payload that a store lends. Where there are no claims the store is cleared, so that nothing of a
+/// refused payload is left in it.
+fn claims_or_cleared<'a>(
     verdict: Result<Verdict, Stop>,
-    payload: &[u8],
+    payload: &'a [u8],
+    lender: Lender<'_>,
     depth: usize,
     policy: &Policy<'_>,
-) -> Option<CwtStop>
+) -> Result<Claims<'a>, CwtStop>
     requires { depth ≤ 32 }
-    ensures { result
-        ≡ refusal_in (token_of depth (policy_value policy.entry.now) verdict payload.now) }
+    ensures claims { claims_seen result
+        ≡ token_of depth (policy_value policy.entry.now) verdict payload.entry.now }
+    ensures cleared { IsErr result → lender.exit.0.now ≡ true }
 {
-    claims_after(verdict, payload, depth, policy).err()
-}
-
-/// Clears a store where there are no claims, so that nothing of a refused payload is left in it.
-fn cleared<const L: usize>(store: &mut Store<L>, stop: CwtStop) -> CwtStop
-    ensures stop { result ≡ stop }
-    ensures empty { ⟦<Store<L> as Sink>⟧.contents store.new ≡ Some [] }
-{
-    Store::clear(store);
-    stop
+    let claims = claims_after(verdict, payload, depth, policy);
+    if claims.is_err() {
+        lender.clear();
+    }
+    claims
 }
 
 /// Verifies one token, and returns its claims where the message is authentic and the claims are admitted.
@@ -170,8 +168,6 @@ pub fn verify_cwt<
     let _none = verifier.taken();
     store.clear();
     let verdict = verify::<C, H, D, K, I, Store<L>, E>(verifier, intake, store, ec);
-    if let Some(stop) = stop_after(verdict, store.bytes(), D, policy) {
-        return Err(cleared(store, stop));
-    }
-    claims_after(verdict, store.bytes(), D, policy)
+    let (payload, lender) = store.lend();
+    claims_or_cleared(verdict, payload, lender, D, policy)
 }

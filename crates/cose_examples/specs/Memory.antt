@@ -21,4 +21,4 @@ pub record Carries (key_set message payload : List ℕ) : Type 0 where
   pub alg : Alg
   pub of_set : keys_of key_set ≡ Ok keys
   pub authentic : outcome_of (length message) (verdict_of 1024 8 (setting_under keys) never message) ≡ Some (Ok (kind, alg))
-  pub payload_is : payload ≡ (reading (rules_of 1024 8 (to_verify (setting_under keys))) message).told.payload
+  pub payload_is : payload ≡ (reading (rules_of 1024 8 (to_verify (setting_under keys))) message).so_far.payload

@@ -54,7 +54,7 @@ pub record Passes {D : ℕ} (old new : Walker D) (count : ℕ) : Type 0 where
   pub place : new.place ≡ old.place + count
 
 -- The half head is empty, and this is the room left and the place.
-pub record Stands {D : ℕ} (rest at : ℕ) (w : Walker D) : Type 0 where
+pub record IsAt {D : ℕ} (rest at : ℕ) (w : Walker D) : Type 0 where
   pub half : length w.half.items ≡ 0
   pub room : w.room ≡ rest
   pub place : w.place ≡ at
@@ -87,7 +87,7 @@ Answers room bytes Done read = (found : Item) × (read ≡ Ok (found, left_of []
 Answers room bytes (Fault refusal) read = (read ≡ Err refusal) × (refusal.reason ≡ Truncated → ⊥)
 
 -- A place is within the bytes, a complete item has fitted in the room, and where more is wanted there is room for more.
-abbrev pub StandsAmong : ℕ → List ℕ → Step → Type 0
-StandsAmong room bytes Going = length bytes < room
-StandsAmong room bytes Done = length bytes ≤ room
-StandsAmong room bytes (Fault refusal) = refusal.place ≤ length bytes
+abbrev pub IsAmong : ℕ → List ℕ → Step → Type 0
+IsAmong room bytes Going = length bytes < room
+IsAmong room bytes Done = length bytes ≤ room
+IsAmong room bytes (Fault refusal) = refusal.place ≤ length bytes

@@ -94,7 +94,7 @@ pub struct Walker<const D: usize> {
 }
 
 impl<const D: usize> Walker<D> {
-    ghost use Rattle.cose_head.specs.Walker.{last_step, step_after, open_now, left_at, resume, go_on, HasPut, Answers, StandsAmong, Leads, Passes, Stands};
+    ghost use Rattle.cose_head.specs.Walker.{last_step, step_after, open_now, left_at, resume, go_on, HasPut, Answers, IsAmong, Leads, Passes, IsAt};
 
     /// A walker of an item that may use `room` bytes.
     pub fn new(room: usize) -> Self
@@ -168,7 +168,7 @@ impl<const D: usize> Walker<D> {
         ensures put { (room : ℕ) (bytes : List ℕ) → HasPut room bytes self.old
             → result ≡ Step.Going → HasPut room (bytes ++ byte ∷ []) self.new }
         ensures among { (room : ℕ) (bytes : List ℕ) → HasPut room bytes self.old
-            → StandsAmong room (bytes ++ byte ∷ []) result }
+            → IsAmong room (bytes ++ byte ∷ []) result }
         ensures step { last_step self.new ≡ result }
         ensures kept { (last_step self.old ≡ Step.Going → ⊥) → self.new ≡ self.old }
     {
@@ -198,7 +198,7 @@ impl<const D: usize> Walker<D> {
             → last_step self.new ≡ Step.Going
             → HasPut room (bytes ++ take result piece.now) self.new }
         ensures among { (room : ℕ) (bytes : List ℕ) → HasPut room bytes self.old → 0 < result
-            → StandsAmong room (bytes ++ take result piece.now) (last_step self.new) }
+            → IsAmong room (bytes ++ take result piece.now) (last_step self.new) }
         ensures none { result ≡ 0 → self.new ≡ self.old }
         ensures kept { (last_step self.old ≡ Step.Going → ⊥) → result ≡ 0 }
     {
@@ -253,7 +253,7 @@ impl<const D: usize> Walker<D> {
         requires fits { count ≤ self.old.string }
         ensures leads { (piece : List ℕ) → length piece ≡ count
             → Leads (λ bytes. resume self.old (piece ++ bytes)) result self.new }
-        ensures stands { Stands (self.old.room - count) (self.old.place + count) self.new }
+        ensures is_at { IsAt (self.old.room - count) (self.old.place + count) self.new }
     {
         self.string -= count;
         self.pass_over(count);
@@ -271,8 +271,8 @@ impl<const D: usize> Walker<D> {
         ensures leads { (first : List ℕ) → IsHeadAt first self.old.room self.old.place head
             → Leads (λ bytes. go_on D self.old.counts.items first 0 (left_at self.old bytes)) result
             self.new }
-        ensures stands { OnOk result
-            (Stands (self.old.room - head.width) (self.old.place + head.width) self.new) }
+        ensures is_at { OnOk result
+            (IsAt (self.old.room - head.width) (self.old.place + head.width) self.new) }
         ensures among { self.new.place ≤ self.old.place + head.width }
     {
         let width = usize::from(head.width);
@@ -309,7 +309,7 @@ impl<const D: usize> Walker<D> {
         requires fits { count ≤ self.old.room }
         ensures leads { Leads (λ bytes. finish D self.old.counts.items
             (walk_content count (left_at self.old bytes))) result self.new }
-        ensures stands { Stands self.old.room self.old.place self.new }
+        ensures is_at { IsAt self.old.room self.old.place self.new }
     {
         if count == 0 {
             return self.end_item();
@@ -326,7 +326,7 @@ impl<const D: usize> Walker<D> {
         ensures leads { let inner = D - length self.old.counts.items - 1 in
             Leads (λ bytes. finish D self.old.counts.items
             (walk_all inner count (left_at self.old bytes))) result self.new }
-        ensures stands { Stands self.old.room self.old.place self.new }
+        ensures is_at { IsAt self.old.room self.old.place self.new }
     {
         self.counts.push(count);
         self.end_item()
@@ -338,7 +338,7 @@ impl<const D: usize> Walker<D> {
         requires half { length self.old.half.items ≡ 0 }
         ensures leads { Leads (λ bytes. finish D self.old.counts.items
             (ends (left_at self.old bytes))) result self.new }
-        ensures stands { Stands self.old.room self.old.place self.new }
+        ensures is_at { IsAt self.old.room self.old.place self.new }
     {
         if !next_child(&mut self.counts) {
             return Ok(Progress::Whole);

@@ -1,7 +1,9 @@
 pub mod HashLemmas
 pub mod HmacLemmas
 pub mod LongKeys
+pub mod PreparedKeys
 pub mod RunningLemmas
 pub mod StructureLemmas
 pub mod WorkedHmac
+pub mod WorkedPrepared
 pub mod WorkedStructures

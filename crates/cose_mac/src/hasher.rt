@@ -2,7 +2,7 @@
 
 ghost use Rattle.std.specs.Prelude.{◌≡◌, List, ℕ, [], ◌++◌};
 ghost use Rattle.cose_mac.specs.Hash.{function_of};
-ghost use Rattle.cose_mac.specs.Hasher.{Holds};
+ghost use Rattle.cose_mac.specs.Hasher.{Holds, is_of};
 
 use arrayvec::ArrayVec;
 use cose_head::Hash;
@@ -26,6 +26,29 @@ impl Hasher {
             Hash::Sha384 => Hasher::Sha384(Sha384::new()),
             Hash::Sha512 => Hasher::Sha512(Sha512::new()),
         }
+    }
+
+    /// Another hasher of the same message.
+    pub(crate) fn again(&self) -> Hasher
+        ensures { result ≡ self.now }
+    {
+        match self {
+            Hasher::Sha256(hasher) => Hasher::Sha256(hasher.clone().unwrap()),
+            Hasher::Sha384(hasher) => Hasher::Sha384(hasher.clone().unwrap()),
+            Hasher::Sha512(hasher) => Hasher::Sha512(hasher.clone().unwrap()),
+        }
+    }
+
+    /// Whether it is one of this hash function.
+    pub(crate) fn is_of(&self, hash: Hash) -> bool
+        ensures { result ≡ is_of hash self.now }
+    {
+        matches!(
+            (self, hash),
+            (Hasher::Sha256(_), Hash::Sha256)
+                | (Hasher::Sha384(_), Hash::Sha384)
+                | (Hasher::Sha512(_), Hash::Sha512)
+        )
     }
 
     /// Appends a piece to the message.

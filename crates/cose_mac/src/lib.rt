@@ -7,13 +7,24 @@
 //! 256/64:
 //!
 //! ```rust
-//! use cose_mac::{Alg, Kind, Running, structure_front};
+//! use cose_mac::{Alg, Kind, Prepared, Running, structure_front};
 //!
 //! let protected = b"\xa1\x01\x04";
 //! let mut running = Running::hmac(Alg::Hmac64, b"Jefe");
 //! structure_front(Kind::Mac0, protected, b"", 11, &mut running);
 //! running.update(b"hello ");
 //! running.update(b"world");
+//! let mac = running.finish_mac();
+//! assert_eq!(rt; mac.as_slice(), b"\x7a\x06\x73\x54\x1f\xac\xc3\xd1".as_slice());
+//! ```
+//!
+//! Of a short message half of this hashes the key alone. [`Prepared`] does that once for many messages:
+//!
+//! ```rust
+//! let prepared = Prepared::hmac(Alg::Hmac64, b"Jefe");
+//! let mut running = prepared.begin(Alg::Hmac64);
+//! structure_front(Kind::Mac0, protected, b"", 11, &mut running);
+//! running.update(b"hello world");
 //! let mac = running.finish_mac();
 //! assert_eq!(rt; mac.as_slice(), b"\x7a\x06\x73\x54\x1f\xac\xc3\xd1".as_slice());
 //! ```
@@ -28,10 +39,12 @@ mod hash;
 mod hasher;
 mod hmac;
 pub mod laws;
+mod prepared;
 mod running;
 mod structure;
 
 pub use comparison::same_bytes;
 pub use cose_head::{Alg, Kind};
+pub use prepared::Prepared;
 pub use running::Running;
 pub use structure::structure_front;

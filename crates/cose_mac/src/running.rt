@@ -6,7 +6,7 @@ ghost use Rattle.cose_head.specs.Algorithm.{is_mac_of, auth_length_of};
 ghost use Rattle.cose_mac.specs.Hash.{digest_of, digest_length_of};
 
 use crate::hasher::Hasher;
-use crate::hmac::{Block, IPAD, OPAD, key_block, xor_pad};
+use crate::prepared::Prepared;
 use arrayvec::ArrayVec;
 use cose_head::Alg;
 
@@ -15,10 +15,10 @@ use cose_head::Alg;
 /// It has no `Debug`, so that no log shows what is derived from the key.
 #[derive(Drop)]
 pub struct Running {
-    alg: Alg,
-    hasher: Hasher,
-    /// For a MAC, the key's block XOR opad.
-    outer: Option<Block>,
+    pub(crate) alg: Alg,
+    pub(crate) hasher: Hasher,
+    /// For a MAC, the outer hash, which was fed the key's block XOR opad.
+    pub(crate) outer: Option<Hasher>,
 }
 
 impl Running {
@@ -31,14 +31,11 @@ impl Running {
         requires { IsTrue (is_mac_of alg) }
         ensures { FedMac result alg key.now [] }
     {
-        let hash = alg.hash();
-        let block = key_block(hash, key);
-        let mut hasher = Hasher::new(hash);
-        hasher.update(&xor_pad(&block, IPAD));
+        let Prepared { inner, outer } = Prepared::hmac(alg, key);
         Running {
             alg,
-            hasher,
-            outer: Some(xor_pad(&block, OPAD)),
+            hasher: inner,
+            outer: Some(outer),
         }
     }
 
@@ -77,8 +74,7 @@ impl Running {
         ensures length { (alg : Alg) (key message : List ℕ)
             → FedMac self alg key message → array_vec_len result ≡ auth_length_of alg }
     {
-        let mut outer = Hasher::new(self.alg.hash());
-        outer.update(&self.outer.unwrap());
+        let mut outer = self.outer.unwrap();
         outer.update(&self.hasher.finish());
         let mut mac = outer.finish();
         mac.truncate(self.alg.auth_length());

@@ -3,4 +3,5 @@ pub mod Map
 pub mod Bucket
 pub mod KeySet
 pub mod KeyTable
+pub mod ReadyKeys
 pub mod Laws

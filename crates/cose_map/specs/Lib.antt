@@ -4,6 +4,7 @@ pub mod Bucket
 pub mod Key
 pub mod KeySet
 pub mod KeyTable
+pub mod PreparedTable
 pub mod Choice
 pub mod Laws
 pub mod Restrictions

@@ -3,7 +3,7 @@
 ghost use Rattle.std.specs.Prelude.{◌≤◌};
 
 mod restricted;
-mod slot;
+pub mod slot;
 
 use crate::choice::fitting::Fitting;
 use crate::choice::query::Query;
@@ -61,6 +61,13 @@ impl<'a, const N: usize> KeyTable<'a, N> {
         // The proof cites what this ensures of the length.
         let _count = slots.len();
         Ok(KeyTable { slots })
+    }
+
+    /// The places that are taken.
+    pub(crate) fn slots(&self) -> &[Slot<'a>]
+        ensures { result.now ≡ self.now.slots.items }
+    {
+        self.slots.as_slice()
     }
 
     /// The number of usable keys.

@@ -58,6 +58,7 @@ mod keys;
 mod label;
 pub mod laws;
 mod map;
+mod prepared_table;
 mod restrictions;
 
 pub use bucket::both::check_pair;
@@ -75,4 +76,5 @@ pub use map::first::first_value;
 pub use map::form::Form;
 pub use map::pairs::Pairs;
 pub use map::read::{check_map, read_map, refused};
+pub use prepared_table::PreparedTable;
 pub use restrictions::Restrictions;

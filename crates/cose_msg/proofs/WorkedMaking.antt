@@ -16,7 +16,7 @@ use Rattle.cose_msg.specs.declared.make.MakeFault.{MakeFault}
 use Rattle.cose_msg.specs.declared.make.MakeFault.TheVariants.{WrongKey, TooLong}
 use Rattle.cose_msg.specs.Make.{make_fault}
 use Rattle.cose_msg.specs.Making.{made}
-use Rattle.cose_msg.proofs.Making.{in_parts}
+use Rattle.cose_msg.proofs.lemmas.Made.Making.{in_parts}
 use Rattle.cose_msg.proofs.WorkedMessages.{any, hex, jefe, point, point_on, secret}
 
 abbrev message : Alg → Option (List ℕ) → List ℕ → List ℕ → List ℕ

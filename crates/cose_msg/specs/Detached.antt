@@ -12,7 +12,7 @@ use Rattle.cose_msg.specs.Message.{message}
 use Rattle.cose_msg.specs.Reading.{Reading}
 use Rattle.cose_msg.specs.Rules.{Rules}
 use Rattle.cose_msg.specs.Run.{Ends, Grows, IsAnswer, TakesUntilStop, stop_in}
-use Rattle.cose_msg.specs.Shown.{Tells}
+use Rattle.cose_msg.specs.Shown.{ShowsReading}
 use Rattle.cose_msg.specs.Source.{stated_of}
 use Rattle.cose_msg.specs.Status.{is_open, status_of_reading}
 use Rattle.cose_msg.specs.Task.{Task, given_to, rules_of}
@@ -56,7 +56,7 @@ pub record DetachedRun (rules : Rules) (s B : List ℕ) (come come_after : Optio
   pub within : length came ≤ stated_of rules.source - length B
   pub answer : AnswersBoth (length (s ++ taken)) (length taken) (length came) result ended come_after beside_ended beside_after (message rules (s ++ taken))
   -- The payload that is known now, less the one that was known before, went to the sink.
-  pub payload : (message rules (s ++ taken)).told.payload ≡ B ++ came
+  pub payload : (message rules (s ++ taken)).so_far.payload ≡ B ++ came
   pub grows : Grows contents contents_after (stop_in result) came
 
 -- ---- what the steps of such a call do
@@ -78,10 +78,10 @@ pub record Brings {H D : ℕ} {S : Type 0} {K : _} (task : Task) (s B : List ℕ
   pub came : List ℕ
   pub bytes : TakesUntilStop beside beside_after stop came
   pub within : length came ≤ stated_of task.setting.source - length B
-  pub stands : Brought (given_to (B ++ came) task) s (B ++ came) (length came) stop ended beside_after v
+  pub reads_on : Brought (given_to (B ++ came) task) s (B ++ came) (length came) stop ended beside_after v
   pub counted : v.taken ≡ length s
-  pub tells : Tells (given_to (B ++ came) task) s v
-  pub payload : (message (rules_of H D (given_to (B ++ came) task)) s).told.payload ≡ B ++ came
+  pub shows : ShowsReading (given_to (B ++ came) task) s v
+  pub payload : (message (rules_of H D (given_to (B ++ came) task)) s).so_far.payload ≡ B ++ came
   pub grows : Grows contents contents_after stop came
 
 -- Where both intakes were taken from, the message has its verdict next, unless one of them or the sink failed.
@@ -98,8 +98,8 @@ pub record TakesDetached {H D : ℕ} {S : Type 0} {K : _} (task : Task) (s B : L
   pub bytes : TakesBoth come come_after beside beside_after stop taken came
   pub none_after_end : (n : ℕ) → n < length taken → (message (rules_of H D (given_to (B ++ came) task)) (s ++ take n taken)).settled ≡ false
   pub within : length came ≤ stated_of task.setting.source - length B
-  pub stands : BothStand (given_to (B ++ came) task) (s ++ taken) (B ++ came) (length taken) (length came) stop ended come_after beside_ended beside_after v
+  pub reads_on : BothStand (given_to (B ++ came) task) (s ++ taken) (B ++ came) (length taken) (length came) stop ended come_after beside_ended beside_after v
   pub counted : v.taken ≡ length (s ++ taken)
-  pub tells : Tells (given_to (B ++ came) task) (s ++ taken) v
-  pub payload : (message (rules_of H D (given_to (B ++ came) task)) (s ++ taken)).told.payload ≡ B ++ came
+  pub shows : ShowsReading (given_to (B ++ came) task) (s ++ taken) v
+  pub payload : (message (rules_of H D (given_to (B ++ came) task)) (s ++ taken)).so_far.payload ≡ B ++ came
   pub grows : Grows contents contents_after stop came

@@ -7,7 +7,7 @@ use Rattle.cose_head.specs.declared.reason.Reason.{Reason}
 use Rattle.cose_head.specs.declared.reason.Reason.TheVariants.{WrongTag, Encrypted, SeveralParties, NotFour, WrongType, CwtTagAlone}
 use Rattle.cose_msg.specs.declared.context.Wanted.{Wanted}
 use Rattle.cose_msg.specs.declared.context.Wanted.TheVariants as wants
-use Rattle.cose_msg.specs.Phases.{nothing_told, protected_head}
+use Rattle.cose_msg.specs.Phases.{nothing_so_far, protected_head}
 use Rattle.cose_msg.specs.Reading.{Phase, Next, stop, with_head, unless_fault}
 use Rattle.cose_msg.specs.Rules.{Rules}
 
@@ -22,10 +22,10 @@ abbrev pub array_head_fault : Head → Option Reason
 array_head_fault head = if is_array head then (if head.arg == 4 then None else Some NotFour) else Some WrongType
 
 abbrev pub past_array_head : Rules → Kind → Next Head
-past_array_head rules kind at head = unless_fault nothing_told at (array_head_fault head) (protected_head rules kind)
+past_array_head rules kind at head = unless_fault nothing_so_far at (array_head_fault head) (protected_head rules kind)
 
 abbrev pub array_head : Rules → Kind → Phase
-array_head rules kind = with_head nothing_told (past_array_head rules kind)
+array_head rules kind = with_head nothing_so_far (past_array_head rules kind)
 
 -- The kind that is wanted under a tag: any, where tagged messages are wanted, or one.
 abbrev pub wants_kind : Wanted → Kind → Bool
@@ -49,23 +49,23 @@ kind_of_tag wanted number =
 
 abbrev pub past_tag : Rules → ℕ → Result Kind Reason → Phase
 past_tag rules at (Ok kind) place bytes = array_head rules kind place bytes
-past_tag rules at (Err reason) place bytes = stop nothing_told reason at
+past_tag rules at (Err reason) place bytes = stop nothing_so_far reason at
 
 -- After the tag of a CWT, 61, comes a COSE tag (RFC 8392 section 6).
-abbrev pub tag_behind_cwt : Wanted → Head → Result Kind Reason
-tag_behind_cwt wanted head = if is_tag head then kind_of_tag wanted head.arg else Err CwtTagAlone
+abbrev pub tag_after_cwt : Wanted → Head → Result Kind Reason
+tag_after_cwt wanted head = if is_tag head then kind_of_tag wanted head.arg else Err CwtTagAlone
 
 abbrev pub past_second_head : Rules → Next Head
-past_second_head rules at head = past_tag rules at (tag_behind_cwt rules.wanted head)
+past_second_head rules at head = past_tag rules at (tag_after_cwt rules.wanted head)
 
 abbrev pub second_head : Rules → Phase
-second_head rules = with_head nothing_told (past_second_head rules)
+second_head rules = with_head nothing_so_far (past_second_head rules)
 
 -- An array without a tag is of the one kind that is wanted.
 abbrev pub past_untagged : Rules → Wanted → Next Head
 past_untagged rules wants.Mac0 at head place bytes = past_array_head rules kinds.Mac0 at head place bytes
 past_untagged rules wants.Sign1 at head place bytes = past_array_head rules kinds.Sign1 at head place bytes
-past_untagged rules wants.Tagged at head place bytes = stop nothing_told WrongTag at
+past_untagged rules wants.Tagged at head place bytes = stop nothing_so_far WrongTag at
 
 -- The first head is a tag or the array. The CWT tag counts where one is admitted.
 abbrev pub is_cwt_tag : Bool → Head → Bool
@@ -75,7 +75,7 @@ abbrev pub past_first_head : Rules → Next Head
 past_first_head rules at head place bytes =
     if is_cwt_tag rules.cwt head then second_head rules place bytes else
     if is_tag head then past_tag rules at (kind_of_tag rules.wanted head.arg) place bytes else
-    if is_array head then past_untagged rules rules.wanted at head place bytes else stop nothing_told WrongType at
+    if is_array head then past_untagged rules rules.wanted at head place bytes else stop nothing_so_far WrongType at
 
 abbrev pub first_head : Rules → Phase
-first_head rules = with_head nothing_told (past_first_head rules)
+first_head rules = with_head nothing_so_far (past_first_head rules)

@@ -11,14 +11,14 @@ use Rattle.cose_msg.specs.Authentic.{IsAuthentic}
 use Rattle.cose_msg.specs.Front.{wants_kind}
 use Rattle.cose_msg.specs.Grammar.{IsFront, IsMessage, Spellings, SpellsMessage, bare, in_tag, in_cwt_tag, is_untagged, payload_element, HasCome, four_elements, spelling, unprotected_at, payload_at, auth_at}
 use Rattle.cose_msg.specs.Message.{Decides, Setting, message, verdict_of}
-use Rattle.cose_msg.specs.Phases.{headers_told, is_too_long, placed_at}
+use Rattle.cose_msg.specs.Phases.{headers_so_far, is_too_long, placed_at}
 use Rattle.cose_msg.specs.Reading.{settled}
 use Rattle.cose_msg.specs.Rules.{Rules}
 
 -- Whatever follows it, a message is read as its parts say, and settled.
 abbrev pub MessageIsRead : Type 0
 MessageIsRead = (rules : Rules) (bytes more : List ℕ) (whole : Whole) → IsMessage rules bytes whole →
-    message rules (bytes ++ more) ≡ settled (headers_told whole.headers whole.payload) (rules.finish whole)
+    message rules (bytes ++ more) ≡ settled (headers_so_far whole.headers whole.payload) (rules.finish whole)
 
 -- It is one item of the grammar: an array of these four elements, perhaps in its tags.
 abbrev pub MessageIsArrayOfFour : Type 0

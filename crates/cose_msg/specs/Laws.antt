@@ -137,7 +137,7 @@ MessageIsInspectedWithin = (room nesting : ℕ) (setting : Setting) (bytes : Lis
 
 -- A reading whose answer is changed.
 abbrev pub answered : (Answer → Answer) → Reading → Reading
-answered change reading = record { answer = change reading.answer; settled = reading.settled; wanted = reading.wanted; payload_wanted = reading.payload_wanted; told = reading.told }
+answered change reading = record { answer = change reading.answer; settled = reading.settled; wanted = reading.wanted; payload_wanted = reading.payload_wanted; so_far = reading.so_far }
 
 -- Where two rules differ only in the result for a whole message, so do the answers. Refusals before that are the same.
 abbrev pub FinishGoesLast : Type 0

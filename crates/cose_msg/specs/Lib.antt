@@ -25,6 +25,7 @@ pub mod SliceIntake
 pub mod Sink
 pub mod Slice
 pub mod Store
+pub mod Lending
 pub mod Status
 pub mod Feed
 pub mod Kept

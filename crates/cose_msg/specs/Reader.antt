@@ -26,8 +26,8 @@ use Rattle.cose_msg.specs.Front.{first_head, second_head, array_head}
 use Rattle.cose_msg.specs.Hashing.{Hashes, HashesFor, authenticator, result_of}
 use Rattle.cose_msg.specs.Message.{Setting, has_auth_length, message, structure}
 use Rattle.cose_msg.specs.Phase.{is_settled}
-use Rattle.cose_msg.specs.Phases.{nothing_told, unprotected_told, headers_told, placed_at, protected_head, protected, unprotected, payload_head, payload, detached_payload, auth_head, auth}
-use Rattle.cose_msg.specs.Reading.{Reading, Told, open_items_after, wanted_after, settled}
+use Rattle.cose_msg.specs.Phases.{nothing_so_far, unprotected_so_far, headers_so_far, placed_at, protected_head, protected, unprotected, payload_head, payload, detached_payload, auth_head, auth}
+use Rattle.cose_msg.specs.Reading.{Reading, SoFar, open_items_after, wanted_after, settled}
 use Rattle.cose_msg.specs.Rules.{Rules}
 use Rattle.cose_msg.specs.Source.{Source, attached, detached}
 use Rattle.cose_msg.specs.Task.{Task, rules_of}
@@ -64,10 +64,10 @@ abbrev pub opened_by : {H D : ℕ} → Reader H D → ℕ
 opened_by v = open_now v.walker
 
 -- The task's terms, the buckets that are known, and what is open.
-abbrev pub Shows : {H D : ℕ} → Task → Told → Reader H D → Type 0
-Shows {H} {D} task told v = (task_in task v ≡ task)
-    × HoldsBucket D told.protected v.protected_at v.protected.items × HoldsBucket D told.unprotected v.unprotected_at v.unprotected.items
-    × (opened_by v ≡ told.open_items)
+abbrev pub Shows : {H D : ℕ} → Task → SoFar → Reader H D → Type 0
+Shows {H} {D} task so_far v = (task_in task v ≡ task)
+    × HoldsBucket D so_far.protected v.protected_at v.protected.items × HoldsBucket D so_far.unprotected v.unprotected_at v.unprotected.items
+    × (opened_by v ≡ so_far.open_items)
 
 -- What is known to a reader in addition to what its reading gives as known: the headers, the key, and the bytes so far
 -- of the payload, and of the tag or signature. No key is chosen where the message is only inspected.
@@ -93,25 +93,25 @@ past_nil attached rules headers chosen at = auth_head rules headers chosen []
 past_nil (detached came stated) rules headers chosen at = detached_payload rules headers chosen came stated at
 
 -- What is left of the definition: the phase, at the bytes that are held of it and those to come.
-abbrev pub left_in : {H D : ℕ} → Rules → Known → Told → Reader H D → Phase → List ℕ → Reading
-left_in rules known told v phases.FirstHead z = first_head rules 0 (v.head.items ++ z)
-left_in rules known told v (phases.TagHead p) z = second_head rules p.at (v.head.items ++ z)
-left_in rules known told v (phases.ArrayHead p) z = array_head rules p.kind p.at (v.head.items ++ z)
-left_in rules known told v (phases.ProtectedHead p) z = protected_head rules p.kind p.at (v.head.items ++ z)
-left_in rules known told v (phases.Protected p) z = protected rules p.kind p.length p.at (v.protected.items ++ z)
-left_in rules known told v (phases.Unprotected p) z =
+abbrev pub left_in : {H D : ℕ} → Rules → Known → SoFar → Reader H D → Phase → List ℕ → Reading
+left_in rules known so_far v phases.FirstHead z = first_head rules 0 (v.head.items ++ z)
+left_in rules known so_far v (phases.TagHead p) z = second_head rules p.at (v.head.items ++ z)
+left_in rules known so_far v (phases.ArrayHead p) z = array_head rules p.kind p.at (v.head.items ++ z)
+left_in rules known so_far v (phases.ProtectedHead p) z = protected_head rules p.kind p.at (v.head.items ++ z)
+left_in rules known so_far v (phases.Protected p) z = protected rules p.kind p.length p.at (v.protected.items ++ z)
+left_in rules known so_far v (phases.Unprotected p) z =
     unprotected rules p.kind v.protected.items known.headers.protected_pairs p.at (v.unprotected.items ++ z)
-left_in rules known told v (phases.PayloadHead p) z = payload_head rules known.headers known.chosen p.at (v.head.items ++ z)
-left_in rules known told v (phases.Payload p) z = payload rules known.headers known.chosen p.length p.at (known.payload ++ z)
-left_in rules known told v (phases.Detached p) z = past_nil rules.source rules known.headers known.chosen p.at p.after z
-left_in rules known told v (phases.AuthHead p) z = auth_head rules known.headers known.chosen known.payload p.at (v.head.items ++ z)
-left_in rules known told v (phases.Auth p) z =
+left_in rules known so_far v (phases.PayloadHead p) z = payload_head rules known.headers known.chosen p.at (v.head.items ++ z)
+left_in rules known so_far v (phases.Payload p) z = payload rules known.headers known.chosen p.length p.at (known.payload ++ z)
+left_in rules known so_far v (phases.Detached p) z = past_nil rules.source rules known.headers known.chosen p.at p.after z
+left_in rules known so_far v (phases.AuthHead p) z = auth_head rules known.headers known.chosen known.payload p.at (v.head.items ++ z)
+left_in rules known so_far v (phases.Auth p) z =
     auth rules known.headers known.chosen known.payload p.head_at p.length p.at (known.auth ++ z)
-left_in rules known told v (phases.Signed p) z =
-    settled (headers_told known.headers known.payload) (complete (whole_of known p.head_at p.taken))
-left_in rules known told v (phases.Decided verdict) z = settled told (decided verdict)
-left_in rules known told v (phases.Settled verdict) z = settled told (decided verdict)
-left_in rules known told v (phases.Shaped p) z = settled told (shaped p.kind p.payload p.auth p.taken)
+left_in rules known so_far v (phases.Signed p) z =
+    settled (headers_so_far known.headers known.payload) (complete (whole_of known p.head_at p.taken))
+left_in rules known so_far v (phases.Decided verdict) z = settled so_far (decided verdict)
+left_in rules known so_far v (phases.Settled verdict) z = settled so_far (decided verdict)
+left_in rules known so_far v (phases.Shaped p) z = settled so_far (shaped p.kind p.payload p.auth p.taken)
 
 -- A head at this place, of which some bytes are held and not all; n bytes were taken in all.
 abbrev pub HoldsHead : {H D : ℕ} → ℕ → ℕ → Reader H D → Type 0
@@ -137,7 +137,7 @@ IsOpened hashing aad known n = OpenedFor known.chosen hashing aad known.headers 
 
 -- The payload is next, of this length, and the hash was fed all of the structure that precedes it.
 pub record IsAtPayload {H D : ℕ} (task : Task) (known : Known) (v : Reader H D) (kind : Kind) (n : ℕ) : Type 0 where
-  pub shows : Shows task (headers_told known.headers []) v
+  pub shows : Shows task (headers_so_far known.headers []) v
   pub none : known.payload ≡ []
   pub key : HoldsKey task known v kind
   pub opened : IsOpened v.hashing task.setting.aad known n
@@ -175,52 +175,52 @@ is_authentic (Authentic kind alg payload taken) = true
 is_authentic (Refused refusal) = false
 
 -- What holds of the stores in each phase, where n bytes were taken.
-abbrev pub HoldsIn : {H D : ℕ} → Task → Known → Told → ℕ → Reader H D → Phase → Type 0
-HoldsIn task known told n v phases.FirstHead = (told ≡ nothing_told) × HoldsHead 0 n v
-HoldsIn task known told n v (phases.TagHead p) = (told ≡ nothing_told) × HoldsHead p.at n v
-HoldsIn task known told n v (phases.ArrayHead p) = (told ≡ nothing_told) × HoldsHead p.at n v
-HoldsIn task known told n v (phases.ProtectedHead p) = (told ≡ nothing_told) × HoldsHead p.at n v
-HoldsIn {H} task known told n v (phases.Protected p) =
-    (told ≡ nothing_told) × (length v.protected.items + p.left ≡ p.length) × (p.length ≤ H) × (n ≡ p.at + length v.protected.items)
-HoldsIn {H} {D} task known told n v (phases.Unprotected p) =
-    (told ≡ unprotected_told known.headers.protected_pairs (open_items_after H D v.unprotected.items))
+abbrev pub HoldsIn : {H D : ℕ} → Task → Known → SoFar → ℕ → Reader H D → Phase → Type 0
+HoldsIn task known so_far n v phases.FirstHead = (so_far ≡ nothing_so_far) × HoldsHead 0 n v
+HoldsIn task known so_far n v (phases.TagHead p) = (so_far ≡ nothing_so_far) × HoldsHead p.at n v
+HoldsIn task known so_far n v (phases.ArrayHead p) = (so_far ≡ nothing_so_far) × HoldsHead p.at n v
+HoldsIn task known so_far n v (phases.ProtectedHead p) = (so_far ≡ nothing_so_far) × HoldsHead p.at n v
+HoldsIn {H} task known so_far n v (phases.Protected p) =
+    (so_far ≡ nothing_so_far) × (length v.protected.items + p.left ≡ p.length) × (p.length ≤ H) × (n ≡ p.at + length v.protected.items)
+HoldsIn {H} {D} task known so_far n v (phases.Unprotected p) =
+    (so_far ≡ unprotected_so_far known.headers.protected_pairs (open_items_after H D v.unprotected.items))
     × (bucket_of D (placed_at p.protected_at v.protected.items) ≡ Ok known.headers.protected_pairs)
     × HasPut H v.unprotected.items v.walker × (n ≡ p.at + length v.unprotected.items)
     × (p.wanted ≡ wanted_after H D v.unprotected.items)
-HoldsIn task known told n v (phases.PayloadHead p) =
-    (told ≡ headers_told known.headers []) × HoldsHead p.at n v × HoldsKey task known v p.kind
+HoldsIn task known so_far n v (phases.PayloadHead p) =
+    (so_far ≡ headers_so_far known.headers []) × HoldsHead p.at n v × HoldsKey task known v p.kind
     × (known.headers.protected ≡ v.protected.items) × (p.is_bare ≡ (length known.headers.protected_pairs == 0))
     × HashesFor v.hashing known.chosen []
-HoldsIn task known told n v (phases.Payload p) =
-    (told ≡ headers_told known.headers known.payload) × (length known.payload + p.left ≡ p.length) × (n ≡ p.at + length known.payload)
+HoldsIn task known so_far n v (phases.Payload p) =
+    (so_far ≡ headers_so_far known.headers known.payload) × (length known.payload + p.left ≡ p.length) × (n ≡ p.at + length known.payload)
     × HoldsKey task known v p.kind × IsOpened v.hashing task.setting.aad known p.length × (task.setting.source ≡ attached)
-HoldsIn task known told n v (phases.Detached p) =
-    (told ≡ headers_told known.headers known.payload) × (length known.payload + p.left ≡ p.length) × (n ≡ p.after)
+HoldsIn task known so_far n v (phases.Detached p) =
+    (so_far ≡ headers_so_far known.headers known.payload) × (length known.payload + p.left ≡ p.length) × (n ≡ p.after)
     × HoldsKey task known v p.kind × IsOpened v.hashing task.setting.aad known p.length
     × ((more : List ℕ) × (task.setting.source ≡ detached (known.payload ++ more) p.length))
-HoldsIn task known told n v (phases.AuthHead p) =
-    (told ≡ headers_told known.headers known.payload) × HoldsHead p.at n v × HoldsKey task known v p.kind
+HoldsIn task known so_far n v (phases.AuthHead p) =
+    (so_far ≡ headers_so_far known.headers known.payload) × HoldsHead p.at n v × HoldsKey task known v p.kind
     × (length known.payload ≡ p.payload) × IsFed v.hashing task.setting.aad known
-HoldsIn task known told n v (phases.Auth p) =
-    (told ≡ headers_told known.headers known.payload) × (length known.auth + p.left ≡ p.length) × (n ≡ p.at + length known.auth)
+HoldsIn task known so_far n v (phases.Auth p) =
+    (so_far ≡ headers_so_far known.headers known.payload) × (length known.auth + p.left ≡ p.length) × (n ≡ p.at + length known.auth)
     × HoldsKey task known v p.kind × (length known.payload ≡ p.payload) × IsFed v.hashing task.setting.aad known
     × (has_auth_length known.chosen p.length ≡ true) × HoldsAuth known.chosen v.auth.items known.auth
-HoldsIn task known told n v (phases.Signed p) =
-    (told ≡ headers_told known.headers known.payload) × (n ≡ p.taken) × IsSigned task known v.chosen v.hashing v.auth.items p
-HoldsIn task known told n v (phases.Decided verdict) = ⊥
-HoldsIn task known told n v (phases.Settled verdict) = Counts verdict n × (is_authentic verdict ≡ true → task.inspects ≡ false)
-HoldsIn task known told n v (phases.Shaped p) = (p.taken ≡ n) × (task.inspects ≡ true)
+HoldsIn task known so_far n v (phases.Signed p) =
+    (so_far ≡ headers_so_far known.headers known.payload) × (n ≡ p.taken) × IsSigned task known v.chosen v.hashing v.auth.items p
+HoldsIn task known so_far n v (phases.Decided verdict) = ⊥
+HoldsIn task known so_far n v (phases.Settled verdict) = Counts verdict n × (is_authentic verdict ≡ true → task.inspects ≡ false)
+HoldsIn task known so_far n v (phases.Shaped p) = (p.taken ≡ n) × (task.inspects ≡ true)
 
 -- A reader for this task, which has taken n bytes, the payload B among them, means a reading of the bytes to come.
 -- (Once it has decided on a signature it means none.)
 pub record StandsFor {H D : ℕ} (task : Task) (B : List ℕ) (n : ℕ) (v : Reader H D) (reading : List ℕ → Reading) : Type 0 where
   pub known : Known
-  pub told : Told
-  pub shows : Shows task told v
+  pub so_far : SoFar
+  pub shows : Shows task so_far v
   pub payload_known : known.payload ≡ B
-  pub payload_told : told.payload ≡ B
-  pub holds : HoldsIn task known told n v v.phase
-  pub left : (z : List ℕ) → reading z ≡ left_in (rules_of H D task) known told v v.phase z
+  pub payload_so_far : so_far.payload ≡ B
+  pub holds : HoldsIn task known so_far n v v.phase
+  pub left : (z : List ℕ) → reading z ≡ left_in (rules_of H D task) known so_far v v.phase z
 
 -- The reader has taken the bytes s, the payload B among them.
 abbrev pub SoFar : {H D : ℕ} → Task → List ℕ → List ℕ → Reader H D → Type 0

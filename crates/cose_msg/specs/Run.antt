@@ -14,7 +14,7 @@ use Rattle.cose_msg.specs.Laws.{StandsBy}
 use Rattle.cose_msg.specs.Message.{message}
 use Rattle.cose_msg.specs.Reading.{Reading}
 use Rattle.cose_msg.specs.Rules.{Rules}
-use Rattle.cose_msg.specs.Shown.{Tells}
+use Rattle.cose_msg.specs.Shown.{ShowsReading}
 use Rattle.cose_msg.specs.Source.{is_detached_from}
 use Rattle.cose_msg.specs.Sink.{AppendsFront}
 use Rattle.cose_msg.specs.Task.{Task, rules_of}
@@ -90,12 +90,12 @@ pub record Run {A : Type 0} (rules : Rules) (answer_of : A → Answer) (s B : Li
   pub none_after_end : (n : ℕ) → n < length taken → (message rules (s ++ take n taken)).settled ≡ false
   pub answer : Answers answer_of (length (s ++ taken)) (length taken) result ended come_after (message rules (s ++ taken))
   -- The payload that is known now, less the one that was known before, went to the sink.
-  pub payload : (grown : List ℕ) × ((message rules (s ++ taken)).told.payload ≡ B ++ grown) × Grows contents contents_after (stop_in result) grown
+  pub payload : (grown : List ℕ) × ((message rules (s ++ taken)).so_far.payload ≡ B ++ grown) × Grows contents contents_after (stop_in result) grown
 
 -- Where the taking stopped, the bytes haven't settled the message.
-abbrev pub Stands : {H D : ℕ} {S : Type 0} {K : _} → Task → List ℕ → List ℕ → ℕ → Option Stop → Bool → Option (List ℕ) → Verifier H D S K → Type 0
-Stands {H} {D} task s B taken None ended come_after v = HasTaken task s B v × Ends taken ended come_after (message (rules_of H D task) s)
-Stands {H} {D} task s B taken (Some stop) ended come_after v = (message (rules_of H D task) s).settled ≡ false
+abbrev pub ReadsOn : {H D : ℕ} {S : Type 0} {K : _} → Task → List ℕ → List ℕ → ℕ → Option Stop → Bool → Option (List ℕ) → Verifier H D S K → Type 0
+ReadsOn {H} {D} task s B taken None ended come_after v = HasTaken task s B v × Ends taken ended come_after (message (rules_of H D task) s)
+ReadsOn {H} {D} task s B taken (Some stop) ended come_after v = (message (rules_of H D task) s).settled ≡ false
 
 -- A verifier that had taken the bytes s, the payload B among them, has taken bytes until none was wanted or the intake
 -- had ended, or until the intake or the sink failed.
@@ -104,10 +104,10 @@ pub record Drive {H D : ℕ} {S : Type 0} {K : _} (task : Task) (s B : List ℕ)
   pub part : List ℕ
   pub bytes : TakesUntilStop come come_after stop taken
   pub none_after_end : (n : ℕ) → n < length taken → (message (rules_of H D task) (s ++ take n taken)).settled ≡ false
-  pub stands : Stands task (s ++ taken) (B ++ part) (length taken) stop ended come_after v
+  pub reads_on : ReadsOn task (s ++ taken) (B ++ part) (length taken) stop ended come_after v
   pub counted : v.taken ≡ length (s ++ taken)
-  pub tells : Tells task (s ++ taken) v
-  pub payload : (message (rules_of H D task) (s ++ taken)).told.payload ≡ B ++ part
+  pub shows : ShowsReading task (s ++ taken) v
+  pub payload : (message (rules_of H D task) (s ++ taken)).so_far.payload ≡ B ++ part
   pub grows : Grows contents contents_after stop part
   -- A detached payload isn't among the bytes of the message.
   pub beside : is_detached_from task.setting.source ≡ true → part ≡ []

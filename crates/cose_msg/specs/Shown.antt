@@ -65,10 +65,10 @@ SignaturesAreOfSign1 = (room nesting : ℕ) (setting : Setting) (bytes : List �
 
 abbrev pub shown_in : Setting → Reading → Shown
 shown_in setting reading = record {
-  protected = reading.told.protected;
-  unprotected = reading.told.unprotected;
+  protected = reading.so_far.protected;
+  unprotected = reading.so_far.unprotected;
   sign_input = sign_input_in setting.aad reading.answer;
-  open_items = reading.told.open_items;
+  open_items = reading.so_far.open_items;
 }
 
 -- ---- of a reader
@@ -123,8 +123,8 @@ abbrev pub shown_of : {H D : ℕ} {S : Type 0} {K : _} → Verifier H D S K → 
 shown_of v = shown_by v.reader
 
 -- The verifier gives what the reading of these bytes of a message gives.
-abbrev pub Tells : {H D : ℕ} {S : Type 0} {K : _} → Task → List ℕ → Verifier H D S K → Type 0
-Tells {H} {D} task s v = shown_of v ≡ shown_in task.setting (message (rules_of H D task) s)
+abbrev pub ShowsReading : {H D : ℕ} {S : Type 0} {K : _} → Task → List ℕ → Verifier H D S K → Type 0
+ShowsReading {H} {D} task s v = shown_of v ≡ shown_in task.setting (message (rules_of H D task) s)
 
 -- How many bytes of the message it holds.
 abbrev pub held : {H D : ℕ} {S : Type 0} {K : _} → Verifier H D S K → ℕ

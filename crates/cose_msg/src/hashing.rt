@@ -2,6 +2,7 @@
 
 use arrayvec::ArrayVec;
 use cose_mac::{Alg, Kind, Running, structure_front};
+use cose_map::KeyMeaning;
 use std::mem;
 
 /// The MAC or the digest of a message's structure: none yet, one that is being fed, or the finished one.
@@ -23,15 +24,18 @@ impl Hashing {
     ghost use Rattle.cose_msg.specs.Hashing.{Hashes, authenticator, result_of};
     ghost use Rattle.cose_msg.specs.Message.{secret_of};
 
-    /// The MAC or the digest of the empty message, as the algorithm requires.
-    pub(crate) fn begin(alg: Alg, secret: &[u8]) -> Hashing
+    /// The MAC or the digest of the empty message, as the algorithm requires. The keys begin the MAC, where they are passed.
+    pub(crate) fn begin<K: KeyMeaning>(keys: Option<&K>, alg: Alg, secret: &[u8]) -> Hashing
         ensures { (found : Found) → found.alg ≡ alg → secret_of found.key.material ≡ secret.now
             → Hashes result found [] }
     {
-        if alg.is_mac() {
-            return Hashing::Running(Running::hmac(alg, secret));
+        if !alg.is_mac() {
+            return Hashing::Running(Running::digest(alg));
         }
-        Hashing::Running(Running::digest(alg))
+        match keys {
+            Some(keys) => Hashing::Running(keys.begin_mac(alg, secret)),
+            None => Hashing::Running(Running::hmac(alg, secret)),
+        }
     }
 
     /// Appends a piece.

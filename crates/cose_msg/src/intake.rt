@@ -45,7 +45,7 @@ impl<'a> SliceIntake<'a> {
     pub fn new(bytes: &'a [u8], cut: usize) -> Self
         requires { 0 < cut }
         ensures cut { cut_of result ≡ cut }
-        ensures told { ⟦<SliceIntake<'a> as Intake>⟧.to_come result ≡ Some bytes.entry.now }
+        ensures known { ⟦<SliceIntake<'a> as Intake>⟧.to_come result ≡ Some bytes.entry.now }
         ensures not_failed { ⟦<SliceIntake<'a> as Intake>⟧.has_failed result ≡ false }
         ensures not_ended { ⟦<SliceIntake<'a> as Intake>⟧.ended result ≡ false }
     {
@@ -99,7 +99,7 @@ pub struct ReadIntake<R: Read> {
 impl<R: Read> ReadIntake<R> {
     /// An intake of the bytes that the reader gives.
     pub fn new(reader: R) -> Self
-        ensures told { ⟦<ReadIntake<R> as Intake>⟧.to_come result ≡ R.remaining reader }
+        ensures known { ⟦<ReadIntake<R> as Intake>⟧.to_come result ≡ R.remaining reader }
         ensures not_failed { ⟦<ReadIntake<R> as Intake>⟧.has_failed result ≡ false }
         ensures not_ended { ⟦<ReadIntake<R> as Intake>⟧.ended result ≡ false }
     {

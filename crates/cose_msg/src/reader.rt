@@ -17,9 +17,9 @@ mod auth;
 mod choice;
 mod decide;
 mod front;
+mod getters;
 mod headers;
 mod payload;
-mod shown;
 
 /// The key that fits the message, and the algorithm that it is used with.
 #[derive(Clone, Copy)]
@@ -65,7 +65,7 @@ impl<'k, const H: usize, const D: usize> Reader<'k, H, D> {
     ghost use Rattle.cose_msg.specs.Message.{message};
     ghost use Rattle.cose_msg.specs.Phase.{grown, in_payload, is_settled, takes_bytes, want_of};
     ghost use Rattle.cose_msg.specs.Reader.{IsUntouched, Shows, StandsFor, keys_in};
-    ghost use Rattle.cose_msg.specs.Reading.{Reading, stop, Told};
+    ghost use Rattle.cose_msg.specs.Reading.{Reading, stop, SoFar};
     ghost use Rattle.cose_msg.specs.Source.{IsStated};
     ghost use Rattle.cose_msg.specs.Shown.{held_by, shown_by, shown_in};
     ghost use Rattle.cose_msg.specs.Task.{Task, keys_for, rules_of};
@@ -122,9 +122,9 @@ impl<'k, const H: usize, const D: usize> Reader<'k, H, D> {
 
     /// Refuses the message.
     fn refuse(&mut self, reason: Reason, place: u64)
-        ensures { (task : Task) (B : List ℕ) (n : ℕ) (told : Told) → Shows task told self.old
-            → told.payload ≡ B
-            → StandsFor task B n self.new (λ z. stop told reason place) }
+        ensures { (task : Task) (B : List ℕ) (n : ℕ) (so_far : SoFar) → Shows task so_far self.old
+            → so_far.payload ≡ B
+            → StandsFor task B n self.new (λ z. stop so_far reason place) }
     {
         self.phase = Phase::Settled(Verdict::Refused(Refusal { reason, place }));
     }
@@ -183,7 +183,7 @@ impl<'k, const H: usize, const D: usize> Reader<'k, H, D> {
         ensures fits { result ≤ length piece.now }
         ensures uses { is_settled self.old.phase ≡ false → 0 < result }
         ensures whole { length piece.now ≤ want_of self.old.phase → result ≡ length piece.now }
-        ensures stands { (task : Task) (B : List ℕ) (n : ℕ) (reading : List ℕ → Reading)
+        ensures reads_on { (task : Task) (B : List ℕ) (n : ℕ) (reading : List ℕ → Reading)
             → keys_in K.usable keys.entry ≡ keys_for task → IsStated stated task.setting.source
             → StandsFor task B n self.old reading
             → StandsFor task (grown self.old.phase B (take result piece.now)) (n + result) self.new

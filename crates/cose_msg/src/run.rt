@@ -8,7 +8,7 @@ ghost use Rattle.cose_msg.specs.Answer.{decided};
 ghost use Rattle.cose_msg.specs.Kept.{HasTaken, answered_again, bytes_taken, is_inspecting, is_stopped, kept_answer, kept_inspection};
 ghost use Rattle.cose_msg.specs.Message.{Setting, inspecting, message, verdict_of, verifying};
 ghost use Rattle.cose_msg.specs.Run.{Drive, Run, inspection, stop_in, stops_for_intake, stops_for_sink};
-ghost use Rattle.cose_msg.specs.Shown.{Tells, held};
+ghost use Rattle.cose_msg.specs.Shown.{ShowsReading, held};
 ghost use Rattle.cose_msg.specs.Source.{is_detached_from};
 ghost use Rattle.cose_msg.specs.Status.{status_in, status_left};
 ghost use Rattle.cose_msg.specs.Task.{Task, rules_of, to_inspect, to_verify};
@@ -35,13 +35,16 @@ pub(crate) fn take_message<'k, const H: usize, const D: usize, K: Keys<'k>, I: I
     requires some { 1 ≤ length chunk.old }
     requires limit { length chunk.old ≤ 65536 }
     requires goes_on { is_stopped verifier.old ≡ false }
-    ensures drive { (task : Task) (s B : List ℕ) → HasTaken task s B verifier.old →
-        Drive task s B (I.to_come intake.old) (I.to_come intake.new) (I.ended intake.new)
+    ensures drive { (task : Task) (before payload_before : List ℕ)
+        → HasTaken task before payload_before verifier.old →
+        Drive task before payload_before (I.to_come intake.old) (I.to_come intake.new)
+        (I.ended intake.new)
         (S.contents sink.old) (S.contents sink.new) (stop_in result) verifier.new }
     ensures stopped { is_stopped verifier.new ≡ is_err result }
     ensures inspects { is_inspecting verifier.new ≡ is_inspecting verifier.old }
     ensures detached { is_detached verifier.new ≡ is_detached verifier.old }
-    ensures context { (task : Task) (s B : List ℕ) → HasTaken task s B verifier.old
+    ensures context { (task : Task) (before payload_before : List ℕ)
+        → HasTaken task before payload_before verifier.old
         → setting_in verifier.new ≡ setting_in verifier.old }
     ensures held { held verifier.new ≤ 2 * H + 512 }
     ensures opened { opened verifier.new ≤ D }
@@ -52,18 +55,20 @@ pub(crate) fn take_message<'k, const H: usize, const D: usize, K: Keys<'k>, I: I
         ≡ (I.has_failed intake.old || stops_for_intake result) }
     ensures sink_failure { S.has_failed sink.new
         ≡ (S.has_failed sink.old || stops_for_sink result) }
-    ensures sure { (task : Task) (s B : List ℕ) → HasTaken task s B verifier.old
+    ensures sure { (task : Task) (before payload_before : List ℕ)
+        → HasTaken task before payload_before verifier.old
         → task.setting.payload_limit ≤ S.sure sink.old →
         stops_for_sink result ≡ false }
     // Of a message whose payload is detached nothing goes to the sink.
-    ensures beside { (task : Task) (s B : List ℕ) → HasTaken task s B verifier.old
+    ensures beside { (task : Task) (before payload_before : List ℕ)
+        → HasTaken task before payload_before verifier.old
         → is_detached_from task.setting.source ≡ true
         → (stops_for_sink result ≡ false) × (S.sure sink.old ≤ S.sure sink.new) }
 {
     // The law of messages that the proof cites.
     messages_are_bounded();
     'pieces: loop {
-        verifier.reader.waits();
+        verifier.reader.lemma_reading_so_far();
         let asked = verifier.request(chunk.len());
         if asked == 0 {
             return Ok(());
@@ -81,7 +86,7 @@ pub(crate) fn take_message<'k, const H: usize, const D: usize, K: Keys<'k>, I: I
         let piece = &chunk[..count];
         let in_payload = verifier.reader.is_in_payload();
         verifier.take_piece(piece);
-        verifier.reader.waits();
+        verifier.reader.lemma_reading_so_far();
         if in_payload && sink.put(piece).is_err() {
             verifier.stop();
             return Err(Stop::Sink);
@@ -117,23 +122,26 @@ pub fn verify<
     requires verifies { is_inspecting verifier.old ≡ false }
     requires attached { is_detached verifier.old ≡ false }
     // What was taken, the result, what the sink got, what the verifier gives, and the status of the message.
-    ensures run { (setting : Setting) (s B : List ℕ) → HasTaken (to_verify setting) s B verifier.old
+    ensures run { (setting : Setting) (before payload_before : List ℕ)
+        → HasTaken (to_verify setting) before payload_before verifier.old
         → (taken : List ℕ)
-        × Run (verifying H D setting (E.decides ec.now)) decided s B (I.to_come intake.old)
+        × Run (verifying H D setting (E.decides ec.now)) decided before payload_before
+        (I.to_come intake.old)
         (I.to_come intake.new) (I.ended intake.new)
         (S.contents sink.old) (S.contents sink.new) result taken
-        × (bytes_taken verifier.new ≡ length (s ++ taken))
-        × Tells (to_verify setting) (s ++ taken) verifier.new
+        × (bytes_taken verifier.new ≡ length (before ++ taken))
+        × ShowsReading (to_verify setting) (before ++ taken) verifier.new
         × (status_in verifier.new
-        ≡ status_left result (message (rules_of H D (to_verify setting)) (s ++ taken))) }
+        ≡ status_left result (message (rules_of H D (to_verify setting)) (before ++ taken))) }
     // (The payload so far, before the call, is that of the bytes so far.)
-    ensures before { (setting : Setting) (s B : List ℕ)
-        → HasTaken (to_verify setting) s B verifier.old
-        → (message (rules_of H D (to_verify setting)) s).told.payload ≡ B }
+    ensures before { (setting : Setting) (before payload_before : List ℕ)
+        → HasTaken (to_verify setting) before payload_before verifier.old
+        → (message (rules_of H D (to_verify setting)) before).so_far.payload ≡ payload_before }
     // Where the bytes to come are known to the contract, the verdict is that of all of them.
-    ensures answer { (setting : Setting) (s B bytes : List ℕ)
-        → HasTaken (to_verify setting) s B verifier.old → I.to_come intake.old ≡ Some bytes →
-        IfOk result (λ verdict. verdict_of H D setting (E.decides ec.now) (s ++ bytes)
+    ensures answer { (setting : Setting) (before payload_before bytes : List ℕ)
+        → HasTaken (to_verify setting) before payload_before verifier.old
+        → I.to_come intake.old ≡ Some bytes →
+        IfOk result (λ verdict. verdict_of H D setting (E.decides ec.now) (before ++ bytes)
         ≡ decided verdict) }
 
     // The answer is kept, and a kept one is answered again.
@@ -144,8 +152,8 @@ pub fn verify<
     ensures stopped { (result ≡ Err Stop.Again) ↔ (is_stopped verifier.old ≡ true) }
     ensures inspects { is_inspecting verifier.new ≡ false }
     ensures attached { is_detached verifier.new ≡ false }
-    ensures context { (setting : Setting) (s B : List ℕ)
-        → HasTaken (to_verify setting) s B verifier.old
+    ensures context { (setting : Setting) (before payload_before : List ℕ)
+        → HasTaken (to_verify setting) before payload_before verifier.old
         → setting_in verifier.new ≡ setting_in verifier.old }
     // What it holds of the message is within a bound, in addition to the `C` bytes of the call, and so is what is open
     // of it.
@@ -158,15 +166,16 @@ pub fn verify<
     ensures sink_failure { S.has_failed sink.new
         ≡ (S.has_failed sink.old || stops_for_sink result) }
     // A sink that is sure of every payload doesn't stop it.
-    ensures sure { (setting : Setting) (s B : List ℕ)
-        → HasTaken (to_verify setting) s B verifier.old → setting.payload_limit ≤ S.sure sink.old →
+    ensures sure { (setting : Setting) (before payload_before : List ℕ)
+        → HasTaken (to_verify setting) before payload_before verifier.old
+        → setting.payload_limit ≤ S.sure sink.old →
         stops_for_sink result ≡ false }
 {
     // Laws of messages that the proof cites.
     settled_stays();
     nothing_stands_after_the_bytes();
     deciding_goes_last();
-    verifier.reader.waits();
+    verifier.reader.lemma_reading_so_far();
     match verifier.kept_answer() {
         Some(answer) => return answer,
         None => {}
@@ -193,24 +202,26 @@ pub fn inspect<'k, const C: usize, const H: usize, const D: usize, K: Keys<'k>, 
     requires inspects { is_inspecting verifier.old ≡ true }
     requires attached { is_detached verifier.old ≡ false }
     // What was taken, the result, what the sink got, what the verifier gives, and the status of the message.
-    ensures run { (setting : Setting) (s B : List ℕ)
-        → HasTaken (to_inspect setting) s B verifier.old →
+    ensures run { (setting : Setting) (before payload_before : List ℕ)
+        → HasTaken (to_inspect setting) before payload_before verifier.old →
         (taken : List ℕ)
-        × Run (inspecting H D setting) inspection s B (I.to_come intake.old) (I.to_come intake.new)
+        × Run (inspecting H D setting) inspection before payload_before (I.to_come intake.old)
+        (I.to_come intake.new)
         (I.ended intake.new)
         (S.contents sink.old) (S.contents sink.new) result taken
-        × (bytes_taken verifier.new ≡ length (s ++ taken))
-        × Tells (to_inspect setting) (s ++ taken) verifier.new
+        × (bytes_taken verifier.new ≡ length (before ++ taken))
+        × ShowsReading (to_inspect setting) (before ++ taken) verifier.new
         × (status_in verifier.new
-        ≡ status_left result (message (rules_of H D (to_inspect setting)) (s ++ taken))) }
+        ≡ status_left result (message (rules_of H D (to_inspect setting)) (before ++ taken))) }
     // (The payload so far, before the call, is that of the bytes so far.)
-    ensures before { (setting : Setting) (s B : List ℕ)
-        → HasTaken (to_inspect setting) s B verifier.old
-        → (message (rules_of H D (to_inspect setting)) s).told.payload ≡ B }
+    ensures before { (setting : Setting) (before payload_before : List ℕ)
+        → HasTaken (to_inspect setting) before payload_before verifier.old
+        → (message (rules_of H D (to_inspect setting)) before).so_far.payload ≡ payload_before }
     // Where the bytes to come are known to the contract, the answer is that of all of them.
-    ensures answer { (setting : Setting) (s B bytes : List ℕ)
-        → HasTaken (to_inspect setting) s B verifier.old → I.to_come intake.old ≡ Some bytes →
-        IfOk result (λ inspected. (message (inspecting H D setting) (s ++ bytes)).answer
+    ensures answer { (setting : Setting) (before payload_before bytes : List ℕ)
+        → HasTaken (to_inspect setting) before payload_before verifier.old
+        → I.to_come intake.old ≡ Some bytes →
+        IfOk result (λ inspected. (message (inspecting H D setting) (before ++ bytes)).answer
         ≡ inspection inspected) }
 
     // The answer is kept, and a kept one is answered again.
@@ -221,8 +232,8 @@ pub fn inspect<'k, const C: usize, const H: usize, const D: usize, K: Keys<'k>, 
     ensures stopped { (result ≡ Err Stop.Again) ↔ (is_stopped verifier.old ≡ true) }
     ensures inspects { is_inspecting verifier.new ≡ true }
     ensures attached { is_detached verifier.new ≡ false }
-    ensures context { (setting : Setting) (s B : List ℕ)
-        → HasTaken (to_inspect setting) s B verifier.old
+    ensures context { (setting : Setting) (before payload_before : List ℕ)
+        → HasTaken (to_inspect setting) before payload_before verifier.old
         → setting_in verifier.new ≡ setting_in verifier.old }
     // What it holds of the message is within a bound, in addition to the `C` bytes of the call, and so is what is open
     // of it.
@@ -235,14 +246,15 @@ pub fn inspect<'k, const C: usize, const H: usize, const D: usize, K: Keys<'k>, 
     ensures sink_failure { S.has_failed sink.new
         ≡ (S.has_failed sink.old || stops_for_sink result) }
     // A sink that is sure of every payload doesn't stop it.
-    ensures sure { (setting : Setting) (s B : List ℕ)
-        → HasTaken (to_inspect setting) s B verifier.old → setting.payload_limit ≤ S.sure sink.old →
+    ensures sure { (setting : Setting) (before payload_before : List ℕ)
+        → HasTaken (to_inspect setting) before payload_before verifier.old
+        → setting.payload_limit ≤ S.sure sink.old →
         stops_for_sink result ≡ false }
 {
     // Laws of messages that the proof cites.
     settled_stays();
     nothing_stands_after_the_bytes();
-    verifier.reader.waits();
+    verifier.reader.lemma_reading_so_far();
     match verifier.kept_inspection() {
         Some(answer) => return answer,
         None => {}

@@ -6,7 +6,7 @@ ghost use Rattle.cose_msg.specs.Answer.{decided};
 ghost use Rattle.cose_msg.specs.Feed.{Uses, payload_in};
 ghost use Rattle.cose_msg.specs.Kept.{bytes_taken, is_inspecting, kept_answer};
 ghost use Rattle.cose_msg.specs.Message.{message as reading, verdict_of};
-ghost use Rattle.cose_msg.specs.Shown.{Tells, held};
+ghost use Rattle.cose_msg.specs.Shown.{ShowsReading, held};
 ghost use Rattle.cose_msg.specs.Slice.{IfPayload, outcome, outcome_of};
 ghost use Rattle.cose_msg.specs.Status.{status_in, status_of_answer};
 ghost use Rattle.cose_msg.specs.Task.{rules_of, to_verify};
@@ -81,18 +81,20 @@ pub fn verify_slice<'k, 'm, const H: usize, const D: usize, K: Keys<'k>, E: EcVe
     ensures outcome { outcome_of (length message.now)
         (verdict_of H D (setting_in verifier.old) (E.decides ec.now) message.now) ≡ outcome result }
     ensures payload { IfPayload result (λ payload. payload
-        ≡ (reading (rules_of H D (to_verify (setting_in verifier.old))) message.now).told.payload) }
+        ≡ (reading (rules_of H D (to_verify
+        (setting_in verifier.old))) message.now).so_far.payload) }
     // The verifier has taken the fewest bytes that settle the message, or all. It gives what these bytes have, and its status
     // is theirs.
     ensures counted { Uses (rules_of H D (to_verify (setting_in verifier.old))) [] message.now
         (bytes_taken verifier.new) }
-    ensures tells { Tells (to_verify (setting_in verifier.old)) message.now verifier.new }
+    ensures shows { ShowsReading (to_verify (setting_in verifier.old)) message.now verifier.new }
     ensures status { status_in verifier.new
         ≡ status_of_answer
         (reading (rules_of H D (to_verify (setting_in verifier.old))) message.now).answer }
     // Their verdict is kept.
     ensures kept { (verdict : Verdict)
-        × (verdict_of H D (setting_in verifier.old) (E.decides ec.now) message.now ≡ decided verdict)
+        × (verdict_of H D (setting_in verifier.old) (E.decides ec.now) message.now
+        ≡ decided verdict)
         × (kept_answer verifier.new ≡ Some (Ok verdict)) }
     ensures context { setting_in verifier.new ≡ setting_in verifier.old }
     ensures inspects { is_inspecting verifier.new ≡ false }
@@ -105,7 +107,7 @@ pub fn verify_slice<'k, 'm, const H: usize, const D: usize, K: Keys<'k>, E: EcVe
     deciding_goes_last();
     verifier.reset();
     let fed = verifier.feed(message);
-    verifier.reader.waits();
+    verifier.reader.lemma_reading_so_far();
     let verdict = verifier.conclude(ec);
     result_of(verdict, &fed, message)
 }

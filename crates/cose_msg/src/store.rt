@@ -1,10 +1,9 @@
 //! A store of a payload.
 
 ghost use Rattle.std.specs.Prelude.{◌≡◌, ◌≤◌, ◌<◌, ◌+◌, ℕ, Bool, true, false, List, [], Option, Some, IsErr, IsOk, OnErr, OnOk, length};
-ghost use Rattle.arrayvec.specs.ArrayVec.{array_vec_len};
 ghost use Rattle.cose_msg.specs.Intake.{marks};
 ghost use Rattle.cose_msg.specs.Sink.{Puts};
-ghost use Rattle.cose_msg.specs.Store.{room_left};
+ghost use Rattle.cose_msg.specs.Store.{room_left, unless_dropped};
 
 use crate::sink::{Sink, SinkFault};
 use arrayvec::ArrayVec;
@@ -15,10 +14,40 @@ use arrayvec::ArrayVec;
 #[derive(Drop)]
 pub struct Store<const L: usize> {
     failed: bool,
+    /// Whether what is held was dropped, and isn't shown any more.
+    dropped: bool,
     held: ArrayVec<u8, L>,
 }
 
+/// The lender of a store's bytes ([`Store::lend`]). The store keeps them, unless this is cleared.
+#[derive(Drop)]
+pub struct Lender<'s> {
+    dropped: &'s mut bool,
+}
+
+impl Lender<'_> {
+    /// Drops the bytes: the store holds nothing from then on.
+    pub fn clear(self)
+        ensures dropped { self.exit.0.now ≡ true }
+    {
+        *self.dropped = true;
+    }
+}
+
+/// The bytes, or none if they are dropped.
+fn shown(dropped: bool, bytes: &[u8]) -> &[u8]
+    ensures { result.now ≡ unless_dropped dropped bytes.now }
+{
+    if dropped {
+        return &[];
+    }
+    bytes
+}
+
 impl<const L: usize> Store<L> {
+    ghost use Rattle.std.specs.Borrow.{sem};
+    ghost use Rattle.cose_msg.specs.Lending.{LendsDropped};
+
     /// An empty store.
     pub fn new() -> Self
         ensures empty { ⟦<Store<L> as Sink>⟧.contents result ≡ Some [] }
@@ -27,6 +56,7 @@ impl<const L: usize> Store<L> {
     {
         Store {
             failed: false,
+            dropped: false,
             held: ArrayVec::new(),
         }
     }
@@ -38,6 +68,7 @@ impl<const L: usize> Store<L> {
         ensures sure { ⟦<Store<L> as Sink>⟧.sure self.new ≡ L }
     {
         self.held.clear();
+        self.dropped = false;
         self.failed = false;
     }
 
@@ -49,16 +80,43 @@ impl<const L: usize> Store<L> {
         ensures sure { ⟦<Store<L> as Sink>⟧.sure self.now
             ≡ room_left L (⟦<Store<L> as Sink>⟧.has_failed self.now) (length result.now) }
     {
-        self.held.as_slice()
+        shown(self.dropped, self.held.as_slice())
+    }
+
+    /// Lends the bytes that it holds, at most `L`, with their lender. A caller that refuses them clears the lender: unlike
+    /// [`Store::clear`] that can be done while something borrows them.
+    pub fn lend(&mut self) -> (&[u8], Lender<'_>)
+        ensures* lends { sem 𝓛 (LendsDropped L.row self.entry result.1.dropped) }
+        ensures held { ⟦<Store<L> as Sink>⟧.contents self.old ≡ Some result.0.now }
+        ensures limit { length result.0.now ≤ L }
+    {
+        let bytes = shown(self.dropped, self.held.as_slice());
+        let lender = Lender {
+            dropped: &mut self.dropped,
+        };
+        (bytes, lender)
+    }
+
+    /// Clears what was dropped, so that all that is held is shown.
+    fn forget_dropped(&mut self)
+        ensures held { self.new.held.items ≡ unless_dropped self.old.dropped self.old.held.items }
+        ensures kept { self.new.dropped ≡ false }
+        ensures failed { self.new.failed ≡ self.old.failed }
+    {
+        if self.dropped {
+            self.held.clear();
+            self.dropped = false;
+        }
     }
 }
 
 impl<const L: usize> Sink for Store<L> {
-    ghost contents = { λ store. Some store.held.items };
+    ghost contents = { λ store. Some (unless_dropped store.dropped store.held.items) };
 
     ghost has_failed = { λ store. store.failed };
 
-    ghost sure = { λ store. room_left L store.failed (array_vec_len store.held) };
+    ghost sure = { λ store. room_left L store.failed
+        (length (unless_dropped store.dropped store.held.items)) };
 
     fn put(&mut self, piece: &[u8]) -> Result<(), SinkFault>
         requires { 0 < length piece.now }
@@ -74,6 +132,7 @@ impl<const L: usize> Sink for Store<L> {
             ≡ ⟦<Store<L> as Sink>⟧.contents self.old) }
         ensures stays_failed { ⟦<Store<L> as Sink>⟧.has_failed self.old ≡ true → IsErr result }
     {
+        self.forget_dropped();
         if self.failed || self.held.try_extend_from_slice(piece).is_err() {
             self.failed = true;
             return Err(SinkFault);

@@ -10,7 +10,7 @@ use cose_map::{KeySet, Keys};
 mod decide;
 mod detached;
 mod feed;
-mod shown;
+mod getters;
 
 /// A verifier of one message at a time, of header buckets of at most `H` bytes each, nested at most `D` deep, under
 /// keys of the type `S`.
@@ -33,7 +33,7 @@ impl<'k, const H: usize, const D: usize, S: Keys<'k>> Verifier<'k, H, D, S> {
     ghost use Rattle.cose_head.specs.declared.reason.Reason.{Reason};
     ghost use Rattle.cose_msg.specs.declared.verdict.Verdict.{Verdict};
     ghost use Rattle.cose_msg.specs.Kept.{HasTaken, KeepsNoKey, bytes_taken, is_inspecting, kept_answer};
-    ghost use Rattle.cose_msg.specs.Shown.{Tells, held};
+    ghost use Rattle.cose_msg.specs.Shown.{ShowsReading, held};
     ghost use Rattle.cose_msg.specs.declared.status.Status.{Status};
     ghost use Rattle.cose_msg.specs.Status.{status_in};
     ghost use Rattle.cose_msg.specs.Task.{to_inspect, to_verify};
@@ -50,7 +50,7 @@ impl<'k, const H: usize, const D: usize, S: Keys<'k>> Verifier<'k, H, D, S> {
               inspects = inspecting;
             })
             [] [] result }
-        ensures tells { Tells
+        ensures shows { ShowsReading
             (record {
               setting = sourced stated (setting_of S.usable context.entry);
               inspects = inspecting;
@@ -92,7 +92,7 @@ impl<'k, const H: usize, const D: usize, S: Keys<'k>> Verifier<'k, H, D, S> {
         requires nesting { D ≤ 32 }
         requires external { length context.aad.now ≤ 65535 }
         ensures none_taken { HasTaken (to_verify (setting_of S.usable context.entry)) [] [] result }
-        ensures tells { Tells (to_verify (setting_of S.usable context.entry)) [] result }
+        ensures shows { ShowsReading (to_verify (setting_of S.usable context.entry)) [] result }
         ensures status { status_in result ≡ Status.More }
         ensures held { held result ≡ 256 }
         ensures context { setting_in result ≡ setting_of S.usable context.entry }
@@ -110,7 +110,7 @@ impl<'k, const H: usize, const D: usize, S: Keys<'k>> Verifier<'k, H, D, S> {
         requires external { length context.aad.now ≤ 65535 }
         ensures none_taken { HasTaken (to_inspect (setting_of S.usable context.entry)) [] []
             result }
-        ensures tells { Tells (to_inspect (setting_of S.usable context.entry)) [] result }
+        ensures shows { ShowsReading (to_inspect (setting_of S.usable context.entry)) [] result }
         ensures status { status_in result ≡ Status.More }
         ensures held { held result ≡ 256 }
         ensures context { setting_in result ≡ setting_of S.usable context.entry }
@@ -131,7 +131,7 @@ impl<'k, const H: usize, const D: usize, S: Keys<'k>> Verifier<'k, H, D, S> {
         ensures none_taken { HasTaken
             (to_verify (detaching payload_length (setting_of S.usable context.entry))) [] []
             result }
-        ensures tells { Tells
+        ensures shows { ShowsReading
             (to_verify (detaching payload_length (setting_of S.usable context.entry))) [] result }
         ensures status { status_in result ≡ Status.More }
         ensures held { held result ≡ 256 }
@@ -160,7 +160,7 @@ impl<'k, const H: usize, const D: usize, S: Keys<'k>> Verifier<'k, H, D, S> {
     /// Resets the verifier, in the same context and for the same purpose.
     pub fn reset(&mut self)
         ensures none_taken { HasTaken (task_of self.old) [] [] self.new }
-        ensures tells { Tells (task_of self.old) [] self.new }
+        ensures shows { ShowsReading (task_of self.old) [] self.new }
         ensures status { status_in self.new ≡ Status.More }
         ensures held { held self.new ≡ 256 }
         ensures keyless { KeepsNoKey self.new }

@@ -1,15 +1,21 @@
 -- The job of some arguments prints what they ask for.
-use Rattle.std.proofs.Common.{◌≡◌, ◌≤◌, ℕ, ℤ, Bool, true, false, List, Option, Some, Bor, length, option_map, refl, ap, subst, sym, ◌∙◌, arith}
+use Rattle.std.proofs.Common.{◌≡◌, ◌≤◌, ℕ, ℤ, Bool, true, false, List, Option, Some, None, Bor, length, option_map, refl, ap, subst, sym, ◌∙◌, arith}
+use Rattle.std.specs.Prelude.{nat_lt, option_and_then, take, unwrap_or}
 use Rattle.std.proofs.Math.Seq.{take-length}
 use Rattle.std.proofs.lemmas.Bool.{le-ltb}
+use Rattle.cose_cwt.specs.declared.requirements.Requirements.{Requirements}
 use Rattle.cose_cwt.specs.Claims.Audience.{text_value}
+use Rattle.cose_cwt.specs.Requirements.{RequirementsValue}
+use Rattle.cose_cwt.specs.Requirements.View.{requirements_value}
 use Rattle.cose_map.specs.Key.View.{contents}
 use Rattle.cose_msg.specs.declared.context.Wanted.{Wanted}
 use Rattle.cosecmd.specs.declared.job.Job.{Job}
-use Rattle.cosecmd.specs.declared.job.Job.TheVariants.{Cwt, Make}
+use Rattle.cosecmd.specs.declared.job.Job.TheVariants.{Cwt, Keys, Make}
 use Rattle.cosecmd.specs.declared.job.Question.{Question}
 use Rattle.cosecmd.specs.declared.job.Question.TheVariants as questions
+use Rattle.cosecmd.specs.declared.limits.Limits.{Limits}
 use Rattle.cosecmd.specs.declared.request.Cwt.{Cwt as CwtWords}
+use Rattle.cosecmd.specs.declared.request.Keys.{Keys as KeysWords}
 use Rattle.cosecmd.specs.declared.request.Make.{Make as MakeWords}
 use Rattle.cosecmd.specs.declared.request.Request.{Request}
 use Rattle.cosecmd.specs.declared.request.Request.TheVariants as asks
@@ -17,11 +23,13 @@ use Rattle.cosecmd.specs.declared.request.OwnedChecks.{OwnedChecks}
 use Rattle.cosecmd.specs.declared.job.Checks.{Checks}
 use Rattle.cosecmd.specs.declared.job.FileJob.{FileJob}
 use Rattle.cosecmd.specs.Admitted.{program_policy}
-use Rattle.cosecmd.specs.Printed.{EndsWith, Fails, Output, admitted_under, answered_under, digested_under, printed, shown, verified_under}
+use Rattle.cosecmd.specs.Printed.{EndsWith, Fails, Output, admitted_under, answered_under, digested_under, keys_listed, printed, shown, verified_under}
 use Rattle.cosecmd.specs.Job.{aad_of, is_make, job_of}
+use Rattle.cosecmd.specs.Options.{stated_part}
 use Rattle.cosecmd.specs.Stated.{answered_from, digested_from, verified_from}
+use Rattle.cosecmd.specs.Requirements.{requirements_for}
 use Rattle.cosecmd.specs.Under.{Under, job_under, owned_under}
-use Rattle.cosecmd.specs.Words.{admitted_for, asked_for, is_sequence, made_for, makes}
+use Rattle.cosecmd.specs.Arguments.{admitted_for, asked_for, is_sequence, made_for, makes}
 
 -- A run that ends with one output ends with an equal one.
 pub ends_with : {said asked : Output} (old new : Option (List ℕ)) (status : ℕ) → said ≡ asked → EndsWith said old new status → EndsWith asked old new status
@@ -34,10 +42,11 @@ fails_with old new e fails = subst (λ (output : Output). Fails output old new) 
 -- A message is made only by the command of this name.
 pub not_made : (request : Request) (A : Type 0) → (makes request ≡ true → A) → (A → ⊥) → makes request ≡ false
 not_made (asks.Make words) A by_name other = absurd (other (by_name refl))
-not_made (asks.Show wanted diagnostic) A by_name other = refl
+not_made (asks.Show limits wanted diagnostic) A by_name other = refl
 not_made (asks.Message question checks from) A by_name other = refl
 not_made (asks.Sequence checks) A by_name other = refl
 not_made (asks.Cwt words) A by_name other = refl
+not_made (asks.Keys words) A by_name other = refl
 
 -- And a sequence is asked for only by its option.
 pub not_of_sequence : (request : Request) (by_option : Bool) → (is_sequence request ≡ true → by_option ≡ true) → by_option ≡ false → is_sequence request ≡ false
@@ -64,27 +73,63 @@ pub message_external : (question : Question) (checks : Checks) (payload : Option
 message_external questions.Verdict checks payload job is few = rw is few
 message_external questions.Digest checks payload job is few = rw is few
 
-pub cwt_words : (words : CwtWords) (checks : Checks) (now : ℤ) (bytes : List ℕ) → job_under checks ≡ owned_under words.checks → now ≡ words.now →
-    printed (Cwt checks now words.leeway words.aud words.readable) bytes ≡ admitted_for words bytes
+pub cwt_words : (words : CwtWords) (checks : Checks) (now : ℤ) (requirements : Requirements) (bytes : List ℕ) → job_under checks ≡ owned_under words.checks → now ≡ words.now →
+    requirements_value requirements ≡ requirements_for now words.leeway words.required →
+    printed (Cwt checks now words.leeway words.aud requirements words.readable) bytes ≡ admitted_for words bytes
 unfolding printed
-cwt_words words checks now bytes same n =
-    rw n (ap (λ (under : Under). admitted_under under (program_policy words.now words.leeway (option_map text_value words.aud)) words.readable bytes) same)
+cwt_words words checks now requirements bytes same n required =
+    ap (λ (r : RequirementsValue). admitted_under (job_under checks) (program_policy now words.leeway (option_map text_value words.aud)) r words.readable bytes) required
+    ∙ ap (λ (at : ℤ). admitted_under (job_under checks) (program_policy at words.leeway (option_map text_value words.aud)) (requirements_for at words.leeway words.required) words.readable bytes) n
+    ∙ ap (λ (under : Under). admitted_under under (program_policy words.now words.leeway (option_map text_value words.aud)) (requirements_for words.now words.leeway words.required) words.readable bytes) same
+
+pub keys_words : (words : KeysWords) (keys : Bor (List ℕ)) (bytes : List ℕ) → keys.now ≡ words.keys.items → printed (Keys keys) bytes ≡ keys_listed words.keys.items
+unfolding printed
+keys_words words keys bytes k = rw k refl
 
 pub make_words : (words : MakeWords) (key aad : Bor (List ℕ)) (kid : Option (Bor (List ℕ))) (bytes : List ℕ) → key.now ≡ words.key.items → aad.now ≡ words.aad.items →
     option_map contents kid ≡ option_map (λ word. word.items) words.kid → printed (Make words.alg key words.length kid aad) bytes ≡ made_for words bytes
 unfolding printed
 make_words words key aad kid bytes k a v = rw (k, a, v) refl
 
-pub show_words : (request : Request) (wanted : Wanted) (diagnostic : Bool) (payload : Option (List ℕ)) (bytes : List ℕ) → request ≡ asks.Show wanted diagnostic →
-    shown wanted diagnostic bytes ≡ asked_for request payload bytes
-show_words request wanted diagnostic payload bytes is = rw is refl
+pub show_words : (request : Request) (limits : Limits) (wanted : Wanted) (diagnostic : Bool) (payload : Option (List ℕ)) (bytes : List ℕ) → request ≡ asks.Show limits wanted diagnostic →
+    shown limits wanted diagnostic bytes ≡ asked_for request payload bytes
+show_words request limits wanted diagnostic payload bytes is = rw is refl
 
 -- ---- a payload in a file
 
-pub file_words : (job : FileJob) (payload bytes : List ℕ) → job.length ≡ length payload → answered_from job payload bytes ≡ answered_under job.question (job_under job.checks) (Some payload) bytes
-file_words job payload bytes n =
-    let verdict : verified_from job payload bytes ≡ verified_under (job_under job.checks) (Some payload) bytes =
-    rw (n, le-ltb (length payload) (length payload) (omega arith), take-length payload) refl in
-    let digest : digested_from job payload bytes ≡ digested_under (job_under job.checks) (Some payload) bytes =
-    rw (n, le-ltb (length payload) (length payload) (omega arith), take-length payload) refl in
+-- The content of a file has as many bytes as are stated, and the payload is as many of them.
+pub record Part (stated : ℕ) (content payload : List ℕ) : Type 0 where
+  pub enough : nat_lt (length content) stated ≡ false
+  pub part : take stated content ≡ payload
+
+pub stated_is_part : (stated : Option ℕ) (content payload : List ℕ) → stated_part stated content ≡ Some payload → Part (unwrap_or stated (length content)) content payload
+stated_is_part None content payload is =
+    let same : content ≡ payload = cc in
+    record { enough = le-ltb (length content) (length content) (omega arith); part = take-length content ∙ same }
+stated_is_part (Some count) content payload is = go (nat_lt (length content) count) refl
+  where
+    go : (short : Bool) → nat_lt (length content) count ≡ short → Part count content payload
+    go true e =
+        let none : None ≡ Some payload = rw e at is in
+        cc
+    go false e =
+        let some : Some (take count content) ≡ Some payload = rw e at is in
+        let same : take count content ≡ payload = cc in
+        record { enough = e; part = same }
+
+-- A file whose part is known has a content that is known.
+pub record KnownPart (content : Option (List ℕ)) (stated : Option ℕ) (payload : List ℕ) : Type 0 where
+  pub bytes : List ℕ
+  pub known : content ≡ Some bytes
+  pub part : Part (unwrap_or stated (length bytes)) bytes payload
+
+pub known_part : (content : Option (List ℕ)) (stated : Option ℕ) (payload : List ℕ) → option_and_then (stated_part stated) content ≡ Some payload → KnownPart content stated payload
+known_part None stated payload is = cc
+known_part (Some bytes) stated payload is = record { bytes = bytes; known = refl; part = stated_is_part stated bytes payload is }
+
+pub file_words : (job : FileJob) (content payload bytes : List ℕ) → Part job.length content payload →
+    answered_from job content bytes ≡ answered_under job.question (job_under job.checks) (Some payload) bytes
+file_words job content payload bytes is =
+    let verdict : verified_from job content bytes ≡ verified_under (job_under job.checks) (Some payload) bytes = rw (is.enough, is.part) refl in
+    let digest : digested_from job content bytes ≡ digested_under (job_under job.checks) (Some payload) bytes = rw (is.enough, is.part) refl in
     rw (verdict, digest) refl

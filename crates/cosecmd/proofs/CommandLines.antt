@@ -7,21 +7,26 @@ use Rattle.clap.specs.Walk.{Text}
 use Rattle.clap.specs.declared.parser.matches.ArgMatches.{ArgMatches}
 use Rattle.clap.specs.declared.parser.matches.ArgMatches.TheViews.{out-ArgMatches}
 use Rattle.cose_map.specs.Key.{key_of}
+use Rattle.cose_cwt.specs.Claims.Audience.{text_value}
+use Rattle.cose_cwt.specs.Requirements.{RequirementsValue}
 use Rattle.cosecmd.specs.Admitted.{program_policy}
-use Rattle.cosecmd.specs.CommandLine.{IsFoundIn, IsReadFrom, begins_as_answer, command_prints, cwt_prints, line_prints, make_prints, matches_print}
-use Rattle.cosecmd.specs.Fields.{AreChecks, CwtFields, MakeFields, checks_in}
-use Rattle.cosecmd.specs.Options.{Options, ◌>>=◌, flag_in, key_in, text_in}
-use Rattle.cosecmd.specs.Printed.{Output, admitted_under, made_under}
+use Rattle.cosecmd.specs.CommandLine.{IsFoundIn, IsReadFrom, begins_as_answer, command_prints, cwt_prints, keys_prints, line_prints, make_prints, matches_print}
+use Rattle.cosecmd.specs.Fields.{AreChecks, CwtFields, KeysFields, MakeFields, checks_in}
+use Rattle.cosecmd.specs.Options.{Options, ◌>>=◌, flag_in, key_in, key_set_in, text_in}
+use Rattle.cosecmd.specs.Printed.{Output, admitted_under, keys_listed, made_under}
+use Rattle.cosecmd.specs.Requirements.{requirements_with}
 use Rattle.cosecmd.specs.Sequence.{verified_sequence}
 use Rattle.cosecmd.specs.Under.{Under, owned_under}
-use Rattle.cosecmd.specs.Words.{admitted_for, made_for}
+use Rattle.cosecmd.specs.Arguments.{admitted_for, made_for}
 use Rattle.cosecmd.specs.declared.request.Cwt.{Cwt}
+use Rattle.cosecmd.specs.declared.request.Keys.{Keys}
 use Rattle.cosecmd.specs.declared.request.Make.{Make}
 use Rattle.cosecmd.specs.declared.request.OwnedChecks.{OwnedChecks}
 use Rattle.cosecmd.specs.declared.reply.Reply.{Reply}
 use Rattle.cosecmd.specs.declared.reply.Status.TheVariants as statuses
-use Rattle.cosecmd.specs.declared.words.Parsed.{Parsed}
-use Rattle.cosecmd.specs.declared.words.Parsed.TheVariants.{Matches, Text as ClapText}
+use Rattle.cosecmd.specs.declared.arguments.Parsed.{Parsed}
+use Rattle.cosecmd.specs.declared.arguments.Parsed.TheVariants.{Matches, Text as ClapText}
+use Rattle.cosecmd.proofs.RequiredOptions.{same_requirements}
 
 -- The checks and the payload that the options state are those that they ask for, and this is printed for them.
 pub payload_asks : (prints : Under → Option (List ℕ) → List ℕ → Output) (under : Option Under) (found : Option (Option (List ℕ))) (checks : OwnedChecks) (payload : Option (Option (List ℕ))) (bytes : List ℕ) (said : Output)
@@ -50,13 +55,27 @@ cwt_asks content options words bytes said fields prints = go (checks_in content 
         let none : None ≡ Some said = rw checks at prints in
         cc
     go (Some under) checks =
-        let some : Some (admitted_under under (program_policy words.now words.leeway (text_in (codes "aud") options)) (flag_in (codes "text") options) bytes) ≡ Some said =
-        rw (checks, fields.now, fields.leeway) at prints in
-        let same : admitted_under under (program_policy words.now words.leeway (text_in (codes "aud") options)) (flag_in (codes "text") options) bytes ≡ said = cc in
-        let fields_said : admitted_for words bytes ≡ admitted_under (owned_under words.checks) (program_policy words.now words.leeway (text_in (codes "aud") options)) (flag_in (codes "text") options) bytes =
-        ap (λ (aud : Option (List ℕ)). admitted_under (owned_under words.checks) (program_policy words.now words.leeway aud) words.readable bytes) fields.aud
-        ∙ ap (λ (readable : Bool). admitted_under (owned_under words.checks) (program_policy words.now words.leeway (text_in (codes "aud") options)) readable bytes) fields.readable in
-        fields_said ∙ ap (λ (u : Under). admitted_under u (program_policy words.now words.leeway (text_in (codes "aud") options)) (flag_in (codes "text") options) bytes) (fields.checks under checks) ∙ same
+        let required : RequirementsValue = requirements_with words.now words.leeway options words.required.present.items in
+        let some : Some (admitted_under under (program_policy words.now words.leeway (text_in (codes "aud") options)) required (flag_in (codes "text") options) bytes) ≡ Some said =
+        rw (checks, fields.now, fields.leeway, fields.required.present) at prints in
+        let same : admitted_under under (program_policy words.now words.leeway (text_in (codes "aud") options)) required (flag_in (codes "text") options) bytes ≡ said = cc in
+        ap (λ (r : RequirementsValue). admitted_under (owned_under words.checks) (program_policy words.now words.leeway (option_map text_value words.aud)) r words.readable bytes)
+        (same_requirements words.now words.leeway options words.required fields.required) ∙ ap (λ (aud : Option (List ℕ)). admitted_under (owned_under words.checks) (program_policy words.now words.leeway aud) required words.readable bytes) fields.aud
+        ∙ ap (λ (readable : Bool). admitted_under (owned_under words.checks) (program_policy words.now words.leeway (text_in (codes "aud") options)) required readable bytes) fields.readable
+        ∙ ap (λ (u : Under). admitted_under u (program_policy words.now words.leeway (text_in (codes "aud") options)) required (flag_in (codes "text") options) bytes) (fields.checks under checks) ∙ same
+
+pub keys_asks : (content : List ℕ → Option (List ℕ)) (options : Options) (words : Keys) (said : Output) → KeysFields content options words →
+    keys_prints content options ≡ Some said → keys_listed words.keys.items ≡ said
+keys_asks content options words said fields prints = go (key_set_in content options) refl
+  where
+    go : (known : Option (List ℕ)) → key_set_in content options ≡ known → keys_listed words.keys.items ≡ said
+    go None keys =
+        let none : None ≡ Some said = rw keys at prints in
+        cc
+    go (Some known) keys =
+        let some : Some (keys_listed known) ≡ Some said = rw keys at prints in
+        let same : keys_listed known ≡ said = cc in
+        fields.keys known keys ∙ same
 
 pub make_asks : (content : List ℕ → Option (List ℕ)) (options : Options) (words : Make) (bytes : List ℕ) (said : Output) → MakeFields content options words →
     make_prints content options bytes ≡ Some said → made_for words bytes ≡ said

@@ -89,29 +89,29 @@ module _ (is_read : MessageIsRead) (is_message : UnrefusedIsMessage) (rules : Ru
       from false e = let far : length taken ≤ whole.taken = ltb-false whole.taken (length taken) e in omega (arith, far, begins.within)
 
 -- A run over the input, whatever decides on signatures in it, has taken these bytes and left the rest.
-module _ (setting : Setting) (bytes : List ℕ) (stays : MessageStays) (last : VerifyingGoesLast) (decides : Decides) (taken rest : List ℕ) (split : bytes ≡ taken ++ rest)
-    (ended : (message (verifying 1024 8 setting decides) taken).settled ≡ false → rest ≡ []) where
+module _ (header nesting : ℕ) (setting : Setting) (bytes : List ℕ) (stays : MessageStays) (last : VerifyingGoesLast) (decides : Decides) (taken rest : List ℕ) (split : bytes ≡ taken ++ rest)
+    (ended : (message (verifying header nesting setting decides) taken).settled ≡ false → rest ≡ []) where
   rules : Rules
-  rules = comparing 1024 8 setting
+  rules = comparing header nesting setting
 
-  verified_after : (s : List ℕ) → message (verifying 1024 8 setting decides) s ≡ answered (then_verified setting.aad decides) (message rules s)
+  verified_after : (s : List ℕ) → message (verifying header nesting setting decides) s ≡ answered (then_verified setting.aad decides) (message rules s)
   unfolding rules
-  verified_after s = last 1024 8 setting decides s
+  verified_after s = last header nesting setting decides s
 
-  as_settled : (s : List ℕ) → (message (verifying 1024 8 setting decides) s).settled ≡ (message rules s).settled
+  as_settled : (s : List ℕ) → (message (verifying header nesting setting decides) s).settled ≡ (message rules s).settled
   as_settled s = ap (λ (r : Reading). r.settled) (verified_after s)
 
   read_whole : message rules bytes ≡ message rules taken
   read_whole = all_come_to stays rules bytes taken rest split (λ unsettled. ended (as_settled taken ∙ unsettled))
 
   -- So many bytes of a payload are wanted.
-  pub wanted_whole : payload_wanted_by_digest setting bytes ≡ (message (verifying 1024 8 setting decides) taken).payload_wanted
+  pub wanted_whole : payload_wanted_by_digest header nesting setting bytes ≡ (message (verifying header nesting setting decides) taken).payload_wanted
   unfolding rules
   wanted_whole = ap (λ (r : Reading). r.payload_wanted) read_whole ∙ sym (ap (λ (r : Reading). r.payload_wanted) (verified_after taken))
 
-  module _ (is_read : MessageIsRead) (is_message : UnrefusedIsMessage) (earlier : (n : ℕ) → n < length taken → (message (verifying 1024 8 setting decides) (take n taken)).settled ≡ false)
-      (verdict : Verdict) (answer : (message (verifying 1024 8 setting decides) taken).answer ≡ decided verdict) (counts : Counts verdict (length taken)) (count : ℕ) (counted : count ≡ length taken) where
-    undigested : None ≡ sign_input_in setting.aad (message (comparing 1024 8 setting) taken).answer → said_of (followed_by rest verdict) ≡ digested_in setting bytes
+  module _ (is_read : MessageIsRead) (is_message : UnrefusedIsMessage) (earlier : (n : ℕ) → n < length taken → (message (verifying header nesting setting decides) (take n taken)).settled ≡ false)
+      (verdict : Verdict) (answer : (message (verifying header nesting setting decides) taken).answer ≡ decided verdict) (counts : Counts verdict (length taken)) (count : ℕ) (counted : count ≡ length taken) where
+    undigested : None ≡ sign_input_in setting.aad (message (comparing header nesting setting) taken).answer → said_of (followed_by rest verdict) ≡ digested_in header nesting setting bytes
     unfolding rules
     undigested none =
         let compared : (message rules taken).answer ≡ decided verdict =
@@ -121,7 +121,7 @@ module _ (setting : Setting) (bytes : List ℕ) (stays : MessageStays) (last : V
         ap (λ (a : Answer). trailed (length bytes) a) all ∙ trails bytes taken rest verdict split counts in
         sym (ap (digested_as setting.aad) ends)
 
-    module _ (input : SignInput) (signed : Some input ≡ sign_input_in setting.aad (message (comparing 1024 8 setting) taken).answer) where
+    module _ (input : SignInput) (signed : Some input ≡ sign_input_in setting.aad (message (comparing header nesting setting) taken).answer) where
       -- The message is whole, and ends with the bytes taken.
       is_whole : (whole : Whole) × ((message rules bytes).answer ≡ complete whole) × (whole.taken ≡ count) × (Some input ≡ sign_input_in setting.aad (complete whole))
       unfolding rules
@@ -130,7 +130,7 @@ module _ (setting : Setting) (bytes : List ℕ) (stays : MessageStays) (last : V
           let ends = ends_with_it is_read is_message rules setting.aad (λ whole. refl) taken w.0 w.1 (λ n short. sym (as_settled (take n taken)) ∙ earlier n short) in
           (w.0, ap (λ (r : Reading). r.answer) read_whole ∙ w.1, ends ∙ sym counted, signed ∙ ap (sign_input_in setting.aad) w.1)
 
-      longer : (refusal : Refusal) → Some refusal ≡ trailing_refusal rest count → said_of (Refused refusal) ≡ digested_in setting bytes
+      longer : (refusal : Refusal) → Some refusal ≡ trailing_refusal rest count → said_of (Refused refusal) ≡ digested_in header nesting setting bytes
       unfolding rules
       longer refusal far =
           let w = is_whole in
@@ -138,7 +138,7 @@ module _ (setting : Setting) (bytes : List ℕ) (stays : MessageStays) (last : V
           ap (λ (a : Answer). trailed (length bytes) a) w.1 ∙ refused_past bytes taken rest (complete w.0) count refusal (ap Some w.2) split counted far in
           sym (ap (digested_as setting.aad) e)
 
-      whole_and_signed : None ≡ trailing_refusal rest count → vouched (vouch_word input) ≡ digested_in setting bytes
+      whole_and_signed : None ≡ trailing_refusal rest count → vouched (vouch_word input) ≡ digested_in header nesting setting bytes
       unfolding rules
       whole_and_signed none =
           let w = is_whole in
@@ -147,12 +147,12 @@ module _ (setting : Setting) (bytes : List ℕ) (stays : MessageStays) (last : V
           ap (λ (a : Answer). trailed (length bytes) a) w.1 ∙ kept_at_end bytes taken (complete w.0) count (ap Some w.2) all counted in
           sym (ap (digested_as setting.aad) e ∙ ap (λ (i : Option SignInput). digested i (complete w.0)) (sym w.3))
 
-    by_rest : (left : List ℕ) → left ≡ rest → (input : SignInput) → Some input ≡ sign_input_in setting.aad (message (comparing 1024 8 setting) taken).answer →
-        digested_before left (Some input) count verdict ≡ digested_in setting bytes
+    by_rest : (left : List ℕ) → left ≡ rest → (input : SignInput) → Some input ≡ sign_input_in setting.aad (message (comparing header nesting setting) taken).answer →
+        digested_before left (Some input) count verdict ≡ digested_in header nesting setting bytes
     by_rest [] is input signed = whole_and_signed input signed (ap (λ (l : List ℕ). trailing_refusal l count) is)
     by_rest (byte ∷ more) is input signed = longer input signed (record { reason = Trailing; place = count }) (ap (λ (l : List ℕ). trailing_refusal l count) is)
 
-    pub is_digested : (input : Option SignInput) → input ≡ sign_input_in setting.aad (message (comparing 1024 8 setting) taken).answer → digested_before rest input count verdict ≡ digested_in setting bytes
+    pub is_digested : (input : Option SignInput) → input ≡ sign_input_in setting.aad (message (comparing header nesting setting) taken).answer → digested_before rest input count verdict ≡ digested_in header nesting setting bytes
     is_digested None none = undigested none
     is_digested (Some input) signed = by_rest rest refl input signed
 
@@ -162,16 +162,16 @@ pub says_equal : {F : Type 0} (reply : Result Reply F) (said asked : Output) →
 says_equal reply said asked same says = subst (λ (o : Output). IfOk reply (Says o)) same says
 
 -- The reply to an input whose bytes are known.
-pub says_digested : {F : Type 0} (setting : Setting) (bytes : List ℕ) (stays : MessageStays) (last : VerifyingGoesLast) (decides : Decides) (is_read : MessageIsRead) (is_message : UnrefusedIsMessage)
+pub says_digested : {F : Type 0} (header nesting : ℕ) (setting : Setting) (bytes : List ℕ) (stays : MessageStays) (last : VerifyingGoesLast) (decides : Decides) (is_read : MessageIsRead) (is_message : UnrefusedIsMessage)
     (come come_after : Option (List ℕ)) (taken : List ℕ) (verdict : Verdict) (count : ℕ) (input : Option SignInput) (reply : Result Reply F) → come ≡ Some bytes → Consumes come come_after taken →
-    ((message (verifying 1024 8 setting decides) taken).settled ≡ false → IsAtEnd come_after) →
-    ((n : ℕ) → n < length taken → (message (verifying 1024 8 setting decides) (take n taken)).settled ≡ false) → (message (verifying 1024 8 setting decides) taken).answer ≡ decided verdict →
-    Counts verdict (length taken) → count ≡ length taken → input ≡ sign_input_in setting.aad (message (comparing 1024 8 setting) taken).answer →
-    ((rest : List ℕ) → come_after ≡ Some rest → IfOk reply (Says (digested_before rest input count verdict))) → IfOk reply (Says (digested_in setting bytes))
-says_digested setting bytes stays last decides is_read is_message come come_after taken verdict count input reply told consumes ended earlier answer counts counted is says =
+    ((message (verifying header nesting setting decides) taken).settled ≡ false → IsAtEnd come_after) →
+    ((n : ℕ) → n < length taken → (message (verifying header nesting setting decides) (take n taken)).settled ≡ false) → (message (verifying header nesting setting decides) taken).answer ≡ decided verdict →
+    Counts verdict (length taken) → count ≡ length taken → input ≡ sign_input_in setting.aad (message (comparing header nesting setting) taken).answer →
+    ((rest : List ℕ) → come_after ≡ Some rest → IfOk reply (Says (digested_before rest input count verdict))) → IfOk reply (Says (digested_in header nesting setting bytes))
+says_digested header nesting setting bytes stays last decides is_read is_message come come_after taken verdict count input reply told consumes ended earlier answer counts counted is says =
     let o = left_of_input come come_after bytes taken told consumes in
-    let at_end : (message (verifying 1024 8 setting decides) taken).settled ≡ false → o.0 ≡ [] = λ unsettled. let end = rw o.1 at ended unsettled in end in
-    says_equal reply _ _ (is_digested setting bytes stays last decides taken o.0 o.2 at_end is_read is_message earlier verdict answer counts count counted input is) (says o.0 o.1)
+    let at_end : (message (verifying header nesting setting decides) taken).settled ≡ false → o.0 ≡ [] = λ unsettled. let end = rw o.1 at ended unsettled in end in
+    says_equal reply _ _ (is_digested header nesting setting bytes stays last decides taken o.0 o.2 at_end is_read is_message earlier verdict answer counts count counted input is) (says o.0 o.1)
 
 -- The replies of the three cases.
 pub says_unsigned : {F : Type 0} (rest : List ℕ) (input : Option SignInput) (count : ℕ) (verdict whole : Verdict) (reply : Result Reply F) → None ≡ input → whole ≡ followed_by rest verdict →

@@ -16,6 +16,10 @@ not_failed false = refl
 pub none_failed : (before between after : Bool) → between ≡ (before || false) → after ≡ (between || false) → after ≡ before
 none_failed before between after first second = second ∙ sym (not_failed between) ∙ first ∙ sym (not_failed before)
 
+-- A call of an intake that didn't fail, and one that may.
+pub then_failed : (before between after failed : Bool) → between ≡ (before || false) → after ≡ (between || failed) → after ≡ (before || failed)
+then_failed before between after failed first second = second ∙ ap (λ (b : Bool). b || failed) (first ∙ sym (not_failed before))
+
 -- What is answered then has no fault of the input.
 pub answered_unfailed : {A : Type 0} (before after : Bool) (reply : Result A Fault) → after ≡ before → IfErr reply (λ fault. fault ≡ faults.Memory) → after ≡ (before || fails_by_input reply)
 answered_unfailed before after (Ok answer) same memory = same ∙ not_failed before

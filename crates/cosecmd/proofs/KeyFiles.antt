@@ -3,7 +3,7 @@ use Rattle.std.proofs.Common.{◌≡◌, ℕ, ◌≤◌, ◌<◌, Bool, true, fa
 use Rattle.std.specs.Prelude.{IfSome}
 use Rattle.std.proofs.lemmas.Bool.{lt-ltb, ltb-false, ltb-true}
 use Rattle.std.proofs.lemmas.List.{length-take, take_all}
-use Rattle.cosecmd.specs.Under.{program_keys}
+use Rattle.cosecmd.specs.Printed.{keys_listed}
 use Rattle.cose_map.specs.KeySet.{keys_of}
 
 pub first_read : (left : Option (List ℕ)) (limit : ℕ) (old new bytes : List ℕ) → left ≡ Some bytes → limit ≡ 65536 → old ≡ [] →
@@ -18,16 +18,20 @@ whole_read read bytes is short =
     is ∙ take_all 65536 bytes fits
 
 -- So many bytes are no key set, whatever follows them.
-same_keys_by : (bytes : List ℕ) (long : Bool) → nat_lt 65536 (length bytes) ≡ long → program_keys (take 65536 bytes) ≡ program_keys bytes
+same_set_by : (bytes : List ℕ) (long : Bool) → nat_lt 65536 (length bytes) ≡ long →
+    (keys_of (take 65536 bytes) ≡ keys_of bytes) × (keys_listed (take 65536 bytes) ≡ keys_listed bytes)
 unfolding keys_of
-same_keys_by bytes false e =
+same_set_by bytes false e =
     let fits : length bytes ≤ 65536 = let f = ltb-false 65536 (length bytes) e in omega (arith, f) in
-    ap program_keys (take_all 65536 bytes fits)
-same_keys_by bytes true e =
+    (ap keys_of (take_all 65536 bytes fits), ap keys_listed (take_all 65536 bytes fits))
+same_set_by bytes true e =
     let more : 65536 < length bytes = ltb-true 65536 (length bytes) e in
     let n : length (take 65536 bytes) ≡ 65536 = let m = length-take 65536 bytes in omega (arith, m, more) in
     let long : nat_lt 65535 (length bytes) ≡ true = lt-ltb 65535 (length bytes) (omega (arith, more)) in
-    rw (n, long) refl
+    (rw (n, long) refl, rw (n, long) refl)
 
-pub keys_read : (read bytes : List ℕ) → read ≡ take 65536 bytes → program_keys read ≡ program_keys bytes
-keys_read read bytes is = ap program_keys is ∙ same_keys_by bytes (nat_lt 65536 (length bytes)) refl
+pub keys_read : (read bytes : List ℕ) → read ≡ take 65536 bytes → keys_of read ≡ keys_of bytes
+keys_read read bytes is = ap keys_of is ∙ (same_set_by bytes (nat_lt 65536 (length bytes)) refl).0
+
+pub list_read : (read bytes : List ℕ) → read ≡ take 65536 bytes → keys_listed read ≡ keys_listed bytes
+list_read read bytes is = ap keys_listed is ∙ (same_set_by bytes (nat_lt 65536 (length bytes)) refl).1

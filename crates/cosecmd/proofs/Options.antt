@@ -1,10 +1,12 @@
 -- What clap's getters give is what the options say.
 use Rattle.std.proofs.Common.{◌≡◌, ◌∙◌, ℕ, ℤ, List, [], Option, Some, None, Result, Ok, Err, Bor, ap, sym, refl, option_map, codes}
-use Rattle.std.specs.Prelude.{IfOk, pos, unwrap_or}
+use Rattle.std.specs.Prelude.{IfOk, find, option_and_then, pos, slice_get, unwrap_or}
+use Rattle.std.specs.Str.{bytes_eq}
 use Rattle.std.specs.Str.Parse.{ParsesSigned, ParsesUnsigned, digits_value, signed_digits_value, without_leading_plus}
 use mir.Syntax.{Width}
 use Rattle.clap.specs.Matches.{ReadsOne, found_of, one_text}
-use Rattle.clap.specs.Walk.{Text, one_of}
+use Rattle.clap.specs.Values.{read_as}
+use Rattle.clap.specs.Walk.{Row, Text, one_of, row_text}
 use Rattle.clap.specs.declared.parser.matches.ArgMatches.{ArgMatches}
 use Rattle.clap.proofs.WalkLemmas.{one_text-rows}
 use Rattle.cose_cwt.specs.Claims.Audience.{text_value}
@@ -61,6 +63,15 @@ number_found gives bits matches name number n parses none some is = go (one_text
     go (Some text) e =
         let there : one_of name (options_of matches) ≡ Some text = sym (one_text-rows (found_of matches) name) ∙ e in
         ap (option_map (λ (t : Text). digits_value 10 (without_leading_plus t))) there ∙ ap Some (number_read gives bits text number n parses (some text e) is)
+
+-- An option that isn't there states no number.
+number_of_row : (found : Option Row) → option_and_then (λ row. slice_get row.values 0) found ≡ None
+    → option_map (λ text. digits_value 10 (without_leading_plus text)) (option_and_then row_text found) ≡ None
+number_of_row None none = refl
+number_of_row (Some row) none = ap (λ (text : Option Text). option_map (λ it. digits_value 10 (without_leading_plus it)) (option_map (read_as row.reading) text)) none
+
+pub no_number : (name : Text) (options : Options) → text_in name options ≡ None → number_in name options ≡ None
+no_number name options none = number_of_row (find (λ row. bytes_eq row.id name) options) none
 
 integer_read : {E : Type 0} (gives : List ℕ → Result ℤ E → Type 0) (width : Width) (text : Text) (number : Option ℤ) (n : ℤ)
     → ((t : List ℕ) (r : Result ℤ E) → gives t r → ParsesSigned width 10 t r) → ReadsOne gives text number → number ≡ Some n → signed_digits_value 10 text ≡ n

@@ -21,7 +21,7 @@ pub said_with_keys : (set : Read (List KeyValue)) (keys : List KeyValue) (said :
 said_with_keys set keys said read = ap (λ (t : Read (List KeyValue)). with_keys t said) read
 
 pub says_verified : {F : Type 0} (under : Under) (keys : List KeyValue) (payload : Option (List ℕ)) (bytes : List ℕ) (verdict : Verdict) (reply : Result Reply F) →
-    under.keys ≡ Ok keys → input_answer (with_payload payload (setting_under under keys)) (vouching under.vouch) bytes ≡ decided verdict → IfOk reply (Says (said_of verdict)) →
+    under.keys ≡ Ok keys → input_answer under.room.header under.room.nesting (with_payload payload (setting_under under keys)) (vouching under.vouch) bytes ≡ decided verdict → IfOk reply (Says (said_of verdict)) →
     IfOk reply (Says (verified_under under payload bytes))
 says_verified under keys payload bytes verdict reply read answered said =
     let e : verified_under under payload bytes ≡ said_of verdict = said_with_keys under.keys keys _ read ∙ ap output_of answered in

@@ -12,28 +12,28 @@ use Rattle.cose_msg.specs.Answer.{Answer, decided, shaped}
 use Rattle.cose_msg.specs.Message.{Setting, inspecting, message}
 use Rattle.cose_msg.specs.Rules.{Rules}
 use Rattle.cosecmd.specs.declared.reply.Reply.{Reply}
-use Rattle.cosecmd.specs.Printed.{Output, Says, trailing_refusal, bucket_lines, pair_line, program_setting, said_of, shape_said, shown, shown_as, shown_of, trailed}
+use Rattle.cosecmd.specs.Printed.{Output, Says, trailing_refusal, bucket_lines, pair_line, program_setting, said_of, shape_said, shown_as, shown_in, shown_of, trailed}
 use Rattle.cosecmd.proofs.Trailing.{all_taken, kept_at_end, left_of_input, refused_past}
 
-module _ {F : Type 0} (setting : Setting) (keys : List KeyValue) (aad : List ℕ) (wanted : Wanted) (diagnostic : Bool) (under : setting ≡ program_setting keys aad wanted) (bytes : List ℕ) (reply : Result Reply F) where
+module _ {F : Type 0} (header nesting : ℕ) (setting : Setting) (keys : List KeyValue) (aad : List ℕ) (wanted : Wanted) (diagnostic : Bool) (under : setting ≡ program_setting keys aad wanted) (bytes : List ℕ) (reply : Result Reply F) where
   -- Inspecting looks at no key and at no external data.
   rules : Rules
-  rules = inspecting 1024 8 setting
+  rules = inspecting header nesting setting
 
-  shown_so : (output : Output) → shown_of diagnostic (length bytes) (message rules bytes) ≡ output → IfOk reply (Says output) → IfOk reply (Says (shown wanted diagnostic bytes))
+  shown_so : (output : Output) → shown_of diagnostic (length bytes) (message rules bytes) ≡ output → IfOk reply (Says output) → IfOk reply (Says (shown_in header nesting wanted diagnostic bytes))
   unfolding rules
   shown_so output e s =
-      let same : shown_of diagnostic (length bytes) (message rules bytes) ≡ shown wanted diagnostic bytes = ap (λ (x : Setting). shown_of diagnostic (length bytes) (message (inspecting 1024 8 x) bytes)) under in
+      let same : shown_of diagnostic (length bytes) (message rules bytes) ≡ shown_in header nesting wanted diagnostic bytes = ap (λ (x : Setting). shown_of diagnostic (length bytes) (message (inspecting header nesting x) bytes)) under in
       subst (λ (o : Output). IfOk reply (Says o)) (sym e ∙ same) s
 
-  pub says_refused : (refusal : Refusal) → (message (inspecting 1024 8 setting) bytes).answer ≡ decided (Refused refusal) → IfOk reply (Says (said_of (Refused refusal))) → IfOk reply (Says (shown wanted diagnostic bytes))
+  pub says_refused : (refusal : Refusal) → (message (inspecting header nesting setting) bytes).answer ≡ decided (Refused refusal) → IfOk reply (Says (said_of (Refused refusal))) → IfOk reply (Says (shown_in header nesting wanted diagnostic bytes))
   unfolding rules
   says_refused refusal e s =
       shown_so (said_of (Refused refusal)) (ap (λ (a : Answer). shown_as diagnostic (message rules bytes).told (trailed (length bytes) a)) e) s
 
   module _ (come come_after : Option (List ℕ)) (taken : List ℕ) (kind : Kind) (payload auth count : ℕ) (told : come ≡ Some bytes) (consumes : Consumes come come_after taken) (counted : count ≡ length taken)
-      (shape : (message (inspecting 1024 8 setting) bytes).answer ≡ shaped kind payload auth count) where
-    pub says_trailing : (refusal : Refusal) → ((rest : List ℕ) → come_after ≡ Some rest → Some refusal ≡ trailing_refusal rest count) → IfOk reply (Says (said_of (Refused refusal))) → IfOk reply (Says (shown wanted diagnostic bytes))
+      (shape : (message (inspecting header nesting setting) bytes).answer ≡ shaped kind payload auth count) where
+    pub says_trailing : (refusal : Refusal) → ((rest : List ℕ) → come_after ≡ Some rest → Some refusal ≡ trailing_refusal rest count) → IfOk reply (Says (said_of (Refused refusal))) → IfOk reply (Says (shown_in header nesting wanted diagnostic bytes))
     unfolding rules
     says_trailing refusal h s =
         let o = left_of_input come come_after bytes taken told consumes in
@@ -42,16 +42,16 @@ module _ {F : Type 0} (setting : Setting) (keys : List KeyValue) (aad : List ℕ
         shown_so (said_of (Refused refusal)) (ap (shown_as diagnostic (message rules bytes).told) e) s
 
     pub says_shape : (protected unprotected : Option (List Pair)) → ((rest : List ℕ) → come_after ≡ Some rest → None ≡ trailing_refusal rest count) →
-        protected ≡ (message (inspecting 1024 8 setting) taken).told.protected → unprotected ≡ (message (inspecting 1024 8 setting) taken).told.unprotected →
-        IfOk reply (Says (shape_said diagnostic kind payload auth count protected unprotected)) → IfOk reply (Says (shown wanted diagnostic bytes))
+        protected ≡ (message (inspecting header nesting setting) taken).so_far.protected → unprotected ≡ (message (inspecting header nesting setting) taken).so_far.unprotected →
+        IfOk reply (Says (shape_said diagnostic kind payload auth count protected unprotected)) → IfOk reply (Says (shown_in header nesting wanted diagnostic bytes))
     unfolding rules
     says_shape protected unprotected h p u s =
         let o = left_of_input come come_after bytes taken told consumes in
         let all = all_taken bytes taken o.0 count o.2 (h o.0 o.1) in
         let e : trailed (length bytes) (message rules bytes).answer ≡ shaped kind payload auth count =
         ap (λ (a : Answer). trailed (length bytes) a) shape ∙ kept_at_end bytes taken (shaped kind payload auth count) count refl all counted in
-        let q : protected ≡ (message rules bytes).told.protected = p ∙ ap (λ (t : List ℕ). (message rules t).told.protected) (sym all) in
-        let w : unprotected ≡ (message rules bytes).told.unprotected = u ∙ ap (λ (t : List ℕ). (message rules t).told.unprotected) (sym all) in
+        let q : protected ≡ (message rules bytes).so_far.protected = p ∙ ap (λ (t : List ℕ). (message rules t).so_far.protected) (sym all) in
+        let w : unprotected ≡ (message rules bytes).so_far.unprotected = u ∙ ap (λ (t : List ℕ). (message rules t).so_far.unprotected) (sym all) in
         shown_so (shape_said diagnostic kind payload auth count protected unprotected)
         (ap (shown_as diagnostic (message rules bytes).told) e ∙ rw (← q, ← w) refl) s
 

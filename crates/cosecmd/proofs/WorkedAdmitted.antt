@@ -32,28 +32,35 @@ use Rattle.cose_cwt.specs.Admission.{admitted, admitted_claims}
 use Rattle.cose_cwt.specs.Claims.{claims_of, texts_from}
 use Rattle.cose_cwt.specs.Claims.Form.{claims_table}
 use Rattle.cose_cwt.specs.Confirmation.{confirmation_of, members_table}
+use Rattle.cose_cwt.specs.declared.requirements.Requirements.{Requirements}
+use Rattle.cose_cwt.specs.Requirements.{RequirementsValue, unmet}
 use Rattle.cose_cwt.specs.Token.{of_claims}
 use Rattle.cosecmd.specs.declared.job.Job.{Job}
 use Rattle.cosecmd.specs.declared.job.Job.TheVariants.{Cwt}
 use Rattle.cosecmd.specs.declared.reply.Status.TheVariants as statuses
-use Rattle.cosecmd.specs.Admitted.{program_policy, token_told}
+use Rattle.cosecmd.specs.Admitted.{if_admitted, program_policy, token_told}
 use Rattle.cosecmd.specs.Printed.{Output, outcome_said, printed}
+use Rattle.cosecmd.specs.Requirements.{required_at}
 use Rattle.cosecmd.specs.Vouch.{vouching}
 use Rattle.cosecmd.proofs.WorkedPrinted.{hex, any, checks_for, line, Prints, plain, jefe, point}
 use Rattle.cosecmd.proofs.WorkedShown.{lines}
 use Rattle.hex.specs.Hex.{encode_with}
 
+-- Nothing is required.
+abbrev pub nothing : ℕ → ℕ → RequirementsValue
+nothing now leeway = required_at (pos now) leeway [] None None None None None
+
 -- What is printed for the claims of an authentic message, at a current time, with a leeway, and for the audience that a
 -- text names.
 unfoldable said : ℕ → ℕ → Option String → List ℕ → Output
-unfolding admitted claims_of claims_table members_table confirmation_of texts_from key_of key_table material_of check_pairs children_of items_from look head_of_item bare_head read head depth_of is_utf8 chars lib.Utf8.encode digits encode_with
-said now leeway aud payload = outcome_said false (of_claims (admitted_claims 8 (program_policy (pos now) leeway (option_map codes aud)) payload))
+unfolding unmet admitted claims_of claims_table members_table confirmation_of texts_from key_of key_table material_of check_pairs children_of items_from look head_of_item bare_head read head depth_of is_utf8 chars lib.Utf8.encode digits encode_with
+said now leeway aud payload = outcome_said false (if_admitted (nothing now leeway) (of_claims (admitted_claims 8 (program_policy (pos now) leeway (option_map codes aud)) payload)))
 
 -- The claims of RFC 8392 appendix A.1: exp is 1444064944 at 59, nbf 1443944944 at 65, and the audience is at 32.
-abbrev example : String
+abbrev pub example : String
 example = "a70175636f61703a2f2f61732e6578616d706c652e636f6d02656572696b77037818636f61703a2f2f6c696768742e6578616d706c652e636f6d041a5612aeb0051a5610d9f0061a5610d9f007420b71"
 
-abbrev example_lines : Output
+abbrev pub example_lines : Output
 example_lines = lines (
     "admitted"
     ∷ "iss 636f61703a2f2f61732e6578616d706c652e636f6d"
@@ -143,11 +150,14 @@ unfolding said
 confirmed_sign = refl
 
 -- To admit a token of either kind under a key set, at a current time, whatever its audience.
+abbrev pub no_requirements : ℕ → Requirements
+no_requirements now = record { now = pos now; leeway = 0; present = record { ref_ptr = (0, 0); now = [] }; iss = None; sub = None; aud = None; lifetime = None; age = None; issued = false }
+
 abbrev admitting : List ℕ → ℕ → Job
-admitting keys now = Cwt (checks_for keys [] wants.Tagged None) (pos now) 0 None false
+admitting keys now = Cwt (checks_for keys [] wants.Tagged None) (pos now) 0 None (no_requirements now) false
 
 unfoldable prints : List ℕ → ℕ → List ℕ → Output
-unfolding printed admitted claims_of claims_table members_table confirmation_of texts_from keys_of key_of key_table material_of message with_head with_string with_item bucket_of bucket_table check_pairs pair_faults chosen children_of items_from look head_of_item bare_head read head depth_of is_utf8 chars lib.Utf8.encode digits encode_with
+unfolding printed unmet admitted claims_of claims_table members_table confirmation_of texts_from keys_of key_of key_table material_of message with_head with_string with_item bucket_of bucket_table check_pairs pair_faults chosen children_of items_from look head_of_item bare_head read head depth_of is_utf8 chars lib.Utf8.encode digits encode_with
 prints keys now input = printed (admitting keys now) input
 
 refused_keys : (now : ℕ) (input : List ℕ) → Prints (λ keys. prints keys now input) (
@@ -187,13 +197,13 @@ found = record { key = record { kid = None; alg = None; operations = None; mater
 
 unfoldable said_behind : ℕ → ℕ → Bool → Output
 unfolding said
-said_behind now n holds = outcome_said false (token_told n (program_policy (pos now) 0 None) (hex example)
+said_behind now n holds = outcome_said false (token_told 8 n (program_policy (pos now) 0 None) (nothing now 0) (hex example)
     (verified [] (vouching None) (Some found) (if holds then decided (Authentic Mac0 Hmac256 80 123) else refused BadAuth 89)))
 
 -- For an authentic message with this payload; its claims nest at most 8 deep.
 unfoldable said_of_payload : List ℕ → Output
 unfolding said
-said_of_payload payload = outcome_said false (token_told 0 (program_policy (pos 0) 0 None) payload (decided (Authentic Mac0 Hmac256 0 0)))
+said_of_payload payload = outcome_said false (token_told 8 0 (program_policy (pos 0) 0 None) (nothing 0 0) payload (decided (Authentic Mac0 Hmac256 0 0)))
 
 nested_claims : Prints said_of_payload (
     ("a10a8181818181818100", lines ("admitted" ∷ [])) ∷

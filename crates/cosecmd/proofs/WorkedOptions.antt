@@ -9,12 +9,15 @@ use Rattle.cose_map.specs.Key.{key_of}
 use Rattle.cose_msg.specs.declared.context.Wanted.TheVariants.{Mac0, Sign1, Tagged}
 use Rattle.cosecmd.specs.Admitted.{program_policy}
 use Rattle.cosecmd.specs.CommandLine.{line_prints}
-use Rattle.cosecmd.specs.Options.{algorithm_in, bytes_in, integer_in, key_set_in, kind_in, number_in, optional_bytes_in, payload_in, text_in}
+use Rattle.cosecmd.specs.Limits.{room_of}
+use Rattle.cosecmd.specs.Options.{algorithm_in, bytes_in, integer_in, key_set_in, kind_in, limits_in, number_in, optional_bytes_in, payload_in, text_in}
 use Rattle.cosecmd.specs.Printed.{admitted_under, made_under, shown, verified_under}
+use Rattle.cosecmd.specs.Requirements.{required_at}
 use Rattle.cosecmd.specs.Under.{Under, program_keys}
+use Rattle.cosecmd.specs.declared.limits.Limits.TheVariants.{Small, Large}
 
 -- An option with this argument; and one whose range has no negative number.
-abbrev given : Text → Text → Row
+abbrev pub given : Text → Text → Row
 given name argument = record {
   id = name;
   values = argument ∷ [];
@@ -23,7 +26,7 @@ given name argument = record {
   reading = readings.AsWritten;
 }
 
-abbrev number : Text → Text → Row
+abbrev pub number : Text → Text → Row
 number name argument = record (given name argument) { reading = readings.WithoutMinus }
 
 -- No file is known; and each file has a byte and then its name.
@@ -72,6 +75,15 @@ kind = refl
 no_kind : kind_in [] ≡ Tagged
 no_kind = refl
 
+limits : limits_in (given (codes "limits") (codes "large") ∷ []) ≡ Large
+limits = refl
+
+small_limits : limits_in (given (codes "limits") (codes "small") ∷ []) ≡ Small
+small_limits = refl
+
+no_limits : limits_in [] ≡ Small
+no_limits = refl
+
 of_the_file : key_set_in any_file (given (codes "keys") (codes "00") ∷ given (codes "keys-file") (codes "a") ∷ []) ≡ Some (1 ∷ 97 ∷ [])
 of_the_file = refl
 
@@ -81,34 +93,58 @@ unknown_file = refl
 in_the_message : payload_in no_file [] ≡ Some None
 in_the_message = refl
 
+-- The file `ab` has the bytes 1, 97 and 98.
+abbrev of_stated : Text → List Row
+of_stated stated = given (codes "payload-file") (codes "ab") ∷ number (codes "payload-length") stated ∷ []
+
+stated_fewer : payload_in any_file (of_stated (codes "2")) ≡ Some (Some (1 ∷ 97 ∷ []))
+stated_fewer = refl
+
+stated_all : payload_in any_file (of_stated (codes "3")) ≡ Some (Some (1 ∷ 97 ∷ 98 ∷ []))
+stated_all = refl
+
+stated_more : payload_in any_file (of_stated (codes "4")) ≡ None
+stated_more = refl
+
+stated_none : payload_in any_file (given (codes "payload-file") (codes "ab") ∷ []) ≡ Some (Some (1 ∷ 97 ∷ 98 ∷ []))
+stated_none = refl
+
 -- ---- command lines
 
-show_line : (bytes : List ℕ) → line_prints no_file (Some (codes "show", given (codes "kind") (codes "sign1") ∷ [])) bytes ≡ Some (shown Sign1 false bytes)
+show_line : (bytes : List ℕ) → line_prints no_file (Some (codes "show", given (codes "kind") (codes "sign1") ∷ [])) bytes ≡ Some (shown Small Sign1 false bytes)
 show_line bytes = refl
 
-diagnostic_line : (bytes : List ℕ) → line_prints no_file (Some (codes "show", given (codes "kind") (codes "mac0") ∷ given (codes "diagnostic") (codes "true") ∷ [])) bytes ≡ Some (shown Mac0 true bytes)
+diagnostic_line : (bytes : List ℕ) → line_prints no_file (Some (codes "show", given (codes "kind") (codes "mac0") ∷ given (codes "diagnostic") (codes "true") ∷ [])) bytes ≡ Some (shown Small Mac0 true bytes)
 diagnostic_line bytes = refl
 
 -- Where a flag is left out, clap gives it this argument.
-plain_line : (bytes : List ℕ) → line_prints no_file (Some (codes "show", given (codes "diagnostic") (codes "false") ∷ [])) bytes ≡ Some (shown Tagged false bytes)
+plain_line : (bytes : List ℕ) → line_prints no_file (Some (codes "show", given (codes "diagnostic") (codes "false") ∷ [])) bytes ≡ Some (shown Small Tagged false bytes)
 plain_line bytes = refl
+
+large_line : (bytes : List ℕ) → line_prints no_file (Some (codes "show", given (codes "limits") (codes "large") ∷ [])) bytes ≡ Some (shown Large Tagged false bytes)
+large_line bytes = refl
 
 -- Under the key set without keys, the array 80, and with this argument of `--vouch`.
 abbrev no_keys : Option (List ℕ) → Under
-no_keys vouch = record { keys = program_keys (128 ∷ []); aad = []; wanted = Tagged; vouch = vouch }
+no_keys vouch = record { room = room_of Small; keys = program_keys (room_of Small) (128 ∷ []); aad = []; wanted = Tagged; vouch = vouch }
 
 verify_line : (bytes : List ℕ) → line_prints any_file (Some (codes "verify", given (codes "keys") (codes "80") ∷ given (codes "payload-file") (codes "a") ∷ given (codes "vouch") (codes "01") ∷ [])) bytes ≡
     Some (verified_under (no_keys (Some (1 ∷ []))) (Some (1 ∷ 97 ∷ [])) bytes)
 unfolding decode_pairs
 verify_line bytes = refl
 
+large_verify_line : (bytes : List ℕ) → line_prints no_file (Some (codes "verify", given (codes "keys") (codes "80") ∷ given (codes "limits") (codes "large") ∷ [])) bytes ≡
+    Some (verified_under (record (no_keys None) { room = room_of Large; keys = program_keys (room_of Large) (128 ∷ []) }) None bytes)
+unfolding decode_pairs
+large_verify_line bytes = refl
+
 cwt_line : (bytes : List ℕ) → line_prints no_file (Some (codes "cwt", given (codes "keys") (codes "80") ∷ number (codes "now") (codes "9") ∷ number (codes "leeway") (codes "5") ∷ given (codes "aud") (codes "x") ∷ [])) bytes ≡
-    Some (admitted_under (no_keys None) (program_policy (pos 9) 5 (Some (120 ∷ []))) false bytes)
+    Some (admitted_under (no_keys None) (program_policy (pos 9) 5 (Some (120 ∷ []))) (required_at (pos 9) 5 [] None None None None None) false bytes)
 unfolding decode_pairs
 cwt_line bytes = refl
 
 text_line : (bytes : List ℕ) → line_prints no_file (Some (codes "cwt", given (codes "keys") (codes "80") ∷ number (codes "now") (codes "9") ∷ number (codes "leeway") (codes "5") ∷ given (codes "text") (codes "true") ∷ [])) bytes ≡
-    Some (admitted_under (no_keys None) (program_policy (pos 9) 5 None) true bytes)
+    Some (admitted_under (no_keys None) (program_policy (pos 9) 5 None) (required_at (pos 9) 5 [] None None None None None) true bytes)
 unfolding decode_pairs
 text_line bytes = refl
 

@@ -35,6 +35,8 @@ use Rattle.cose_msg.specs.Reading.{with_head, with_string, with_item}
 use Rattle.cosecmd.specs.declared.job.Checks.{Checks}
 use Rattle.cosecmd.specs.declared.job.Job.{Job}
 use Rattle.cosecmd.specs.declared.job.Job.TheVariants.{Verify}
+use Rattle.cosecmd.specs.declared.limits.Limits.{Limits}
+use Rattle.cosecmd.specs.declared.limits.Limits.TheVariants.{Small}
 use Rattle.cosecmd.specs.declared.reply.Status.{Status}
 use Rattle.cosecmd.specs.declared.reply.Status.TheVariants as statuses
 use Rattle.cosecmd.specs.Printed.{Output, code_of, output_of, printed, trailed}
@@ -70,8 +72,11 @@ Prints f rows = map (λ row. f (hex row.0)) rows ≡ map (λ row. row.1) rows
 abbrev pub word : List ℕ → Bor (List ℕ)
 word bytes = record { ref_ptr = (0, 0); now = bytes }
 
+abbrev pub checks_within : Limits → List ℕ → List ℕ → Wanted → Option (List ℕ) → Checks
+checks_within limits keys aad wanted vouch = record { keys = word keys; aad = word aad; wanted = wanted; vouch = option_map word vouch; limits = limits }
+
 abbrev pub checks_for : List ℕ → List ℕ → Wanted → Option (List ℕ) → Checks
-checks_for keys aad wanted vouch = record { keys = word keys; aad = word aad; wanted = wanted; vouch = option_map word vouch }
+checks_for = checks_within Small
 
 abbrev verifying : List ℕ → Option (List ℕ) → Job
 verifying keys vouch = Verify (checks_for keys [] wants.Tagged vouch) None

@@ -17,6 +17,7 @@ use Rattle.cose_msg.specs.declared.context.Wanted.TheVariants as wants
 use Rattle.cose_text.specs.Diagnostic.{diagnostic}
 use Rattle.cosecmd.specs.declared.job.Job.{Job}
 use Rattle.cosecmd.specs.declared.job.Job.TheVariants.{Show}
+use Rattle.cosecmd.specs.declared.limits.Limits.TheVariants.{Small}
 use Rattle.cosecmd.specs.declared.reply.Status.TheVariants as statuses
 use Rattle.cosecmd.specs.Printed.{Output, printed}
 use Rattle.cosecmd.proofs.WorkedPrinted.{hex, line, Prints}
@@ -38,38 +39,38 @@ lines texts = record { text = all texts; status = statuses.Done }
 abbrev after : String → ℕ → List ℕ
 after front n = hex front ++ replicate n 0
 
-shape_of_mac0 : prints (Show wants.Tagged false) (after "d18443a10105a0 426869 5820" 32) ≡ lines ("shape mac0 payload 2 auth 32 taken 44" ∷ "protected 01 05" ∷ [])
+shape_of_mac0 : prints (Show Small wants.Tagged false) (after "d18443a10105a0 426869 5820" 32) ≡ lines ("shape mac0 payload 2 auth 32 taken 44" ∷ "protected 01 05" ∷ [])
 unfolding prints
 shape_of_mac0 = refl
 
-shape_of_sign1 : prints (Show wants.Tagged false) (after "d28443a10126a0 40 5840" 64) ≡ lines ("shape sign1 payload 0 auth 64 taken 74" ∷ "protected 01 26" ∷ [])
+shape_of_sign1 : prints (Show Small wants.Tagged false) (after "d28443a10126a0 40 5840" 64) ≡ lines ("shape sign1 payload 0 auth 64 taken 74" ∷ "protected 01 26" ∷ [])
 unfolding prints
 shape_of_sign1 = refl
 
-nested_value : prints (Show wants.Tagged false) (after "d18443a10105a10a81818100 426869 5820" 32) ≡
+nested_value : prints (Show Small wants.Tagged false) (after "d18443a10105a10a81818100 426869 5820" 32) ≡
     lines ("shape mac0 payload 2 auth 32 taken 49" ∷ "protected 01 05" ∷ "unprotected 0a 81818100" ∷ [])
 unfolding prints
 nested_value = refl
 
 -- In the order of the message, the bytes as they were received; no key is required, and no length of the tag.
-order_of_message : prints (Show wants.Mac0 false) (hex "8447a2180a61780105a0 40 40") ≡ lines ("shape mac0 payload 0 auth 0 taken 12" ∷ "protected 180a 6178" ∷ "protected 01 05" ∷ [])
+order_of_message : prints (Show Small wants.Mac0 false) (hex "8447a2180a61780105a0 40 40") ≡ lines ("shape mac0 payload 0 auth 0 taken 12" ∷ "protected 180a 6178" ∷ "protected 01 05" ∷ [])
 unfolding prints
 order_of_message = refl
 
 -- In diagnostic notation too: a text ends no line, and no quotes.
-in_notation : prints (Show wants.Mac0 true) (hex "844ba2180a6522203a0a0a0105a1186482f943c1a16101f6 40 40") ≡ lines (
+in_notation : prints (Show Small wants.Mac0 true) (hex "844ba2180a6522203a0a0a0105a1186482f943c1a16101f6 40 40") ≡ lines (
     "shape mac0 payload 0 auth 0 taken 26" ∷ "protected 180a 6522203a0a0a 10: \"\\\" :\\u000a\\u000a\"" ∷ "protected 01 05 1: 5" ∷
     "unprotected 1864 82f943c1a16101f6 100: [float'43c1', {\"\\u0001\": null}]" ∷ [])
 unfolding prints
 in_notation = refl
 
 -- The tag of a CWT may come first.
-in_cwt : prints (Show wants.Tagged false) (hex "d83dd18443a10105a0 40 40") ≡ lines ("shape mac0 payload 0 auth 0 taken 11" ∷ "protected 01 05" ∷ [])
+in_cwt : prints (Show Small wants.Tagged false) (hex "d83dd18443a10105a0 40 40") ≡ lines ("shape mac0 payload 0 auth 0 taken 11" ∷ "protected 01 05" ∷ [])
 unfolding prints
 in_cwt = refl
 
 -- The limits are those of `verify`, and no label is understood in addition to the standard's.
-at_the_limits : Prints (prints (Show wants.Tagged false)) (
+at_the_limits : Prints (prints (Show Small wants.Tagged false)) (
     ("d184590400", line "refused Truncated at 5" statuses.Refused) ∷
     ("d184590401", line "refused PastRoom at 2" statuses.Refused) ∷
     ("d1844aa10a8181818181818100", line "refused Truncated at 13" statuses.Refused) ∷
@@ -84,7 +85,7 @@ at_the_limits : Prints (prints (Show wants.Tagged false)) (
 unfolding prints
 at_the_limits = refl
 
-not_shown : Prints (prints (Show wants.Tagged false)) (
+not_shown : Prints (prints (Show Small wants.Tagged false)) (
     ("", line "refused Truncated at 0" statuses.Refused) ∷
     ("d18443a10105a0 40 40 ff", line "refused Trailing at 9" statuses.Refused) ∷
     ("8443a10105a0 40 40", line "refused WrongTag at 0" statuses.Refused) ∷

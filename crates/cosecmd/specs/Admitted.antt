@@ -1,24 +1,33 @@
 -- What the program prints of a token (RFC 8392 section 7.2), and how it ends: the claims that are admitted, or why there are none.
-use Rattle.std.specs.Prelude.{ℕ, ℤ, Bool, true, false, List, [], ◌∷◌, ◌++◌, length, map, Option, Some, None, Ok, Err, option_map, codes, nat_lt, if◌then◌else◌}
+use Rattle.std.specs.Prelude.{ℕ, ℤ, Bool, true, false, List, [], ◌∷◌, ◌++◌, length, map, Option, Some, None, Result, Ok, Err, option_map, codes, nat_lt, if◌then◌else◌}
 use Rattle.std.specs.List.{concat}
 use Rattle.std.specs.Fmt.{decimal, signed_decimal}
 use Rattle.cose_head.specs.declared.reason.Reason.TheVariants.{Trailing}
 use Rattle.cose_head.specs.declared.refusal.Refusal.{Refusal}
 use Rattle.cose_head.specs.Refusal.{refusal_text}
 use Rattle.cose_map.specs.Key.Value.{KeyValue, MaterialValue, symmetric, elliptic, YValue, coordinate, sign}
+use Rattle.cose_msg.specs.declared.verdict.Stop.{Stop}
 use Rattle.cose_msg.specs.declared.verdict.Stop.TheVariants as causes
 use Rattle.cose_msg.specs.declared.verdict.Verdict.TheVariants.{Authentic, Refused}
 use Rattle.cose_msg.specs.Answer.{Answer, decided, complete, shaped}
 use Rattle.cose_msg.specs.Message.{Decides, Setting}
 use Rattle.cose_msg.specs.Reading.{Reading}
+use Rattle.cose_cwt.specs.declared.claims.Claims.{Claims}
+use Rattle.cose_cwt.specs.declared.required.TokenStop.{TokenStop}
+use Rattle.cose_cwt.specs.declared.required.TokenStop.TheVariants.{Cwt, Unmet}
+use Rattle.cose_cwt.specs.declared.requirements.Unmet.{Unmet as UnmetRequirement}
+use Rattle.cose_cwt.specs.declared.token.CwtStop.{CwtStop}
 use Rattle.cose_cwt.specs.declared.token.CwtStop.TheVariants as stops
 use Rattle.cose_cwt.specs.Admission.{PolicyValue, admitted_claims}
 use Rattle.cose_cwt.specs.Claims.{ClaimsValue, auds_of, cti_of, exp_of, iat_of, iss_of, nbf_of, sub_of}
+use Rattle.cose_cwt.specs.Claims.View.{claims_value}
 use Rattle.cose_cwt.specs.Confirmation.{ConfirmationValue}
-use Rattle.cose_cwt.specs.Token.{Outcome, of_claims, read_as}
+use Rattle.cose_cwt.specs.Requirements.{RequirementsValue, met}
+use Rattle.cose_cwt.specs.Token.{Outcome, of_claims, read_as, stop_in}
 use Rattle.cosecmd.specs.declared.reply.Status.{Status}
 use Rattle.cosecmd.specs.declared.reply.Status.TheVariants as statuses
 use Rattle.cosecmd.specs.Readable.{date_notation, text_notation}
+use Rattle.cosecmd.specs.Requirements.{unmet_line}
 use Rattle.hex.specs.Hex.{encode_lower}
 
 -- What a token has to meet: where there is a text and the token names an audience, the token is for that text. Without
@@ -26,30 +35,62 @@ use Rattle.hex.specs.Hex.{encode_lower}
 abbrev pub program_policy : ℤ → ℕ → Option (List ℕ) → PolicyValue
 program_policy now leeway aud = record { now = now; leeway = leeway; mine = option_map (λ text. text ∷ []) aud }
 
--- No byte may follow a token whose claims are admitted: here the whole input has n bytes, and the token `taken` bytes.
-abbrev pub unless_trailed : ℕ → ℕ → Outcome → Outcome
-unless_trailed n taken (Ok claims) =
-    if nat_lt taken n then Err (stops.Message (record { reason = Trailing; place = taken })) else Ok claims
+-- The claims of a token that is admitted and meets the requirements, or why there are none.
+abbrev pub Admission : Type 0
+Admission = Result ClaimsValue TokenStop
+
+abbrev pub if_met : Result (Unit {0}) UnmetRequirement → Admission → Admission
+if_met (Ok done) admission = admission
+if_met (Err unmet) admission = Err (Unmet unmet)
+
+abbrev pub admission_seen : Result Claims TokenStop → Admission
+admission_seen (Ok claims) = Ok (claims_value claims)
+admission_seen (Err stop) = Err stop
+
+-- Why the verifier stopped, if it did.
+abbrev pub stopped_in : Admission → Option Stop
+stopped_in (Ok claims) = None
+stopped_in (Err (Cwt stop)) = stop_in (Err stop)
+stopped_in (Err (Unmet unmet)) = None
+
+-- What is required is looked at after the claims are admitted.
+abbrev pub if_admitted : RequirementsValue → Outcome → Admission
+if_admitted requirements (Ok claims) = if_met (met requirements claims) (Ok claims)
+if_admitted requirements (Err stop) = Err (Cwt stop)
+
+-- And only then what follows the token: no byte may. Here the whole input has n bytes, and the token `taken` bytes.
+abbrev pub or_trailing : Option Refusal → ClaimsValue → Admission
+or_trailing None claims = Ok claims
+or_trailing (Some refusal) claims = Err (Cwt (stops.Message refusal))
+
+-- The same of admitted claims, where this refusal is that of what follows the token.
+abbrev pub required_then : RequirementsValue → Option Refusal → ClaimsValue → Admission
+required_then requirements trailing claims = if_met (met requirements claims) (or_trailing trailing claims)
+
+abbrev pub unless_trailed : ℕ → ℕ → Admission → Admission
+unless_trailed n taken (Ok claims) = or_trailing (if nat_lt taken n then Some (record { reason = Trailing; place = taken }) else None) claims
 unless_trailed n taken (Err stop) = Err stop
 
 -- An outcome that verifying doesn't have.
-abbrev pub none_told : Outcome
-none_told = Err (stops.Stopped causes.Again)
+abbrev pub none_so_far : Admission
+none_so_far = Err (Cwt (stops.Stopped causes.Again))
 
--- The outcome for an input of n bytes as a token, by the payload and the answer of its message. Claims nest at most 8
--- deep.
-abbrev pub token_told : ℕ → PolicyValue → List ℕ → Answer → Outcome
-token_told n policy payload (decided (Authentic kind alg size taken)) = unless_trailed n taken (of_claims (admitted_claims 8 policy payload))
-token_told n policy payload (decided (Refused refusal)) = Err (stops.Message refusal)
-token_told n policy payload (complete whole) = none_told
-token_told n policy payload (shaped kind size auth taken) = none_told
+-- The outcome for an input of n bytes as a token, by the payload and the answer of its message. Claims nest at most
+-- `nesting` deep.
+abbrev pub token_told : ℕ → ℕ → PolicyValue → RequirementsValue → List ℕ → Answer → Admission
+token_told nesting n policy requirements payload (decided (Authentic kind alg size taken)) =
+    unless_trailed n taken (if_admitted requirements (of_claims (admitted_claims nesting policy payload)))
+token_told nesting n policy requirements payload (decided (Refused refusal)) = Err (Cwt (stops.Message refusal))
+token_told nesting n policy requirements payload (complete whole) = none_so_far
+token_told nesting n policy requirements payload (shaped kind size auth taken) = none_so_far
 
-abbrev pub token_read : ℕ → PolicyValue → Reading → Outcome
-token_read n policy reading = token_told n policy reading.told.payload reading.answer
+abbrev pub token_read : ℕ → ℕ → PolicyValue → RequirementsValue → Reading → Admission
+token_read nesting n policy requirements reading = token_told nesting n policy requirements reading.so_far.payload reading.answer
 
--- The token that a whole input is, in buckets of at most 1,024 bytes that nest at most 8 deep.
-abbrev pub input_token : Setting → Decides → PolicyValue → List ℕ → Outcome
-input_token setting decides policy bytes = token_read (length bytes) policy (read_as 1024 8 setting decides bytes)
+-- The token that a whole input is, in buckets of at most `header` bytes that nest at most `nesting` deep.
+abbrev pub input_token : ℕ → ℕ → Setting → Decides → PolicyValue → RequirementsValue → List ℕ → Admission
+input_token header nesting setting decides policy requirements bytes =
+    token_read nesting (length bytes) policy requirements (read_as header nesting setting decides bytes)
 
 -- A line for a value, where there is one, and otherwise none.
 abbrev pub where_present : {A : Type 0} → (A → List ℕ) → Option A → List ℕ
@@ -100,14 +141,23 @@ claims_lines readable claims =
 abbrev pub refused_line : List ℕ → Refusal → List ℕ
 refused_line part refusal = codes "refused " ++ part ++ codes " " ++ refusal_text refusal ++ codes "\n"
 
-abbrev pub outcome_text : Bool → Outcome → List ℕ
-outcome_text readable (Ok claims) = codes "admitted\n" ++ claims_lines readable claims
-outcome_text readable (Err (stops.Message refusal)) = refused_line (codes "message") refusal
-outcome_text readable (Err (stops.Claims refusal)) = refused_line (codes "claims") refusal
-outcome_text readable (Err (stops.Stopped stop)) = []
+-- Why there are no claims: the message is refused, its claims are, or they don't meet what is required.
+abbrev pub stop_text : CwtStop → List ℕ
+stop_text (stops.Message refusal) = refused_line (codes "message") refusal
+stop_text (stops.Claims refusal) = refused_line (codes "claims") refusal
+stop_text (stops.Stopped stop) = []
 
-abbrev pub outcome_status : Outcome → Status
+abbrev pub stop_status : CwtStop → Status
+stop_status (stops.Message refusal) = statuses.Refused
+stop_status (stops.Claims refusal) = statuses.Refused
+stop_status (stops.Stopped stop) = statuses.Fault
+
+abbrev pub outcome_text : Bool → Admission → List ℕ
+outcome_text readable (Ok claims) = codes "admitted\n" ++ claims_lines readable claims
+outcome_text readable (Err (Cwt stop)) = stop_text stop
+outcome_text readable (Err (Unmet unmet)) = unmet_line unmet
+
+abbrev pub outcome_status : Admission → Status
 outcome_status (Ok claims) = statuses.Done
-outcome_status (Err (stops.Message refusal)) = statuses.Refused
-outcome_status (Err (stops.Claims refusal)) = statuses.Refused
-outcome_status (Err (stops.Stopped stop)) = statuses.Fault
+outcome_status (Err (Cwt stop)) = stop_status stop
+outcome_status (Err (Unmet unmet)) = statuses.Refused

@@ -12,16 +12,17 @@ use Rattle.cose_map.specs.Key.{key_of}
 use Rattle.cose_msg.specs.Sink.{AppendsFront}
 use Rattle.cosecmd.specs.Admitted.{program_policy}
 use Rattle.cosecmd.specs.Faults.{WritesLine}
-use Rattle.cosecmd.specs.Options.{Options, ◌>>=◌, algorithm_in, bytes_in, flag_in, integer_in, key_in, key_set_in, kind_in, number_in, optional_bytes_in, payload_in, text_in}
+use Rattle.cosecmd.specs.Options.{Options, ◌>>=◌, algorithm_in, bytes_in, flag_in, integer_in, key_in, key_set_in, kind_in, limits_in, number_in, optional_bytes_in, payload_in, text_in}
 use Rattle.cosecmd.specs.Fields.{checks_in, digest_checks_in}
-use Rattle.cosecmd.specs.Printed.{EndsWith, Fails, Output, admitted_under, digested_under, made_under, shown, verified_under}
+use Rattle.cosecmd.specs.Printed.{EndsWith, Fails, Output, admitted_under, digested_under, keys_listed, made_under, shown, verified_under}
+use Rattle.cosecmd.specs.Requirements.{requirements_in}
 use Rattle.cosecmd.specs.Sequence.{verified_sequence}
-use Rattle.cosecmd.specs.Words.{asked_for, payload_for}
+use Rattle.cosecmd.specs.Arguments.{asked_for, payload_for}
 use Rattle.cosecmd.specs.declared.fault.Fault.{Fault}
 use Rattle.cosecmd.specs.declared.reply.Status.TheVariants as statuses
 use Rattle.cosecmd.specs.declared.request.Request.{Request}
-use Rattle.cosecmd.specs.declared.words.Parsed.{Parsed}
-use Rattle.cosecmd.specs.declared.words.Parsed.TheVariants.{Matches, Text as Reply}
+use Rattle.cosecmd.specs.declared.arguments.Parsed.{Parsed}
+use Rattle.cosecmd.specs.declared.arguments.Parsed.TheVariants.{Matches, Text as Reply}
 
 abbrev pub message_prints : (List ℕ → Option (List ℕ)) → Options → List ℕ → Option Output
 message_prints content options bytes = do
@@ -44,13 +45,19 @@ cwt_prints content options bytes = do
   under ← checks_in content options
   now ← integer_in (codes "now") options
   leeway ← number_in (codes "leeway") options
-  Some (admitted_under under (program_policy now leeway (text_in (codes "aud") options)) (flag_in (codes "text") options) bytes)
+  requirements ← requirements_in now leeway options
+  Some (admitted_under under (program_policy now leeway (text_in (codes "aud") options)) requirements (flag_in (codes "text") options) bytes)
 
 abbrev pub digest_prints : (List ℕ → Option (List ℕ)) → Options → List ℕ → Option Output
 digest_prints content options bytes = do
   under ← digest_checks_in content options
   payload ← payload_in content options
   Some (digested_under under payload bytes)
+
+abbrev pub keys_prints : (List ℕ → Option (List ℕ)) → Options → Option Output
+keys_prints content options = do
+  keys ← key_set_in content options
+  Some (keys_listed keys)
 
 abbrev pub make_prints : (List ℕ → Option (List ℕ)) → Options → List ℕ → Option Output
 make_prints content options bytes = do
@@ -64,10 +71,11 @@ make_prints content options bytes = do
 -- By the name of the command and its options.
 abbrev pub command_prints : (List ℕ → Option (List ℕ)) → Text → Options → List ℕ → Option Output
 command_prints content name options bytes =
-    if bytes_eq name (codes "show") then Some (shown (kind_in options) (flag_in (codes "diagnostic") options) bytes)
+    if bytes_eq name (codes "show") then Some (shown (limits_in options) (kind_in options) (flag_in (codes "diagnostic") options) bytes)
     else if bytes_eq name (codes "verify") then verify_prints content options bytes
     else if bytes_eq name (codes "cwt") then cwt_prints content options bytes
     else if bytes_eq name (codes "digest") then digest_prints content options bytes
+    else if bytes_eq name (codes "keys") then keys_prints content options
     else if bytes_eq name (codes "make") then make_prints content options bytes
     else None
 
@@ -101,7 +109,7 @@ begins_with word text = bytes_eq word (take (length word) text)
 -- An answer begins with one of these words. No text of clap's does.
 abbrev pub begins_as_answer : Text → Bool
 begins_as_answer text =
-    begins_with (codes "authentic ") text || begins_with (codes "refused ") text || begins_with (codes "admitted") text || begins_with (codes "shape ") text || begins_with (codes "vouch ") text
+    begins_with (codes "authentic ") text || begins_with (codes "refused ") text || begins_with (codes "admitted") text || begins_with (codes "shape ") text || begins_with (codes "vouch ") text || begins_with (codes "key at ") text
 
 -- A text of clap's is help or the version, or says what is wrong with the arguments.
 abbrev pub IsReadFrom : List Text → Parsed → Type 0

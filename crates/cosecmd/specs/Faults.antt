@@ -13,7 +13,7 @@ use Rattle.cose_map.specs.Key.View.{contents}
 use Rattle.cosecmd.specs.declared.fault.Fault.{Fault}
 use Rattle.cosecmd.specs.declared.fault.Fault.TheVariants as faults
 use Rattle.cosecmd.specs.declared.job.Job.{Job}
-use Rattle.cosecmd.specs.declared.job.Job.TheVariants.{Show, Verify, Cwt, Digest, Make}
+use Rattle.cosecmd.specs.declared.job.Job.TheVariants.{Show, Verify, Cwt, Digest, Keys, Make}
 
 -- Whether the fault says that the input failed.
 abbrev pub is_of_input : Fault → Bool
@@ -56,10 +56,11 @@ fault_of_making (Err refusal) alg kid aad payload_length = Some (faults.Key refu
 abbrev pub making_fault : Job → Option Fault
 making_fault (Make alg key payload_length kid aad) =
     fault_of_making (key_of (record { bytes = key.now; place = 0 })) alg (option_map contents kid) aad.now payload_length
-making_fault (Show wanted diagnostic) = None
+making_fault (Show limits wanted diagnostic) = None
 making_fault (Verify checks payload) = None
-making_fault (Cwt checks now leeway aud readable) = None
+making_fault (Cwt checks now leeway aud requirements readable) = None
 making_fault (Digest checks payload) = None
+making_fault (Keys keys) = None
 
 abbrev pub fault_text : Fault → List ℕ
 fault_text faults.Memory = codes "fault memory"

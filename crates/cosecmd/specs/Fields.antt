@@ -1,16 +1,25 @@
 -- What the arguments of a command ask for: each field is the value of the option of its name.
 use Rattle.std.specs.Prelude.{◌≡◌, ℕ, List, Option, Some, None, codes, option_map}
+use Rattle.cose_map.specs.KeySet.{keys_of}
 use Rattle.cose_msg.specs.declared.context.Wanted.TheVariants as wants
 use Rattle.cose_cwt.specs.Claims.Audience.{text_value}
-use Rattle.cosecmd.specs.Options.{Options, ◌>>=◌, algorithm_in, bytes_in, flag_in, integer_in, key_in, key_set_in, kind_in, number_in, optional_bytes_in, text_in}
+use Rattle.cosecmd.specs.Options.{Options, ◌>>=◌, algorithm_in, bytes_in, flag_in, integer_in, key_in, key_set_in, kind_in, limits_in, number_in, optional_bytes_in, text_in}
+use Rattle.cosecmd.specs.Limits.{Room, room_of}
+use Rattle.cosecmd.specs.Printed.{keys_listed}
+use Rattle.cosecmd.specs.Requirements.{RequiredFields}
 use Rattle.cosecmd.specs.Under.{Under, owned_under, program_keys}
 use Rattle.cosecmd.specs.declared.request.Cwt.{Cwt}
+use Rattle.cosecmd.specs.declared.request.Keys.{Keys}
 use Rattle.cosecmd.specs.declared.request.Make.{Make}
 use Rattle.cosecmd.specs.declared.request.OwnedChecks.{OwnedChecks}
 
 -- The keys of these bytes are those of the argument, or of the file that is named, where its bytes are known.
 abbrev pub HasKeysOf : (List ℕ → Option (List ℕ)) → Options → List ℕ → Type 0
-HasKeysOf content options keys = (bytes : List ℕ) → key_set_in content options ≡ Some bytes → program_keys keys ≡ program_keys bytes
+HasKeysOf content options keys = (bytes : List ℕ) → key_set_in content options ≡ Some bytes → keys_of keys ≡ keys_of bytes
+
+-- The lines of these bytes are those of the argument, or of the file that is named, where its bytes are known.
+abbrev pub IsListedAs : (List ℕ → Option (List ℕ)) → Options → List ℕ → Type 0
+IsListedAs content options keys = (bytes : List ℕ) → key_set_in content options ≡ Some bytes → keys_listed keys ≡ keys_listed bytes
 
 -- The bytes are those of the argument, or of the file that is named, where its bytes are known.
 abbrev pub IsKeyOf : (List ℕ → Option (List ℕ)) → Options → List ℕ → Type 0
@@ -22,14 +31,14 @@ checks_in content options = do
   keys ← key_set_in content options
   aad ← bytes_in (codes "aad") options
   vouch ← optional_bytes_in (codes "vouch") options
-  Some (record { keys = program_keys keys; aad = aad; wanted = kind_in options; vouch = vouch })
+  Some (record { room = room_of (limits_in options); keys = program_keys (room_of (limits_in options)) keys; aad = aad; wanted = kind_in options; vouch = vouch })
 
 -- What `digest` reads a message under: a COSE_Sign1, for which nobody vouches.
 abbrev pub digest_checks_in : (List ℕ → Option (List ℕ)) → Options → Option Under
 digest_checks_in content options = do
   keys ← key_set_in content options
   aad ← bytes_in (codes "aad") options
-  Some (record { keys = program_keys keys; aad = aad; wanted = wants.Sign1; vouch = None })
+  Some (record { room = room_of (limits_in options); keys = program_keys (room_of (limits_in options)) keys; aad = aad; wanted = wants.Sign1; vouch = None })
 
 -- The checks are what the options say.
 abbrev pub AreChecks : Option Under → OwnedChecks → Type 0
@@ -40,7 +49,11 @@ pub record CwtFields (content : List ℕ → Option (List ℕ)) (options : Optio
   pub now : integer_in (codes "now") options ≡ Some words.now
   pub leeway : number_in (codes "leeway") options ≡ Some words.leeway
   pub aud : option_map text_value words.aud ≡ text_in (codes "aud") options
+  pub required : RequiredFields options words.required
   pub readable : words.readable ≡ flag_in (codes "text") options
+
+pub record KeysFields (content : List ℕ → Option (List ℕ)) (options : Options) (words : Keys) : Type 0 where
+  pub keys : IsListedAs content options words.keys.items
 
 pub record MakeFields (content : List ℕ → Option (List ℕ)) (options : Options) (words : Make) : Type 0 where
   pub alg : algorithm_in options ≡ Some words.alg

@@ -3,23 +3,34 @@ use Rattle.std.specs.Prelude.{ℕ, Bool, true, false, List, [], Option}
 use Rattle.std.specs.Borrow.{Bor}
 use Rattle.cosecmd.specs.declared.job.Checks.{Checks}
 use Rattle.cosecmd.specs.declared.job.Job.{Job}
-use Rattle.cosecmd.specs.declared.job.Job.TheVariants.{Show, Verify, Cwt, Digest, Make}
+use Rattle.cosecmd.specs.declared.job.Job.TheVariants.{Show, Verify, Cwt, Digest, Keys, Make}
 use Rattle.cosecmd.specs.declared.job.Question.{Question}
 use Rattle.cosecmd.specs.declared.job.Question.TheVariants as questions
 
 abbrev pub aad_of : Job → List ℕ
-aad_of (Show wanted diagnostic) = []
+aad_of (Show limits wanted diagnostic) = []
 aad_of (Verify checks payload) = checks.aad.now
-aad_of (Cwt checks now leeway aud readable) = checks.aad.now
+aad_of (Cwt checks now leeway aud requirements readable) = checks.aad.now
 aad_of (Digest checks payload) = checks.aad.now
+aad_of (Keys keys) = []
 aad_of (Make alg key length kid aad) = aad.now
 
 abbrev pub is_make : Job → Bool
 is_make (Make alg key length kid aad) = true
-is_make (Show wanted diagnostic) = false
+is_make (Show limits wanted diagnostic) = false
 is_make (Verify checks payload) = false
-is_make (Cwt checks now leeway aud readable) = false
+is_make (Cwt checks now leeway aud requirements readable) = false
 is_make (Digest checks payload) = false
+is_make (Keys keys) = false
+
+-- To list a key set the input isn't read.
+abbrev pub reads_input : Job → Bool
+reads_input (Keys keys) = false
+reads_input (Show limits wanted diagnostic) = true
+reads_input (Verify checks payload) = true
+reads_input (Cwt checks now leeway aud requirements readable) = true
+reads_input (Digest checks payload) = true
+reads_input (Make alg key length kid aad) = true
 
 abbrev pub job_of : Question → Checks → Option (Bor (List ℕ)) → Job
 job_of questions.Verdict checks payload = Verify checks payload

@@ -1,5 +1,5 @@
 -- What the options of a command say: the value of each, by the argument that clap found for its name.
-use Rattle.std.specs.Prelude.{ℕ, ℤ, Bool, List, [], Option, Some, None, Result, Ok, Err, option_and_then, option_map, unwrap_or, codes, pos, if◌then◌else◌}
+use Rattle.std.specs.Prelude.{ℕ, ℤ, Bool, List, [], Option, Some, None, Result, Ok, Err, length, take, nat_lt, option_and_then, option_map, unwrap_or, codes, pos, if◌then◌else◌}
 use Rattle.std.specs.Str.{bytes_eq}
 use Rattle.std.specs.Str.Parse.{digits_value, signed_digits_value, without_leading_plus}
 use Rattle.clap.specs.Matches.{found_of}
@@ -11,6 +11,8 @@ use Rattle.cose_head.specs.declared.algorithm.Alg.{Alg}
 use Rattle.cose_head.specs.Algorithm.{algorithm_numbered}
 use Rattle.cose_msg.specs.declared.context.Wanted.{Wanted}
 use Rattle.cose_msg.specs.declared.context.Wanted.TheVariants as wants
+use Rattle.cosecmd.specs.declared.limits.Limits.{Limits}
+use Rattle.cosecmd.specs.declared.limits.Limits.TheVariants as limits
 
 -- The options of one command, each with its arguments, and with its default where it is left out.
 abbrev pub Options : Type 0
@@ -58,7 +60,7 @@ optional_bytes_in name options = bytes_where_given (text_in name options)
 -- ---- numbers
 
 -- The number that an option's argument writes in decimal, where a plus and zeros may come first. Where no negative number is
--- in the option's range, as of `--now`, `--leeway` and `--alg`, clap's getters leave out a minus (`one_of`): clap accepts one
+-- in the option's range, as of `--now`, `--leeway`, `--max-age` and `--alg`, clap's getters leave out a minus (`one_of`): clap accepts one
 -- before zeros alone.
 abbrev pub number_in : Text → Options → Option ℕ
 number_in name options = option_map (λ text. digits_value 10 (without_leading_plus text)) (one_of name options)
@@ -66,13 +68,20 @@ number_in name options = option_map (λ text. digits_value 10 (without_leading_p
 abbrev pub integer_in : Text → Options → Option ℤ
 integer_in name options = option_map (signed_digits_value 10) (one_of name options)
 
--- ---- kinds and algorithms
+-- ---- kinds, limits and algorithms
 
 abbrev pub kind_named : Text → Wanted
 kind_named text = if bytes_eq text (codes "mac0") then wants.Mac0 else if bytes_eq text (codes "sign1") then wants.Sign1 else wants.Tagged
 
 abbrev pub kind_in : Options → Wanted
 kind_in options = kind_named (unwrap_or (text_in (codes "kind") options) (codes "tagged"))
+
+-- The limits are small where they aren't large.
+abbrev pub limits_named : Text → Limits
+limits_named text = if bytes_eq text (codes "large") then limits.Large else limits.Small
+
+abbrev pub limits_in : Options → Limits
+limits_in options = limits_named (unwrap_or (text_in (codes "limits") options) (codes "small"))
 
 -- An option without an argument: clap gives it the argument `true`, and `false` where it is left out.
 abbrev pub flag_in : Text → Options → Bool
@@ -93,10 +102,19 @@ key_set_in content options = of_file content (text_in (codes "keys-file") option
 abbrev pub key_in : (List ℕ → Option (List ℕ)) → Options → Option (List ℕ)
 key_in content options = of_file content (text_in (codes "key-file") options) (bytes_in (codes "key") options)
 
--- The detached payload, where there is one.
-abbrev pub payload_from : (List ℕ → Option (List ℕ)) → Option Text → Option (Option (List ℕ)) → Option (Option (List ℕ))
-payload_from content (Some name) argument = option_map Some (content name)
-payload_from content None argument = argument
+-- So many first bytes as are stated, where there are as many; all bytes, where no number is stated.
+abbrev pub stated_part : Option ℕ → List ℕ → Option (List ℕ)
+stated_part None bytes = Some bytes
+stated_part (Some count) bytes = if nat_lt (length bytes) count then None else Some (take count bytes)
+
+abbrev pub part_of_file : (List ℕ → Option (List ℕ)) → Text → Option ℕ → Option (List ℕ)
+part_of_file content name stated = option_and_then (stated_part stated) (content name)
+
+-- The detached payload, where there is one. Of a file with fewer bytes than are stated there is none.
+abbrev pub payload_from : (List ℕ → Option (List ℕ)) → Option ℕ → Option Text → Option (Option (List ℕ)) → Option (Option (List ℕ))
+payload_from content stated (Some name) argument = option_map Some (part_of_file content name stated)
+payload_from content stated None argument = argument
 
 abbrev pub payload_in : (List ℕ → Option (List ℕ)) → Options → Option (Option (List ℕ))
-payload_in content options = payload_from content (text_in (codes "payload-file") options) (optional_bytes_in (codes "payload") options)
+payload_in content options =
+    payload_from content (number_in (codes "payload-length") options) (text_in (codes "payload-file") options) (optional_bytes_in (codes "payload") options)

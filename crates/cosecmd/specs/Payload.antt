@@ -1,5 +1,6 @@
 -- Where the arguments say that the payload is.
 use Rattle.std.specs.Prelude.{◌≡◌, ℕ, List, Option, Some, None, option_map}
+use Rattle.cosecmd.specs.Options.{part_of_file}
 use Rattle.cosecmd.specs.declared.request.Payload.{Payload}
 use Rattle.cosecmd.specs.declared.request.Payload.TheVariants.{InMessage, Bytes, File}
 
@@ -7,10 +8,11 @@ use Rattle.cosecmd.specs.declared.request.Payload.TheVariants.{InMessage, Bytes,
 abbrev pub IsFile : List ℕ → Payload → Type 0
 IsFile name InMessage = ⊥
 IsFile name (Bytes payload) = ⊥
-IsFile name (File file) = file.now ≡ name
+IsFile name (File file stated) = file.now ≡ name
 
--- The detached payload, where there is one, as far as it is known: that of a file where the content of the file is.
+-- The detached payload, where there is one, as far as it is known: that of a file where the content of the file is, and has as
+-- many bytes as are stated.
 abbrev pub detached_in : (List ℕ → Option (List ℕ)) → Payload → Option (Option (List ℕ))
 detached_in content InMessage = Some None
 detached_in content (Bytes payload) = Some (Some payload.items)
-detached_in content (File name) = option_map Some (content name.now)
+detached_in content (File name stated) = option_map Some (part_of_file content name.now stated)

@@ -13,6 +13,7 @@ use Rattle.cose_head.specs.declared.algorithm.Alg.{Alg}
 use Rattle.cose_head.specs.Algorithm.{algorithm_number}
 use Rattle.cose_map.specs.Key.{key_of}
 use Rattle.cose_map.specs.Key.Value.{KeyValue}
+use Rattle.cose_map.specs.KeySet.{items_in, keys_of}
 use Rattle.cose_map.specs.Key.View.{contents}
 use Rattle.cose_map.specs.Map.Pairs.{Pair}
 use Rattle.cose_map.specs.Map.Read.{Read}
@@ -32,15 +33,19 @@ use Rattle.cose_msg.specs.Shown.{SignInput, sign_input_in}
 use Rattle.cose_msg.specs.Writes.{front_of}
 use Rattle.cose_cwt.specs.Admission.{PolicyValue}
 use Rattle.cose_cwt.specs.Claims.Audience.{text_value}
-use Rattle.cose_cwt.specs.Token.{Outcome}
-use Rattle.cosecmd.specs.Admitted.{input_token, outcome_status, outcome_text, program_policy}
+use Rattle.cose_cwt.specs.Requirements.{RequirementsValue}
+use Rattle.cose_cwt.specs.Requirements.View.{requirements_value}
+use Rattle.cosecmd.specs.Admitted.{Admission, input_token, outcome_status, outcome_text, program_policy}
 use Rattle.cosecmd.specs.Faults.{WritesLine}
+use Rattle.cosecmd.specs.KeysListed.{set_status, set_text}
+use Rattle.cosecmd.specs.Limits.{room_of}
 use Rattle.cosecmd.specs.declared.fault.Fault.{Fault}
 use Rattle.cosecmd.specs.declared.job.FileJob.{FileJob}
 use Rattle.cosecmd.specs.declared.job.Job.{Job}
-use Rattle.cosecmd.specs.declared.job.Job.TheVariants.{Show, Verify, Cwt, Digest, Make}
+use Rattle.cosecmd.specs.declared.job.Job.TheVariants.{Show, Verify, Cwt, Digest, Keys, Make}
 use Rattle.cosecmd.specs.declared.job.Question.{Question}
 use Rattle.cosecmd.specs.declared.job.Question.TheVariants as questions
+use Rattle.cosecmd.specs.declared.limits.Limits.{Limits}
 use Rattle.cosecmd.specs.declared.reply.Reply.{Reply}
 use Rattle.cosecmd.specs.declared.reply.Status.{Status}
 use Rattle.cosecmd.specs.declared.reply.Status.TheVariants as statuses
@@ -131,9 +136,9 @@ abbrev pub followed_by : List ℕ → Verdict → Verdict
 followed_by (byte ∷ bytes) (Authentic kind alg payload taken) = Refused (record { reason = Trailing; place = taken })
 followed_by rest verdict = verdict
 
--- The verdict of a whole input, in buckets of at most 1,024 bytes that nest at most 8 deep.
-abbrev pub input_answer : Setting → Decides → List ℕ → Answer
-input_answer setting decides bytes = trailed (length bytes) (verdict_of 1024 8 setting decides bytes)
+-- The verdict of a whole input, in buckets of at most `header` bytes that nest at most `nesting` deep.
+abbrev pub input_answer : ℕ → ℕ → Setting → Decides → List ℕ → Answer
+input_answer header nesting setting decides bytes = trailed (length bytes) (verdict_of header nesting setting decides bytes)
 
 -- The output for an answer that a command doesn't have.
 abbrev pub none_said : Output
@@ -148,22 +153,27 @@ output_of (shaped kind payload auth taken) = none_said
 -- With this detached payload, where there is one.
 abbrev pub verified_under : Under → Option (List ℕ) → List ℕ → Output
 verified_under under payload bytes =
-    with_keys under.keys (λ keys. output_of (input_answer (with_payload payload (setting_under under keys)) (vouching under.vouch) bytes))
+    with_keys under.keys (λ keys. output_of (input_answer under.room.header under.room.nesting (with_payload payload (setting_under under keys)) (vouching under.vouch) bytes))
 
 -- The same for a job whose payload comes from a file, and has these bytes.
 abbrev pub verified_with : FileJob → List ℕ → List ℕ → Output
 verified_with job payload bytes = verified_under (job_under job.checks) (Some payload) bytes
 
--- A token is verified as a message is, with a payload of at most 4,096 bytes.
-abbrev pub token_setting : List KeyValue → List ℕ → Wanted → Setting
-token_setting keys aad wanted = record (program_setting keys aad wanted) { payload_limit = 4096 }
+-- A token is verified as a message is, with a payload of at most this many bytes.
+abbrev pub token_setting : ℕ → List KeyValue → List ℕ → Wanted → Setting
+token_setting claims keys aad wanted = record (program_setting keys aad wanted) { payload_limit = claims }
 
-abbrev pub outcome_said : Bool → Outcome → Output
+-- The outcome for a whole input as a token under these keys.
+abbrev pub token_under : Under → PolicyValue → RequirementsValue → List ℕ → List KeyValue → Admission
+token_under under policy requirements bytes keys =
+    input_token under.room.header under.room.nesting (token_setting under.room.claims keys under.aad under.wanted) (vouching under.vouch) policy requirements bytes
+
+abbrev pub outcome_said : Bool → Admission → Output
 outcome_said readable outcome = record { text = outcome_text readable outcome; status = outcome_status outcome }
 
-abbrev pub admitted_under : Under → PolicyValue → Bool → List ℕ → Output
-admitted_under under policy readable bytes =
-    with_keys under.keys (λ keys. outcome_said readable (input_token (token_setting keys under.aad under.wanted) (vouching under.vouch) policy bytes))
+abbrev pub admitted_under : Under → PolicyValue → RequirementsValue → Bool → List ℕ → Output
+admitted_under under policy requirements readable bytes =
+    with_keys under.keys (λ keys. outcome_said readable (token_under under policy requirements bytes keys))
 
 -- The shape of a message: its kind, and the numbers of bytes of its payload, of its tag or signature, and of the whole.
 abbrev pub shape_line : Kind → ℕ → ℕ → ℕ → List ℕ
@@ -199,8 +209,11 @@ abbrev pub shown_of : Bool → ℕ → Reading → Output
 shown_of diagnostic n reading = shown_as diagnostic reading.told (trailed n reading.answer)
 
 -- A message is shown as it is when it is only inspected: under no key.
-abbrev pub shown : Wanted → Bool → List ℕ → Output
-shown wanted diagnostic bytes = shown_of diagnostic (length bytes) (message (inspecting 1024 8 (program_setting [] [] wanted)) bytes)
+abbrev pub shown_in : ℕ → ℕ → Wanted → Bool → List ℕ → Output
+shown_in header nesting wanted diagnostic bytes = shown_of diagnostic (length bytes) (message (inspecting header nesting (program_setting [] [] wanted)) bytes)
+
+abbrev pub shown : Limits → Wanted → Bool → List ℕ → Output
+shown limits wanted diagnostic bytes = shown_in (room_of limits).header (room_of limits).nesting wanted diagnostic bytes
 
 -- The line that prints the argument of `--vouch`, with which a signature passes `verify`.
 abbrev pub vouched : List ℕ → Output
@@ -215,14 +228,14 @@ abbrev pub digested_as : List ℕ → Answer → Output
 digested_as aad answer = digested (sign_input_in aad answer) answer
 
 -- A message, all of whose bytes are there, before its signature is decided on.
-abbrev pub input_compared : Setting → List ℕ → Answer
-input_compared setting bytes = trailed (length bytes) (message (comparing 1024 8 setting) bytes).answer
+abbrev pub input_compared : ℕ → ℕ → Setting → List ℕ → Answer
+input_compared header nesting setting bytes = trailed (length bytes) (message (comparing header nesting setting) bytes).answer
 
-abbrev pub digested_in : Setting → List ℕ → Output
-digested_in setting bytes = digested_as setting.aad (input_compared setting bytes)
+abbrev pub digested_in : ℕ → ℕ → Setting → List ℕ → Output
+digested_in header nesting setting bytes = digested_as setting.aad (input_compared header nesting setting bytes)
 
 abbrev pub digested_under : Under → Option (List ℕ) → List ℕ → Output
-digested_under under payload bytes = with_keys under.keys (λ keys. digested_in (with_payload payload (setting_under under keys)) bytes)
+digested_under under payload bytes = with_keys under.keys (λ keys. digested_in under.room.header under.room.nesting (with_payload payload (setting_under under keys)) bytes)
 
 -- The same for a job whose payload comes from a file, and has these bytes.
 abbrev pub digested_with : FileJob → List ℕ → List ℕ → Output
@@ -272,13 +285,23 @@ made_under (Ok key) alg payload_length kid aad bytes =
     unless_faulty (make_fault alg key kid aad payload_length) (message_made key alg payload_length kid aad bytes)
 made_under (Err refusal) alg payload_length kid aad bytes = fault_of_key refusal
 
+-- The lines of a key set with these usable keys. One that is refused as a whole has none.
+abbrev pub set_listed : Placed → Read (List KeyValue) → Output
+set_listed set (Ok usable) = record { text = set_text (items_in set) (length usable); status = set_status (length usable) }
+set_listed set (Err refusal) = fault_of_keys refusal
+
+abbrev pub keys_listed : List ℕ → Output
+keys_listed bytes = set_listed (record { bytes = bytes; place = 0 }) (keys_of bytes)
+
 -- What is printed for a job, where the input is these bytes. A text of status Fault is what the program's documents
 -- say; no clause requires a run that ends so to print all of it.
 unfoldable pub printed : Job → List ℕ → Output
-printed (Show wanted diagnostic) bytes = shown wanted diagnostic bytes
+printed (Show limits wanted diagnostic) bytes = shown limits wanted diagnostic bytes
 printed (Verify checks payload) bytes = verified_under (job_under checks) (option_map contents payload) bytes
-printed (Cwt checks now leeway aud readable) bytes = admitted_under (job_under checks) (program_policy now leeway (option_map text_value aud)) readable bytes
+printed (Cwt checks now leeway aud requirements readable) bytes =
+    admitted_under (job_under checks) (program_policy now leeway (option_map text_value aud)) (requirements_value requirements) readable bytes
 printed (Digest checks payload) bytes = digested_under (job_under checks) (option_map contents payload) bytes
+printed (Keys keys) bytes = keys_listed keys.now
 printed (Make alg key payload_length kid aad) bytes =
     made_under (key_of (record { bytes = key.now; place = 0 })) alg payload_length (option_map contents kid) aad.now bytes
 

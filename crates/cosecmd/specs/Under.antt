@@ -6,25 +6,28 @@ use Rattle.cose_map.specs.KeySet.{keys_of}
 use Rattle.cose_map.specs.KeyTable.{table_of}
 use Rattle.cose_map.specs.Map.Read.{Read}
 use Rattle.cose_msg.specs.declared.context.Wanted.{Wanted}
+use Rattle.cosecmd.specs.Limits.{Room, room_of}
 use Rattle.cosecmd.specs.declared.job.Checks.{Checks}
 use Rattle.cosecmd.specs.declared.request.OwnedChecks.{OwnedChecks}
 
--- The keys of a key set, or why it is refused; the externally supplied data; the kinds of messages that are wanted; the argument
--- of `--vouch`, where there is one.
+-- The room that there is; the keys of a key set, or why it is refused; the externally supplied data; the kinds of messages that
+-- are wanted; the argument of `--vouch`, where there is one.
 pub record Under : Type 0 where
+  pub room : Room
   pub keys : Read (List KeyValue)
   pub aad : List ℕ
   pub wanted : Wanted
   pub vouch : Option (List ℕ)
 
--- The program has room for 16 usable keys.
-abbrev pub program_keys : List ℕ → Read (List KeyValue)
-program_keys bytes = table_of 16 (keys_of bytes)
+-- The keys of a key set, as many usable ones as there is room for.
+abbrev pub program_keys : Room → List ℕ → Read (List KeyValue)
+program_keys room bytes = table_of room.keys (keys_of bytes)
 
 -- As a job holds it, and as the arguments do.
 abbrev pub job_under : Checks → Under
 job_under checks = record {
-  keys = program_keys checks.keys.now;
+  room = room_of checks.limits;
+  keys = program_keys (room_of checks.limits) checks.keys.now;
   aad = checks.aad.now;
   wanted = checks.wanted;
   vouch = option_map contents checks.vouch;
@@ -32,7 +35,8 @@ job_under checks = record {
 
 abbrev pub owned_under : OwnedChecks → Under
 owned_under checks = record {
-  keys = program_keys checks.keys.items;
+  room = room_of checks.limits;
+  keys = program_keys (room_of checks.limits) checks.keys.items;
   aad = checks.aad.items;
   wanted = checks.wanted;
   vouch = option_map (λ word. word.items) checks.vouch;

@@ -2,7 +2,7 @@
 
 ghost use Rattle.std.specs.Prelude.{◌≡◌, ◌≤◌, ◌⊎◌, ℕ, false, List, Some, IfOk, length as length_of};
 ghost use Rattle.cosecmd.specs.Faults.{WritesLine, making_fault};
-ghost use Rattle.cosecmd.specs.Job.{aad_of, is_make};
+ghost use Rattle.cosecmd.specs.Job.{aad_of, is_make, reads_input};
 ghost use Rattle.cosecmd.specs.Printed.{EndsWith, Fails, Prints, Says, printed};
 ghost use Rattle.cosecmd.specs.Sequence.{FailsInSequence, verified_sequence};
 ghost use Rattle.cosecmd.specs.Stated.{answered_from};
@@ -10,9 +10,11 @@ ghost use Rattle.cosecmd.specs.Under.{job_under};
 
 mod cwt;
 mod digest;
+mod keys;
 mod make;
 mod sequence;
 mod show;
+mod unmet;
 mod verify;
 
 use crate::fault::Fault;
@@ -21,6 +23,7 @@ use crate::print::{print_fault, print_reply};
 use crate::reply::{Reply, Status};
 use cwt::{cwt_reply, policy_of};
 use digest::{digest_reply, digest_reply_with_file};
+use keys::keys_reply;
 use make::make_message;
 use sequence::messages::print_verified;
 use show::show_reply;
@@ -37,14 +40,19 @@ fn status_of<R: Read, W: Write>(alloc: Global, job: &Job, input: &mut R, output:
     ensures fails { (bytes : List ℕ) → R.remaining input.old ≡ Some bytes → is_make job.now ≡ false
         → result ≡ Status.Fault
         → Fails (printed job.now bytes) (W.contents output.old) (W.contents output.new) }
+    ensures listing { reads_input job.now ≡ false → input.new ≡ input.old }
     ensures unread { (fault : Fault) → making_fault job.now ≡ Some fault → input.new ≡ input.old }
     ensures line { (fault : Fault) → making_fault job.now ≡ Some fault → (result ≡ Status.Fault)
         × (WritesLine fault (W.contents output.old) (W.contents output.new)
         ⊎ WritesLine Fault.Memory (W.contents output.old) (W.contents output.new)) }
 {
     match job {
-        Job::Show { wanted, diagnostic } => {
-            let reply = show_reply(alloc, *wanted, *diagnostic, input);
+        Job::Show {
+            limits,
+            wanted,
+            diagnostic,
+        } => {
+            let reply = show_reply(alloc, *limits, *wanted, *diagnostic, input);
             print_reply(alloc, reply, output)
         }
         Job::Verify { checks, payload } => {
@@ -56,14 +64,19 @@ fn status_of<R: Read, W: Write>(alloc: Global, job: &Job, input: &mut R, output:
             now,
             leeway,
             aud,
+            requirements,
             readable,
         } => {
             let policy = policy_of(*now, *leeway, aud);
-            let reply = cwt_reply(alloc, checks, &policy, *readable, input);
+            let reply = cwt_reply(alloc, checks, &policy, requirements, *readable, input);
             print_reply(alloc, reply, output)
         }
         Job::Digest { checks, payload } => {
             let reply = digest_reply(alloc, checks, *payload, input);
+            print_reply(alloc, reply, output)
+        }
+        Job::Keys { keys } => {
+            let reply = keys_reply(alloc, keys);
             print_reply(alloc, reply, output)
         }
         Job::Make {
@@ -100,6 +113,8 @@ pub fn answer<R: Read, W: Write>(alloc: Global, job: &Job, input: &mut R, output
     ensures fails { (bytes : List ℕ) → R.remaining input.old ≡ Some bytes → is_make job.now ≡ false
         → result ≡ 2
         → Fails (printed job.now bytes) (W.contents output.old) (W.contents output.new) }
+    // To list a key set it reads nothing.
+    ensures listing { reads_input job.now ≡ false → input.new ≡ input.old }
     // Where the key or another argument of `make` is at fault, it reads nothing, and prints the line of this fault, unless
     // there is no memory for it.
     ensures unread { (fault : Fault) → making_fault job.now ≡ Some fault → input.new ≡ input.old }

@@ -28,6 +28,7 @@ impl OwnedChecks {
             aad: self.aad.as_slice(),
             wanted: self.wanted,
             vouch: slice_of(&self.vouch),
+            limits: self.limits,
         }
     }
 }

@@ -6,18 +6,27 @@ use std::alloc::{AllocError, Global};
 /// The version of the program, which `--version` prints.
 const VERSION: &str = "0.1.0";
 
-/// What help says below the options.
+/// What help says below the commands.
 const NOTES: &str =
     "HMAC is computed here; for ECDSA (ES256, ES384, ES512) the digest is computed, and --vouch decides; no curve \
 arithmetic is included.
 Arguments in hexadecimal have an even number of digits, no prefix and no spaces.
-Exit status: 0 authentic, 1 refused, 2 no verdict (command line, keys, memory, input or output).";
+Exit status: 0 accepted, shown, printed or made, 1 refused, 2 no answer; the help of each command has its own, and an example.";
+
+/// What help says below the options of `verify`.
+const VERIFY_NOTES: &str =
+    "HMAC is computed here; for ECDSA (ES256, ES384, ES512) the digest is computed, and --vouch decides; no curve \
+arithmetic is included.
+Arguments in hexadecimal have an even number of digits, no prefix and no spaces.
+Exit status: 0 authentic, 1 refused, 2 no verdict (command line, keys, memory, input or output).
+Example: cosecmd verify --keys-file keys < message";
 
 /// What help says below the options of `make`.
 const MAKE_NOTES: &str =
     "Arguments in hexadecimal have an even number of digits, no prefix and no spaces.
 The message has its tag, 17, and its shortest spelling. It is written while the payload is read.
-Exit status: 0 made, 2 not or not whole (command line, key, memory, input or output): drop what was written.";
+Exit status: 0 made, 2 not or not whole (command line, key, memory, input or output): drop what was written.
+Example: cosecmd make --alg 5 --key-file key --length $(stat -c %s payload) < payload > message";
 
 /// What help says below the options of `digest`.
 const DIGEST_NOTES: &str =
@@ -26,13 +35,24 @@ Arguments in hexadecimal have an even number of digits, no prefix and no spaces.
 It prints the argument of `verify --vouch`: the curve of the key in one byte, the digest of the structure that is signed, \
 the signature, x and y. The signature isn't verified yet: pass this argument to `verify` only where another program has \
 verified it.
-Exit status: 0 printed, 1 refused, 2 no answer (command line, keys, memory, input or output).";
+Exit status: 0 printed, 1 refused, 2 no answer (command line, keys, memory, input or output).
+Example: cosecmd digest --keys-file keys < message";
+
+/// What help says below the options of `keys`.
+const KEYS_NOTES: &str =
+    "Arguments in hexadecimal have an even number of digits, no prefix and no spaces.
+It prints for each item of the set its place, and its kty, crv, kid (in hexadecimal), alg and key_ops and `usable`, or \
+why it is refused; and last how many are usable. No byte of a secret is printed.
+Exit status: 0 listed, 1 listed, and too many usable keys for other commands, 2 no answer (command line, keys, memory or \
+output).
+Example: cosecmd keys --keys-file keys";
 
 /// What help says below the options of `show`.
 const SHOW_NOTES: &str =
     "It prints the shape of the message, and a line for each pair of the protected and of the unprotected header, \
 in the order of the message: the bytes of the label and of the value in hexadecimal. Nothing of it is authenticated.
-Exit status: 0 shown, 1 refused, 2 no answer (command line, memory, input or output).";
+Exit status: 0 shown, 1 refused, 2 no answer (command line, memory, input or output).
+Example: cosecmd show --diagnostic < message";
 
 /// What help says below the options of `cwt`.
 const CWT_NOTES: &str =
@@ -41,10 +61,17 @@ arithmetic is included.
 Arguments in hexadecimal have an even number of digits, no prefix and no spaces.
 It prints `admitted`, and then a line for each registered claim and for each text of the audience: texts and bytes in \
 hexadecimal, dates in seconds since 1970; of a confirmation the key (curve, x, y) and its identifier.
-Exit status: 0 admitted, 1 refused, 2 no answer (command line, keys, memory, input or output).";
+Exit status: 0 admitted, 1 refused, 2 no answer (command line, keys, memory, input or output).
+Example: cosecmd cwt --keys-file keys --now $(date +%s) < token";
 
 /// The values of `--kind`, the kinds of messages that are wanted.
 const KINDS: &[&str] = &["mac0", "sign1", "tagged"];
+
+/// The values of `--require`, the registered claims (RFC 8392 section 3.1).
+const CLAIMS: &[&str] = &["iss", "sub", "aud", "exp", "nbf", "iat", "cti"];
+
+/// The values of `--limits`.
+const LIMITS_NAMED: &[&str] = &["small", "large"];
 
 /// A payload has fewer bytes.
 const PAYLOAD: i64 = 1 << 56;
@@ -56,10 +83,16 @@ enum Value {
     Text,
     /// The kind of a message.
     Kind,
+    /// The name of a claim. The option may be there several times.
+    Claim,
+    /// The limits of a run.
+    Limits,
     /// A time, in seconds since 1970.
     Time,
     /// A number of seconds.
     Seconds,
+    /// A number of seconds that may be as great as dates are.
+    Duration,
     /// The number of an HMAC algorithm (RFC 9053 section 3.1).
     Mac,
     /// The number of bytes of a payload.
@@ -81,6 +114,8 @@ enum Presence {
     Without(&'static str),
     /// The same, where the option of either name is there.
     WithoutBoth(&'static str, &'static str),
+    /// It may be left out. Where it is there, so is the option of the first name, and that of the second isn't.
+    WithAndWithout(&'static str, &'static str),
 }
 
 /// An option, which has one argument, or none.
@@ -169,6 +204,15 @@ const DIAGNOSTIC: CommandOption = CommandOption {
     help: "Print each pair in diagnostic notation too (RFC 8949 section 8), after its bytes",
 };
 
+/// The limits.
+const LIMITS: CommandOption = CommandOption {
+    name: "limits",
+    argument: "LIMITS",
+    value: Value::Limits,
+    presence: Presence::Optional,
+    help: "How much room there is: `small`, as without this option, or `large` (headers of 65,535 bytes nested 16 deep, 256 keys, claims of 65,535 bytes)",
+};
+
 /// The signature that is good.
 const VOUCH: CommandOption = CommandOption {
     name: "vouch",
@@ -193,7 +237,16 @@ const PAYLOAD_FILE: CommandOption = CommandOption {
     argument: "PATH",
     value: Value::Text,
     presence: Presence::Without("payload"),
-    help: "The regular file that has the bytes of the payload, in place of --payload; it is read while the message is verified",
+    help: "The file or block device that has the bytes of the payload, in place of --payload; it is read while the message is verified",
+};
+
+/// The number of bytes of the detached payload that are read of its file.
+const PAYLOAD_LENGTH: CommandOption = CommandOption {
+    name: "payload-length",
+    argument: "N",
+    value: Value::Length,
+    presence: Presence::WithAndWithout("payload-file", "payload"),
+    help: "The number of bytes of the payload, below 2^56: the first of --payload-file, which may be a pipe then",
 };
 
 /// Each message of a sequence.
@@ -230,6 +283,60 @@ const AUD: CommandOption = CommandOption {
     value: Value::Text,
     presence: Presence::Optional,
     help: "The audience that a token has to name, where it names one; without this option the audience isn't compared",
+};
+
+/// The audience, also where a token names none.
+const REQUIRE_AUD: CommandOption = CommandOption {
+    name: "require-aud",
+    argument: "",
+    value: Value::Flag,
+    presence: Presence::Optional,
+    help: "Refuse a token that doesn't name the audience of --aud, or, without --aud, that names none",
+};
+
+/// The issuer.
+const ISS: CommandOption = CommandOption {
+    name: "iss",
+    argument: "TEXT",
+    value: Value::Text,
+    presence: Presence::Optional,
+    help: "The issuer that a token has to name",
+};
+
+/// The subject.
+const SUB: CommandOption = CommandOption {
+    name: "sub",
+    argument: "TEXT",
+    value: Value::Text,
+    presence: Presence::Optional,
+    help: "The subject that a token has to name",
+};
+
+/// The claims that have to be present.
+const REQUIRE: CommandOption = CommandOption {
+    name: "require",
+    argument: "CLAIM",
+    value: Value::Claim,
+    presence: Presence::Optional,
+    help: "A claim that a token has to have; the option may be there several times",
+};
+
+/// The longest lifetime.
+const MAX_LIFETIME: CommandOption = CommandOption {
+    name: "max-lifetime",
+    argument: "N",
+    value: Value::Duration,
+    presence: Presence::Optional,
+    help: "The most seconds from now, and from iat, to exp, which has to be there",
+};
+
+/// The greatest age.
+const MAX_AGE: CommandOption = CommandOption {
+    name: "max-age",
+    argument: "N",
+    value: Value::Duration,
+    presence: Presence::Optional,
+    help: "The most seconds since iat, which has to be there and not in the future",
 };
 
 /// Texts and dates as people read them.
@@ -306,13 +413,13 @@ const COMMANDS: &[Subcommand] = &[
         name: "show",
         about: "Shows the shape and the headers of the COSE message on standard input, under no key",
         notes: SHOW_NOTES,
-        options: &[KIND, DIAGNOSTIC],
+        options: &[KIND, DIAGNOSTIC, LIMITS],
         one_of: None,
     },
     Subcommand {
         name: "verify",
         about: "Verifies the COSE message on standard input and prints the verdict",
-        notes: NOTES,
+        notes: VERIFY_NOTES,
         options: &[
             KEYS,
             KEYS_FILE,
@@ -322,6 +429,8 @@ const COMMANDS: &[Subcommand] = &[
             DETACHED,
             PAYLOAD_FILE,
             SEQUENCE,
+            PAYLOAD_LENGTH,
+            LIMITS,
         ],
         one_of: KEY_SET,
     },
@@ -329,14 +438,46 @@ const COMMANDS: &[Subcommand] = &[
         name: "cwt",
         about: "Admits the CBOR Web Token on standard input and prints its claims",
         notes: CWT_NOTES,
-        options: &[KEYS, KEYS_FILE, AAD, KIND, VOUCH, NOW, LEEWAY, AUD, TEXT],
+        options: &[
+            KEYS,
+            KEYS_FILE,
+            AAD,
+            KIND,
+            VOUCH,
+            NOW,
+            LEEWAY,
+            AUD,
+            REQUIRE_AUD,
+            ISS,
+            SUB,
+            REQUIRE,
+            MAX_LIFETIME,
+            MAX_AGE,
+            TEXT,
+            LIMITS,
+        ],
         one_of: KEY_SET,
     },
     Subcommand {
         name: "digest",
         about: "Prints what the signature of the COSE_Sign1 on standard input has to be verified with",
         notes: DIGEST_NOTES,
-        options: &[KEYS, KEYS_FILE, AAD, DETACHED, PAYLOAD_FILE],
+        options: &[
+            KEYS,
+            KEYS_FILE,
+            AAD,
+            DETACHED,
+            PAYLOAD_FILE,
+            PAYLOAD_LENGTH,
+            LIMITS,
+        ],
+        one_of: KEY_SET,
+    },
+    Subcommand {
+        name: "keys",
+        about: "Lists the items of a key set: the usable keys, and why an item is none",
+        notes: KEYS_NOTES,
+        options: &[KEYS, KEYS_FILE],
         one_of: KEY_SET,
     },
     Subcommand {
@@ -358,8 +499,11 @@ impl Value {
         match self {
             Value::Text | Value::Flag => arg,
             Value::Kind => arg.value_parser(KINDS),
+            Value::Claim => arg.value_parser(CLAIMS).action(ArgAction::Append),
+            Value::Limits => arg.value_parser(LIMITS_NAMED),
             Value::Time => arg.value_parser(value_parser!(i64).range(0..)),
             Value::Seconds => arg.value_parser(value_parser!(u32)),
+            Value::Duration => arg.value_parser(value_parser!(u64)),
             Value::Mac => arg.value_parser(value_parser!(u8).range(4..=7)),
             Value::Length => arg.value_parser(value_parser!(u64).range(0..PAYLOAD)),
         }
@@ -377,6 +521,9 @@ impl CommandOption {
             Presence::Default(argument) => Ok(arg.default_value(argument)),
             Presence::Without(other) => arg.conflicts_with(other),
             Presence::WithoutBoth(one, other) => arg.conflicts_with(one)?.conflicts_with(other),
+            Presence::WithAndWithout(needed, other) => {
+                arg.requires_arg(needed)?.conflicts_with(other)
+            }
         }
     }
 }

@@ -1,14 +1,16 @@
 //! The files that options name, where a key, a key set or a payload is in a file.
 
-ghost use Rattle.std.specs.Prelude.{◌≡◌, ◌≢◌, ◌⊎◌, ℕ, List, Option, Some, None, IfErr, IfOk, length, take};
+ghost use Rattle.std.specs.Prelude.{◌≡◌, ◌≢◌, ◌⊎◌, ℕ, List, Option, Some, None, IfErr, IfOk, length, take, unwrap_or};
 ghost use Rattle.std.specs.Fs.{IsFile, file_type, metadata_len};
 ghost use Rattle.std.specs.IoError.{error_kind};
-ghost use Rattle.cosecmd.specs.Under.{program_keys};
+ghost use Rattle.cose_map.specs.KeySet.{keys_of};
+ghost use Rattle.cosecmd.specs.Printed.{keys_listed};
 
 use crate::fault::Fault;
 use std::alloc::Global;
 use std::fs::{File, Metadata};
-use std::io::{Error, ErrorKind, Read};
+use std::io::{Error, ErrorKind, Read, Seek, SeekFrom};
+use std::os::unix::fs::FileTypeExt;
 use std::{fs, io};
 
 /// The most bytes of a file that are read. A key set of so many is refused.
@@ -28,12 +30,12 @@ pub trait NamedFiles {
         ensures { (bytes : List ℕ) → content self.now name.now ≡ Some bytes →
             IfOk result (λ file. Self.File.remaining file ≡ Some bytes) };
 
-    /// Opens the file of this name, to be read from its first byte, and returns the number of its bytes too. A file that
-    /// has no such number is an error.
-    fn open_with_length(&self, name: &str) -> io::Result<(Self::File, u64)>
+    /// Opens the file of this name, to be read from its first byte, and returns how many bytes are to be read of it too: as
+    /// many as are stated, or else as many as it has. Then a file that has no such number is an error.
+    fn open_with_length(&self, name: &str, stated: Option<u64>) -> io::Result<(Self::File, u64)>
         ensures { (bytes : List ℕ) → content self.now name.now ≡ Some bytes →
             IfOk result (λ opened. (Self.File.remaining opened.0 ≡ Some bytes)
-            × (opened.1 ≡ length bytes)) };
+            × (opened.1 ≡ unwrap_or stated (length bytes))) };
 }
 
 /// The files of the process. Their bytes aren't known to the contract.
@@ -46,9 +48,16 @@ impl NamedFiles for HostRuntime {
         File::open(self, name)
     }
 
-    fn open_with_length(&self, name: &str) -> io::Result<(File, u64)> {
+    fn open_with_length(&self, name: &str, stated: Option<u64>) -> io::Result<(File, u64)> {
+        if let Some(length) = stated {
+            return Ok((File::open(self, name)?, length));
+        }
         // To open a pipe would be to wait for its writer.
-        length_of_regular(&fs::metadata(self, name)?)?;
+        let metadata = fs::metadata(self, name)?;
+        if metadata.file_type().is_block_device() {
+            return open_block_device(File::open(self, name)?);
+        }
+        length_of_regular(&metadata)?;
         let file = File::open(self, name)?;
         let length = length_of_regular(&file.metadata()?)?;
         Ok((file, length))
@@ -66,6 +75,13 @@ fn length_of_regular(metadata: &Metadata) -> io::Result<u64>
     Err(Error::from(ErrorKind::InvalidInput))
 }
 
+/// A block device that is open, at its first byte, and the number of its bytes, which its metadata doesn't have.
+fn open_block_device(mut device: File) -> io::Result<(File, u64)> {
+    let length = device.seek(SeekFrom::End(0))?;
+    device.seek(SeekFrom::Start(0))?;
+    Ok((device, length))
+}
+
 /// No files: none can be opened.
 #[derive(Clone, Copy)]
 pub struct NoFiles;
@@ -79,7 +95,11 @@ impl NamedFiles for NoFiles {
         Err(Error::from(ErrorKind::NotFound))
     }
 
-    fn open_with_length(&self, _name: &str) -> io::Result<(&'static [u8], u64)> {
+    fn open_with_length(
+        &self,
+        _name: &str,
+        _stated: Option<u64>,
+    ) -> io::Result<(&'static [u8], u64)> {
         Err(Error::from(ErrorKind::NotFound))
     }
 }
@@ -104,7 +124,9 @@ pub fn key_set_bytes<F: NamedFiles>(
     name: &str,
 ) -> Result<Vec<u8>, Fault>
     ensures keys { (bytes : List ℕ) → F.content files.now name.now ≡ Some bytes →
-        IfOk result (λ read. program_keys read.items ≡ program_keys bytes) }
+        IfOk result (λ read. keys_of read.items ≡ keys_of bytes) }
+    ensures listed { (bytes : List ℕ) → F.content files.now name.now ≡ Some bytes →
+        IfOk result (λ read. keys_listed read.items ≡ keys_listed bytes) }
     ensures fault { IfErr result (λ fault. (fault ≡ Fault.Memory)
         ⊎ (fault ≡ Fault.File option.entry)) }
 {

@@ -18,7 +18,7 @@ pub struct Input<'r, R> {
 impl<'r, R: Read> Input<'r, R> {
     /// An intake of the bytes that the reader gives.
     pub fn new(reader: &'r mut R) -> Self
-        ensures told { ⟦<Input<'r, R> as Intake>⟧.to_come result
+        ensures known { ⟦<Input<'r, R> as Intake>⟧.to_come result
             ≡ R.remaining reader.old }
         ensures reader { reader_in result ≡ reader.old }
         ensures same_reference { name_in result ≡ reader.entry.ghost_name }

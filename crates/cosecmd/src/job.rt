@@ -3,6 +3,8 @@
 ghost use Rattle.std.specs.Prelude.{◌≡◌};
 ghost use Rattle.cosecmd.specs.Job.{job_of};
 
+use crate::limits::Limits;
+use cose_cwt::Requirements;
 use cose_msg::{Alg, Wanted};
 
 /// What the message on the input is verified under.
@@ -16,6 +18,8 @@ pub struct Checks<'j> {
     pub wanted: Wanted,
     /// The argument of `--vouch`, where there is one.
     pub vouch: Option<&'j [u8]>,
+    /// How long and how deep it may be, and how many keys there may be.
+    pub limits: Limits,
 }
 
 /// What is asked of a message, whose payload may be elsewhere.
@@ -44,6 +48,8 @@ impl Question {
 pub enum Job<'j> {
     /// To show what the message on the input has in its headers, under no key.
     Show {
+        /// How long and how deep it may be.
+        limits: Limits,
         /// The kinds of messages that are wanted.
         wanted: Wanted,
         /// Whether each pair is printed in diagnostic notation too (RFC 8949 section 8).
@@ -66,6 +72,8 @@ pub enum Job<'j> {
         leeway: u32,
         /// The text of the audience, where a token that names an audience has to be for it.
         aud: Option<&'j str>,
+        /// What is required of the claims beyond their admission.
+        requirements: Requirements<'j>,
         /// Whether texts are printed in quotes too, and dates as RFC 3339 has them.
         readable: bool,
     },
@@ -75,6 +83,11 @@ pub enum Job<'j> {
         checks: Checks<'j>,
         /// The detached payload, where there is one (RFC 9052 section 4.2).
         payload: Option<&'j [u8]>,
+    },
+    /// To list the items of a key set. Nothing of the input is read.
+    Keys {
+        /// The bytes of the key set (RFC 9052 section 7).
+        keys: &'j [u8],
     },
     /// To make a COSE_Mac0 of the payload on the input.
     Make {

@@ -7,24 +7,29 @@ ghost use Rattle.std.specs.Prelude.{◌≡◌};
 ghost use Rattle.std.specs.Process.{exit_status};
 
 mod answer;
+mod arguments;
 mod checks;
 mod commands;
 mod fault;
 mod files;
+mod hints;
 mod input;
 mod job;
+mod limits;
 mod line;
 mod mistake;
+mod noted_files;
 mod payload_file;
 mod print;
 mod reply;
 mod request;
+mod required;
 mod run;
 mod streams;
 mod vouch;
-mod words;
 mod write_sink;
 
+use noted_files::NotedFiles;
 use run::run_with_files;
 use std::alloc::{AllocError, Global};
 use std::io::{ErrorKind, IsTerminal, Write};
@@ -62,10 +67,26 @@ fn complain<W: Write>(output: &mut W, text: &str) -> ExitCode
 
 /// Runs `make`. The output is meant to be a message, so a fault's line goes to standard error too.
 fn run_make(rt: &HostRuntime, words: &[&str]) -> u8 {
+    let files = NotedFiles::new(rt, words);
     let mut output = Noted::new(rt.stdout());
-    let status = run_with_files(rt.alloc(), words, rt, &mut rt.stdin(), &mut output);
+    let status = run_with_files(rt.alloc(), words, &files, &mut rt.stdin(), &mut output);
     if let (2, Some(line)) = (status, output.fault()) {
         let _ = rt.stderr().write_all(line);
+    }
+    status
+}
+
+/// Runs a command that reads a message. Where none is accepted, standard error says what form of a text the input begins as.
+fn run_on_message(rt: &HostRuntime, words: &[&str]) -> u8 {
+    let files = NotedFiles::new(rt, words);
+    let mut input = Noted::new(rt.stdin());
+    let status = run_with_files(rt.alloc(), words, &files, &mut input, &mut rt.stdout());
+    if status == 0 {
+        return status;
+    }
+    if let Some(form) = input.form() {
+        let (name, advice) = (form.name(), form.advice());
+        let _ = eprintln!(rt; "cosecmd: standard input begins as {name} does; {advice}");
     }
     status
 }
@@ -78,8 +99,7 @@ fn run_command(rt: &HostRuntime, words: &[&str]) -> u8 {
     if words.get(1) == Some(&"make") {
         return run_make(rt, words);
     }
-    let mut output = rt.stdout();
-    run_with_files(rt.alloc(), words, rt, &mut rt.stdin(), &mut output)
+    run_on_message(rt, words)
 }
 
 fn main(rt: HostRuntime) -> ExitCode {

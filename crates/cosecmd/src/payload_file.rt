@@ -22,7 +22,7 @@ impl<R: Read> PayloadFile<R> {
 
     /// An intake of the first `length` bytes that the reader gives.
     pub fn new(reader: R, length: u64) -> Self
-        ensures told { ⟦<PayloadFile<R> as Intake>⟧.to_come result
+        ensures known { ⟦<PayloadFile<R> as Intake>⟧.to_come result
             ≡ counted length (R.remaining reader) }
         ensures left { left_of result ≡ length }
         ensures not_failed { ⟦<PayloadFile<R> as Intake>⟧.has_failed result ≡ false }

@@ -3,6 +3,8 @@
 ghost use Rattle.std.specs.Prelude.{◌≤◌, length as length_of};
 
 use crate::job::Question;
+use crate::limits::Limits;
+use crate::required::Required;
 use cose_msg::{Alg, Wanted};
 
 /// What the arguments say that a message is verified under.
@@ -16,6 +18,8 @@ pub struct OwnedChecks {
     pub wanted: Wanted,
     /// The argument of `--vouch`, where there is one.
     pub vouch: Option<Vec<u8>>,
+    /// How long and how deep it may be, and how many keys there may be.
+    pub limits: Limits,
     ghost external: { length_of aad.items ≤ 65535 },
 }
 
@@ -30,8 +34,17 @@ pub struct Cwt<'w> {
     pub leeway: u32,
     /// The text of the audience, where there is one.
     pub aud: Option<&'w str>,
+    /// What is required of the claims.
+    pub required: Required<'w>,
     /// Whether texts are printed in quotes too, and dates as RFC 3339 has them.
     pub readable: bool,
+}
+
+/// The arguments of `keys`.
+#[derive(Drop)]
+pub struct Keys {
+    /// The bytes of the key set.
+    pub keys: Vec<u8>,
 }
 
 /// The arguments of `make`.
@@ -57,8 +70,13 @@ pub enum Payload<'w> {
     InMessage,
     /// It is these bytes, and the message has nil in its place.
     Bytes(Vec<u8>),
-    /// In the file of this name, and the message has nil in its place.
-    File(&'w str),
+    /// In a file, and the message has nil in its place.
+    File {
+        /// The name of the file.
+        name: &'w str,
+        /// The number of its first bytes that are the payload, where it is stated.
+        length: Option<u64>,
+    },
 }
 
 /// What the arguments ask for.
@@ -66,6 +84,8 @@ pub enum Payload<'w> {
 pub enum Request<'w> {
     /// To show a message of these kinds.
     Show {
+        /// How long and how deep it may be.
+        limits: Limits,
         /// The kinds of messages that are wanted.
         wanted: Wanted,
         /// Whether each pair is printed in diagnostic notation too.
@@ -84,6 +104,8 @@ pub enum Request<'w> {
     Sequence(OwnedChecks),
     /// To admit a token.
     Cwt(Cwt<'w>),
+    /// To list the items of a key set.
+    Keys(Keys),
     /// To make a message.
     Make(Make),
 }

@@ -3,20 +3,23 @@
 ghost use Rattle.std.specs.Prelude.{◌≡◌, ◌≢◌, ◌≤◌, ℕ, false, List, Option, Some, None, codes, length, map};
 ghost use Rattle.clap.specs.Matches.{subcommand_name_of};
 ghost use Rattle.cosecmd.specs.CommandLine.{Answers, FailsOn, is_of_sequence, matches_print};
+ghost use Rattle.cosecmd.specs.Options.{part_of_file};
 ghost use Rattle.cosecmd.specs.Payload.{detached_in};
-ghost use Rattle.cosecmd.specs.Printed.{EndsWith, Fails, Output, answered_under, shown};
+ghost use Rattle.cosecmd.specs.Printed.{EndsWith, Fails, Output, answered_under, keys_listed, shown};
 ghost use Rattle.cosecmd.specs.Sequence.{FailsInSequence, verified_sequence};
 ghost use Rattle.cosecmd.specs.Under.{job_under, owned_under};
-ghost use Rattle.cosecmd.specs.Words.{admitted_for, asked_for, is_sequence, made_for, makes, payload_for};
+ghost use Rattle.cosecmd.specs.Arguments.{admitted_for, asked_for, is_sequence, made_for, makes, payload_for};
 
 use crate::answer::{answer, answer_sequence, answer_with_payload_file};
+use crate::arguments::{Parsed, parse, request_of};
 use crate::checks::slice_of;
 use crate::fault::Fault;
 use crate::files::{NamedFiles, NoFiles};
 use crate::job::{Checks, FileJob, Job, Question};
+use crate::limits::Limits;
 use crate::print::{print, print_fault};
-use crate::request::{Cwt, Make, OwnedChecks, Payload, Request};
-use crate::words::{Parsed, parse, request_of};
+use crate::request::{Cwt, Keys, Make, OwnedChecks, Payload, Request};
+use crate::required::requirements_of;
 use clap::ArgMatches;
 use cose_msg::Wanted;
 use std::alloc::Global;
@@ -25,6 +28,7 @@ use std::io::{Read, Write};
 /// The job of the command `show`.
 fn answer_show<R: Read, W: Write>(
     alloc: Global,
+    limits: Limits,
     wanted: Wanted,
     diagnostic: bool,
     input: &mut R,
@@ -32,12 +36,17 @@ fn answer_show<R: Read, W: Write>(
 ) -> u8
     ensures status { result ≤ 2 }
     ensures printed { (bytes : List ℕ) → R.remaining input.old ≡ Some bytes →
-        EndsWith (shown wanted diagnostic bytes) (W.contents output.old) (W.contents output.new)
+        EndsWith (shown limits wanted diagnostic bytes) (W.contents output.old) (W.contents output.new)
         result }
     ensures fails { (bytes : List ℕ) → R.remaining input.old ≡ Some bytes → result ≡ 2 →
-        Fails (shown wanted diagnostic bytes) (W.contents output.old) (W.contents output.new) }
+        Fails (shown limits wanted diagnostic bytes) (W.contents output.old) (W.contents output.new) }
 {
-    answer(alloc, &Job::Show { wanted, diagnostic }, input, output)
+    let job = Job::Show {
+        limits,
+        wanted,
+        diagnostic,
+    };
+    answer(alloc, &job, input, output)
 }
 
 /// What is asked of a message, where the payload is in the file of this name.
@@ -47,21 +56,22 @@ fn answer_with_file<F: NamedFiles, R: Read, W: Write>(
     question: Question,
     checks: Checks,
     name: &str,
+    stated: Option<u64>,
     input: &mut R,
     output: &mut W,
 ) -> u8
     requires external { length checks.aad.now ≤ 65535 }
     ensures status { result ≤ 2 }
     ensures printed { (bytes payload : List ℕ) → R.remaining input.old ≡ Some bytes →
-        F.content files.now name.now ≡ Some payload →
+        part_of_file (F.content files.now) name.now stated ≡ Some payload →
         EndsWith (answered_under question (job_under checks.entry) (Some payload) bytes)
         (W.contents output.old) (W.contents output.new) result }
     ensures fails { (bytes payload : List ℕ) → R.remaining input.old ≡ Some bytes →
-        F.content files.now name.now ≡ Some payload → result ≡ 2 →
+        part_of_file (F.content files.now) name.now stated ≡ Some payload → result ≡ 2 →
         Fails (answered_under question (job_under checks.entry) (Some payload) bytes)
         (W.contents output.old) (W.contents output.new) }
 {
-    let (mut file, length) = match files.open_with_length(name) {
+    let (mut file, length) = match files.open_with_length(name, stated) {
         Ok(opened) => opened,
         Err(error) => {
             return print_fault(alloc, Fault::file("payload-file", &error), output).code();
@@ -104,9 +114,10 @@ fn answer_message<F: NamedFiles, R: Read, W: Write>(
             let job = question.job(checks, Some(bytes.as_slice()));
             answer(alloc, &job, input, output)
         }
-        Payload::File(name) => {
-            answer_with_file(alloc, files, question, checks, name, input, output)
-        }
+        Payload::File {
+            name,
+            length: stated,
+        } => answer_with_file(alloc, files, question, checks, name, *stated, input, output),
     }
 }
 
@@ -143,9 +154,23 @@ fn answer_cwt<R: Read, W: Write>(alloc: Global, words: &Cwt, input: &mut R, outp
         now: words.now,
         leeway: words.leeway,
         aud: words.aud,
+        requirements: requirements_of(&words.required, words.now, words.leeway),
         readable: words.readable,
     };
     answer(alloc, &job, input, output)
+}
+
+/// The job of the command `keys`.
+fn answer_keys<R: Read, W: Write>(alloc: Global, words: &Keys, input: &mut R, output: &mut W) -> u8
+    ensures status { result ≤ 2 }
+    ensures printed { (bytes : List ℕ) → R.remaining input.old ≡ Some bytes →
+        EndsWith (keys_listed words.now.keys.items) (W.contents output.old)
+        (W.contents output.new) result }
+    ensures fails { (bytes : List ℕ) → R.remaining input.old ≡ Some bytes → result ≡ 2 →
+        Fails (keys_listed words.now.keys.items) (W.contents output.old) (W.contents output.new) }
+{
+    let keys = words.keys.as_slice();
+    answer(alloc, &Job::Keys { keys }, input, output)
 }
 
 /// The job of the command `make`.
@@ -190,9 +215,11 @@ fn answer_request<F: NamedFiles, R: Read, W: Write>(
         (W.contents output.new) }
 {
     match request {
-        Request::Show { wanted, diagnostic } => {
-            answer_show(alloc, *wanted, *diagnostic, input, output)
-        }
+        Request::Show {
+            limits,
+            wanted,
+            diagnostic,
+        } => answer_show(alloc, *limits, *wanted, *diagnostic, input, output),
         Request::Message {
             question,
             checks,
@@ -200,6 +227,7 @@ fn answer_request<F: NamedFiles, R: Read, W: Write>(
         } => answer_message(alloc, files, *question, checks, payload, input, output),
         Request::Sequence(checks) => answer_messages(alloc, checks, input, output),
         Request::Cwt(words) => answer_cwt(alloc, words, input, output),
+        Request::Keys(words) => answer_keys(alloc, words, input, output),
         Request::Make(words) => answer_make(alloc, words, input, output),
     }
 }

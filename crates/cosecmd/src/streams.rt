@@ -1,8 +1,9 @@
-//! The standard streams of the process: those that are closed, a terminal that the input comes from, and a fault's line that goes
-//! to standard error too.
+//! The standard streams of the process: those that are closed, a terminal that the input comes from, a fault's line that goes to
+//! standard error too, and an input that begins as a text does.
 
+use crate::hints::{First, Form, form_of_first};
 use std::fs::File;
-use std::io::Write;
+use std::io::{Read, Write};
 use std::{fs, io};
 
 /// Opens a folder in the place of a standard stream that is closed, so that no file that is opened later takes its number. To read
@@ -23,49 +24,58 @@ pub fn reads_input(words: &[&str]) -> bool {
     is_command && !words.iter().any(|&word| word == "--help" || word == "-h")
 }
 
-/// The room for what a `Noted` remembers: no line of a fault is longer.
-const ROOM: usize = 64;
-
-/// A writer that remembers the first bytes that it took.
+/// A stream that remembers the first bytes that went through it.
 #[derive(Drop)]
-pub struct Noted<W> {
-    writer: W,
-    first: [u8; ROOM],
-    length: usize,
+pub struct Noted<S> {
+    stream: S,
+    first: First,
 }
 
-impl<W: Write> Noted<W> {
-    /// Before anything is written.
-    pub fn new(writer: W) -> Noted<W> {
+impl<S> Noted<S> {
+    /// Before anything is read or written.
+    pub fn new(stream: S) -> Noted<S> {
         Noted {
-            writer,
-            first: [0; ROOM],
-            length: 0,
+            stream,
+            first: First::new(),
         }
     }
 
     /// All that was written, where it begins as the line of a fault does and is no longer than one.
     pub fn fault(&self) -> Option<&[u8]> {
-        match self.first.get(..self.length) {
-            Some(line) if line.starts_with("fault ".as_bytes()) => Some(line),
-            _ => None,
+        let line = self.first.known();
+        if self.first.is_whole() && line.starts_with("fault ".as_bytes()) {
+            return Some(line);
         }
+        None
+    }
+
+    /// The form of a text that the input begins as, where it does. No message begins with such a byte, so a run reads no more
+    /// of it, and nothing is read here, where it might wait.
+    pub fn form(&self) -> Option<Form> {
+        form_of_first(*self.first.known().first()?)
+    }
+}
+
+impl<R: Read> Read for Noted<R> {
+    fn read(&mut self, into: &mut [u8]) -> io::Result<usize> {
+        let count = self.stream.read(into)?;
+        if let Some(bytes) = into.get(..count) {
+            self.first.note(bytes);
+        }
+        Ok(count)
     }
 }
 
 impl<W: Write> Write for Noted<W> {
     fn write(&mut self, bytes: &[u8]) -> io::Result<usize> {
-        let count = self.writer.write(bytes)?;
-        if let (Some(taken), Some(room)) = (bytes.get(..count), self.first.get_mut(self.length..)) {
-            if taken.len() <= room.len() {
-                room[..taken.len()].copy_from_slice(taken);
-            }
+        let count = self.stream.write(bytes)?;
+        if let Some(taken) = bytes.get(..count) {
+            self.first.note(taken);
         }
-        self.length = self.length.saturating_add(count);
         Ok(count)
     }
 
     fn flush(&mut self) -> io::Result<()> {
-        self.writer.flush()
+        self.stream.flush()
     }
 }

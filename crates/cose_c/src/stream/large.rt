@@ -81,7 +81,7 @@ pub extern "C" fn cose_edge_large_feed(
         → HasRead task taken payload verifier.old.value.content
         → fed.new.status
         ≡ status_numbers (status_after 65535 16 task (taken ++ take fed.new.used piece.now)) }
-    ensures stands { fed.new.status ≡ block_status verifier.new.value.content }
+    ensures current { fed.new.status ≡ block_status verifier.new.value.content }
     ensures fits { fed.new.used ≤ length piece.now }
     ensures among { fed.new.payload_at + fed.new.payload_length ≤ fed.new.used }
     // Where no byte is wanted, nothing changes.
@@ -145,7 +145,7 @@ pub extern "C" fn cose_large_end(verifier: &mut CoseLargeVerifier, status: &mut 
     ensures reads { (task : Task) (taken payload : List ℕ)
         → HasRead task taken payload verifier.old.value.content
         → status.new ≡ status_numbers (status_of_answer (reading_of 65535 16 task taken).answer) }
-    ensures stands { status.new ≡ block_status verifier.new.value.content }
+    ensures current { status.new ≡ block_status verifier.new.value.content }
     ensures again { wants_any verifier.old.value.content ≡ false
         → verifier.new.value.content ≡ verifier.old.value.content }
     ensures same_task { task_by verifier.new.value.content ≡ task_by verifier.old.value.content }

@@ -77,7 +77,7 @@ pub extern "C" fn cose_edge_feed(verifier: &mut CoseVerifier, piece: &[u8], fed:
         → HasRead task taken payload verifier.old.value.content
         → fed.new.status
         ≡ status_numbers (status_after 1024 8 task (taken ++ take fed.new.used piece.now)) }
-    ensures stands { fed.new.status ≡ block_status verifier.new.value.content }
+    ensures current { fed.new.status ≡ block_status verifier.new.value.content }
     ensures fits { fed.new.used ≤ length piece.now }
     ensures among { fed.new.payload_at + fed.new.payload_length ≤ fed.new.used }
     // Where no byte is wanted, nothing changes.
@@ -138,7 +138,7 @@ pub extern "C" fn cose_end(verifier: &mut CoseVerifier, status: &mut CoseStatus)
     ensures reads { (task : Task) (taken payload : List ℕ)
         → HasRead task taken payload verifier.old.value.content
         → status.new ≡ status_numbers (status_of_answer (reading_of 1024 8 task taken).answer) }
-    ensures stands { status.new ≡ block_status verifier.new.value.content }
+    ensures current { status.new ≡ block_status verifier.new.value.content }
     ensures again { wants_any verifier.old.value.content ≡ false
         → verifier.new.value.content ≡ verifier.old.value.content }
     ensures same_task { task_by verifier.new.value.content ≡ task_by verifier.old.value.content }

@@ -24,5 +24,5 @@ fn takes_a_fixed_amount_of_memory(rt: HostRuntime) {
         size_of::<Verifier<256, 4>>(),
         size_of::<Verifier<1_024, 4>>(),
     ];
-    equal(&rt, sizes, [1_248, 1_632, 3_168]);
+    equal(&rt, sizes, [1_344, 1_728, 3_264]);
 }

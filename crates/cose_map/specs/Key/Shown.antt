@@ -20,3 +20,7 @@ key_set_text count = codes "KeySet(" ++ hidden_text count ++ codes ")"
 -- Of a table of so many keys.
 abbrev pub key_table_text : ℕ → List ℕ
 key_table_text count = codes "KeyTable { keys: " ++ decimal count ++ codes " }"
+
+-- Of a table of so many prepared keys.
+abbrev pub prepared_table_text : ℕ → List ℕ
+prepared_table_text count = codes "PreparedTable { keys: " ++ decimal count ++ codes " }"

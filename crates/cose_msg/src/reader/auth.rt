@@ -59,7 +59,7 @@ impl<'k, const H: usize, const D: usize> Reader<'k, H, D> {
     ghost use Rattle.cose_msg.specs.declared.status.Status.{Status};
     ghost use Rattle.cose_msg.specs.Phase.{payload_want_of};
     ghost use Rattle.cose_msg.specs.Status.{status_of_phase};
-    ghost use Rattle.cose_msg.specs.Phases.{auth_head, finish, headers_told, past_auth_head};
+    ghost use Rattle.cose_msg.specs.Phases.{auth_head, finish, headers_so_far, past_auth_head};
     ghost use Rattle.cose_msg.specs.Reading.{Reading};
     ghost use Rattle.cose_msg.specs.Task.{Task, rules_of};
     ghost use Rattle.cose_msg.specs.Reader.{HoldsAuth, HoldsKey, IsFed, Known, Shows, StandsFor};
@@ -79,8 +79,8 @@ impl<'k, const H: usize, const D: usize> Reader<'k, H, D> {
         requires early { at < 2 ^ 57 }
         ensures further { status_of_phase self.new.phase ≡ Status.More }
         ensures unawaited { payload_want_of self.new.phase ≡ 0 }
-        ensures stands { (task : Task) (known : Known)
-            → Shows task (headers_told known.headers known.payload) self.old
+        ensures reads_on { (task : Task) (known : Known)
+            → Shows task (headers_so_far known.headers known.payload) self.old
             → HoldsKey task known self.old kind → length known.payload ≡ payload
             → IsFed self.old.hashing task.setting.aad known
             → StandsFor task known.payload at self.new
@@ -93,7 +93,7 @@ impl<'k, const H: usize, const D: usize> Reader<'k, H, D> {
     /// Takes the next byte of the head of the tag or signature.
     pub(crate) fn auth_head(&mut self, auth_head: AuthHead, byte: u8)
         requires phase { self.old.phase ≡ Phase.AuthHead auth_head }
-        ensures stands { (task : Task) (B : List ℕ) (n : ℕ) (reading : List ℕ → Reading)
+        ensures reads_on { (task : Task) (B : List ℕ) (n : ℕ) (reading : List ℕ → Reading)
             → StandsFor task B n self.old reading
             → StandsFor task B (n + 1) self.new (λ z. reading (byte ∷ z)) }
     {
@@ -108,8 +108,8 @@ impl<'k, const H: usize, const D: usize> Reader<'k, H, D> {
     /// What follows the head of the tag or signature.
     fn past_auth_head(&mut self, auth_head: AuthHead, head: Head, at: u64)
         requires early { at < 2 ^ 58 }
-        ensures stands { (task : Task) (known : Known)
-            → Shows task (headers_told known.headers known.payload) self.old
+        ensures reads_on { (task : Task) (known : Known)
+            → Shows task (headers_so_far known.headers known.payload) self.old
             → HoldsKey task known self.old auth_head.kind → length known.payload ≡ auth_head.payload
             → IsFed self.old.hashing task.setting.aad known
             → StandsFor task known.payload at self.new
@@ -146,7 +146,7 @@ impl<'k, const H: usize, const D: usize> Reader<'k, H, D> {
     pub(crate) fn auth(&mut self, auth: Auth, piece: &[u8])
         requires phase { self.old.phase ≡ Phase.Auth auth }
         requires fits { length piece.now ≤ auth.left }
-        ensures stands { (task : Task) (B : List ℕ) (n : ℕ) (reading : List ℕ → Reading)
+        ensures reads_on { (task : Task) (B : List ℕ) (n : ℕ) (reading : List ℕ → Reading)
             → StandsFor task B n self.old reading
             → StandsFor task B (n + length piece.now) self.new (λ z. reading (piece.now ++ z)) }
     {
@@ -175,8 +175,8 @@ impl<'k, const H: usize, const D: usize> Reader<'k, H, D> {
 
     /// All bytes are there: the shape of a message that is only inspected is known.
     fn finish(&mut self, whole: Whole)
-        ensures stands { (task : Task) (known : Known) (at : ℕ)
-            → Shows task (headers_told known.headers known.payload) self.old
+        ensures reads_on { (task : Task) (known : Known) (at : ℕ)
+            → Shows task (headers_so_far known.headers known.payload) self.old
             → HoldsKey task known self.old whole.kind → length known.payload ≡ whole.payload
             → length known.auth ≡ whole.auth
             → IsFed self.old.hashing task.setting.aad known
@@ -200,8 +200,8 @@ impl<'k, const H: usize, const D: usize> Reader<'k, H, D> {
 
     /// All bytes are there, and a key was chosen: a tag is compared, and a signature is left to the `EcVerifier`.
     fn compare(&mut self, whole: Whole, alg: Alg)
-        ensures stands { (task : Task) (known : Known) (found : Found) (at : ℕ)
-            → Shows task (headers_told known.headers known.payload) self.old
+        ensures reads_on { (task : Task) (known : Known) (found : Found) (at : ℕ)
+            → Shows task (headers_so_far known.headers known.payload) self.old
             → HoldsKey task known self.old whole.kind → known.chosen ≡ Some found → found.alg ≡ alg
             → length known.payload ≡ whole.payload
             → IsFed self.old.hashing task.setting.aad known → self.old.auth.items ≡ known.auth

@@ -98,7 +98,7 @@ impl<'k, const H: usize, const D: usize> Reader<'k, H, D> {
     ghost use Rattle.cose_msg.specs.Choosing.{choice_of};
     ghost use Rattle.cose_msg.specs.Chosen.{ChoiceIs, chosen_value};
     ghost use Rattle.cose_msg.specs.Hashing.{HashesFor};
-    ghost use Rattle.cose_msg.specs.Phases.{both_buckets, headers_told, placed_at};
+    ghost use Rattle.cose_msg.specs.Phases.{both_buckets, headers_so_far, placed_at};
     ghost use Rattle.cose_msg.specs.Reading.{Reading};
     ghost use Rattle.cose_msg.specs.Reader.{Shows, StandsFor, task_in};
     ghost use Rattle.cose_msg.specs.Task.{Task, keys_for, rules_of};
@@ -135,11 +135,11 @@ impl<'k, const H: usize, const D: usize> Reader<'k, H, D> {
     }
 
     /// Begins the hash over the structure, where a key was chosen.
-    fn begin_hashing(chosen: &Option<Chosen<'k>>) -> Hashing
+    fn begin_hashing<K: Keys<'k>>(keys: Option<&K>, chosen: &Option<Chosen<'k>>) -> Hashing
         ensures { HashesFor result (option_map chosen_value chosen.now) [] }
     {
         match chosen {
-            Some(chosen) => Hashing::begin(chosen.alg, secret_of(&chosen.key.material)),
+            Some(chosen) => Hashing::begin(keys, chosen.alg, secret_of(&chosen.key.material)),
             None => Hashing::Nothing,
         }
     }
@@ -154,9 +154,9 @@ impl<'k, const H: usize, const D: usize> Reader<'k, H, D> {
     )
         requires protected_early { protected_at ≤ 36 }
         requires early { at < 2 ^ 17 }
-        ensures stands { (task : Task) (pairs others : List Pair)
+        ensures reads_on { (task : Task) (pairs others : List Pair)
             → keys_in K.usable keys.entry ≡ keys_for task
-            → Shows task (headers_told (headers_of kind self.old.protected.items pairs others) [])
+            → Shows task (headers_so_far (headers_of kind self.old.protected.items pairs others) [])
             self.old
             → bucket_of D (placed_at protected_at self.old.protected.items) ≡ Ok pairs
             → bucket_of D (placed_at at self.old.unprotected.items) ≡ Ok others
@@ -168,7 +168,7 @@ impl<'k, const H: usize, const D: usize> Reader<'k, H, D> {
         let after = at + self.unprotected.len() as u64;
         match self.choose(keys, kind, protected_at, at) {
             Ok(choice) => {
-                self.hashing = Self::begin_hashing(&choice.chosen);
+                self.hashing = Self::begin_hashing(keys, &choice.chosen);
                 self.chosen = choice.chosen;
                 self.begin_payload_head(kind, choice.is_bare, after);
             }

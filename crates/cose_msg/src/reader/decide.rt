@@ -52,7 +52,7 @@ impl<'k, const H: usize, const D: usize> Reader<'k, H, D> {
     }
 
     /// Fewer bytes than are wanted don't settle the message. Proof only; no run-time effect.
-    pub(crate) fn waits(&self)
+    pub(crate) fn lemma_reading_so_far(&self)
         ensures open { (task : Task) (B : List ℕ) (n : ℕ) (reading : List ℕ → Reading)
             (more : List ℕ)
             → StandsFor task B n self.now reading
@@ -65,7 +65,7 @@ impl<'k, const H: usize, const D: usize> Reader<'k, H, D> {
             → (reading []).wanted ≡ want_of self.now.phase }
         ensures payload { (task : Task) (B : List ℕ) (n : ℕ) (reading : List ℕ → Reading)
             → StandsFor task B n self.now reading → given_to B task ≡ task
-            → (reading []).told.payload ≡ B }
+            → (reading []).so_far.payload ≡ B }
         ensures ended { (task : Task) (B : List ℕ) (n : ℕ) (reading : List ℕ → Reading)
             → StandsFor task B n self.now reading → given_to B task ≡ task
             → is_open (status_of_phase self.now.phase) ≡ true
@@ -89,11 +89,11 @@ impl<'k, const H: usize, const D: usize> Reader<'k, H, D> {
             (more : List ℕ)
             → StandsFor task B n self.now reading
             → in_payload self.now.phase ≡ true
-            → (reading more).told.payload ≡ B ++ take (want_of self.now.phase) more }
+            → (reading more).so_far.payload ≡ B ++ take (want_of self.now.phase) more }
         ensures fixed { (task : Task) (B : List ℕ) (n : ℕ) (reading : List ℕ → Reading)
             (more : List ℕ)
             → StandsFor task B n self.now reading → given_to B task ≡ task
-            → in_payload self.now.phase ≡ false → 0 < length B → (reading more).told.payload ≡ B }
+            → in_payload self.now.phase ≡ false → 0 < length B → (reading more).so_far.payload ≡ B }
         // The last byte of a payload doesn't settle it either: a tag or signature follows.
         ensures open_payload { (task : Task) (B : List ℕ) (n : ℕ) (reading : List ℕ → Reading)
             (more : List ℕ)
@@ -186,7 +186,7 @@ impl<'k, const H: usize, const D: usize> Reader<'k, H, D> {
         // Where no byte was taken, the only change is that the message is Truncated at 0.
         ensures untouched { taken ≡ 0 → IsUntouched self.old → IsUntouched self.new }
     {
-        self.waits();
+        self.lemma_reading_so_far();
         if let Some(verdict) = self.known_verdict() {
             return verdict;
         }
@@ -228,7 +228,7 @@ impl<'k, const H: usize, const D: usize> Reader<'k, H, D> {
             → status_of_phase self.new.phase ≡ status_of_answer (reading []).answer }
         ensures untouched { taken ≡ 0 → IsUntouched self.old → IsUntouched self.new }
     {
-        self.waits();
+        self.lemma_reading_so_far();
         match self.inspected() {
             Some(inspected) => inspected,
             None => {

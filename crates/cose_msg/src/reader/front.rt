@@ -58,7 +58,7 @@ fn kind_of_tag(wanted: Wanted, number: u64) -> Result<Kind, Reason>
 
 /// The kind that a head after the CWT tag gives.
 fn cose_tag(wanted: Wanted, head: &Head) -> Result<Kind, Reason>
-    ensures { result ≡ spec.tag_behind_cwt wanted head.now }
+    ensures { result ≡ spec.tag_after_cwt wanted head.now }
 {
     if !is_tag(head) {
         return Err(Reason::CwtTagAlone);
@@ -82,7 +82,7 @@ fn fault_of_array(head: &Head) -> Option<Reason>
 impl<'k, const H: usize, const D: usize> Reader<'k, H, D> {
     ghost use Rattle.std.specs.Prelude.{ℕ, ◌+◌, ◌≤◌, List, [], ◌∷◌};
     ghost use Rattle.cose_msg.specs.Front.{array_head, past_array_head, past_tag, past_untagged, past_first_head, second_head};
-    ghost use Rattle.cose_msg.specs.Phases.{nothing_told};
+    ghost use Rattle.cose_msg.specs.Phases.{nothing_so_far};
     ghost use Rattle.cose_msg.specs.Reading.{Reading};
     ghost use Rattle.cose_msg.specs.Task.{Task, rules_of};
     ghost use Rattle.cose_msg.specs.Reader.{Shows, StandsFor};
@@ -90,7 +90,7 @@ impl<'k, const H: usize, const D: usize> Reader<'k, H, D> {
     /// Takes the next byte of the first head.
     pub(crate) fn first_head(&mut self, byte: u8)
         requires phase { self.old.phase ≡ Phase.FirstHead }
-        ensures stands { (task : Task) (B : List ℕ) (n : ℕ) (reading : List ℕ → Reading)
+        ensures reads_on { (task : Task) (B : List ℕ) (n : ℕ) (reading : List ℕ → Reading)
             → StandsFor task B n self.old reading
             → StandsFor task B (n + 1) self.new (λ z. reading (byte ∷ z)) }
     {
@@ -104,7 +104,7 @@ impl<'k, const H: usize, const D: usize> Reader<'k, H, D> {
     /// What follows the first head.
     fn past_first_head(&mut self, head: Head, at: u64)
         requires early { at ≤ 9 }
-        ensures stands { (task : Task) → Shows task nothing_told self.old
+        ensures reads_on { (task : Task) → Shows task nothing_so_far self.old
             → StandsFor task [] at self.new (λ z. past_first_head (rules_of H D task) 0 head at z) }
     {
         let wanted = self.terms.wanted;
@@ -122,7 +122,7 @@ impl<'k, const H: usize, const D: usize> Reader<'k, H, D> {
     /// What follows the head of an array without a tag.
     fn past_untagged(&mut self, wanted: Wanted, head: Head, at: u64)
         requires early { at ≤ 9 }
-        ensures stands { (task : Task) → Shows task nothing_told self.old
+        ensures reads_on { (task : Task) → Shows task nothing_so_far self.old
             → StandsFor task [] at self.new
             (λ z. past_untagged (rules_of H D task) wanted 0 head at z) }
     {
@@ -136,7 +136,7 @@ impl<'k, const H: usize, const D: usize> Reader<'k, H, D> {
     /// The head of another tag begins here.
     fn begin_tag_head(&mut self, at: u64)
         requires early { at ≤ 9 }
-        ensures stands { (task : Task) → Shows task nothing_told self.old
+        ensures reads_on { (task : Task) → Shows task nothing_so_far self.old
             → StandsFor task [] at self.new (λ z. second_head (rules_of H D task) at z) }
     {
         self.head.clear();
@@ -146,7 +146,7 @@ impl<'k, const H: usize, const D: usize> Reader<'k, H, D> {
     /// Takes the next byte of the head after the CWT tag.
     pub(crate) fn tag_head(&mut self, tag_head: TagHead, byte: u8)
         requires phase { self.old.phase ≡ Phase.TagHead tag_head }
-        ensures stands { (task : Task) (B : List ℕ) (n : ℕ) (reading : List ℕ → Reading)
+        ensures reads_on { (task : Task) (B : List ℕ) (n : ℕ) (reading : List ℕ → Reading)
             → StandsFor task B n self.old reading
             → StandsFor task B (n + 1) self.new (λ z. reading (byte ∷ z)) }
     {
@@ -164,7 +164,7 @@ impl<'k, const H: usize, const D: usize> Reader<'k, H, D> {
     /// What follows a tag, given its kind or why it is refused.
     fn past_tag(&mut self, kind: Result<Kind, Reason>, tag_at: u64, at: u64)
         requires early { at ≤ 18 }
-        ensures stands { (task : Task) → Shows task nothing_told self.old
+        ensures reads_on { (task : Task) → Shows task nothing_so_far self.old
             → StandsFor task [] at self.new (λ z. past_tag (rules_of H D task) tag_at kind at z) }
     {
         match kind {
@@ -176,7 +176,7 @@ impl<'k, const H: usize, const D: usize> Reader<'k, H, D> {
     /// The head of the array begins here.
     fn begin_array_head(&mut self, kind: Kind, at: u64)
         requires early { at ≤ 18 }
-        ensures stands { (task : Task) → Shows task nothing_told self.old
+        ensures reads_on { (task : Task) → Shows task nothing_so_far self.old
             → StandsFor task [] at self.new (λ z. array_head (rules_of H D task) kind at z) }
     {
         self.head.clear();
@@ -186,7 +186,7 @@ impl<'k, const H: usize, const D: usize> Reader<'k, H, D> {
     /// Takes the next byte of the array's head.
     pub(crate) fn array_head(&mut self, array_head: ArrayHead, byte: u8)
         requires phase { self.old.phase ≡ Phase.ArrayHead array_head }
-        ensures stands { (task : Task) (B : List ℕ) (n : ℕ) (reading : List ℕ → Reading)
+        ensures reads_on { (task : Task) (B : List ℕ) (n : ℕ) (reading : List ℕ → Reading)
             → StandsFor task B n self.old reading
             → StandsFor task B (n + 1) self.new (λ z. reading (byte ∷ z)) }
     {
@@ -201,7 +201,7 @@ impl<'k, const H: usize, const D: usize> Reader<'k, H, D> {
     /// What follows the array's head.
     fn past_array_head(&mut self, kind: Kind, head: Head, head_at: u64, at: u64)
         requires early { at ≤ 27 }
-        ensures stands { (task : Task) → Shows task nothing_told self.old
+        ensures reads_on { (task : Task) → Shows task nothing_so_far self.old
             → StandsFor task [] at self.new
             (λ z. past_array_head (rules_of H D task) kind head_at head at z) }
     {

@@ -3,7 +3,7 @@
 ghost use Rattle.std.specs.Prelude.{◌≡◌, ◌<◌, ◌≤◌, ◌+◌, ◌^◌, ℕ, List, Ok, ◌++◌, length};
 ghost use Rattle.cose_head.specs.Measured.{left_of};
 ghost use Rattle.cose_head.specs.Reading.{read};
-ghost use Rattle.cose_head.specs.Walker.{Answers, HasPut, StandsAmong, last_step};
+ghost use Rattle.cose_head.specs.Walker.{Answers, HasPut, IsAmong, last_step};
 ghost use Rattle.cose_map.specs.Bucket.{bucket_of};
 ghost use Rattle.cose_map.specs.Map.View.{refusal_in};
 ghost use Rattle.cose_msg.specs.Reading.{wanted_after};
@@ -36,7 +36,7 @@ fn walk_on<const D: usize>(walker: &mut Walker<D>, piece: &[u8]) -> Step
         → result ≡ Step.Going → HasPut room (bytes ++ piece.now) walker.new }
     ensures among { (room : ℕ) (bytes : List ℕ) → HasPut room bytes walker.old
         → length piece.now ≤ wanted_after room D bytes
-        → StandsAmong room (bytes ++ piece.now) result }
+        → IsAmong room (bytes ++ piece.now) result }
     ensures step { last_step walker.new ≡ result }
 {
     if walker.pass(piece) == 0 {
@@ -48,7 +48,7 @@ fn walk_on<const D: usize>(walker: &mut Walker<D>, piece: &[u8]) -> Step
 impl<'k, const H: usize, const D: usize> Reader<'k, H, D> {
     ghost use Rattle.std.specs.Prelude.{[], ◌∷◌};
     ghost use Rattle.cose_map.specs.Map.Pairs.{Pair};
-    ghost use Rattle.cose_msg.specs.Phases.{nothing_told, past_protected, past_protected_head, past_unprotected, placed_at, protected_head, protected_fault_within, protected_told, unprotected};
+    ghost use Rattle.cose_msg.specs.Phases.{nothing_so_far, past_protected, past_protected_head, past_unprotected, placed_at, protected_head, protected_fault_within, protected_so_far, unprotected};
     ghost use Rattle.cose_msg.specs.Reading.{Reading};
     ghost use Rattle.cose_msg.specs.Task.{Task, keys_for, rules_of};
     ghost use Rattle.cose_msg.specs.Reader.{Shows, StandsFor, keys_in};
@@ -56,7 +56,7 @@ impl<'k, const H: usize, const D: usize> Reader<'k, H, D> {
     /// The head of the protected bucket begins here.
     pub(crate) fn begin_protected_head(&mut self, kind: Kind, at: u64)
         requires early { at ≤ 27 }
-        ensures stands { (task : Task) → Shows task nothing_told self.old
+        ensures reads_on { (task : Task) → Shows task nothing_so_far self.old
             → StandsFor task [] at self.new (λ z. protected_head (rules_of H D task) kind at z) }
     {
         self.head.clear();
@@ -66,7 +66,7 @@ impl<'k, const H: usize, const D: usize> Reader<'k, H, D> {
     /// Takes the next byte of the protected bucket's head.
     pub(crate) fn protected_head(&mut self, protected_head: ProtectedHead, byte: u8)
         requires phase { self.old.phase ≡ Phase.ProtectedHead protected_head }
-        ensures stands { (task : Task) (B : List ℕ) (n : ℕ) (reading : List ℕ → Reading)
+        ensures reads_on { (task : Task) (B : List ℕ) (n : ℕ) (reading : List ℕ → Reading)
             → StandsFor task B n self.old reading
             → StandsFor task B (n + 1) self.new (λ z. reading (byte ∷ z)) }
     {
@@ -94,7 +94,7 @@ impl<'k, const H: usize, const D: usize> Reader<'k, H, D> {
     /// What follows the protected bucket's head.
     fn past_protected_head(&mut self, kind: Kind, head: Head, head_at: u64, at: u64)
         requires early { at ≤ 36 }
-        ensures stands { (task : Task) → Shows task nothing_told self.old
+        ensures reads_on { (task : Task) → Shows task nothing_so_far self.old
             → StandsFor task [] at self.new
             (λ z. past_protected_head (rules_of H D task) kind head_at head at z) }
     {
@@ -120,7 +120,7 @@ impl<'k, const H: usize, const D: usize> Reader<'k, H, D> {
     pub(crate) fn protected_piece(&mut self, protected: Protected, piece: &[u8])
         requires phase { self.old.phase ≡ Phase.Protected protected }
         requires fits { length piece.now ≤ protected.left }
-        ensures stands { (task : Task) (B : List ℕ) (n : ℕ) (reading : List ℕ → Reading)
+        ensures reads_on { (task : Task) (B : List ℕ) (n : ℕ) (reading : List ℕ → Reading)
             → StandsFor task B n self.old reading
             → StandsFor task B (n + length piece.now) self.new (λ z. reading (piece.now ++ z)) }
     {
@@ -141,7 +141,7 @@ impl<'k, const H: usize, const D: usize> Reader<'k, H, D> {
     /// What follows the protected bucket, whose content is at this place.
     fn past_protected(&mut self, kind: Kind, at: u64)
         requires early { at ≤ 36 }
-        ensures stands { (task : Task) → Shows task nothing_told self.old
+        ensures reads_on { (task : Task) → Shows task nothing_so_far self.old
             → StandsFor task [] (at + length self.old.protected.items) self.new
             (λ z. past_protected (rules_of H D task) kind at self.old.protected.items
             (at + length self.old.protected.items) z) }
@@ -157,7 +157,7 @@ impl<'k, const H: usize, const D: usize> Reader<'k, H, D> {
     fn begin_unprotected(&mut self, kind: Kind, protected_at: u64, at: u64)
         requires protected_early { protected_at ≤ 36 }
         requires early { at < 2 ^ 17 }
-        ensures stands { (task : Task) (pairs : List Pair) → Shows task nothing_told self.old
+        ensures reads_on { (task : Task) (pairs : List Pair) → Shows task nothing_so_far self.old
             → bucket_of D (placed_at protected_at self.old.protected.items) ≡ Ok pairs
             → StandsFor task [] at self.new
             (λ z. unprotected (rules_of H D task) kind self.old.protected.items pairs at z) }
@@ -185,9 +185,9 @@ impl<'k, const H: usize, const D: usize> Reader<'k, H, D> {
     )
         requires protected_early { protected_at ≤ 36 }
         requires early { at < 2 ^ 17 }
-        ensures stands { (task : Task) (pairs : List Pair)
+        ensures reads_on { (task : Task) (pairs : List Pair)
             → keys_in K.usable keys.entry ≡ keys_for task
-            → Shows task (protected_told pairs) self.old
+            → Shows task (protected_so_far pairs) self.old
             → bucket_of D (placed_at protected_at self.old.protected.items) ≡ Ok pairs
             → StandsFor task [] (at + length self.old.unprotected.items) self.new
             (λ z. past_unprotected (rules_of H D task) kind self.old.protected.items pairs at
@@ -212,7 +212,7 @@ impl<'k, const H: usize, const D: usize> Reader<'k, H, D> {
         requires phase { self.old.phase ≡ Phase.Unprotected unprotected }
         requires some { 0 < length piece.now }
         requires fits { length piece.now ≤ unprotected.wanted }
-        ensures stands { (task : Task) (B : List ℕ) (n : ℕ) (reading : List ℕ → Reading)
+        ensures reads_on { (task : Task) (B : List ℕ) (n : ℕ) (reading : List ℕ → Reading)
             → keys_in K.usable keys.entry ≡ keys_for task
             → StandsFor task B n self.old reading
             → StandsFor task B (n + length piece.now) self.new (λ z. reading (piece.now ++ z)) }

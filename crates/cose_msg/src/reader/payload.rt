@@ -61,7 +61,7 @@ fn empty_if(is_bare: bool, bytes: &[u8]) -> &[u8]
 impl<'k, const H: usize, const D: usize> Reader<'k, H, D> {
     ghost use Rattle.std.specs.Prelude.{List, ◌∷◌, ◌++◌, length, ◌==◌, true};
     ghost use Rattle.cose_msg.specs.Hashing.{HashesFor};
-    ghost use Rattle.cose_msg.specs.Phases.{detached_payload, headers_told, past_payload_head, payload, payload_head};
+    ghost use Rattle.cose_msg.specs.Phases.{detached_payload, headers_so_far, past_payload_head, payload, payload_head};
     ghost use Rattle.cose_msg.specs.Reading.{Reading};
     ghost use Rattle.cose_msg.specs.Task.{Task, rules_of};
     ghost use Rattle.cose_msg.specs.Reader.{HoldsKey, IsAtPayload, Known, Shows, StandsFor};
@@ -73,8 +73,8 @@ impl<'k, const H: usize, const D: usize> Reader<'k, H, D> {
     /// The payload's head begins here.
     pub(crate) fn begin_payload_head(&mut self, kind: Kind, is_bare: bool, at: u64)
         requires early { at < 2 ^ 18 }
-        ensures stands { (task : Task) (known : Known)
-            → Shows task (headers_told known.headers []) self.old → known.payload ≡ []
+        ensures reads_on { (task : Task) (known : Known)
+            → Shows task (headers_so_far known.headers []) self.old → known.payload ≡ []
             → HoldsKey task known self.old kind → known.headers.protected ≡ self.old.protected.items
             → is_bare ≡ (length known.headers.protected_pairs == 0)
             → HashesFor self.old.hashing known.chosen []
@@ -88,7 +88,7 @@ impl<'k, const H: usize, const D: usize> Reader<'k, H, D> {
     /// Takes the next byte of the payload's head. A detached payload has the length that is stated.
     pub(crate) fn payload_head(&mut self, payload_head: PayloadHead, byte: u8, stated: Option<u64>)
         requires phase { self.old.phase ≡ Phase.PayloadHead payload_head }
-        ensures stands { (task : Task) (B : List ℕ) (n : ℕ) (reading : List ℕ → Reading)
+        ensures reads_on { (task : Task) (B : List ℕ) (n : ℕ) (reading : List ℕ → Reading)
             → IsStated stated task.setting.source → StandsFor task B n self.old reading
             → StandsFor task B (n + 1) self.new (λ z. reading (byte ∷ z)) }
     {
@@ -114,8 +114,8 @@ impl<'k, const H: usize, const D: usize> Reader<'k, H, D> {
         stated: Option<u64>,
     )
         requires early { at < 2 ^ 19 }
-        ensures stands { (task : Task) (known : Known) → IsStated stated task.setting.source
-            → Shows task (headers_told known.headers []) self.old → known.payload ≡ []
+        ensures reads_on { (task : Task) (known : Known) → IsStated stated task.setting.source
+            → Shows task (headers_so_far known.headers []) self.old → known.payload ≡ []
             → HoldsKey task known self.old payload_head.kind
             → known.headers.protected ≡ self.old.protected.items
             → payload_head.is_bare ≡ (length known.headers.protected_pairs == 0)
@@ -147,7 +147,7 @@ impl<'k, const H: usize, const D: usize> Reader<'k, H, D> {
     /// or an empty string where the bucket has no pair.
     fn hash_front(&mut self, head: PayloadHead, payload_length: u64)
         ensures opened { (task : Task) (known : Known)
-            → Shows task (headers_told known.headers []) self.old → known.payload ≡ []
+            → Shows task (headers_so_far known.headers []) self.old → known.payload ≡ []
             → HoldsKey task known self.old head.kind
             → known.headers.protected ≡ self.old.protected.items
             → head.is_bare ≡ (length known.headers.protected_pairs == 0)
@@ -163,7 +163,7 @@ impl<'k, const H: usize, const D: usize> Reader<'k, H, D> {
     fn begin_payload(&mut self, kind: Kind, at: u64, length: u64)
         requires early { at < 2 ^ 19 }
         requires limit { length < 2 ^ 56 }
-        ensures stands { (task : Task) (known : Known) → IsAtPayload task known self.old kind length
+        ensures reads_on { (task : Task) (known : Known) → IsAtPayload task known self.old kind length
             → task.setting.source ≡ attached
             → StandsFor task [] at self.new
             (λ z. payload (rules_of H D task) known.headers known.chosen length at z) }
@@ -184,7 +184,7 @@ impl<'k, const H: usize, const D: usize> Reader<'k, H, D> {
     fn await_payload(&mut self, kind: Kind, nil: u64, at: u64, stated: u64)
         requires early { at < 2 ^ 19 }
         requires limit { stated < 2 ^ 56 }
-        ensures stands { (task : Task) (known : Known) (came : List ℕ)
+        ensures reads_on { (task : Task) (known : Known) (came : List ℕ)
             → IsAtPayload task known self.old kind stated
             → task.setting.source ≡ detached came stated
             → StandsFor task [] at self.new (λ z. detached_payload (rules_of H D task) known.headers
@@ -207,7 +207,7 @@ impl<'k, const H: usize, const D: usize> Reader<'k, H, D> {
     pub(crate) fn payload(&mut self, payload: Payload, piece: &[u8])
         requires phase { self.old.phase ≡ Phase.Payload payload }
         requires fits { length piece.now ≤ payload.left }
-        ensures stands { (task : Task) (B : List ℕ) (n : ℕ) (reading : List ℕ → Reading)
+        ensures reads_on { (task : Task) (B : List ℕ) (n : ℕ) (reading : List ℕ → Reading)
             → StandsFor task B n self.old reading
             → StandsFor task (B ++ piece.now) (n + length piece.now) self.new
             (λ z. reading (piece.now ++ z)) }
@@ -236,7 +236,7 @@ impl<'k, const H: usize, const D: usize> Reader<'k, H, D> {
         ensures complete { payload_want_of self.new.phase ≡ 0 → status_of_phase self.new.phase
             ≡ Status.More }
         // Where it is the next one of what comes of the payload, the reading stays.
-        ensures stands { (task : Task) (B more : List ℕ) (n : ℕ) (reading : List ℕ → Reading)
+        ensures reads_on { (task : Task) (B more : List ℕ) (n : ℕ) (reading : List ℕ → Reading)
             → came_of task.setting.source ≡ (B ++ part.now) ++ more
             → StandsFor task B n self.old reading
             → StandsFor task (B ++ part.now) n self.new reading }

@@ -91,8 +91,10 @@ impl<'k, const H: usize, const D: usize, S: Keys<'k>> Verifier<'k, H, D, S> {
         ensures marked { self.new.stopped ≡ self.old.stopped }
         ensures inspects { is_inspecting self.new ≡ is_inspecting self.old }
         ensures detached { is_detached self.new ≡ is_detached self.old }
-        ensures taken { (task : Task) (s B : List ℕ) → HasTaken task s B self.old
-            → HasTaken task (s ++ piece.now) (grown self.old.reader.phase B piece.now) self.new }
+        ensures taken { (task : Task) (taken payload_so_far : List ℕ)
+            → HasTaken task taken payload_so_far self.old
+            → HasTaken task (taken ++ piece.now)
+            (grown self.old.reader.phase payload_so_far piece.now) self.new }
     {
         let keys = keys_to_choose_from(&self.keys, self.inspecting);
         self.reader.advance(piece, keys, self.stated);
@@ -126,17 +128,17 @@ impl<'k, const H: usize, const D: usize, S: Keys<'k>> Verifier<'k, H, D, S> {
         ensures opened { opened self.new ≡ opened self.old }
         ensures complete { awaits_decision self.old.reader.phase ≡ true → self.old.stopped ≡ false
             → status_in self.new ≡ Status.Complete }
-        ensures answer { (setting : Setting) (B : List ℕ) (reading : List ℕ → Reading)
-            → StandsFor (to_verify setting) B self.old.taken self.old.reader reading
-            → given_to B (to_verify setting) ≡ to_verify setting
+        ensures answer { (setting : Setting) (payload_so_far : List ℕ) (reading : List ℕ → Reading)
+            → StandsFor (to_verify setting) payload_so_far self.old.taken self.old.reader reading
+            → given_to payload_so_far (to_verify setting) ≡ to_verify setting
             → then_verified setting.aad (E.decides ec.now) (reading []).answer ≡ decided result }
-        ensures counted { (setting : Setting) (B : List ℕ) (reading : List ℕ → Reading)
-            → StandsFor (to_verify setting) B self.old.taken self.old.reader reading
-            → given_to B (to_verify setting) ≡ to_verify setting
+        ensures counted { (setting : Setting) (payload_so_far : List ℕ) (reading : List ℕ → Reading)
+            → StandsFor (to_verify setting) payload_so_far self.old.taken self.old.reader reading
+            → given_to payload_so_far (to_verify setting) ≡ to_verify setting
             → Counts result self.old.taken }
-        ensures status { (setting : Setting) (B : List ℕ) (reading : List ℕ → Reading)
-            → StandsFor (to_verify setting) B self.old.taken self.old.reader reading
-            → given_to B (to_verify setting) ≡ to_verify setting
+        ensures status { (setting : Setting) (payload_so_far : List ℕ) (reading : List ℕ → Reading)
+            → StandsFor (to_verify setting) payload_so_far self.old.taken self.old.reader reading
+            → given_to payload_so_far (to_verify setting) ≡ to_verify setting
             → self.old.stopped ≡ false → status_in self.new ≡ status_of_answer (reading []).answer }
     {
         self.reader.conclude(self.taken, ec)
@@ -149,23 +151,23 @@ impl<'k, const H: usize, const D: usize, S: Keys<'k>> Verifier<'k, H, D, S> {
         ensures inspects { is_inspecting self.new ≡ is_inspecting self.old }
         ensures detached { is_detached self.new ≡ is_detached self.old }
         ensures context { setting_in self.new ≡ setting_in self.old }
-        ensures shown { (setting : Setting) (B : List ℕ) (reading : List ℕ → Reading)
-            → StandsFor (to_inspect setting) B self.old.taken self.old.reader reading
-            → given_to B (to_inspect setting) ≡ to_inspect setting
+        ensures shown { (setting : Setting) (payload_so_far : List ℕ) (reading : List ℕ → Reading)
+            → StandsFor (to_inspect setting) payload_so_far self.old.taken self.old.reader reading
+            → given_to payload_so_far (to_inspect setting) ≡ to_inspect setting
             → shown_of self.new ≡ shown_of self.old }
         ensures held { held self.new ≡ held self.old }
         ensures opened { opened self.new ≡ opened self.old }
-        ensures answer { (setting : Setting) (B : List ℕ) (reading : List ℕ → Reading)
-            → StandsFor (to_inspect setting) B self.old.taken self.old.reader reading
-            → given_to B (to_inspect setting) ≡ to_inspect setting
+        ensures answer { (setting : Setting) (payload_so_far : List ℕ) (reading : List ℕ → Reading)
+            → StandsFor (to_inspect setting) payload_so_far self.old.taken self.old.reader reading
+            → given_to payload_so_far (to_inspect setting) ≡ to_inspect setting
             → (reading []).answer ≡ inspection result }
-        ensures counted { (setting : Setting) (B : List ℕ) (reading : List ℕ → Reading)
-            → StandsFor (to_inspect setting) B self.old.taken self.old.reader reading
-            → given_to B (to_inspect setting) ≡ to_inspect setting
+        ensures counted { (setting : Setting) (payload_so_far : List ℕ) (reading : List ℕ → Reading)
+            → StandsFor (to_inspect setting) payload_so_far self.old.taken self.old.reader reading
+            → given_to payload_so_far (to_inspect setting) ≡ to_inspect setting
             → SaysCount (inspection result) self.old.taken }
-        ensures status { (setting : Setting) (B : List ℕ) (reading : List ℕ → Reading)
-            → StandsFor (to_inspect setting) B self.old.taken self.old.reader reading
-            → given_to B (to_inspect setting) ≡ to_inspect setting
+        ensures status { (setting : Setting) (payload_so_far : List ℕ) (reading : List ℕ → Reading)
+            → StandsFor (to_inspect setting) payload_so_far self.old.taken self.old.reader reading
+            → given_to payload_so_far (to_inspect setting) ≡ to_inspect setting
             → self.old.stopped ≡ false → status_in self.new ≡ status_of_answer (reading []).answer }
     {
         self.reader.conclude_inspection(self.taken)

@@ -40,7 +40,7 @@ impl<'k, const H: usize, const D: usize, S: Keys<'k>> Verifier<'k, H, D, S> {
     ghost use Rattle.cose_msg.specs.Kept.{HasTaken, bytes_taken, is_inspecting, kept_answer};
     ghost use Rattle.cose_msg.specs.Message.{Setting, message, verdict_of};
     ghost use Rattle.cose_msg.specs.Phase.{is_settled, want_of};
-    ghost use Rattle.cose_msg.specs.Shown.{Tells, held, shown_of};
+    ghost use Rattle.cose_msg.specs.Shown.{ShowsReading, held, shown_of};
     ghost use Rattle.cose_msg.specs.Status.{is_complete, is_more, is_open, status_in, status_of_reading, status_of_answer, wanted_in};
     ghost use Rattle.cose_msg.specs.Task.{Task, rules_of, to_verify};
     ghost use Rattle.cose_msg.specs.Verifier.{is_detached, opened, setting_in};
@@ -49,13 +49,15 @@ impl<'k, const H: usize, const D: usize, S: Keys<'k>> Verifier<'k, H, D, S> {
     pub fn status(&self) -> Status
         ensures value { result ≡ status_in self.now }
         // It is that of the bytes so far, by definition.
-        ensures reads { (task : Task) (s B : List ℕ) → HasTaken task s B self.now
-            → result ≡ status_of_reading (message (rules_of H D task) s) }
+        ensures reads { (task : Task) (taken payload_so_far : List ℕ)
+            → HasTaken task taken payload_so_far self.now
+            → result ≡ status_of_reading (message (rules_of H D task) taken) }
         // Of a message that has its payload no byte of a detached one is wanted.
-        ensures attached { (task : Task) (s B : List ℕ) → HasTaken task s B self.now
+        ensures attached { (task : Task) (taken payload_so_far : List ℕ)
+            → HasTaken task taken payload_so_far self.now
             → is_detached self.now ≡ false → result ≢ Status.PayloadNext }
     {
-        self.reader.waits();
+        self.reader.lemma_reading_so_far();
         if self.stopped {
             return Status::Stopped;
         }
@@ -74,16 +76,18 @@ impl<'k, const H: usize, const D: usize, S: Keys<'k>> Verifier<'k, H, D, S> {
     pub fn want(&self) -> u64
         ensures value { result ≡ wanted_in self.now }
         // By definition, of the bytes so far.
-        ensures reads { (task : Task) (s B : List ℕ) → HasTaken task s B self.now
-            → result ≡ (message (rules_of H D task) s).wanted }
+        ensures reads { (task : Task) (taken payload_so_far : List ℕ)
+            → HasTaken task taken payload_so_far self.now
+            → result ≡ (message (rules_of H D task) taken).wanted }
         ensures some { status_in self.now ≡ Status.More → 0 < result }
         ensures none { is_more (status_in self.now) ≡ false → result ≡ 0 }
         // Fewer bytes than that don't settle the message.
-        ensures early { (task : Task) (s B more : List ℕ) → HasTaken task s B self.now
+        ensures early { (task : Task) (taken payload_so_far more : List ℕ)
+            → HasTaken task taken payload_so_far self.now
             → length more < result
-            → (message (rules_of H D task) (s ++ more)).settled ≡ false }
+            → (message (rules_of H D task) (taken ++ more)).settled ≡ false }
     {
-        self.reader.waits();
+        self.reader.lemma_reading_so_far();
         if self.stopped {
             return 0;
         }
@@ -113,42 +117,51 @@ impl<'k, const H: usize, const D: usize, S: Keys<'k>> Verifier<'k, H, D, S> {
     /// stays.
     pub fn feed(&mut self, piece: &[u8]) -> Fed
         // Of the bytes so far, whatever cuts they came in, and the piece:
-        ensures uses { (task : Task) (s B : List ℕ) → HasTaken task s B self.old
-            → Uses (rules_of H D task) s piece.now result.used }
-        ensures taken { (task : Task) (s B : List ℕ) → HasTaken task s B self.old
-            → HasTaken task (s ++ take result.used piece.now) (B ++ payload_in result piece.now)
+        ensures uses { (task : Task) (taken payload_so_far : List ℕ)
+            → HasTaken task taken payload_so_far self.old
+            → Uses (rules_of H D task) taken piece.now result.used }
+        ensures taken { (task : Task) (taken payload_so_far : List ℕ)
+            → HasTaken task taken payload_so_far self.old
+            → HasTaken task (taken ++ take result.used piece.now) (payload_so_far
+            ++ payload_in result piece.now)
             self.new }
-        ensures status { (task : Task) (s B : List ℕ) → HasTaken task s B self.old
+        ensures status { (task : Task) (taken payload_so_far : List ℕ)
+            → HasTaken task taken payload_so_far self.old
             → result.status
-            ≡ status_of_reading (message (rules_of H D task) (s ++ take result.used piece.now)) }
-        ensures attached { (task : Task) (s B : List ℕ) → HasTaken task s B self.old
+            ≡ status_of_reading (message (rules_of H D task) (taken
+            ++ take result.used piece.now)) }
+        ensures attached { (task : Task) (taken payload_so_far : List ℕ)
+            → HasTaken task taken payload_so_far self.old
             → is_detached self.old ≡ false → result.status ≢ Status.PayloadNext }
-        ensures payload { (task : Task) (s B : List ℕ) → HasTaken task s B self.old
-            → (message (rules_of H D task) (s ++ take result.used piece.now)).told.payload
-            ≡ (message (rules_of H D task) s).told.payload ++ payload_in result piece.now }
-        ensures tells { (task : Task) (s B : List ℕ) → HasTaken task s B self.old
-            → Tells task (s ++ take result.used piece.now) self.new }
+        ensures payload { (task : Task) (taken payload_so_far : List ℕ)
+            → HasTaken task taken payload_so_far self.old
+            → (message (rules_of H D task) (taken ++ take result.used piece.now)).so_far.payload
+            ≡ (message (rules_of H D task) taken).so_far.payload ++ payload_in result piece.now }
+        ensures shows { (task : Task) (taken payload_so_far : List ℕ)
+            → HasTaken task taken payload_so_far self.old
+            → ShowsReading task (taken ++ take result.used piece.now) self.new }
         // The payload's bytes are some of those that were used, or both places are 0.
         ensures fits { result.used ≤ length piece.now }
         ensures ordered { result.payload_from ≤ result.payload_to }
         ensures among { result.payload_to ≤ result.used }
         ensures none { result.payload_from ≡ result.payload_to → result.payload_to ≡ 0 }
 
-        ensures stands { result.status ≡ status_in self.new }
+        ensures current { result.status ≡ status_in self.new }
         ensures counted { bytes_taken self.new ≡ bytes_taken self.old + result.used }
         // Where no byte is wanted, nothing changes.
         ensures again { is_more (status_in self.old) ≡ false
             → (result ≡ nothing_used (status_in self.old)) × (self.new ≡ self.old) }
         ensures inspects { is_inspecting self.new ≡ is_inspecting self.old }
         ensures detached { is_detached self.new ≡ is_detached self.old }
-        ensures context { (task : Task) (s B : List ℕ) → HasTaken task s B self.old
+        ensures context { (task : Task) (taken payload_so_far : List ℕ)
+            → HasTaken task taken payload_so_far self.old
             → setting_in self.new ≡ setting_in self.old }
         ensures held { held self.new ≤ 2 * H + 512 }
         ensures opened { opened self.new ≤ D }
     {
         // The law of messages that the proof cites.
         messages_are_bounded();
-        self.reader.waits();
+        self.reader.lemma_reading_so_far();
         let mut used = 0;
         let mut payload = Part { from: 0, to: 0 };
         if self.want() == 0 {
@@ -160,7 +173,7 @@ impl<'k, const H: usize, const D: usize, S: Keys<'k>> Verifier<'k, H, D, S> {
             };
         }
         'pieces: loop {
-            self.reader.waits();
+            self.reader.lemma_reading_so_far();
             let rest = &piece[used..];
             let count = self.step(rest.len());
             if count == 0 {
@@ -182,7 +195,7 @@ impl<'k, const H: usize, const D: usize, S: Keys<'k>> Verifier<'k, H, D, S> {
     /// Says that no further byte comes: a message that isn't settled is Truncated where its bytes end, and one whose detached
     /// payload isn't all there at its nil. Any other status stays.
     pub fn end(&mut self) -> Status
-        ensures stands { result ≡ status_in self.new }
+        ensures current { result ≡ status_in self.new }
         ensures truncated { status_in self.old ≡ Status.More
             → result
             ≡ Status.Refused (record { reason = Reason.Truncated; place = bytes_taken self.old }) }
@@ -191,9 +204,10 @@ impl<'k, const H: usize, const D: usize, S: Keys<'k>> Verifier<'k, H, D, S> {
             ≡ Some (Ok
             (Verdict.Refused
             (record { reason = Reason.Truncated; place = bytes_taken self.old }))) }
-        ensures awaiting { (task : Task) (s B : List ℕ) → HasTaken task s B self.old
+        ensures awaiting { (task : Task) (taken payload_so_far : List ℕ)
+            → HasTaken task taken payload_so_far self.old
             → status_in self.old ≡ Status.PayloadNext
-            → result ≡ status_of_answer (message (rules_of H D task) s).answer }
+            → result ≡ status_of_answer (message (rules_of H D task) taken).answer }
         ensures again { is_open (status_in self.old) ≡ false → (result ≡ status_in self.old)
             × (self.new ≡ self.old) }
         ensures counts { bytes_taken self.new ≡ bytes_taken self.old }
@@ -204,7 +218,7 @@ impl<'k, const H: usize, const D: usize, S: Keys<'k>> Verifier<'k, H, D, S> {
         ensures held { held self.new ≤ 2 * H + 512 }
         ensures opened { opened self.new ≤ D }
     {
-        self.reader.waits();
+        self.reader.lemma_reading_so_far();
         match self.status() {
             Status::More | Status::PayloadNext => {
                 let place = self.reader.phase.ends_at(self.taken);
@@ -223,11 +237,12 @@ impl<'k, const H: usize, const D: usize, S: Keys<'k>> Verifier<'k, H, D, S> {
         requires complete { is_complete (status_in self.old) ≡ true }
         requires verifies { is_inspecting self.old ≡ false }
         // It is that of the bytes so far.
-        ensures answer { (setting : Setting) (s B : List ℕ)
-            → HasTaken (to_verify setting) s B self.old
-            → verdict_of H D setting (E.decides ec.now) s ≡ decided result }
-        ensures status { (setting : Setting) (s B : List ℕ)
-            → HasTaken (to_verify setting) s B self.old → status_in self.new ≡ Status.Complete }
+        ensures answer { (setting : Setting) (taken payload_so_far : List ℕ)
+            → HasTaken (to_verify setting) taken payload_so_far self.old
+            → verdict_of H D setting (E.decides ec.now) taken ≡ decided result }
+        ensures status { (setting : Setting) (taken payload_so_far : List ℕ)
+            → HasTaken (to_verify setting) taken payload_so_far self.old → status_in self.new
+            ≡ Status.Complete }
         ensures kept { kept_answer self.new ≡ Some (Ok result) }
         ensures again { (verdict : Verdict) → kept_answer self.old ≡ Some (Ok verdict)
             → (result ≡ verdict) × (self.new ≡ self.old) }
@@ -241,7 +256,7 @@ impl<'k, const H: usize, const D: usize, S: Keys<'k>> Verifier<'k, H, D, S> {
     {
         // The law of messages that the proof cites.
         deciding_goes_last();
-        self.reader.waits();
+        self.reader.lemma_reading_so_far();
         match self.reader.known_verdict() {
             Some(verdict) => verdict,
             None => self.conclude(ec),

@@ -12,20 +12,26 @@ ghost use Rattle.cose_cwt.specs.Admission.View.{policy_value};
 ghost use Rattle.cose_cwt.specs.Claims.Audience.{text_value, texts_left};
 ghost use Rattle.cose_cwt.specs.Claims.View.{claims_value};
 ghost use Rattle.cose_cwt.specs.Confirmation.View.{cnf_value};
-ghost use Rattle.cose_cwt.specs.Token.{UnlessStopped, claims_seen, stop_in};
-ghost use Rattle.cosecmd.specs.Admitted.{bytes_line, claims_lines, confirmation_lines, date_line, input_token, key_line, program_policy, refused_line, text_line, where_present};
+ghost use Rattle.cose_cwt.specs.Requirements.View.{requirements_value};
+ghost use Rattle.cosecmd.specs.Admitted.{admission_seen, bytes_line, claims_lines, confirmation_lines, date_line, input_token, key_line, or_trailing, program_policy, refused_line, required_then, stopped_in, text_line, where_present};
 ghost use Rattle.cosecmd.specs.Faults.{fails_by_input};
-ghost use Rattle.cosecmd.specs.Printed.{Says, admitted_under, outcome_said, token_setting};
+ghost use Rattle.cosecmd.specs.Limits.{AreSizesUnder, room_of};
+ghost use Rattle.cosecmd.specs.Printed.{Says, admitted_under, outcome_said, token_setting, trailing_refusal};
 ghost use Rattle.cosecmd.specs.Readable.{date_notation, text_notation};
-ghost use Rattle.cosecmd.specs.Under.{job_under, program_keys};
+ghost use Rattle.cosecmd.specs.Under.{job_under};
 ghost use Rattle.cosecmd.specs.Vouch.{vouching};
 
-use crate::answer::verify::{CHUNK, HEADER, KEYS, NESTING, program_context, trailing_at};
+use crate::answer::unmet::unmet_reply;
+use crate::answer::verify::{CHUNK, program_context, trailing_at};
 use crate::fault::Fault;
 use crate::job::Checks;
+use crate::limits::{
+    LARGE_CLAIMS, LARGE_HEADER, LARGE_KEYS, LARGE_NESTING, Limits, SMALL_CLAIMS, SMALL_HEADER,
+    SMALL_KEYS, SMALL_NESTING,
+};
 use crate::reply::{Reply, Status};
 use crate::vouch::Vouch;
-use cose_cwt::{Audience, Auds, Claims, Cnf, CwtStop, Policy, verify_cwt};
+use cose_cwt::{Audience, Auds, Claims, Cnf, CwtStop, Policy, Requirements, TokenStop, verify_cwt};
 use cose_map::{Material, Y};
 use cose_msg::laws::settled_stays;
 use cose_msg::{
@@ -35,9 +41,6 @@ use cose_text::{Date, push_quoted};
 use std::alloc::Global;
 use std::io::Read;
 use std::slice;
-
-/// The most bytes of the claims of a token.
-const CLAIMS: usize = 4_096;
 
 /// What a token has to meet: where there is a text and the token names an audience, the token is for that text.
 pub fn policy_of<'j>(now: i64, leeway: u32, aud: &'j Option<&'j str>) -> Policy<'j>
@@ -252,12 +255,12 @@ fn refused_reply(alloc: Global, part: &str, refusal: Refusal) -> Result<Reply, F
 /// The lines of a token, or why it has none.
 fn token_reply(
     alloc: Global,
-    token: Result<Claims, CwtStop>,
+    token: Result<Claims, TokenStop>,
     readable: bool,
 ) -> Result<Reply, Fault>
-    ensures says { IfOk result (Says (outcome_said readable (claims_seen token.entry))) }
-    ensures unstopped { IfOk result (λ _. stop_in (claims_seen token.entry) ≡ None) }
-    ensures input { fails_by_input result ≡ is_some (stop_in (claims_seen token.entry)) }
+    ensures says { IfOk result (Says (outcome_said readable (admission_seen token.entry))) }
+    ensures unstopped { IfOk result (λ _. stopped_in (admission_seen token.entry) ≡ None) }
+    ensures input { fails_by_input result ≡ is_some (stopped_in (admission_seen token.entry)) }
     ensures fault { (refusal : Refusal) → result ≢ Err (Fault.Keys refusal) }
 {
     match token {
@@ -267,89 +270,152 @@ fn token_reply(
             push_claims(alloc, &mut text, &claims, readable)?;
             Ok(Reply { status, text })
         }
-        Err(CwtStop::Message(refusal)) => refused_reply(alloc, "message", refusal),
-        Err(CwtStop::Claims(refusal)) => refused_reply(alloc, "claims", refusal),
+        Err(TokenStop::Cwt(CwtStop::Message(refusal))) => refused_reply(alloc, "message", refusal),
+        Err(TokenStop::Cwt(CwtStop::Claims(refusal))) => refused_reply(alloc, "claims", refusal),
         // The store holds every payload that is allowed, and a new verifier hasn't stopped.
-        Err(CwtStop::Stopped(_)) => Err(Fault::Input),
+        Err(TokenStop::Cwt(CwtStop::Stopped(_))) => Err(Fault::Input),
+        Err(TokenStop::Unmet(unmet)) => unmet_reply(alloc, unmet),
     }
 }
 
-/// The context of a token: that of a message, with a payload that the store holds.
-fn token_context<'j, S: Keys<'j>>(keys: S, aad: &'j [u8], wanted: Wanted) -> Context<'j, S>
+/// The context of a token: that of a message, with a payload of at most `L` bytes, which the store holds.
+fn token_context<'j, const L: usize, S: Keys<'j>>(
+    keys: S,
+    aad: &'j [u8],
+    wanted: Wanted,
+) -> Context<'j, S>
     ensures setting { setting_of S.usable result
-        ≡ token_setting (S.usable keys) aad.entry.now wanted }
+        ≡ token_setting L (S.usable keys) aad.entry.now wanted }
     ensures external { result.aad ≡ aad.entry }
 {
     Context {
-        payload_limit: CLAIMS as u64,
+        payload_limit: L as u64,
         ..program_context(keys, aad, wanted)
     }
 }
 
-/// The token that the whole input is: after one whose claims are admitted, a further byte makes it `Trailing`.
-fn whole_token<'a, 'j, I: Intake>(
-    verifier: &mut Verifier<'j, HEADER, NESTING, KeyTable<'j, KEYS>>,
+/// The claims of a token of this many bytes, unless a byte comes after it.
+fn unless_followed<'a, I: Intake>(
+    claims: Claims<'a>,
+    taken: u64,
     intake: &mut I,
-    store: &'a mut Store<CLAIMS>,
+) -> Result<Claims<'a>, TokenStop>
+    ensures whole { (rest : List ℕ) → I.to_come intake.old ≡ Some rest →
+        stopped_in (admission_seen result) ≡ None → admission_seen result
+        ≡ or_trailing (trailing_refusal rest taken) (claims_value claims.entry) }
+    ensures failure { I.has_failed intake.new
+        ≡ (I.has_failed intake.old || is_some (stopped_in (admission_seen result))) }
+{
+    match trailing_at(taken, intake) {
+        Ok(None) => Ok(claims),
+        Ok(Some(refusal)) => Err(TokenStop::Cwt(CwtStop::Message(refusal))),
+        Err(_) => Err(TokenStop::Cwt(CwtStop::Stopped(Stop::Intake))),
+    }
+}
+
+/// The claims of a token of this many bytes, where they meet what is required, and no byte comes after it.
+fn required_claims<'a, I: Intake>(
+    claims: Claims<'a>,
+    requirements: &Requirements,
+    taken: u64,
+    intake: &mut I,
+) -> Result<Claims<'a>, TokenStop>
+    ensures whole { (rest : List ℕ) → I.to_come intake.old ≡ Some rest →
+        stopped_in (admission_seen result) ≡ None → admission_seen result
+        ≡ required_then (requirements_value requirements.entry.now) (trailing_refusal rest taken)
+        (claims_value claims.entry) }
+    ensures failure { I.has_failed intake.new
+        ≡ (I.has_failed intake.old || is_some (stopped_in (admission_seen result))) }
+{
+    match claims.meets(requirements) {
+        Ok(()) => unless_followed(claims, taken, intake),
+        Err(unmet) => Err(TokenStop::Unmet(unmet)),
+    }
+}
+
+/// The token that the whole input is: after one that is admitted and meets what is required, a further byte makes it
+/// `Trailing`.
+fn whole_token<'a, 'j, const H: usize, const D: usize, const N: usize, const L: usize, I: Intake>(
+    verifier: &mut Verifier<'j, H, D, KeyTable<'j, N>>,
+    intake: &mut I,
+    store: &'a mut Store<L>,
     vouch: &Vouch,
     policy: &Policy,
-) -> Result<Claims<'a>, CwtStop>
+    requirements: &Requirements,
+) -> Result<Claims<'a>, TokenStop>
+    requires nesting { D ≤ 32 }
+    requires some_store { 16 ≤ L }
+    requires store_limit { L ≤ 65535 }
     requires verifies { is_inspecting verifier.old ≡ false }
     requires attached { is_detached verifier.old ≡ false }
     requires none_taken { bytes_taken verifier.old ≡ 0 }
     requires cwt { (setting_in verifier.old).cwt ≡ true }
-    requires payload_limit { (setting_in verifier.old).payload_limit ≤ 4096 }
+    requires payload_limit { (setting_in verifier.old).payload_limit ≤ L }
     ensures whole { (setting : Setting) (bytes : List ℕ)
         → HasTaken (to_verify setting) [] [] verifier.old → I.to_come intake.old ≡ Some bytes →
-        UnlessStopped (claims_seen result) (claims_seen result
-        ≡ input_token setting (vouching (option_map contents vouch.now.word))
-        (policy_value policy.entry.now) bytes) }
+        stopped_in (admission_seen result) ≡ None → admission_seen result
+        ≡ input_token H D setting (vouching (option_map contents vouch.now.word))
+        (policy_value policy.entry.now) (requirements_value requirements.entry.now) bytes }
     // It stops exactly where the intake failed in this call.
     ensures failure { (setting : Setting) → HasTaken (to_verify setting) [] [] verifier.old →
         I.has_failed intake.new
-        ≡ (I.has_failed intake.old || is_some (stop_in (claims_seen result))) }
+        ≡ (I.has_failed intake.old || is_some (stopped_in (admission_seen result))) }
 {
     // The law that the proof cites for the place of a further byte: a verdict stays when bytes follow.
     settled_stays();
-    let claims = verify_cwt::<CHUNK, HEADER, NESTING, CLAIMS, _, _, _>(
-        verifier, intake, store, vouch, policy,
-    )?;
-    match trailing_at(verifier.taken(), intake) {
-        Ok(None) => Ok(claims),
-        Ok(Some(refusal)) => Err(CwtStop::Message(refusal)),
-        Err(_) => Err(CwtStop::Stopped(Stop::Intake)),
+    match verify_cwt::<CHUNK, H, D, L, _, _, _>(verifier, intake, store, vouch, policy) {
+        Ok(claims) => required_claims(claims, requirements, verifier.taken(), intake),
+        Err(stop) => Err(TokenStop::Cwt(stop)),
     }
 }
 
 /// The reply to the token of an intake: the key set is read before the intake is asked.
-fn admitted_reply<I: Intake>(
+#[inline(never)]
+fn admitted_reply<const H: usize, const D: usize, const N: usize, const L: usize, I: Intake>(
     alloc: Global,
     checks: &Checks,
     policy: &Policy,
+    requirements: &Requirements,
     readable: bool,
     intake: &mut I,
 ) -> Result<Reply, Fault>
+    requires some_room { 16 ≤ H }
+    requires limit { H ≤ 65535 }
+    requires nesting { D ≤ 32 }
+    requires some_keys { 1 ≤ N }
+    requires keys_limit { N ≤ 256 }
+    requires some_store { 16 ≤ L }
+    requires store_limit { L ≤ 65535 }
+    requires sizes { AreSizesUnder checks.now.limits H D N }
+    requires claims { (room_of checks.now.limits).claims ≡ L }
     requires external { length checks.now.aad.now ≤ 65535 }
     ensures says { (bytes : List ℕ) → I.to_come intake.old ≡ Some bytes →
-        IfOk result (Says (admitted_under (job_under checks.now) (policy_value policy.entry.now) readable
-        bytes)) }
+        IfOk result (Says (admitted_under (job_under checks.now) (policy_value policy.entry.now)
+        (requirements_value requirements.entry.now) readable bytes)) }
     ensures keys { (refusal : Refusal)
-        → program_keys checks.now.keys.now ≡ Err refusal ↔ result ≡ Err (Fault.Keys refusal) }
+        → (job_under checks.now).keys ≡ Err refusal ↔ result ≡ Err (Fault.Keys refusal) }
     // Its fault is that the input failed exactly where the intake failed in this call.
     ensures input { I.has_failed intake.new ≡ (I.has_failed intake.old || fails_by_input result) }
 {
-    let keys = match KeyTable::<KEYS>::read(checks.keys) {
+    let keys = match KeyTable::<N>::read(checks.keys) {
         Ok(keys) => keys,
         Err(refusal) => return Err(Fault::Keys(refusal)),
     };
-    let mut verifier = Verifier::<HEADER, NESTING, KeyTable<'_, KEYS>>::new(token_context(
+    let mut verifier = Verifier::<H, D, KeyTable<'_, N>>::new(token_context::<L, _>(
         keys,
         checks.aad,
         checks.wanted,
     ));
-    let mut store = Store::<CLAIMS>::new();
+    let mut store = Store::<L>::new();
     let vouch = Vouch { word: checks.vouch };
-    let token = whole_token(&mut verifier, intake, &mut store, &vouch, policy);
+    let token = whole_token(
+        &mut verifier,
+        intake,
+        &mut store,
+        &vouch,
+        policy,
+        requirements,
+    );
     token_reply(alloc, token, readable)
 }
 
@@ -358,16 +424,38 @@ pub fn cwt_reply<R: Read>(
     alloc: Global,
     checks: &Checks,
     policy: &Policy,
+    requirements: &Requirements,
     readable: bool,
     input: &mut R,
 ) -> Result<Reply, Fault>
     requires external { length checks.now.aad.now ≤ 65535 }
     ensures says { (bytes : List ℕ) → R.remaining input.old ≡ Some bytes →
-        IfOk result (Says (admitted_under (job_under checks.now) (policy_value policy.entry.now) readable
-        bytes)) }
+        IfOk result (Says (admitted_under (job_under checks.now) (policy_value policy.entry.now)
+        (requirements_value requirements.entry.now) readable bytes)) }
     ensures keys { (refusal : Refusal) →
-        program_keys checks.now.keys.now ≡ Err refusal ↔ result ≡ Err (Fault.Keys refusal) }
+        (job_under checks.now).keys ≡ Err refusal ↔ result ≡ Err (Fault.Keys refusal) }
 {
     let mut intake = ReadIntake::new(input);
-    admitted_reply(alloc, checks, policy, readable, &mut intake)
+    match checks.limits {
+        Limits::Small => {
+            admitted_reply::<SMALL_HEADER, SMALL_NESTING, SMALL_KEYS, SMALL_CLAIMS, _>(
+                alloc,
+                checks,
+                policy,
+                requirements,
+                readable,
+                &mut intake,
+            )
+        }
+        Limits::Large => {
+            admitted_reply::<LARGE_HEADER, LARGE_NESTING, LARGE_KEYS, LARGE_CLAIMS, _>(
+                alloc,
+                checks,
+                policy,
+                requirements,
+                readable,
+                &mut intake,
+            )
+        }
+    }
 }

@@ -9,16 +9,18 @@ ghost use Rattle.cose_msg.specs.Kept.{bytes_taken};
 ghost use Rattle.cose_msg.specs.Shown.{sign_input_of};
 ghost use Rattle.cose_msg.specs.Verifier.{setting_of};
 ghost use Rattle.cosecmd.specs.Faults.{NamesOption, fails_by_file, fails_by_input};
+ghost use Rattle.cosecmd.specs.Limits.{AreSizesUnder};
 ghost use Rattle.cosecmd.specs.PayloadFile.{counted};
 ghost use Rattle.cosecmd.specs.Printed.{Says, digested_before, digested_in, digested_under, vouched, with_payload};
 ghost use Rattle.cosecmd.specs.Stated.{DigestedOf, digested_from};
-ghost use Rattle.cosecmd.specs.Under.{job_under, program_keys};
+ghost use Rattle.cosecmd.specs.Under.{job_under};
 
-use crate::answer::verify::{
-    CHUNK, HEADER, KEYS, NESTING, program_context, reply_of, trailing_at, whole_verdict,
-};
+use crate::answer::verify::{CHUNK, program_context, reply_of, trailing_at, whole_verdict};
 use crate::fault::Fault;
 use crate::job::{Checks, FileJob};
+use crate::limits::{
+    LARGE_HEADER, LARGE_KEYS, LARGE_NESTING, Limits, SMALL_HEADER, SMALL_KEYS, SMALL_NESTING,
+};
 use crate::payload_file::PayloadFile;
 use crate::reply::{Reply, Status};
 use crate::vouch::word_for;
@@ -45,10 +47,10 @@ fn word_reply(alloc: Global, word: &[u8]) -> Result<Reply, Fault>
 
 /// The reply after a message that the verifier has read, and that has this verdict as long as nobody decides on its signature:
 /// no byte may follow a message whose signature is there.
-fn signed_reply<'k, I: Intake>(
+fn signed_reply<'k, const H: usize, const D: usize, const N: usize, I: Intake>(
     alloc: Global,
     verdict: Verdict,
-    verifier: &Verifier<'k, HEADER, NESTING, KeyTable<'k, KEYS>>,
+    verifier: &Verifier<'k, H, D, KeyTable<'k, N>>,
     intake: &mut I,
 ) -> Result<Reply, Fault>
     ensures says { (rest : List ℕ) → I.to_come intake.old ≡ Some rest →
@@ -72,14 +74,17 @@ fn signed_reply<'k, I: Intake>(
 }
 
 /// The reply to the message of an intake, which has its payload.
-fn attached_reply<'j, I: Intake>(
+fn attached_reply<'j, const H: usize, const D: usize, const N: usize, I: Intake>(
     alloc: Global,
-    context: Context<'j, KeyTable<'j, KEYS>>,
+    context: Context<'j, KeyTable<'j, N>>,
     intake: &mut I,
 ) -> Result<Reply, Fault>
+    requires some_room { 16 ≤ H }
+    requires limit { H ≤ 65535 }
+    requires nesting { D ≤ 32 }
     requires external { length context.aad.now ≤ 65535 }
     ensures says { (bytes : List ℕ) → I.to_come intake.old ≡ Some bytes →
-        IfOk result (Says (digested_in (setting_of usable context.entry) bytes)) }
+        IfOk result (Says (digested_in H D (setting_of usable context.entry) bytes)) }
     ensures fault { IfErr result (λ fault. (fault ≡ Fault.Memory) ⊎ (fault ≡ Fault.Input)) }
     ensures input { I.has_failed intake.new ≡ (I.has_failed intake.old || fails_by_input result) }
 {
@@ -88,13 +93,8 @@ fn attached_reply<'j, I: Intake>(
     deciding_goes_last();
     spelled_is_read();
     unrefused_is_message();
-    let mut verifier = Verifier::<HEADER, NESTING, KeyTable<'_, KEYS>>::new(context);
-    let verdict = verify::<CHUNK, HEADER, NESTING, _, _, _, _>(
-        &mut verifier,
-        intake,
-        &mut Nothing,
-        &Never,
-    );
+    let mut verifier = Verifier::<H, D, KeyTable<'_, N>>::new(context);
+    let verdict = verify::<CHUNK, H, D, _, _, _, _>(&mut verifier, intake, &mut Nothing, &Never);
     match verdict {
         Ok(verdict) => signed_reply(alloc, verdict, &verifier, intake),
         // The sink `Nothing` never fails, and a new verifier hasn't stopped.
@@ -104,16 +104,19 @@ fn attached_reply<'j, I: Intake>(
 
 /// The reply to the message of an intake, which has nil in the place of the payload. The payload has so many bytes, and they
 /// come from an intake of their own.
-fn detached_reply<'j, I: Intake, P: Intake>(
+fn detached_reply<'j, const H: usize, const D: usize, const N: usize, I: Intake, P: Intake>(
     alloc: Global,
-    context: Context<'j, KeyTable<'j, KEYS>>,
+    context: Context<'j, KeyTable<'j, N>>,
     payload_length: u64,
     payload: &mut P,
     intake: &mut I,
 ) -> Result<Reply, Fault>
+    requires some_room { 16 ≤ H }
+    requires limit { H ≤ 65535 }
+    requires nesting { D ≤ 32 }
     requires external { length context.aad.now ≤ 65535 }
     ensures came { (bytes : List ℕ) → I.to_come intake.old ≡ Some bytes →
-        IfOk result (λ said. DigestedOf (setting_of usable context.entry) payload_length bytes
+        IfOk result (λ said. DigestedOf H D (setting_of usable context.entry) payload_length bytes
         (P.to_come payload.old) (P.to_come payload.new) (P.ended payload.new) said) }
     ensures fault { IfErr result (λ fault. (fault ≡ Fault.Memory) ⊎ (fault ≡ Fault.Input)) }
     // One of the intakes has failed in this call, where the fault is of an input, and otherwise none.
@@ -126,11 +129,8 @@ fn detached_reply<'j, I: Intake, P: Intake>(
     deciding_goes_last();
     spelled_is_read();
     unrefused_is_message();
-    let mut verifier = Verifier::<HEADER, NESTING, KeyTable<'_, KEYS>>::detached(
-        context,
-        payload_length,
-    );
-    let verdict = verify_detached::<CHUNK, HEADER, NESTING, _, _, _, _, _>(
+    let mut verifier = Verifier::<H, D, KeyTable<'_, N>>::detached(context, payload_length);
+    let verdict = verify_detached::<CHUNK, H, D, _, _, _, _, _>(
         &mut verifier,
         intake,
         payload,
@@ -145,16 +145,19 @@ fn detached_reply<'j, I: Intake, P: Intake>(
 }
 
 /// The reply to the message of an intake, which has nil in the place of the payload. The payload's bytes are these.
-fn reply_with_bytes<'j, I: Intake>(
+fn reply_with_bytes<'j, const H: usize, const D: usize, const N: usize, I: Intake>(
     alloc: Global,
-    context: Context<'j, KeyTable<'j, KEYS>>,
+    context: Context<'j, KeyTable<'j, N>>,
     payload: &[u8],
     intake: &mut I,
 ) -> Result<Reply, Fault>
+    requires some_room { 16 ≤ H }
+    requires limit { H ≤ 65535 }
+    requires nesting { D ≤ 32 }
     requires external { length context.aad.now ≤ 65535 }
     ensures says { (bytes : List ℕ) → I.to_come intake.old ≡ Some bytes →
         IfOk result
-        (Says (digested_in (with_payload (Some payload.now) (setting_of usable context.entry))
+        (Says (digested_in H D (with_payload (Some payload.now) (setting_of usable context.entry))
         bytes)) }
     ensures fault { IfErr result (λ fault. (fault ≡ Fault.Memory) ⊎ (fault ≡ Fault.Input)) }
     ensures input { I.has_failed intake.new ≡ (I.has_failed intake.old || fails_by_input result) }
@@ -163,32 +166,39 @@ fn reply_with_bytes<'j, I: Intake>(
     payload_stays();
     let payload_length = payload.len() as u64;
     let mut payload_intake = SliceIntake::new(payload, CHUNK);
-    detached_reply(alloc, context, payload_length, &mut payload_intake, intake)
+    detached_reply::<H, D, N, _, _>(alloc, context, payload_length, &mut payload_intake, intake)
 }
 
 /// The reply to the message of an intake: the key set is read before the intake is asked.
-fn digested_reply<I: Intake>(
+#[inline(never)]
+fn digested_reply<const H: usize, const D: usize, const N: usize, I: Intake>(
     alloc: Global,
     checks: &Checks,
     payload: Option<&[u8]>,
     intake: &mut I,
 ) -> Result<Reply, Fault>
+    requires some_room { 16 ≤ H }
+    requires limit { H ≤ 65535 }
+    requires nesting { D ≤ 32 }
+    requires some_keys { 1 ≤ N }
+    requires keys_limit { N ≤ 256 }
+    requires sizes { AreSizesUnder checks.now.limits H D N }
     requires external { length checks.now.aad.now ≤ 65535 }
     ensures says { (bytes : List ℕ) → I.to_come intake.old ≡ Some bytes →
         IfOk result (Says (digested_under (job_under checks.now) (option_map contents payload.entry) bytes)) }
     ensures keys { (refusal : Refusal)
-        → program_keys checks.now.keys.now ≡ Err refusal ↔ result ≡ Err (Fault.Keys refusal) }
+        → (job_under checks.now).keys ≡ Err refusal ↔ result ≡ Err (Fault.Keys refusal) }
     // Its fault is that the input failed exactly where the intake failed in this call.
     ensures input { I.has_failed intake.new ≡ (I.has_failed intake.old || fails_by_input result) }
 {
-    let keys = match KeyTable::<KEYS>::read(checks.keys) {
+    let keys = match KeyTable::<N>::read(checks.keys) {
         Ok(keys) => keys,
         Err(refusal) => return Err(Fault::Keys(refusal)),
     };
     let context = program_context(keys, checks.aad, checks.wanted);
     match payload {
-        Some(payload) => reply_with_bytes(alloc, context, payload, intake),
-        None => attached_reply(alloc, context, intake),
+        Some(payload) => reply_with_bytes::<H, D, N, _>(alloc, context, payload, intake),
+        None => attached_reply::<H, D, N, _>(alloc, context, intake),
     }
 }
 
@@ -203,25 +213,46 @@ pub fn digest_reply<R: Read>(
     ensures says { (bytes : List ℕ) → R.remaining input.old ≡ Some bytes →
         IfOk result (Says (digested_under (job_under checks.now) (option_map contents payload.entry) bytes)) }
     ensures keys { (refusal : Refusal) →
-        program_keys checks.now.keys.now ≡ Err refusal ↔ result ≡ Err (Fault.Keys refusal) }
+        (job_under checks.now).keys ≡ Err refusal ↔ result ≡ Err (Fault.Keys refusal) }
 {
-    digested_reply(alloc, checks, payload, &mut ReadIntake::new(input))
+    let mut intake = ReadIntake::new(input);
+    match checks.limits {
+        Limits::Small => digested_reply::<SMALL_HEADER, SMALL_NESTING, SMALL_KEYS, _>(
+            alloc,
+            checks,
+            payload,
+            &mut intake,
+        ),
+        Limits::Large => digested_reply::<LARGE_HEADER, LARGE_NESTING, LARGE_KEYS, _>(
+            alloc,
+            checks,
+            payload,
+            &mut intake,
+        ),
+    }
 }
 
 /// The reply to the message of an intake whose payload comes from a file: the key set is read before either is asked.
-fn digested_with_file<I: Intake, R: Read>(
+#[inline(never)]
+fn digested_with_file<const H: usize, const D: usize, const N: usize, I: Intake, R: Read>(
     alloc: Global,
     job: &FileJob,
     payload: &mut PayloadFile<R>,
     intake: &mut I,
 ) -> Result<Reply, Fault>
+    requires some_room { 16 ≤ H }
+    requires limit { H ≤ 65535 }
+    requires nesting { D ≤ 32 }
+    requires some_keys { 1 ≤ N }
+    requires keys_limit { N ≤ 256 }
+    requires sizes { AreSizesUnder job.now.checks.limits H D N }
     requires external { length job.now.checks.aad.now ≤ 65535 }
     requires sound { ⟦<PayloadFile<R> as Intake>⟧.has_failed payload.old ≡ false }
     ensures says { (bytes content : List ℕ) → I.to_come intake.old ≡ Some bytes →
         ⟦<PayloadFile<R> as Intake>⟧.to_come payload.old ≡ counted job.now.length (Some content)
         → IfOk result (Says (digested_from job.now content bytes)) }
     ensures keys { (refusal : Refusal) →
-        program_keys job.now.checks.keys.now ≡ Err refusal ↔ result ≡ Err (Fault.Keys refusal) }
+        (job_under job.now.checks).keys ≡ Err refusal ↔ result ≡ Err (Fault.Keys refusal) }
     // Its fault is that the file failed, or the input, exactly where it failed in this call.
     ensures file { ⟦<PayloadFile<R> as Intake>⟧.has_failed payload.new ≡ fails_by_file result }
     ensures option { IfErr result (NamesOption (codes "payload-file")) }
@@ -229,12 +260,12 @@ fn digested_with_file<I: Intake, R: Read>(
 {
     // The law that the proof cites: what comes of a payload changes nothing where none of it is wanted.
     payload_stays();
-    let keys = match KeyTable::<KEYS>::read(job.checks.keys) {
+    let keys = match KeyTable::<N>::read(job.checks.keys) {
         Ok(keys) => keys,
         Err(refusal) => return Err(Fault::Keys(refusal)),
     };
     let context = program_context(keys, job.checks.aad, job.checks.wanted);
-    match detached_reply(alloc, context, job.length, payload, intake) {
+    match detached_reply::<H, D, N, _, _>(alloc, context, job.length, payload, intake) {
         Ok(reply) => Ok(reply),
         Err(_) if payload.has_failed() => Err(Fault::File("payload-file")),
         Err(fault) => Err(fault),
@@ -253,9 +284,22 @@ pub fn digest_reply_with_file<P: Read, R: Read>(
         P.remaining payload.old ≡ Some content →
         IfOk result (Says (digested_from job.now content bytes)) }
     ensures keys { (refusal : Refusal) →
-        program_keys job.now.checks.keys.now ≡ Err refusal ↔ result ≡ Err (Fault.Keys refusal) }
+        (job_under job.now.checks).keys ≡ Err refusal ↔ result ≡ Err (Fault.Keys refusal) }
 {
     let mut intake = ReadIntake::new(input);
     let mut payload_file = PayloadFile::new(payload, job.length);
-    digested_with_file(alloc, job, &mut payload_file, &mut intake)
+    match job.checks.limits {
+        Limits::Small => digested_with_file::<SMALL_HEADER, SMALL_NESTING, SMALL_KEYS, _, _>(
+            alloc,
+            job,
+            &mut payload_file,
+            &mut intake,
+        ),
+        Limits::Large => digested_with_file::<LARGE_HEADER, LARGE_NESTING, LARGE_KEYS, _, _>(
+            alloc,
+            job,
+            &mut payload_file,
+            &mut intake,
+        ),
+    }
 }

@@ -1,15 +1,16 @@
 //! The lines of the job `show`: the shape of a message, and what is in its headers.
 
-ghost use Rattle.std.specs.Prelude.{◌≡◌, ◌++◌, ◌||◌, ℕ, List, Some, IfErr, IfOk, option_map, string_bytes};
+ghost use Rattle.std.specs.Prelude.{◌≡◌, ◌≤◌, ◌++◌, ◌||◌, ℕ, List, Some, IfErr, IfOk, option_map, string_bytes};
 ghost use Rattle.cose_head.specs.ItemRef.{placed};
 ghost use Rattle.cose_map.specs.Bucket.View.{bucket_pairs};
 ghost use Rattle.cose_msg.specs.Shown.{protected_of, unprotected_of};
 ghost use Rattle.cosecmd.specs.Faults.{fails_by_input};
-ghost use Rattle.cosecmd.specs.Printed.{Says, bucket_lines, item_line, shape_said, shown};
+ghost use Rattle.cosecmd.specs.Printed.{Says, bucket_lines, item_line, shape_said, shown, shown_in};
 ghost use Rattle.cosecmd.specs.Readable.{pair_notation};
 
-use crate::answer::verify::{CHUNK, HEADER, NESTING, program_context, reply_of, trailing_at};
+use crate::answer::verify::{CHUNK, program_context, reply_of, trailing_at};
 use crate::fault::Fault;
+use crate::limits::{LARGE_HEADER, LARGE_NESTING, Limits, SMALL_HEADER, SMALL_NESTING};
 use crate::line::word_of;
 use crate::reply::{Reply, Status};
 use cose_head::ItemRef;
@@ -100,10 +101,10 @@ fn push_pairs(
 }
 
 /// The lines of a message of this shape, which this verifier has inspected.
-fn shape_reply(
+fn shape_reply<const H: usize, const D: usize>(
     alloc: Global,
     shape: Shape,
-    verifier: &Verifier<HEADER, NESTING>,
+    verifier: &Verifier<H, D>,
     diagnostic: bool,
 ) -> Result<Reply, Fault>
     ensures says { IfOk result
@@ -138,14 +139,18 @@ fn shape_reply(
 }
 
 /// The reply to the message of an intake: no byte may follow a message that has a shape.
-fn shown_reply<I: Intake>(
+#[inline(never)]
+fn shown_reply<const H: usize, const D: usize, I: Intake>(
     alloc: Global,
     wanted: Wanted,
     diagnostic: bool,
     intake: &mut I,
 ) -> Result<Reply, Fault>
+    requires some_room { 16 ≤ H }
+    requires limit { H ≤ 65535 }
+    requires nesting { D ≤ 32 }
     ensures says { (bytes : List ℕ) → I.to_come intake.old ≡ Some bytes →
-        IfOk result (Says (shown wanted diagnostic bytes)) }
+        IfOk result (Says (shown_in H D wanted diagnostic bytes)) }
     // Its fault is that the input failed exactly where the intake failed in this call.
     ensures input { I.has_failed intake.new ≡ (I.has_failed intake.old || fails_by_input result) }
 {
@@ -153,8 +158,8 @@ fn shown_reply<I: Intake>(
         Ok(keys) => keys,
         Err(refusal) => return Err(Fault::Keys(refusal)),
     };
-    let mut verifier = Verifier::inspecting(program_context(keys, b"", wanted));
-    match inspect::<CHUNK, HEADER, NESTING, _, _, _>(&mut verifier, intake, &mut Nothing) {
+    let mut verifier = Verifier::<H, D>::inspecting(program_context(keys, b"", wanted));
+    match inspect::<CHUNK, H, D, _, _, _>(&mut verifier, intake, &mut Nothing) {
         Ok(
             Inspected::Shape {
                 kind,
@@ -183,12 +188,21 @@ fn shown_reply<I: Intake>(
 /// The reply to the job `show`.
 pub fn show_reply<R: Read>(
     alloc: Global,
+    limits: Limits,
     wanted: Wanted,
     diagnostic: bool,
     input: &mut R,
 ) -> Result<Reply, Fault>
     ensures says { (bytes : List ℕ) → R.remaining input.old ≡ Some bytes →
-        IfOk result (Says (shown wanted diagnostic bytes)) }
+        IfOk result (Says (shown limits wanted diagnostic bytes)) }
 {
-    shown_reply(alloc, wanted, diagnostic, &mut ReadIntake::new(input))
+    let mut intake = ReadIntake::new(input);
+    match limits {
+        Limits::Small => {
+            shown_reply::<SMALL_HEADER, SMALL_NESTING, _>(alloc, wanted, diagnostic, &mut intake)
+        }
+        Limits::Large => {
+            shown_reply::<LARGE_HEADER, LARGE_NESTING, _>(alloc, wanted, diagnostic, &mut intake)
+        }
+    }
 }

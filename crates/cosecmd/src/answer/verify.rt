@@ -9,14 +9,18 @@ ghost use Rattle.cose_msg.specs.Detached.{EitherFails};
 ghost use Rattle.cose_msg.specs.Verifier.{setting_of};
 ghost use Rattle.cose_msg.specs.declared.verdict.Verdict.{Verdict};
 ghost use Rattle.cosecmd.specs.Faults.{NamesOption, fails_by_file, fails_by_input};
+ghost use Rattle.cosecmd.specs.Limits.{AreSizesUnder};
 ghost use Rattle.cosecmd.specs.PayloadFile.{counted, left_of};
 ghost use Rattle.cosecmd.specs.Printed.{Says, input_answer, trailing_refusal, program_setting, said_of, verified_under, verified_with, followed_by, with_payload};
 ghost use Rattle.cosecmd.specs.Stated.{CameOf, verified_from};
-ghost use Rattle.cosecmd.specs.Under.{job_under, program_keys};
+ghost use Rattle.cosecmd.specs.Under.{job_under};
 ghost use Rattle.cosecmd.specs.Vouch.{vouching};
 
 use crate::fault::Fault;
 use crate::job::{Checks, FileJob};
+use crate::limits::{
+    LARGE_HEADER, LARGE_KEYS, LARGE_NESTING, Limits, SMALL_HEADER, SMALL_KEYS, SMALL_NESTING,
+};
 use crate::line::Line;
 use crate::payload_file::PayloadFile;
 use crate::reply::{Reply, Status};
@@ -29,17 +33,8 @@ use cose_msg::{
 use std::alloc::Global;
 use std::io::Read;
 
-/// The most bytes of a header bucket.
-pub const HEADER: usize = 1_024;
-
 /// The most bytes of a message that are taken at once.
 pub const CHUNK: usize = 4_096;
-
-/// How deep the items of a header bucket may nest.
-pub const NESTING: usize = 8;
-
-/// The most usable keys of a key set.
-pub const KEYS: usize = 16;
 
 /// The most bytes of a payload, which is the most that any message may have.
 const PAYLOAD: u64 = (1 << 56) - 1;
@@ -119,25 +114,23 @@ pub fn whole_verdict<I: Intake>(verdict: Verdict, intake: &mut I) -> Result<Verd
 }
 
 /// The verdict of all that an intake gives, a message that has its payload.
-fn input_verdict<'j, I: Intake>(
-    context: Context<'j, KeyTable<'j, KEYS>>,
+fn input_verdict<'j, const H: usize, const D: usize, const N: usize, I: Intake>(
+    context: Context<'j, KeyTable<'j, N>>,
     vouch: &Vouch<'j>,
     intake: &mut I,
 ) -> Result<Verdict, Fault>
+    requires some_room { 16 ≤ H }
+    requires limit { H ≤ 65535 }
+    requires nesting { D ≤ 32 }
     requires external { length context.aad.now ≤ 65535 }
     ensures verdict { (bytes : List ℕ) → I.to_come intake.old ≡ Some bytes →
-        IfOk result (λ verdict. input_answer (setting_of usable context.entry)
+        IfOk result (λ verdict. input_answer H D (setting_of usable context.entry)
         (vouching (option_map contents vouch.now.word)) bytes ≡ decided verdict) }
     ensures fault { IfErr result (λ fault. fault ≡ Fault.Input) }
     ensures failure { I.has_failed intake.new ≡ (I.has_failed intake.old || is_err result) }
 {
-    let mut verifier = Verifier::<HEADER, NESTING, KeyTable<'_, KEYS>>::new(context);
-    let verdict = verify::<CHUNK, HEADER, NESTING, _, _, _, _>(
-        &mut verifier,
-        intake,
-        &mut Nothing,
-        vouch,
-    );
+    let mut verifier = Verifier::<H, D, KeyTable<'_, N>>::new(context);
+    let verdict = verify::<CHUNK, H, D, _, _, _, _>(&mut verifier, intake, &mut Nothing, vouch);
     match verdict {
         Ok(verdict) => whole_verdict(verdict, intake),
         // The sink `Nothing` never fails, and a new verifier hasn't stopped.
@@ -147,22 +140,25 @@ fn input_verdict<'j, I: Intake>(
 
 /// The verdict of all that an intake gives, which has nil in the place of the payload. The payload has so many bytes, and they
 /// come from an intake of their own.
-fn detached_verdict<'j, I: Intake, P: Intake>(
-    context: Context<'j, KeyTable<'j, KEYS>>,
+fn detached_verdict<'j, const H: usize, const D: usize, const N: usize, I: Intake, P: Intake>(
+    context: Context<'j, KeyTable<'j, N>>,
     vouch: &Vouch<'j>,
     payload_length: u64,
     payload: &mut P,
     intake: &mut I,
 ) -> Result<Verdict, Fault>
+    requires some_room { 16 ≤ H }
+    requires limit { H ≤ 65535 }
+    requires nesting { D ≤ 32 }
     requires external { length context.aad.now ≤ 65535 }
     ensures verdict { (bytes more : List ℕ) → I.to_come intake.old ≡ Some bytes →
         P.to_come payload.old ≡ Some more → length more ≡ payload_length →
         IfOk result
-        (λ verdict. input_answer (with_payload (Some more) (setting_of usable context.entry))
+        (λ verdict. input_answer H D (with_payload (Some more) (setting_of usable context.entry))
         (vouching (option_map contents vouch.now.word)) bytes ≡ decided verdict) }
     ensures came { (bytes : List ℕ) → I.to_come intake.old ≡ Some bytes →
         IfOk result
-        (CameOf (setting_of usable context.entry) (vouching (option_map contents vouch.now.word))
+        (CameOf H D (setting_of usable context.entry) (vouching (option_map contents vouch.now.word))
         payload_length bytes (P.to_come payload.old) (P.to_come payload.new) (P.ended payload.new)) }
     ensures fault { IfErr result (λ fault. fault ≡ Fault.Input) }
     // One of the intakes has failed in this call, where there is no verdict, and otherwise none.
@@ -172,11 +168,8 @@ fn detached_verdict<'j, I: Intake, P: Intake>(
 {
     // The law that the proof cites: a verdict stays when bytes follow.
     settled_stays();
-    let mut verifier = Verifier::<HEADER, NESTING, KeyTable<'_, KEYS>>::detached(
-        context,
-        payload_length,
-    );
-    let verdict = verify_detached::<CHUNK, HEADER, NESTING, _, _, _, _, _>(
+    let mut verifier = Verifier::<H, D, KeyTable<'_, N>>::detached(context, payload_length);
+    let verdict = verify_detached::<CHUNK, H, D, _, _, _, _, _>(
         &mut verifier,
         intake,
         payload,
@@ -191,69 +184,82 @@ fn detached_verdict<'j, I: Intake, P: Intake>(
 }
 
 /// The verdict of all that an intake gives, which has nil in the place of the payload. The payload's bytes are these.
-fn verdict_with_bytes<'j, I: Intake>(
-    context: Context<'j, KeyTable<'j, KEYS>>,
+fn verdict_with_bytes<'j, const H: usize, const D: usize, const N: usize, I: Intake>(
+    context: Context<'j, KeyTable<'j, N>>,
     vouch: &Vouch<'j>,
     payload: &[u8],
     intake: &mut I,
 ) -> Result<Verdict, Fault>
+    requires some_room { 16 ≤ H }
+    requires limit { H ≤ 65535 }
+    requires nesting { D ≤ 32 }
     requires external { length context.aad.now ≤ 65535 }
     ensures verdict { (bytes : List ℕ) → I.to_come intake.old ≡ Some bytes →
         IfOk result
-        (λ verdict. input_answer (with_payload (Some payload.now) (setting_of usable context.entry))
+        (λ verdict. input_answer H D (with_payload (Some payload.now) (setting_of usable context.entry))
         (vouching (option_map contents vouch.now.word)) bytes ≡ decided verdict) }
     ensures fault { IfErr result (λ fault. fault ≡ Fault.Input) }
     ensures failure { I.has_failed intake.new ≡ (I.has_failed intake.old || is_err result) }
 {
     let payload_length = payload.len() as u64;
     let mut payload_intake = SliceIntake::new(payload, CHUNK);
-    detached_verdict(context, vouch, payload_length, &mut payload_intake, intake)
+    detached_verdict::<H, D, N, _, _>(context, vouch, payload_length, &mut payload_intake, intake)
 }
 
 /// The verdict of all that an intake gives: with a payload, where the message has nil in its place, and otherwise alone.
-fn verdict_of_input<'j, I: Intake>(
-    context: Context<'j, KeyTable<'j, KEYS>>,
+fn verdict_of_input<'j, const H: usize, const D: usize, const N: usize, I: Intake>(
+    context: Context<'j, KeyTable<'j, N>>,
     vouch: &Vouch<'j>,
     payload: Option<&[u8]>,
     intake: &mut I,
 ) -> Result<Verdict, Fault>
+    requires some_room { 16 ≤ H }
+    requires limit { H ≤ 65535 }
+    requires nesting { D ≤ 32 }
     requires external { length context.aad.now ≤ 65535 }
     ensures verdict { (bytes : List ℕ) → I.to_come intake.old ≡ Some bytes →
         IfOk result
-        (λ verdict. input_answer
+        (λ verdict. input_answer H D
         (with_payload (option_map contents payload.entry) (setting_of usable context.entry))
         (vouching (option_map contents vouch.now.word)) bytes ≡ decided verdict) }
     ensures fault { IfErr result (λ fault. fault ≡ Fault.Input) }
     ensures failure { I.has_failed intake.new ≡ (I.has_failed intake.old || is_err result) }
 {
     match payload {
-        Some(payload) => verdict_with_bytes(context, vouch, payload, intake),
-        None => input_verdict(context, vouch, intake),
+        Some(payload) => verdict_with_bytes::<H, D, N, _>(context, vouch, payload, intake),
+        None => input_verdict::<H, D, N, _>(context, vouch, intake),
     }
 }
 
 /// The reply to the message of an intake: the key set is read before the intake is asked.
-fn verified_reply<I: Intake>(
+#[inline(never)]
+fn verified_reply<const H: usize, const D: usize, const N: usize, I: Intake>(
     alloc: Global,
     checks: &Checks,
     payload: Option<&[u8]>,
     intake: &mut I,
 ) -> Result<Reply, Fault>
+    requires some_room { 16 ≤ H }
+    requires limit { H ≤ 65535 }
+    requires nesting { D ≤ 32 }
+    requires some_keys { 1 ≤ N }
+    requires keys_limit { N ≤ 256 }
+    requires sizes { AreSizesUnder checks.now.limits H D N }
     requires external { length checks.now.aad.now ≤ 65535 }
     ensures says { (bytes : List ℕ) → I.to_come intake.old ≡ Some bytes →
         IfOk result (Says (verified_under (job_under checks.now) (option_map contents payload.entry) bytes)) }
     ensures keys { (refusal : Refusal)
-        → program_keys checks.now.keys.now ≡ Err refusal ↔ result ≡ Err (Fault.Keys refusal) }
+        → (job_under checks.now).keys ≡ Err refusal ↔ result ≡ Err (Fault.Keys refusal) }
     // Its fault is that the input failed exactly where the intake failed in this call.
     ensures input { I.has_failed intake.new ≡ (I.has_failed intake.old || fails_by_input result) }
 {
-    let keys = match KeyTable::<KEYS>::read(checks.keys) {
+    let keys = match KeyTable::<N>::read(checks.keys) {
         Ok(keys) => keys,
         Err(refusal) => return Err(Fault::Keys(refusal)),
     };
     let context = program_context(keys, checks.aad, checks.wanted);
     let vouch = Vouch { word: checks.vouch };
-    let verdict = verdict_of_input(context, &vouch, payload, intake)?;
+    let verdict = verdict_of_input::<H, D, N, _>(context, &vouch, payload, intake)?;
     reply_of(alloc, verdict)
 }
 
@@ -268,19 +274,39 @@ pub fn verify_reply<R: Read>(
     ensures says { (bytes : List ℕ) → R.remaining input.old ≡ Some bytes →
         IfOk result (Says (verified_under (job_under checks.now) (option_map contents payload.entry) bytes)) }
     ensures keys { (refusal : Refusal) →
-        program_keys checks.now.keys.now ≡ Err refusal ↔ result ≡ Err (Fault.Keys refusal) }
+        (job_under checks.now).keys ≡ Err refusal ↔ result ≡ Err (Fault.Keys refusal) }
 {
     let mut intake = ReadIntake::new(input);
-    verified_reply(alloc, checks, payload, &mut intake)
+    match checks.limits {
+        Limits::Small => verified_reply::<SMALL_HEADER, SMALL_NESTING, SMALL_KEYS, _>(
+            alloc,
+            checks,
+            payload,
+            &mut intake,
+        ),
+        Limits::Large => verified_reply::<LARGE_HEADER, LARGE_NESTING, LARGE_KEYS, _>(
+            alloc,
+            checks,
+            payload,
+            &mut intake,
+        ),
+    }
 }
 
 /// The reply to the message of an intake whose payload comes from a file: the key set is read before either is asked.
-fn reply_with_file<I: Intake, R: Read>(
+#[inline(never)]
+fn reply_with_file<const H: usize, const D: usize, const N: usize, I: Intake, R: Read>(
     alloc: Global,
     job: &FileJob,
     payload: &mut PayloadFile<R>,
     intake: &mut I,
 ) -> Result<Reply, Fault>
+    requires some_room { 16 ≤ H }
+    requires limit { H ≤ 65535 }
+    requires nesting { D ≤ 32 }
+    requires some_keys { 1 ≤ N }
+    requires keys_limit { N ≤ 256 }
+    requires sizes { AreSizesUnder job.now.checks.limits H D N }
     requires external { length job.now.checks.aad.now ≤ 65535 }
     requires sound { ⟦<PayloadFile<R> as Intake>⟧.has_failed payload.old ≡ false }
     ensures says { (bytes more : List ℕ) → I.to_come intake.old ≡ Some bytes →
@@ -291,7 +317,7 @@ fn reply_with_file<I: Intake, R: Read>(
         ⟦<PayloadFile<R> as Intake>⟧.to_come payload.old ≡ counted job.now.length (Some content)
         → IfOk result (Says (verified_from job.now content bytes)) }
     ensures keys { (refusal : Refusal) →
-        program_keys job.now.checks.keys.now ≡ Err refusal ↔ result ≡ Err (Fault.Keys refusal) }
+        (job_under job.now.checks).keys ≡ Err refusal ↔ result ≡ Err (Fault.Keys refusal) }
     // Its fault is that the file failed, or the input, exactly where it failed in this call.
     ensures file { ⟦<PayloadFile<R> as Intake>⟧.has_failed payload.new ≡ fails_by_file result }
     ensures option { IfErr result (NamesOption (codes "payload-file")) }
@@ -299,7 +325,7 @@ fn reply_with_file<I: Intake, R: Read>(
 {
     // The law that the proof cites: what comes of a payload changes nothing where none of it is wanted.
     payload_stays();
-    let keys = match KeyTable::<KEYS>::read(job.checks.keys) {
+    let keys = match KeyTable::<N>::read(job.checks.keys) {
         Ok(keys) => keys,
         Err(refusal) => return Err(Fault::Keys(refusal)),
     };
@@ -307,7 +333,7 @@ fn reply_with_file<I: Intake, R: Read>(
     let vouch = Vouch {
         word: job.checks.vouch,
     };
-    match detached_verdict(context, &vouch, job.length, payload, intake) {
+    match detached_verdict::<H, D, N, _, _>(context, &vouch, job.length, payload, intake) {
         Ok(verdict) => reply_of(alloc, verdict),
         Err(_) if payload.has_failed() => Err(Fault::File("payload-file")),
         Err(_) => Err(Fault::Input),
@@ -326,9 +352,22 @@ pub fn verify_reply_with_file<P: Read, R: Read>(
         P.remaining payload.old ≡ Some content →
         IfOk result (Says (verified_from job.now content bytes)) }
     ensures keys { (refusal : Refusal) →
-        program_keys job.now.checks.keys.now ≡ Err refusal ↔ result ≡ Err (Fault.Keys refusal) }
+        (job_under job.now.checks).keys ≡ Err refusal ↔ result ≡ Err (Fault.Keys refusal) }
 {
     let mut intake = ReadIntake::new(input);
     let mut payload_file = PayloadFile::new(payload, job.length);
-    reply_with_file(alloc, job, &mut payload_file, &mut intake)
+    match job.checks.limits {
+        Limits::Small => reply_with_file::<SMALL_HEADER, SMALL_NESTING, SMALL_KEYS, _, _>(
+            alloc,
+            job,
+            &mut payload_file,
+            &mut intake,
+        ),
+        Limits::Large => reply_with_file::<LARGE_HEADER, LARGE_NESTING, LARGE_KEYS, _, _>(
+            alloc,
+            job,
+            &mut payload_file,
+            &mut intake,
+        ),
+    }
 }

@@ -10,7 +10,7 @@ use Rattle.cose_c.proofs.message.read_detached.Goals as goal
 pub returns : goal.returns
 returns g c =
     let answer : verdict_of g.row.H g.row.D (given c.args.payload.now (setting_in c.args.verifier.now)) always c.args.message.now ≡ decided c.in-Ok.verdict =
-    rw c.in-Ok.is at (c.verify_detached.ensures.answer (setting_in c.args.verifier.now) [] [] c.args.message.now c.args.payload.now c.requires.fresh c.new-bytes.ensures.told c.new-beside.ensures.told) in
+    rw c.in-Ok.is at (c.verify_detached.ensures.answer (setting_in c.args.verifier.now) [] [] c.args.message.now c.args.payload.now c.requires.fresh c.new-bytes.ensures.known c.new-beside.ensures.known) in
     c.numbers_of.ensures ∙ ap (λ (a : Answer). verdict_numbers unless_signed 0 (one_message (length c.args.message.now) a)) (sym answer)
 
 pub unreachable-requires : goal.unreachable-requires

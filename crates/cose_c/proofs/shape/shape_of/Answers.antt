@@ -12,7 +12,7 @@ pub returns : goal.returns
 returns g c =
     let setting = setting_in c.args.verifier.now in
     let answer : (message (inspecting g.row.H g.row.D setting) c.args.message.now).answer ≡ inspection c.in-Ok.inspected =
-    rw c.in-Ok.is at (c.inspect.ensures.answer setting [] [] c.args.message.now c.requires.fresh c.new-intake.ensures.told) in
+    rw c.in-Ok.is at (c.inspect.ensures.answer setting [] [] c.args.message.now c.requires.fresh c.new-intake.ensures.known) in
     c.numbers_of.ensures ∙ ap (λ (a : Answer). shape_numbers (one_message (length c.args.message.now) a)) (sym answer)
 
 pub unreachable-requires : goal.unreachable-requires

@@ -12,7 +12,7 @@ pub returns-in-Some-clause-reads : goal.returns-in-Some-clause-reads
 returns-in-Some-clause-reads g c = λ task taken payload read.
     let v = (read_in task taken payload _ c.in-Some.verifier c.in-Some.is read).0 in (
       rw (c.fed_numbers.ensures.to, c.fed_numbers.ensures.from, c.fed_numbers.ensures.used) (c.feed.ensures.taken task taken payload v),
-      rw c.fed_numbers.ensures.used (c.feed.ensures.tells task taken payload v),
+      rw c.fed_numbers.ensures.used (c.feed.ensures.shows task taken payload v),
     )
 
 pub returns-in-Some-clause-status : goal.returns-in-Some-clause-status

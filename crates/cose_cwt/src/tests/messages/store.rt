@@ -1,4 +1,5 @@
-//! A store: its capacity, a piece that doesn't fit, what happens after a failure, and a message whose payload it has no room for.
+//! A store: its capacity, a piece that doesn't fit, what happens after a failure, its bytes lent and dropped, and a message
+//! whose payload it has no room for.
 
 use crate::tests::messages::samples::{MAC0, under_jefe};
 use crate::tests::{equal, is};
@@ -41,6 +42,22 @@ fn takes_nothing_after_a_failure(rt: HostRuntime) {
             (answer, b"abc".as_slice()),
         );
     }
+}
+
+#[test]
+fn keeps_what_it_lends_unless_its_lender_is_cleared(rt: HostRuntime) {
+    let mut store: Store<4> = Store::new();
+    let put = store.put(b"abc");
+    equal(&rt, put, Ok(()));
+    let (lent, _) = store.lend();
+    equal(&rt, lent, b"abc".as_slice());
+    equal(&rt, store.bytes(), b"abc".as_slice());
+    let (_, lender) = store.lend();
+    lender.clear();
+    equal(&rt, store.bytes(), b"".as_slice());
+    // there is room for four bytes again
+    let put = store.put(b"defg");
+    equal(&rt, (put, store.bytes()), (Ok(()), b"defg".as_slice()));
 }
 
 #[test]

@@ -1,4 +1,4 @@
-use Rattle.cose_msg.proofs.Attached.{attached_definite, awaits_nothing}
+use Rattle.cose_msg.proofs.lemmas.Detached.Attached.{attached_definite, awaits_nothing}
 use Rattle.cose_msg.proofs.laws.attached_awaits_nothing.Goals as goal
 
 pub returns-clause-awaits : goal.returns-clause-awaits

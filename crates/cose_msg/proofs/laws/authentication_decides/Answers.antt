@@ -1,5 +1,5 @@
-use Rattle.cose_msg.proofs.Authentications.{authentic_is_message}
-use Rattle.cose_msg.proofs.Spelled.{SpellingLaws}
+use Rattle.cose_msg.proofs.lemmas.Spelling.Authentications.{authentic_is_message}
+use Rattle.cose_msg.proofs.lemmas.Spelling.Spelled.{SpellingLaws}
 use Rattle.cose_msg.proofs.laws.authentication_decides.Goals as goal
 
 pub returns : goal.returns

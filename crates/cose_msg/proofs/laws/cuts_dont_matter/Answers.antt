@@ -1,4 +1,4 @@
-use Rattle.cose_msg.proofs.Cuts.{cuts_dont_matter, pieces_join}
+use Rattle.cose_msg.proofs.lemmas.Feeding.Cuts.{cuts_dont_matter, pieces_join}
 use Rattle.cose_msg.proofs.laws.cuts_dont_matter.Goals as goal
 
 pub returns-clause-joined : goal.returns-clause-joined

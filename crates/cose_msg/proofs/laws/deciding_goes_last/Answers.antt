@@ -1,4 +1,4 @@
-use Rattle.cose_msg.proofs.Last.{finish_goes_last, comparing_goes_last, verifying_goes_last}
+use Rattle.cose_msg.proofs.lemmas.Reading.LastAnswers.{finish_goes_last, comparing_goes_last, verifying_goes_last}
 use Rattle.cose_msg.proofs.laws.deciding_goes_last.Goals as goal
 
 pub returns-clause-any : goal.returns-clause-any

@@ -1,4 +1,4 @@
-use Rattle.cose_msg.proofs.Making.{in_parts}
+use Rattle.cose_msg.proofs.lemmas.Made.Making.{in_parts}
 use Rattle.cose_msg.proofs.laws.made_in_parts.Goals as goal
 
 pub returns : goal.returns

@@ -1,7 +1,7 @@
-use Rattle.cose_msg.proofs.MadeMessages.{MadeLaws, made_is_authentic}
-use Rattle.cose_msg.proofs.Spelled.{SpellingLaws}
-use Rattle.cose_msg.proofs.SpelledItems.{ItemLaws}
-use Rattle.cose_msg.proofs.SpelledBuckets.{ShortestLaws}
+use Rattle.cose_msg.proofs.lemmas.Made.MadeMessages.{MadeLaws, made_is_authentic}
+use Rattle.cose_msg.proofs.lemmas.Spelling.Spelled.{SpellingLaws}
+use Rattle.cose_msg.proofs.lemmas.Made.SpelledItems.{ItemLaws}
+use Rattle.cose_msg.proofs.lemmas.Made.SpelledBuckets.{ShortestLaws}
 use Rattle.cose_msg.proofs.laws.made_is_authentic.Goals as goal
 
 pub returns : goal.returns

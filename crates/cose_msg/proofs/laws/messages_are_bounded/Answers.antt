@@ -1,5 +1,5 @@
-use Rattle.cose_msg.proofs.Bounds.{verified_within, inspected_within}
-use Rattle.cose_msg.proofs.Settles.{BoundLaws, message_is_bounded}
+use Rattle.cose_msg.proofs.lemmas.Reading.Bounds.{verified_within, inspected_within}
+use Rattle.cose_msg.proofs.lemmas.Reading.Settles.{BoundLaws, message_is_bounded}
 use Rattle.cose_msg.proofs.laws.messages_are_bounded.Goals as goal
 
 pub returns : goal.returns

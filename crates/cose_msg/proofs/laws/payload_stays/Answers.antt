@@ -1,4 +1,4 @@
-use Rattle.cose_msg.proofs.PayloadStays.{open_stays, payload_stays}
+use Rattle.cose_msg.proofs.lemmas.Detached.PayloadStays.{open_stays, payload_stays}
 use Rattle.cose_msg.proofs.laws.payload_stays.Goals as goal
 
 pub returns-clause-complete : goal.returns-clause-complete

@@ -1,4 +1,4 @@
-use Rattle.cose_msg.proofs.Signatures.{signatures_of_sign1}
+use Rattle.cose_msg.proofs.lemmas.Deciding.Signatures.{signatures_of_sign1}
 use Rattle.cose_msg.proofs.laws.signatures_are_of_sign1.Goals as goal
 
 pub returns : goal.returns

@@ -1,7 +1,7 @@
-use Rattle.cose_msg.proofs.ArraysOfFour.{array_of_four_is_message}
-use Rattle.cose_msg.proofs.OneSpelling.{one_array_of_four}
-use Rattle.cose_msg.proofs.Spelled.{SpellingLaws}
-use Rattle.cose_msg.proofs.SpelledMessages.{message_is_array_of_four, message_read}
+use Rattle.cose_msg.proofs.lemmas.Spelling.ArraysOfFour.{array_of_four_is_message}
+use Rattle.cose_msg.proofs.lemmas.Spelling.OneSpelling.{one_array_of_four}
+use Rattle.cose_msg.proofs.lemmas.Spelling.Spelled.{SpellingLaws}
+use Rattle.cose_msg.proofs.lemmas.Spelling.SpelledMessages.{message_is_array_of_four, message_read}
 use Rattle.cose_msg.proofs.laws.spelled_is_read.Goals as goal
 
 pub returns : goal.returns

@@ -1,5 +1,5 @@
-use Rattle.cose_msg.proofs.FoundMessages.{unrefused_is_message, one_message, whole_is_message, shaped_is_message}
-use Rattle.cose_msg.proofs.Spelled.{SpellingLaws}
+use Rattle.cose_msg.proofs.lemmas.Accepted.FoundMessages.{unrefused_is_message, one_message, whole_is_message, shaped_is_message}
+use Rattle.cose_msg.proofs.lemmas.Spelling.Spelled.{SpellingLaws}
 use Rattle.cose_msg.proofs.laws.unrefused_is_message.Goals as goal
 
 pub returns : goal.returns

@@ -3,7 +3,7 @@ use Rattle.std.proofs.lemmas.Grind.{common_steps}
 use Rattle.std.proofs.lemmas.Result.{err_from_is_err_and}
 use Rattle.cose_map.specs.Key.View.{contents, material_value}
 use Rattle.cose_msg.specs.Message.{secret_of}
-use Rattle.cose_msg.proofs.Makes.{all_made, answered, auth_is, front_failed, front_sure, parts_of, payload_failed, payload_sure, same_length, secret_is, tail_failed, tail_sure}
+use Rattle.cose_msg.proofs.lemmas.Made.Makes.{all_made, answered, auth_is, front_failed, front_sure, parts_of, payload_failed, payload_sure, same_length, secret_is, tail_failed, tail_sure}
 use Rattle.cose_msg.proofs.make.make_mac0.Goals as goal
 
 pub returns-in_err-front-clause-makes : goal.returns-in_err-front-clause-makes

@@ -1,5 +1,5 @@
 use Rattle.std.proofs.lemmas.Result.{err_from_is_err_and}
-use Rattle.cose_msg.proofs.Puts.{writes_one}
+use Rattle.cose_msg.proofs.lemmas.Made.Puts.{writes_one}
 use Rattle.cose_msg.proofs.make.put_byte_string.Goals as goal
 
 pub returns-in_err-bytes-clause-written : goal.returns-in_err-bytes-clause-written

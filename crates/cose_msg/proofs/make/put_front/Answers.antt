@@ -1,7 +1,7 @@
 use Rattle.std.proofs.Common.{arith}
 use Rattle.std.proofs.lemmas.Result.{err_from_is_err_and}
 use Rattle.std.proofs.lemmas.Grind.{common_steps}
-use Rattle.cose_msg.proofs.Puts.{writes_none, writes_one}
+use Rattle.cose_msg.proofs.lemmas.Made.Puts.{writes_none, writes_one}
 use Rattle.cose_msg.proofs.make.put_front.Goals as goal
 
 pub returns-in_err-array-clause-written : goal.returns-in_err-array-clause-written

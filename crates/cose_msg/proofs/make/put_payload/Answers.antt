@@ -1,8 +1,8 @@
 use Rattle.std.proofs.Common.{◌≤◌, sym, ◌∙◌, arith}
 use Rattle.std.proofs.lemmas.Grind.{common_steps}
 use Rattle.std.proofs.lemmas.List.{length-take}
-use Rattle.cose_msg.proofs.Runs.{first_of, is_done, marks_nothing, promise_kept, put_done, put_failed}
-use Rattle.cose_msg.proofs.Streaming.{first_is_taken, goes_on, marks_failure, sink_failed}
+use Rattle.cose_msg.proofs.lemmas.Run.Runs.{first_of, is_done, marks_nothing, promise_kept, put_done, put_failed}
+use Rattle.cose_msg.proofs.lemmas.Made.Streaming.{first_is_taken, goes_on, marks_failure, sink_failed}
 use Rattle.cose_msg.proofs.make.put_payload.Goals as goal
 
 pub pieces-preserved : goal.pieces-preserved

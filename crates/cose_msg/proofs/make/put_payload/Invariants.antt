@@ -1,6 +1,6 @@
 use Rattle.std.proofs.Common.{◌≡◌}
 use Rattle.cose_msg.specs.Writes.{seen}
-use Rattle.cose_msg.proofs.Streaming.{Along}
+use Rattle.cose_msg.proofs.lemmas.Made.Streaming.{Along}
 use Rattle.cose_msg.proofs.make.put_payload.Given as goal
 
 abbrev pub invariant-pieces : goal.invariant-pieces

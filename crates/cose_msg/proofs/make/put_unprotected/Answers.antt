@@ -1,7 +1,7 @@
 use Rattle.std.proofs.Common.{arith}
 use Rattle.std.proofs.lemmas.Result.{err_from_is_err_and}
-use Rattle.cose_msg.proofs.Making.{unprotected_none, unprotected_some}
-use Rattle.cose_msg.proofs.Puts.{writes_both, writes_counted, writes_none, writes_one}
+use Rattle.cose_msg.proofs.lemmas.Made.Making.{unprotected_none, unprotected_some}
+use Rattle.cose_msg.proofs.lemmas.Made.Puts.{writes_both, writes_counted, writes_none, writes_one}
 use Rattle.cose_msg.proofs.make.put_unprotected.Goals as goal
 
 pub returns-in-None-clause-written : goal.returns-in-None-clause-written

@@ -5,21 +5,21 @@ use Rattle.cose_msg.specs.Message.{inspecting}
 use Rattle.cose_msg.specs.Run.{inspection}
 use Rattle.cose_msg.specs.Task.{to_inspect}
 use Rattle.cose_msg.specs.Kept.{inspected_in}
-use Rattle.cose_msg.proofs.KeptAnswers.{kept_again, kept_intake, kept_sink, kept_stop, unfailed}
-use Rattle.cose_msg.proofs.Answered.{alike, inspection_run, kept_inspection_run, kept_inspection_settles, of_any, still, stopped}
-use Rattle.cose_msg.proofs.Runs.{counted_stands, told_before}
-use Rattle.cose_msg.proofs.Statuses.{left_by_answer, left_by_kept, left_by_stop}
+use Rattle.cose_msg.proofs.lemmas.Deciding.KeptAnswers.{kept_again, kept_intake, kept_sink, kept_stop, unfailed}
+use Rattle.cose_msg.proofs.lemmas.Run.Answered.{alike, inspection_run, kept_inspection_run, kept_inspection_settles, of_any, still, stopped}
+use Rattle.cose_msg.proofs.lemmas.Run.Runs.{counted_stands, so_far_before}
+use Rattle.cose_msg.proofs.lemmas.Feeding.Statuses.{left_by_answer, left_by_kept, left_by_stop}
 use Rattle.cose_msg.proofs.run.inspect.Goals as goal
 
 pub returns-in-Some-clause-run : goal.returns-in-Some-clause-run
 returns-in-Some-clause-run g c = λ setting s B h.
     let kept = sym c.kept_inspection.ensures ∙ c.in-Some.is in
-    let d = still _ _ _ h (c.waits.ensures.payload (to_inspect setting) B _ _ h.so_far h.came) (c.waits.ensures.shows (to_inspect setting) B _ _ h.so_far h.came) (kept_inspection_settles c.in-Some.answer h kept).0 in (
+    let d = still _ _ _ h (c.lemma_reading_so_far.ensures.payload (to_inspect setting) B _ _ h.so_far h.came) (c.lemma_reading_so_far.ensures.shows (to_inspect setting) B _ _ h.so_far h.came) (kept_inspection_settles c.in-Some.answer h kept).0 in (
       d.taken,
       kept_inspection_run c.nothing_stands_after_the_bytes.ensures.inside c.nothing_stands_after_the_bytes.ensures.fair d c.in-Some.answer kept,
       d.counted,
-      d.tells,
-      left_by_kept _ c.in-Some.answer d.stands.0 (c.waits.ensures.status (to_inspect setting) _ _ _ d.stands.0.so_far d.stands.0.came) (kept_inspection_settles c.in-Some.answer d.stands.0 kept) kept,
+      d.shows,
+      left_by_kept _ c.in-Some.answer d.reads_on.0 (c.lemma_reading_so_far.ensures.status (to_inspect setting) _ _ _ d.reads_on.0.so_far d.reads_on.0.came) (kept_inspection_settles c.in-Some.answer d.reads_on.0 kept) kept,
     )
 
 pub returns-in-Some-clause-answer : goal.returns-in-Some-clause-answer
@@ -30,12 +30,12 @@ returns-in-Some-clause-answer g c = λ setting s B bytes h come.
 pub returns-in-Ok-clause-run : goal.returns-in-Ok-clause-run
 returns-in-Ok-clause-run g c = λ setting s B h.
     let d = rw c.in-Ok.is at (c.take_message.ensures.drive (to_inspect setting) s B h) in
-    let stands = counted_stands d.stands.0 in (
+    let reads_on = counted_stands d.reads_on.0 in (
       d.taken,
-      inspection_run c.nothing_stands_after_the_bytes.ensures.inside c.nothing_stands_after_the_bytes.ensures.fair c.conclude_inspection.result d (c.conclude_inspection.ensures.answer setting _ _ stands d.stands.0.came) (c.conclude_inspection.ensures.counted setting _ _ stands d.stands.0.came),
+      inspection_run c.nothing_stands_after_the_bytes.ensures.inside c.nothing_stands_after_the_bytes.ensures.fair c.conclude_inspection.result d (c.conclude_inspection.ensures.answer setting _ _ reads_on d.reads_on.0.came) (c.conclude_inspection.ensures.counted setting _ _ reads_on d.reads_on.0.came),
       c.conclude_inspection.ensures.counts ∙ d.counted,
-      c.conclude_inspection.ensures.shown setting _ _ stands d.stands.0.came ∙ d.tells,
-      left_by_answer (to_inspect setting) (s ++ d.taken) c.conclude_inspection.new.self (c.conclude_inspection.ensures.status setting _ _ stands d.stands.0.came d.stands.0.goes_on),
+      c.conclude_inspection.ensures.shown setting _ _ reads_on d.reads_on.0.came ∙ d.shows,
+      left_by_answer (to_inspect setting) (s ++ d.taken) c.conclude_inspection.new.self (c.conclude_inspection.ensures.status setting _ _ reads_on d.reads_on.0.came d.reads_on.0.goes_on),
     )
 
 pub returns-in-Ok-clause-answer : goal.returns-in-Ok-clause-answer
@@ -46,19 +46,19 @@ returns-in-Ok-clause-answer g c = λ setting s B bytes h come.
 pub returns-in-Err-clause-run : goal.returns-in-Err-clause-run
 returns-in-Err-clause-run g c = λ setting s B h.
     let d = rw c.in-Err.is at (c.take_message.ensures.drive (to_inspect setting) s B h) in
-    (d.taken, stopped inspection (inspecting g.row.H g.row.D setting) (alike (inspecting g.row.H g.row.D setting)) c.in-Err.stop d, d.counted, d.tells, left_by_stop c.take_message.new.verifier (c.take_message.ensures.stopped ∙ ap is_err c.in-Err.is))
+    (d.taken, stopped inspection (inspecting g.row.H g.row.D setting) (alike (inspecting g.row.H g.row.D setting)) c.in-Err.stop d, d.counted, d.shows, left_by_stop c.take_message.new.verifier (c.take_message.ensures.stopped ∙ ap is_err c.in-Err.is))
 
 pub returns-in-Err-clause-sure : goal.returns-in-Err-clause-sure
 returns-in-Err-clause-sure g c = λ setting s B h enough. rw c.in-Err.is at (c.take_message.ensures.sure (to_inspect setting) s B h enough)
 
 pub returns-in-Some-clause-before : goal.returns-in-Some-clause-before
-returns-in-Some-clause-before g c = λ setting s B h. told_before g.row.H g.row.D (to_inspect setting) s B (c.waits.ensures.payload (to_inspect setting) B _ _ h.so_far h.came)
+returns-in-Some-clause-before g c = λ setting s B h. so_far_before g.row.H g.row.D (to_inspect setting) s B (c.lemma_reading_so_far.ensures.payload (to_inspect setting) B _ _ h.so_far h.came)
 
 pub returns-in-Ok-clause-before : goal.returns-in-Ok-clause-before
-returns-in-Ok-clause-before g c = λ setting s B h. told_before g.row.H g.row.D (to_inspect setting) s B (c.waits.ensures.payload (to_inspect setting) B _ _ h.so_far h.came)
+returns-in-Ok-clause-before g c = λ setting s B h. so_far_before g.row.H g.row.D (to_inspect setting) s B (c.lemma_reading_so_far.ensures.payload (to_inspect setting) B _ _ h.so_far h.came)
 
 pub returns-in-Err-clause-before : goal.returns-in-Err-clause-before
-returns-in-Err-clause-before g c = λ setting s B h. told_before g.row.H g.row.D (to_inspect setting) s B (c.waits.ensures.payload (to_inspect setting) B _ _ h.so_far h.came)
+returns-in-Err-clause-before g c = λ setting s B h. so_far_before g.row.H g.row.D (to_inspect setting) s B (c.lemma_reading_so_far.ensures.payload (to_inspect setting) B _ _ h.so_far h.came)
 
 pub returns-in-Some-clause-context : goal.returns-in-Some-clause-context
 returns-in-Some-clause-context g c = λ setting s B h. refl

@@ -4,9 +4,9 @@ use Rattle.std.proofs.lemmas.List.{length-drop, length-take}
 use Rattle.std.proofs.KnownBytes.{Consumes-nil, Appends-nil}
 use Rattle.cose_msg.specs.Phase.{in_payload, want_of}
 use Rattle.cose_msg.specs.Task.{Task, rules_of}
-use Rattle.cose_msg.proofs.PayloadLimit.{payload_within}
-use Rattle.cose_msg.proofs.Runs.{at_start, concluded, first_of, goes_on, is_done, marks_fault, marks_nothing, none_apart, not_at_end, promise_kept, put_done, put_failed, put_none, sure_enough, settled_if_none_asked, stopped_by_intake, stopped_by_sink, take_short}
-use Rattle.cose_msg.proofs.KeptAnswers.{unfailed}
+use Rattle.cose_msg.proofs.lemmas.Run.PayloadLimit.{payload_within}
+use Rattle.cose_msg.proofs.lemmas.Run.Runs.{at_start, concluded, first_of, goes_on, is_done, marks_fault, marks_nothing, none_apart, not_at_end, promise_kept, put_done, put_failed, put_none, sure_enough, settled_if_none_asked, stopped_by_intake, stopped_by_sink, take_short}
+use Rattle.cose_msg.proofs.lemmas.Deciding.KeptAnswers.{unfailed}
 use Rattle.cose_msg.proofs.run.take_message.Goals.{else-in_payload-via-then-in_payload+else-is_err, else-in_payload-via-else-in_payload}
 use Rattle.cose_msg.proofs.run.take_message.Goals as goal
 
@@ -30,8 +30,8 @@ pieces-preserved g c =
           rw w.sink-is (
             λ task s B h.
                 (let a = c.pieces.invariant.0 task s B h in
-                goes_on _ a (first_of _ _ c.in-Ok.count c.take.new.into _ c.in-Ok.ensures.within c.in-Ok.ensures.bytes.0) (λ more lt. c.waits.ensures.open task _ _ _ more a.stands.so_far (within _ more lt))
-                (c.take_piece.ensures.taken task _ _ a.stands) (c.in-Ok.ensures.end ∙ not_at_end _ some) (rw in_it (put_done _ _ _ w.put.result done w.put.ensures.bytes)) (rw in_it (promise_kept w.put.result _ _ _ done w.put.ensures.promise))),
+                goes_on _ a (first_of _ _ c.in-Ok.count c.take.new.into _ c.in-Ok.ensures.within c.in-Ok.ensures.bytes.0) (λ more lt. c.lemma_reading_so_far.ensures.open task _ _ _ more a.reads_on.so_far (within _ more lt))
+                (c.take_piece.ensures.taken task _ _ a.reads_on) (c.in-Ok.ensures.end ∙ not_at_end _ some) (rw in_it (put_done _ _ _ w.put.result done w.put.ensures.bytes)) (rw in_it (promise_kept w.put.result _ _ _ done w.put.ensures.promise))),
             stopped,
             inspects,
             c.in-Ok.ensures.failure ∙ c.pieces.invariant.3,
@@ -44,8 +44,8 @@ pieces-preserved g c =
           rw w.sink-is (
             λ task s B h.
                 (let a = c.pieces.invariant.0 task s B h in
-                goes_on _ a (first_of _ _ c.in-Ok.count c.take.new.into _ c.in-Ok.ensures.within c.in-Ok.ensures.bytes.0) (λ more lt. c.waits.ensures.open task _ _ _ more a.stands.so_far (within _ more lt))
-                (c.take_piece.ensures.taken task _ _ a.stands) (c.in-Ok.ensures.end ∙ not_at_end _ some) (rw in_it (Appends-nil _)) (rw in_it (omega arith))),
+                goes_on _ a (first_of _ _ c.in-Ok.count c.take.new.into _ c.in-Ok.ensures.within c.in-Ok.ensures.bytes.0) (λ more lt. c.lemma_reading_so_far.ensures.open task _ _ _ more a.reads_on.so_far (within _ more lt))
+                (c.take_piece.ensures.taken task _ _ a.reads_on) (c.in-Ok.ensures.end ∙ not_at_end _ some) (rw in_it (Appends-nil _)) (rw in_it (omega arith))),
             stopped,
             inspects,
             c.in-Ok.ensures.failure ∙ c.pieces.invariant.3,
@@ -60,62 +60,62 @@ returns-then-asked-eq0-clause-drive g c = λ task s B h.
     let a = c.pieces.invariant.0 task s B h in
     let none : c.request-asked.result ≡ 0 = omega (arith, c.if-asked-eq0.true) in
     let room : g.row.H ≤ 65535 = c.pieces.verifier.reader.limit in
-    let done = settled_if_none_asked (record { compared = c.messages_are_bounded.ensures.verified.1; inspected = c.messages_are_bounded.ensures.inspected }) room c.request-asked.result a.stands (c.waits.ensures.settled task _ _ _ a.stands.so_far a.stands.came) c.request-asked.ensures.some none in
-    concluded a (Consumes-nil _) (c.waits.ensures.payload task _ _ _ a.stands.so_far a.stands.came) (c.waits.ensures.shows task _ _ _ a.stands.so_far a.stands.came)
+    let done = settled_if_none_asked (record { compared = c.messages_are_bounded.ensures.verified.1; inspected = c.messages_are_bounded.ensures.inspected }) room c.request-asked.result a.reads_on (c.lemma_reading_so_far.ensures.settled task _ _ _ a.reads_on.so_far a.reads_on.came) c.request-asked.ensures.some none in
+    concluded a (Consumes-nil _) (c.lemma_reading_so_far.ensures.payload task _ _ _ a.reads_on.so_far a.reads_on.came) (c.lemma_reading_so_far.ensures.shows task _ _ _ a.reads_on.so_far a.reads_on.came)
     (λ e. let clash : true ≡ false = sym done ∙ e in absurd cc) (λ e. a.not_ended)
 
 pub returns-in-Err-clause-drive : goal.returns-in-Err-clause-drive
 returns-in-Err-clause-drive g c = λ task s B h.
     let a = c.pieces.invariant.0 task s B h in
     let wanted : 0 < want_of c.pieces.verifier.reader.phase = omega (arith, c.if-asked-eq0.false, c.request-asked.ensures.wanted) in
-    stopped_by_intake a c.in-Err.ensures.bytes (c.waits.ensures.payload task _ _ _ a.stands.so_far a.stands.came) (c.waits.ensures.shows task _ _ _ a.stands.so_far a.stands.came) (c.waits.ensures.open task _ _ _ [] a.stands.so_far wanted) c.stop.ensures.taken c.stop.ensures.shown
+    stopped_by_intake a c.in-Err.ensures.bytes (c.lemma_reading_so_far.ensures.payload task _ _ _ a.reads_on.so_far a.reads_on.came) (c.lemma_reading_so_far.ensures.shows task _ _ _ a.reads_on.so_far a.reads_on.came) (c.lemma_reading_so_far.ensures.open task _ _ _ [] a.reads_on.so_far wanted) c.stop.ensures.taken c.stop.ensures.shown
 
 pub returns-then-count-eq0-clause-drive : goal.returns-then-count-eq0-clause-drive
 returns-then-count-eq0-clause-drive g c = λ task s B h.
     let a = c.pieces.invariant.0 task s B h in
     let wanted : 0 < want_of c.pieces.verifier.reader.phase = omega (arith, c.if-asked-eq0.false, c.request-asked.ensures.wanted) in
     let none : c.in-Ok.count ≡ 0 = omega (arith, c.if-count-eq0.true) in
-    let open_yet = c.waits.ensures.open task _ _ _ [] a.stands.so_far wanted in
+    let open_yet = c.lemma_reading_so_far.ensures.open task _ _ _ [] a.reads_on.so_far wanted in
     let took = rw none at c.in-Ok.ensures.bytes in
     let ended = rw none at c.in-Ok.ensures.end in
-    concluded a took.0 (c.waits.ensures.payload task _ _ _ a.stands.so_far a.stands.came) (c.waits.ensures.shows task _ _ _ a.stands.so_far a.stands.came)
+    concluded a took.0 (c.lemma_reading_so_far.ensures.payload task _ _ _ a.reads_on.so_far a.reads_on.came) (c.lemma_reading_so_far.ensures.shows task _ _ _ a.reads_on.so_far a.reads_on.came)
     (λ e. (ended, took.1 refl)) (λ e. let clash : true ≡ false = sym e ∙ open_yet in absurd cc)
 
 pub returns-then-is_err-clause-drive : goal.returns-then-is_err-clause-drive
 returns-then-is_err-clause-drive g c = λ task s B h.
     let a = c.pieces.invariant.0 task s B h in
-    let stands = c.take_piece.ensures.taken task _ _ a.stands in
+    let reads_on = c.take_piece.ensures.taken task _ _ a.reads_on in
     let in_it : in_payload c.pieces.verifier.reader.phase ≡ true = sym c.is_in_payload-in_payload.ensures ∙ c.if-in_payload.true in
     let count : c.in-Ok.count ≤ want_of c.pieces.verifier.reader.phase = omega (arith, c.take.auto.into, c.in-Ok.ensures.within, c.request-asked.ensures.wanted, length-take c.request-asked.result c.pieces.chunk) in
     let fits : (l : List ℕ) → length (take c.in-Ok.count l) ≤ want_of c.pieces.verifier.reader.phase = λ l. omega (arith, take_short c.in-Ok.count l) in
     let within : (l more : List ℕ) → length more < length (take c.in-Ok.count l) → length more < want_of c.pieces.verifier.reader.phase = λ l more lt. omega (arith, fits l, lt) in
     stopped_by_sink c.take_piece.new.self _ a (first_of _ _ c.in-Ok.count c.take.new.into _ c.in-Ok.ensures.within c.in-Ok.ensures.bytes.0)
-    (λ more lt. c.waits.ensures.open task _ _ _ more a.stands.so_far (within _ more lt)) (c.waits.ensures.open_payload task _ _ _ _ a.stands.so_far in_it (fits _)) in_it
-    (c.waits-in-pieces.ensures.payload task _ _ _ stands.so_far stands.came) (c.waits-in-pieces.ensures.shows task _ _ _ stands.so_far stands.came) (put_failed _ _ _ c.put.result (sym c.is_err.ensures.value ∙ c.if-is_err.true) c.put.ensures.bytes)
-    stands.counted c.stop-then-is_err.ensures.taken c.stop-then-is_err.ensures.shown
+    (λ more lt. c.lemma_reading_so_far.ensures.open task _ _ _ more a.reads_on.so_far (within _ more lt)) (c.lemma_reading_so_far.ensures.open_payload task _ _ _ _ a.reads_on.so_far in_it (fits _)) in_it
+    (c.lemma_reading_so_far-in-pieces.ensures.payload task _ _ _ reads_on.so_far reads_on.came) (c.lemma_reading_so_far-in-pieces.ensures.shows task _ _ _ reads_on.so_far reads_on.came) (put_failed _ _ _ c.put.result (sym c.is_err.ensures.value ∙ c.if-is_err.true) c.put.ensures.bytes)
+    reads_on.counted c.stop-then-is_err.ensures.taken c.stop-then-is_err.ensures.shown
 
 -- The payload is within its limit, so the sink has promised to take the piece.
 pub returns-then-is_err-clause-sure : goal.returns-then-is_err-clause-sure
 returns-then-is_err-clause-sure g c = λ task s B h enough.
     let a = c.pieces.invariant.0 task s B h in
-    let stands = c.take_piece.ensures.taken task _ _ a.stands in
+    let reads_on = c.take_piece.ensures.taken task _ _ a.reads_on in
     let in_it : in_payload c.pieces.verifier.reader.phase ≡ true = sym c.is_in_payload-in_payload.ensures ∙ c.if-in_payload.true in
-    let known = c.waits-in-pieces.ensures.payload task _ _ _ stands.so_far stands.came in
+    let known = c.lemma_reading_so_far-in-pieces.ensures.payload task _ _ _ reads_on.so_far reads_on.came in
     let limit = payload_within (rules_of g.row.H g.row.D task) _ in
     let promised = c.put.ensures.promised (sure_enough _ _ a in_it known limit enough) in
     absurd (is_done c.put.result (sym c.is_err.ensures.value ∙ c.if-is_err.true) promised)
 
 pub returns-then-asked-eq0-clause-context : goal.returns-then-asked-eq0-clause-context
-returns-then-asked-eq0-clause-context g c = λ task s B h. ap (λ (t : Task). t.setting) (c.pieces.invariant.0 task s B h).stands.made_for ∙ sym (ap (λ (t : Task). t.setting) h.made_for)
+returns-then-asked-eq0-clause-context g c = λ task s B h. ap (λ (t : Task). t.setting) (c.pieces.invariant.0 task s B h).reads_on.made_for ∙ sym (ap (λ (t : Task). t.setting) h.made_for)
 
 pub returns-in-Err-clause-context : goal.returns-in-Err-clause-context
-returns-in-Err-clause-context g c = λ task s B h. c.stop.ensures.context ∙ ap (λ (t : Task). t.setting) (c.pieces.invariant.0 task s B h).stands.made_for ∙ sym (ap (λ (t : Task). t.setting) h.made_for)
+returns-in-Err-clause-context g c = λ task s B h. c.stop.ensures.context ∙ ap (λ (t : Task). t.setting) (c.pieces.invariant.0 task s B h).reads_on.made_for ∙ sym (ap (λ (t : Task). t.setting) h.made_for)
 
 pub returns-then-count-eq0-clause-context : goal.returns-then-count-eq0-clause-context
-returns-then-count-eq0-clause-context g c = λ task s B h. ap (λ (t : Task). t.setting) (c.pieces.invariant.0 task s B h).stands.made_for ∙ sym (ap (λ (t : Task). t.setting) h.made_for)
+returns-then-count-eq0-clause-context g c = λ task s B h. ap (λ (t : Task). t.setting) (c.pieces.invariant.0 task s B h).reads_on.made_for ∙ sym (ap (λ (t : Task). t.setting) h.made_for)
 
 pub returns-then-is_err-clause-context : goal.returns-then-is_err-clause-context
-returns-then-is_err-clause-context g c = λ task s B h. c.stop-then-is_err.ensures.context ∙ ap (λ (t : Task). t.setting) (c.take_piece.ensures.taken task _ _ (c.pieces.invariant.0 task s B h).stands).made_for ∙ sym (ap (λ (t : Task). t.setting) h.made_for)
+returns-then-is_err-clause-context g c = λ task s B h. c.stop-then-is_err.ensures.context ∙ ap (λ (t : Task). t.setting) (c.take_piece.ensures.taken task _ _ (c.pieces.invariant.0 task s B h).reads_on).made_for ∙ sym (ap (λ (t : Task). t.setting) h.made_for)
 
 pub messages_are_bounded-requires : goal.messages_are_bounded-requires
 messages_are_bounded-requires g c = cc
@@ -244,7 +244,7 @@ returns-then-count-eq0-clause-beside g c = λ task s B h detached. (refl, put_no
 
 pub returns-then-is_err-clause-beside : goal.returns-then-is_err-clause-beside
 returns-then-is_err-clause-beside g c = λ task s B h detached.
-    absurd (none_apart (c.pieces.invariant.0 task s B h).stands.so_far detached (sym c.is_in_payload-in_payload.ensures ∙ c.if-in_payload.true))
+    absurd (none_apart (c.pieces.invariant.0 task s B h).reads_on.so_far detached (sym c.is_in_payload-in_payload.ensures ∙ c.if-in_payload.true))
 
 pub slice_bounds-take-end : goal.slice_bounds-take-end
 slice_bounds-take-end g c = grind (arith, common_steps)
@@ -258,13 +258,13 @@ slice_bounds-piece-end g c = grind (arith, common_steps)
 pub slice_bounds-piece-end-in-pieces : goal.slice_bounds-piece-end-in-pieces
 slice_bounds-piece-end-in-pieces g c = grind (arith, common_steps)
 
-pub waits-requires : goal.waits-requires
+pub waits-requires : goal.lemma_reading_so_far-requires
 waits-requires g c = grind (arith, common_steps)
 
 pub stop-requires : goal.stop-requires
 stop-requires g c = grind (arith, common_steps)
 
-pub waits-requires-in-pieces : goal.waits-requires-in-pieces
+pub waits-requires-in-pieces : goal.lemma_reading_so_far-requires-in-pieces
 waits-requires-in-pieces g c = grind (arith, common_steps)
 
 pub stop-requires-then-is_err : goal.stop-requires-then-is_err

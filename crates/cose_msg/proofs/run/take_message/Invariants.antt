@@ -2,7 +2,7 @@ use Rattle.std.proofs.Common.{◌≡◌, ◌-◌, ◌^◌, ℕ, List, length, fa
 use Rattle.cose_msg.specs.Kept.{HasTaken}
 use Rattle.cose_msg.specs.Task.{Task}
 use Rattle.cose_msg.specs.Verifier.{is_detached}
-use Rattle.cose_msg.proofs.Runs.{Along}
+use Rattle.cose_msg.proofs.lemmas.Run.Runs.{Along}
 use Rattle.cose_msg.proofs.run.take_message.Given as goal
 
 abbrev pub invariant-pieces : goal.invariant-pieces

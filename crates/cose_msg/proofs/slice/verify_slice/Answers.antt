@@ -7,9 +7,9 @@ use Rattle.cose_msg.specs.Slice.{outcome_of}
 use Rattle.cose_msg.specs.Status.{status_of_answer}
 use Rattle.cose_msg.specs.Task.{rules_of, to_verify}
 use Rattle.cose_msg.specs.Verifier.{setting_in}
-use Rattle.cose_msg.proofs.Runs.{counted_stands}
-use Rattle.cose_msg.proofs.Slices.{begun, counted_fed, payload_is, payload_of_fed, reads_all, verdict_of_fed}
-use Rattle.cose_msg.proofs.Statuses.{left_by_answer}
+use Rattle.cose_msg.proofs.lemmas.Run.Runs.{counted_stands}
+use Rattle.cose_msg.proofs.lemmas.Run.Slices.{begun, counted_fed, payload_is, payload_of_fed, reads_all, verdict_of_fed}
+use Rattle.cose_msg.proofs.lemmas.Feeding.Statuses.{left_by_answer}
 use Rattle.cose_msg.proofs.slice.verify_slice.Goals as goal
 
 pub returns-clause-outcome : goal.returns-clause-outcome
@@ -25,7 +25,7 @@ returns-clause-payload g c =
     let setting = setting_in c.args.verifier.now in
     let fresh = begun c.requires.verifies c.reset.ensures.none_taken in
     let fed = c.feed-fed.ensures.taken (to_verify setting) [] [] fresh in
-    let known = payload_of_fed c.settled_stays.ensures.message g.row.H g.row.D (to_verify setting) c.args.message.now _ c.feed-fed.result.used (c.feed-fed.ensures.uses (to_verify setting) [] [] fresh) (c.waits.ensures.payload (to_verify setting) _ _ _ fed.so_far fed.came) in
+    let known = payload_of_fed c.settled_stays.ensures.message g.row.H g.row.D (to_verify setting) c.args.message.now _ c.feed-fed.result.used (c.feed-fed.ensures.uses (to_verify setting) [] [] fresh) (c.lemma_reading_so_far.ensures.payload (to_verify setting) _ _ _ fed.so_far fed.came) in
     payload_is c.result_of.result _ _ known c.result_of.ensures.payload
 
 pub returns-clause-counted : goal.returns-clause-counted
@@ -35,12 +35,12 @@ returns-clause-counted g c =
     let count = counted_fed c.reset.new.self.taken c.feed-fed.new.self.taken c.feed-fed.result.used fresh.counted c.feed-fed.ensures.counted in
     subst (λ (n : ℕ). Uses (rules_of g.row.H g.row.D (to_verify setting)) [] c.args.message.now n) (sym (c.conclude-verdict.ensures.counts ∙ count)) (c.feed-fed.ensures.uses (to_verify setting) [] [] fresh)
 
-pub returns-clause-tells : goal.returns-clause-tells
-returns-clause-tells g c =
+pub returns-clause-shows : goal.returns-clause-shows
+returns-clause-shows g c =
     let setting = setting_in c.args.verifier.now in
     let fresh = begun c.requires.verifies c.reset.ensures.none_taken in
     let reads = reads_all c.settled_stays.ensures.message (rules_of g.row.H g.row.D (to_verify setting)) c.args.message.now c.feed-fed.result.used (c.feed-fed.ensures.uses (to_verify setting) [] [] fresh) in
-    c.conclude-verdict.ensures.shown ∙ c.feed-fed.ensures.tells (to_verify setting) [] [] fresh ∙ ap (shown_in setting) (sym reads)
+    c.conclude-verdict.ensures.shown ∙ c.feed-fed.ensures.shows (to_verify setting) [] [] fresh ∙ ap (shown_in setting) (sym reads)
 
 pub returns-clause-status : goal.returns-clause-status
 returns-clause-status g c =

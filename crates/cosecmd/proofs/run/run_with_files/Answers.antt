@@ -1,6 +1,6 @@
 use Rattle.std.proofs.Common.{◌≡◌, ◌∙◌, ap, inl, inr, rules}
 use Rattle.cosecmd.specs.CommandLine.{begins_as_answer}
-use Rattle.cosecmd.specs.declared.words.Parsed.TheVariants.{Matches, Text}
+use Rattle.cosecmd.specs.declared.arguments.Parsed.TheVariants.{Matches, Text}
 use Rattle.cosecmd.proofs.CommandLines.{found_in, text_read}
 use Rattle.cosecmd.proofs.Replies.{ends_with_text, some_line}
 use Rattle.cosecmd.proofs.run.run_with_files.Goals as goal

@@ -16,9 +16,9 @@ returns-then-count-gt0-clause-answer g c = λ room put has some.
     let piece = take c.min-count.result c.args.piece.now in
     let count : length piece ≡ c.min-count.result = length-take-le c.min-count.result c.args.piece.now (omega (arith, c.min-count.ensures)) in
     let no_half : length now.half.items ≡ 0 = now.one_part (omega arith) in
-    let stands = c.advance_content-progress.ensures.stands in
-    let taken : then.place + length then.half.items ≡ now.place + length now.half.items + length piece = omega (arith, stands.half, stands.place) in
-    let left : then.place + then.room ≡ now.place + now.room = omega (arith, now.fits, stands.room, stands.place) in
+    let is_at = c.advance_content-progress.ensures.is_at in
+    let taken : then.place + length then.half.items ≡ now.place + length now.half.items + length piece = omega (arith, is_at.half, is_at.place) in
+    let left : then.place + then.room ≡ now.place + now.room = omega (arith, now.fits, is_at.room, is_at.place) in
     rw c.step_after-self.ensures (answers_after now then room put piece has c.advance_content-progress.result (c.advance_content-progress.ensures.leads piece count)
     (on_ok _ taken) (on_ok _ left))
 
@@ -29,9 +29,9 @@ returns-then-count-gt0-clause-put g c = λ room put has going.
     let piece = take c.min-count.result c.args.piece.now in
     let count : length piece ≡ c.min-count.result = length-take-le c.min-count.result c.args.piece.now (omega (arith, c.min-count.ensures)) in
     let no_half : length now.half.items ≡ 0 = now.one_part (omega arith) in
-    let stands = c.advance_content-progress.ensures.stands in
-    let taken : then.place + length then.half.items ≡ now.place + length now.half.items + length piece = omega (arith, stands.half, stands.place) in
-    let left : then.place + then.room ≡ now.place + now.room = omega (arith, now.fits, stands.room, stands.place) in
+    let is_at = c.advance_content-progress.ensures.is_at in
+    let taken : then.place + length then.half.items ≡ now.place + length now.half.items + length piece = omega (arith, is_at.half, is_at.place) in
+    let left : then.place + then.room ≡ now.place + now.room = omega (arith, now.fits, is_at.room, is_at.place) in
     put_after now then room put piece has _ (record { counts = refl; half = refl; string = refl; room = refl; place = refl }) c.advance_content-progress.result (c.advance_content-progress.ensures.leads piece count)
     (on_ok _ taken) (on_ok _ left)
     c.step_after-self.ensures going

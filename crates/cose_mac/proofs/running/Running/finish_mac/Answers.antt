@@ -1,4 +1,4 @@
-use Rattle.std.proofs.Common.{◌≡◌, [], ◌++◌, length, ◌∙◌, ap}
+use Rattle.std.proofs.Common.{◌≡◌, ◌++◌, length, ◌∙◌, ap}
 use Rattle.cose_mac.proofs.HmacLemmas.{length_mac}
 use Rattle.cose_head.specs.Algorithm.{hash_of}
 use Rattle.cose_mac.specs.Hash.{function_of}
@@ -12,10 +12,8 @@ returns-clause-value c alg key message fed =
     let k = key_block (function_of (hash_of alg)) key in
     let inner : c.finish.result.items ≡ (function_of (hash_of alg)).digest (xor_pad k ipad ++ message) =
     c.finish.ensures (hash_of alg) (xor_pad k ipad ++ message) fed.held in
-    let outer : c.unwrap.result.items ≡ xor_pad k opad = cc in
-    let same : c.hash.result ≡ hash_of alg = cc in
-    let empty : Holds (hash_of alg) c.new-outer.result [] = rw same at c.new-outer.ensures in
-    let both = c.finish-mac.ensures _ _ (c.update-2.ensures _ _ (c.update.ensures _ _ empty)) in
+    let outer : Holds (hash_of alg) c.unwrap-outer.result (xor_pad k opad) = rw c.unwrap-outer.ensures at fed.outer in
+    let both = c.finish-mac.ensures _ _ (c.update.ensures _ _ outer) in
     let whole : c.finish-mac.result.items ≡ hmac (function_of (hash_of alg)) key message = cc in
     cc
 

@@ -5,8 +5,8 @@ use Rattle.cose_msg.proofs.intake.SliceIntake.new.Goals as goal
 pub returns-clause-cut : goal.returns-clause-cut
 returns-clause-cut c = grind (arith, common_steps)
 
-pub returns-clause-told : goal.returns-clause-told
-returns-clause-told c = grind (arith, common_steps)
+pub returns-clause-known : goal.returns-clause-known
+returns-clause-known c = grind (arith, common_steps)
 
 pub returns-clause-not_failed : goal.returns-clause-not_failed
 returns-clause-not_failed c = grind (arith, common_steps)

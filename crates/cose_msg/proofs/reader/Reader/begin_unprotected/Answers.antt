@@ -1,18 +1,18 @@
 use Rattle.std.proofs.Common.{[], refl, sym, add-zero, arith}
 use Rattle.std.proofs.lemmas.Grind.{common_steps}
-use Rattle.cose_msg.specs.Phases.{unprotected_told}
+use Rattle.cose_msg.specs.Phases.{unprotected_so_far}
 use Rattle.cose_msg.specs.Reading.{open_items_after}
-use Rattle.cose_msg.proofs.Standing.{under_pairs}
+use Rattle.cose_msg.proofs.lemmas.Reader.Standing.{under_pairs}
 use Rattle.cose_msg.proofs.reader.Reader.begin_unprotected.Goals as goal
 
 pub returns : goal.returns
 returns g c = record {
-  stands = λ task pairs e good. record {
+  reads_on = λ task pairs e good. record {
     known = under_pairs pairs;
-    told = unprotected_told pairs (open_items_after g.row.H g.row.D []);
+    so_far = unprotected_so_far pairs (open_items_after g.row.H g.row.D []);
     shows = (e.0, good, e.2, c.walker_is_reading.ensures.open g.row.D g.row.H [] c.new-self.result c.new-self.ensures.put);
     payload_known = refl;
-    payload_told = refl;
+    payload_so_far = refl;
     holds = (rw c.clear.ensures refl, good, rw c.clear.ensures c.new-self.ensures.put, rw c.clear.ensures (sym (add-zero c.args.at)), rw c.clear.ensures (c.want.ensures.content g.row.H [] c.new-self.ensures.put));
     left = λ z. rw c.clear.ensures refl;
   };

@@ -7,8 +7,8 @@ use Rattle.std.specs.Prelude.{option_map}
 use Rattle.cose_msg.specs.Chosen.{chosen_value}
 use Rattle.cose_msg.specs.Phases.{headers_of}
 use Rattle.cose_msg.specs.Task.{Task, choice_for}
-use Rattle.cose_msg.proofs.ChoiceReadings.{chosen_among}
-use Rattle.cose_msg.proofs.Choices.{key_found, key_refused, not_refused, pair_refused, same_pairs}
+use Rattle.cose_msg.proofs.lemmas.Choosing.ChoiceReadings.{chosen_among}
+use Rattle.cose_msg.proofs.lemmas.Choosing.Choices.{key_found, key_refused, not_refused, pair_refused, same_pairs}
 use Rattle.cose_msg.proofs.reader.Reader.choose.Goals as goal
 
 pub returns-in_err-protected : goal.returns-in_err-protected

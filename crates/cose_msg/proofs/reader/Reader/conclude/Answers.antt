@@ -8,28 +8,28 @@ use Rattle.cose_msg.specs.Shown.{held_input, sign_input_by}
 use Rattle.cose_msg.specs.Status.{status_of_phase, status_of_reading}
 use Rattle.cose_msg.specs.Task.{to_verify}
 use Rattle.cose_msg.specs.Reader.{Counts}
-use Rattle.cose_msg.proofs.PhaseCases.{known_is_decided, tells_no_input, unsigned_is_undecided}
-use Rattle.cose_msg.proofs.Decisions.{IsDone, signed_count, stands_with_verdict, stands_without_verdict}
-use Rattle.cose_msg.proofs.Statuses.{settled_status}
-use Rattle.cose_msg.proofs.Untouched.{untouched_ends, untouched_is_undecided}
+use Rattle.cose_msg.proofs.lemmas.Deciding.PhaseCases.{known_is_decided, tells_no_input, unsigned_is_undecided}
+use Rattle.cose_msg.proofs.lemmas.Deciding.Decisions.{IsDone, signed_count, reads_on_with_verdict, reads_on_without_verdict}
+use Rattle.cose_msg.proofs.lemmas.Feeding.Statuses.{settled_status}
+use Rattle.cose_msg.proofs.lemmas.Deciding.Untouched.{untouched_ends, untouched_is_undecided}
 use Rattle.cose_msg.proofs.reader.Reader.conclude.Goals as goal
 
 pub returns-in-Some-clause-answer : goal.returns-in-Some-clause-answer
 returns-in-Some-clause-answer g c = λ setting B reading h came.
-    ap (then_verified setting.aad (g.E.EcVerifier.decides c.args.ec.now)) (stands_with_verdict c.in-Some.verdict h (sym c.known_verdict.ensures ∙ c.in-Some.is)).0
+    ap (then_verified setting.aad (g.E.EcVerifier.decides c.args.ec.now)) (reads_on_with_verdict c.in-Some.verdict h (sym c.known_verdict.ensures ∙ c.in-Some.is)).0
 
 pub returns-in-Some-clause-counted : goal.returns-in-Some-clause-counted
-returns-in-Some-clause-counted g c = λ setting B reading h came. (stands_with_verdict c.in-Some.verdict h (sym c.known_verdict.ensures ∙ c.in-Some.is)).2
+returns-in-Some-clause-counted g c = λ setting B reading h came. (reads_on_with_verdict c.in-Some.verdict h (sym c.known_verdict.ensures ∙ c.in-Some.is)).2
 
 pub returns-in-Some-clause-status : goal.returns-in-Some-clause-status
 returns-in-Some-clause-status g c = λ setting B reading h came.
-    let settles = (stands_with_verdict c.in-Some.verdict h (sym c.known_verdict.ensures ∙ c.in-Some.is)).1 in
-    settled_status (reading []) _ (c.waits.ensures.status (to_verify setting) B _ reading h came) settles
+    let settles = (reads_on_with_verdict c.in-Some.verdict h (sym c.known_verdict.ensures ∙ c.in-Some.is)).1 in
+    settled_status (reading []) _ (c.lemma_reading_so_far.ensures.status (to_verify setting) B _ reading h came) settles
 
 pub returns-in-Signed-clause-status : goal.returns-in-Signed-clause-status
 returns-in-Signed-clause-status g c = λ setting B reading h came.
-    let settles : IsDone (reading []) = (c.waits.ensures.settled (to_verify setting) B _ reading h came ∙ ap is_settled c.in-Signed.is, c.waits.ensures.payload_wanted (to_verify setting) B _ reading h came ∙ ap payload_want_of c.in-Signed.is) in
-    let complete : Complete ≡ status_of_reading (reading []) = sym (ap status_of_phase c.in-Signed.is) ∙ c.waits.ensures.status (to_verify setting) B _ reading h came in
+    let settles : IsDone (reading []) = (c.lemma_reading_so_far.ensures.settled (to_verify setting) B _ reading h came ∙ ap is_settled c.in-Signed.is, c.lemma_reading_so_far.ensures.payload_wanted (to_verify setting) B _ reading h came ∙ ap payload_want_of c.in-Signed.is) in
+    let complete : Complete ≡ status_of_reading (reading []) = sym (ap status_of_phase c.in-Signed.is) ∙ c.lemma_reading_so_far.ensures.status (to_verify setting) B _ reading h came in
     settled_status (reading []) Complete complete settles
 
 pub returns-in-Signed-clause-answer : goal.returns-in-Signed-clause-answer
@@ -62,10 +62,10 @@ returns-in_default-phase g c =
       held = same.held;
       opened = same.opened;
       complete = λ awaits. let clash : false ≡ true = sym undecided ∙ awaits in absurd cc;
-      answer = λ setting B reading h came. rw (c.waits.ensures.ended (to_verify setting) B _ reading h came (stands_without_verdict h none undecided), same.same, c.ends_at-place.ensures) refl;
+      answer = λ setting B reading h came. rw (c.lemma_reading_so_far.ensures.ended (to_verify setting) B _ reading h came (reads_on_without_verdict h none undecided), same.same, c.ends_at-place.ensures) refl;
       counted = λ setting B reading h came. tt;
       untouched = λ none untouched. same.untouched (c.ends_at-place.ensures ∙ untouched_ends c.args.self.now c.args.taken untouched ∙ none) untouched;
-      status = λ setting B reading h came. rw (same.phase, c.waits.ensures.ended (to_verify setting) B _ reading h came (stands_without_verdict h none undecided), same.same, c.ends_at-place.ensures) refl;
+      status = λ setting B reading h came. rw (same.phase, c.lemma_reading_so_far.ensures.ended (to_verify setting) B _ reading h came (reads_on_without_verdict h none undecided), same.same, c.ends_at-place.ensures) refl;
     }
 
 pub returns-in-Some-clause-kept : goal.returns-in-Some-clause-kept

@@ -2,9 +2,9 @@ use Rattle.std.proofs.Common.{◌≡◌, [], None, Some, ◌∙◌, sym, refl}
 use Rattle.cose_msg.specs.Kept.{inspected_in}
 use Rattle.cose_msg.specs.Shown.{held_input}
 use Rattle.cose_msg.specs.Task.{to_inspect}
-use Rattle.cose_msg.proofs.Decisions.{open_shows_no_input, stands_inspected, stands_without_shape}
-use Rattle.cose_msg.proofs.Statuses.{settled_status}
-use Rattle.cose_msg.proofs.Untouched.{untouched_ends}
+use Rattle.cose_msg.proofs.lemmas.Deciding.Decisions.{open_shows_no_input, reads_on_inspected, reads_on_without_shape}
+use Rattle.cose_msg.proofs.lemmas.Feeding.Statuses.{settled_status}
+use Rattle.cose_msg.proofs.lemmas.Deciding.Untouched.{untouched_ends}
 use Rattle.cose_msg.proofs.reader.Reader.conclude_inspection.Goals as goal
 
 pub returns-in-Some : goal.returns-in-Some
@@ -16,9 +16,9 @@ returns-in-Some g c =
       shown = λ setting B reading h came. refl;
       held = refl;
       opened = refl;
-      answer = λ setting B reading h came. (stands_inspected c.in-Some.inspected h is).0;
-      counted = λ setting B reading h came. (stands_inspected c.in-Some.inspected h is).2;
-      status = λ setting B reading h came. settled_status (reading []) _ (c.waits.ensures.status (to_inspect setting) B _ reading h came) (stands_inspected c.in-Some.inspected h is).1;
+      answer = λ setting B reading h came. (reads_on_inspected c.in-Some.inspected h is).0;
+      counted = λ setting B reading h came. (reads_on_inspected c.in-Some.inspected h is).2;
+      status = λ setting B reading h came. settled_status (reading []) _ (c.lemma_reading_so_far.ensures.status (to_inspect setting) B _ reading h came) (reads_on_inspected c.in-Some.inspected h is).1;
       untouched = λ none untouched. untouched;
     }
 
@@ -29,11 +29,11 @@ returns-in-None g c =
     record {
       kept = rw same.phase refl;
       terms = same.terms;
-      shown = λ setting B reading h came. same.shown (open_shows_no_input c.args.self.now.phase (held_input c.args.self.now) (stands_without_shape h none));
+      shown = λ setting B reading h came. same.shown (open_shows_no_input c.args.self.now.phase (held_input c.args.self.now) (reads_on_without_shape h none));
       held = same.held;
       opened = same.opened;
-      answer = λ setting B reading h came. rw (c.waits.ensures.ended (to_inspect setting) B _ reading h came (stands_without_shape h none), same.same, c.ends_at-place.ensures) refl;
+      answer = λ setting B reading h came. rw (c.lemma_reading_so_far.ensures.ended (to_inspect setting) B _ reading h came (reads_on_without_shape h none), same.same, c.ends_at-place.ensures) refl;
       counted = λ setting B reading h came. tt;
-      status = λ setting B reading h came. rw (same.phase, c.waits.ensures.ended (to_inspect setting) B _ reading h came (stands_without_shape h none), same.same, c.ends_at-place.ensures) refl;
+      status = λ setting B reading h came. rw (same.phase, c.lemma_reading_so_far.ensures.ended (to_inspect setting) B _ reading h came (reads_on_without_shape h none), same.same, c.ends_at-place.ensures) refl;
       untouched = λ none untouched. same.untouched (c.ends_at-place.ensures ∙ untouched_ends c.args.self.now c.args.taken untouched ∙ none) untouched;
     }

@@ -1,27 +1,27 @@
 use Rattle.std.proofs.Common.{refl, sym, ◌∙◌, arith}
 use Rattle.std.proofs.lemmas.Grind.{common_steps}
-use Rattle.cose_msg.specs.Phases.{headers_told}
-use Rattle.cose_msg.proofs.ChosenKeys.{holds_auth, is_inspected, key_of_alg, no_key_without_alg}
+use Rattle.cose_msg.specs.Phases.{headers_so_far}
+use Rattle.cose_msg.proofs.lemmas.Choosing.ChosenKeys.{holds_auth, is_inspected, key_of_alg, no_key_without_alg}
 use Rattle.cose_msg.proofs.reader.Reader.finish.Goals as goal
 
 pub returns-in-Some : goal.returns-in-Some
 returns-in-Some g c = record {
-  stands = λ task known at e key count length fed held.
+  reads_on = λ task known at e key count length fed held.
       let is = key_of_alg c.args.self.now.chosen known.chosen c.in-Some.alg (sym c.in-Some.is ∙ c.alg.ensures) key.1 in
-      c.compare.ensures.stands task known is.found at e key is.chosen_is is.alg_is count fed (holds_auth known.chosen is.found c.args.self.now.auth.items known.auth is.chosen_is held);
+      c.compare.ensures.reads_on task known is.found at e key is.chosen_is is.alg_is count fed (holds_auth known.chosen is.found c.args.self.now.auth.items known.auth is.chosen_is held);
 }
 
 pub returns-in-None : goal.returns-in-None
 returns-in-None g c = record {
-  stands = λ task known at e key count length fed held.
+  reads_on = λ task known at e key count length fed held.
       let none = no_key_without_alg c.args.self.now.chosen known.chosen (sym c.in-None.is ∙ c.alg.ensures) key.1 in
       let inspects = is_inspected known.chosen task.inspects none key.2 in
       record {
         known = known;
-        told = headers_told known.headers known.payload;
+        so_far = headers_so_far known.headers known.payload;
         shows = e;
         payload_known = refl;
-        payload_told = refl;
+        payload_so_far = refl;
         holds = (refl, inspects);
         left = λ z. rw (inspects, key.0, count, length) refl;
       };

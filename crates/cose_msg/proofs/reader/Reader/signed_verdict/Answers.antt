@@ -1,5 +1,5 @@
 use Rattle.std.proofs.Common.{true, false, ◌∙◌, sym}
-use Rattle.cose_msg.proofs.Decisions.{signed_answer, signed_has_key}
+use Rattle.cose_msg.proofs.lemmas.Deciding.Decisions.{signed_answer, signed_has_key}
 use Rattle.cose_msg.proofs.reader.Reader.signed_verdict.Goals as goal
 
 pub returns-then-is_signed-clause-answer : goal.returns-then-is_signed-clause-answer

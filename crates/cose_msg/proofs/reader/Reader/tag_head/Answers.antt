@@ -2,26 +2,26 @@ use Rattle.std.proofs.Common.{◌≡◌, ◌+◌, [], ◌∷◌, ◌++◌, Resul
 use Rattle.std.proofs.lemmas.Grind.{common_steps}
 use Rattle.cose_head.specs.Head.{IsMore, bare_head}
 use Rattle.cose_msg.specs.Task.{Task, rules_of}
-use Rattle.cose_msg.specs.Front.{past_second_head, past_tag, tag_behind_cwt}
-use Rattle.cose_msg.specs.Phases.{nothing_told}
+use Rattle.cose_msg.specs.Front.{past_second_head, past_tag, tag_after_cwt}
+use Rattle.cose_msg.specs.Phases.{nothing_so_far}
 use Rattle.cose_head.specs.declared.kind.Kind.{Kind}
 use Rattle.cose_head.specs.declared.reason.Reason.{Reason}
-use Rattle.cose_msg.proofs.Standing.{holds_more, moved, shows_as, told_payload}
-use Rattle.cose_msg.proofs.Steps.{head_refused, head_completed, regrouped}
+use Rattle.cose_msg.proofs.lemmas.Reader.Standing.{holds_more, moved, shows_as, so_far_payload}
+use Rattle.cose_msg.proofs.lemmas.Reader.Steps.{head_refused, head_completed, regrouped}
 use Rattle.cose_msg.proofs.reader.Reader.tag_head.Goals as goal
 
 pub returns-in-More : goal.returns-in-More
 returns-in-More g c = record {
-  stands = λ task B n reading h.
+  reads_on = λ task B n reading h.
       let inside = rw c.requires.phase at h.holds in
       let kept = rw c.in-More.is at c.take_bare_head_byte.ensures.kept in
       let half : IsMore (bare_head (c.args.self.now.head.items ++ c.args.byte ∷ [])) = rw (← c.take_bare_head_byte.ensures.answer, c.in-More.is) tt in
       record {
         known = h.known;
-        told = h.told;
+        so_far = h.so_far;
         shows = h.shows;
         payload_known = h.payload_known;
-        payload_told = h.payload_told;
+        payload_so_far = h.payload_so_far;
         holds = rw c.requires.phase (inside.0, (holds_more c.args.tag_head.at n c.args.byte c.args.self.now.head.items c.take_bare_head_byte.new.head.items inside.1.1 kept half));
         left = λ z. rw (c.requires.phase, kept, regrouped) (rw c.requires.phase at (h.left (c.args.byte ∷ z)));
       };
@@ -29,25 +29,25 @@ returns-in-More g c = record {
 
 pub returns-in-Fault : goal.returns-in-Fault
 returns-in-Fault g c = record {
-  stands = λ task B n reading h.
+  reads_on = λ task B n reading h.
       let inside = rw c.requires.phase at h.holds in
-      let none = told_payload h.told nothing_told B inside.0 h.payload_told in
+      let none = so_far_payload h.so_far nothing_so_far B inside.0 h.payload_so_far in
       moved c.refuse.new.self _ _ refl refl
-      (λ z. (rw c.requires.phase at (h.left (c.args.byte ∷ z))) ∙ head_refused nothing_told (past_second_head (rules_of g.row.H g.row.D task)) c.args.tag_head.at c.args.self.now.head.items c.args.byte c.in-Fault.reason (c.in-Fault.ensures.stays tt) z)
-      (c.refuse.ensures task B (n + 1) nothing_told (shows_as task c.args.self.now h.told nothing_told inside.0 h.shows) none);
+      (λ z. (rw c.requires.phase at (h.left (c.args.byte ∷ z))) ∙ head_refused nothing_so_far (past_second_head (rules_of g.row.H g.row.D task)) c.args.tag_head.at c.args.self.now.head.items c.args.byte c.in-Fault.reason (c.in-Fault.ensures.stays tt) z)
+      (c.refuse.ensures task B (n + 1) nothing_so_far (shows_as task c.args.self.now h.so_far nothing_so_far inside.0 h.shows) none);
 }
 
 pub returns-in-Got : goal.returns-in-Got
 returns-in-Got g c = record {
-  stands = λ task B n reading h.
+  reads_on = λ task B n reading h.
       let inside = rw c.requires.phase at h.holds in
-      let none = told_payload h.told nothing_told B inside.0 h.payload_told in
+      let none = so_far_payload h.so_far nothing_so_far B inside.0 h.payload_so_far in
       let last = c.in-Got.ensures.last inside.1.0 in
       let count : c.args.tag_head.at + c.in-Got.used ≡ n + 1 = omega (arith, inside.1.1, last, length-append c.args.self.now.head.items (c.args.byte ∷ [])) in
-      let says : tag_behind_cwt task.setting.wanted c.in-Got.head ≡ c.cose_tag-kind.result = ap (λ (t : Task). tag_behind_cwt t.setting.wanted c.in-Got.head) (sym h.shows.0) ∙ sym c.cose_tag-kind.ensures in
+      let says : tag_after_cwt task.setting.wanted c.in-Got.head ≡ c.cose_tag-kind.result = ap (λ (t : Task). tag_after_cwt t.setting.wanted c.in-Got.head) (sym h.shows.0) ∙ sym c.cose_tag-kind.ensures in
       moved c.past_tag.new.self _ _ none count
-      (λ z. (rw c.requires.phase at (h.left (c.args.byte ∷ z))) ∙ (head_completed nothing_told (past_second_head (rules_of g.row.H g.row.D task)) c.args.tag_head.at c.args.self.now.head.items c.args.byte c.in-Got.head c.in-Got.used (c.in-Got.ensures.stays tt) last z) ∙ ap (λ (kind : Result Kind Reason). past_tag (rules_of g.row.H g.row.D task) c.args.tag_head.at kind (c.args.tag_head.at + c.in-Got.used) z) says)
-      (c.past_tag.ensures.stands task (shows_as task c.args.self.now h.told nothing_told inside.0 h.shows));
+      (λ z. (rw c.requires.phase at (h.left (c.args.byte ∷ z))) ∙ (head_completed nothing_so_far (past_second_head (rules_of g.row.H g.row.D task)) c.args.tag_head.at c.args.self.now.head.items c.args.byte c.in-Got.head c.in-Got.used (c.in-Got.ensures.stays tt) last z) ∙ ap (λ (kind : Result Kind Reason). past_tag (rules_of g.row.H g.row.D task) c.args.tag_head.at kind (c.args.tag_head.at + c.in-Got.used) z) says)
+      (c.past_tag.ensures.reads_on task (shows_as task c.args.self.now h.so_far nothing_so_far inside.0 h.shows));
 }
 
 pub invariant_of-self : goal.invariant_of-self

@@ -5,7 +5,7 @@ use Rattle.cose_msg.specs.Message.{message}
 use Rattle.cose_msg.specs.Run.{stop_in}
 use Rattle.cose_msg.specs.Status.{payload_wanted_in}
 use Rattle.cose_msg.specs.Task.{given_to, rules_of}
-use Rattle.cose_msg.proofs.BothTaken.{all_there, detached_given, ended_in_payload, none_awaited, settled_awaiting, stopped_before_nil, stopped_in_payload, taken_alone, took_or_stopped}
+use Rattle.cose_msg.proofs.lemmas.Detached.BothTaken.{all_there, detached_given, ended_in_payload, none_awaited, settled_awaiting, stopped_before_nil, stopped_in_payload, taken_alone, took_or_stopped}
 use Rattle.cose_msg.proofs.run.detached.take_detached.Goals as goal
 
 pub returns-in_err-take_message-clause-takes : goal.returns-in_err-take_message-clause-takes
@@ -24,7 +24,7 @@ returns-in_err-take_message-clause-sure g c = λ task s B h detached enough.
 pub returns-then-payload_wanted-eq0-clause-takes : goal.returns-then-payload_wanted-eq0-clause-takes
 returns-then-payload_wanted-eq0-clause-takes g c = λ task s B h detached.
     let d = c.in_ok-take_message.ensures.drive task s B h in
-    none_awaited h.came detached _ _ d (sym (c.payload_wanted.ensures.reads task _ _ d.stands.0) ∙ omega (arith, c.if-payload_wanted-eq0.true))
+    none_awaited h.came detached _ _ d (sym (c.payload_wanted.ensures.reads task _ _ d.reads_on.0) ∙ omega (arith, c.if-payload_wanted-eq0.true))
 
 pub returns-then-payload_wanted-eq0-clause-context : goal.returns-then-payload_wanted-eq0-clause-context
 returns-then-payload_wanted-eq0-clause-context g c = λ task s B h detached. c.take_message.ensures.context task s B h
@@ -33,58 +33,58 @@ pub returns-in_err-take_payload-clause-takes : goal.returns-in_err-take_payload-
 returns-in_err-take_payload-clause-takes g c = λ task s B h detached.
     let p = err_from_is_err_and c.from_residual-in_err-take_payload.result c.from_residual-in_err-take_payload.ensures.1 in
     let d = c.in_ok-take_message.ensures.drive task s B h in
-    rw (p.1, p.2) (stopped_in_payload c.payload_stays.ensures.unsettled h.came detached d _ (c.in_err-take_payload.ensures.brings task _ B (taken_alone (d.beside detached) d.stands.0)))
+    rw (p.1, p.2) (stopped_in_payload c.payload_stays.ensures.unsettled h.came detached d _ (c.in_err-take_payload.ensures.brings task _ B (taken_alone (d.beside detached) d.reads_on.0)))
 
 pub returns-in_err-take_payload-clause-context : goal.returns-in_err-take_payload-clause-context
 returns-in_err-take_payload-clause-context g c = λ task s B h detached.
     let d = c.in_ok-take_message.ensures.drive task s B h in
-    c.take_payload.ensures.context task _ B (taken_alone (d.beside detached) d.stands.0) ∙ c.take_message.ensures.context task s B h
+    c.take_payload.ensures.context task _ B (taken_alone (d.beside detached) d.reads_on.0) ∙ c.take_message.ensures.context task s B h
 
 pub returns-in_err-take_payload-clause-sure : goal.returns-in_err-take_payload-clause-sure
 returns-in_err-take_payload-clause-sure g c = λ task s B h detached enough.
     let p = err_from_is_err_and c.from_residual-in_err-take_payload.result c.from_residual-in_err-take_payload.ensures.1 in
     let d = c.in_ok-take_message.ensures.drive task s B h in
     let later = (c.in_ok-take_message.ensures.beside task s B h detached).1 in
-    rw (p.1, p.2) (c.in_err-take_payload.ensures.sure task _ B (taken_alone (d.beside detached) d.stands.0) (omega (arith, enough, later)))
+    rw (p.1, p.2) (c.in_err-take_payload.ensures.sure task _ B (taken_alone (d.beside detached) d.reads_on.0) (omega (arith, enough, later)))
 
 pub returns-then-payload_wanted-gt0-clause-takes : goal.returns-then-payload_wanted-gt0-clause-takes
 returns-then-payload_wanted-gt0-clause-takes g c = λ task s B h detached.
     let d = c.in_ok-take_message.ensures.drive task s B h in
-    let alone = taken_alone (d.beside detached) d.stands.0 in
+    let alone = taken_alone (d.beside detached) d.reads_on.0 in
     let b = c.in_ok-take_payload.ensures.brings task _ B alone in
     let wanted : 0 < payload_wanted_in c.take_message.new.verifier = omega (arith, c.if-payload_wanted-eq0.false, c.payload_wanted.ensures.value) in
     let wanted_then : 0 < payload_wanted_in c.take_payload.new.verifier = omega (arith, c.if-payload_wanted-gt0.true, c.payload_wanted-2.ensures.value) in
-    ended_in_payload c.payload_stays.ensures.unsettled h.came detached d b (settled_awaiting alone (c.waits.ensures.settled task _ _ _ alone.so_far alone.came) wanted)
-    (settled_awaiting b.stands.0 (c.waits-2.ensures.settled _ _ _ _ b.stands.0.so_far b.stands.0.came) wanted_then)
+    ended_in_payload c.payload_stays.ensures.unsettled h.came detached d b (settled_awaiting alone (c.lemma_reading_so_far.ensures.settled task _ _ _ alone.so_far alone.came) wanted)
+    (settled_awaiting b.reads_on.0 (c.lemma_reading_so_far-2.ensures.settled _ _ _ _ b.reads_on.0.so_far b.reads_on.0.came) wanted_then)
 
 pub returns-then-payload_wanted-gt0-clause-context : goal.returns-then-payload_wanted-gt0-clause-context
 returns-then-payload_wanted-gt0-clause-context g c = λ task s B h detached.
     let d = c.in_ok-take_message.ensures.drive task s B h in
-    c.take_payload.ensures.context task _ B (taken_alone (d.beside detached) d.stands.0) ∙ c.take_message.ensures.context task s B h
+    c.take_payload.ensures.context task _ B (taken_alone (d.beside detached) d.reads_on.0) ∙ c.take_message.ensures.context task s B h
 
 pub returns-clause-takes : goal.returns-clause-takes
 returns-clause-takes g c = λ task s B h detached.
     let d = c.in_ok-take_message.ensures.drive task s B h in
-    let alone = taken_alone (d.beside detached) d.stands.0 in
+    let alone = taken_alone (d.beside detached) d.reads_on.0 in
     let b = c.in_ok-take_payload.ensures.brings task _ B alone in
-    let none : (message (rules_of g.row.H g.row.D (given_to (B ++ b.came) task)) (s ++ d.taken)).payload_wanted ≡ 0 = sym (c.payload_wanted-2.ensures.reads _ _ _ b.stands.0) ∙ omega (arith, c.if-payload_wanted-gt0.false) in
-    let there = b.stands.2 none in
+    let none : (message (rules_of g.row.H g.row.D (given_to (B ++ b.came) task)) (s ++ d.taken)).payload_wanted ≡ 0 = sym (c.payload_wanted-2.ensures.reads _ _ _ b.reads_on.0) ∙ omega (arith, c.if-payload_wanted-gt0.false) in
+    let there = b.reads_on.2 none in
     took_or_stopped c.payload_stays.ensures.unsettled h.came detached d b there.0 (detached_given (B ++ b.came) task detached) (stop_in c.take_message-result.result)
-    (λ r. let now = taken_alone (r.beside (detached_given (B ++ b.came) task detached)) r.stands.0 in all_there now (c.waits-3.ensures.payload_wanted _ _ _ _ now.so_far now.came) there.1) none
-    (c.take_message-result.ensures.drive _ _ _ b.stands.0)
+    (λ r. let now = taken_alone (r.beside (detached_given (B ++ b.came) task detached)) r.reads_on.0 in all_there now (c.lemma_reading_so_far-3.ensures.payload_wanted _ _ _ _ now.so_far now.came) there.1) none
+    (c.take_message-result.ensures.drive _ _ _ b.reads_on.0)
 
 pub returns-clause-context : goal.returns-clause-context
 returns-clause-context g c = λ task s B h detached.
     let d = c.in_ok-take_message.ensures.drive task s B h in
-    let alone = taken_alone (d.beside detached) d.stands.0 in
+    let alone = taken_alone (d.beside detached) d.reads_on.0 in
     let b = c.in_ok-take_payload.ensures.brings task _ B alone in
-    c.take_message-result.ensures.context _ _ _ b.stands.0 ∙ c.take_payload.ensures.context task _ B alone ∙ c.take_message.ensures.context task s B h
+    c.take_message-result.ensures.context _ _ _ b.reads_on.0 ∙ c.take_payload.ensures.context task _ B alone ∙ c.take_message.ensures.context task s B h
 
 pub returns-clause-sure : goal.returns-clause-sure
 returns-clause-sure g c = λ task s B h detached enough.
     let d = c.in_ok-take_message.ensures.drive task s B h in
-    let b = c.in_ok-take_payload.ensures.brings task _ B (taken_alone (d.beside detached) d.stands.0) in
-    (c.take_message-result.ensures.beside _ _ _ b.stands.0 (detached_given (B ++ b.came) task detached)).0
+    let b = c.in_ok-take_payload.ensures.brings task _ B (taken_alone (d.beside detached) d.reads_on.0) in
+    (c.take_message-result.ensures.beside _ _ _ b.reads_on.0 (detached_given (B ++ b.came) task detached)).0
 
 pub returns-in_err-take_message-clause-stopped : goal.returns-in_err-take_message-clause-stopped
 returns-in_err-take_message-clause-stopped g c = grind (arith, common_steps)

@@ -4,12 +4,12 @@ use Rattle.std.proofs.lemmas.List.{length-drop, length-take}
 use Rattle.std.proofs.KnownBytes.{Consumes-nil}
 use Rattle.cose_msg.specs.Status.{payload_wanted_in}
 use Rattle.cose_msg.specs.Task.{rules_of}
-use Rattle.cose_msg.proofs.Brings.{brings_more, brings_nothing, brings_until, brought, came_next, payload_is_sure, wanted_is_open, within_more, keeps_setting, whole_piece}
-use Rattle.cose_msg.proofs.KeptAnswers.{unfailed}
-use Rattle.cose_msg.proofs.PayloadLimit.{payload_within}
-use Rattle.cose_msg.proofs.Runs.{AppendsFront-then, first_of, is_done, marks_fault, marks_nothing, not_at_end, promise_kept, put_done, put_failed, taken_before_failure}
+use Rattle.cose_msg.proofs.lemmas.Detached.PayloadRuns.{brings_more, brings_nothing, brings_until, brought, came_next, payload_is_sure, wanted_is_open, within_more, keeps_setting, whole_piece}
+use Rattle.cose_msg.proofs.lemmas.Deciding.KeptAnswers.{unfailed}
+use Rattle.cose_msg.proofs.lemmas.Run.PayloadLimit.{payload_within}
+use Rattle.cose_msg.proofs.lemmas.Run.Runs.{AppendsFront-then, first_of, is_done, marks_fault, marks_nothing, not_at_end, promise_kept, put_done, put_failed, taken_before_failure}
 use Rattle.std.proofs.KnownBytes.{Consumes-trans}
-use Rattle.cose_msg.proofs.Statuses.{open_goes_on}
+use Rattle.cose_msg.proofs.lemmas.Feeding.Statuses.{open_goes_on}
 use Rattle.cose_msg.proofs.run.detached.take_payload.Goals as goal
 
 pub pieces-init : goal.pieces-init
@@ -22,21 +22,21 @@ returns-then-asked-eq0-clause-brings g c = λ task s B h.
     let a = c.pieces.invariant.0 task s B h in
     let none : payload_wanted_in c.pieces.verifier ≡ 0 = omega (arith, c.if-asked-eq0.true, c.min-asked.ensures, c.payload_wanted.ensures.value, c.pieces.invariant.7, c.requires.some) in
     brought a (Consumes-nil _)
-    (record { told = c.waits.ensures.payload _ _ _ _ a.stands.so_far a.stands.came; shown = c.waits.ensures.shows _ _ _ _ a.stands.so_far a.stands.came; status = c.waits.ensures.status _ _ _ _ a.stands.so_far a.stands.came; wanted = c.waits.ensures.payload_wanted _ _ _ _ a.stands.so_far a.stands.came })
+    (record { so_far = c.lemma_reading_so_far.ensures.payload _ _ _ _ a.reads_on.so_far a.reads_on.came; shown = c.lemma_reading_so_far.ensures.shows _ _ _ _ a.reads_on.so_far a.reads_on.came; status = c.lemma_reading_so_far.ensures.status _ _ _ _ a.reads_on.so_far a.reads_on.came; wanted = c.lemma_reading_so_far.ensures.payload_wanted _ _ _ _ a.reads_on.so_far a.reads_on.came })
     c.pieces.invariant.2 (λ some. absurd (omega (arith, some, none))) (λ zero. a.not_ended)
 
 pub returns-then-asked-eq0-clause-context : goal.returns-then-asked-eq0-clause-context
-returns-then-asked-eq0-clause-context g c = λ task s B h. keeps_setting _ (c.pieces.invariant.0 task s B h).stands h
+returns-then-asked-eq0-clause-context g c = λ task s B h. keeps_setting _ (c.pieces.invariant.0 task s B h).reads_on h
 
 pub returns-in-Err-clause-brings : goal.returns-in-Err-clause-brings
 returns-in-Err-clause-brings g c = λ task s B h.
     let a = c.pieces.invariant.0 task s B h in
-    brings_until _ a.came (taken_before_failure _ _ _ a.came a.bytes c.in-Err.ensures.bytes) a.within a.stands
-    (record { told = c.waits.ensures.payload _ _ _ _ a.stands.so_far a.stands.came; shown = c.waits.ensures.shows _ _ _ _ a.stands.so_far a.stands.came; status = c.waits.ensures.status _ _ _ _ a.stands.so_far a.stands.came; wanted = c.waits.ensures.payload_wanted _ _ _ _ a.stands.so_far a.stands.came })
+    brings_until _ a.came (taken_before_failure _ _ _ a.came a.bytes c.in-Err.ensures.bytes) a.within a.reads_on
+    (record { so_far = c.lemma_reading_so_far.ensures.payload _ _ _ _ a.reads_on.so_far a.reads_on.came; shown = c.lemma_reading_so_far.ensures.shows _ _ _ _ a.reads_on.so_far a.reads_on.came; status = c.lemma_reading_so_far.ensures.status _ _ _ _ a.reads_on.so_far a.reads_on.came; wanted = c.lemma_reading_so_far.ensures.payload_wanted _ _ _ _ a.reads_on.so_far a.reads_on.came })
     c.pieces.invariant.2 a.payload c.stop.ensures.taken c.stop.ensures.shown
 
 pub returns-in-Err-clause-context : goal.returns-in-Err-clause-context
-returns-in-Err-clause-context g c = λ task s B h. c.stop.ensures.context ∙ keeps_setting _ (c.pieces.invariant.0 task s B h).stands h
+returns-in-Err-clause-context g c = λ task s B h. c.stop.ensures.context ∙ keeps_setting _ (c.pieces.invariant.0 task s B h).reads_on h
 
 pub returns-then-count-eq0-clause-brings : goal.returns-then-count-eq0-clause-brings
 returns-then-count-eq0-clause-brings g c = λ task s B h.
@@ -46,11 +46,11 @@ returns-then-count-eq0-clause-brings g c = λ task s B h.
     let took = rw none at c.in-Ok.ensures.bytes in
     let ended = rw none at c.in-Ok.ensures.end in
     brought a took.0
-    (record { told = c.waits.ensures.payload _ _ _ _ a.stands.so_far a.stands.came; shown = c.waits.ensures.shows _ _ _ _ a.stands.so_far a.stands.came; status = c.waits.ensures.status _ _ _ _ a.stands.so_far a.stands.came; wanted = c.waits.ensures.payload_wanted _ _ _ _ a.stands.so_far a.stands.came })
+    (record { so_far = c.lemma_reading_so_far.ensures.payload _ _ _ _ a.reads_on.so_far a.reads_on.came; shown = c.lemma_reading_so_far.ensures.shows _ _ _ _ a.reads_on.so_far a.reads_on.came; status = c.lemma_reading_so_far.ensures.status _ _ _ _ a.reads_on.so_far a.reads_on.came; wanted = c.lemma_reading_so_far.ensures.payload_wanted _ _ _ _ a.reads_on.so_far a.reads_on.came })
     c.pieces.invariant.2 (λ wanted. (ended, took.1 refl)) (λ zero. absurd (omega (arith, some, zero)))
 
 pub returns-then-count-eq0-clause-context : goal.returns-then-count-eq0-clause-context
-returns-then-count-eq0-clause-context g c = λ task s B h. keeps_setting _ (c.pieces.invariant.0 task s B h).stands h
+returns-then-count-eq0-clause-context g c = λ task s B h. keeps_setting _ (c.pieces.invariant.0 task s B h).reads_on h
 
 pub returns-then-is_err-clause-brings : goal.returns-then-is_err-clause-brings
 returns-then-is_err-clause-brings g c = λ task s B h.
@@ -59,16 +59,16 @@ returns-then-is_err-clause-brings g c = λ task s B h.
     let size : length piece ≡ c.in-Ok.count = omega (arith, c.in-Ok.ensures.within, length-take c.in-Ok.count (c.take.new.into ++ drop c.min-asked.result c.pieces.chunk), length-append c.take.new.into (drop c.min-asked.result c.pieces.chunk)) in
     let some : 0 < length piece = omega (arith, size, c.if-count-eq0.false) in
     let fits : length piece ≤ payload_wanted_in c.pieces.verifier = omega (arith, size, c.in-Ok.ensures.within, c.take.auto.into, c.min-asked.ensures, c.payload_wanted.ensures.value, length-take c.min-asked.result c.pieces.chunk) in
-    let stands = came_next a piece c.feed_payload.result (whole_piece c.feed_payload.ensures.uses fits) (c.feed_payload.ensures.taken _ _ _ a.stands) in
-    brings_until _ (a.came ++ piece) (Consumes-trans _ _ _ a.came piece a.bytes (first_of _ _ c.in-Ok.count c.take.new.into _ c.in-Ok.ensures.within c.in-Ok.ensures.bytes.0)) (within_more a piece some fits) stands
-    (record { told = c.waits-in-pieces.ensures.payload _ _ _ _ stands.so_far stands.came; shown = c.waits-in-pieces.ensures.shows _ _ _ _ stands.so_far stands.came; status = c.waits-in-pieces.ensures.status _ _ _ _ stands.so_far stands.came; wanted = c.waits-in-pieces.ensures.payload_wanted _ _ _ _ stands.so_far stands.came })
+    let reads_on = came_next a piece c.feed_payload.result (whole_piece c.feed_payload.ensures.uses fits) (c.feed_payload.ensures.taken _ _ _ a.reads_on) in
+    brings_until _ (a.came ++ piece) (Consumes-trans _ _ _ a.came piece a.bytes (first_of _ _ c.in-Ok.count c.take.new.into _ c.in-Ok.ensures.within c.in-Ok.ensures.bytes.0)) (within_more a piece some fits) reads_on
+    (record { so_far = c.lemma_reading_so_far-in-pieces.ensures.payload _ _ _ _ reads_on.so_far reads_on.came; shown = c.lemma_reading_so_far-in-pieces.ensures.shows _ _ _ _ reads_on.so_far reads_on.came; status = c.lemma_reading_so_far-in-pieces.ensures.status _ _ _ _ reads_on.so_far reads_on.came; wanted = c.lemma_reading_so_far-in-pieces.ensures.payload_wanted _ _ _ _ reads_on.so_far reads_on.came })
     c.feed_payload.ensures.further (AppendsFront-then _ _ _ a.came piece a.payload (put_failed _ _ _ c.put.result (sym c.is_err.ensures.value ∙ c.if-is_err.true) c.put.ensures.bytes))
     c.stop-then-is_err.ensures.taken c.stop-then-is_err.ensures.shown
 
 pub returns-then-is_err-clause-context : goal.returns-then-is_err-clause-context
 returns-then-is_err-clause-context g c = λ task s B h.
     let a = c.pieces.invariant.0 task s B h in
-    c.stop-then-is_err.ensures.context ∙ c.feed_payload.ensures.context _ _ _ a.stands ∙ keeps_setting _ a.stands h
+    c.stop-then-is_err.ensures.context ∙ c.feed_payload.ensures.context _ _ _ a.reads_on ∙ keeps_setting _ a.reads_on h
 
 pub returns-then-is_err-clause-payload_failure : goal.returns-then-is_err-clause-payload_failure
 returns-then-is_err-clause-payload_failure g c = c.in-Ok.ensures.failure ∙ c.pieces.invariant.5 ∙ unfailed _ _ refl
@@ -82,8 +82,8 @@ returns-then-is_err-clause-sure g c = λ task s B h enough.
     let piece : List ℕ = take c.in-Ok.count (c.take.new.into ++ drop c.min-asked.result c.pieces.chunk) in
     let size : length piece ≡ c.in-Ok.count = omega (arith, c.in-Ok.ensures.within, length-take c.in-Ok.count (c.take.new.into ++ drop c.min-asked.result c.pieces.chunk), length-append c.take.new.into (drop c.min-asked.result c.pieces.chunk)) in
     let fits : length piece ≤ payload_wanted_in c.pieces.verifier = omega (arith, size, c.in-Ok.ensures.within, c.take.auto.into, c.min-asked.ensures, c.payload_wanted.ensures.value, length-take c.min-asked.result c.pieces.chunk) in
-    let stands = came_next a piece c.feed_payload.result (whole_piece c.feed_payload.ensures.uses fits) (c.feed_payload.ensures.taken _ _ _ a.stands) in
-    let known = c.waits-in-pieces.ensures.payload _ _ _ _ stands.so_far stands.came in
+    let reads_on = came_next a piece c.feed_payload.result (whole_piece c.feed_payload.ensures.uses fits) (c.feed_payload.ensures.taken _ _ _ a.reads_on) in
+    let known = c.lemma_reading_so_far-in-pieces.ensures.payload _ _ _ _ reads_on.so_far reads_on.came in
     let limit : length (B ++ (a.came ++ piece)) ≤ task.setting.payload_limit = rw (sym known) (payload_within (rules_of g.row.H g.row.D _) _) in
     absurd (is_done c.put.result (sym c.is_err.ensures.value ∙ c.if-is_err.true) (c.put.ensures.promised (payload_is_sure a piece limit enough)))
 
@@ -99,8 +99,8 @@ pieces-preserved g c =
     let room : length (c.take.new.into ++ drop c.min-asked.result c.pieces.chunk) ≡ length c.args.chunk.now = omega (arith, c.take.auto.into, c.pieces.invariant.7, length-append c.take.new.into (drop c.min-asked.result c.pieces.chunk), length-take c.min-asked.result c.pieces.chunk, length-drop c.min-asked.result c.pieces.chunk) in (
       λ task s B h.
           (let a = c.pieces.invariant.0 task s B h in
-          let stands = came_next a piece c.feed_payload.result used (c.feed_payload.ensures.taken _ _ _ a.stands) in
-          brings_more a piece some fits (first_of _ _ c.in-Ok.count c.take.new.into _ c.in-Ok.ensures.within c.in-Ok.ensures.bytes.0) stands left (c.in-Ok.ensures.end ∙ not_at_end _ (omega (arith, size, some)))
+          let reads_on = came_next a piece c.feed_payload.result used (c.feed_payload.ensures.taken _ _ _ a.reads_on) in
+          brings_more a piece some fits (first_of _ _ c.in-Ok.count c.take.new.into _ c.in-Ok.ensures.within c.in-Ok.ensures.bytes.0) reads_on left (c.in-Ok.ensures.end ∙ not_at_end _ (omega (arith, size, some)))
           (put_done _ _ _ c.put.result done c.put.ensures.bytes) (promise_kept c.put.result _ _ _ done c.put.ensures.promise)),
       open_goes_on c.feed_payload.new.self.stopped _ c.feed_payload.ensures.further,
       c.feed_payload.ensures.further,
@@ -219,10 +219,10 @@ slice_bounds-piece-end-in-pieces g c = grind (arith, common_steps)
 pub pieces-smaller : goal.pieces-smaller
 pieces-smaller g c = grind (arith, common_steps)
 
-pub waits-requires : goal.waits-requires
+pub waits-requires : goal.lemma_reading_so_far-requires
 waits-requires g c = grind (arith, common_steps)
 
-pub waits-requires-in-pieces : goal.waits-requires-in-pieces
+pub waits-requires-in-pieces : goal.lemma_reading_so_far-requires-in-pieces
 waits-requires-in-pieces g c = grind (arith, common_steps)
 
 pub stop-requires : goal.stop-requires

@@ -3,7 +3,7 @@ use Rattle.cose_msg.specs.Kept.{HasTaken}
 use Rattle.cose_msg.specs.Status.{is_open, payload_wanted_in, status_in}
 use Rattle.cose_msg.specs.Task.{Task}
 use Rattle.cose_msg.specs.Verifier.{is_detached}
-use Rattle.cose_msg.proofs.Brings.{Bringing}
+use Rattle.cose_msg.proofs.lemmas.Detached.PayloadRuns.{Bringing}
 use Rattle.cose_msg.proofs.run.detached.take_payload.Given as goal
 
 abbrev pub invariant-pieces : goal.invariant-pieces

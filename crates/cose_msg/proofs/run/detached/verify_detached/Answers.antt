@@ -4,27 +4,27 @@ use Rattle.std.specs.Prelude.{is_err}
 use Rattle.cose_msg.specs.Kept.{verdict_in}
 use Rattle.cose_msg.specs.Message.{given}
 use Rattle.cose_msg.specs.Task.{to_verify}
-use Rattle.cose_msg.proofs.Answered.{kept_verdict_settles, still}
-use Rattle.cose_msg.proofs.BothAnswered.{done_wants_none, is_of_detached, kept_on_both, of_both, stopped_on_both, verdict_on_both}
-use Rattle.cose_msg.proofs.BothTaken.{none_awaited}
-use Rattle.cose_msg.proofs.KeptAnswers.{kept_again, kept_stop}
-use Rattle.cose_msg.proofs.Runs.{counted_stands, told_before}
-use Rattle.cose_msg.proofs.Statuses.{left_by_answer, left_by_kept, left_by_stop}
+use Rattle.cose_msg.proofs.lemmas.Run.Answered.{kept_verdict_settles, still}
+use Rattle.cose_msg.proofs.lemmas.Detached.BothAnswered.{done_wants_none, is_of_detached, kept_on_both, of_both, stopped_on_both, verdict_on_both}
+use Rattle.cose_msg.proofs.lemmas.Detached.BothTaken.{none_awaited}
+use Rattle.cose_msg.proofs.lemmas.Deciding.KeptAnswers.{kept_again, kept_stop}
+use Rattle.cose_msg.proofs.lemmas.Run.Runs.{counted_stands, so_far_before}
+use Rattle.cose_msg.proofs.lemmas.Feeding.Statuses.{left_by_answer, left_by_kept, left_by_stop}
 use Rattle.cose_msg.proofs.run.detached.verify_detached.Goals as goal
 
 pub returns-in-Some-clause-run : goal.returns-in-Some-clause-run
 returns-in-Some-clause-run g c = λ setting s B h.
     let kept = sym c.kept_answer.ensures ∙ c.in-Some.is in
     let done = kept_verdict_settles c.in-Some.answer h kept in
-    let d = still _ _ _ h (c.waits.ensures.payload (to_verify setting) B _ _ h.so_far h.came) (c.waits.ensures.shows (to_verify setting) B _ _ h.so_far h.came) done.0 in
-    let none = done_wants_none g.row.H g.row.D (to_verify setting) (s ++ d.taken) (kept_verdict_settles c.in-Some.answer d.stands.0 kept) in
+    let d = still _ _ _ h (c.lemma_reading_so_far.ensures.payload (to_verify setting) B _ _ h.so_far h.came) (c.lemma_reading_so_far.ensures.shows (to_verify setting) B _ _ h.so_far h.came) done.0 in
+    let none = done_wants_none g.row.H g.row.D (to_verify setting) (s ++ d.taken) (kept_verdict_settles c.in-Some.answer d.reads_on.0 kept) in
     let t = none_awaited h.came (is_of_detached h c.requires.detached) _ _ d none in (
       t.taken,
       t.came,
       kept_on_both c.deciding_goes_last.ensures.verifying c.nothing_stands_after_the_bytes.ensures.inside c.nothing_stands_after_the_bytes.ensures.fair (g.E.EcVerifier.decides c.args.ec.now) t c.in-Some.answer kept,
       t.counted,
-      t.tells,
-      left_by_kept _ c.in-Some.answer t.stands.0 (c.waits.ensures.status _ _ _ _ t.stands.0.so_far t.stands.0.came) (kept_verdict_settles c.in-Some.answer t.stands.0 kept) kept,
+      t.shows,
+      left_by_kept _ c.in-Some.answer t.reads_on.0 (c.lemma_reading_so_far.ensures.status _ _ _ _ t.reads_on.0.so_far t.reads_on.0.came) (kept_verdict_settles c.in-Some.answer t.reads_on.0 kept) kept,
     )
 
 pub returns-in-Some-clause-answer : goal.returns-in-Some-clause-answer
@@ -33,7 +33,7 @@ returns-in-Some-clause-answer g c = λ setting s B bytes more h come beside.
     of_both c.settled_stays.ensures.message c.payload_stays.ensures.complete g.row.H g.row.D setting (g.E.EcVerifier.decides c.args.ec.now) _ _ _ r.0 r.1 bytes more r.2 come beside
 
 pub returns-in-Some-clause-before : goal.returns-in-Some-clause-before
-returns-in-Some-clause-before g c = λ setting s B h. told_before g.row.H g.row.D (to_verify setting) s B (c.waits.ensures.payload (to_verify setting) B _ _ h.so_far h.came)
+returns-in-Some-clause-before g c = λ setting s B h. so_far_before g.row.H g.row.D (to_verify setting) s B (c.lemma_reading_so_far.ensures.payload (to_verify setting) B _ _ h.so_far h.came)
 
 pub returns-in-Some-clause-kept : goal.returns-in-Some-clause-kept
 returns-in-Some-clause-kept g c = kept_again c.args.verifier.now.stopped (verdict_in c.args.verifier.now.reader.phase) c.in-Some.answer (sym c.kept_answer.ensures ∙ c.in-Some.is)
@@ -47,13 +47,13 @@ returns-in-Some-clause-context g c = λ setting s B h. refl
 pub returns-in-Ok-clause-run : goal.returns-in-Ok-clause-run
 returns-in-Ok-clause-run g c = λ setting s B h.
     let t = rw c.in-Ok.is at (c.take_detached.ensures.takes (to_verify setting) s B h (is_of_detached h c.requires.detached)) in
-    let stands = counted_stands t.stands.0 in (
+    let reads_on = counted_stands t.reads_on.0 in (
       t.taken,
       t.came,
-      verdict_on_both c.deciding_goes_last.ensures.verifying c.nothing_stands_after_the_bytes.ensures.inside c.nothing_stands_after_the_bytes.ensures.fair (g.E.EcVerifier.decides c.args.ec.now) c.conclude.result t (c.conclude.ensures.answer _ _ _ stands t.stands.0.came) (c.conclude.ensures.counted _ _ _ stands t.stands.0.came),
+      verdict_on_both c.deciding_goes_last.ensures.verifying c.nothing_stands_after_the_bytes.ensures.inside c.nothing_stands_after_the_bytes.ensures.fair (g.E.EcVerifier.decides c.args.ec.now) c.conclude.result t (c.conclude.ensures.answer _ _ _ reads_on t.reads_on.0.came) (c.conclude.ensures.counted _ _ _ reads_on t.reads_on.0.came),
       c.conclude.ensures.counts ∙ t.counted,
-      c.conclude.ensures.shown ∙ t.tells,
-      left_by_answer (to_verify (given (B ++ t.came) setting)) (s ++ t.taken) c.conclude.new.self (c.conclude.ensures.status _ _ _ stands t.stands.0.came t.stands.0.goes_on),
+      c.conclude.ensures.shown ∙ t.shows,
+      left_by_answer (to_verify (given (B ++ t.came) setting)) (s ++ t.taken) c.conclude.new.self (c.conclude.ensures.status _ _ _ reads_on t.reads_on.0.came t.reads_on.0.goes_on),
     )
 
 pub returns-in-Ok-clause-answer : goal.returns-in-Ok-clause-answer
@@ -62,7 +62,7 @@ returns-in-Ok-clause-answer g c = λ setting s B bytes more h come beside.
     of_both c.settled_stays.ensures.message c.payload_stays.ensures.complete g.row.H g.row.D setting (g.E.EcVerifier.decides c.args.ec.now) _ _ _ r.0 r.1 bytes more r.2 come beside
 
 pub returns-in-Ok-clause-before : goal.returns-in-Ok-clause-before
-returns-in-Ok-clause-before g c = λ setting s B h. told_before g.row.H g.row.D (to_verify setting) s B (c.waits.ensures.payload (to_verify setting) B _ _ h.so_far h.came)
+returns-in-Ok-clause-before g c = λ setting s B h. so_far_before g.row.H g.row.D (to_verify setting) s B (c.lemma_reading_so_far.ensures.payload (to_verify setting) B _ _ h.so_far h.came)
 
 pub returns-in-Ok-clause-context : goal.returns-in-Ok-clause-context
 returns-in-Ok-clause-context g c = λ setting s B h. c.conclude.ensures.context ∙ c.take_detached.ensures.context (to_verify setting) s B h (is_of_detached h c.requires.detached)
@@ -70,13 +70,13 @@ returns-in-Ok-clause-context g c = λ setting s B h. c.conclude.ensures.context 
 pub returns-in-Err-clause-run : goal.returns-in-Err-clause-run
 returns-in-Err-clause-run g c = λ setting s B h.
     let t = rw c.in-Err.is at (c.take_detached.ensures.takes (to_verify setting) s B h (is_of_detached h c.requires.detached)) in
-    (t.taken, t.came, stopped_on_both c.deciding_goes_last.ensures.verifying (g.E.EcVerifier.decides c.args.ec.now) c.in-Err.stop t, t.counted, t.tells, left_by_stop c.take_detached.new.verifier (c.take_detached.ensures.stopped ∙ ap is_err c.in-Err.is))
+    (t.taken, t.came, stopped_on_both c.deciding_goes_last.ensures.verifying (g.E.EcVerifier.decides c.args.ec.now) c.in-Err.stop t, t.counted, t.shows, left_by_stop c.take_detached.new.verifier (c.take_detached.ensures.stopped ∙ ap is_err c.in-Err.is))
 
 pub returns-in-Err-clause-answer : goal.returns-in-Err-clause-answer
 returns-in-Err-clause-answer g c = λ setting s B bytes more h come beside. tt
 
 pub returns-in-Err-clause-before : goal.returns-in-Err-clause-before
-returns-in-Err-clause-before g c = λ setting s B h. told_before g.row.H g.row.D (to_verify setting) s B (c.waits.ensures.payload (to_verify setting) B _ _ h.so_far h.came)
+returns-in-Err-clause-before g c = λ setting s B h. so_far_before g.row.H g.row.D (to_verify setting) s B (c.lemma_reading_so_far.ensures.payload (to_verify setting) B _ _ h.so_far h.came)
 
 pub returns-in-Err-clause-context : goal.returns-in-Err-clause-context
 returns-in-Err-clause-context g c = λ setting s B h. c.take_detached.ensures.context (to_verify setting) s B h (is_of_detached h c.requires.detached)

@@ -5,8 +5,8 @@ use Rattle.cose_msg.proofs.verifier.Verifier.detached.Goals as goal
 pub returns-clause-none_taken : goal.returns-clause-none_taken
 returns-clause-none_taken g c = grind (arith, common_steps)
 
-pub returns-clause-tells : goal.returns-clause-tells
-returns-clause-tells g c = grind (arith, common_steps)
+pub returns-clause-shows : goal.returns-clause-shows
+returns-clause-shows g c = grind (arith, common_steps)
 
 pub returns-clause-status : goal.returns-clause-status
 returns-clause-status g c = grind (arith, common_steps)

@@ -3,15 +3,15 @@ use Rattle.cose_msg.specs.Phase.{ends_at}
 use Rattle.cose_msg.specs.Reading.{Reading}
 use Rattle.cose_msg.specs.Status.{is_open, status_of_phase, status_of_answer}
 use Rattle.cose_msg.specs.Shown.{held_input}
-use Rattle.cose_msg.proofs.Decisions.{open_shows_no_input}
-use Rattle.cose_msg.proofs.PhaseCases.{more_is_unsettled, unsettled_ends}
-use Rattle.cose_msg.proofs.Runs.{without_more}
-use Rattle.cose_msg.proofs.Statuses.{either_is_open, more_goes_on, more_unless_stopped, open_goes_on, open_unless_stopped}
-use Rattle.cose_msg.proofs.Untouched.{untouched_ends}
+use Rattle.cose_msg.proofs.lemmas.Deciding.Decisions.{open_shows_no_input}
+use Rattle.cose_msg.proofs.lemmas.Deciding.PhaseCases.{more_is_unsettled, unsettled_ends}
+use Rattle.cose_msg.proofs.lemmas.Run.Runs.{without_more}
+use Rattle.cose_msg.proofs.lemmas.Feeding.Statuses.{either_is_open, more_goes_on, more_unless_stopped, open_goes_on, open_unless_stopped}
+use Rattle.cose_msg.proofs.lemmas.Deciding.Untouched.{untouched_ends}
 use Rattle.cose_msg.proofs.verifier.Verifier.end.Goals as goal
 
-pub returns-in-More-clause-stands : goal.returns-in-More-clause-stands
-returns-in-More-clause-stands g c =
+pub returns-in-More-clause-current : goal.returns-in-More-clause-current
+returns-in-More-clause-current g c =
     let goes_on = open_goes_on c.args.self.now.stopped _ (ap is_open (sym c.status.ensures.value) ∙ either_is_open c.status.result c.in-More.is) in
     rw (goes_on, c.truncate.ensures.phase) refl
 
@@ -32,7 +32,7 @@ pub returns-in-More-clause-awaiting : goal.returns-in-More-clause-awaiting
 returns-in-More-clause-awaiting g c = λ task s B h awaits.
     let phase = c.args.self.now.reader.phase in
     let opened : is_open (status_of_phase phase) ≡ true = open_unless_stopped c.args.self.now.stopped (status_of_phase phase) (ap is_open awaits) in
-    let ended = c.waits.ensures.ended task B _ _ h.so_far h.came opened in
+    let ended = c.lemma_reading_so_far.ensures.ended task B _ _ h.so_far h.came opened in
     rw (c.truncate.ensures.same, c.ends_at-place.ensures ∙ ap (ends_at phase) h.counted) (sym (ap status_of_answer (ap (λ (r : Reading). r.answer) (sym (without_more g.row.H g.row.D task s)) ∙ ended)))
 
 pub returns-in-More-clause-again : goal.returns-in-More-clause-again

@@ -4,18 +4,18 @@ use Rattle.std.proofs.Common.{rules, ◌≡◌, ◌+◌, ◌<◌, ◌≤◌, ℕ
 use Rattle.cose_msg.specs.Phase.{in_payload, want_of}
 use Rattle.cose_msg.specs.Status.{status_of_reading}
 use Rattle.cose_msg.specs.Task.{Task}
-use Rattle.cose_msg.proofs.Feeds.{at_start, chosen_within, fits_in, goes_on, goes_past, in_order, is_behind, knows_payload, part_extended, stepped, tells_now, uses_all, uses_none}
-use Rattle.cose_msg.proofs.Runs.{without_more}
+use Rattle.cose_msg.proofs.lemmas.Feeding.Feeds.{at_start, chosen_within, fits_in, goes_on, goes_past, in_order, is_behind, knows_payload, part_extended, stepped, shows_now, uses_all, uses_none}
+use Rattle.cose_msg.proofs.lemmas.Run.Runs.{without_more}
 use Rattle.cose_msg.specs.Reading.{Reading}
-use Rattle.cose_msg.proofs.PhaseCases.{unsettled_is_more}
-use Rattle.cose_msg.proofs.Statuses.{status_going, wants_and_goes_on}
+use Rattle.cose_msg.proofs.lemmas.Deciding.PhaseCases.{unsettled_is_more}
+use Rattle.cose_msg.proofs.lemmas.Feeding.Statuses.{status_going, wants_and_goes_on}
 use Rattle.cose_msg.proofs.verifier.Verifier.feed.Goals.{then-is_in_payload, else-is_in_payload}
 use Rattle.cose_msg.proofs.verifier.Verifier.feed.Goals as goal
 
 pub returns-then-want-eq0-clause-uses : goal.returns-then-want-eq0-clause-uses
 returns-then-want-eq0-clause-uses g c = λ task s B h.
     uses_none task s c.args.piece.now (λ unsettled. (
-    let open_yet = unsettled_is_more c.args.self.now.reader.phase (sym (c.waits.ensures.settled task B _ _ h.so_far h.came) ∙ ap (λ (r : Reading). r.settled) (without_more g.row.H g.row.D task s) ∙ unsettled) in
+    let open_yet = unsettled_is_more c.args.self.now.reader.phase (sym (c.lemma_reading_so_far.ensures.settled task B _ _ h.so_far h.came) ∙ ap (λ (r : Reading). r.settled) (without_more g.row.H g.row.D task s) ∙ unsettled) in
     let wants : 0 < c.want.result = c.want.ensures.some (status_going c.args.self.now _ h.goes_on open_yet) in
     omega (arith, wants, c.if-want-eq0.true)))
 
@@ -26,8 +26,8 @@ returns-then-want-eq0-clause-status g c = λ task s B h.
 pub returns-then-want-eq0-clause-attached : goal.returns-then-want-eq0-clause-attached
 returns-then-want-eq0-clause-attached g c = λ task s B h is. c.status.ensures.attached task s B h is
 
-pub returns-then-want-eq0-clause-tells : goal.returns-then-want-eq0-clause-tells
-returns-then-want-eq0-clause-tells g c = λ task s B h. c.waits.ensures.shows task B _ _ h.so_far h.came
+pub returns-then-want-eq0-clause-shows : goal.returns-then-want-eq0-clause-shows
+returns-then-want-eq0-clause-shows g c = λ task s B h. c.lemma_reading_so_far.ensures.shows task B _ _ h.so_far h.came
 
 pub pieces-init : goal.pieces-init
 pieces-init g c = (
@@ -60,9 +60,9 @@ pieces-preserved g c =
           rw (w.payload-is, w.extended-payload.ensures.from, w.extended-payload.ensures.to) (
             λ task s B h.
                 (let a = i.0 task s B h in
-                let behind = is_behind c.take_piece.new.self count a (λ more. c.waits-in-pieces.ensures.grows task _ _ _ more a.stands.so_far inside) wanted in
+                let behind = is_behind c.take_piece.new.self count a (λ more. c.lemma_reading_so_far-in-pieces.ensures.grows task _ _ _ more a.reads_on.so_far inside) wanted in
                 goes_on c.take_piece.new.self count a _ inside (part_extended c.args.piece.now c.pieces.payload.from c.pieces.payload.to used count i.5 (λ begun. behind begun i.6))
-                (λ more lt. c.waits-in-pieces.ensures.open task _ _ _ more a.stands.so_far (within more lt)) (stepped c.take_piece.new.self count a (c.take_piece.ensures.taken task _ _ a.stands))),
+                (λ more lt. c.lemma_reading_so_far-in-pieces.ensures.open task _ _ _ more a.reads_on.so_far (within more lt)) (stepped c.take_piece.new.self count a (c.take_piece.ensures.taken task _ _ a.reads_on))),
             goes_still,
             inspects,
             omega (arith, c.take_piece.ensures.counted, i.3, fits.1),
@@ -77,8 +77,8 @@ pieces-preserved g c =
           rw w.payload-is (
             λ task s B h.
                 (let a = i.0 task s B h in
-                goes_past c.take_piece.new.self count a outside (λ more there. c.waits-in-pieces.ensures.fixed task _ _ _ more a.stands.so_far a.stands.came outside there)
-                (λ more lt. c.waits-in-pieces.ensures.open task _ _ _ more a.stands.so_far (within more lt)) (stepped c.take_piece.new.self count a (c.take_piece.ensures.taken task _ _ a.stands))
+                goes_past c.take_piece.new.self count a outside (λ more there. c.lemma_reading_so_far-in-pieces.ensures.fixed task _ _ _ more a.reads_on.so_far a.reads_on.came outside there)
+                (λ more lt. c.lemma_reading_so_far-in-pieces.ensures.open task _ _ _ more a.reads_on.so_far (within more lt)) (stepped c.take_piece.new.self count a (c.take_piece.ensures.taken task _ _ a.reads_on))
                 (in_order c.pieces.payload.from c.pieces.payload.to i.5 i.7) i.6 fits.0),
             goes_still,
             inspects,
@@ -95,30 +95,30 @@ pub returns-then-count-eq0-clause-uses : goal.returns-then-count-eq0-clause-uses
 returns-then-count-eq0-clause-uses g c = λ task s B h.
     let a = c.pieces.invariant.0 task s B h in
     let limit : g.row.H ≤ 65535 = c.pieces.self.reader.limit in
-    uses_all a (record { compared = c.messages_are_bounded.ensures.verified.1; inspected = c.messages_are_bounded.ensures.inspected }) limit c.step-count.result (c.waits-in-pieces.ensures.settled task _ _ _ a.stands.so_far a.stands.came) c.step-count.ensures.some c.if-count-eq0.true c.pieces.invariant.4
+    uses_all a (record { compared = c.messages_are_bounded.ensures.verified.1; inspected = c.messages_are_bounded.ensures.inspected }) limit c.step-count.result (c.lemma_reading_so_far-in-pieces.ensures.settled task _ _ _ a.reads_on.so_far a.reads_on.came) c.step-count.ensures.some c.if-count-eq0.true c.pieces.invariant.4
 
 pub returns-then-count-eq0-clause-taken : goal.returns-then-count-eq0-clause-taken
-returns-then-count-eq0-clause-taken g c = λ task s B h. let a = c.pieces.invariant.0 task s B h in a.stands
+returns-then-count-eq0-clause-taken g c = λ task s B h. let a = c.pieces.invariant.0 task s B h in a.reads_on
 
 pub returns-then-count-eq0-clause-status : goal.returns-then-count-eq0-clause-status
-returns-then-count-eq0-clause-status g c = λ task s B h. let a = c.pieces.invariant.0 task s B h in c.status-then-count-eq0.ensures.reads task _ _ a.stands
+returns-then-count-eq0-clause-status g c = λ task s B h. let a = c.pieces.invariant.0 task s B h in c.status-then-count-eq0.ensures.reads task _ _ a.reads_on
 
 pub returns-then-count-eq0-clause-attached : goal.returns-then-count-eq0-clause-attached
 returns-then-count-eq0-clause-attached g c = λ task s B h is.
-    let a = c.pieces.invariant.0 task s B h in c.status-then-count-eq0.ensures.attached task _ _ a.stands (c.pieces.invariant.8 ∙ is)
+    let a = c.pieces.invariant.0 task s B h in c.status-then-count-eq0.ensures.attached task _ _ a.reads_on (c.pieces.invariant.8 ∙ is)
 
 pub returns-then-count-eq0-clause-payload : goal.returns-then-count-eq0-clause-payload
 returns-then-count-eq0-clause-payload g c = λ task s B h.
     let a = c.pieces.invariant.0 task s B h in
-    knows_payload a (c.waits-in-pieces.ensures.payload task _ _ _ a.stands.so_far a.stands.came) (c.waits.ensures.payload task B _ _ h.so_far h.came)
+    knows_payload a (c.lemma_reading_so_far-in-pieces.ensures.payload task _ _ _ a.reads_on.so_far a.reads_on.came) (c.lemma_reading_so_far.ensures.payload task B _ _ h.so_far h.came)
 
-pub returns-then-count-eq0-clause-tells : goal.returns-then-count-eq0-clause-tells
-returns-then-count-eq0-clause-tells g c = λ task s B h.
+pub returns-then-count-eq0-clause-shows : goal.returns-then-count-eq0-clause-shows
+returns-then-count-eq0-clause-shows g c = λ task s B h.
     let a = c.pieces.invariant.0 task s B h in
-    tells_now task _ c.pieces.self (c.waits-in-pieces.ensures.shows task _ _ _ a.stands.so_far a.stands.came)
+    shows_now task _ c.pieces.self (c.lemma_reading_so_far-in-pieces.ensures.shows task _ _ _ a.reads_on.so_far a.reads_on.came)
 
 pub returns-then-count-eq0-clause-context : goal.returns-then-count-eq0-clause-context
-returns-then-count-eq0-clause-context g c = λ task s B h. let a = c.pieces.invariant.0 task s B h in ap (λ (t : Task). t.setting) a.stands.made_for ∙ sym (ap (λ (t : Task). t.setting) h.made_for)
+returns-then-count-eq0-clause-context g c = λ task s B h. let a = c.pieces.invariant.0 task s B h in ap (λ (t : Task). t.setting) a.reads_on.made_for ∙ sym (ap (λ (t : Task). t.setting) h.made_for)
 
 pub returns-then-count-eq0-clause-detached : goal.returns-then-count-eq0-clause-detached
 returns-then-count-eq0-clause-detached g c = c.pieces.invariant.8
@@ -158,8 +158,8 @@ returns-then-want-eq0-clause-among g c = grind (arith, common_steps)
 pub returns-then-want-eq0-clause-none : goal.returns-then-want-eq0-clause-none
 returns-then-want-eq0-clause-none g c = grind (arith, common_steps)
 
-pub returns-then-want-eq0-clause-stands : goal.returns-then-want-eq0-clause-stands
-returns-then-want-eq0-clause-stands g c = grind (arith, common_steps)
+pub returns-then-want-eq0-clause-current : goal.returns-then-want-eq0-clause-current
+returns-then-want-eq0-clause-current g c = grind (arith, common_steps)
 
 pub returns-then-want-eq0-clause-counted : goal.returns-then-want-eq0-clause-counted
 returns-then-want-eq0-clause-counted g c = grind (arith, common_steps)
@@ -200,8 +200,8 @@ returns-then-count-eq0-clause-ordered g c = grind (arith, common_steps)
 pub returns-then-count-eq0-clause-among : goal.returns-then-count-eq0-clause-among
 returns-then-count-eq0-clause-among g c = grind (arith, common_steps)
 
-pub returns-then-count-eq0-clause-stands : goal.returns-then-count-eq0-clause-stands
-returns-then-count-eq0-clause-stands g c = grind (arith, common_steps)
+pub returns-then-count-eq0-clause-current : goal.returns-then-count-eq0-clause-current
+returns-then-count-eq0-clause-current g c = grind (arith, common_steps)
 
 pub returns-then-count-eq0-clause-counted : goal.returns-then-count-eq0-clause-counted
 returns-then-count-eq0-clause-counted g c = grind (arith, common_steps)

@@ -2,7 +2,7 @@ use Rattle.std.proofs.Common.{◌≡◌, ◌+◌, ◌-◌, ◌≤◌, ℕ, List,
 use Rattle.cose_msg.specs.Kept.{HasTaken}
 use Rattle.cose_msg.specs.Task.{Task}
 use Rattle.cose_msg.specs.Verifier.{is_detached}
-use Rattle.cose_msg.proofs.Feeds.{Along}
+use Rattle.cose_msg.proofs.lemmas.Feeding.Feeds.{Along}
 use Rattle.cose_msg.proofs.verifier.Verifier.feed.Given as goal
 
 abbrev pub invariant-pieces : goal.invariant-pieces

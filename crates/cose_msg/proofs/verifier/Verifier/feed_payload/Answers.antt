@@ -6,12 +6,12 @@ use Rattle.cose_msg.specs.Shown.{shown_in}
 use Rattle.cose_msg.specs.Phase.{payload_want_of}
 use Rattle.cose_msg.specs.Status.{payload_wanted_in, status_of_reading}
 use Rattle.cose_msg.specs.Task.{Task, given_to}
-use Rattle.cose_msg.proofs.Given.{came_more, given_again, now_given, stands_beside}
-use Rattle.cose_msg.proofs.Runs.{without_more}
-use Rattle.cose_msg.proofs.Standing.{whole_task}
-use Rattle.cose_msg.proofs.PhaseCases.{not_awaiting}
-use Rattle.cose_msg.proofs.Statuses.{none_wanted, some_wanted}
-use Rattle.cose_msg.proofs.Untouched.{untouched_awaits_none}
+use Rattle.cose_msg.proofs.lemmas.Detached.PayloadTaken.{came_more, given_again, now_given, reads_on_beside}
+use Rattle.cose_msg.proofs.lemmas.Run.Runs.{without_more}
+use Rattle.cose_msg.proofs.lemmas.Reader.Standing.{whole_task}
+use Rattle.cose_msg.proofs.lemmas.Deciding.PhaseCases.{not_awaiting}
+use Rattle.cose_msg.proofs.lemmas.Feeding.Statuses.{none_wanted, some_wanted}
+use Rattle.cose_msg.proofs.lemmas.Deciding.Untouched.{untouched_awaits_none}
 use Rattle.cose_msg.proofs.verifier.Verifier.feed_payload.Goals as goal
 
 pub returns-in-Detached-clause-taken : goal.returns-in-Detached-clause-taken
@@ -20,7 +20,7 @@ returns-in-Detached-clause-taken g c = λ task s B h.
     let later : (more : List ℕ) → SoFar (given_to ((B ++ piece) ++ more) task) s (B ++ piece) c.detached_piece.new.self = λ more.
     (let same : given_to (B ++ (piece ++ more)) task ≡ given_to ((B ++ piece) ++ more) task = ap (λ (t : List ℕ). given_to t task) (sym (append_assoc B piece more)) in
     let before : SoFar (given_to ((B ++ piece) ++ more) task) s B c.args.self.now.reader = subst (λ (t : Task). SoFar t s B c.args.self.now.reader) same (h.whatever_comes (piece ++ more)) in
-    c.detached_piece.ensures.stands (given_to ((B ++ piece) ++ more) task) B more (length s) _ (came_more task ((B ++ piece) ++ more) (stands_beside h.so_far c.in-Detached.detached c.in-Detached.is)) before) in
+    c.detached_piece.ensures.reads_on (given_to ((B ++ piece) ++ more) task) B more (length s) _ (came_more task ((B ++ piece) ++ more) (reads_on_beside h.so_far c.in-Detached.detached c.in-Detached.is)) before) in
     let all : HasTaken (given_to (B ++ piece) task) s (B ++ piece) _ = record {
       made_for = whole_task (given_to (B ++ piece) task) _ c.detached_piece.new.self.terms _ _ (ap (λ (t : Task). t.setting.keys) h.made_for) (ap (λ (t : Task). t.inspects) h.made_for) (ap (λ (t : Task). t.setting.source) (h.made_for ∙ sym (given_again task [] (B ++ piece)))) (now_given task s (B ++ piece) c.detached_piece.new.self later).shows.0;
       so_far = now_given task s (B ++ piece) c.detached_piece.new.self later;
@@ -34,12 +34,12 @@ returns-in-Detached-clause-taken g c = λ task s B h.
 pub returns-in-Detached-clause-status : goal.returns-in-Detached-clause-status
 returns-in-Detached-clause-status g c = λ task s B h.
     let now = returns-in-Detached-clause-taken g c task s B h in
-    rw h.goes_on (c.waits.ensures.status _ _ _ _ now.so_far now.came ∙ ap status_of_reading (without_more g.row.H g.row.D _ s))
+    rw h.goes_on (c.lemma_reading_so_far.ensures.status _ _ _ _ now.so_far now.came ∙ ap status_of_reading (without_more g.row.H g.row.D _ s))
 
-pub returns-in-Detached-clause-tells : goal.returns-in-Detached-clause-tells
-returns-in-Detached-clause-tells g c = λ task s B h.
+pub returns-in-Detached-clause-shows : goal.returns-in-Detached-clause-shows
+returns-in-Detached-clause-shows g c = λ task s B h.
     let now = returns-in-Detached-clause-taken g c task s B h in
-    c.waits.ensures.shows _ _ _ _ now.so_far now.came ∙ ap (shown_in (given_to (B ++ take c.min-count.result c.args.piece.now) task).setting) (without_more g.row.H g.row.D _ s)
+    c.lemma_reading_so_far.ensures.shows _ _ _ _ now.so_far now.came ∙ ap (shown_in (given_to (B ++ take c.min-count.result c.args.piece.now) task).setting) (without_more g.row.H g.row.D _ s)
 
 pub returns-in-Detached-clause-context : goal.returns-in-Detached-clause-context
 returns-in-Detached-clause-context g c = λ task s B h.

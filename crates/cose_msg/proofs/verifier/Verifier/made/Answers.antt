@@ -1,12 +1,12 @@
 use Rattle.std.proofs.Common.{refl}
-use Rattle.cose_msg.proofs.Untouched.{begins}
+use Rattle.cose_msg.proofs.lemmas.Deciding.Untouched.{begins}
 use Rattle.cose_msg.proofs.verifier.Verifier.made.Goals as goal
 
 pub returns-clause-none_taken : goal.returns-clause-none_taken
 returns-clause-none_taken g c = begins _ _ (rw c.new.ensures.terms refl) c.new.ensures.untouched c.new.ensures.phase refl refl
 
-pub returns-clause-tells : goal.returns-clause-tells
-returns-clause-tells g c = c.new.ensures.shown _
+pub returns-clause-shows : goal.returns-clause-shows
+returns-clause-shows g c = c.new.ensures.shown _
 
 pub returns-clause-status : goal.returns-clause-status
 returns-clause-status g c = rw c.new.ensures.phase refl

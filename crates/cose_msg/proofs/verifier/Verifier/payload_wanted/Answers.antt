@@ -1,13 +1,13 @@
 use Rattle.std.proofs.Common.{arith, ap, ◌∙◌, sym}
 use Rattle.std.proofs.lemmas.Grind.{common_steps}
 use Rattle.cose_msg.specs.Reading.{Reading}
-use Rattle.cose_msg.proofs.PhaseCases.{none_wanted_else}
-use Rattle.cose_msg.proofs.Runs.{without_more}
+use Rattle.cose_msg.proofs.lemmas.Deciding.PhaseCases.{none_wanted_else}
+use Rattle.cose_msg.proofs.lemmas.Run.Runs.{without_more}
 use Rattle.cose_msg.proofs.verifier.Verifier.payload_wanted.Goals as goal
 
 pub returns-clause-reads : goal.returns-clause-reads
 returns-clause-reads g c = λ task s B h.
-    c.payload_wanted.ensures ∙ sym (c.waits.ensures.payload_wanted task B _ _ h.so_far h.came) ∙ ap (λ (r : Reading). r.payload_wanted) (without_more _ _ task s)
+    c.payload_wanted.ensures ∙ sym (c.lemma_reading_so_far.ensures.payload_wanted task B _ _ h.so_far h.came) ∙ ap (λ (r : Reading). r.payload_wanted) (without_more _ _ task s)
 
 pub returns-clause-none : goal.returns-clause-none
 returns-clause-none g c = λ other.

@@ -1,13 +1,13 @@
 use Rattle.std.proofs.Common.{refl}
 use Rattle.cose_msg.specs.Verifier.{task_of}
-use Rattle.cose_msg.proofs.Untouched.{begins}
+use Rattle.cose_msg.proofs.lemmas.Deciding.Untouched.{begins}
 use Rattle.cose_msg.proofs.verifier.Verifier.reset.Goals as goal
 
 pub returns-clause-none_taken : goal.returns-clause-none_taken
 returns-clause-none_taken g c = begins (task_of c.args.self.now) _ (rw c.reset.ensures.terms refl) c.reset.ensures.untouched c.reset.ensures.phase refl refl
 
-pub returns-clause-tells : goal.returns-clause-tells
-returns-clause-tells g c = c.reset.ensures.shown (task_of c.args.self.now)
+pub returns-clause-shows : goal.returns-clause-shows
+returns-clause-shows g c = c.reset.ensures.shown (task_of c.args.self.now)
 
 pub returns-clause-status : goal.returns-clause-status
 returns-clause-status g c = rw c.reset.ensures.phase refl

@@ -1,5 +1,5 @@
 use Rattle.std.proofs.Common.{refl}
-use Rattle.cose_msg.proofs.Untouched.{untouched_is_anew, untouched_is_truncated}
+use Rattle.cose_msg.proofs.lemmas.Deciding.Untouched.{untouched_is_anew, untouched_is_truncated}
 use Rattle.cose_msg.proofs.verifier.Verifier.taken.Goals as goal
 
 pub returns : goal.returns

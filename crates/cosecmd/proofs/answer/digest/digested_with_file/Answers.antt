@@ -14,5 +14,5 @@ returns-in-Ok-detached_reply-clause-says g c = λ bytes content e told.
     let small_left : after.left < 2 ^ 64 = after.in_range in
     let reply : Result Reply Fault = Ok c.in-Ok-detached_reply.reply in
     says_digested_from c.payload_stays.ensures.complete job (usable c.in-Ok.keys) content bytes after.left (g.R.Read.remaining after.reader) _
-    (sym c.in-Ok.ensures.exact) small small_left _ _ reply c.program_context-context.ensures.setting told
-    (c.in-Ok-detached_reply.ensures.came bytes e) (ends_whole after.ended after.left)
+    (rw c.requires.sizes.keys_are (sym c.in-Ok.ensures.exact)) small small_left _ _ reply c.program_context-context.ensures.setting told
+    (rw (c.requires.sizes.header_is, c.requires.sizes.nesting_is) (c.in-Ok-detached_reply.ensures.came bytes e)) (ends_whole after.ended after.left)

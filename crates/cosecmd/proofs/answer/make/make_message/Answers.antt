@@ -7,5 +7,5 @@ pub returns-in-Ok-made-clause-makes : goal.returns-in-Ok-made-clause-makes
 returns-in-Ok-made-clause-makes g c = λ bytes e.
     makes_printed _ (key_value c.in-Ok.key) c.args.alg c.args.length (option_map contents c.args.kid) c.args.aad.now bytes
     _ c.into_writer-writer.result.ghost_name (g.W.Write.contents c.args.output.now) (g.W.Write.contents c.into_writer-writer.result.now) _
-    (sym c.in-Ok.ensures.exact) (sym c.in-Ok-made.ensures.fault) (c.new-intake.ensures.told ∙ e) c.new-sink.ensures.contents (c.in-Ok-made.ensures.makes refl).1
+    (sym c.in-Ok.ensures.exact) (sym c.in-Ok-made.ensures.fault) (c.new-intake.ensures.known ∙ e) c.new-sink.ensures.contents (c.in-Ok-made.ensures.makes refl).1
     c.into_writer-writer.ensures.contents (λ same. search rules)

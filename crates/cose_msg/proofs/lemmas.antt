@@ -1,0 +1,10 @@
+pub mod Accepted
+pub mod Choosing
+pub mod Deciding
+pub mod Detached
+pub mod Feeding
+pub mod Made
+pub mod Reader
+pub mod Reading
+pub mod Run
+pub mod Spelling

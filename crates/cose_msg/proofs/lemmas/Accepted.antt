@@ -1,0 +1,4 @@
+pub mod Found
+pub mod FoundForms
+pub mod FoundFronts
+pub mod FoundMessages

@@ -1,0 +1,3 @@
+pub mod ChoiceReadings
+pub mod Choices
+pub mod ChosenKeys

@@ -1,0 +1,5 @@
+pub mod Decisions
+pub mod KeptAnswers
+pub mod PhaseCases
+pub mod Signatures
+pub mod Untouched

@@ -1,0 +1,4 @@
+pub mod Cuts
+pub mod Feeds
+pub mod PayloadsKnown
+pub mod Statuses

@@ -1,0 +1,5 @@
+pub mod ArgumentBounds
+pub mod Opened
+pub mod Standing
+pub mod Steps
+pub mod Waits

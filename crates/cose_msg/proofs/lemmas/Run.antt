@@ -1,0 +1,4 @@
+pub mod Answered
+pub mod PayloadLimit
+pub mod Runs
+pub mod Slices

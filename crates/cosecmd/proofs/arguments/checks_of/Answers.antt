@@ -1,0 +1,9 @@
+use Rattle.std.proofs.Common.{option_map}
+use Rattle.cosecmd.specs.Options.{options_of}
+use Rattle.cosecmd.proofs.ChecksAsked.{checks_said}
+use Rattle.cosecmd.proofs.arguments.checks_of.Goals as goal
+
+pub returns : goal.returns
+returns g c = λ under e.
+    checks_said (g.F.NamedFiles.content c.args.files.now) (options_of c.args.matches.now) c.limits_of-limits.result c.in_ok-keys.keys.items c.in_ok-aad.aad.items c.kind_of-wanted.result (option_map (λ bytes. bytes.items) c.in_ok-vouch.vouch)
+    c.in_ok-keys.ensures.keys c.in_ok-aad.ensures.value c.kind_of-wanted.ensures c.in_ok-vouch.ensures c.limits_of-limits.ensures under e

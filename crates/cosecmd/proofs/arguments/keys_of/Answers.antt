@@ -1,0 +1,4 @@
+use Rattle.cosecmd.proofs.arguments.keys_of.Goals as goal
+
+pub returns : goal.returns
+returns g c = record { keys = c.in_ok-keys.ensures.listed }

@@ -1,9 +1,0 @@
-use Rattle.std.proofs.Common.{option_map}
-use Rattle.cosecmd.specs.Options.{options_of}
-use Rattle.cosecmd.proofs.Checked.{checks_said}
-use Rattle.cosecmd.proofs.words.checks_of.Goals as goal
-
-pub returns : goal.returns
-returns g c = λ under e.
-    checks_said (g.F.NamedFiles.content c.args.files.now) (options_of c.args.matches.now) c.in_ok-keys.keys.items c.in_ok-aad.aad.items c.kind_of-wanted.result (option_map (λ bytes. bytes.items) c.in_ok-vouch.vouch)
-    c.in_ok-keys.ensures c.in_ok-aad.ensures.value c.kind_of-wanted.ensures c.in_ok-vouch.ensures under e

@@ -1,7 +1,0 @@
-use Rattle.cosecmd.specs.Options.{options_of}
-use Rattle.cosecmd.proofs.Checked.{digest_checks_said}
-use Rattle.cosecmd.proofs.words.digest_checks_of.Goals as goal
-
-pub returns : goal.returns
-returns g c = λ under e.
-    digest_checks_said (g.F.NamedFiles.content c.args.files.now) (options_of c.args.matches.now) c.in_ok-keys.keys.items c.in_ok-aad.aad.items c.in_ok-keys.ensures c.in_ok-aad.ensures.value under e

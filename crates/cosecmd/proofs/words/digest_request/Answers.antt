@@ -1,7 +1,0 @@
-use Rattle.cosecmd.specs.Printed.{digested_under}
-use Rattle.cosecmd.proofs.CommandLines.{payload_asks}
-use Rattle.cosecmd.proofs.words.digest_request.Goals as goal
-
-pub returns-clause-asks : goal.returns-clause-asks
-returns-clause-asks g c = λ bytes said.
-    payload_asks digested_under _ _ c.in_ok-checks.checks _ bytes said c.in_ok-checks.ensures (c.in_ok-payload.ensures.value (g.F.NamedFiles.content c.args.files.now))

@@ -1,0 +1,58 @@
+-- What is printed for the arguments of a command, and how it ends: the output of the job that these arguments ask for.
+use Rattle.std.specs.Prelude.{ℕ, Bool, true, false, List, Option, Some, None, option_map}
+use Rattle.cose_cwt.specs.Claims.Audience.{text_value}
+use Rattle.cose_map.specs.Key.{key_of}
+use Rattle.cosecmd.specs.Admitted.{program_policy}
+use Rattle.cosecmd.specs.Payload.{detached_in}
+use Rattle.cosecmd.specs.Printed.{Output, admitted_under, answered_under, keys_listed, made_under, shown}
+use Rattle.cosecmd.specs.Requirements.{requirements_for}
+use Rattle.cosecmd.specs.Sequence.{verified_sequence}
+use Rattle.cosecmd.specs.Under.{owned_under}
+use Rattle.cosecmd.specs.declared.request.Cwt.{Cwt}
+use Rattle.cosecmd.specs.declared.request.Make.{Make}
+use Rattle.cosecmd.specs.declared.request.Request.{Request}
+use Rattle.cosecmd.specs.declared.request.Request.TheVariants as asks
+
+abbrev pub admitted_for : Cwt → List ℕ → Output
+admitted_for words bytes =
+    admitted_under (owned_under words.checks) (program_policy words.now words.leeway (option_map text_value words.aud)) (requirements_for words.now words.leeway words.required) words.readable bytes
+
+abbrev pub made_for : Make → List ℕ → Output
+made_for words bytes =
+    made_under (key_of (record { bytes = words.key.items; place = 0 })) words.alg words.length (option_map (λ word. word.items) words.kid) words.aad.items bytes
+
+-- The detached payload that the arguments of `verify` or `digest` name, as far as it is known. No other command has one.
+abbrev pub payload_for : (List ℕ → Option (List ℕ)) → Request → Option (Option (List ℕ))
+payload_for content (asks.Message question checks payload) = detached_in content payload
+payload_for content (asks.Sequence checks) = Some None
+payload_for content (asks.Show limits wanted diagnostic) = Some None
+payload_for content (asks.Cwt words) = Some None
+payload_for content (asks.Keys words) = Some None
+payload_for content (asks.Make words) = Some None
+
+-- With this detached payload, where there is one.
+abbrev pub asked_for : Request → Option (List ℕ) → List ℕ → Output
+asked_for (asks.Show limits wanted diagnostic) payload bytes = shown limits wanted diagnostic bytes
+asked_for (asks.Message question checks from) payload bytes = answered_under question (owned_under checks) payload bytes
+asked_for (asks.Sequence checks) payload bytes = verified_sequence (owned_under checks) bytes
+asked_for (asks.Cwt words) payload bytes = admitted_for words bytes
+asked_for (asks.Keys words) payload bytes = keys_listed words.keys.items
+asked_for (asks.Make words) payload bytes = made_for words bytes
+
+-- Whether a message is to be made.
+abbrev pub makes : Request → Bool
+makes (asks.Make words) = true
+makes (asks.Show limits wanted diagnostic) = false
+makes (asks.Message question checks from) = false
+makes (asks.Sequence checks) = false
+makes (asks.Cwt words) = false
+makes (asks.Keys words) = false
+
+-- Whether the messages of a sequence are to be verified, one after the other.
+abbrev pub is_sequence : Request → Bool
+is_sequence (asks.Sequence checks) = true
+is_sequence (asks.Show limits wanted diagnostic) = false
+is_sequence (asks.Message question checks from) = false
+is_sequence (asks.Cwt words) = false
+is_sequence (asks.Keys words) = false
+is_sequence (asks.Make words) = false

@@ -1,0 +1,517 @@
+//! The arguments of the command line.
+
+ghost use Rattle.std.specs.Prelude.{◌≡◌, ◌≢◌, ◌≤◌, ◌⊎◌, ℕ, true, false, List, Option, Some, IfErr, IfOk, codes, length as length_in, map, option_map, string_bytes};
+ghost use Rattle.clap.specs.Matches.{first_value, found_of, subcommand_name_of};
+ghost use Rattle.cose_cwt.specs.Claims.Audience.{text_value};
+ghost use Rattle.cosecmd.specs.CommandLine.{AsksFor, IsReadFrom, begins_as_answer, digest_prints, is_of_sequence, matches_print, message_prints, sequence_prints, verify_prints};
+ghost use Rattle.cosecmd.specs.Fields.{AreChecks, CwtFields, HasKeysOf, IsKeyOf, IsListedAs, KeysFields, MakeFields, checks_in, digest_checks_in};
+ghost use Rattle.cosecmd.specs.Options.{algorithm_in, bytes_in, flag_in, hex_bytes, integer_in, kind_in, kind_named, limits_in, limits_named, number_in, optional_bytes_in, options_of, payload_in, text_in};
+ghost use Rattle.cosecmd.specs.Payload.{IsFile, detached_in};
+ghost use Rattle.cosecmd.specs.Printed.{Output};
+ghost use Rattle.cosecmd.specs.Arguments.{is_sequence, makes};
+
+use crate::commands::line;
+use crate::fault::Fault;
+use crate::files::{NamedFiles, key_bytes, key_set_bytes};
+use crate::job::Question;
+use crate::limits::Limits;
+use crate::mistake::mistake;
+use crate::reply::{Reply, Status};
+use crate::request::{Cwt, Keys, Make, OwnedChecks, Payload, Request};
+use crate::required::required_of;
+use clap::ArgMatches;
+use clap::error::ErrorKind;
+use cose_msg::{Alg, Wanted};
+use std::alloc::Global;
+
+/// The most bytes of the externally supplied data.
+const EXTERNAL: usize = 65_535;
+
+/// What clap finds in the arguments.
+#[derive(Drop)]
+pub enum Parsed<'w> {
+    /// The options, which are in order.
+    Matches(ArgMatches<'w>),
+    /// Help, the version, or what is wrong with the line.
+    Text(Reply),
+}
+
+/// Whether a text begins as an answer does.
+fn is_like_answer(text: &str) -> bool
+    ensures { result ≡ begins_as_answer text.now }
+{
+    let bytes = text.as_bytes();
+    bytes.starts_with(b"authentic ")
+        || bytes.starts_with(b"refused ")
+        || bytes.starts_with(b"admitted")
+        || bytes.starts_with(b"shape ")
+        || bytes.starts_with(b"vouch ")
+        || bytes.starts_with(b"key at ")
+}
+
+/// The text of a line that is refused, which repeats none of its arguments, or the help or version that it asks for. None of them
+/// can be taken for an answer.
+fn refused_line(alloc: Global, error: clap::Error) -> Result<Reply, Fault>
+    ensures status { IfOk result (λ reply. reply.status ≢ Status.Refused) }
+    ensures text { IfOk result (λ reply. begins_as_answer (string_bytes reply.text) ≡ false) }
+{
+    if matches!(error.kind(), ErrorKind::OutOfMemory) {
+        return Err(Fault::Memory);
+    }
+    let status = if error.use_stderr() {
+        Status::Fault
+    } else {
+        Status::Done
+    };
+    let text = mistake(alloc, error.kind(), format!(in alloc; "{error}")?.as_str())?;
+    if is_like_answer(text.as_str()) {
+        return Err(Fault::Line("command"));
+    }
+    Ok(Reply { status, text })
+}
+
+/// The text of an option's argument, where the option is there or has a default.
+pub fn text_of<'a>(matches: &ArgMatches<'a>, option: &str) -> Option<&'a str>
+    ensures { option_map text_value result ≡ text_in option.now (options_of matches.now) }
+{
+    matches.get_str(option)
+}
+
+/// The bytes that the argument of this option writes in hexadecimal.
+fn decode(alloc: Global, option: &'static str, text: &str) -> Result<Vec<u8>, Fault>
+    ensures value { IfOk result (λ bytes. hex_bytes text.now ≡ Some bytes.items) }
+    ensures fault { IfErr result (λ fault. (fault ≡ Fault.Memory)
+        ⊎ (fault ≡ Fault.Line option.entry)) }
+{
+    match hex::decode(alloc, text) {
+        Ok(bytes) => Ok(bytes),
+        Err(error) => Err(Fault::hexadecimal(option, error)),
+    }
+}
+
+/// The bytes of an option's argument in hexadecimal, and none where the option isn't there.
+fn bytes_of(alloc: Global, matches: &ArgMatches, option: &'static str) -> Result<Vec<u8>, Fault>
+    ensures { IfOk result (λ bytes. bytes_in option.now (options_of matches.now)
+        ≡ Some bytes.items) }
+{
+    match text_of(matches, option) {
+        Some(text) => decode(alloc, option, text),
+        None => Ok(Vec::new(alloc)),
+    }
+}
+
+/// The bytes of an option's argument in hexadecimal, where the option is there.
+fn optional_bytes_of(
+    alloc: Global,
+    matches: &ArgMatches,
+    option: &'static str,
+) -> Result<Option<Vec<u8>>, Fault>
+    ensures { IfOk result (λ bytes. optional_bytes_in option.now (options_of matches.now)
+        ≡ Some (option_map (λ bytes. bytes.items) bytes)) }
+{
+    match text_of(matches, option) {
+        Some(text) => Ok(Some(decode(alloc, option, text)?)),
+        None => Ok(None),
+    }
+}
+
+/// The current time that the arguments give.
+fn now_of(matches: &ArgMatches) -> Result<i64, Fault>
+    ensures { IfOk result (λ now. integer_in (codes "now") (options_of matches.now) ≡ Some now) }
+{
+    match matches.get_one::<i64>("now") {
+        Some(now) => Ok(now),
+        None => Err(Fault::Line("now")),
+    }
+}
+
+/// The leeway that the arguments give.
+fn leeway_of(matches: &ArgMatches) -> Result<u32, Fault>
+    ensures { IfOk result (λ leeway. number_in (codes "leeway") (options_of matches.now)
+        ≡ Some leeway) }
+{
+    match matches.get_one::<u32>("leeway") {
+        Some(leeway) => Ok(leeway),
+        None => Err(Fault::Line("leeway")),
+    }
+}
+
+/// The number of bytes of the payload that the arguments give.
+fn length_of(matches: &ArgMatches) -> Result<u64, Fault>
+    ensures { IfOk result (λ length. number_in (codes "length") (options_of matches.now)
+        ≡ Some length) }
+{
+    match matches.get_one::<u64>("length") {
+        Some(length) => Ok(length),
+        None => Err(Fault::Line("length")),
+    }
+}
+
+/// The algorithm that the arguments name by its number (RFC 9053 section 3.1).
+fn alg_of(matches: &ArgMatches) -> Result<Alg, Fault>
+    ensures { IfOk result (λ alg. algorithm_in (options_of matches.now) ≡ Some alg) }
+{
+    let Some(number) = matches.get_one::<u8>("alg") else {
+        return Err(Fault::Line("alg"));
+    };
+    match Alg::from_number(i128::from(number)) {
+        Some(alg) => Ok(alg),
+        None => Err(Fault::Line("alg")),
+    }
+}
+
+/// The kinds of messages for a value of `--kind`.
+fn wanted_of(word: &str) -> Wanted
+    ensures { result ≡ kind_named word.now }
+{
+    match word {
+        "mac0" => Wanted::Mac0,
+        "sign1" => Wanted::Sign1,
+        _ => Wanted::Tagged,
+    }
+}
+
+/// The kinds of messages that the arguments name.
+fn kind_of(matches: &ArgMatches) -> Wanted
+    ensures { result ≡ kind_in (options_of matches.now) }
+{
+    wanted_of(text_of(matches, "kind").unwrap_or("tagged"))
+}
+
+/// The limits for a value of `--limits`.
+fn limits_named_by(word: &str) -> Limits
+    ensures { result ≡ limits_named word.now }
+{
+    match word {
+        "large" => Limits::Large,
+        _ => Limits::Small,
+    }
+}
+
+/// The limits that the arguments name.
+fn limits_of(matches: &ArgMatches) -> Limits
+    ensures { result ≡ limits_in (options_of matches.now) }
+{
+    limits_named_by(text_of(matches, "limits").unwrap_or("small"))
+}
+
+/// Whether an option without an argument is there.
+pub fn flag_of(matches: &ArgMatches, option: &str) -> bool
+    ensures { result ≡ flag_in option.now (options_of matches.now) }
+{
+    text_of(matches, option).unwrap_or("false") == "true"
+}
+
+/// The externally supplied data, which is limited.
+fn external_of(alloc: Global, matches: &ArgMatches) -> Result<Vec<u8>, Fault>
+    ensures limit { IfOk result (λ aad. length_in aad.items ≤ 65535) }
+    ensures value { IfOk result (λ aad. bytes_in (codes "aad") (options_of matches.now)
+        ≡ Some aad.items) }
+{
+    let aad = bytes_of(alloc, matches, "aad")?;
+    if aad.len() > EXTERNAL {
+        return Err(Fault::Line("aad"));
+    }
+    Ok(aad)
+}
+
+/// The bytes of the key set, from the argument or from the file that the arguments name.
+fn key_set_of<F: NamedFiles>(
+    alloc: Global,
+    files: &F,
+    matches: &ArgMatches,
+) -> Result<Vec<u8>, Fault>
+    ensures keys { IfOk result (λ keys. HasKeysOf (F.content files.now) (options_of matches.now)
+        keys.items) }
+    ensures listed { IfOk result (λ keys. IsListedAs (F.content files.now) (options_of matches.now)
+        keys.items) }
+{
+    match text_of(matches, "keys-file") {
+        Some(name) => key_set_bytes(alloc, files, "keys-file", name),
+        None => bytes_of(alloc, matches, "keys"),
+    }
+}
+
+/// The bytes of the key, from the argument or from the file that the arguments name.
+fn key_of<F: NamedFiles>(alloc: Global, files: &F, matches: &ArgMatches) -> Result<Vec<u8>, Fault>
+    ensures { IfOk result (λ key. IsKeyOf (F.content files.now) (options_of matches.now)
+        key.items) }
+{
+    match text_of(matches, "key-file") {
+        Some(name) => key_bytes(alloc, files, "key-file", name),
+        None => bytes_of(alloc, matches, "key"),
+    }
+}
+
+/// The payload where the arguments name no file of it.
+fn payload_in_line<'a>(alloc: Global, matches: &ArgMatches) -> Result<Payload<'a>, Fault>
+    ensures { IfOk result (λ payload. (content : List ℕ → Option (List ℕ)) →
+        detached_in content payload
+        ≡ optional_bytes_in (codes "payload") (options_of matches.now)) }
+{
+    match optional_bytes_of(alloc, matches, "payload")? {
+        Some(bytes) => Ok(Payload::Bytes(bytes)),
+        None => Ok(Payload::InMessage),
+    }
+}
+
+/// How many bytes of a file the arguments state as the payload, where they do.
+fn stated_length_of(matches: &ArgMatches) -> Result<Option<u64>, Fault>
+    ensures { IfOk result (λ stated. number_in (codes "payload-length") (options_of matches.now)
+        ≡ stated) }
+{
+    match text_of(matches, "payload-length") {
+        Some(_) => match matches.get_one::<u64>("payload-length") {
+            Some(length) => Ok(Some(length)),
+            None => Err(Fault::Line("payload-length")),
+        },
+        None => Ok(None),
+    }
+}
+
+/// The payload in the file of this name.
+fn payload_in_file<'a>(matches: &ArgMatches<'a>, name: &'a str) -> Result<Payload<'a>, Fault>
+    ensures { IfOk result (λ payload. payload ≡ Payload.File name.entry
+        (number_in (codes "payload-length") (options_of matches.now))) }
+{
+    match stated_length_of(matches) {
+        Ok(length) => Ok(Payload::File { name, length }),
+        Err(fault) => Err(fault),
+    }
+}
+
+/// Where the arguments say that the payload is. A file isn't opened yet.
+fn payload_of<'a>(alloc: Global, matches: &ArgMatches<'a>) -> Result<Payload<'a>, Fault>
+    ensures value { IfOk result (λ payload. (content : List ℕ → Option (List ℕ)) →
+        detached_in content payload ≡ payload_in content (options_of matches.now)) }
+    // Where a file is named, the payload is in this file.
+    ensures file { (name : List ℕ) →
+        first_value (found_of matches.now) (codes "payload-file") ≡ Some name →
+        IfOk result (IsFile name) }
+{
+    match text_of(matches, "payload-file") {
+        Some(name) => payload_in_file(matches, name),
+        None => payload_in_line(alloc, matches),
+    }
+}
+
+/// What the arguments of `verify` and `cwt` say that a message is verified under, in the order in which help lists them.
+fn checks_of<F: NamedFiles>(
+    alloc: Global,
+    files: &F,
+    matches: &ArgMatches,
+) -> Result<OwnedChecks, Fault>
+    ensures { IfOk result (AreChecks (checks_in (F.content files.now) (options_of matches.now))) }
+{
+    let keys = key_set_of(alloc, files, matches)?;
+    let aad = external_of(alloc, matches)?;
+    let wanted = kind_of(matches);
+    let vouch = optional_bytes_of(alloc, matches, "vouch")?;
+    let limits = limits_of(matches);
+    Ok(OwnedChecks {
+        keys,
+        aad,
+        wanted,
+        vouch,
+        limits,
+    })
+}
+
+/// The arguments of `cwt`, in the order in which help lists them.
+fn cwt_of<'a, F: NamedFiles>(
+    alloc: Global,
+    files: &F,
+    matches: &ArgMatches<'a>,
+) -> Result<Cwt<'a>, Fault>
+    ensures { IfOk result (CwtFields (F.content files.now) (options_of matches.now)) }
+{
+    let checks = checks_of(alloc, files, matches)?;
+    let now = now_of(matches)?;
+    let leeway = leeway_of(matches)?;
+    let aud = text_of(matches, "aud");
+    let required = required_of(alloc, matches)?;
+    let readable = flag_of(matches, "text");
+    Ok(Cwt {
+        checks,
+        now,
+        leeway,
+        aud,
+        required,
+        readable,
+    })
+}
+
+/// What the arguments of `digest` say that a message, a COSE_Sign1, is read under, in the order in which help lists them.
+fn digest_checks_of<F: NamedFiles>(
+    alloc: Global,
+    files: &F,
+    matches: &ArgMatches,
+) -> Result<OwnedChecks, Fault>
+    ensures { IfOk result
+        (AreChecks (digest_checks_in (F.content files.now) (options_of matches.now))) }
+{
+    let keys = key_set_of(alloc, files, matches)?;
+    let aad = external_of(alloc, matches)?;
+    let limits = limits_of(matches);
+    Ok(OwnedChecks {
+        keys,
+        aad,
+        wanted: Wanted::Sign1,
+        vouch: None,
+        limits,
+    })
+}
+
+/// The arguments of `keys`.
+fn keys_of<F: NamedFiles>(alloc: Global, files: &F, matches: &ArgMatches) -> Result<Keys, Fault>
+    ensures { IfOk result (KeysFields (F.content files.now) (options_of matches.now)) }
+{
+    let keys = key_set_of(alloc, files, matches)?;
+    Ok(Keys { keys })
+}
+
+/// The arguments of `make`, in the order in which help lists them.
+fn make_of<F: NamedFiles>(alloc: Global, files: &F, matches: &ArgMatches) -> Result<Make, Fault>
+    ensures { IfOk result (MakeFields (F.content files.now) (options_of matches.now)) }
+{
+    let alg = alg_of(matches)?;
+    let key = key_of(alloc, files, matches)?;
+    let length = length_of(matches)?;
+    let kid = optional_bytes_of(alloc, matches, "kid")?;
+    let aad = external_of(alloc, matches)?;
+    Ok(Make {
+        alg,
+        key,
+        length,
+        kid,
+        aad,
+    })
+}
+
+/// What the arguments of `verify` ask for, where the input is one message. The payload goes last, as help lists it.
+fn message_request<'a, F: NamedFiles>(
+    alloc: Global,
+    files: &F,
+    matches: &ArgMatches<'a>,
+) -> Result<Request<'a>, Fault>
+    ensures asks { IfOk result (λ request. (bytes : List ℕ) (said : Output) →
+        message_prints (F.content files.now) (options_of matches.now) bytes ≡ Some said →
+        AsksFor (F.content files.now) request bytes said) }
+    ensures verifies { IfOk result (λ request. makes request ≡ false) }
+    ensures one { IfOk result (λ request. is_sequence request ≡ false) }
+{
+    let checks = checks_of(alloc, files, matches)?;
+    let payload = payload_of(alloc, matches)?;
+    Ok(Request::Message {
+        question: Question::Verdict,
+        checks,
+        payload,
+    })
+}
+
+/// What the arguments of `verify` ask for, where the input is a sequence.
+fn sequence_request<'a, F: NamedFiles>(
+    alloc: Global,
+    files: &F,
+    matches: &ArgMatches<'a>,
+) -> Result<Request<'a>, Fault>
+    ensures asks { IfOk result (λ request. (bytes : List ℕ) (said : Output) →
+        sequence_prints (F.content files.now) (options_of matches.now) bytes ≡ Some said →
+        AsksFor (F.content files.now) request bytes said) }
+    ensures verifies { IfOk result (λ request. makes request ≡ false) }
+{
+    let checks = checks_of(alloc, files, matches)?;
+    Ok(Request::Sequence(checks))
+}
+
+/// What the arguments of `verify` ask for.
+fn verify_request<'a, F: NamedFiles>(
+    alloc: Global,
+    files: &F,
+    matches: &ArgMatches<'a>,
+) -> Result<Request<'a>, Fault>
+    ensures asks { IfOk result (λ request. (bytes : List ℕ) (said : Output) →
+        verify_prints (F.content files.now) (options_of matches.now) bytes ≡ Some said →
+        AsksFor (F.content files.now) request bytes said) }
+    ensures verifies { IfOk result (λ request. makes request ≡ false) }
+    // It is a sequence only where the option says so.
+    ensures sequence { IfOk result (λ request. is_sequence request ≡ true
+        → flag_in (codes "sequence") (options_of matches.now) ≡ true) }
+{
+    if flag_of(matches, "sequence") {
+        return sequence_request(alloc, files, matches);
+    }
+    message_request(alloc, files, matches)
+}
+
+/// What the arguments of `digest` ask for. The payload goes last, as help lists it.
+fn digest_request<'a, F: NamedFiles>(
+    alloc: Global,
+    files: &F,
+    matches: &ArgMatches<'a>,
+) -> Result<Request<'a>, Fault>
+    ensures asks { IfOk result (λ request. (bytes : List ℕ) (said : Output) →
+        digest_prints (F.content files.now) (options_of matches.now) bytes ≡ Some said →
+        AsksFor (F.content files.now) request bytes said) }
+    ensures digests { IfOk result (λ request. makes request ≡ false) }
+    ensures one { IfOk result (λ request. is_sequence request ≡ false) }
+{
+    let checks = digest_checks_of(alloc, files, matches)?;
+    let payload = payload_of(alloc, matches)?;
+    Ok(Request::Message {
+        question: Question::Digest,
+        checks,
+        payload,
+    })
+}
+
+/// What the arguments, the first of which is the program's name, say to clap.
+pub fn parse<'a>(alloc: Global, words: &'a [&'a str]) -> Result<Parsed<'a>, Fault>
+    ensures { IfOk result (IsReadFrom (map (λ word. word.now) words.entry.now)) }
+{
+    match line(alloc)?.try_get_matches_from(words) {
+        Ok(matches) => Ok(Parsed::Matches(matches)),
+        Err(error) => Ok(Parsed::Text(refused_line(alloc, error)?)),
+    }
+}
+
+/// What the arguments ask for. It reads the file of keys that they name.
+pub fn request_of<'a, F: NamedFiles>(
+    alloc: Global,
+    files: &F,
+    matches: &ArgMatches<'a>,
+) -> Result<Request<'a>, Fault>
+    ensures asks { IfOk result (λ request. (bytes : List ℕ) (said : Output) →
+        matches_print (F.content files.now) matches.now bytes ≡ Some said →
+        AsksFor (F.content files.now) request bytes said) }
+    // Only `make` makes a message.
+    ensures making { IfOk result (λ request. makes request ≡ true
+        → subcommand_name_of matches.now ≡ Some (codes "make")) }
+    // A sequence is asked for only where the option says so.
+    ensures sequence { IfOk result (λ request. is_sequence request ≡ true
+        → is_of_sequence matches.now ≡ true) }
+{
+    if let Some(show) = matches.subcommand_matches("show") {
+        return Ok(Request::Show {
+            limits: limits_of(show),
+            wanted: kind_of(show),
+            diagnostic: flag_of(show, "diagnostic"),
+        });
+    }
+    if let Some(verify) = matches.subcommand_matches("verify") {
+        return verify_request(alloc, files, verify);
+    }
+    if let Some(cwt) = matches.subcommand_matches("cwt") {
+        return Ok(Request::Cwt(cwt_of(alloc, files, cwt)?));
+    }
+    if let Some(digest) = matches.subcommand_matches("digest") {
+        return digest_request(alloc, files, digest);
+    }
+    if let Some(keys) = matches.subcommand_matches("keys") {
+        return Ok(Request::Keys(keys_of(alloc, files, keys)?));
+    }
+    match matches.subcommand_matches("make") {
+        Some(make) => Ok(Request::Make(make_of(alloc, files, make)?)),
+        None => Err(Fault::Line("command")),
+    }
+}
