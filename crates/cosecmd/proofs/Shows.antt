@@ -29,7 +29,7 @@ module _ {F : Type 0} (header nesting : ℕ) (setting : Setting) (keys : List Ke
   pub says_refused : (refusal : Refusal) → (message (inspecting header nesting setting) bytes).answer ≡ decided (Refused refusal) → IfOk reply (Says (said_of (Refused refusal))) → IfOk reply (Says (shown_in header nesting wanted diagnostic bytes))
   unfolding rules
   says_refused refusal e s =
-      shown_so (said_of (Refused refusal)) (ap (λ (a : Answer). shown_as diagnostic (message rules bytes).told (trailed (length bytes) a)) e) s
+      shown_so (said_of (Refused refusal)) (ap (λ (a : Answer). shown_as diagnostic (message rules bytes).so_far (trailed (length bytes) a)) e) s
 
   module _ (come come_after : Option (List ℕ)) (taken : List ℕ) (kind : Kind) (payload auth count : ℕ) (told : come ≡ Some bytes) (consumes : Consumes come come_after taken) (counted : count ≡ length taken)
       (shape : (message (inspecting header nesting setting) bytes).answer ≡ shaped kind payload auth count) where
@@ -39,7 +39,7 @@ module _ {F : Type 0} (header nesting : ℕ) (setting : Setting) (keys : List Ke
         let o = left_of_input come come_after bytes taken told consumes in
         let e : trailed (length bytes) (message rules bytes).answer ≡ decided (Refused refusal) =
         ap (λ (a : Answer). trailed (length bytes) a) shape ∙ refused_past bytes taken o.0 (shaped kind payload auth count) count refusal refl o.2 counted (h o.0 o.1) in
-        shown_so (said_of (Refused refusal)) (ap (shown_as diagnostic (message rules bytes).told) e) s
+        shown_so (said_of (Refused refusal)) (ap (shown_as diagnostic (message rules bytes).so_far) e) s
 
     pub says_shape : (protected unprotected : Option (List Pair)) → ((rest : List ℕ) → come_after ≡ Some rest → None ≡ trailing_refusal rest count) →
         protected ≡ (message (inspecting header nesting setting) taken).so_far.protected → unprotected ≡ (message (inspecting header nesting setting) taken).so_far.unprotected →
@@ -53,7 +53,7 @@ module _ {F : Type 0} (header nesting : ℕ) (setting : Setting) (keys : List Ke
         let q : protected ≡ (message rules bytes).so_far.protected = p ∙ ap (λ (t : List ℕ). (message rules t).so_far.protected) (sym all) in
         let w : unprotected ≡ (message rules bytes).so_far.unprotected = u ∙ ap (λ (t : List ℕ). (message rules t).so_far.unprotected) (sym all) in
         shown_so (shape_said diagnostic kind payload auth count protected unprotected)
-        (ap (shown_as diagnostic (message rules bytes).told) e ∙ rw (← q, ← w) refl) s
+        (ap (shown_as diagnostic (message rules bytes).so_far) e ∙ rw (← q, ← w) refl) s
 
 -- One line more, and one pair fewer is left.
 pub one_line_more : (diagnostic : Bool) (bucket text text_after all : List ℕ) (pair : Pair) (left : List Pair) → text ++ bucket_lines diagnostic bucket (Some (pair ∷ left)) ≡ all →

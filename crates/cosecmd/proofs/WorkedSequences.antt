@@ -23,7 +23,7 @@ use Rattle.cose_msg.specs.declared.context.Wanted.TheVariants as wants
 use Rattle.cose_msg.specs.declared.verdict.Verdict.TheVariants.{Authentic}
 use Rattle.cose_msg.specs.Answer.{Answer, decided, refused}
 use Rattle.cose_msg.specs.Message.{message}
-use Rattle.cose_msg.specs.Phases.{nothing_told}
+use Rattle.cose_msg.specs.Phases.{nothing_so_far}
 use Rattle.cose_msg.specs.Reading.{Reading, cut, settled, with_head, with_string, with_item}
 use Rattle.cosecmd.specs.declared.reply.Status.TheVariants as statuses
 use Rattle.cosecmd.specs.Printed.{Output, output_of}
@@ -54,9 +54,9 @@ judged (suc zero) = decided (Authentic Mac0 Hmac256 0 2)
 judged (suc (suc n)) = refused NoKey 0
 
 abbrev pairs : Reads
-pairs [] = cut nothing_told 1 0
-pairs (one ∷ []) = cut nothing_told 1 1
-pairs (one ∷ other ∷ more) = settled nothing_told (judged other)
+pairs [] = cut nothing_so_far 1 0
+pairs (one ∷ []) = cut nothing_so_far 1 1
+pairs (one ∷ other ∷ more) = settled nothing_so_far (judged other)
 
 abbrev in_pairs : List ℕ → Output
 in_pairs input = sequence_said pairs (λ message. output_of (pairs message).answer) input

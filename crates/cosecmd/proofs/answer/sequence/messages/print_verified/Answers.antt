@@ -15,9 +15,9 @@ returns-in-Err-with_capacity-clause-fails g c = λ bytes e two. line_alone (veri
 pub returns-clause-prints : goal.returns-clause-prints
 returns-clause-prints g c = λ bytes e.
     let known = behind_buffer (λ r. g.R.Read.remaining r.now) c.in-Ok-with_capacity.reader _ bytes c.in-Ok-with_capacity.ensures.inner c.in-Ok-with_capacity.ensures.empty c.in-Ok-with_capacity.ensures.capacity e in
-    verified_prints (job_under c.args.checks.now) (usable c.in-Ok.keys) _ bytes _ _ _ (sym c.in-Ok.ensures.exact) (c.new.ensures.context ∙ c.program_context.ensures.setting) (c.print_all.ensures.prints bytes (c.new-intake.ensures.told ∙ known))
+    verified_prints (job_under c.args.checks.now) (usable c.in-Ok.keys) _ bytes _ _ _ (sym c.in-Ok.ensures.exact) (c.new.ensures.context ∙ c.program_context.ensures.setting) (c.print_all.ensures.prints bytes (c.new-intake.ensures.known ∙ known))
 
 pub returns-clause-fails : goal.returns-clause-fails
 returns-clause-fails g c = λ bytes e two.
     let known = behind_buffer (λ r. g.R.Read.remaining r.now) c.in-Ok-with_capacity.reader _ bytes c.in-Ok-with_capacity.ensures.inner c.in-Ok-with_capacity.ensures.empty c.in-Ok-with_capacity.ensures.capacity e in
-    verified_fails (job_under c.args.checks.now) (usable c.in-Ok.keys) _ bytes _ _ (sym c.in-Ok.ensures.exact) (c.new.ensures.context ∙ c.program_context.ensures.setting) (c.print_all.ensures.fails bytes (c.new-intake.ensures.told ∙ known) two)
+    verified_fails (job_under c.args.checks.now) (usable c.in-Ok.keys) _ bytes _ _ (sym c.in-Ok.ensures.exact) (c.new.ensures.context ∙ c.program_context.ensures.setting) (c.print_all.ensures.fails bytes (c.new-intake.ensures.known ∙ known) two)
