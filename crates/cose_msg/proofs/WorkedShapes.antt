@@ -5,7 +5,7 @@ use Rattle.cose_head.specs.declared.reason.Reason.TheVariants.{Truncated, WrongT
 use Rattle.cose_map.specs.Map.Pairs.{Pair}
 use Rattle.cose_msg.specs.Answer.{Answer, shaped, refused}
 use Rattle.cose_msg.specs.Message.{comparing, inspecting}
-use Rattle.cose_msg.specs.Reading.{SoFar}
+use Rattle.cose_msg.specs.Reading.{Findings}
 use Rattle.cose_msg.proofs.WorkedMessages.{hex, any, algorithm, algorithm_at, Gives, reading, under, plain}
 
 abbrev shape : List ℕ → Answer
@@ -28,10 +28,10 @@ unfolding reading
 shapes byte = refl
 
 -- The pairs of each bucket are known once it was read without a fault, and the payload as far as it was received.
-abbrev known : List ℕ → SoFar
+abbrev known : List ℕ → Findings
 known bytes = (reading (comparing 1024 4 (under plain)) bytes).so_far
 
-abbrev knowing : Option (List Pair) → Option (List Pair) → List ℕ → SoFar
+abbrev knowing : Option (List Pair) → Option (List Pair) → List ℕ → Findings
 knowing protected unprotected payload = record { protected = protected; unprotected = unprotected; payload = payload; open_items = 0 }
 
 abbrev hmac_256 : Option (List Pair)

@@ -11,7 +11,8 @@ use Rattle.cose_msg.specs.declared.verdict.Verdict.{Verdict}
 use Rattle.cose_msg.specs.declared.verdict.Verdict.TheVariants.{Authentic, Refused}
 use Rattle.cose_msg.specs.declared.verifier.Verifier.{Verifier}
 use Rattle.cose_msg.specs.Reader.{SoFar}
-use Rattle.cose_msg.specs.Task.{Task, given_to}
+use Rattle.cose_msg.specs.Message.{Setting}
+use Rattle.cose_msg.specs.Task.{Task, given_to, to_inspect, to_verify}
 use Rattle.cose_msg.specs.Verifier.{task_of}
 
 abbrev pub bytes_taken : {H D : ℕ} {S : Type 0} {K : _} → Verifier H D S K → ℕ
@@ -72,3 +73,14 @@ pub record HasTaken {H D : ℕ} {S : Type 0} {K : _} (task : Task) (s B : List �
   pub whatever_comes : (more : List ℕ) → SoFar (given_to (B ++ more) task) s B v.reader
   pub counted : v.taken ≡ length s
   pub goes_on : v.stopped ≡ false
+
+-- Of a verifier: whatever task it was made for, and whatever bytes it has taken, with the payload among them.
+abbrev pub WhateverTaken : {H D : ℕ} {S : Type 0} {K : _} → Verifier H D S K → (Task → List ℕ → List ℕ → Type 0) → Type 0
+WhateverTaken v fact = (task : Task) (taken payload_so_far : List ℕ) → HasTaken task taken payload_so_far v → fact task taken payload_so_far
+
+-- The same of one that verifies, and of one that inspects, whatever its setting is.
+abbrev pub WhateverVerified : {H D : ℕ} {S : Type 0} {K : _} → Verifier H D S K → (Setting → List ℕ → List ℕ → Type 0) → Type 0
+WhateverVerified v fact = (setting : Setting) (taken payload_so_far : List ℕ) → HasTaken (to_verify setting) taken payload_so_far v → fact setting taken payload_so_far
+
+abbrev pub WhateverInspected : {H D : ℕ} {S : Type 0} {K : _} → Verifier H D S K → (Setting → List ℕ → List ℕ → Type 0) → Type 0
+WhateverInspected v fact = (setting : Setting) (taken payload_so_far : List ℕ) → HasTaken (to_inspect setting) taken payload_so_far v → fact setting taken payload_so_far

@@ -10,22 +10,22 @@ use Rattle.cose_map.specs.Bucket.{bucket_of}
 use Rattle.cose_map.specs.Map.Pairs.{Pair}
 use Rattle.cose_map.specs.Bucket.Both.{pair_fault}
 use Rattle.cose_msg.specs.Answer.{Chosen, Headers}
-use Rattle.cose_msg.specs.Reading.{SoFar, Phase, Next, settled, awaits, stop, with_head, with_string, with_item, unless, unless_fault, with_value}
+use Rattle.cose_msg.specs.Reading.{Findings, Phase, Next, settled, awaits, stop, with_head, with_string, with_item, unless, unless_fault, with_value}
 use Rattle.cose_msg.specs.Rules.{Rules}
 use Rattle.cose_msg.specs.Source.{Source, attached, detached}
 
 -- What is known before the protected bucket was found good; in the unprotected bucket, where this much of it is open;
 -- after the protected bucket; and after both.
-abbrev pub nothing_so_far : SoFar
+abbrev pub nothing_so_far : Findings
 nothing_so_far = record { protected = None; unprotected = None; payload = []; open_items = 0 }
 
-abbrev pub unprotected_so_far : List Pair → ℕ → SoFar
+abbrev pub unprotected_so_far : List Pair → ℕ → Findings
 unprotected_so_far pairs open_items = record { protected = Some pairs; unprotected = None; payload = []; open_items = open_items }
 
-abbrev pub protected_so_far : List Pair → SoFar
+abbrev pub protected_so_far : List Pair → Findings
 protected_so_far pairs = unprotected_so_far pairs 0
 
-abbrev pub headers_so_far : Headers → List ℕ → SoFar
+abbrev pub headers_so_far : Headers → List ℕ → Findings
 headers_so_far headers payload = record {
   protected = Some headers.protected_pairs;
   unprotected = Some headers.unprotected_pairs;

@@ -27,7 +27,7 @@ use Rattle.cose_msg.specs.Hashing.{Hashes, HashesFor, authenticator, result_of}
 use Rattle.cose_msg.specs.Message.{Setting, has_auth_length, message, structure}
 use Rattle.cose_msg.specs.Phase.{is_settled}
 use Rattle.cose_msg.specs.Phases.{nothing_so_far, unprotected_so_far, headers_so_far, placed_at, protected_head, protected, unprotected, payload_head, payload, detached_payload, auth_head, auth}
-use Rattle.cose_msg.specs.Reading.{Reading, SoFar, open_items_after, wanted_after, settled}
+use Rattle.cose_msg.specs.Reading.{Reading, Findings, open_items_after, wanted_after, settled}
 use Rattle.cose_msg.specs.Rules.{Rules}
 use Rattle.cose_msg.specs.Source.{Source, attached, detached}
 use Rattle.cose_msg.specs.Task.{Task, rules_of}
@@ -64,7 +64,7 @@ abbrev pub opened_by : {H D : ℕ} → Reader H D → ℕ
 opened_by v = open_now v.walker
 
 -- The task's terms, the buckets that are known, and what is open.
-abbrev pub Shows : {H D : ℕ} → Task → SoFar → Reader H D → Type 0
+abbrev pub Shows : {H D : ℕ} → Task → Findings → Reader H D → Type 0
 Shows {H} {D} task so_far v = (task_in task v ≡ task)
     × HoldsBucket D so_far.protected v.protected_at v.protected.items × HoldsBucket D so_far.unprotected v.unprotected_at v.unprotected.items
     × (opened_by v ≡ so_far.open_items)
@@ -93,7 +93,7 @@ past_nil attached rules headers chosen at = auth_head rules headers chosen []
 past_nil (detached came stated) rules headers chosen at = detached_payload rules headers chosen came stated at
 
 -- What is left of the definition: the phase, at the bytes that are held of it and those to come.
-abbrev pub left_in : {H D : ℕ} → Rules → Known → SoFar → Reader H D → Phase → List ℕ → Reading
+abbrev pub left_in : {H D : ℕ} → Rules → Known → Findings → Reader H D → Phase → List ℕ → Reading
 left_in rules known so_far v phases.FirstHead z = first_head rules 0 (v.head.items ++ z)
 left_in rules known so_far v (phases.TagHead p) z = second_head rules p.at (v.head.items ++ z)
 left_in rules known so_far v (phases.ArrayHead p) z = array_head rules p.kind p.at (v.head.items ++ z)
@@ -175,7 +175,7 @@ is_authentic (Authentic kind alg payload taken) = true
 is_authentic (Refused refusal) = false
 
 -- What holds of the stores in each phase, where n bytes were taken.
-abbrev pub HoldsIn : {H D : ℕ} → Task → Known → SoFar → ℕ → Reader H D → Phase → Type 0
+abbrev pub HoldsIn : {H D : ℕ} → Task → Known → Findings → ℕ → Reader H D → Phase → Type 0
 HoldsIn task known so_far n v phases.FirstHead = (so_far ≡ nothing_so_far) × HoldsHead 0 n v
 HoldsIn task known so_far n v (phases.TagHead p) = (so_far ≡ nothing_so_far) × HoldsHead p.at n v
 HoldsIn task known so_far n v (phases.ArrayHead p) = (so_far ≡ nothing_so_far) × HoldsHead p.at n v
@@ -215,7 +215,7 @@ HoldsIn task known so_far n v (phases.Shaped p) = (p.taken ≡ n) × (task.inspe
 -- (Once it has decided on a signature it means none.)
 pub record StandsFor {H D : ℕ} (task : Task) (B : List ℕ) (n : ℕ) (v : Reader H D) (reading : List ℕ → Reading) : Type 0 where
   pub known : Known
-  pub so_far : SoFar
+  pub so_far : Findings
   pub shows : Shows task so_far v
   pub payload_known : known.payload ≡ B
   pub payload_so_far : so_far.payload ≡ B

@@ -9,7 +9,7 @@ use Rattle.cose_msg.specs.declared.verdict.Verdict.TheVariants.{Refused}
 use Rattle.cose_msg.specs.declared.verifier.Verifier.{Verifier}
 use Rattle.cose_msg.specs.Answer.{Answer, decided, complete, shaped}
 use Rattle.cose_msg.specs.Intake.{TakesInAll}
-use Rattle.cose_msg.specs.Kept.{HasTaken}
+use Rattle.cose_msg.specs.Kept.{HasTaken, bytes_taken}
 use Rattle.cose_msg.specs.Laws.{StandsBy}
 use Rattle.cose_msg.specs.Message.{message}
 use Rattle.cose_msg.specs.Reading.{Reading}
@@ -17,6 +17,7 @@ use Rattle.cose_msg.specs.Rules.{Rules}
 use Rattle.cose_msg.specs.Shown.{ShowsReading}
 use Rattle.cose_msg.specs.Source.{is_detached_from}
 use Rattle.cose_msg.specs.Sink.{AppendsFront}
+use Rattle.cose_msg.specs.Status.{status_in, status_left}
 use Rattle.cose_msg.specs.Task.{Task, rules_of}
 use Rattle.cose_msg.specs.Reader.{Counts}
 
@@ -111,3 +112,8 @@ pub record Drive {H D : ℕ} {S : Type 0} {K : _} (task : Task) (s B : List ℕ)
   pub grows : Grows contents contents_after stop part
   -- A detached payload isn't among the bytes of the message.
   pub beside : is_detached_from task.setting.source ≡ true → part ≡ []
+
+-- What a verifier is after a call in which it has taken these bytes in all: it has counted them and gives what they have, and its
+-- status is theirs.
+abbrev pub LeftAt : {A : Type 0} {H D : ℕ} {S : Type 0} {K : _} → Task → List ℕ → Result A Stop → Verifier H D S K → Type 0
+LeftAt {A} {H} {D} task taken result v = (bytes_taken v ≡ length taken) × ShowsReading task taken v × (status_in v ≡ status_left result (message (rules_of H D task) taken))

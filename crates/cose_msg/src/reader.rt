@@ -65,7 +65,7 @@ impl<'k, const H: usize, const D: usize> Reader<'k, H, D> {
     ghost use Rattle.cose_msg.specs.Message.{message};
     ghost use Rattle.cose_msg.specs.Phase.{grown, in_payload, is_settled, takes_bytes, want_of};
     ghost use Rattle.cose_msg.specs.Reader.{IsUntouched, Shows, StandsFor, keys_in};
-    ghost use Rattle.cose_msg.specs.Reading.{Reading, stop, SoFar};
+    ghost use Rattle.cose_msg.specs.Reading.{Reading, stop, Findings};
     ghost use Rattle.cose_msg.specs.Source.{IsStated};
     ghost use Rattle.cose_msg.specs.Shown.{held_by, shown_by, shown_in};
     ghost use Rattle.cose_msg.specs.Task.{Task, keys_for, rules_of};
@@ -122,7 +122,7 @@ impl<'k, const H: usize, const D: usize> Reader<'k, H, D> {
 
     /// Refuses the message.
     fn refuse(&mut self, reason: Reason, place: u64)
-        ensures { (task : Task) (B : List ℕ) (n : ℕ) (so_far : SoFar) → Shows task so_far self.old
+        ensures { (task : Task) (B : List ℕ) (n : ℕ) (so_far : Findings) → Shows task so_far self.old
             → so_far.payload ≡ B
             → StandsFor task B n self.new (λ z. stop so_far reason place) }
     {

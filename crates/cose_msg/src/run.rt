@@ -5,13 +5,12 @@ ghost use Rattle.cose_msg.specs.declared.verdict.Inspected.{Inspected};
 ghost use Rattle.cose_msg.specs.declared.verdict.Stop.{Stop};
 ghost use Rattle.cose_msg.specs.declared.verdict.Verdict.{Verdict};
 ghost use Rattle.cose_msg.specs.Answer.{decided};
-ghost use Rattle.cose_msg.specs.Kept.{HasTaken, answered_again, bytes_taken, is_inspecting, is_stopped, kept_answer, kept_inspection};
-ghost use Rattle.cose_msg.specs.Message.{Setting, inspecting, message, verdict_of, verifying};
-ghost use Rattle.cose_msg.specs.Run.{Drive, Run, inspection, stop_in, stops_for_intake, stops_for_sink};
-ghost use Rattle.cose_msg.specs.Shown.{ShowsReading, held};
+ghost use Rattle.cose_msg.specs.Kept.{answered_again, is_inspecting, is_stopped, kept_answer, kept_inspection, WhateverInspected, WhateverTaken, WhateverVerified, HasTaken};
+ghost use Rattle.cose_msg.specs.Message.{inspecting, message, verdict_of, verifying, Setting};
+ghost use Rattle.cose_msg.specs.Run.{Drive, Run, inspection, stop_in, stops_for_intake, stops_for_sink, LeftAt};
+ghost use Rattle.cose_msg.specs.Shown.{held};
 ghost use Rattle.cose_msg.specs.Source.{is_detached_from};
-ghost use Rattle.cose_msg.specs.Status.{status_in, status_left};
-ghost use Rattle.cose_msg.specs.Task.{Task, rules_of, to_inspect, to_verify};
+ghost use Rattle.cose_msg.specs.Task.{rules_of, to_inspect, to_verify};
 ghost use Rattle.cose_msg.specs.Verifier.{is_detached, opened, setting_in};
 
 use crate::elliptic::EcVerifier;
@@ -35,17 +34,15 @@ pub(crate) fn take_message<'k, const H: usize, const D: usize, K: Keys<'k>, I: I
     requires some { 1 ≤ length chunk.old }
     requires limit { length chunk.old ≤ 65536 }
     requires goes_on { is_stopped verifier.old ≡ false }
-    ensures drive { (task : Task) (before payload_before : List ℕ)
-        → HasTaken task before payload_before verifier.old →
+    ensures drive { WhateverTaken verifier.old (λ task before payload_before.
         Drive task before payload_before (I.to_come intake.old) (I.to_come intake.new)
-        (I.ended intake.new)
-        (S.contents sink.old) (S.contents sink.new) (stop_in result) verifier.new }
+        (I.ended intake.new) (S.contents sink.old) (S.contents sink.new)
+        (stop_in result) verifier.new) }
     ensures stopped { is_stopped verifier.new ≡ is_err result }
     ensures inspects { is_inspecting verifier.new ≡ is_inspecting verifier.old }
     ensures detached { is_detached verifier.new ≡ is_detached verifier.old }
-    ensures context { (task : Task) (before payload_before : List ℕ)
-        → HasTaken task before payload_before verifier.old
-        → setting_in verifier.new ≡ setting_in verifier.old }
+    ensures context { WhateverTaken verifier.old (λ _ _ _.
+        setting_in verifier.new ≡ setting_in verifier.old) }
     ensures held { held verifier.new ≤ 2 * H + 512 }
     ensures opened { opened verifier.new ≤ D }
     ensures once { result ≢ Err Stop.Again }
@@ -55,15 +52,12 @@ pub(crate) fn take_message<'k, const H: usize, const D: usize, K: Keys<'k>, I: I
         ≡ (I.has_failed intake.old || stops_for_intake result) }
     ensures sink_failure { S.has_failed sink.new
         ≡ (S.has_failed sink.old || stops_for_sink result) }
-    ensures sure { (task : Task) (before payload_before : List ℕ)
-        → HasTaken task before payload_before verifier.old
-        → task.setting.payload_limit ≤ S.sure sink.old →
-        stops_for_sink result ≡ false }
+    ensures sure { WhateverTaken verifier.old (λ task _ _.
+        task.setting.payload_limit ≤ S.sure sink.old → stops_for_sink result ≡ false) }
     // Of a message whose payload is detached nothing goes to the sink.
-    ensures beside { (task : Task) (before payload_before : List ℕ)
-        → HasTaken task before payload_before verifier.old
-        → is_detached_from task.setting.source ≡ true
-        → (stops_for_sink result ≡ false) × (S.sure sink.old ≤ S.sure sink.new) }
+    ensures beside { WhateverTaken verifier.old (λ task _ _.
+        is_detached_from task.setting.source ≡ true → (stops_for_sink result ≡ false)
+        × (S.sure sink.old ≤ S.sure sink.new)) }
 {
     // The law of messages that the proof cites.
     messages_are_bounded();
@@ -122,27 +116,20 @@ pub fn verify<
     requires verifies { is_inspecting verifier.old ≡ false }
     requires attached { is_detached verifier.old ≡ false }
     // What was taken, the result, what the sink got, what the verifier gives, and the status of the message.
-    ensures run { (setting : Setting) (before payload_before : List ℕ)
-        → HasTaken (to_verify setting) before payload_before verifier.old
-        → (taken : List ℕ)
+    ensures run { WhateverVerified verifier.old (λ setting before payload_before.
+        (taken : List ℕ)
         × Run (verifying H D setting (E.decides ec.now)) decided before payload_before
-        (I.to_come intake.old)
-        (I.to_come intake.new) (I.ended intake.new)
+        (I.to_come intake.old) (I.to_come intake.new) (I.ended intake.new)
         (S.contents sink.old) (S.contents sink.new) result taken
-        × (bytes_taken verifier.new ≡ length (before ++ taken))
-        × ShowsReading (to_verify setting) (before ++ taken) verifier.new
-        × (status_in verifier.new
-        ≡ status_left result (message (rules_of H D (to_verify setting)) (before ++ taken))) }
+        × LeftAt (to_verify setting) (before ++ taken) result verifier.new) }
     // (The payload so far, before the call, is that of the bytes so far.)
-    ensures before { (setting : Setting) (before payload_before : List ℕ)
-        → HasTaken (to_verify setting) before payload_before verifier.old
-        → (message (rules_of H D (to_verify setting)) before).so_far.payload ≡ payload_before }
+    ensures before { WhateverVerified verifier.old (λ setting before payload_before.
+        (message (rules_of H D (to_verify setting)) before).so_far.payload ≡ payload_before) }
     // Where the bytes to come are known to the contract, the verdict is that of all of them.
     ensures answer { (setting : Setting) (before payload_before bytes : List ℕ)
         → HasTaken (to_verify setting) before payload_before verifier.old
-        → I.to_come intake.old ≡ Some bytes →
-        IfOk result (λ verdict. verdict_of H D setting (E.decides ec.now) (before ++ bytes)
-        ≡ decided verdict) }
+        → I.to_come intake.old ≡ Some bytes → IfOk result (λ verdict.
+        verdict_of H D setting (E.decides ec.now) (before ++ bytes) ≡ decided verdict) }
 
     // The answer is kept, and a kept one is answered again.
     ensures kept { kept_answer verifier.new ≡ Some (answered_again result) }
@@ -152,9 +139,8 @@ pub fn verify<
     ensures stopped { (result ≡ Err Stop.Again) ↔ (is_stopped verifier.old ≡ true) }
     ensures inspects { is_inspecting verifier.new ≡ false }
     ensures attached { is_detached verifier.new ≡ false }
-    ensures context { (setting : Setting) (before payload_before : List ℕ)
-        → HasTaken (to_verify setting) before payload_before verifier.old
-        → setting_in verifier.new ≡ setting_in verifier.old }
+    ensures context { WhateverVerified verifier.old (λ _ _ _.
+        setting_in verifier.new ≡ setting_in verifier.old) }
     // What it holds of the message is within a bound, in addition to the `C` bytes of the call, and so is what is open
     // of it.
     ensures held { held verifier.new ≤ 2 * H + 512 }
@@ -166,10 +152,8 @@ pub fn verify<
     ensures sink_failure { S.has_failed sink.new
         ≡ (S.has_failed sink.old || stops_for_sink result) }
     // A sink that is sure of every payload doesn't stop it.
-    ensures sure { (setting : Setting) (before payload_before : List ℕ)
-        → HasTaken (to_verify setting) before payload_before verifier.old
-        → setting.payload_limit ≤ S.sure sink.old →
-        stops_for_sink result ≡ false }
+    ensures sure { WhateverVerified verifier.old (λ setting _ _.
+        setting.payload_limit ≤ S.sure sink.old → stops_for_sink result ≡ false) }
 {
     // Laws of messages that the proof cites.
     settled_stays();
@@ -202,27 +186,20 @@ pub fn inspect<'k, const C: usize, const H: usize, const D: usize, K: Keys<'k>, 
     requires inspects { is_inspecting verifier.old ≡ true }
     requires attached { is_detached verifier.old ≡ false }
     // What was taken, the result, what the sink got, what the verifier gives, and the status of the message.
-    ensures run { (setting : Setting) (before payload_before : List ℕ)
-        → HasTaken (to_inspect setting) before payload_before verifier.old →
+    ensures run { WhateverInspected verifier.old (λ setting before payload_before.
         (taken : List ℕ)
-        × Run (inspecting H D setting) inspection before payload_before (I.to_come intake.old)
-        (I.to_come intake.new)
-        (I.ended intake.new)
+        × Run (inspecting H D setting) inspection before payload_before
+        (I.to_come intake.old) (I.to_come intake.new) (I.ended intake.new)
         (S.contents sink.old) (S.contents sink.new) result taken
-        × (bytes_taken verifier.new ≡ length (before ++ taken))
-        × ShowsReading (to_inspect setting) (before ++ taken) verifier.new
-        × (status_in verifier.new
-        ≡ status_left result (message (rules_of H D (to_inspect setting)) (before ++ taken))) }
+        × LeftAt (to_inspect setting) (before ++ taken) result verifier.new) }
     // (The payload so far, before the call, is that of the bytes so far.)
-    ensures before { (setting : Setting) (before payload_before : List ℕ)
-        → HasTaken (to_inspect setting) before payload_before verifier.old
-        → (message (rules_of H D (to_inspect setting)) before).so_far.payload ≡ payload_before }
+    ensures before { WhateverInspected verifier.old (λ setting before payload_before.
+        (message (rules_of H D (to_inspect setting)) before).so_far.payload ≡ payload_before) }
     // Where the bytes to come are known to the contract, the answer is that of all of them.
     ensures answer { (setting : Setting) (before payload_before bytes : List ℕ)
         → HasTaken (to_inspect setting) before payload_before verifier.old
-        → I.to_come intake.old ≡ Some bytes →
-        IfOk result (λ inspected. (message (inspecting H D setting) (before ++ bytes)).answer
-        ≡ inspection inspected) }
+        → I.to_come intake.old ≡ Some bytes → IfOk result (λ inspected.
+        (message (inspecting H D setting) (before ++ bytes)).answer ≡ inspection inspected) }
 
     // The answer is kept, and a kept one is answered again.
     ensures kept { kept_inspection verifier.new ≡ Some (answered_again result) }
@@ -232,9 +209,8 @@ pub fn inspect<'k, const C: usize, const H: usize, const D: usize, K: Keys<'k>, 
     ensures stopped { (result ≡ Err Stop.Again) ↔ (is_stopped verifier.old ≡ true) }
     ensures inspects { is_inspecting verifier.new ≡ true }
     ensures attached { is_detached verifier.new ≡ false }
-    ensures context { (setting : Setting) (before payload_before : List ℕ)
-        → HasTaken (to_inspect setting) before payload_before verifier.old
-        → setting_in verifier.new ≡ setting_in verifier.old }
+    ensures context { WhateverInspected verifier.old (λ _ _ _.
+        setting_in verifier.new ≡ setting_in verifier.old) }
     // What it holds of the message is within a bound, in addition to the `C` bytes of the call, and so is what is open
     // of it.
     ensures held { held verifier.new ≤ 2 * H + 512 }
@@ -246,10 +222,8 @@ pub fn inspect<'k, const C: usize, const H: usize, const D: usize, K: Keys<'k>, 
     ensures sink_failure { S.has_failed sink.new
         ≡ (S.has_failed sink.old || stops_for_sink result) }
     // A sink that is sure of every payload doesn't stop it.
-    ensures sure { (setting : Setting) (before payload_before : List ℕ)
-        → HasTaken (to_inspect setting) before payload_before verifier.old
-        → setting.payload_limit ≤ S.sure sink.old →
-        stops_for_sink result ≡ false }
+    ensures sure { WhateverInspected verifier.old (λ setting _ _.
+        setting.payload_limit ≤ S.sure sink.old → stops_for_sink result ≡ false) }
 {
     // Laws of messages that the proof cites.
     settled_stays();

@@ -28,7 +28,7 @@ use Rattle.cose_msg.specs.Make.{make_fault}
 use Rattle.cose_msg.specs.Making.{made, protected_made}
 use Rattle.cose_msg.specs.Message.{Decides, Setting, comparing, inspecting, message, secret_of, verdict_of}
 use Rattle.cose_msg.specs.Source.{attached, detached}
-use Rattle.cose_msg.specs.Reading.{Reading, SoFar}
+use Rattle.cose_msg.specs.Reading.{Reading, Findings}
 use Rattle.cose_msg.specs.Shown.{SignInput, sign_input_in}
 use Rattle.cose_msg.specs.Writes.{front_of}
 use Rattle.cose_cwt.specs.Admission.{PolicyValue}
@@ -200,7 +200,7 @@ shape_said diagnostic kind payload auth taken protected unprotected = record {
   status = statuses.Done;
 }
 
-abbrev pub shown_as : Bool → SoFar → Answer → Output
+abbrev pub shown_as : Bool → Findings → Answer → Output
 shown_as diagnostic told (shaped kind payload auth taken) = shape_said diagnostic kind payload auth taken told.protected told.unprotected
 shown_as diagnostic told (decided verdict) = said_of verdict
 shown_as diagnostic told (complete whole) = none_said

@@ -7,4 +7,4 @@ pub mod OwnAnswers
 pub mod Settles
 pub mod Sound
 pub mod SoundForms
-pub mod SoFarForms
+pub mod FindingForms

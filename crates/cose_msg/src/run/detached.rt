@@ -5,13 +5,13 @@ ghost use Rattle.cose_msg.specs.declared.verdict.Stop.{Stop};
 ghost use Rattle.cose_msg.specs.declared.verdict.Verdict.{Verdict};
 ghost use Rattle.cose_msg.specs.Answer.{decided};
 ghost use Rattle.cose_msg.specs.Detached.{Brings, DetachedRun, EitherFails, TakesDetached};
-ghost use Rattle.cose_msg.specs.Kept.{HasTaken, answered_again, bytes_taken, is_inspecting, is_stopped, kept_answer};
-ghost use Rattle.cose_msg.specs.Message.{Setting, given, message as reading, verdict_of, verifying};
-ghost use Rattle.cose_msg.specs.Run.{stop_in, stops_for_intake, stops_for_sink};
-ghost use Rattle.cose_msg.specs.Shown.{ShowsReading, held};
+ghost use Rattle.cose_msg.specs.Kept.{answered_again, is_inspecting, is_stopped, kept_answer, WhateverTaken, WhateverVerified, HasTaken};
+ghost use Rattle.cose_msg.specs.Message.{given, message as reading, verdict_of, verifying, Setting};
+ghost use Rattle.cose_msg.specs.Run.{stop_in, stops_for_intake, stops_for_sink, LeftAt};
+ghost use Rattle.cose_msg.specs.Shown.{held};
 ghost use Rattle.cose_msg.specs.Source.{is_detached_from};
-ghost use Rattle.cose_msg.specs.Status.{payload_wanted_in, status_in, status_left};
-ghost use Rattle.cose_msg.specs.Task.{Task, rules_of, to_verify};
+ghost use Rattle.cose_msg.specs.Status.{payload_wanted_in};
+ghost use Rattle.cose_msg.specs.Task.{rules_of, to_verify};
 ghost use Rattle.cose_msg.specs.Verifier.{is_detached, opened, setting_in};
 
 use crate::elliptic::EcVerifier;
@@ -35,17 +35,15 @@ fn take_payload<'k, const H: usize, const D: usize, K: Keys<'k>, P: Intake, S: S
 ) -> Result<(), Stop>
     requires some { 1 ≤ length chunk.old }
     requires wanted { 0 < payload_wanted_in verifier.old }
-    ensures brings { (task : Task) (before payload_before : List ℕ)
-        → HasTaken task before payload_before verifier.old
-        → Brings task before payload_before (P.to_come payload.old) (P.to_come payload.new)
-        (P.ended payload.new)
-        (S.contents sink.old) (S.contents sink.new) (stop_in result) verifier.new }
+    ensures brings { WhateverTaken verifier.old (λ task before payload_before.
+        Brings task before payload_before (P.to_come payload.old) (P.to_come payload.new)
+        (P.ended payload.new) (S.contents sink.old) (S.contents sink.new)
+        (stop_in result) verifier.new) }
     ensures stopped { is_stopped verifier.new ≡ is_err result }
     ensures inspects { is_inspecting verifier.new ≡ is_inspecting verifier.old }
     ensures detached { is_detached verifier.new ≡ is_detached verifier.old }
-    ensures context { (task : Task) (before payload_before : List ℕ)
-        → HasTaken task before payload_before verifier.old
-        → setting_in verifier.new ≡ setting_in verifier.old }
+    ensures context { WhateverTaken verifier.old (λ _ _ _.
+        setting_in verifier.new ≡ setting_in verifier.old) }
     ensures held { held verifier.new ≤ 2 * H + 512 }
     ensures opened { opened verifier.new ≤ D }
     ensures once { result ≢ Err Stop.Again }
@@ -55,10 +53,9 @@ fn take_payload<'k, const H: usize, const D: usize, K: Keys<'k>, P: Intake, S: S
         ≡ (P.has_failed payload.old || stops_for_intake result) }
     ensures sink_failure { S.has_failed sink.new
         ≡ (S.has_failed sink.old || stops_for_sink result) }
-    ensures sure { (task : Task) (before payload_before : List ℕ)
-        → HasTaken task before payload_before verifier.old
-        → task.setting.payload_limit ≤ S.sure sink.old + length payload_before
-        → stops_for_sink result ≡ false }
+    ensures sure { WhateverTaken verifier.old (λ task _ payload_before.
+        task.setting.payload_limit ≤ S.sure sink.old + length payload_before
+        → stops_for_sink result ≡ false) }
 {
     'pieces: loop {
         verifier.reader.lemma_reading_so_far();
@@ -98,20 +95,17 @@ fn take_detached<'k, const H: usize, const D: usize, K: Keys<'k>, I: Intake, P: 
     requires some { 1 ≤ length chunk.old }
     requires limit { length chunk.old ≤ 65536 }
     requires goes_on { is_stopped verifier.old ≡ false }
-    ensures takes { (task : Task) (before payload_before : List ℕ)
-        → HasTaken task before payload_before verifier.old
-        → is_detached_from task.setting.source ≡ true
+    ensures takes { WhateverTaken verifier.old (λ task before payload_before.
+        is_detached_from task.setting.source ≡ true
         → TakesDetached task before payload_before (I.to_come message.old) (I.to_come message.new)
-        (I.ended message.new)
-        (P.to_come payload.old) (P.to_come payload.new) (P.ended payload.new)
-        (S.contents sink.old) (S.contents sink.new) (stop_in result) verifier.new }
+        (I.ended message.new) (P.to_come payload.old) (P.to_come payload.new) (P.ended payload.new)
+        (S.contents sink.old) (S.contents sink.new) (stop_in result) verifier.new) }
     ensures stopped { is_stopped verifier.new ≡ is_err result }
     ensures inspects { is_inspecting verifier.new ≡ is_inspecting verifier.old }
     ensures detached { is_detached verifier.new ≡ is_detached verifier.old }
-    ensures context { (task : Task) (before payload_before : List ℕ)
-        → HasTaken task before payload_before verifier.old
-        → is_detached_from task.setting.source ≡ true
-        → setting_in verifier.new ≡ setting_in verifier.old }
+    ensures context { WhateverTaken verifier.old (λ task _ _.
+        is_detached_from task.setting.source ≡ true
+        → setting_in verifier.new ≡ setting_in verifier.old) }
     ensures held { held verifier.new ≤ 2 * H + 512 }
     ensures opened { opened verifier.new ≤ D }
     ensures once { result ≢ Err Stop.Again }
@@ -122,10 +116,9 @@ fn take_detached<'k, const H: usize, const D: usize, K: Keys<'k>, I: Intake, P: 
         (P.has_failed payload.old) (P.has_failed payload.new) }
     ensures sink_failure { S.has_failed sink.new
         ≡ (S.has_failed sink.old || stops_for_sink result) }
-    ensures sure { (task : Task) (before payload_before : List ℕ)
-        → HasTaken task before payload_before verifier.old
-        → is_detached_from task.setting.source ≡ true
-        → task.setting.payload_limit ≤ S.sure sink.old → stops_for_sink result ≡ false }
+    ensures sure { WhateverTaken verifier.old (λ task _ _.
+        is_detached_from task.setting.source ≡ true → task.setting.payload_limit ≤ S.sure sink.old
+        → stops_for_sink result ≡ false) }
 {
     // The law of messages that the proof cites.
     payload_stays();
@@ -176,33 +169,24 @@ pub fn verify_detached<
     requires detached { is_detached verifier.old ≡ true }
     // What was taken of the message and of the payload, the result, what the sink got, what the verifier gives, and the
     // status of the message.
-    ensures run { (setting : Setting) (before payload_before : List ℕ)
-        → HasTaken (to_verify setting) before payload_before verifier.old
-        → (taken : List ℕ) × (came : List ℕ)
-        × DetachedRun (verifying H D (given (payload_before ++ came) setting)
-        (E.decides ec.now)) before payload_before
-        (I.to_come message.old) (I.to_come message.new) (I.ended message.new)
-        (P.to_come payload.old) (P.to_come payload.new) (P.ended payload.new) (S.contents sink.old)
-        (S.contents sink.new) result taken came
-        × (bytes_taken verifier.new ≡ length (before ++ taken))
-        × ShowsReading (to_verify (given (payload_before ++ came) setting)) (before
-        ++ taken) verifier.new
-        × (status_in verifier.new
-        ≡ status_left result
-        (reading (rules_of H D (to_verify (given (payload_before ++ came) setting))) (before
-        ++ taken))) }
+    ensures run { WhateverVerified verifier.old (λ setting before payload_before.
+        (taken : List ℕ) × (came : List ℕ)
+        × DetachedRun (verifying H D (given (payload_before ++ came) setting) (E.decides ec.now))
+        before payload_before (I.to_come message.old) (I.to_come message.new) (I.ended message.new)
+        (P.to_come payload.old) (P.to_come payload.new) (P.ended payload.new)
+        (S.contents sink.old) (S.contents sink.new) result taken came
+        × LeftAt (to_verify (given (payload_before ++ came) setting)) (before ++ taken)
+        result verifier.new) }
     // (The payload so far, before the call, is that of the bytes so far.)
-    ensures before { (setting : Setting) (before payload_before : List ℕ)
-        → HasTaken (to_verify setting) before payload_before verifier.old
-        → (reading (rules_of H D (to_verify setting)) before).so_far.payload ≡ payload_before }
+    ensures before { WhateverVerified verifier.old (λ setting before payload_before.
+        (reading (rules_of H D (to_verify setting)) before).so_far.payload ≡ payload_before) }
     // Where the bytes to come of both are known to the contract, the verdict is that of all of them.
     ensures answer { (setting : Setting) (before payload_before bytes more : List ℕ)
         → HasTaken (to_verify setting) before payload_before verifier.old
         → I.to_come message.old ≡ Some bytes → P.to_come payload.old ≡ Some more
-        → IfOk result
-        (λ verdict. verdict_of H D (given (payload_before ++ more) setting) (E.decides ec.now)
-        (before ++ bytes)
-        ≡ decided verdict) }
+        → IfOk result (λ verdict.
+        verdict_of H D (given (payload_before ++ more) setting) (E.decides ec.now)
+        (before ++ bytes) ≡ decided verdict) }
 
     // The answer is kept, and a kept one is answered again.
     ensures kept { kept_answer verifier.new ≡ Some (answered_again result) }
@@ -212,9 +196,8 @@ pub fn verify_detached<
     ensures stopped { (result ≡ Err Stop.Again) ↔ (is_stopped verifier.old ≡ true) }
     ensures inspects { is_inspecting verifier.new ≡ is_inspecting verifier.old }
     ensures detached { is_detached verifier.new ≡ true }
-    ensures context { (setting : Setting) (before payload_before : List ℕ)
-        → HasTaken (to_verify setting) before payload_before verifier.old
-        → setting_in verifier.new ≡ setting_in verifier.old }
+    ensures context { WhateverVerified verifier.old (λ _ _ _.
+        setting_in verifier.new ≡ setting_in verifier.old) }
     // What it holds of the message and of the payload is within a bound, in addition to the `C` bytes of the call, and so is
     // what is open of the message.
     ensures held { held verifier.new ≤ 2 * H + 512 }
@@ -227,9 +210,8 @@ pub fn verify_detached<
     ensures sink_failure { S.has_failed sink.new
         ≡ (S.has_failed sink.old || stops_for_sink result) }
     // A sink that is sure of every payload doesn't stop it.
-    ensures sure { (setting : Setting) (before payload_before : List ℕ)
-        → HasTaken (to_verify setting) before payload_before verifier.old
-        → setting.payload_limit ≤ S.sure sink.old → stops_for_sink result ≡ false }
+    ensures sure { WhateverVerified verifier.old (λ setting _ _.
+        setting.payload_limit ≤ S.sure sink.old → stops_for_sink result ≡ false) }
 {
     // Laws of messages that the proof cites.
     settled_stays();

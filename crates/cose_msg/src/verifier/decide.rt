@@ -1,7 +1,7 @@
 //! What a verifier counts and keeps: the number of bytes taken, whether it stopped, and the verdict.
 
 ghost use Rattle.std.specs.Prelude.{◌≡◌, ◌<◌, ◌≤◌, ◌+◌, ◌^◌, ℕ, true, false, List, [], ◌++◌, None, Some, if◌then◌else◌, length};
-ghost use Rattle.cose_msg.specs.Kept.{answer_kept};
+ghost use Rattle.cose_msg.specs.Kept.{answer_kept, WhateverTaken};
 ghost use Rattle.cose_msg.specs.Reader.{keys_in};
 
 use crate::elliptic::EcVerifier;
@@ -38,17 +38,17 @@ fn keys_to_choose_from<'k, K: Keys<'k>>(keys: &K, inspecting: bool) -> Option<&K
 
 impl<'k, const H: usize, const D: usize, S: Keys<'k>> Verifier<'k, H, D, S> {
     ghost use Rattle.cose_msg.specs.Answer.{decided};
-    ghost use Rattle.cose_msg.specs.Kept.{HasTaken, inspected_in, is_inspecting, kept_answer, kept_inspection, verdict_in};
+    ghost use Rattle.cose_msg.specs.Kept.{HasTaken, is_inspecting, kept_answer, kept_inspection};
     ghost use Rattle.cose_msg.specs.Laws.{then_verified};
     ghost use Rattle.cose_msg.specs.Message.{Setting};
     ghost use Rattle.cose_msg.specs.Phase.{awaits_decision, grown, is_settled, want_of};
     ghost use Rattle.cose_msg.specs.Reader.{Counts, StandsFor};
     ghost use Rattle.cose_msg.specs.Reading.{Reading};
     ghost use Rattle.cose_msg.specs.Run.{SaysCount, inspection};
-    ghost use Rattle.cose_msg.specs.Shown.{held, shown_of, sign_input_of};
+    ghost use Rattle.cose_msg.specs.Shown.{held, shown_of};
     ghost use Rattle.cose_msg.specs.declared.status.Status.{Status};
     ghost use Rattle.cose_msg.specs.Status.{status_in, status_of_answer};
-    ghost use Rattle.cose_msg.specs.Task.{Task, given_to, to_inspect, to_verify};
+    ghost use Rattle.cose_msg.specs.Task.{given_to, to_inspect, to_verify};
     ghost use Rattle.cose_msg.specs.Verifier.{is_detached, opened, setting_in};
 
     /// The answer that is kept until `reset`: that it had stopped, or the verdict.
@@ -91,10 +91,9 @@ impl<'k, const H: usize, const D: usize, S: Keys<'k>> Verifier<'k, H, D, S> {
         ensures marked { self.new.stopped ≡ self.old.stopped }
         ensures inspects { is_inspecting self.new ≡ is_inspecting self.old }
         ensures detached { is_detached self.new ≡ is_detached self.old }
-        ensures taken { (task : Task) (taken payload_so_far : List ℕ)
-            → HasTaken task taken payload_so_far self.old
-            → HasTaken task (taken ++ piece.now)
-            (grown self.old.reader.phase payload_so_far piece.now) self.new }
+        ensures taken { WhateverTaken self.old (λ task taken payload_so_far.
+            HasTaken task (taken ++ piece.now)
+            (grown self.old.reader.phase payload_so_far piece.now) self.new) }
     {
         let keys = keys_to_choose_from(&self.keys, self.inspecting);
         self.reader.advance(piece, keys, self.stated);

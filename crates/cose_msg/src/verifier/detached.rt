@@ -1,18 +1,18 @@
 //! A detached payload, which is fed on its own after the message's nil.
 
-ghost use Rattle.std.specs.Prelude.{◌≡◌, ◌<◌, ◌≤◌, ◌+◌, ◌*◌, ℕ, true, false, List, ◌++◌, length, take, min};
+ghost use Rattle.std.specs.Prelude.{◌≡◌, ◌<◌, ◌≤◌, ◌+◌, ◌*◌, true, false, ◌++◌, length, take, min};
 
 use crate::phase::Phase;
 use crate::verifier::Verifier;
 use cose_map::Keys;
 
 impl<'k, const H: usize, const D: usize, S: Keys<'k>> Verifier<'k, H, D, S> {
-    ghost use Rattle.cose_msg.specs.Kept.{HasTaken, bytes_taken, is_inspecting};
+    ghost use Rattle.cose_msg.specs.Kept.{HasTaken, bytes_taken, is_inspecting, WhateverTaken};
     ghost use Rattle.cose_msg.specs.Message.{message};
     ghost use Rattle.cose_msg.specs.Shown.{ShowsReading, held};
     ghost use Rattle.cose_msg.specs.declared.status.Status.{Status};
     ghost use Rattle.cose_msg.specs.Status.{is_open, is_payload_next, payload_wanted_in, status_in, status_of_reading};
-    ghost use Rattle.cose_msg.specs.Task.{Task, given_to, rules_of};
+    ghost use Rattle.cose_msg.specs.Task.{given_to, rules_of};
     ghost use Rattle.cose_msg.specs.Verifier.{is_detached, opened, setting_in};
 
     /// How many bytes of the detached payload are to come. None unless the status is
@@ -20,9 +20,8 @@ impl<'k, const H: usize, const D: usize, S: Keys<'k>> Verifier<'k, H, D, S> {
     pub fn payload_wanted(&self) -> u64
         ensures value { result ≡ payload_wanted_in self.now }
         // By definition, of the bytes so far.
-        ensures reads { (task : Task) (taken payload_so_far : List ℕ)
-            → HasTaken task taken payload_so_far self.now
-            → result ≡ (message (rules_of H D task) taken).payload_wanted }
+        ensures reads { WhateverTaken self.now (λ task taken _.
+            result ≡ (message (rules_of H D task) taken).payload_wanted) }
         ensures some { status_in self.now ≡ Status.PayloadNext → 0 < result }
         ensures none { is_payload_next (status_in self.now) ≡ false → result ≡ 0 }
     {
@@ -41,21 +40,16 @@ impl<'k, const H: usize, const D: usize, S: Keys<'k>> Verifier<'k, H, D, S> {
     pub fn feed_payload(&mut self, piece: &[u8]) -> usize
         requires some { 0 < payload_wanted_in self.old }
         ensures uses { result ≡ min (length piece.now) (payload_wanted_in self.old) }
-        ensures taken { (task : Task) (taken payload_so_far : List ℕ)
-            → HasTaken task taken payload_so_far self.old
-            → HasTaken (given_to (payload_so_far ++ take result piece.now) task) taken
-            (payload_so_far ++ take result piece.now)
-            self.new }
-        ensures status { (task : Task) (taken payload_so_far : List ℕ)
-            → HasTaken task taken payload_so_far self.old
-            → status_in self.new
+        ensures taken { WhateverTaken self.old (λ task taken payload_so_far.
+            HasTaken (given_to (payload_so_far ++ take result piece.now) task) taken
+            (payload_so_far ++ take result piece.now) self.new) }
+        ensures status { WhateverTaken self.old (λ task taken payload_so_far.
+            status_in self.new
             ≡ status_of_reading
-            (message (rules_of H D (given_to (payload_so_far
-            ++ take result piece.now) task)) taken) }
-        ensures shows { (task : Task) (taken payload_so_far : List ℕ)
-            → HasTaken task taken payload_so_far self.old
-            → ShowsReading (given_to (payload_so_far
-            ++ take result piece.now) task) taken self.new }
+            (message (rules_of H D
+            (given_to (payload_so_far ++ take result piece.now) task)) taken)) }
+        ensures shows { WhateverTaken self.old (λ task taken payload_so_far.
+            ShowsReading (given_to (payload_so_far ++ take result piece.now) task) taken self.new) }
         // So many fewer are wanted then. Where none is, bytes of the message are.
         ensures left { payload_wanted_in self.new + result ≡ payload_wanted_in self.old }
         ensures further { is_open (status_in self.new) ≡ true }
@@ -63,9 +57,8 @@ impl<'k, const H: usize, const D: usize, S: Keys<'k>> Verifier<'k, H, D, S> {
         ensures counts { bytes_taken self.new ≡ bytes_taken self.old }
         ensures inspects { is_inspecting self.new ≡ is_inspecting self.old }
         ensures detached { is_detached self.new ≡ is_detached self.old }
-        ensures context { (task : Task) (taken payload_so_far : List ℕ)
-            → HasTaken task taken payload_so_far self.old
-            → setting_in self.new ≡ setting_in self.old }
+        ensures context { WhateverTaken self.old (λ _ _ _.
+            setting_in self.new ≡ setting_in self.old) }
         ensures held { held self.new ≤ 2 * H + 512 }
         ensures opened { opened self.new ≤ D }
     {

@@ -37,25 +37,23 @@ impl<'k, const H: usize, const D: usize, S: Keys<'k>> Verifier<'k, H, D, S> {
     ghost use Rattle.cose_head.specs.declared.reason.Reason.{Reason};
     ghost use Rattle.cose_msg.specs.Answer.{decided};
     ghost use Rattle.cose_msg.specs.Feed.{Uses, nothing_used, payload_in};
-    ghost use Rattle.cose_msg.specs.Kept.{HasTaken, bytes_taken, is_inspecting, kept_answer};
-    ghost use Rattle.cose_msg.specs.Message.{Setting, message, verdict_of};
+    ghost use Rattle.cose_msg.specs.Kept.{HasTaken, bytes_taken, is_inspecting, kept_answer, WhateverTaken, WhateverVerified};
+    ghost use Rattle.cose_msg.specs.Message.{message, verdict_of};
     ghost use Rattle.cose_msg.specs.Phase.{is_settled, want_of};
     ghost use Rattle.cose_msg.specs.Shown.{ShowsReading, held, shown_of};
     ghost use Rattle.cose_msg.specs.Status.{is_complete, is_more, is_open, status_in, status_of_reading, status_of_answer, wanted_in};
-    ghost use Rattle.cose_msg.specs.Task.{Task, rules_of, to_verify};
+    ghost use Rattle.cose_msg.specs.Task.{rules_of};
     ghost use Rattle.cose_msg.specs.Verifier.{is_detached, opened, setting_in};
 
     /// The status of the message after the bytes so far.
     pub fn status(&self) -> Status
         ensures value { result ≡ status_in self.now }
         // It is that of the bytes so far, by definition.
-        ensures reads { (task : Task) (taken payload_so_far : List ℕ)
-            → HasTaken task taken payload_so_far self.now
-            → result ≡ status_of_reading (message (rules_of H D task) taken) }
+        ensures reads { WhateverTaken self.now (λ task taken _.
+            result ≡ status_of_reading (message (rules_of H D task) taken)) }
         // Of a message that has its payload no byte of a detached one is wanted.
-        ensures attached { (task : Task) (taken payload_so_far : List ℕ)
-            → HasTaken task taken payload_so_far self.now
-            → is_detached self.now ≡ false → result ≢ Status.PayloadNext }
+        ensures attached { WhateverTaken self.now (λ _ _ _.
+            is_detached self.now ≡ false → result ≢ Status.PayloadNext) }
     {
         self.reader.lemma_reading_so_far();
         if self.stopped {
@@ -76,16 +74,14 @@ impl<'k, const H: usize, const D: usize, S: Keys<'k>> Verifier<'k, H, D, S> {
     pub fn want(&self) -> u64
         ensures value { result ≡ wanted_in self.now }
         // By definition, of the bytes so far.
-        ensures reads { (task : Task) (taken payload_so_far : List ℕ)
-            → HasTaken task taken payload_so_far self.now
-            → result ≡ (message (rules_of H D task) taken).wanted }
+        ensures reads { WhateverTaken self.now (λ task taken _.
+            result ≡ (message (rules_of H D task) taken).wanted) }
         ensures some { status_in self.now ≡ Status.More → 0 < result }
         ensures none { is_more (status_in self.now) ≡ false → result ≡ 0 }
         // Fewer bytes than that don't settle the message.
-        ensures early { (task : Task) (taken payload_so_far more : List ℕ)
-            → HasTaken task taken payload_so_far self.now
-            → length more < result
-            → (message (rules_of H D task) (taken ++ more)).settled ≡ false }
+        ensures early { WhateverTaken self.now (λ task taken _.
+            (more : List ℕ) → length more < result
+            → (message (rules_of H D task) (taken ++ more)).settled ≡ false) }
     {
         self.reader.lemma_reading_so_far();
         if self.stopped {
@@ -117,29 +113,22 @@ impl<'k, const H: usize, const D: usize, S: Keys<'k>> Verifier<'k, H, D, S> {
     /// stays.
     pub fn feed(&mut self, piece: &[u8]) -> Fed
         // Of the bytes so far, whatever cuts they came in, and the piece:
-        ensures uses { (task : Task) (taken payload_so_far : List ℕ)
-            → HasTaken task taken payload_so_far self.old
-            → Uses (rules_of H D task) taken piece.now result.used }
-        ensures taken { (task : Task) (taken payload_so_far : List ℕ)
-            → HasTaken task taken payload_so_far self.old
-            → HasTaken task (taken ++ take result.used piece.now) (payload_so_far
-            ++ payload_in result piece.now)
-            self.new }
-        ensures status { (task : Task) (taken payload_so_far : List ℕ)
-            → HasTaken task taken payload_so_far self.old
-            → result.status
-            ≡ status_of_reading (message (rules_of H D task) (taken
-            ++ take result.used piece.now)) }
-        ensures attached { (task : Task) (taken payload_so_far : List ℕ)
-            → HasTaken task taken payload_so_far self.old
-            → is_detached self.old ≡ false → result.status ≢ Status.PayloadNext }
-        ensures payload { (task : Task) (taken payload_so_far : List ℕ)
-            → HasTaken task taken payload_so_far self.old
-            → (message (rules_of H D task) (taken ++ take result.used piece.now)).so_far.payload
-            ≡ (message (rules_of H D task) taken).so_far.payload ++ payload_in result piece.now }
-        ensures shows { (task : Task) (taken payload_so_far : List ℕ)
-            → HasTaken task taken payload_so_far self.old
-            → ShowsReading task (taken ++ take result.used piece.now) self.new }
+        ensures uses { WhateverTaken self.old (λ task taken _.
+            Uses (rules_of H D task) taken piece.now result.used) }
+        ensures taken { WhateverTaken self.old (λ task taken payload_so_far.
+            HasTaken task (taken ++ take result.used piece.now)
+            (payload_so_far ++ payload_in result piece.now) self.new) }
+        ensures status { WhateverTaken self.old (λ task taken _.
+            result.status
+            ≡ status_of_reading
+            (message (rules_of H D task) (taken ++ take result.used piece.now))) }
+        ensures attached { WhateverTaken self.old (λ _ _ _.
+            is_detached self.old ≡ false → result.status ≢ Status.PayloadNext) }
+        ensures payload { WhateverTaken self.old (λ task taken _.
+            (message (rules_of H D task) (taken ++ take result.used piece.now)).so_far.payload
+            ≡ (message (rules_of H D task) taken).so_far.payload ++ payload_in result piece.now) }
+        ensures shows { WhateverTaken self.old (λ task taken _.
+            ShowsReading task (taken ++ take result.used piece.now) self.new) }
         // The payload's bytes are some of those that were used, or both places are 0.
         ensures fits { result.used ≤ length piece.now }
         ensures ordered { result.payload_from ≤ result.payload_to }
@@ -153,9 +142,8 @@ impl<'k, const H: usize, const D: usize, S: Keys<'k>> Verifier<'k, H, D, S> {
             → (result ≡ nothing_used (status_in self.old)) × (self.new ≡ self.old) }
         ensures inspects { is_inspecting self.new ≡ is_inspecting self.old }
         ensures detached { is_detached self.new ≡ is_detached self.old }
-        ensures context { (task : Task) (taken payload_so_far : List ℕ)
-            → HasTaken task taken payload_so_far self.old
-            → setting_in self.new ≡ setting_in self.old }
+        ensures context { WhateverTaken self.old (λ _ _ _.
+            setting_in self.new ≡ setting_in self.old) }
         ensures held { held self.new ≤ 2 * H + 512 }
         ensures opened { opened self.new ≤ D }
     {
@@ -204,10 +192,9 @@ impl<'k, const H: usize, const D: usize, S: Keys<'k>> Verifier<'k, H, D, S> {
             ≡ Some (Ok
             (Verdict.Refused
             (record { reason = Reason.Truncated; place = bytes_taken self.old }))) }
-        ensures awaiting { (task : Task) (taken payload_so_far : List ℕ)
-            → HasTaken task taken payload_so_far self.old
-            → status_in self.old ≡ Status.PayloadNext
-            → result ≡ status_of_answer (message (rules_of H D task) taken).answer }
+        ensures awaiting { WhateverTaken self.old (λ task taken _.
+            status_in self.old ≡ Status.PayloadNext
+            → result ≡ status_of_answer (message (rules_of H D task) taken).answer) }
         ensures again { is_open (status_in self.old) ≡ false → (result ≡ status_in self.old)
             × (self.new ≡ self.old) }
         ensures counts { bytes_taken self.new ≡ bytes_taken self.old }
@@ -237,12 +224,9 @@ impl<'k, const H: usize, const D: usize, S: Keys<'k>> Verifier<'k, H, D, S> {
         requires complete { is_complete (status_in self.old) ≡ true }
         requires verifies { is_inspecting self.old ≡ false }
         // It is that of the bytes so far.
-        ensures answer { (setting : Setting) (taken payload_so_far : List ℕ)
-            → HasTaken (to_verify setting) taken payload_so_far self.old
-            → verdict_of H D setting (E.decides ec.now) taken ≡ decided result }
-        ensures status { (setting : Setting) (taken payload_so_far : List ℕ)
-            → HasTaken (to_verify setting) taken payload_so_far self.old → status_in self.new
-            ≡ Status.Complete }
+        ensures answer { WhateverVerified self.old (λ setting taken _.
+            verdict_of H D setting (E.decides ec.now) taken ≡ decided result) }
+        ensures status { WhateverVerified self.old (λ _ _ _. status_in self.new ≡ Status.Complete) }
         ensures kept { kept_answer self.new ≡ Some (Ok result) }
         ensures again { (verdict : Verdict) → kept_answer self.old ≡ Some (Ok verdict)
             → (result ≡ verdict) × (self.new ≡ self.old) }

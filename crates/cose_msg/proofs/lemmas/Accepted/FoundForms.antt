@@ -16,7 +16,7 @@ use Rattle.cose_head.specs.Measured.{left_of}
 use Rattle.cose_head.specs.Open.{Open}
 use Rattle.cose_head.specs.Reading.{Outcome, read}
 use Rattle.cose_msg.specs.Answer.{Answer, refused}
-use Rattle.cose_msg.specs.Reading.{SoFar, Reading, Phase, Next, stop, cut, past_head, with_head, with_string, is_truncated, past_item, with_item, unless, unless_fault, with_value, open_after}
+use Rattle.cose_msg.specs.Reading.{Findings, Reading, Phase, Next, stop, cut, past_head, with_head, with_string, is_truncated, past_item, with_item, unless, unless_fault, with_value, open_after}
 use Rattle.cose_msg.proofs.lemmas.Spelling.Spelled.{SpellingLaws}
 
 -- The answer of a phase at a place.
@@ -100,7 +100,7 @@ module _ (answer : Answer) (unrefused : NotRefused answer) where
   both_refused true x y h k comes = h comes
   both_refused false x y h k comes = k comes
 
-  bytes_found : (so_far : List ℕ → SoFar) (n : ℕ) (next : Next (List ℕ)) (place : ℕ) (bytes : List ℕ) → Comes (with_string so_far n next) place bytes answer → BytesFound n next place bytes answer
+  bytes_found : (so_far : List ℕ → Findings) (n : ℕ) (next : Next (List ℕ)) (place : ℕ) (bytes : List ℕ) → Comes (with_string so_far n next) place bytes answer → BytesFound n next place bytes answer
   unfolding with_string
   bytes_found so_far n next place bytes comes =
       let both = past_refusal (nat_lt (length bytes) n) (cut (so_far bytes) (n - length bytes) (place + length bytes)) (next place (take n bytes) (place + n) (drop n bytes)) (unrefused Truncated (place + length bytes)) comes in
@@ -114,22 +114,22 @@ module _ (answer : Answer) (unrefused : NotRefused answer) where
 
   -- ---- tests
 
-  pub unless_fault_found : (so_far : SoFar) (at : ℕ) (fault : Option Reason) (phase : Phase) (place : ℕ) (bytes : List ℕ) → Comes (unless_fault so_far at fault phase) place bytes answer → (fault ≡ None) × Comes phase place bytes answer
+  pub unless_fault_found : (so_far : Findings) (at : ℕ) (fault : Option Reason) (phase : Phase) (place : ℕ) (bytes : List ℕ) → Comes (unless_fault so_far at fault phase) place bytes answer → (fault ≡ None) × Comes phase place bytes answer
   unless_fault_found so_far at (Some reason) phase place bytes comes = absurd (unrefused reason at comes)
   unless_fault_found so_far at None phase place bytes comes = (refl, comes)
 
-  pub unless_found : (so_far : SoFar) (fault : Option Refusal) (phase : Phase) (place : ℕ) (bytes : List ℕ) → Comes (unless so_far fault phase) place bytes answer → (fault ≡ None) × Comes phase place bytes answer
+  pub unless_found : (so_far : Findings) (fault : Option Refusal) (phase : Phase) (place : ℕ) (bytes : List ℕ) → Comes (unless so_far fault phase) place bytes answer → (fault ≡ None) × Comes phase place bytes answer
   unless_found so_far (Some refusal) phase place bytes comes = absurd (unrefused refusal.reason refusal.place comes)
   unless_found so_far None phase place bytes comes = (refl, comes)
 
-  pub value_found : {A : Type 0} (so_far : SoFar) (value : Result A Refusal) (next : A → Phase) (place : ℕ) (bytes : List ℕ) → Comes (with_value so_far value next) place bytes answer → ValueFound value next place bytes answer
+  pub value_found : {A : Type 0} (so_far : Findings) (value : Result A Refusal) (next : A → Phase) (place : ℕ) (bytes : List ℕ) → Comes (with_value so_far value next) place bytes answer → ValueFound value next place bytes answer
   value_found so_far (Err refusal) next place bytes comes = absurd (unrefused refusal.reason refusal.place comes)
   value_found so_far (Ok x) next place bytes comes = record { found = x; is = refl; comes = comes }
 
   module _ (laws : SpellingLaws) where
     -- ---- a head
 
-    past_head_found : (so_far : SoFar) (next : Next Head) (place : ℕ) (bytes : List ℕ) (step : HeadStep) → bare_head bytes ≡ step → (past_head so_far next place bytes step).answer ≡ answer → HeadFound next place bytes answer
+    past_head_found : (so_far : Findings) (next : Next Head) (place : ℕ) (bytes : List ℕ) (step : HeadStep) → bare_head bytes ≡ step → (past_head so_far next place bytes step).answer ≡ answer → HeadFound next place bytes answer
     past_head_found so_far next place bytes (Got head used) e comes =
         let s : SpellsHead bytes head used = (laws.head bytes head used).0 e in
         let long : length s.part ≡ used = s.wide ∙ sym s.ends in
@@ -146,13 +146,13 @@ module _ (answer : Answer) (unrefused : NotRefused answer) where
     past_head_found so_far next place bytes (More wanted) e comes = absurd (unrefused Truncated (place + length bytes) comes)
     past_head_found so_far next place bytes (Fault reason) e comes = absurd (unrefused reason place comes)
 
-    pub head_found : (so_far : SoFar) (next : Next Head) (place : ℕ) (bytes : List ℕ) → Comes (with_head so_far next) place bytes answer → HeadFound next place bytes answer
+    pub head_found : (so_far : Findings) (next : Next Head) (place : ℕ) (bytes : List ℕ) → Comes (with_head so_far next) place bytes answer → HeadFound next place bytes answer
     unfolding with_head
     head_found so_far next place bytes comes = past_head_found so_far next place bytes (bare_head bytes) refl comes
 
     -- ---- an item
 
-    past_item_found : (so_far : ℕ → SoFar) (still : Open) (room nesting : ℕ) (next : Next (List ℕ)) (place : ℕ) (bytes : List ℕ) (outcome : Outcome Item) → read nesting (left_of bytes room 0) ≡ outcome → (past_item so_far still next place bytes outcome).answer ≡ answer → ItemFound room nesting next place bytes answer
+    past_item_found : (so_far : ℕ → Findings) (still : Open) (room nesting : ℕ) (next : Next (List ℕ)) (place : ℕ) (bytes : List ℕ) (outcome : Outcome Item) → read nesting (left_of bytes room 0) ≡ outcome → (past_item so_far still next place bytes outcome).answer ≡ answer → ItemFound room nesting next place bytes answer
     past_item_found so_far still room nesting next place bytes (Ok found) e comes =
         let s : IsSpelled nesting (left_of bytes room 0) found.0 found.1 = (laws.item nesting (left_of bytes room 0) found.0 found.1).0 e in
         let long : length s.0.part ≡ found.1.place = sym (zero-add (length s.0.part)) ∙ sym s.0.place in
@@ -173,17 +173,17 @@ module _ (answer : Answer) (unrefused : NotRefused answer) where
     past_item_found so_far still room nesting next place bytes (Err refusal) e comes = absurd (both_refused (is_truncated refusal.reason) (cut (so_far still.items) (max 1 still.content) (place + length bytes)) (stop (so_far 0) refusal.reason (place + refusal.place))
         (unrefused Truncated (place + length bytes)) (unrefused refusal.reason (place + refusal.place)) comes)
 
-    pub item_found : (so_far : ℕ → SoFar) (room nesting : ℕ) (next : Next (List ℕ)) (place : ℕ) (bytes : List ℕ) → Comes (with_item so_far room nesting next) place bytes answer → ItemFound room nesting next place bytes answer
+    pub item_found : (so_far : ℕ → Findings) (room nesting : ℕ) (next : Next (List ℕ)) (place : ℕ) (bytes : List ℕ) → Comes (with_item so_far room nesting next) place bytes answer → ItemFound room nesting next place bytes answer
     unfolding with_item
     item_found so_far room nesting next place bytes comes = past_item_found so_far (open_after room nesting bytes) room nesting next place bytes (read nesting (left_of bytes room 0)) refl comes
 
     -- ---- a byte string
 
     -- The form of the three phases that have one: its head, which is tested, and then the bytes that it announces.
-    abbrev pub string_form : SoFar → (List ℕ → SoFar) → (Head → Option Reason) → (ℕ → Next (List ℕ)) → Phase
+    abbrev pub string_form : Findings → (List ℕ → Findings) → (Head → Option Reason) → (ℕ → Next (List ℕ)) → Phase
     string_form so_far along fault next = with_head so_far (λ at head. unless_fault so_far at (fault head) (with_string along head.arg (next at)))
 
-    pub string_found : (so_far : SoFar) (along : List ℕ → SoFar) (fault : Head → Option Reason) (Fits : ℕ → Type 0) → ((head : Head) → fault head ≡ None → (head.major ≡ 2) × Fits head.arg)
+    pub string_found : (so_far : Findings) (along : List ℕ → Findings) (fault : Head → Option Reason) (Fits : ℕ → Type 0) → ((head : Head) → fault head ≡ None → (head.major ≡ 2) × Fits head.arg)
         → (next : ℕ → Next (List ℕ)) (place : ℕ) (bytes : List ℕ) → Comes (string_form so_far along fault next) place bytes answer → StringFound Fits next place bytes answer
     string_found so_far along fault Fits good next place bytes comes =
         let h = head_found so_far (λ at head. unless_fault so_far at (fault head) (with_string along head.arg (next at))) place bytes comes in

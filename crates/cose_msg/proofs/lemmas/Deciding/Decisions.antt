@@ -26,7 +26,7 @@ use Rattle.cose_msg.specs.Laws.{then_verified}
 use Rattle.cose_msg.specs.Message.{Decides, Setting, digest_signed, judged, structure, verified}
 use Rattle.cose_msg.specs.Phase.{awaits_decision, ends_at, is_settled}
 use Rattle.cose_msg.specs.Phases.{headers_so_far}
-use Rattle.cose_msg.specs.Reading.{Reading, SoFar, settled}
+use Rattle.cose_msg.specs.Reading.{Reading, Findings, settled}
 use Rattle.cose_msg.specs.Run.{SaysCount, inspection}
 use Rattle.cose_msg.specs.Shown.{SignInput, Shown, held_input, input_in, pairs_at, shown_in, shown_by, sign_input_in}
 use Rattle.cose_msg.specs.Status.{is_open, status_of_phase}
@@ -95,7 +95,7 @@ module _ {H D : ℕ} {task : Task} {B : List ℕ} {n : ℕ} {v : Reader H D} {re
 abbrev pub IsDone : Reading → Type 0
 IsDone reading = (reading.settled ≡ true) × (reading.payload_wanted ≡ 0)
 
-module _ {H D : ℕ} (task : Task) (known : Known) (so_far : SoFar) (n : ℕ) (v : Reader H D) where
+module _ {H D : ℕ} (task : Task) (known : Known) (so_far : Findings) (n : ℕ) (v : Reader H D) where
   left : Phase → Reading
   left phase = left_in (rules_of H D task) known so_far v phase []
 
@@ -155,7 +155,7 @@ reads_on_inspected {H} {D} {task} {B} {n} {v} {reading} shown h e =
 
 -- ---- no answer yet
 
-module _ {H D : ℕ} (setting : Setting) (known : Known) (so_far : SoFar) (n : ℕ) (v : Reader H D) where
+module _ {H D : ℕ} (setting : Setting) (known : Known) (so_far : Findings) (n : ℕ) (v : Reader H D) where
   open_without_verdict : (phase : Phase) → HoldsIn (to_verify setting) known so_far n v phase → verdict_in phase ≡ None → awaits_decision phase ≡ false → is_open (status_of_phase phase) ≡ true
   open_without_verdict (phases.Settled verdict) h none e = absurd cc
   open_without_verdict (phases.Decided verdict) h none e = absurd h
@@ -219,7 +219,7 @@ open_shows_no_input (phases.Shaped p) held e = refl
 
 -- ---- where the message ends
 
-module _ {H D : ℕ} (task : Task) (known : Known) (so_far : SoFar) (n : ℕ) (v : Reader H D) (waits : ItemWaits v) where
+module _ {H D : ℕ} (task : Task) (known : Known) (so_far : Findings) (n : ℕ) (v : Reader H D) (waits : ItemWaits v) where
   ended_unsettled : (phase : Phase) → HoldsIn task known so_far n v phase → is_settled phase ≡ false → (left task known so_far n v phase).answer ≡ refused Truncated (ends_at phase n)
   unfolding left here
   ended_unsettled phase h e = truncated_in task known so_far n v waits phase h e ∙ ap (refused Truncated) (sym (unsettled_ends phase n e))
@@ -263,7 +263,7 @@ shown_alike : (p q : Option (List Pair)) (r t : Option (List Pair)) (x y : Optio
     → shown p r x m ≡ shown q t y n
 shown_alike p q r t x y m n e f g h = rw (e, f, g, h) refl
 
-module _ {H D : ℕ} (task : Task) (known : Known) (so_far : SoFar) (n : ℕ) (v : Reader H D) (waits : ItemWaits v) where
+module _ {H D : ℕ} (task : Task) (known : Known) (so_far : Findings) (n : ℕ) (v : Reader H D) (waits : ItemWaits v) where
   open_input : (phase : Phase) → HoldsIn task known so_far n v phase → is_settled phase ≡ false → is_open (status_of_phase phase) ≡ true → input_in phase (held_input v) ≡ sign_input_in task.setting.aad (left task known so_far n v phase).answer
   unfolding left here
   open_input phase h unsettled e = open_shows_no_input phase (held_input v) e ∙ sym (ap (sign_input_in task.setting.aad) (truncated_in task known so_far n v waits phase h unsettled))
@@ -297,7 +297,7 @@ reads_on_shown {H} {D} {task} {B} {n} {v} {reading} waits h came =
     let now = came_known task h.known B h.payload_known came in
     let same : (reading []).so_far ≡ h.so_far = ap (λ (r : Reading). r.so_far) (h.left [] ∙ ends_in task h.known h.so_far n v waits v.phase h.holds now) in
     shown_alike _ _ _ _ _ _ _ _
-    (bucket_shown D h.so_far.protected v.protected_at v.protected.items h.shows.1 ∙ sym (ap (λ (t : SoFar). t.protected) same))
-    (bucket_shown D h.so_far.unprotected v.unprotected_at v.unprotected.items h.shows.2 ∙ sym (ap (λ (t : SoFar). t.unprotected) same))
+    (bucket_shown D h.so_far.protected v.protected_at v.protected.items h.shows.1 ∙ sym (ap (λ (t : Findings). t.protected) same))
+    (bucket_shown D h.so_far.unprotected v.unprotected_at v.unprotected.items h.shows.2 ∙ sym (ap (λ (t : Findings). t.unprotected) same))
     (input_shown task h.known h.so_far n v waits v.phase h.holds now ∙ sym (ap (λ (r : Reading). sign_input_in task.setting.aad r.answer) (h.left [])))
-    (h.shows.3 ∙ sym (ap (λ (t : SoFar). t.open_items) same))
+    (h.shows.3 ∙ sym (ap (λ (t : Findings). t.open_items) same))

@@ -30,7 +30,7 @@ use Rattle.cose_msg.specs.Front.{array_head_fault, past_array_head, array_head, 
 use Rattle.cose_msg.specs.Laws.{ComparingGoesLast, then_compared}
 use Rattle.cose_msg.specs.Message.{Setting, message, as_choice, compared, judged, key_choice_of, past_chosen, question_of, tag_of, uncompared, with_algorithm}
 use Rattle.cose_msg.specs.Phases.{nothing_so_far, protected_so_far, unprotected_so_far, headers_so_far, finish, auth, auth_head_fault, past_auth_head, auth_head, past_payload, payload, payload_head_fault, nil_fault_within, detached_payload, past_payload_head_from, past_payload_head, payload_head, past_choice, key_choice, both_buckets, placed_at, headers_of, past_unprotected, unprotected, past_protected, protected, protected_head_fault, past_protected_head, protected_head}
-use Rattle.cose_msg.specs.Reading.{SoFar, Reading, Phase, Next, awaits, stop, cut, is_truncated, past_head, with_head, with_string, past_item, with_item, unless, unless_fault, with_value, open_after}
+use Rattle.cose_msg.specs.Reading.{Findings, Reading, Phase, Next, awaits, stop, cut, is_truncated, past_head, with_head, with_string, past_item, with_item, unless, unless_fault, with_value, open_after}
 use Rattle.cose_msg.specs.Rules.{Rules}
 use Rattle.cose_msg.specs.Source.{Source, attached, detached}
 use Rattle.cose_msg.specs.Shown.{SignInput, SignaturesAreOfSign1, of_sign1, sign_input_in, signature_in, signed_with}
@@ -45,12 +45,12 @@ module _ (rules : Rules) (ends : (w whole : Whole) → rules.finish w ≡ comple
   abbrev Picks : Phase → Type 0
   Picks phase = (place : ℕ) (bytes : List ℕ) → Picked (phase place bytes).answer
 
-  past_head-picks : (so_far : SoFar) (next : Next Head) → ((at : ℕ) (head : Head) → Picks (next at head)) → (place : ℕ) (bytes : List ℕ) (step : HeadStep) → Picked (past_head so_far next place bytes step).answer
+  past_head-picks : (so_far : Findings) (next : Next Head) → ((at : ℕ) (head : Head) → Picks (next at head)) → (place : ℕ) (bytes : List ℕ) (step : HeadStep) → Picked (past_head so_far next place bytes step).answer
   past_head-picks so_far next h place bytes (Got head used) = h place head (place + used) (drop used bytes)
   past_head-picks so_far next h place bytes (More wanted) = λ whole e. absurd cc
   past_head-picks so_far next h place bytes (Fault reason) = λ whole e. absurd cc
 
-  with_head-picks : (so_far : SoFar) (next : Next Head) → ((at : ℕ) (head : Head) → Picks (next at head)) → Picks (with_head so_far next)
+  with_head-picks : (so_far : Findings) (next : Next Head) → ((at : ℕ) (head : Head) → Picks (next at head)) → Picks (with_head so_far next)
   unfolding with_head
   with_head-picks so_far next h place bytes = past_head-picks so_far next h place bytes (bare_head bytes)
 
@@ -58,27 +58,27 @@ module _ (rules : Rules) (ends : (w whole : Whole) → rules.finish w ≡ comple
   choose-picks true x y p q = p
   choose-picks false x y p q = q
 
-  with_string-picks : (so_far : List ℕ → SoFar) (n : ℕ) (next : Next (List ℕ)) → ((at : ℕ) (string : List ℕ) → Picks (next at string)) → Picks (with_string so_far n next)
+  with_string-picks : (so_far : List ℕ → Findings) (n : ℕ) (next : Next (List ℕ)) → ((at : ℕ) (string : List ℕ) → Picks (next at string)) → Picks (with_string so_far n next)
   unfolding with_string
   with_string-picks so_far n next h place bytes = choose-picks (nat_lt (length bytes) n) (cut (so_far bytes) (n - length bytes) (place + length bytes)) (next place (take n bytes) (place + n) (drop n bytes)) (λ whole e. absurd cc) (h place (take n bytes) (place + n) (drop n bytes))
 
-  past_item-picks : (so_far : ℕ → SoFar) (still : Open) (next : Next (List ℕ)) → ((at : ℕ) (content : List ℕ) → Picks (next at content)) → (place : ℕ) (bytes : List ℕ) (outcome : Outcome Item) → Picked (past_item so_far still next place bytes outcome).answer
+  past_item-picks : (so_far : ℕ → Findings) (still : Open) (next : Next (List ℕ)) → ((at : ℕ) (content : List ℕ) → Picks (next at content)) → (place : ℕ) (bytes : List ℕ) (outcome : Outcome Item) → Picked (past_item so_far still next place bytes outcome).answer
   past_item-picks so_far still next h place bytes (Ok found) = h place (take found.1.place bytes) (place + found.1.place) (drop found.1.place bytes)
   past_item-picks so_far still next h place bytes (Err refusal) = choose-picks (is_truncated refusal.reason) (cut (so_far still.items) (max 1 still.content) (place + length bytes)) (stop (so_far 0) refusal.reason (place + refusal.place)) (λ whole e. absurd cc) (λ whole e. absurd cc)
 
-  with_item-picks : (so_far : ℕ → SoFar) (room nesting : ℕ) (next : Next (List ℕ)) → ((at : ℕ) (content : List ℕ) → Picks (next at content)) → Picks (with_item so_far room nesting next)
+  with_item-picks : (so_far : ℕ → Findings) (room nesting : ℕ) (next : Next (List ℕ)) → ((at : ℕ) (content : List ℕ) → Picks (next at content)) → Picks (with_item so_far room nesting next)
   unfolding with_item
   with_item-picks so_far room nesting next h place bytes = past_item-picks so_far (open_after room nesting bytes) next h place bytes (read nesting (left_of bytes room 0))
 
-  unless_fault-picks : (so_far : SoFar) (at : ℕ) (fault : Option Reason) (phase : Phase) → Picks phase → Picks (unless_fault so_far at fault phase)
+  unless_fault-picks : (so_far : Findings) (at : ℕ) (fault : Option Reason) (phase : Phase) → Picks phase → Picks (unless_fault so_far at fault phase)
   unless_fault-picks so_far at (Some reason) phase h place bytes = λ whole e. absurd cc
   unless_fault-picks so_far at None phase h place bytes = h place bytes
 
-  unless-picks : (so_far : SoFar) (fault : Option Refusal) (phase : Phase) → Picks phase → Picks (unless so_far fault phase)
+  unless-picks : (so_far : Findings) (fault : Option Refusal) (phase : Phase) → Picks phase → Picks (unless so_far fault phase)
   unless-picks so_far (Some refusal) phase h place bytes = λ whole e. absurd cc
   unless-picks so_far None phase h place bytes = h place bytes
 
-  with_value-picks : {A : Type 0} (so_far : SoFar) (value : Result A Refusal) (next : A → Phase) → ((x : A) → Picks (next x)) → Picks (with_value so_far value next)
+  with_value-picks : {A : Type 0} (so_far : Findings) (value : Result A Refusal) (next : A → Phase) → ((x : A) → Picks (next x)) → Picks (with_value so_far value next)
   with_value-picks so_far (Err refusal) next h place bytes = λ whole e. absurd cc
   with_value-picks so_far (Ok x) next h place bytes = h x place bytes
 

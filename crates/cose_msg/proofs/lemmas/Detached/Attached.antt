@@ -11,7 +11,7 @@ use Rattle.cose_msg.specs.Kept.{HasTaken}
 use Rattle.cose_msg.specs.Laws.{AttachedAwaitsNothing, AttachedIsDefinite, MessageIsDefinite}
 use Rattle.cose_msg.specs.Message.{message}
 use Rattle.cose_msg.specs.Phases.{auth, auth_head, auth_head_fault, finish, headers_so_far, past_auth_head, past_payload, past_payload_head_from, payload, payload_head_fault}
-use Rattle.cose_msg.specs.Reading.{Phase, Reading, SoFar, cut, stop}
+use Rattle.cose_msg.specs.Reading.{Phase, Reading, Findings, cut, stop}
 use Rattle.cose_msg.specs.Rules.{Rules}
 use Rattle.cose_msg.specs.Source.{Source, attached, detached, is_detached_from, source_with, with_came}
 use Rattle.cose_msg.specs.Status.{status_of_answer, status_of_reading}
@@ -25,10 +25,10 @@ use Rattle.cose_msg.proofs.lemmas.Detached.PayloadElsewhere.{Goes, first_head-go
 abbrev AwaitsNothing : Reading → Reading → Type 0
 AwaitsNothing reading other = reading.payload_wanted ≡ 0
 
-cuts : (so_far : SoFar) (wanted place : ℕ) → AwaitsNothing (cut so_far wanted place) (cut so_far wanted place)
+cuts : (so_far : Findings) (wanted place : ℕ) → AwaitsNothing (cut so_far wanted place) (cut so_far wanted place)
 cuts so_far wanted place = refl
 
-stops : (so_far : SoFar) (reason : Reason) (place : ℕ) → AwaitsNothing (stop so_far reason place) (stop so_far reason place)
+stops : (so_far : Findings) (reason : Reason) (place : ℕ) → AwaitsNothing (stop so_far reason place) (stop so_far reason place)
 stops so_far reason place = refl
 
 abbrev Never : Phase → Type 0

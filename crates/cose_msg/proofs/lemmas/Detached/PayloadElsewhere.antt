@@ -23,23 +23,23 @@ use Rattle.cose_msg.specs.declared.context.Wanted.TheVariants as wants
 use Rattle.cose_msg.specs.Answer.{Answer, Chosen, Headers, Whole}
 use Rattle.cose_msg.specs.Front.{array_head_fault, past_array_head, array_head, kind_of_tag, past_tag, tag_after_cwt, past_second_head, second_head, past_untagged, is_cwt_tag, is_tag, is_array, past_first_head, first_head}
 use Rattle.cose_msg.specs.Phases.{nothing_so_far, protected_so_far, unprotected_so_far, headers_so_far, past_payload_head, payload_head, past_choice, key_choice, both_buckets, placed_at, headers_of, past_unprotected, unprotected, past_protected, protected, protected_head_fault, past_protected_head, protected_head}
-use Rattle.cose_msg.specs.Reading.{SoFar, Reading, Phase, Next, stop, cut, past_head, with_head, with_string, is_truncated, past_item, with_item, unless, unless_fault, with_value, open_after}
+use Rattle.cose_msg.specs.Reading.{Findings, Reading, Phase, Next, stop, cut, past_head, with_head, with_string, is_truncated, past_item, with_item, unless, unless_fault, with_value, open_after}
 use Rattle.cose_msg.specs.Rules.{Rules}
 use Rattle.cose_msg.specs.Source.{Source}
 
-module _ (R : Reading → Reading → Type 0) (cuts : (so_far : SoFar) (wanted place : ℕ) → R (cut so_far wanted place) (cut so_far wanted place)) (stops : (so_far : SoFar) (reason : Reason) (place : ℕ) → R (stop so_far reason place) (stop so_far reason place)) where
+module _ (R : Reading → Reading → Type 0) (cuts : (so_far : Findings) (wanted place : ℕ) → R (cut so_far wanted place) (cut so_far wanted place)) (stops : (so_far : Findings) (reason : Reason) (place : ℕ) → R (stop so_far reason place) (stop so_far reason place)) where
   -- It holds of what two phases read.
   abbrev pub Goes : Phase → Phase → Type 0
   Goes phase other = (place : ℕ) (bytes : List ℕ) → R (phase place bytes) (other place bytes)
 
   -- ---- the forms
 
-  pub past_head-goes : (so_far : SoFar) (next other : Next Head) → ((at : ℕ) (head : Head) → Goes (next at head) (other at head)) → (place : ℕ) (bytes : List ℕ) (step : HeadStep) → R (past_head so_far next place bytes step) (past_head so_far other place bytes step)
+  pub past_head-goes : (so_far : Findings) (next other : Next Head) → ((at : ℕ) (head : Head) → Goes (next at head) (other at head)) → (place : ℕ) (bytes : List ℕ) (step : HeadStep) → R (past_head so_far next place bytes step) (past_head so_far other place bytes step)
   past_head-goes so_far next other h place bytes (Got head used) = h place head (place + used) (drop used bytes)
   past_head-goes so_far next other h place bytes (More wanted) = cuts so_far 1 (place + length bytes)
   past_head-goes so_far next other h place bytes (Fault reason) = stops so_far reason place
 
-  pub with_head-goes : (so_far : SoFar) (next other : Next Head) → ((at : ℕ) (head : Head) → Goes (next at head) (other at head)) → Goes (with_head so_far next) (with_head so_far other)
+  pub with_head-goes : (so_far : Findings) (next other : Next Head) → ((at : ℕ) (head : Head) → Goes (next at head) (other at head)) → Goes (with_head so_far next) (with_head so_far other)
   unfolding with_head
   with_head-goes so_far next other h place bytes = past_head-goes so_far next other h place bytes (bare_head bytes)
 
@@ -47,27 +47,27 @@ module _ (R : Reading → Reading → Type 0) (cuts : (so_far : SoFar) (wanted p
   choose-goes true x y x' y' p q = p
   choose-goes false x y x' y' p q = q
 
-  pub with_string-goes : (so_far : List ℕ → SoFar) (n : ℕ) (next other : Next (List ℕ)) → ((at : ℕ) (string : List ℕ) → Goes (next at string) (other at string)) → Goes (with_string so_far n next) (with_string so_far n other)
+  pub with_string-goes : (so_far : List ℕ → Findings) (n : ℕ) (next other : Next (List ℕ)) → ((at : ℕ) (string : List ℕ) → Goes (next at string) (other at string)) → Goes (with_string so_far n next) (with_string so_far n other)
   unfolding with_string
   with_string-goes so_far n next other h place bytes = choose-goes (nat_lt (length bytes) n) (cut (so_far bytes) (n - length bytes) (place + length bytes)) (next place (take n bytes) (place + n) (drop n bytes)) _ _ (cuts (so_far bytes) (n - length bytes) (place + length bytes)) (h place (take n bytes) (place + n) (drop n bytes))
 
-  pub past_item-goes : (so_far : ℕ → SoFar) (still : Open) (next other : Next (List ℕ)) → ((at : ℕ) (content : List ℕ) → Goes (next at content) (other at content)) → (place : ℕ) (bytes : List ℕ) (outcome : Outcome Item) → R (past_item so_far still next place bytes outcome) (past_item so_far still other place bytes outcome)
+  pub past_item-goes : (so_far : ℕ → Findings) (still : Open) (next other : Next (List ℕ)) → ((at : ℕ) (content : List ℕ) → Goes (next at content) (other at content)) → (place : ℕ) (bytes : List ℕ) (outcome : Outcome Item) → R (past_item so_far still next place bytes outcome) (past_item so_far still other place bytes outcome)
   past_item-goes so_far still next other h place bytes (Ok found) = h place (take found.1.place bytes) (place + found.1.place) (drop found.1.place bytes)
   past_item-goes so_far still next other h place bytes (Err refusal) = choose-goes (is_truncated refusal.reason) (cut (so_far still.items) (max 1 still.content) (place + length bytes)) (stop (so_far 0) refusal.reason (place + refusal.place)) _ _ (cuts (so_far still.items) (max 1 still.content) (place + length bytes)) (stops (so_far 0) refusal.reason (place + refusal.place))
 
-  pub with_item-goes : (so_far : ℕ → SoFar) (room depth : ℕ) (next other : Next (List ℕ)) → ((at : ℕ) (content : List ℕ) → Goes (next at content) (other at content)) → Goes (with_item so_far room depth next) (with_item so_far room depth other)
+  pub with_item-goes : (so_far : ℕ → Findings) (room depth : ℕ) (next other : Next (List ℕ)) → ((at : ℕ) (content : List ℕ) → Goes (next at content) (other at content)) → Goes (with_item so_far room depth next) (with_item so_far room depth other)
   unfolding with_item
   with_item-goes so_far room depth next other h place bytes = past_item-goes so_far (open_after room depth bytes) next other h place bytes (read depth (left_of bytes room 0))
 
-  pub unless_fault-goes : (so_far : SoFar) (at : ℕ) (fault : Option Reason) (phase other : Phase) → Goes phase other → Goes (unless_fault so_far at fault phase) (unless_fault so_far at fault other)
+  pub unless_fault-goes : (so_far : Findings) (at : ℕ) (fault : Option Reason) (phase other : Phase) → Goes phase other → Goes (unless_fault so_far at fault phase) (unless_fault so_far at fault other)
   unless_fault-goes so_far at (Some reason) phase other h = λ place bytes. stops so_far reason at
   unless_fault-goes so_far at None phase other h = h
 
-  pub unless-goes : (so_far : SoFar) (fault : Option Refusal) (phase other : Phase) → Goes phase other → Goes (unless so_far fault phase) (unless so_far fault other)
+  pub unless-goes : (so_far : Findings) (fault : Option Refusal) (phase other : Phase) → Goes phase other → Goes (unless so_far fault phase) (unless so_far fault other)
   unless-goes so_far (Some refusal) phase other h = λ place bytes. stops so_far refusal.reason refusal.place
   unless-goes so_far None phase other h = h
 
-  pub with_value-goes : {A : Type 0} (so_far : SoFar) (value : Result A Refusal) (next other : A → Phase) → ((x : A) → Goes (next x) (other x)) → Goes (with_value so_far value next) (with_value so_far value other)
+  pub with_value-goes : {A : Type 0} (so_far : Findings) (value : Result A Refusal) (next other : A → Phase) → ((x : A) → Goes (next x) (other x)) → Goes (with_value so_far value next) (with_value so_far value other)
   with_value-goes so_far (Ok x) next other h = h x
   with_value-goes so_far (Err refusal) next other h = λ place bytes. stops so_far refusal.reason refusal.place
 

@@ -9,7 +9,7 @@ use Rattle.cose_msg.specs.Answer.{Chosen, Headers}
 use Rattle.cose_msg.specs.Laws.{OpenStays, PayloadStays, receiving}
 use Rattle.cose_msg.specs.Message.{message}
 use Rattle.cose_msg.specs.Phases.{headers_so_far, auth_head, nil_fault_within, detached_payload, past_payload_head_from}
-use Rattle.cose_msg.specs.Reading.{SoFar, Reading, awaits, stop, cut}
+use Rattle.cose_msg.specs.Reading.{Findings, Reading, awaits, stop, cut}
 use Rattle.cose_msg.specs.Rules.{Rules}
 use Rattle.cose_msg.specs.Source.{Source, attached, detached, with_came}
 use Rattle.cose_msg.proofs.lemmas.Detached.PayloadElsewhere.{Goes, first_head-goes, unless_fault-goes}
@@ -18,10 +18,10 @@ use Rattle.cose_msg.proofs.lemmas.Detached.PayloadElsewhere.{Goes, first_head-go
 abbrev Keeps : Reading → Reading → Type 0
 Keeps reading other = (reading.payload_wanted ≡ 0 → other ≡ reading) × (reading.settled ≡ false → other ≡ reading)
 
-cuts : (so_far : SoFar) (wanted place : ℕ) → Keeps (cut so_far wanted place) (cut so_far wanted place)
+cuts : (so_far : Findings) (wanted place : ℕ) → Keeps (cut so_far wanted place) (cut so_far wanted place)
 cuts so_far wanted place = (λ none. refl, λ unsettled. refl)
 
-stops : (so_far : SoFar) (reason : Reason) (place : ℕ) → Keeps (stop so_far reason place) (stop so_far reason place)
+stops : (so_far : Findings) (reason : Reason) (place : ℕ) → Keeps (stop so_far reason place) (stop so_far reason place)
 stops so_far reason place = (λ none. refl, λ unsettled. refl)
 
 module _ (came more : List ℕ) (rules : Rules) (source other : Source) where

@@ -9,18 +9,18 @@ use Rattle.cose_msg.specs.declared.reader.Reader.{Reader}
 use Rattle.cose_msg.specs.Answer.{Chosen, Headers}
 use Rattle.cose_msg.specs.Phase.{in_payload, want_of}
 use Rattle.cose_msg.specs.Phases.{headers_so_far, finish, auth, auth_head, auth_head_fault, past_auth_head, past_payload}
-use Rattle.cose_msg.specs.Reading.{Reading, SoFar}
+use Rattle.cose_msg.specs.Reading.{Reading, Findings}
 use Rattle.cose_msg.specs.Rules.{Rules}
 use Rattle.cose_msg.specs.Source.{with_came}
 use Rattle.cose_msg.specs.Task.{Task, given_to, rules_of}
 use Rattle.cose_msg.specs.Reader.{HoldsIn, Known, StandsFor, left_in}
 use Rattle.cose_msg.proofs.lemmas.Reader.Steps.{string_whole}
-use Rattle.cose_msg.proofs.lemmas.Reading.SoFarForms.{HoldsThroughout, unless_fault-holds, with_head-holds, with_string-holds}
+use Rattle.cose_msg.proofs.lemmas.Reading.FindingForms.{HoldsThroughout, unless_fault-holds, with_head-holds, with_string-holds}
 use Rattle.cose_msg.proofs.lemmas.Reader.Waits.{came_known, fewer, nil_awaits, string_waits}
 
 -- ---- after the payload
 
-abbrev Is : List ℕ → SoFar → Type 0
+abbrev Is : List ℕ → Findings → Type 0
 Is B so_far = so_far.payload ≡ B
 
 auth-holds : (rules : Rules) (headers : Headers) (chosen : Option Chosen) (B : List ℕ) (at n : ℕ) → HoldsThroughout (Is B) (auth rules headers chosen B at n)
@@ -32,12 +32,12 @@ auth_head-holds rules headers chosen B = with_head-holds (Is B) (headers_so_far 
 
 -- ---- the phases
 
-none_known : {A : Type 0} (so_far other : SoFar) → so_far ≡ other → other.payload ≡ [] → 0 < length so_far.payload → A
+none_known : {A : Type 0} (so_far other : Findings) → so_far ≡ other → other.payload ≡ [] → 0 < length so_far.payload → A
 none_known so_far other e none some =
-    let empty : length so_far.payload ≡ 0 = ap length (ap (λ (t : SoFar). t.payload) e ∙ none) in
+    let empty : length so_far.payload ≡ 0 = ap length (ap (λ (t : Findings). t.payload) e ∙ none) in
     absurd (omega (arith, empty, some))
 
-module _ {H D : ℕ} (task : Task) (known : Known) (so_far : SoFar) (n : ℕ) (v : Reader H D) where
+module _ {H D : ℕ} (task : Task) (known : Known) (so_far : Findings) (n : ℕ) (v : Reader H D) where
   -- Where the phase isn't the payload, nothing is added to the payload.
   fixed_in : (phase : Phase) → HoldsIn task known so_far n v phase → in_payload phase ≡ false → known.payload ≡ so_far.payload → with_came known.payload task.setting.source ≡ task.setting.source → 0 < length so_far.payload → (more : List ℕ) →
       (left_in (rules_of H D task) known so_far v phase more).so_far.payload ≡ so_far.payload

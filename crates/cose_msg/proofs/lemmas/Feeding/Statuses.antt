@@ -15,7 +15,7 @@ use Rattle.cose_msg.specs.Answer.{Answer, decided, complete, shaped}
 use Rattle.cose_msg.specs.Kept.{HasTaken, answer_kept}
 use Rattle.cose_msg.specs.Message.{message}
 use Rattle.cose_msg.specs.Phase.{is_settled, payload_want_of}
-use Rattle.cose_msg.specs.Reading.{Reading, SoFar}
+use Rattle.cose_msg.specs.Reading.{Reading, Findings}
 use Rattle.cose_msg.specs.Status.{is_complete, is_open, status_of_phase, status_in, status_left, status_of_reading, status_of_answer}
 use Rattle.cose_msg.specs.Task.{Task, rules_of}
 use Rattle.cose_msg.specs.Reader.{HoldsIn, Known, StandsFor, left_in}
@@ -29,7 +29,7 @@ open_status reading e none = rw (none, e) refl
 awaiting_status : (reading : Reading) (missing : ℕ) → reading.payload_wanted ≡ missing → 0 < missing → PayloadNext ≡ status_of_reading reading
 awaiting_status reading missing e some = rw (e, lt-ltb 0 missing some) refl
 
-module _ {H D : ℕ} (task : Task) (known : Known) (so_far : SoFar) (n : ℕ) (v : Reader H D) where
+module _ {H D : ℕ} (task : Task) (known : Known) (so_far : Findings) (n : ℕ) (v : Reader H D) where
   status_here : (phase : Phase) (reading : Reading) → HoldsIn task known so_far n v phase → reading ≡ left_in (rules_of H D task) known so_far v phase [] → reading.settled ≡ is_settled phase → reading.payload_wanted ≡ payload_want_of phase → status_of_phase phase ≡ status_of_reading reading
   status_here phases.FirstHead reading h e same none = open_status reading same none
   status_here (phases.TagHead p) reading h e same none = open_status reading same none

@@ -6,7 +6,7 @@ use Rattle.cose_map.specs.Key.Value.{KeyValue}
 use Rattle.cose_map.specs.Map.Pairs.{Pair}
 use Rattle.cose_msg.specs.declared.context.Terms.{Terms}
 use Rattle.cose_msg.specs.declared.reader.Reader.{Reader}
-use Rattle.cose_msg.specs.Reading.{Reading, SoFar}
+use Rattle.cose_msg.specs.Reading.{Reading, Findings}
 use Rattle.cose_head.specs.Head.{IsMore, bare_head}
 use Rattle.cose_msg.specs.Source.{source_with, with_came}
 use Rattle.cose_msg.specs.Task.{Task, given_to}
@@ -54,8 +54,8 @@ moved {H} {D} {task} {B} {B'} {n} {n'} v new old same_payload same_count same h 
 }
 
 -- What is known may be given by an equal value.
-pub shows_as : {H D : ℕ} (task : Task) (v : Reader H D) (so_far other : SoFar) → so_far ≡ other → Shows task so_far v → Shows task other v
-shows_as task v so_far other same h = subst (λ (t : SoFar). Shows task t v) same h
+pub shows_as : {H D : ℕ} (task : Task) (v : Reader H D) (so_far other : Findings) → so_far ≡ other → Shows task so_far v → Shows task other v
+shows_as task v so_far other same h = subst (λ (t : Findings). Shows task t v) same h
 
 -- One byte more of a head is held, and it isn't whole.
 pub holds_more : (at n byte : ℕ) (held now : List ℕ) → n ≡ at + length held → now ≡ held ++ byte ∷ [] → IsMore (bare_head (held ++ byte ∷ [])) → IsMore (bare_head now) × (n + 1 ≡ at + length now)
@@ -64,8 +64,8 @@ holds_more at n byte held now count kept half =
     rw kept (half, more)
 
 -- A payload that is known is the one so far.
-pub so_far_payload : (so_far other : SoFar) (B : List ℕ) → so_far ≡ other → so_far.payload ≡ B → other.payload ≡ B
-so_far_payload so_far other B same is = sym (ap (λ (t : SoFar). t.payload) same) ∙ is
+pub so_far_payload : (so_far other : Findings) (B : List ℕ) → so_far ≡ other → so_far.payload ≡ B → other.payload ≡ B
+so_far_payload so_far other B same is = sym (ap (λ (t : Findings). t.payload) same) ∙ is
 
 -- A task that is a reader's, with these keys, this length of a detached payload, and for this purpose, before anything of the
 -- payload has come.

@@ -19,21 +19,21 @@ use Rattle.cose_map.specs.Map.View.{refusal_in}
 use Rattle.cose_msg.specs.declared.phase.Phase as code
 use Rattle.cose_msg.specs.declared.phase.Phase.TheVariants as phases
 use Rattle.cose_msg.specs.Phase.{grown, takes_bytes}
-use Rattle.cose_msg.specs.Reading.{SoFar, Phase, Next, stop, is_truncated, with_head, with_string, with_item, with_value}
+use Rattle.cose_msg.specs.Reading.{Findings, Phase, Next, stop, is_truncated, with_head, with_string, with_item, with_value}
 
 -- ---- a head
 
 pub regrouped : (held : List ℕ) (byte : ℕ) (z : List ℕ) → (held ++ byte ∷ []) ++ z ≡ held ++ byte ∷ z
 regrouped held byte z = append_assoc held (byte ∷ []) z
 
-pub head_refused : (so_far : SoFar) (next : Next Head) (place : ℕ) (held : List ℕ) (byte : ℕ) (reason : Reason) → ((more : List ℕ) → bare_head ((held ++ byte ∷ []) ++ more) ≡ Fault reason) → (z : List ℕ) → with_head so_far next place (held ++ byte ∷ z) ≡ stop so_far reason place
+pub head_refused : (so_far : Findings) (next : Next Head) (place : ℕ) (held : List ℕ) (byte : ℕ) (reason : Reason) → ((more : List ℕ) → bare_head ((held ++ byte ∷ []) ++ more) ≡ Fault reason) → (z : List ℕ) → with_head so_far next place (held ++ byte ∷ z) ≡ stop so_far reason place
 unfolding with_head
 head_refused so_far next place held byte reason stays z =
     let e : bare_head (held ++ byte ∷ z) ≡ Fault reason = rw (← regrouped held byte z) (stays z) in
     rw e refl
 
 -- The byte that completes a head is its last.
-pub head_completed : (so_far : SoFar) (next : Next Head) (place : ℕ) (held : List ℕ) (byte : ℕ) (head : Head) (used : ℕ) → ((more : List ℕ) → bare_head ((held ++ byte ∷ []) ++ more) ≡ Got head used) → used ≡ length (held ++ byte ∷ []) → (z : List ℕ) → with_head so_far next place (held ++ byte ∷ z) ≡ next place head (place + used) z
+pub head_completed : (so_far : Findings) (next : Next Head) (place : ℕ) (held : List ℕ) (byte : ℕ) (head : Head) (used : ℕ) → ((more : List ℕ) → bare_head ((held ++ byte ∷ []) ++ more) ≡ Got head used) → used ≡ length (held ++ byte ∷ []) → (z : List ℕ) → with_head so_far next place (held ++ byte ∷ z) ≡ next place head (place + used) z
 unfolding with_head
 head_completed so_far next place held byte head used stays last z =
     let e : bare_head (held ++ byte ∷ z) ≡ Got head used = rw (← regrouped held byte z) (stays z) in
@@ -42,13 +42,13 @@ head_completed so_far next place held byte head used stays last z =
 
 -- ---- a string
 
-pub string_none : (so_far : List ℕ → SoFar) (next : Next (List ℕ)) (place : ℕ) (z : List ℕ) → with_string so_far 0 next place z ≡ next place [] place z
+pub string_none : (so_far : List ℕ → Findings) (next : Next (List ℕ)) (place : ℕ) (z : List ℕ) → with_string so_far 0 next place z ≡ next place [] place z
 unfolding with_string
 string_none so_far next place z =
     let short : nat_lt (length z) 0 ≡ false = le-ltb _ _ (omega arith) in
     rw (short, add-zero) refl
 
-pub string_whole : (so_far : List ℕ → SoFar) (n : ℕ) (next : Next (List ℕ)) (place : ℕ) (held piece : List ℕ) → length (held ++ piece) ≡ n → (z : List ℕ) → with_string so_far n next place (held ++ (piece ++ z)) ≡ next place (held ++ piece) (place + n) z
+pub string_whole : (so_far : List ℕ → Findings) (n : ℕ) (next : Next (List ℕ)) (place : ℕ) (held piece : List ℕ) → length (held ++ piece) ≡ n → (z : List ℕ) → with_string so_far n next place (held ++ (piece ++ z)) ≡ next place (held ++ piece) (place + n) z
 unfolding with_string
 string_whole so_far n next place held piece whole z =
     let e : (held ++ piece) ++ z ≡ held ++ (piece ++ z) = append_assoc held piece z in
@@ -62,13 +62,13 @@ not_truncated Truncated h = absurd (h refl)
 not_truncated _ h = refl
 
 module _ (stays : ReadStays) where
-  pub item_completed : (so_far : ℕ → SoFar) (room depth : ℕ) (next : Next (List ℕ)) (place : ℕ) (held piece : List ℕ) → Answers room (held ++ piece) steps.Done (read depth (left_of (held ++ piece) room 0)) → (z : List ℕ) → with_item so_far room depth next place (held ++ (piece ++ z)) ≡ next place (held ++ piece) (place + length (held ++ piece)) z
+  pub item_completed : (so_far : ℕ → Findings) (room depth : ℕ) (next : Next (List ℕ)) (place : ℕ) (held piece : List ℕ) → Answers room (held ++ piece) steps.Done (read depth (left_of (held ++ piece) room 0)) → (z : List ℕ) → with_item so_far room depth next place (held ++ (piece ++ z)) ≡ next place (held ++ piece) (place + length (held ++ piece)) z
   unfolding with_item
   item_completed so_far room depth next place held piece h z =
       let again : read depth (left_of ((held ++ piece) ++ z) room 0) ≡ Ok (h.0, left_of z (room - length (held ++ piece)) (length (held ++ piece))) = rw h.1 at (stays depth (left_of (held ++ piece) room 0) z (rw h.1 tt)) in
       rw (← append_assoc held piece z, again, take_at (held ++ piece) z (length (held ++ piece)) refl, drop_at (held ++ piece) z (length (held ++ piece)) refl) refl
 
-  pub item_refused : (so_far : ℕ → SoFar) (room depth : ℕ) (next : Next (List ℕ)) (place : ℕ) (held piece : List ℕ) (refusal : Refusal) → Answers room (held ++ piece) (steps.Fault refusal) (read depth (left_of (held ++ piece) room 0)) → (z : List ℕ) → with_item so_far room depth next place (held ++ (piece ++ z)) ≡ stop (so_far 0) refusal.reason (place + refusal.place)
+  pub item_refused : (so_far : ℕ → Findings) (room depth : ℕ) (next : Next (List ℕ)) (place : ℕ) (held piece : List ℕ) (refusal : Refusal) → Answers room (held ++ piece) (steps.Fault refusal) (read depth (left_of (held ++ piece) room 0)) → (z : List ℕ) → with_item so_far room depth next place (held ++ (piece ++ z)) ≡ stop (so_far 0) refusal.reason (place + refusal.place)
   unfolding with_item
   item_refused so_far room depth next place held piece refusal h z =
       let again : read depth (left_of ((held ++ piece) ++ z) room 0) ≡ Err refusal = rw h.0 at (stays depth (left_of (held ++ piece) room 0) z (rw h.0 h.1)) in
@@ -77,7 +77,7 @@ module _ (stays : ReadStays) where
 
 -- ---- a value that a test gives
 
-pub value_refused : {A : Type 0} (so_far : SoFar) (value : Read A) (next : A → Phase) (refusal : Refusal) → refusal_in value ≡ Some refusal → (place : ℕ) (z : List ℕ) → with_value so_far value next place z ≡ stop so_far refusal.reason refusal.place
+pub value_refused : {A : Type 0} (so_far : Findings) (value : Read A) (next : A → Phase) (refusal : Refusal) → refusal_in value ≡ Some refusal → (place : ℕ) (z : List ℕ) → with_value so_far value next place z ≡ stop so_far refusal.reason refusal.place
 value_refused so_far (Ok x) next refusal e place z = absurd cc
 value_refused so_far (Err other) next refusal e place z = let same : other ≡ refusal = cc in rw same refl
 

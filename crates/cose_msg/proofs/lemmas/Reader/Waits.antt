@@ -20,7 +20,7 @@ use Rattle.cose_msg.specs.Answer.{Answer, Chosen, Headers, refused}
 use Rattle.cose_msg.specs.Front.{past_array_head, past_first_head, past_second_head}
 use Rattle.cose_msg.specs.Phase.{in_payload, is_settled, payload_want_of, want_of}
 use Rattle.cose_msg.specs.Phases.{nothing_so_far, unprotected_so_far, headers_so_far, finish, past_auth_head, past_payload, past_payload_head, past_protected, past_protected_head, past_unprotected}
-use Rattle.cose_msg.specs.Reading.{Next, Reading, SoFar, awaits, cut, settled, past_head, open_items_after, wanted_after, with_head, with_item, with_string}
+use Rattle.cose_msg.specs.Reading.{Next, Reading, Findings, awaits, cut, settled, past_head, open_items_after, wanted_after, with_head, with_item, with_string}
 use Rattle.cose_msg.specs.Rules.{Rules}
 use Rattle.cose_msg.specs.Source.{Source, detached, with_came}
 use Rattle.cose_msg.specs.Task.{Task, given_to, rules_of}
@@ -30,22 +30,22 @@ use Rattle.cose_msg.proofs.lemmas.Reader.Steps.{string_whole}
 
 -- ---- the forms
 
-past_more : (so_far : SoFar) (next : Next Head) (place : ℕ) (bytes : List ℕ) (step : HeadStep) → IsMore step → past_head so_far next place bytes step ≡ cut so_far 1 (place + length bytes)
+past_more : (so_far : Findings) (next : Next Head) (place : ℕ) (bytes : List ℕ) (step : HeadStep) → IsMore step → past_head so_far next place bytes step ≡ cut so_far 1 (place + length bytes)
 past_more so_far next place bytes (More wanted) h = refl
 past_more so_far next place bytes (Got head used) h = absurd h
 past_more so_far next place bytes (Fault reason) h = absurd h
 
-pub head_waits : (so_far : SoFar) (next : Next Head) (place : ℕ) (held : List ℕ) → IsMore (bare_head held) → with_head so_far next place (held ++ []) ≡ cut so_far 1 (place + length held)
+pub head_waits : (so_far : Findings) (next : Next Head) (place : ℕ) (held : List ℕ) → IsMore (bare_head held) → with_head so_far next place (held ++ []) ≡ cut so_far 1 (place + length held)
 unfolding with_head
 head_waits so_far next place held half = rw append-nil (past_more so_far next place held (bare_head held) half)
 
-pub string_waits : (so_far : List ℕ → SoFar) (n : ℕ) (next : Next (List ℕ)) (place : ℕ) (bytes : List ℕ) → length bytes < n → with_string so_far n next place bytes ≡ cut (so_far bytes) (n - length bytes) (place + length bytes)
+pub string_waits : (so_far : List ℕ → Findings) (n : ℕ) (next : Next (List ℕ)) (place : ℕ) (bytes : List ℕ) → length bytes < n → with_string so_far n next place bytes ≡ cut (so_far bytes) (n - length bytes) (place + length bytes)
 unfolding with_string
 string_waits so_far n next place bytes lt =
     let short : nat_lt (length bytes) n ≡ true = lt-ltb _ _ lt in
     rw short refl
 
-pub item_waits : (so_far : ℕ → SoFar) (room depth : ℕ) (next : Next (List ℕ)) (place : ℕ) (held : List ℕ) → read depth (left_of held room 0) ≡ refuse Truncated (length held) → with_item so_far room depth next place held ≡ cut (so_far (open_items_after room depth held)) (wanted_after room depth held) (place + length held)
+pub item_waits : (so_far : ℕ → Findings) (room depth : ℕ) (next : Next (List ℕ)) (place : ℕ) (held : List ℕ) → read depth (left_of held room 0) ≡ refuse Truncated (length held) → with_item so_far room depth next place held ≡ cut (so_far (open_items_after room depth held)) (wanted_after room depth held) (place + length held)
 unfolding with_item
 item_waits so_far room depth next place held e = rw e refl
 
@@ -75,7 +75,7 @@ nil_awaits source rules headers chosen B stated left at after z is count some =
     let missing : stated - length B ≡ left = omega (arith, count) in
     rw (is, short, missing) refl
 
-module _ {H D : ℕ} (task : Task) (known : Known) (so_far : SoFar) (n : ℕ) (v : Reader H D) (waits : ItemWaits v) where
+module _ {H D : ℕ} (task : Task) (known : Known) (so_far : Findings) (n : ℕ) (v : Reader H D) (waits : ItemWaits v) where
   -- A phase at the bytes that are held of it.
   unfoldable pub here : Phase → List ℕ → Reading
   here phase z = left_in (rules_of H D task) known so_far v phase z
@@ -88,13 +88,13 @@ module _ {H D : ℕ} (task : Task) (known : Known) (so_far : SoFar) (n : ℕ) (v
   abbrev IsCut : Phase → Type 0
   IsCut phase = here phase [] ≡ cut so_far (want_of phase) n
 
-  cut_as : (reading : Reading) (other : SoFar) (wanted left place : ℕ) → reading ≡ cut other wanted place → so_far ≡ other → wanted ≡ left → n ≡ place → reading ≡ cut so_far left n
+  cut_as : (reading : Reading) (other : Findings) (wanted left place : ℕ) → reading ≡ cut other wanted place → so_far ≡ other → wanted ≡ left → n ≡ place → reading ≡ cut so_far left n
   cut_as reading other wanted left place e same_so_far same_wanted same_place = e ∙ rw (same_so_far, same_wanted, same_place) refl
 
-  head_cut : (phase : Phase) (other : SoFar) (next : Next Head) (at : ℕ) → here phase [] ≡ with_head other next at (v.head.items ++ []) → want_of phase ≡ 1 → so_far ≡ other → HoldsHead at n v → IsCut phase
+  head_cut : (phase : Phase) (other : Findings) (next : Next Head) (at : ℕ) → here phase [] ≡ with_head other next at (v.head.items ++ []) → want_of phase ≡ 1 → so_far ≡ other → HoldsHead at n v → IsCut phase
   head_cut phase other next at e one same h = e ∙ cut_as _ other 1 (want_of phase) _ (head_waits other next at v.head.items h.0) same (sym one) h.1
 
-  string_cut : (phase : Phase) (other : List ℕ → SoFar) (length_of left : ℕ) (next : Next (List ℕ)) (at : ℕ) (held : List ℕ) → here phase [] ≡ with_string other length_of next at (held ++ []) → want_of phase ≡ left → 0 < left → so_far ≡ other held → length held + left ≡ length_of → n ≡ at + length held → IsCut phase
+  string_cut : (phase : Phase) (other : List ℕ → Findings) (length_of left : ℕ) (next : Next (List ℕ)) (at : ℕ) (held : List ℕ) → here phase [] ≡ with_string other length_of next at (held ++ []) → want_of phase ≡ left → 0 < left → so_far ≡ other held → length held + left ≡ length_of → n ≡ at + length held → IsCut phase
   string_cut phase other length_of left next at held e same_left some same count place =
       let lengths : length (held ++ []) ≡ length held = ap length (append-nil held) in
       e ∙ cut_as _ (other (held ++ [])) (length_of - length (held ++ [])) (want_of phase) (at + length (held ++ []))
@@ -136,7 +136,7 @@ module _ {H D : ℕ} (task : Task) (known : Known) (so_far : SoFar) (n : ℕ) (v
   unfolding here
   awaiting_in p h now z =
       nil_awaits task.setting.source (rules_of H D task) known.headers known.chosen known.payload p.length p.left p.at p.after z (sym now ∙ ap (with_came known.payload) h.5.1) h.1 p.some_left
-      ∙ ap (λ (t : SoFar). awaits t p.left p.at) (sym h.0)
+      ∙ ap (λ (t : Findings). awaits t p.left p.at) (sym h.0)
 
   awaits_ends : (p : Detached) → here (phases.Detached p) [] ≡ awaits so_far p.left p.at → EndsAs (phases.Detached p) true
   awaits_ends p e = e ∙ ap (λ (answer : Answer). let reading : Reading = record { answer = answer; settled = true; wanted = 0; payload_wanted = p.left; so_far = so_far } in reading) (sym (ap (λ (r : Reading). r.answer) e))
@@ -144,7 +144,7 @@ module _ {H D : ℕ} (task : Task) (known : Known) (so_far : SoFar) (n : ℕ) (v
   settled_in : (phase : Phase) → HoldsIn task known so_far n v phase → IsNow → is_settled phase ≡ true → EndsAs phase true
   unfolding here
   settled_in (phases.Detached p) h now e = awaits_ends p (awaiting_in p h now [])
-  settled_in (phases.Signed p) h now e = ap (λ (t : SoFar). settled t (here (phases.Signed p) []).answer) (sym h.0)
+  settled_in (phases.Signed p) h now e = ap (λ (t : Findings). settled t (here (phases.Signed p) []).answer) (sym h.0)
   settled_in (phases.Decided verdict) h now e = refl
   settled_in (phases.Settled verdict) h now e = refl
   settled_in (phases.Shaped p) h now e = refl
@@ -179,7 +179,7 @@ module _ {H D : ℕ} (task : Task) (known : Known) (so_far : SoFar) (n : ℕ) (v
   open_at : (phase : Phase) → HoldsIn task known so_far n v phase → is_settled phase ≡ false → want_of phase ≡ 1 → (more : List ℕ) → length more < want_of phase → (here phase more).settled ≡ false
   open_at phase h e one more lt = one_wanted (here phase) more (omega (arith, lt, one)) (ap (λ (r : Reading). r.settled) (cut_in phase h e))
 
-  string_open : (so_far : List ℕ → SoFar) (n : ℕ) (next : Next (List ℕ)) (place : ℕ) (bytes : List ℕ) → length bytes < n → (with_string so_far n next place bytes).settled ≡ false
+  string_open : (so_far : List ℕ → Findings) (n : ℕ) (next : Next (List ℕ)) (place : ℕ) (bytes : List ℕ) → length bytes < n → (with_string so_far n next place bytes).settled ≡ false
   string_open so_far n next place bytes lt = ap (λ (r : Reading). r.settled) (string_waits so_far n next place bytes lt)
 
   open_in : (phase : Phase) → HoldsIn task known so_far n v phase → (more : List ℕ) → length more < want_of phase → (here phase more).settled ≡ false

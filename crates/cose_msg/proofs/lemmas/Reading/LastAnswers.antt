@@ -10,7 +10,7 @@ use Rattle.cose_msg.specs.Answer.{Answer, complete, refused, Chosen, Headers, Wh
 use Rattle.cose_msg.specs.Laws.{answered, then_compared, then_verified, FinishGoesLast, ComparingGoesLast, VerifyingGoesLast}
 use Rattle.cose_msg.specs.Message.{Decides, message, tag_of, judged, compare_tag, compared, verified, uncompared, comparing}
 use Rattle.cose_msg.specs.Phases.{headers_so_far, finish, auth, auth_head_fault, past_auth_head, auth_head, past_payload, payload, payload_head_fault, nil_fault_within, detached_payload, past_payload_head_from}
-use Rattle.cose_msg.specs.Reading.{SoFar, Reading, Phase, settled, awaits, stop, cut}
+use Rattle.cose_msg.specs.Reading.{Findings, Reading, Phase, settled, awaits, stop, cut}
 use Rattle.cose_msg.specs.Rules.{Rules}
 use Rattle.cose_msg.specs.Source.{Source, attached, detached}
 use Rattle.cose_msg.proofs.lemmas.Detached.PayloadElsewhere.{Goes, choose-goes, first_head-goes, unless_fault-goes, with_head-goes, with_string-goes}
@@ -20,13 +20,13 @@ module _ (change : Answer → Answer) (keeps : (reason : Reason) (place : ℕ) �
   abbrev IsChanged : Reading → Reading → Type 0
   IsChanged reading other = other ≡ answered change reading
 
-  cuts : (so_far : SoFar) (wanted place : ℕ) → IsChanged (cut so_far wanted place) (cut so_far wanted place)
+  cuts : (so_far : Findings) (wanted place : ℕ) → IsChanged (cut so_far wanted place) (cut so_far wanted place)
   cuts so_far wanted place = ap (λ (answer : Answer). let reading : Reading = record { answer = answer; settled = false; wanted = wanted; payload_wanted = 0; so_far = so_far } in reading) (sym (keeps Truncated place))
 
-  awaits-follows : (so_far : SoFar) (missing place : ℕ) → IsChanged (awaits so_far missing place) (awaits so_far missing place)
+  awaits-follows : (so_far : Findings) (missing place : ℕ) → IsChanged (awaits so_far missing place) (awaits so_far missing place)
   awaits-follows so_far missing place = ap (λ (answer : Answer). let reading : Reading = record { answer = answer; settled = true; wanted = 0; payload_wanted = missing; so_far = so_far } in reading) (sym (keeps Truncated place))
 
-  stops : (so_far : SoFar) (reason : Reason) (place : ℕ) → IsChanged (stop so_far reason place) (stop so_far reason place)
+  stops : (so_far : Findings) (reason : Reason) (place : ℕ) → IsChanged (stop so_far reason place) (stop so_far reason place)
   stops so_far reason place = ap (settled so_far) (sym (keeps reason place))
 
   abbrev Follows : Phase → Phase → Type 0

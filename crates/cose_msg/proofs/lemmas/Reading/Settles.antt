@@ -26,7 +26,7 @@ use Rattle.cose_msg.specs.Front.{array_head_fault, past_array_head, array_head, 
 use Rattle.cose_msg.specs.Laws.{payload_at_most, payload_inside, AuthIsAtMost, MessageIsBounded}
 use Rattle.cose_msg.specs.Message.{message}
 use Rattle.cose_msg.specs.Phases.{nothing_so_far, protected_so_far, unprotected_so_far, headers_so_far, is_bytes_head, is_nil, is_too_long, finish, auth, auth_head_fault, past_auth_head, auth_head, past_payload, payload, payload_head_fault, nil_fault_within, detached_payload, past_payload_head_from, past_payload_head, payload_head, past_choice, key_choice, both_buckets, placed_at, headers_of, past_unprotected, unprotected, past_protected, protected, protected_head_fault, past_protected_head, protected_head}
-use Rattle.cose_msg.specs.Reading.{SoFar, Reading, Phase, Next, awaits, past_head, with_head, with_string, is_truncated, past_item, with_item, unless, unless_fault, with_value, open_after}
+use Rattle.cose_msg.specs.Reading.{Findings, Reading, Phase, Next, awaits, past_head, with_head, with_string, is_truncated, past_item, with_item, unless, unless_fault, with_value, open_after}
 use Rattle.cose_msg.specs.Rules.{Rules}
 use Rattle.cose_msg.specs.Source.{Source, attached, detached}
 
@@ -45,16 +45,16 @@ by_more n m phase le h place bytes there = h place bytes (omega arith)
 -- ---- the forms
 
 module _ (laws : BoundLaws) where
-  past_head-settles : (so_far : SoFar) (n : ℕ) (next : Next Head) → ((at : ℕ) (head : Head) → Settles n (next at head)) → (place : ℕ) (bytes : List ℕ) → 9 + n ≤ length bytes → (step : HeadStep) → bare_head bytes ≡ step → (past_head so_far next place bytes step).settled ≡ true
+  past_head-settles : (so_far : Findings) (n : ℕ) (next : Next Head) → ((at : ℕ) (head : Head) → Settles n (next at head)) → (place : ℕ) (bytes : List ℕ) → 9 + n ≤ length bytes → (step : HeadStep) → bare_head bytes ≡ step → (past_head so_far next place bytes step).settled ≡ true
   past_head-settles so_far n next h place bytes le (Got head used) e = h place head (place + used) (drop used bytes) (omega (arith, le, (laws.fits bytes head used e).1, length-drop used bytes))
   past_head-settles so_far n next h place bytes le (More wanted) e = absurd (omega (arith, le, laws.short bytes (rw e tt)))
   past_head-settles so_far n next h place bytes le (Fault reason) e = refl
 
-  with_head-settles : (so_far : SoFar) (n : ℕ) (next : Next Head) → ((at : ℕ) (head : Head) → Settles n (next at head)) → Settles (9 + n) (with_head so_far next)
+  with_head-settles : (so_far : Findings) (n : ℕ) (next : Next Head) → ((at : ℕ) (head : Head) → Settles n (next at head)) → Settles (9 + n) (with_head so_far next)
   unfolding with_head
   with_head-settles so_far n next h place bytes le = past_head-settles so_far n next h place bytes le (bare_head bytes) refl
 
-with_string-settles : (so_far : List ℕ → SoFar) (n m : ℕ) (next : Next (List ℕ)) → ((at : ℕ) (string : List ℕ) → Settles m (next at string)) → Settles (n + m) (with_string so_far n next)
+with_string-settles : (so_far : List ℕ → Findings) (n m : ℕ) (next : Next (List ℕ)) → ((at : ℕ) (string : List ℕ) → Settles m (next at string)) → Settles (n + m) (with_string so_far n next)
 unfolding with_string
 with_string-settles so_far n m next h place bytes le =
     let long : nat_lt (length bytes) n ≡ false = le-ltb _ _ (omega (arith, le)) in
@@ -69,7 +69,7 @@ either-settled true x y p q = p refl
 either-settled false x y p q = q
 
 module _ (laws : BoundLaws) where
-  past_item-settles : (so_far : ℕ → SoFar) (still : Open) (room n : ℕ) (next : Next (List ℕ)) → ((at : ℕ) (content : List ℕ) → Settles n (next at content)) → (place : ℕ) (bytes : List ℕ) → room + n ≤ length bytes → (outcome : Outcome Item)
+  past_item-settles : (so_far : ℕ → Findings) (still : Open) (room n : ℕ) (next : Next (List ℕ)) → ((at : ℕ) (content : List ℕ) → Settles n (next at content)) → (place : ℕ) (bytes : List ℕ) → room + n ≤ length bytes → (outcome : Outcome Item)
       → Steps 1 (left_of bytes room 0) outcome → (past_item so_far still next place bytes outcome).settled ≡ true
   past_item-settles so_far still room n next h place bytes le (Ok found) step =
       let used : found.1.place ≡ 0 + step.used = ap (λ (l : Left). l.place) step.left in
@@ -77,19 +77,19 @@ module _ (laws : BoundLaws) where
   past_item-settles so_far still room n next h place bytes le (Err refusal) step =
       either-settled (is_truncated refusal.reason) _ _ (λ truncated. absurd (omega (arith, le, (step.ended (truncated_is refusal.reason truncated)).1))) refl
 
-  with_item-settles : (so_far : ℕ → SoFar) (room depth n : ℕ) (next : Next (List ℕ)) → ((at : ℕ) (content : List ℕ) → Settles n (next at content)) → Settles (room + n) (with_item so_far room depth next)
+  with_item-settles : (so_far : ℕ → Findings) (room depth n : ℕ) (next : Next (List ℕ)) → ((at : ℕ) (content : List ℕ) → Settles n (next at content)) → Settles (room + n) (with_item so_far room depth next)
   unfolding with_item
   with_item-settles so_far room depth n next h place bytes le = past_item-settles so_far (open_after room depth bytes) room n next h place bytes le (read depth (left_of bytes room 0)) (laws.steps depth (left_of bytes room 0))
 
-unless_fault-settles : (so_far : SoFar) (at n : ℕ) (fault : Option Reason) (phase : Phase) → (fault ≡ None → Settles n phase) → Settles n (unless_fault so_far at fault phase)
+unless_fault-settles : (so_far : Findings) (at n : ℕ) (fault : Option Reason) (phase : Phase) → (fault ≡ None → Settles n phase) → Settles n (unless_fault so_far at fault phase)
 unless_fault-settles so_far at n (Some reason) phase h = λ place bytes le. refl
 unless_fault-settles so_far at n None phase h = h refl
 
-unless-settles : (so_far : SoFar) (fault : Option Refusal) (phase : Phase) (place : ℕ) (bytes : List ℕ) → (phase place bytes).settled ≡ true → (unless so_far fault phase place bytes).settled ≡ true
+unless-settles : (so_far : Findings) (fault : Option Refusal) (phase : Phase) (place : ℕ) (bytes : List ℕ) → (phase place bytes).settled ≡ true → (unless so_far fault phase place bytes).settled ≡ true
 unless-settles so_far (Some refusal) phase place bytes h = refl
 unless-settles so_far None phase place bytes h = h
 
-with_value-settles : {A : Type 0} (so_far : SoFar) (value : Result A Refusal) (next : A → Phase) (n : ℕ) → ((x : A) → Settles n (next x)) → Settles n (with_value so_far value next)
+with_value-settles : {A : Type 0} (so_far : Findings) (value : Result A Refusal) (next : A → Phase) (n : ℕ) → ((x : A) → Settles n (next x)) → Settles n (with_value so_far value next)
 with_value-settles so_far (Ok x) next n h = h x
 with_value-settles so_far (Err refusal) next n h = λ place bytes le. refl
 

@@ -19,7 +19,7 @@ use Rattle.cose_head.specs.Reading.{Outcome, read}
 use Rattle.cose_msg.specs.declared.verdict.Verdict.TheVariants.{Authentic, Refused}
 use Rattle.cose_msg.specs.Answer.{Answer, decided, complete, shaped}
 use Rattle.cose_msg.specs.Laws.{IsDefinite, StandsBefore, StandsBy}
-use Rattle.cose_msg.specs.Reading.{SoFar, Reading, Phase, Next, awaits, stop, cut, past_head, with_head, with_string, is_truncated, past_item, with_item, unless, unless_fault, with_value, open_after}
+use Rattle.cose_msg.specs.Reading.{Findings, Reading, Phase, Next, awaits, stop, cut, past_head, with_head, with_string, is_truncated, past_item, with_item, unless, unless_fault, with_value, open_after}
 use Rattle.cose_msg.proofs.lemmas.Reading.Forms.{HeadLaws, head_there, item_there, not_truncated}
 
 -- The property of a reading of this many bytes.
@@ -41,14 +41,14 @@ reads_on_later end later (shaped kind payload auth taken) le h = omega arith
 sound_at : (n m : ℕ) (reading : Reading) → n ≡ m → IsSound n reading → IsSound m reading
 sound_at n m reading same h = subst (λ (end : ℕ). IsSound end reading) same h
 
-cut-sound : (so_far : SoFar) (wanted end : ℕ) → IsSound end (cut so_far wanted end)
+cut-sound : (so_far : Findings) (wanted end : ℕ) → IsSound end (cut so_far wanted end)
 cut-sound so_far wanted end = record { inside = omega arith; definite = λ e. absurd (let never : false ≡ true = e in cc); before = λ some. absurd (omega (arith, some)) }
 
-pub stop-sound : (so_far : SoFar) (reason : Reason) (place end : ℕ) → place ≤ end → reason ≢ Truncated → IsSound end (stop so_far reason place)
+pub stop-sound : (so_far : Findings) (reason : Reason) (place end : ℕ) → place ≤ end → reason ≢ Truncated → IsSound end (stop so_far reason place)
 stop-sound so_far reason place end le h = record { inside = le; definite = λ e none. h; before = λ some. absurd (omega (arith, some)) }
 
 -- Bytes of a detached payload are missing, and the message goes on after its nil.
-pub awaits-sound : (so_far : SoFar) (missing place end : ℕ) → 0 < missing → place < end → IsSound end (awaits so_far missing place)
+pub awaits-sound : (so_far : Findings) (missing place end : ℕ) → 0 < missing → place < end → IsSound end (awaits so_far missing place)
 awaits-sound so_far missing place end some lt = record { inside = omega (arith, lt); definite = λ e none. absurd (omega (arith, none, some)); before = λ e. lt }
 
 -- ---- a head
@@ -59,7 +59,7 @@ module _ (laws : HeadLaws) where
       let spelled = (laws.spelled bytes head used).0 e in
       omega (arith, spelled.ends, spelled.wide, ap length spelled.is_head.whole)
 
-  past_head-sound : (so_far : SoFar) (next : Next Head) → ((at : ℕ) (head : Head) → Sound (at + 1) (next at head)) → (place : ℕ) (bytes : List ℕ) (step : HeadStep) → bare_head bytes ≡ step → IsSound (place + length bytes) (past_head so_far next place bytes step)
+  past_head-sound : (so_far : Findings) (next : Next Head) → ((at : ℕ) (head : Head) → Sound (at + 1) (next at head)) → (place : ℕ) (bytes : List ℕ) (step : HeadStep) → bare_head bytes ≡ step → IsSound (place + length bytes) (past_head so_far next place bytes step)
   past_head-sound so_far next h place bytes (Got head used) e =
       let there : used ≤ length bytes = head_there laws bytes head used e in
       sound_at (place + used + length (drop used bytes)) (place + length bytes) _ (omega (arith, there, length-drop used bytes)) (h place head (place + used) (drop used bytes) (omega (arith, head_some bytes head used e)))
@@ -67,16 +67,16 @@ module _ (laws : HeadLaws) where
   past_head-sound so_far next h place bytes (Fault reason) e = stop-sound so_far reason place (place + length bytes) (omega arith) (laws.faults bytes reason e)
 
   -- What follows a head is at a later place.
-  pub behind_head-sound : (so_far : SoFar) (next : Next Head) (from : ℕ) → ((at : ℕ) (head : Head) → Sound (at + 1) (next at head)) → Sound from (with_head so_far next)
+  pub behind_head-sound : (so_far : Findings) (next : Next Head) (from : ℕ) → ((at : ℕ) (head : Head) → Sound (at + 1) (next at head)) → Sound from (with_head so_far next)
   unfolding with_head
   behind_head-sound so_far next from h place bytes le = past_head-sound so_far next h place bytes (bare_head bytes) refl
 
-  pub with_head-sound : (so_far : SoFar) (next : Next Head) (from : ℕ) → ((at : ℕ) (head : Head) → Sound at (next at head)) → Sound from (with_head so_far next)
+  pub with_head-sound : (so_far : Findings) (next : Next Head) (from : ℕ) → ((at : ℕ) (head : Head) → Sound at (next at head)) → Sound from (with_head so_far next)
   with_head-sound so_far next from h = behind_head-sound so_far next from (λ at head place bytes le. h at head place bytes (omega (arith, le)))
 
 -- ---- a string
 
-pub with_string-sound : (so_far : List ℕ → SoFar) (n : ℕ) (next : Next (List ℕ)) (from : ℕ) → ((at : ℕ) (string : List ℕ) → from ≤ at → Sound (at + length string) (next at string)) → Sound from (with_string so_far n next)
+pub with_string-sound : (so_far : List ℕ → Findings) (n : ℕ) (next : Next (List ℕ)) (from : ℕ) → ((at : ℕ) (string : List ℕ) → from ≤ at → Sound (at + length string) (next at string)) → Sound from (with_string so_far n next)
 unfolding with_string
 with_string-sound so_far n next from h place bytes le =
     elim (cases_lt (length bytes) n) [
@@ -93,7 +93,7 @@ either-sound true end x y p q = p
 either-sound false end x y p q = q refl
 
 module _ (laws : HeadLaws) where
-  past_item-sound : (so_far : ℕ → SoFar) (still : Open) (next : Next (List ℕ)) (from : ℕ) → ((at : ℕ) (content : List ℕ) → from ≤ at → Sound (at + length content) (next at content)) → (room depth place : ℕ) (bytes : List ℕ) (outcome : Outcome Item) → read depth (left_of bytes room 0) ≡ outcome
+  past_item-sound : (so_far : ℕ → Findings) (still : Open) (next : Next (List ℕ)) (from : ℕ) → ((at : ℕ) (content : List ℕ) → from ≤ at → Sound (at + length content) (next at content)) → (room depth place : ℕ) (bytes : List ℕ) (outcome : Outcome Item) → read depth (left_of bytes room 0) ≡ outcome
       → Steps 1 (left_of bytes room 0) outcome → from ≤ place → IsSound (place + length bytes) (past_item so_far still next place bytes outcome)
   past_item-sound so_far still next from h room depth place bytes (Ok found) e step le =
       let there : found.1.place ≤ length bytes = item_there laws depth room bytes found e in
@@ -103,25 +103,25 @@ module _ (laws : HeadLaws) where
       either-sound (is_truncated refusal.reason) (place + length bytes) _ _ (cut-sound (so_far still.items) (max 1 still.content) (place + length bytes))
       (λ definite. stop-sound (so_far 0) refusal.reason (place + refusal.place) (place + length bytes) (omega (arith, step.upto)) (not_truncated refusal.reason definite))
 
-  pub with_item-sound : (so_far : ℕ → SoFar) (room depth : ℕ) (next : Next (List ℕ)) (from : ℕ) → ((at : ℕ) (content : List ℕ) → from ≤ at → Sound (at + length content) (next at content)) → Sound from (with_item so_far room depth next)
+  pub with_item-sound : (so_far : ℕ → Findings) (room depth : ℕ) (next : Next (List ℕ)) (from : ℕ) → ((at : ℕ) (content : List ℕ) → from ≤ at → Sound (at + length content) (next at content)) → Sound from (with_item so_far room depth next)
   unfolding with_item
   with_item-sound so_far room depth next from h place bytes le = past_item-sound so_far (open_after room depth bytes) next from h room depth place bytes (read depth (left_of bytes room 0)) refl (laws.steps depth (left_of bytes room 0)) le
 
 -- ---- a test
 
-pub unless_fault-sound : (so_far : SoFar) (at from : ℕ) (fault : Option Reason) (phase : Phase) → at ≤ from → IfSome fault (λ reason. reason ≢ Truncated) → Sound from phase → Sound from (unless_fault so_far at fault phase)
+pub unless_fault-sound : (so_far : Findings) (at from : ℕ) (fault : Option Reason) (phase : Phase) → at ≤ from → IfSome fault (λ reason. reason ≢ Truncated) → Sound from phase → Sound from (unless_fault so_far at fault phase)
 unless_fault-sound so_far at from (Some reason) phase before definite h place bytes le = stop-sound so_far reason at (place + length bytes) (omega arith) definite
 unless_fault-sound so_far at from None phase before definite h place bytes le = h place bytes le
 
 -- A test that depends on the place.
-unless-sound : (so_far : SoFar) (fault : Option Refusal) (phase : Phase) (place : ℕ) (bytes : List ℕ) → IfSome fault (λ refusal. refusal.place ≤ place) → IfSome fault (λ refusal. refusal.reason ≢ Truncated) → IsSound (place + length bytes) (phase place bytes) → IsSound (place + length bytes) (unless so_far fault phase place bytes)
+unless-sound : (so_far : Findings) (fault : Option Refusal) (phase : Phase) (place : ℕ) (bytes : List ℕ) → IfSome fault (λ refusal. refusal.place ≤ place) → IfSome fault (λ refusal. refusal.reason ≢ Truncated) → IsSound (place + length bytes) (phase place bytes) → IsSound (place + length bytes) (unless so_far fault phase place bytes)
 unless-sound so_far (Some refusal) phase place bytes inside definite h = stop-sound so_far refusal.reason refusal.place (place + length bytes) (omega arith) definite
 unless-sound so_far None phase place bytes inside definite h = h
 
-pub unless_at-sound : (so_far : SoFar) (fault : ℕ → Option Refusal) (phase : Phase) (from : ℕ) → ((place : ℕ) → from ≤ place → IfSome (fault place) (λ refusal. refusal.place ≤ place)) → ((place : ℕ) → IfSome (fault place) (λ refusal. refusal.reason ≢ Truncated)) → Sound from phase → Sound from (λ place. unless so_far (fault place) phase place)
+pub unless_at-sound : (so_far : Findings) (fault : ℕ → Option Refusal) (phase : Phase) (from : ℕ) → ((place : ℕ) → from ≤ place → IfSome (fault place) (λ refusal. refusal.place ≤ place)) → ((place : ℕ) → IfSome (fault place) (λ refusal. refusal.reason ≢ Truncated)) → Sound from phase → Sound from (λ place. unless so_far (fault place) phase place)
 unless_at-sound so_far fault phase from inside definite h place bytes le = unless-sound so_far (fault place) phase place bytes (inside place le) (definite place) (h place bytes le)
 
-pub with_value-sound : {A : Type 0} (so_far : SoFar) (value : Result A Refusal) (next : A → Phase) (from : ℕ) → IfErr value (λ refusal. refusal.place ≤ from) → IfErr value (λ refusal. refusal.reason ≢ Truncated) → ((x : A) → value ≡ Ok x → Sound from (next x)) → Sound from (with_value so_far value next)
+pub with_value-sound : {A : Type 0} (so_far : Findings) (value : Result A Refusal) (next : A → Phase) (from : ℕ) → IfErr value (λ refusal. refusal.place ≤ from) → IfErr value (λ refusal. refusal.reason ≢ Truncated) → ((x : A) → value ≡ Ok x → Sound from (next x)) → Sound from (with_value so_far value next)
 with_value-sound so_far (Ok x) next from inside definite h = h x refl
 with_value-sound so_far (Err refusal) next from inside definite h = λ place bytes le. stop-sound so_far refusal.reason refusal.place (place + length bytes) (omega arith) definite
 

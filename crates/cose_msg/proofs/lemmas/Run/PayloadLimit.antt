@@ -17,10 +17,10 @@ use Rattle.cose_msg.specs.Answer.{Chosen, Headers}
 use Rattle.cose_msg.specs.Front.{array_head_fault, past_array_head, array_head, kind_of_tag, past_tag, tag_after_cwt, past_second_head, second_head, past_untagged, is_cwt_tag, is_tag, is_array, past_first_head}
 use Rattle.cose_msg.specs.Message.{message}
 use Rattle.cose_msg.specs.Phases.{nothing_so_far, protected_so_far, unprotected_so_far, headers_so_far, finish, auth, auth_head_fault, past_auth_head, auth_head, past_payload, payload, payload_head_fault, payload_fault_within, nil_fault_within, detached_payload, past_payload_head_from, is_bytes_head, is_nil, past_payload_head, payload_head, past_choice, key_choice, both_buckets, placed_at, headers_of, past_unprotected, unprotected, past_protected, protected, protected_head_fault, past_protected_head, protected_head}
-use Rattle.cose_msg.specs.Reading.{SoFar, Phase, stop}
+use Rattle.cose_msg.specs.Reading.{Findings, Phase, stop}
 use Rattle.cose_msg.specs.Rules.{Rules}
 use Rattle.cose_msg.specs.Source.{Source, attached, detached}
-use Rattle.cose_msg.proofs.lemmas.Reading.SoFarForms.{HoldsThroughout, choose-holds, unless-holds, unless_fault-holds, with_head-holds, with_item-holds, with_string-holds, with_value-holds}
+use Rattle.cose_msg.proofs.lemmas.Reading.FindingForms.{HoldsThroughout, choose-holds, unless-holds, unless_fault-holds, with_head-holds, with_item-holds, with_string-holds, with_value-holds}
 
 fault_cases : (bytes large over : Bool) (a : Reason) (b : Option Reason) (nil : Bool) (c : Reason) (n limit : ℕ) → (over ≡ false → n ≤ limit) → cond bytes (cond (large || over) (Some a) None) (cond nil b (Some c)) ≡ None → (b ≡ None → ⊥) → n ≤ limit
 fault_cases false large over a b true c n limit h e none = absurd (none e)
@@ -43,7 +43,7 @@ stated_is_within : (limit stated : ℕ) (head : Head) → nil_fault_within limit
 stated_is_within limit stated head e = nil_cases (is_nil head) (nat_le (2 ^ 56) stated) (nat_lt limit stated) (is_bytes_head head) _ _ _ stated limit (λ short. ltb-false limit stated short) e
 
 module _ (rules : Rules) where
-  abbrev Small : SoFar → Type 0
+  abbrev Small : Findings → Type 0
   Small so_far = length so_far.payload ≤ rules.payload_limit
 
   none_small : Small nothing_so_far

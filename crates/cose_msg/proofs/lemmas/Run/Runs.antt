@@ -20,7 +20,7 @@ use Rattle.cose_msg.specs.Kept.{HasTaken, answer_kept}
 use Rattle.cose_msg.specs.Laws.{MessageIsInspectedWithin, VerifiedWithin, payload_inside}
 use Rattle.cose_msg.specs.Message.{Setting, comparing, message}
 use Rattle.cose_msg.specs.Phase.{grown, in_payload, is_settled, want_of}
-use Rattle.cose_msg.specs.Reading.{Reading, SoFar}
+use Rattle.cose_msg.specs.Reading.{Reading, Findings}
 use Rattle.cose_msg.specs.Run.{Drive}
 use Rattle.cose_msg.specs.Shown.{ShowsReading, shown_in, shown_of}
 use Rattle.cose_msg.specs.Sink.{AppendsFront, Puts}
@@ -124,7 +124,7 @@ wanted_is_open (phases.Settled verdict) lt = absurd (omega (arith, lt))
 wanted_is_open (phases.Shaped p) lt = absurd (omega (arith, lt))
 
 -- Only a payload that is in the message is read there.
-module _ {H D : ℕ} (task : Task) (known : Known) (so_far : SoFar) (n : ℕ) (v : Reader H D) where
+module _ {H D : ℕ} (task : Task) (known : Known) (so_far : Findings) (n : ℕ) (v : Reader H D) where
   attached_in : (phase : Phase) → HoldsIn task known so_far n v phase → in_payload phase ≡ true → task.setting.source ≡ attached
   attached_in (phases.Payload p) h is = h.5
   attached_in phases.FirstHead h is = absurd cc

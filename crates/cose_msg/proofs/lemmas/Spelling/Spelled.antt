@@ -11,7 +11,7 @@ use Rattle.cose_head.specs.Item.{Item, byte_string, depth_of, IsHead, Spells}
 use Rattle.cose_head.specs.Laws.{HeadIsSpelled, ReadIsSpelled}
 use Rattle.cose_head.specs.Measured.{left_of}
 use Rattle.cose_head.specs.Reading.{Left, read}
-use Rattle.cose_msg.specs.Reading.{SoFar, Next, with_head, with_string, with_item, unless_fault}
+use Rattle.cose_msg.specs.Reading.{Findings, Next, with_head, with_string, with_item, unless_fault}
 
 -- The laws of heads and items that these proofs cite.
 pub record SpellingLaws : Type 0 where
@@ -39,7 +39,7 @@ one_byte_head major argument is_major is_low =
 
 -- ---- a string
 
-pub string_read : (so_far : List ℕ → SoFar) (n : ℕ) (next : Next (List ℕ)) (place : ℕ) (content more : List ℕ) → length content ≡ n → with_string so_far n next place (content ++ more) ≡ next place content (place + n) more
+pub string_read : (so_far : List ℕ → Findings) (n : ℕ) (next : Next (List ℕ)) (place : ℕ) (content more : List ℕ) → length content ≡ n → with_string so_far n next place (content ++ more) ≡ next place content (place + n) more
 unfolding with_string
 string_read so_far n next place content more is =
     let there : nat_lt (length (content ++ more)) n ≡ false = le-ltb _ _ (omega (arith, is, length-append content more)) in
@@ -59,7 +59,7 @@ module _ (laws : SpellingLaws) where
     good = rw leaf refl;
   })
 
-  pub head_read : (so_far : SoFar) (next : Next Head) (place major argument : ℕ) (head more : List ℕ) → (major == 7) ≡ false → IsHead head major argument
+  pub head_read : (so_far : Findings) (next : Next Head) (place major argument : ℕ) (head more : List ℕ) → (major == 7) ≡ false → IsHead head major argument
       → with_head so_far next place (head ++ more) ≡ next place (head_of_width major argument (length head)) (place + length head) more
   unfolding with_head
   head_read so_far next place major argument head more leaf is =
@@ -67,7 +67,7 @@ module _ (laws : SpellingLaws) where
 
   -- ---- an item
 
-  pub item_read : (so_far : ℕ → SoFar) (room nesting : ℕ) (next : Next (List ℕ)) (place : ℕ) (tree : Item) (content more : List ℕ) → Spells content tree → length content ≤ room → depth_of tree ≤ nesting
+  pub item_read : (so_far : ℕ → Findings) (room nesting : ℕ) (next : Next (List ℕ)) (place : ℕ) (tree : Item) (content more : List ℕ) → Spells content tree → length content ≤ room → depth_of tree ≤ nesting
       → with_item so_far room nesting next place (content ++ more) ≡ next place content (place + length content) more
   unfolding with_item
   item_read so_far room nesting next place tree content more is fits nests =
@@ -87,7 +87,7 @@ module _ (laws : SpellingLaws) where
   -- ---- a byte string with its head
 
   -- Its content, and the place of that content, which ends where the string does.
-  pub byte_string_read : (so_far : SoFar) (fault : Head → Option Reason) (so_far_by : ℕ → List ℕ → SoFar) (next : ℕ → Next (List ℕ)) (place : ℕ) (string content more : List ℕ) →
+  pub byte_string_read : (so_far : Findings) (fault : Head → Option Reason) (so_far_by : ℕ → List ℕ → Findings) (next : ℕ → Next (List ℕ)) (place : ℕ) (string content more : List ℕ) →
       Spells string (byte_string content) → ((width : ℕ) → fault (head_of_width 2 (length content) width) ≡ None) →
       with_head so_far (λ at head. unless_fault so_far at (fault head) (with_string (so_far_by at) head.arg (next at))) place (string ++ more) ≡ next place (place + length string - length content) content (place + length string) more
   unfolding Spells

@@ -18,7 +18,7 @@ use Rattle.cose_msg.specs.Front.{wants_kind, array_head, past_array_head, kind_o
 use Rattle.cose_msg.specs.Grammar.{tag_number, is_untagged, IsArrayOfFour, IsFront, untagged, tagged, in_cwt, Spellings, protected_at, unprotected_at, payload_at, auth_at, IsMessage, HasCome, payload_element, four_elements, SpellsMessage, bare, in_tag, in_cwt_tag}
 use Rattle.cose_msg.specs.Message.{message}
 use Rattle.cose_msg.specs.Phases.{nothing_so_far, unprotected_so_far, headers_so_far, finish, auth_head, auth_head_fault, past_payload, payload_head, payload_head_fault, past_payload_head_from, is_too_long, both_buckets, placed_at, past_unprotected, unprotected, past_protected, protected_head, protected_head_fault}
-use Rattle.cose_msg.specs.Reading.{SoFar, Reading, Phase, Next, settled, with_head}
+use Rattle.cose_msg.specs.Reading.{Findings, Reading, Phase, Next, settled, with_head}
 use Rattle.cose_msg.specs.Rules.{Rules}
 use Rattle.cose_msg.specs.Source.{Source, attached, detached}
 use Rattle.cose_msg.proofs.lemmas.Spelling.Spellings.{all_apart, spelled_length}
@@ -44,7 +44,7 @@ nil_found laws string more spelled = (laws.head (string ++ more) (head_of_width 
   good = refl;
 })
 
-nil_read : SpellingLaws → (so_far : SoFar) (next : Next Head) (place : ℕ) (string more : List ℕ) → Spells string (simple 22) → with_head so_far next place (string ++ more) ≡ next place (head_of_width 7 22 1) (place + length string) more
+nil_read : SpellingLaws → (so_far : Findings) (next : Next Head) (place : ℕ) (string more : List ℕ) → Spells string (simple 22) → with_head so_far next place (string ++ more) ≡ next place (head_of_width 7 22 1) (place + length string) more
 unfolding with_head
 nil_read laws so_far next place string more spelled =
     let one : length string ≡ 1 = nil_is_short string spelled in

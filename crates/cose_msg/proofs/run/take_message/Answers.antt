@@ -258,14 +258,14 @@ slice_bounds-piece-end g c = grind (arith, common_steps)
 pub slice_bounds-piece-end-in-pieces : goal.slice_bounds-piece-end-in-pieces
 slice_bounds-piece-end-in-pieces g c = grind (arith, common_steps)
 
-pub waits-requires : goal.lemma_reading_so_far-requires
-waits-requires g c = grind (arith, common_steps)
+pub lemma_reading_so_far-requires : goal.lemma_reading_so_far-requires
+lemma_reading_so_far-requires g c = grind (arith, common_steps)
 
 pub stop-requires : goal.stop-requires
 stop-requires g c = grind (arith, common_steps)
 
-pub waits-requires-in-pieces : goal.lemma_reading_so_far-requires-in-pieces
-waits-requires-in-pieces g c = grind (arith, common_steps)
+pub lemma_reading_so_far-requires-in-pieces : goal.lemma_reading_so_far-requires-in-pieces
+lemma_reading_so_far-requires-in-pieces g c = grind (arith, common_steps)
 
 pub stop-requires-then-is_err : goal.stop-requires-then-is_err
 stop-requires-then-is_err g c = grind (arith, common_steps)

@@ -17,9 +17,7 @@ returns-in-Some-clause-run g c = λ setting s B h.
     let d = still _ _ _ h (c.lemma_reading_so_far.ensures.payload (to_verify setting) B _ _ h.so_far h.came) (c.lemma_reading_so_far.ensures.shows (to_verify setting) B _ _ h.so_far h.came) (kept_verdict_settles c.in-Some.answer h kept).0 in (
       d.taken,
       kept_verdict_run c.deciding_goes_last.ensures.verifying c.nothing_stands_after_the_bytes.ensures.inside c.nothing_stands_after_the_bytes.ensures.fair (g.E.EcVerifier.decides c.args.ec.now) d c.in-Some.answer kept,
-      d.counted,
-      d.shows,
-      left_by_kept _ c.in-Some.answer d.reads_on.0 (c.lemma_reading_so_far.ensures.status (to_verify setting) _ _ _ d.reads_on.0.so_far d.reads_on.0.came) (kept_verdict_settles c.in-Some.answer d.reads_on.0 kept) kept,
+      (d.counted, d.shows, left_by_kept _ c.in-Some.answer d.reads_on.0 (c.lemma_reading_so_far.ensures.status (to_verify setting) _ _ _ d.reads_on.0.so_far d.reads_on.0.came) (kept_verdict_settles c.in-Some.answer d.reads_on.0 kept) kept),
     )
 
 pub returns-in-Some-clause-answer : goal.returns-in-Some-clause-answer
@@ -33,9 +31,7 @@ returns-in-Ok-clause-run g c = λ setting s B h.
     let reads_on = counted_stands d.reads_on.0 in (
       d.taken,
       verdict_run c.deciding_goes_last.ensures.verifying c.nothing_stands_after_the_bytes.ensures.inside c.nothing_stands_after_the_bytes.ensures.fair (g.E.EcVerifier.decides c.args.ec.now) c.conclude.result d (c.conclude.ensures.answer setting _ _ reads_on d.reads_on.0.came) (c.conclude.ensures.counted setting _ _ reads_on d.reads_on.0.came),
-      c.conclude.ensures.counts ∙ d.counted,
-      c.conclude.ensures.shown ∙ d.shows,
-      left_by_answer (to_verify setting) (s ++ d.taken) c.conclude.new.self (c.conclude.ensures.status setting _ _ reads_on d.reads_on.0.came d.reads_on.0.goes_on),
+      (c.conclude.ensures.counts ∙ d.counted, c.conclude.ensures.shown ∙ d.shows, left_by_answer (to_verify setting) (s ++ d.taken) c.conclude.new.self (c.conclude.ensures.status setting _ _ reads_on d.reads_on.0.came d.reads_on.0.goes_on)),
     )
 
 pub returns-in-Ok-clause-answer : goal.returns-in-Ok-clause-answer
@@ -46,7 +42,7 @@ returns-in-Ok-clause-answer g c = λ setting s B bytes h come.
 pub returns-in-Err-clause-run : goal.returns-in-Err-clause-run
 returns-in-Err-clause-run g c = λ setting s B h.
     let d = rw c.in-Err.is at (c.take_message.ensures.drive (to_verify setting) s B h) in
-    (d.taken, stopped decided (verifying g.row.H g.row.D setting (g.E.EcVerifier.decides c.args.ec.now)) (verifying_alike c.deciding_goes_last.ensures.verifying g.row.H g.row.D setting (g.E.EcVerifier.decides c.args.ec.now)) c.in-Err.stop d, d.counted, d.shows, left_by_stop c.take_message.new.verifier (c.take_message.ensures.stopped ∙ ap is_err c.in-Err.is))
+    (d.taken, stopped decided (verifying g.row.H g.row.D setting (g.E.EcVerifier.decides c.args.ec.now)) (verifying_alike c.deciding_goes_last.ensures.verifying g.row.H g.row.D setting (g.E.EcVerifier.decides c.args.ec.now)) c.in-Err.stop d, (d.counted, d.shows, left_by_stop c.take_message.new.verifier (c.take_message.ensures.stopped ∙ ap is_err c.in-Err.is)))
 
 pub returns-in-Err-clause-sure : goal.returns-in-Err-clause-sure
 returns-in-Err-clause-sure g c = λ setting s B h enough. rw c.in-Err.is at (c.take_message.ensures.sure (to_verify setting) s B h enough)

@@ -219,11 +219,11 @@ slice_bounds-piece-end-in-pieces g c = grind (arith, common_steps)
 pub pieces-smaller : goal.pieces-smaller
 pieces-smaller g c = grind (arith, common_steps)
 
-pub waits-requires : goal.lemma_reading_so_far-requires
-waits-requires g c = grind (arith, common_steps)
+pub lemma_reading_so_far-requires : goal.lemma_reading_so_far-requires
+lemma_reading_so_far-requires g c = grind (arith, common_steps)
 
-pub waits-requires-in-pieces : goal.lemma_reading_so_far-requires-in-pieces
-waits-requires-in-pieces g c = grind (arith, common_steps)
+pub lemma_reading_so_far-requires-in-pieces : goal.lemma_reading_so_far-requires-in-pieces
+lemma_reading_so_far-requires-in-pieces g c = grind (arith, common_steps)
 
 pub stop-requires : goal.stop-requires
 stop-requires g c = grind (arith, common_steps)

@@ -22,9 +22,7 @@ returns-in-Some-clause-run g c = λ setting s B h.
       t.taken,
       t.came,
       kept_on_both c.deciding_goes_last.ensures.verifying c.nothing_stands_after_the_bytes.ensures.inside c.nothing_stands_after_the_bytes.ensures.fair (g.E.EcVerifier.decides c.args.ec.now) t c.in-Some.answer kept,
-      t.counted,
-      t.shows,
-      left_by_kept _ c.in-Some.answer t.reads_on.0 (c.lemma_reading_so_far.ensures.status _ _ _ _ t.reads_on.0.so_far t.reads_on.0.came) (kept_verdict_settles c.in-Some.answer t.reads_on.0 kept) kept,
+      (t.counted, t.shows, left_by_kept _ c.in-Some.answer t.reads_on.0 (c.lemma_reading_so_far.ensures.status _ _ _ _ t.reads_on.0.so_far t.reads_on.0.came) (kept_verdict_settles c.in-Some.answer t.reads_on.0 kept) kept),
     )
 
 pub returns-in-Some-clause-answer : goal.returns-in-Some-clause-answer
@@ -51,9 +49,7 @@ returns-in-Ok-clause-run g c = λ setting s B h.
       t.taken,
       t.came,
       verdict_on_both c.deciding_goes_last.ensures.verifying c.nothing_stands_after_the_bytes.ensures.inside c.nothing_stands_after_the_bytes.ensures.fair (g.E.EcVerifier.decides c.args.ec.now) c.conclude.result t (c.conclude.ensures.answer _ _ _ reads_on t.reads_on.0.came) (c.conclude.ensures.counted _ _ _ reads_on t.reads_on.0.came),
-      c.conclude.ensures.counts ∙ t.counted,
-      c.conclude.ensures.shown ∙ t.shows,
-      left_by_answer (to_verify (given (B ++ t.came) setting)) (s ++ t.taken) c.conclude.new.self (c.conclude.ensures.status _ _ _ reads_on t.reads_on.0.came t.reads_on.0.goes_on),
+      (c.conclude.ensures.counts ∙ t.counted, c.conclude.ensures.shown ∙ t.shows, left_by_answer (to_verify (given (B ++ t.came) setting)) (s ++ t.taken) c.conclude.new.self (c.conclude.ensures.status _ _ _ reads_on t.reads_on.0.came t.reads_on.0.goes_on)),
     )
 
 pub returns-in-Ok-clause-answer : goal.returns-in-Ok-clause-answer
@@ -70,7 +66,7 @@ returns-in-Ok-clause-context g c = λ setting s B h. c.conclude.ensures.context 
 pub returns-in-Err-clause-run : goal.returns-in-Err-clause-run
 returns-in-Err-clause-run g c = λ setting s B h.
     let t = rw c.in-Err.is at (c.take_detached.ensures.takes (to_verify setting) s B h (is_of_detached h c.requires.detached)) in
-    (t.taken, t.came, stopped_on_both c.deciding_goes_last.ensures.verifying (g.E.EcVerifier.decides c.args.ec.now) c.in-Err.stop t, t.counted, t.shows, left_by_stop c.take_detached.new.verifier (c.take_detached.ensures.stopped ∙ ap is_err c.in-Err.is))
+    (t.taken, t.came, stopped_on_both c.deciding_goes_last.ensures.verifying (g.E.EcVerifier.decides c.args.ec.now) c.in-Err.stop t, (t.counted, t.shows, left_by_stop c.take_detached.new.verifier (c.take_detached.ensures.stopped ∙ ap is_err c.in-Err.is)))
 
 pub returns-in-Err-clause-answer : goal.returns-in-Err-clause-answer
 returns-in-Err-clause-answer g c = λ setting s B bytes more h come beside. tt

@@ -9,7 +9,7 @@ pub returns-clause-reads : goal.returns-clause-reads
 returns-clause-reads g c = λ task s B h. c.wanted.ensures.value ∙ sym (c.lemma_reading_so_far.ensures.wanted task B _ _ h.so_far h.came) ∙ ap (λ (r : Reading). r.wanted) (without_more _ _ task s)
 
 pub returns-clause-early : goal.returns-clause-early
-returns-clause-early g c = λ task s B more h lt. c.lemma_reading_so_far.ensures.open task B _ _ more h.so_far (let short : length more < want_of c.args.self.now.reader.phase = omega (arith, lt, c.wanted.ensures.value) in short)
+returns-clause-early g c = λ task s B h more lt. c.lemma_reading_so_far.ensures.open task B _ _ more h.so_far (let short : length more < want_of c.args.self.now.reader.phase = omega (arith, lt, c.wanted.ensures.value) in short)
 
 pub returns-then-self-clause-value : goal.returns-then-self-clause-value
 returns-then-self-clause-value g c = cc

@@ -40,7 +40,7 @@ returns-in-None-clause-says g c = λ bytes e.
     (c.in-Ok-Shape.ensures.answer setting [] [] bytes c.inspecting-verifier.ensures.none_taken e ∙ ap inspection is)
     (protected_of c.inspect.new.verifier) (unprotected_of c.inspect.new.verifier)
     (λ rest s. sym c.in-None.is ∙ c.in_ok-refusal-in-Ok-Shape.ensures.whole rest s)
-    (ap (λ (x : Shown). x.protected) run.3) (ap (λ (x : Shown). x.unprotected) run.3)
+    (ap (λ (x : Shown). x.protected) run.2.1) (ap (λ (x : Shown). x.unprotected) run.2.1)
     c.shape_reply.ensures.says
 
 pub returns-in-Err-clause-input : goal.returns-in-Err-clause-input
