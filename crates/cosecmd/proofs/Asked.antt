@@ -1,5 +1,5 @@
 -- The job of some arguments prints what they ask for.
-use Rattle.std.proofs.Common.{◌≡◌, ◌≤◌, ℕ, ℤ, Bool, true, false, List, Option, Some, None, Bor, length, option_map, refl, ap, subst, sym, ◌∙◌, arith}
+use Rattle.std.proofs.Common.{◌≡◌, ◌≤◌, ℕ, ℤ, Bool, true, false, List, Option, Some, None, Bor, length, option_map, refl, ap, subst, ◌∙◌, arith}
 use Rattle.std.specs.Prelude.{nat_lt, option_and_then, take, unwrap_or}
 use Rattle.std.proofs.Math.Seq.{take-length}
 use Rattle.std.proofs.lemmas.Bool.{le-ltb}
@@ -29,7 +29,7 @@ use Rattle.cosecmd.specs.Options.{stated_part}
 use Rattle.cosecmd.specs.Stated.{answered_from, digested_from, verified_from}
 use Rattle.cosecmd.specs.Requirements.{requirements_for}
 use Rattle.cosecmd.specs.Under.{Under, job_under, owned_under}
-use Rattle.cosecmd.specs.Arguments.{admitted_for, asked_for, is_sequence, made_for, makes}
+use Rattle.cosecmd.specs.Arguments.{admitted_for, asked_for, made_for, makes}
 
 -- A run that ends with one output ends with an equal one.
 pub ends_with : {said asked : Output} (old new : Option (List ℕ)) (status : ℕ) → said ≡ asked → EndsWith said old new status → EndsWith asked old new status
@@ -44,19 +44,10 @@ pub not_made : (request : Request) (A : Type 0) → (makes request ≡ true → 
 not_made (asks.Make words) A by_name other = absurd (other (by_name refl))
 not_made (asks.Show limits wanted diagnostic) A by_name other = refl
 not_made (asks.Message question checks from) A by_name other = refl
-not_made (asks.Sequence checks) A by_name other = refl
+not_made (asks.MessageSequence checks) A by_name other = refl
 not_made (asks.Cwt words) A by_name other = refl
+not_made (asks.TokenSequence words) A by_name other = refl
 not_made (asks.Keys words) A by_name other = refl
-
--- And a sequence is asked for only by its option.
-pub not_of_sequence : (request : Request) (by_option : Bool) → (is_sequence request ≡ true → by_option ≡ true) → by_option ≡ false → is_sequence request ≡ false
-not_of_sequence (asks.Sequence checks) by_option only other =
-    let clash : true ≡ false = sym (only refl) ∙ other in
-    absurd cc
-not_of_sequence (asks.Show wanted diagnostic) by_option only other = refl
-not_of_sequence (asks.Message question checks from) by_option only other = refl
-not_of_sequence (asks.Cwt words) by_option only other = refl
-not_of_sequence (asks.Make words) by_option only other = refl
 
 pub message_words : (question : Question) (owned : OwnedChecks) (checks : Checks) (payload : Option (Bor (List ℕ))) (detached : Option (List ℕ)) (bytes : List ℕ) (job : Job) → job ≡ job_of question checks payload →
     job_under checks ≡ owned_under owned → option_map contents payload ≡ detached → printed job bytes ≡ answered_under question (owned_under owned) detached bytes

@@ -1,5 +1,6 @@
 pub mod Admissions
 pub mod Asked
+pub mod AskedSequences
 pub mod ChecksAsked
 pub mod CommandLines
 pub mod DigestPayloads
@@ -8,6 +9,7 @@ pub mod Failures
 pub mod KeyFiles
 pub mod Listings
 pub mod Makings
+pub mod NextTokens
 pub mod Nexts
 pub mod Options
 pub mod PartLines

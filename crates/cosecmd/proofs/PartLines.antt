@@ -77,9 +77,10 @@ refused_last status statuses.Fault is well = absurd (well is)
 pub part_lost : (reads : Reads) (alone : List ℕ → Output) (place : ℕ) (bytes : List ℕ) (come_after old new : Option (List ℕ)) (part : Part) (text : List ℕ) (status : Status) → IsNext reads alone bytes come_after part →
     part.whole ≡ false → text ≡ part_text place part → status ≡ part.reply.status → status ≢ statuses.Fault → Appends old new text → Prints (messages_from reads alone place bytes) old new statuses.Refused
 part_lost reads alone place bytes come_after old new part text status next is same ends well written = λ _.
-    let said = said_lost reads alone place bytes come_after part next is in
-    (refused_last status (alone next.message).status (ends ∙ next.says.status) well ∙ sym (ap (λ (o : Output). o.status) said),
-      subst (λ (t : List ℕ). Appends old new t) (same ∙ text_lost place part (alone next.message) next.says.text is ∙ sym (ap (λ (o : Output). o.text) said)) written)
+    let said = said_lost reads alone place bytes come_after part next is in (
+      refused_last status (alone next.message).status (ends ∙ next.says.status) well ∙ sym (ap (λ (o : Output). o.status) said),
+      subst (λ (t : List ℕ). Appends old new t) (same ∙ text_lost place part (alone next.message) next.says.text is ∙ sym (ap (λ (o : Output). o.text) said)) written,
+    )
 
 pub part_fails : (reads : Reads) (alone : List ℕ → Output) (place : ℕ) (bytes : List ℕ) (come_after old new : Option (List ℕ)) (part : Part) (text : List ℕ) → IsNext reads alone bytes come_after part →
     text ≡ part_text place part → AppendsFront old new text → FailsAfter (messages_from reads alone place) bytes old new

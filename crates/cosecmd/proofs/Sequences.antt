@@ -183,9 +183,10 @@ pub ends_lost : (reads : Reads) (alone : List ℕ → Output) (bytes : List ℕ)
 ends_lost reads alone bytes come old mid new place status last so_far sound some step = λ well.
     let later : Output = messages_from reads alone place so_far.rest in
     let end = step so_far.rest so_far.left well in
-    let said : sequence_said reads alone bytes ≡ then_said (output so_far.written status) later = ap (sequence_said reads alone) so_far.split ∙ so_far.said so_far.rest in
-    (ends_refused status last later.status sound some well end.0 ∙ sym (ap (λ (o : Output). o.status) said),
-      subst (λ (o : Output). Appends old new o.text) (sym said) (Appends-trans old mid new so_far.written later.text so_far.grown end.1))
+    let said : sequence_said reads alone bytes ≡ then_said (output so_far.written status) later = ap (sequence_said reads alone) so_far.split ∙ so_far.said so_far.rest in (
+      ends_refused status last later.status sound some well end.0 ∙ sym (ap (λ (o : Output). o.status) said),
+      subst (λ (o : Output). Appends old new o.text) (sym said) (Appends-trans old mid new so_far.written later.text so_far.grown end.1),
+    )
 
 -- What follows a text that was written.
 front_behind : (old mid new : Option (List ℕ)) (written text : List ℕ) → Appends old mid written → AppendsFront mid new text → AppendsFront old new (written ++ text)
@@ -200,9 +201,13 @@ fails_behind reads alone bytes come old mid new place status so_far step =
     let text : List ℕ = (messages_from reads alone place first).text in
     let said : (sequence_said reads alone (so_far.first ++ first)).text ≡ so_far.written ++ text = ap (λ (o : Output). o.text) (so_far.said first) in
     let all : so_far.written ++ (text ++ line) ≡ (sequence_said reads alone (so_far.first ++ first)).text ++ line =
-    sym (append_assoc so_far.written text line) ∙ ap (λ (t : List ℕ). t ++ line) (sym said) in
-    (fault, so_far.first ++ first, rest, so_far.split ∙ ap (λ (t : List ℕ). so_far.first ++ t) split ∙ sym (append_assoc so_far.first first rest),
-      subst (AppendsFront old new) all (front_behind old mid new so_far.written (text ++ line) so_far.grown front))
+    sym (append_assoc so_far.written text line) ∙ ap (λ (t : List ℕ). t ++ line) (sym said) in (
+      fault,
+      so_far.first ++ first,
+      rest,
+      so_far.split ∙ ap (λ (t : List ℕ). so_far.first ++ t) split ∙ sym (append_assoc so_far.first first rest),
+      subst (AppendsFront old new) all (front_behind old mid new so_far.written (text ++ line) so_far.grown front),
+    )
 
 -- The line of a fault where nothing was printed.
 pub line_first : (reads : Reads) (alone : List ℕ → Output) (place : ℕ) (bytes : List ℕ) (old new : Option (List ℕ)) (fault : Fault) → WritesLine fault old new ⊎ WritesLine faults.Memory old new →

@@ -1,20 +1,26 @@
 -- What the program prints for a sequence of messages (RFC 8742), each of which is followed at once by the next, and how it ends.
-use Rattle.std.specs.Prelude.{◌≡◌, ◌⊎◌, ℕ, zero, suc, ◌+◌, Bool, true, false, List, [], ◌∷◌, ◌++◌, length, take, drop, Option, None, codes, if◌then◌else◌}
+use Rattle.std.specs.Prelude.{◌≡◌, ◌⊎◌, ℕ, zero, suc, ◌+◌, Bool, true, false, List, [], ◌∷◌, ◌++◌, length, take, drop, Option, None, Ok, Err, option_map, codes, if◌then◌else◌}
 use Rattle.std.specs.Fmt.{decimal}
 use Rattle.cose_head.specs.declared.reason.Reason.{Reason}
 use Rattle.cose_head.specs.declared.reason.Reason.TheVariants.{BadAuth}
 use Rattle.cose_cwt.specs.Admission.{PolicyValue}
-use Rattle.cose_cwt.specs.Token.{read_as}
+use Rattle.cose_cwt.specs.Claims.Audience.{text_value}
+use Rattle.cose_cwt.specs.Requirements.{RequirementsValue}
+use Rattle.cose_cwt.specs.Requirements.View.{requirements_value}
+use Rattle.cose_cwt.specs.declared.token.CwtStop.TheVariants as stops
+use Rattle.cose_cwt.specs.Token.{Outcome, read_as}
 use Rattle.cose_msg.specs.declared.verdict.Verdict.TheVariants.{Authentic, Refused}
 use Rattle.cose_msg.specs.Answer.{Answer, decided, complete, shaped}
 use Rattle.cose_msg.specs.Reading.{Reading}
 use Rattle.cose_msg.specs.Sink.{AppendsFront}
+use Rattle.cosecmd.specs.Admitted.{program_policy}
 use Rattle.cosecmd.specs.Faults.{WritesLine, fault_text}
 use Rattle.cosecmd.specs.declared.fault.Fault.{Fault}
+use Rattle.cosecmd.specs.declared.job.TokenJob.{TokenJob}
 use Rattle.cosecmd.specs.declared.reply.Status.{Status}
 use Rattle.cosecmd.specs.declared.reply.Status.TheVariants as statuses
 use Rattle.cosecmd.specs.Printed.{Output, admitted_under, setting_under, token_setting, verified_under, with_keys}
-use Rattle.cosecmd.specs.Under.{Under}
+use Rattle.cosecmd.specs.Under.{Under, job_under}
 use Rattle.cosecmd.specs.Vouch.{vouching}
 
 -- How the bytes of a message are read.
@@ -49,6 +55,13 @@ is_whole (decided (Authentic kind alg payload taken)) = true
 is_whole (decided (Refused refusal)) = is_bad_auth refusal.reason
 is_whole (complete whole) = false
 is_whole (shaped kind payload auth taken) = false
+
+-- Where the claims of a token are refused, its message is authentic.
+abbrev pub is_read_to_its_end : Outcome → Bool
+is_read_to_its_end (Ok claims) = true
+is_read_to_its_end (Err (stops.Claims refusal)) = true
+is_read_to_its_end (Err (stops.Message refusal)) = is_bad_auth refusal.reason
+is_read_to_its_end (Err (stops.Stopped stop)) = false
 
 -- Before the lines of a message, one with its place in the input; and the last line, where the next message can't be found.
 abbrev pub place_line : ℕ → List ℕ
@@ -98,12 +111,16 @@ sequence_said reads alone bytes = messages_from reads alone 0 bytes
 -- The messages of an input, none of which has a detached payload.
 abbrev pub verified_sequence : Under → List ℕ → Output
 verified_sequence under bytes =
-    with_keys under.keys (λ keys. sequence_said (read_as 1024 8 (setting_under under keys) (vouching under.vouch)) (verified_under under None) bytes)
+    with_keys under.keys (λ keys. sequence_said (read_as under.room.header under.room.nesting (setting_under under keys) (vouching under.vouch)) (verified_under under None) bytes)
 
 -- Its tokens.
-abbrev pub admitted_sequence : Under → PolicyValue → Bool → List ℕ → Output
-admitted_sequence under policy readable bytes =
-    with_keys under.keys (λ keys. sequence_said (read_as 1024 8 (token_setting keys under.aad under.wanted) (vouching under.vouch)) (admitted_under under policy readable) bytes)
+abbrev pub admitted_sequence : Under → PolicyValue → RequirementsValue → Bool → List ℕ → Output
+admitted_sequence under policy requirements readable bytes =
+    with_keys under.keys (λ keys. sequence_said (read_as under.room.header under.room.nesting (token_setting under.room.claims keys under.aad under.wanted) (vouching under.vouch)) (admitted_under under policy requirements readable) bytes)
+
+abbrev pub admitted_each : TokenJob → List ℕ → Output
+admitted_each job bytes =
+    admitted_sequence (job_under job.checks) (program_policy job.now job.leeway (option_map text_value job.aud)) (requirements_value job.requirements) job.readable bytes
 
 -- What a run over a sequence has written that ends with status Fault: the line of a fault, perhaps after all that is printed for
 -- a front of the input; or a front of that, where the output fails.

@@ -4,7 +4,7 @@ ghost use Rattle.std.specs.Prelude.{◌≡◌, ◌≤◌, ◌⊎◌, ℕ, false,
 ghost use Rattle.cosecmd.specs.Faults.{WritesLine, making_fault};
 ghost use Rattle.cosecmd.specs.Job.{aad_of, is_make, reads_input};
 ghost use Rattle.cosecmd.specs.Printed.{EndsWith, Fails, Prints, Says, printed};
-ghost use Rattle.cosecmd.specs.Sequence.{FailsInSequence, verified_sequence};
+ghost use Rattle.cosecmd.specs.Sequence.{FailsInSequence, admitted_each, verified_sequence};
 ghost use Rattle.cosecmd.specs.Stated.{answered_from};
 ghost use Rattle.cosecmd.specs.Under.{job_under};
 
@@ -18,7 +18,7 @@ mod unmet;
 mod verify;
 
 use crate::fault::Fault;
-use crate::job::{Checks, FileJob, Job, Question};
+use crate::job::{Checks, FileJob, Job, Question, TokenJob};
 use crate::print::{print_fault, print_reply};
 use crate::reply::{Reply, Status};
 use cwt::{cwt_reply, policy_of};
@@ -26,6 +26,7 @@ use digest::{digest_reply, digest_reply_with_file};
 use keys::keys_reply;
 use make::make_message;
 use sequence::messages::print_verified;
+use sequence::tokens::print_admitted;
 use show::show_reply;
 use std::alloc::Global;
 use std::io::{Read, Write};
@@ -175,9 +176,10 @@ pub fn answer_with_payload_file<P: Read, R: Read, W: Write>(
 /// Verifies each message of a CBOR sequence (RFC 8742), each of which is followed at once by the next, and writes for each the
 /// lines that [`answer`] writes for it alone, after a line with its place.
 ///
-/// Where a message is refused before its end, a last line says so, since the next can't be found. It returns 0 where all are
-/// authentic, 1 where one isn't, and 2 where there is a fault, whose line follows those that were written before.
-pub fn answer_sequence<R: Read, W: Write>(
+/// A message takes the bytes up to its end and none after it, where the next begins. Where one is refused before its end, a last
+/// line says so, since the next can't be found. It returns 0 where all are authentic, 1 where one isn't, and 2 where there is a
+/// fault, whose line follows those that were written before.
+pub fn answer_message_sequence<R: Read, W: Write>(
     alloc: Global,
     checks: &Checks,
     input: &mut R,
@@ -194,4 +196,25 @@ pub fn answer_sequence<R: Read, W: Write>(
         (W.contents output.new) }
 {
     print_verified(alloc, checks, input, output).code()
+}
+
+/// Admits each token of a CBOR sequence (RFC 8742), and writes for each the lines that [`answer`] writes for it alone, after a line
+/// with its place. In all else it is as [`answer_message_sequence`]; a token whose claims are refused, or don't meet what is
+/// required, was read to its end.
+pub fn answer_token_sequence<R: Read, W: Write>(
+    alloc: Global,
+    job: &TokenJob,
+    input: &mut R,
+    output: &mut W,
+) -> u8
+    requires external { length_of job.now.checks.aad.now ≤ 65535 }
+    ensures status { result ≤ 2 }
+    // Each token takes the bytes up to its end and none after it, where the next begins.
+    ensures printed { (bytes : List ℕ) → R.remaining input.old ≡ Some bytes →
+        EndsWith (admitted_each job.now bytes) (W.contents output.old) (W.contents output.new) result }
+    ensures fails { (bytes : List ℕ) → R.remaining input.old ≡ Some bytes → result ≡ 2 →
+        FailsInSequence (admitted_each job.now) bytes (W.contents output.old)
+        (W.contents output.new) }
+{
+    print_admitted(alloc, job, input, output).code()
 }

@@ -3,7 +3,7 @@
 ghost use Rattle.std.specs.Prelude.{◌≡◌, ◌≢◌, ◌≤◌, ◌⊎◌, ℕ, true, false, List, Option, Some, IfErr, IfOk, codes, length as length_in, map, option_map, string_bytes};
 ghost use Rattle.clap.specs.Matches.{first_value, found_of, subcommand_name_of};
 ghost use Rattle.cose_cwt.specs.Claims.Audience.{text_value};
-ghost use Rattle.cosecmd.specs.CommandLine.{AsksFor, IsReadFrom, begins_as_answer, digest_prints, is_of_sequence, matches_print, message_prints, sequence_prints, verify_prints};
+ghost use Rattle.cosecmd.specs.CommandLine.{AsksFor, IsReadFrom, begins_as_answer, cwt_prints, digest_prints, is_of_sequence, matches_print, message_prints, sequence_prints, verify_prints};
 ghost use Rattle.cosecmd.specs.Fields.{AreChecks, CwtFields, HasKeysOf, IsKeyOf, IsListedAs, KeysFields, MakeFields, checks_in, digest_checks_in};
 ghost use Rattle.cosecmd.specs.Options.{algorithm_in, bytes_in, flag_in, hex_bytes, integer_in, kind_in, kind_named, limits_in, limits_named, number_in, optional_bytes_in, options_of, payload_in, text_in};
 ghost use Rattle.cosecmd.specs.Payload.{IsFile, detached_in};
@@ -421,7 +421,7 @@ fn sequence_request<'a, F: NamedFiles>(
     ensures verifies { IfOk result (λ request. makes request ≡ false) }
 {
     let checks = checks_of(alloc, files, matches)?;
-    Ok(Request::Sequence(checks))
+    Ok(Request::MessageSequence(checks))
 }
 
 /// What the arguments of `verify` ask for.
@@ -442,6 +442,26 @@ fn verify_request<'a, F: NamedFiles>(
         return sequence_request(alloc, files, matches);
     }
     message_request(alloc, files, matches)
+}
+
+/// What the arguments of `cwt` ask for.
+fn cwt_request<'a, F: NamedFiles>(
+    alloc: Global,
+    files: &F,
+    matches: &ArgMatches<'a>,
+) -> Result<Request<'a>, Fault>
+    ensures asks { IfOk result (λ request. (bytes : List ℕ) (said : Output) →
+        cwt_prints (F.content files.now) (options_of matches.now) bytes ≡ Some said →
+        AsksFor (F.content files.now) request bytes said) }
+    ensures admits { IfOk result (λ request. makes request ≡ false) }
+    ensures sequence { IfOk result (λ request. is_sequence request ≡ true
+        → flag_in (codes "sequence") (options_of matches.now) ≡ true) }
+{
+    let words = cwt_of(alloc, files, matches)?;
+    if flag_of(matches, "sequence") {
+        return Ok(Request::TokenSequence(words));
+    }
+    Ok(Request::Cwt(words))
 }
 
 /// What the arguments of `digest` ask for. The payload goes last, as help lists it.
@@ -502,7 +522,7 @@ pub fn request_of<'a, F: NamedFiles>(
         return verify_request(alloc, files, verify);
     }
     if let Some(cwt) = matches.subcommand_matches("cwt") {
-        return Ok(Request::Cwt(cwt_of(alloc, files, cwt)?));
+        return cwt_request(alloc, files, cwt);
     }
     if let Some(digest) = matches.subcommand_matches("digest") {
         return digest_request(alloc, files, digest);

@@ -249,6 +249,15 @@ const PAYLOAD_LENGTH: CommandOption = CommandOption {
     help: "The number of bytes of the payload, below 2^56: the first of --payload-file, which may be a pipe then",
 };
 
+/// Each token of a sequence.
+const TOKENS: CommandOption = CommandOption {
+    name: "sequence",
+    argument: "",
+    value: Value::Flag,
+    presence: Presence::Optional,
+    help: "Admit each token of a CBOR sequence (RFC 8742), each after a line with its place, until the next can't be found",
+};
+
 /// Each message of a sequence.
 const SEQUENCE: CommandOption = CommandOption {
     name: "sequence",
@@ -428,8 +437,8 @@ const COMMANDS: &[Subcommand] = &[
             VOUCH,
             DETACHED,
             PAYLOAD_FILE,
-            SEQUENCE,
             PAYLOAD_LENGTH,
+            SEQUENCE,
             LIMITS,
         ],
         one_of: KEY_SET,
@@ -454,6 +463,7 @@ const COMMANDS: &[Subcommand] = &[
             MAX_LIFETIME,
             MAX_AGE,
             TEXT,
+            TOKENS,
             LIMITS,
         ],
         one_of: KEY_SET,

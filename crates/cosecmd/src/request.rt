@@ -101,9 +101,11 @@ pub enum Request<'w> {
         payload: Payload<'w>,
     },
     /// To verify each message of a sequence under these checks.
-    Sequence(OwnedChecks),
+    MessageSequence(OwnedChecks),
     /// To admit a token.
     Cwt(Cwt<'w>),
+    /// To admit each token of a sequence.
+    TokenSequence(Cwt<'w>),
     /// To list the items of a key set.
     Keys(Keys),
     /// To make a message.

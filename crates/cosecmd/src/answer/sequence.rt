@@ -7,6 +7,7 @@ ghost use Rattle.cosecmd.specs.Printed.{Output, Prints};
 ghost use Rattle.cosecmd.specs.Sequence.{FailsAfter, Reads, is_whole, joined_status, sequence_said};
 
 pub mod messages;
+pub mod tokens;
 
 use crate::fault::Fault;
 use crate::print::{print, print_fault};

@@ -19,10 +19,11 @@ returns-in-Fault-clause-step g c = λ bytes e.
 pub returns : goal.returns
 returns g c = record {
   step = λ bytes e.
-    (let next = is_next _ _ bytes _ _ c.in-Ok-Some.part c.in-Ok-Some.field-0-is (c.in-Ok-Some.ensures.part bytes e) in
-    (part_lost _ _ c.args.place bytes _ _ _ c.in-Ok-Some.part c.as_str.result.now c.print-status.result next c.if-part.false (c.as_str.ensures.value ∙ c.in-Ok.ensures.text)
-      (c.print-status.ensures.status c.in_default.not-Fault) c.in_default.not-Fault (c.print-status.ensures.written c.in_default.not-Fault),
-      λ is. absurd cc));
+      (let next = is_next _ _ bytes _ _ c.in-Ok-Some.part c.in-Ok-Some.field-0-is (c.in-Ok-Some.ensures.part bytes e) in (
+        part_lost _ _ c.args.place bytes _ _ _ c.in-Ok-Some.part c.as_str.result.now c.print-status.result next c.if-part.false (c.as_str.ensures.value ∙ c.in-Ok.ensures.text)
+            (c.print-status.ensures.status c.in_default.not-Fault) c.in_default.not-Fault (c.print-status.ensures.written c.in_default.not-Fault),
+        λ is. absurd cc,
+      ));
   moves = λ is. absurd cc;
   same_reading = c.next.ensures.same_reading;
   same_lines = c.next.ensures.same_lines;

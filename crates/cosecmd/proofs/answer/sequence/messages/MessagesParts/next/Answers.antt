@@ -1,5 +1,6 @@
 use Rattle.std.proofs.Common.{[], arith, option_map, subst, sym, ◌<◌, ◌∙◌}
 use Rattle.cose_map.specs.Key.View.{contents}
+use Rattle.cose_msg.specs.Message.{verifying}
 use Rattle.cose_msg.specs.Verifier.{setting_in}
 use Rattle.cosecmd.specs.Printed.{Output, Says}
 use Rattle.cosecmd.specs.Vouch.{vouching}
@@ -9,19 +10,20 @@ use Rattle.cosecmd.proofs.answer.sequence.messages.MessagesParts.next.Goals as g
 pub returns-then-taken-eq0-clause-part : goal.returns-then-taken-eq0-clause-part
 returns-then-taken-eq0-clause-part g c = λ bytes e.
     let made = c.args.self.now.verifier in
-    let decides = vouching (option_map contents c.args.self.now.vouch.word) in
+    let rules = verifying g.row.H g.row.D (setting_in made) (vouching (option_map contents c.args.self.now.vouch.word)) in
     let has = anew made c.reset.new.self c.args.self.now.verifies c.reset.ensures.none_taken in
     let run = c.in-Ok.ensures.run (setting_in made) [] [] has in
-    let these = took c.settled_stays.ensures.truncated (setting_in made) decides _ _ _ _ _ c.in-Ok.verdict run.0 bytes e run.1 in
-    none_left (setting_in made) decides bytes _ run.0 c.in-Ok.verdict c.taken-taken.result these (c.taken-taken.ensures.value ∙ run.2) c.if-taken-eq0.true
+    let these = took c.settled_stays.ensures.truncated rules _ _ _ _ _ c.in-Ok.verdict run.0 bytes e run.1 in
+    none_left rules bytes _ run.0 c.in-Ok.verdict c.taken-taken.result these (c.taken-taken.ensures.value ∙ run.2) c.if-taken-eq0.true
 
 pub returns-in-Ok-reply_of-clause-part : goal.returns-in-Ok-reply_of-clause-part
 returns-in-Ok-reply_of-clause-part g c = λ bytes e.
     let made = c.args.self.now.verifier in
     let decides = vouching (option_map contents c.args.self.now.vouch.word) in
+    let rules = verifying g.row.H g.row.D (setting_in made) decides in
     let has = anew made c.reset.new.self c.args.self.now.verifies c.reset.ensures.none_taken in
     let run = c.in-Ok.ensures.run (setting_in made) [] [] has in
-    let these = took c.settled_stays.ensures.truncated (setting_in made) decides _ _ _ _ _ c.in-Ok.verdict run.0 bytes e run.1 in
+    let these = took c.settled_stays.ensures.truncated rules _ _ _ _ _ c.in-Ok.verdict run.0 bytes e run.1 in
     let some : 0 < c.taken-taken.result = omega (arith, c.if-taken-eq0.false) in
-    next_found _ _ bytes _ run.0 c.in-Ok.verdict _ these (c.taken-taken.ensures.value ∙ run.2) some c.is_read_whole-whole.ensures
-    (subst (λ (o : Output). Says o c.in-Ok-reply_of.reply) (verdict_alone (setting_in made) decides run.0 c.in-Ok.verdict these.answer these.counted) c.in-Ok-reply_of.ensures.says)
+    next_found rules _ bytes _ run.0 c.in-Ok.verdict _ these (c.taken-taken.ensures.value ∙ run.2) some c.is_read_whole-whole.ensures
+    (subst (λ (o : Output). Says o c.in-Ok-reply_of.reply) (verdict_alone g.row.H g.row.D (setting_in made) decides run.0 c.in-Ok.verdict these.answer these.counted) c.in-Ok-reply_of.ensures.says)

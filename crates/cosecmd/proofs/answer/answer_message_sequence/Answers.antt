@@ -2,7 +2,7 @@ use Rattle.std.proofs.Common.{sym, ◌∙◌}
 use Rattle.cosecmd.specs.Sequence.{verified_sequence}
 use Rattle.cosecmd.specs.Under.{job_under}
 use Rattle.cosecmd.proofs.Replies.{ends_so, is_fault}
-use Rattle.cosecmd.proofs.answer.answer_sequence.Goals as goal
+use Rattle.cosecmd.proofs.answer.answer_message_sequence.Goals as goal
 
 pub returns-clause-printed : goal.returns-clause-printed
 returns-clause-printed g c = λ bytes e well.
