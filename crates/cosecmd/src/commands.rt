@@ -112,8 +112,8 @@ enum Presence {
     Default(&'static str),
     /// It may be left out, and has to be where the option of this name is there.
     Without(&'static str),
-    /// The same, where the option of either name is there.
-    WithoutBoth(&'static str, &'static str),
+    /// The same, where the option of any of these names is there.
+    WithoutAny(&'static [&'static str]),
     /// It may be left out. Where it is there, so is the option of the first name, and that of the second isn't.
     WithAndWithout(&'static str, &'static str),
 }
@@ -263,7 +263,7 @@ const SEQUENCE: CommandOption = CommandOption {
     name: "sequence",
     argument: "",
     value: Value::Flag,
-    presence: Presence::WithoutBoth("payload", "payload-file"),
+    presence: Presence::WithoutAny(&["payload", "payload-file", "payload-length"]),
     help: "Verify each message of a CBOR sequence (RFC 8742), each after a line with its place, until the next can't be found",
 };
 
@@ -520,6 +520,15 @@ impl Value {
     }
 }
 
+/// The option, which has to be left out where one of these is there.
+fn without_any<'a>(arg: Arg<'a>, others: &'static [&'static str]) -> Result<Arg<'a>, AllocError> {
+    let mut arg = arg;
+    for other in others {
+        arg = arg.conflicts_with(other)?;
+    }
+    Ok(arg)
+}
+
 impl CommandOption {
     /// The option as clap takes it.
     fn arg<'a>(self, alloc: Global) -> Result<Arg<'a>, AllocError> {
@@ -530,7 +539,7 @@ impl CommandOption {
             Presence::Required => Ok(arg.required(true)),
             Presence::Default(argument) => Ok(arg.default_value(argument)),
             Presence::Without(other) => arg.conflicts_with(other),
-            Presence::WithoutBoth(one, other) => arg.conflicts_with(one)?.conflicts_with(other),
+            Presence::WithoutAny(others) => without_any(arg, others),
             Presence::WithAndWithout(needed, other) => {
                 arg.requires_arg(needed)?.conflicts_with(other)
             }
