@@ -27,6 +27,33 @@ pub struct Part {
     pub whole: bool,
 }
 
+/// Why the next message isn't answered.
+#[derive(Clone, Copy)]
+pub enum Missing {
+    /// A request for memory was refused.
+    Memory,
+    /// The input failed.
+    Input,
+}
+
+impl Missing {
+    /// The fault of the run.
+    fn fault(self) -> Fault {
+        match self {
+            Missing::Memory => Fault::Memory,
+            Missing::Input => Fault::Input,
+        }
+    }
+}
+
+/// Why there is no reply to a message, where this is the fault.
+fn missing_by(fault: Fault) -> Missing {
+    match fault {
+        Fault::Input => Missing::Input,
+        _ => Missing::Memory,
+    }
+}
+
 /// What one step over a sequence did.
 #[derive(Clone, Copy)]
 pub enum Step {
@@ -52,7 +79,7 @@ pub trait Parts {
     ghost alone: { Self → List ℕ → Output };
 
     /// The next message of an intake, if there is one. It takes none of the bytes behind it.
-    fn next<I: Intake>(&mut self, alloc: Global, intake: &mut I) -> Result<Option<Part>, Fault>
+    fn next<I: Intake>(&mut self, alloc: Global, intake: &mut I) -> Result<Option<Part>, Missing>
         ensures part { (bytes : List ℕ) → I.to_come intake.old ≡ Some bytes →
             IfOk result (IsNextOf (reads self.old) (alone self.old) bytes
             (I.to_come intake.new)) }
@@ -115,7 +142,7 @@ fn print_next<P: Parts, I: Intake, W: Write>(
     let part = match parts.next(alloc, intake) {
         Ok(Some(part)) => part,
         Ok(None) => return Step::Ended,
-        Err(fault) => return Step::Over(print_fault(alloc, fault, output)),
+        Err(missing) => return Step::Over(print_fault(alloc, missing.fault(), output)),
     };
     let text = match placed_text(alloc, place, &part) {
         Ok(text) => text,

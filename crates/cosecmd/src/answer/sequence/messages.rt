@@ -11,7 +11,7 @@ ghost use Rattle.cosecmd.specs.Sequence.{FailsInSequence, verified_sequence};
 ghost use Rattle.cosecmd.specs.Under.{job_under};
 ghost use Rattle.cosecmd.specs.Vouch.{vouching};
 
-use crate::answer::sequence::{Part, Parts, is_read_whole, print_all};
+use crate::answer::sequence::{Missing, Part, Parts, is_read_whole, missing_by, print_all};
 use crate::answer::verify::{CHUNK, program_context, reply_of};
 use crate::fault::Fault;
 use crate::job::Checks;
@@ -22,27 +22,27 @@ use crate::print::print_fault;
 use crate::reply::Status;
 use crate::vouch::Vouch;
 use cose_msg::laws::settled_stays;
-use cose_msg::{Intake, KeyTable, Nothing, ReadIntake, Verifier, verify};
+use cose_msg::{Intake, KeyTable, Keys, Nothing, ReadIntake, Verifier, verify};
 use std::alloc::Global;
 use std::io::{BufReader, Read, Write};
 
 /// What verifies the messages of a sequence.
 #[derive(Drop)]
-pub struct Messages<'j, const H: usize, const D: usize, const N: usize> {
+pub struct Messages<'j, const H: usize, const D: usize, S: Keys<'j>> {
     vouch: Vouch<'j>,
-    verifier: Verifier<'j, H, D, KeyTable<'j, N>>,
+    verifier: Verifier<'j, H, D, S>,
     ghost verifies: { is_inspecting verifier ≡ false },
     ghost attached: { is_detached verifier ≡ false },
 }
 
-impl<const H: usize, const D: usize, const N: usize> Parts for Messages<'_, H, D, N> {
+impl<'j, const H: usize, const D: usize, S: Keys<'j>> Parts for Messages<'j, H, D, S> {
     ghost reads = { λ messages. read_as H D (setting_in messages.verifier)
         (vouching (option_map contents messages.vouch.word)) };
 
     ghost alone = { λ messages message. output_of (input_answer H D (setting_in messages.verifier)
         (vouching (option_map contents messages.vouch.word)) message) };
 
-    fn next<I: Intake>(&mut self, alloc: Global, intake: &mut I) -> Result<Option<Part>, Fault> {
+    fn next<I: Intake>(&mut self, alloc: Global, intake: &mut I) -> Result<Option<Part>, Missing> {
         // The law that the proof cites: what isn't settled is Truncated.
         settled_stays();
         self.verifier.reset();
@@ -55,7 +55,7 @@ impl<const H: usize, const D: usize, const N: usize> Parts for Messages<'_, H, D
         let verdict = match verdict {
             Ok(verdict) => verdict,
             // The sink `Nothing` never fails, and a verifier that was reset hasn't stopped.
-            Err(_) => return Err(Fault::Input),
+            Err(_) => return Err(Missing::Input),
         };
         let taken = self.verifier.taken();
         if taken == 0 {
@@ -68,7 +68,7 @@ impl<const H: usize, const D: usize, const N: usize> Parts for Messages<'_, H, D
                 taken,
                 whole,
             })),
-            Err(fault) => Err(fault),
+            Err(fault) => Err(missing_by(fault)),
         }
     }
 }
@@ -100,7 +100,7 @@ fn print_within<const H: usize, const D: usize, const N: usize, R: Read, W: Writ
         Err(refusal) => return print_fault(alloc, Fault::Keys(refusal), output),
     };
     // One read serves many messages.
-    let reader = match BufReader::with_capacity(alloc, CHUNK, input) {
+    let reader = match BufReader::with_capacity(alloc, CHUNK, &mut *input) {
         Ok(reader) => reader,
         Err(_) => return print_fault(alloc, Fault::Memory, output),
     };

@@ -14,7 +14,7 @@ ghost use Rattle.cosecmd.specs.Sequence.{FailsInSequence, admitted_each, is_read
 ghost use Rattle.cosecmd.specs.Vouch.{vouching};
 
 use crate::answer::cwt::{policy_of, token_context, token_reply};
-use crate::answer::sequence::{Part, Parts, print_all};
+use crate::answer::sequence::{Missing, Part, Parts, missing_by, print_all};
 use crate::answer::verify::CHUNK;
 use crate::fault::Fault;
 use crate::job::TokenJob;
@@ -27,18 +27,18 @@ use crate::reply::Status;
 use crate::vouch::Vouch;
 use cose_cwt::{Claims, CwtStop, Policy, Requirements, TokenStop, verify_cwt};
 use cose_msg::laws::settled_stays;
-use cose_msg::{Intake, KeyTable, ReadIntake, Reason, Store, Verifier};
+use cose_msg::{Intake, KeyTable, Keys, ReadIntake, Reason, Store, Verifier};
 use std::alloc::Global;
 use std::io::{BufReader, Read, Write};
 
 /// What admits the tokens of a sequence, whose claims have at most `L` bytes.
 #[derive(Drop)]
-pub struct Tokens<'j, const H: usize, const D: usize, const N: usize, const L: usize> {
+pub struct Tokens<'j, const H: usize, const D: usize, const L: usize, S: Keys<'j>> {
     vouch: Vouch<'j>,
     policy: Policy<'j>,
     requirements: Requirements<'j>,
     readable: bool,
-    verifier: Verifier<'j, H, D, KeyTable<'j, N>>,
+    verifier: Verifier<'j, H, D, S>,
     ghost nesting: { D ≤ 32 },
     ghost some_store: { 16 ≤ L },
     ghost store_limit: { L ≤ 65535 },
@@ -76,8 +76,8 @@ fn claims_required<'a>(
     }
 }
 
-impl<const H: usize, const D: usize, const N: usize, const L: usize> Parts
-    for Tokens<'_, H, D, N, L> {
+impl<'j, const H: usize, const D: usize, const L: usize, S: Keys<'j>> Parts
+    for Tokens<'j, H, D, L, S> {
     ghost reads = { λ tokens. read_as H D (setting_in tokens.verifier)
         (vouching (option_map contents tokens.vouch.word)) };
 
@@ -86,7 +86,7 @@ impl<const H: usize, const D: usize, const N: usize, const L: usize> Parts
         (vouching (option_map contents tokens.vouch.word)) (policy_value tokens.policy)
         (requirements_value tokens.requirements) message) };
 
-    fn next<I: Intake>(&mut self, alloc: Global, intake: &mut I) -> Result<Option<Part>, Fault> {
+    fn next<I: Intake>(&mut self, alloc: Global, intake: &mut I) -> Result<Option<Part>, Missing> {
         // The law that the proof cites: what isn't settled is Truncated.
         settled_stays();
         self.verifier.reset();
@@ -102,7 +102,7 @@ impl<const H: usize, const D: usize, const N: usize, const L: usize> Parts
         let token = claims_required(claims, &self.requirements);
         let reply = match token_reply(alloc, token, self.readable) {
             Ok(reply) => reply,
-            Err(fault) => return Err(fault),
+            Err(fault) => return Err(missing_by(fault)),
         };
         let taken = self.verifier.taken();
         if taken == 0 {
@@ -135,10 +135,10 @@ fn print_within<const H: usize, const D: usize, const N: usize, const L: usize, 
     requires claims { (room_of job.now.checks.limits).claims ≡ L }
     requires external { length job.now.checks.aad.now ≤ 65535 }
     ensures prints { (bytes : List ℕ) → R.remaining input.old ≡ Some bytes →
-        Prints (admitted_each job.now bytes)
+        Prints (admitted_each job.entry.now bytes)
         (W.contents output.old) (W.contents output.new) result }
     ensures fails { (bytes : List ℕ) → R.remaining input.old ≡ Some bytes → result ≡ Status.Fault →
-        FailsInSequence (admitted_each job.now) bytes
+        FailsInSequence (admitted_each job.entry.now) bytes
         (W.contents output.old) (W.contents output.new) }
 {
     let keys = match KeyTable::<N>::read(job.checks.keys) {
@@ -146,12 +146,12 @@ fn print_within<const H: usize, const D: usize, const N: usize, const L: usize, 
         Err(refusal) => return print_fault(alloc, Fault::Keys(refusal), output),
     };
     // One read serves many tokens.
-    let reader = match BufReader::with_capacity(alloc, CHUNK, input) {
+    let reader = match BufReader::with_capacity(alloc, CHUNK, &mut *input) {
         Ok(reader) => reader,
         Err(_) => return print_fault(alloc, Fault::Memory, output),
     };
     let mut intake = ReadIntake::new(reader);
-    let mut tokens = Tokens::<'_, H, D, N, L> {
+    let mut tokens = Tokens::<'_, H, D, L, KeyTable<'_, N>> {
         vouch: Vouch {
             word: job.checks.vouch,
         },
@@ -176,10 +176,10 @@ pub fn print_admitted<R: Read, W: Write>(
 ) -> Status
     requires external { length job.now.checks.aad.now ≤ 65535 }
     ensures prints { (bytes : List ℕ) → R.remaining input.old ≡ Some bytes →
-        Prints (admitted_each job.now bytes)
+        Prints (admitted_each job.entry.now bytes)
         (W.contents output.old) (W.contents output.new) result }
     ensures fails { (bytes : List ℕ) → R.remaining input.old ≡ Some bytes → result ≡ Status.Fault →
-        FailsInSequence (admitted_each job.now) bytes
+        FailsInSequence (admitted_each job.entry.now) bytes
         (W.contents output.old) (W.contents output.new) }
 {
     match job.checks.limits {

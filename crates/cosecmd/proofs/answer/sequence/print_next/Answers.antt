@@ -5,7 +5,7 @@ use Rattle.cosecmd.proofs.answer.sequence.print_next.Goals as goal
 
 pub returns-in-Err-clause-step : goal.returns-in-Err-clause-step
 returns-in-Err-clause-step g c = λ bytes e.
-    (λ well. absurd (well c.print_fault.ensures.status), λ _. line_first _ _ c.args.place bytes _ _ c.in-Err.fault c.print_fault.ensures.line)
+    (λ well. absurd (well c.print_fault.ensures.status), λ _. line_first _ _ c.args.place bytes _ _ c.fault.result c.print_fault.ensures.line)
 
 pub returns-in-Err-placed_text-clause-step : goal.returns-in-Err-placed_text-clause-step
 returns-in-Err-placed_text-clause-step g c = λ bytes e.

@@ -1,10 +1,11 @@
-use Rattle.std.proofs.Common.{[], ap, arith, option_map, subst, sym, ◌<◌, ◌∙◌}
+use Rattle.std.proofs.Common.{ℕ, List, [], ap, arith, option_map, subst, sym, ◌<◌, ◌∙◌}
 use Rattle.cose_cwt.specs.Admission.View.{policy_value}
 use Rattle.cose_cwt.specs.Requirements.View.{requirements_value}
 use Rattle.cose_map.specs.Key.View.{contents}
-use Rattle.cose_msg.specs.Message.{verifying}
+use Rattle.cose_cwt.specs.Token.{read_as}
+use Rattle.cose_msg.specs.Message.{Setting, verifying}
 use Rattle.cose_msg.specs.Verifier.{setting_in}
-use Rattle.cosecmd.specs.Admitted.{Admission, stopped_in}
+use Rattle.cosecmd.specs.Admitted.{Admission, input_token, stopped_in}
 use Rattle.cosecmd.specs.Printed.{Says, outcome_said}
 use Rattle.cosecmd.specs.Vouch.{vouching}
 use Rattle.cosecmd.proofs.NextTokens.{took_token}
@@ -32,3 +33,39 @@ returns-clause-part g c = λ bytes e.
     let some : 0 < c.taken-taken.result = omega (arith, c.if-taken-eq0.false) in
     next_found (verifying g.row.H g.row.D setting decides) _ bytes _ token.taken token.verdict _ token.these token.counted some (c.is_token_whole-whole.ensures ∙ token.whole)
     (subst (λ (o : Admission). Says (outcome_said tokens.readable o) c.in-Ok.reply) (c.claims_required-token.ensures ∙ token.alone) c.in-Ok.ensures.says)
+
+pub returns-in-Err-clause-same_reading : goal.returns-in-Err-clause-same_reading
+returns-in-Err-clause-same_reading g c =
+    let tokens = c.args.self.now in
+    let has = anew tokens.verifier c.reset.new.self tokens.verifies c.reset.ensures.none_taken in
+    ap (λ (s : Setting). read_as g.row.H g.row.D s (vouching (option_map contents tokens.vouch.word))) (c.verify_cwt-claims.ensures.context (setting_in tokens.verifier) has ∙ c.reset.ensures.context)
+
+pub returns-in-Err-clause-same_lines : goal.returns-in-Err-clause-same_lines
+returns-in-Err-clause-same_lines g c =
+    let tokens = c.args.self.now in
+    let has = anew tokens.verifier c.reset.new.self tokens.verifies c.reset.ensures.none_taken in
+    ap (λ (s : Setting). λ (message : List ℕ). outcome_said tokens.readable (input_token g.row.H g.row.D s (vouching (option_map contents tokens.vouch.word)) (policy_value tokens.policy) (requirements_value tokens.requirements) message)) (c.verify_cwt-claims.ensures.context (setting_in tokens.verifier) has ∙ c.reset.ensures.context)
+
+pub returns-then-taken-eq0-clause-same_reading : goal.returns-then-taken-eq0-clause-same_reading
+returns-then-taken-eq0-clause-same_reading g c =
+    let tokens = c.args.self.now in
+    let has = anew tokens.verifier c.reset.new.self tokens.verifies c.reset.ensures.none_taken in
+    ap (λ (s : Setting). read_as g.row.H g.row.D s (vouching (option_map contents tokens.vouch.word))) (c.verify_cwt-claims.ensures.context (setting_in tokens.verifier) has ∙ c.reset.ensures.context)
+
+pub returns-then-taken-eq0-clause-same_lines : goal.returns-then-taken-eq0-clause-same_lines
+returns-then-taken-eq0-clause-same_lines g c =
+    let tokens = c.args.self.now in
+    let has = anew tokens.verifier c.reset.new.self tokens.verifies c.reset.ensures.none_taken in
+    ap (λ (s : Setting). λ (message : List ℕ). outcome_said tokens.readable (input_token g.row.H g.row.D s (vouching (option_map contents tokens.vouch.word)) (policy_value tokens.policy) (requirements_value tokens.requirements) message)) (c.verify_cwt-claims.ensures.context (setting_in tokens.verifier) has ∙ c.reset.ensures.context)
+
+pub returns-clause-same_reading : goal.returns-clause-same_reading
+returns-clause-same_reading g c =
+    let tokens = c.args.self.now in
+    let has = anew tokens.verifier c.reset.new.self tokens.verifies c.reset.ensures.none_taken in
+    ap (λ (s : Setting). read_as g.row.H g.row.D s (vouching (option_map contents tokens.vouch.word))) (c.verify_cwt-claims.ensures.context (setting_in tokens.verifier) has ∙ c.reset.ensures.context)
+
+pub returns-clause-same_lines : goal.returns-clause-same_lines
+returns-clause-same_lines g c =
+    let tokens = c.args.self.now in
+    let has = anew tokens.verifier c.reset.new.self tokens.verifies c.reset.ensures.none_taken in
+    ap (λ (s : Setting). λ (message : List ℕ). outcome_said tokens.readable (input_token g.row.H g.row.D s (vouching (option_map contents tokens.vouch.word)) (policy_value tokens.policy) (requirements_value tokens.requirements) message)) (c.verify_cwt-claims.ensures.context (setting_in tokens.verifier) has ∙ c.reset.ensures.context)
