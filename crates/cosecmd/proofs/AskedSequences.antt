@@ -1,8 +1,8 @@
 -- What the arguments of a sequence ask for, and what a run over it leaves where it fails.
-use Rattle.std.proofs.Common.{◌≡◌, ◌⊎◌, ℕ, Bool, true, false, List, [], ◌++◌, Option, Some, None, Result, inl, inr, refl, ap, subst, sym, ◌∙◌, append-nil, append_assoc}
+use Rattle.std.proofs.Common.{◌≡◌, ◌⊎◌, ℕ, ℤ, Bool, true, false, List, [], ◌++◌, Option, Some, None, Result, inl, inr, refl, ap, subst, sym, ◌∙◌, append-nil, append_assoc}
 use Rattle.std.specs.Prelude.{codes, option_map}
-use Rattle.cose_cwt.specs.declared.requirements.Requirements.{Requirements}
 use Rattle.cose_cwt.specs.Claims.Audience.{text_value}
+use Rattle.cose_cwt.specs.Admission.{PolicyValue}
 use Rattle.cose_cwt.specs.Requirements.{RequirementsValue}
 use Rattle.cose_cwt.specs.Requirements.View.{requirements_value}
 use Rattle.cose_msg.specs.Sink.{AppendsFront}
@@ -11,6 +11,7 @@ use Rattle.cosecmd.specs.Arguments.{admitted_each_for, asked_for, is_sequence}
 use Rattle.cosecmd.specs.CommandLine.{AsksFor, PrintsEach, matches_print}
 use Rattle.cosecmd.specs.Faults.{WritesLine, fault_text}
 use Rattle.cosecmd.specs.Fields.{AreChecks}
+use Rattle.cosecmd.specs.Options.{◌>>=◌}
 use Rattle.cosecmd.specs.Printed.{Fails, Output, WritesPart}
 use Rattle.cosecmd.specs.Requirements.{requirements_for}
 use Rattle.cosecmd.specs.Sequence.{FailsInSequence, admitted_each, admitted_sequence, verified_sequence}
@@ -42,9 +43,21 @@ sequence_asks (Some under) checks bytes said are e =
     ap (λ (u : Under). verified_sequence u bytes) (are under refl) ∙ same
 
 -- The job of some arguments prints what they ask for.
-pub tokens_words : (words : Cwt) (job : TokenJob) (bytes : List ℕ) → job_under job.checks ≡ owned_under words.checks → job.now ≡ words.now → job.leeway ≡ words.leeway → job.aud ≡ words.aud → job.readable ≡ words.readable →
-    requirements_value job.requirements ≡ requirements_for words.now words.leeway words.required → admitted_each job bytes ≡ admitted_each_for words bytes
-tokens_words words job bytes same n l a r required = rw (same, n, l, a, r, required) refl
+same_sequence : (under asked : Under) (policy wanted : PolicyValue) (requirements needed : RequirementsValue) (readable quoted : Bool) (bytes : List ℕ) → under ≡ asked → policy ≡ wanted → requirements ≡ needed → readable ≡ quoted →
+    admitted_sequence under policy requirements readable bytes ≡ admitted_sequence asked wanted needed quoted bytes
+same_sequence under asked policy wanted requirements needed readable quoted bytes u p r q =
+    ap (λ (x : Under). admitted_sequence x policy requirements readable bytes) u
+    ∙ ap (λ (x : PolicyValue). admitted_sequence asked x requirements readable bytes) p
+    ∙ ap (λ (x : RequirementsValue). admitted_sequence asked wanted x readable bytes) r
+    ∙ ap (λ (x : Bool). admitted_sequence asked wanted needed x bytes) q
+
+pub tokens_words : (words : Cwt) (job : TokenJob) (now : ℤ) (bytes : List ℕ) → job_under job.checks ≡ owned_under words.checks → job.now ≡ now → now ≡ words.now → job.leeway ≡ words.leeway → job.aud ≡ words.aud → job.readable ≡ words.readable →
+    requirements_value job.requirements ≡ requirements_for now words.leeway words.required → admitted_each job bytes ≡ admitted_each_for words bytes
+tokens_words words job now bytes same m n l a r required =
+    same_sequence (job_under job.checks) (owned_under words.checks) (program_policy job.now job.leeway (option_map text_value job.aud)) (program_policy words.now words.leeway (option_map text_value words.aud))
+    (requirements_value job.requirements) (requirements_for words.now words.leeway words.required) job.readable words.readable bytes same
+    (ap (λ (at : ℤ). program_policy at job.leeway (option_map text_value job.aud)) (m ∙ n) ∙ ap (λ (s : ℕ). program_policy words.now s (option_map text_value job.aud)) l ∙ rw a refl)
+    (required ∙ ap (λ (at : ℤ). requirements_for at words.leeway words.required) n) r
 
 -- What is printed for a sequence depends on no payload.
 of_no_payload : (request : Request) (payload : Option (List ℕ)) (input : List ℕ) → is_sequence request ≡ true → asked_for request None input ≡ asked_for request payload input

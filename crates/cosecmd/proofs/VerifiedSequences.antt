@@ -18,14 +18,14 @@ use Rattle.cosecmd.specs.Under.{Under}
 use Rattle.cosecmd.specs.Vouch.{vouching}
 
 -- What is printed in a setting that is that of these checks.
-abbrev verified_in : Setting → Under → List ℕ → Output
+abbrev pub verified_in : Setting → Under → List ℕ → Output
 verified_in setting under bytes =
     sequence_said (read_as under.room.header under.room.nesting setting (vouching under.vouch)) (λ message. output_of (input_answer under.room.header under.room.nesting setting (vouching under.vouch) message)) bytes
 
 pub verified_as : (under : Under) (keys : List KeyValue) (setting : Setting) (bytes : List ℕ) → under.keys ≡ Ok keys → setting ≡ setting_under under keys → verified_in setting under bytes ≡ verified_sequence under bytes
 verified_as under keys setting bytes set same = rw (same, set) refl
 
-abbrev admitted_in : Setting → Under → PolicyValue → RequirementsValue → Bool → List ℕ → Output
+abbrev pub admitted_in : Setting → Under → PolicyValue → RequirementsValue → Bool → List ℕ → Output
 admitted_in setting under policy requirements readable bytes =
     sequence_said (read_as under.room.header under.room.nesting setting (vouching under.vouch))
     (λ message. outcome_said readable (input_token under.room.header under.room.nesting setting (vouching under.vouch) policy requirements message)) bytes

@@ -201,9 +201,9 @@ pub fn answer_message_sequence<R: Read, W: Write>(
 /// Admits each token of a CBOR sequence (RFC 8742), and writes for each the lines that [`answer`] writes for it alone, after a line
 /// with its place. In all else it is as [`answer_message_sequence`]; a token whose claims are refused, or don't meet what is
 /// required, was read to its end.
-pub fn answer_token_sequence<R: Read, W: Write>(
+pub fn answer_token_sequence<'j, R: Read, W: Write>(
     alloc: Global,
-    job: &TokenJob,
+    job: &'j TokenJob<'j>,
     input: &mut R,
     output: &mut W,
 ) -> u8

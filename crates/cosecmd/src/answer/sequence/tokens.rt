@@ -118,12 +118,15 @@ impl<'j, const H: usize, const D: usize, const L: usize, S: Keys<'j>> Parts
 
 /// Admits each token of a sequence, in buckets, with a table of keys and claims of these sizes.
 #[inline(never)]
-fn print_within<const H: usize, const D: usize, const N: usize, const L: usize, R: Read, W: Write>(
-    alloc: Global,
-    job: &TokenJob,
-    input: &mut R,
-    output: &mut W,
-) -> Status
+fn print_within<
+    'j,
+    const H: usize,
+    const D: usize,
+    const N: usize,
+    const L: usize,
+    R: Read,
+    W: Write,
+>(alloc: Global, job: &'j TokenJob<'j>, input: &mut R, output: &mut W) -> Status
     requires some_room { 16 ≤ H }
     requires limit { H ≤ 65535 }
     requires nesting { D ≤ 32 }
@@ -151,26 +154,27 @@ fn print_within<const H: usize, const D: usize, const N: usize, const L: usize, 
         Err(_) => return print_fault(alloc, Fault::Memory, output),
     };
     let mut intake = ReadIntake::new(reader);
+    let vouch = Vouch {
+        word: job.checks.vouch,
+    };
+    let policy = policy_of(job.now, job.leeway, &job.aud);
+    let requirements = job.requirements;
+    let context = token_context::<L, _>(keys, job.checks.aad, job.checks.wanted);
+    let verifier = Verifier::<H, D, KeyTable<'_, N>>::new(context);
     let mut tokens = Tokens::<'_, H, D, L, KeyTable<'_, N>> {
-        vouch: Vouch {
-            word: job.checks.vouch,
-        },
-        policy: policy_of(job.now, job.leeway, &job.aud),
-        requirements: job.requirements,
+        vouch,
+        policy,
+        requirements,
         readable: job.readable,
-        verifier: Verifier::<H, D, KeyTable<'_, N>>::new(token_context::<L, _>(
-            keys,
-            job.checks.aad,
-            job.checks.wanted,
-        )),
+        verifier,
     };
     print_all(alloc, &mut tokens, &mut intake, output)
 }
 
 /// Admits each token of a sequence, and writes its lines as soon as they are known.
-pub fn print_admitted<R: Read, W: Write>(
+pub fn print_admitted<'j, R: Read, W: Write>(
     alloc: Global,
-    job: &TokenJob,
+    job: &'j TokenJob<'j>,
     input: &mut R,
     output: &mut W,
 ) -> Status
