@@ -1,4 +1,6 @@
-use Rattle.std.proofs.Common.{option_map, sym, ◌∙◌}
+use Rattle.std.proofs.Common.{ap, option_map, sym, ◌∙◌}
+use Rattle.cose_cwt.specs.Admission.{PolicyValue}
+use Rattle.cose_cwt.specs.Admission.View.{policy_value}
 use Rattle.cose_cwt.specs.Claims.Audience.{text_value}
 use Rattle.cose_cwt.specs.Requirements.View.{requirements_value}
 use Rattle.cose_map.specs.KeyTable.{keys as usable}
@@ -24,9 +26,9 @@ returns-clause-prints g c = λ bytes e.
     let policy = program_policy job.now job.leeway (option_map text_value job.aud) in
     let setting = setting_in c.new-verifier.result in
     let known = behind_buffer (λ r. g.R.Read.remaining r.now) c.in-Ok-with_capacity.reader _ bytes c.in-Ok-with_capacity.ensures.inner c.in-Ok-with_capacity.ensures.empty c.in-Ok-with_capacity.ensures.capacity e in
-    prints_as (admitted_in setting under policy (requirements_value job.requirements) job.readable) (admitted_each job) bytes _ _ _
-    (λ input. admitted_as under policy (requirements_value job.requirements) job.readable (usable c.in-Ok.keys) setting input (rw c.requires.sizes.keys_are (sym c.in-Ok.ensures.exact)) (rw c.requires.claims (c.new-verifier.ensures.context ∙ c.token_context-context.ensures.setting)))
-    (rw (c.requires.sizes.header_is, c.requires.sizes.nesting_is, ← c.policy_of-policy.ensures) (c.print_all.ensures.prints bytes (c.new-intake.ensures.known ∙ known)))
+    prints_as (admitted_in setting under (policy_value c.policy_of-policy.result) (requirements_value job.requirements) job.readable) (admitted_each job) bytes _ _ _
+    (λ input. ap (λ (p : PolicyValue). admitted_in setting under p (requirements_value job.requirements) job.readable input) c.policy_of-policy.ensures ∙ admitted_as under policy (requirements_value job.requirements) job.readable (usable c.in-Ok.keys) setting input (rw c.requires.sizes.keys_are (sym c.in-Ok.ensures.exact)) (rw c.requires.claims (c.new-verifier.ensures.context ∙ c.token_context-context.ensures.setting)))
+    (rw (c.requires.sizes.header_is, c.requires.sizes.nesting_is) (c.print_all.ensures.prints bytes (c.new-intake.ensures.known ∙ known)))
 
 pub returns-clause-fails : goal.returns-clause-fails
 returns-clause-fails g c = λ bytes e two.
@@ -35,6 +37,6 @@ returns-clause-fails g c = λ bytes e two.
     let policy = program_policy job.now job.leeway (option_map text_value job.aud) in
     let setting = setting_in c.new-verifier.result in
     let known = behind_buffer (λ r. g.R.Read.remaining r.now) c.in-Ok-with_capacity.reader _ bytes c.in-Ok-with_capacity.ensures.inner c.in-Ok-with_capacity.ensures.empty c.in-Ok-with_capacity.ensures.capacity e in
-    fails_after_as (admitted_in setting under policy (requirements_value job.requirements) job.readable) (admitted_each job) bytes _ _
-    (λ input. admitted_as under policy (requirements_value job.requirements) job.readable (usable c.in-Ok.keys) setting input (rw c.requires.sizes.keys_are (sym c.in-Ok.ensures.exact)) (rw c.requires.claims (c.new-verifier.ensures.context ∙ c.token_context-context.ensures.setting)))
-    (rw (c.requires.sizes.header_is, c.requires.sizes.nesting_is, ← c.policy_of-policy.ensures) (c.print_all.ensures.fails bytes (c.new-intake.ensures.known ∙ known) two))
+    fails_after_as (admitted_in setting under (policy_value c.policy_of-policy.result) (requirements_value job.requirements) job.readable) (admitted_each job) bytes _ _
+    (λ input. ap (λ (p : PolicyValue). admitted_in setting under p (requirements_value job.requirements) job.readable input) c.policy_of-policy.ensures ∙ admitted_as under policy (requirements_value job.requirements) job.readable (usable c.in-Ok.keys) setting input (rw c.requires.sizes.keys_are (sym c.in-Ok.ensures.exact)) (rw c.requires.claims (c.new-verifier.ensures.context ∙ c.token_context-context.ensures.setting)))
+    (rw (c.requires.sizes.header_is, c.requires.sizes.nesting_is) (c.print_all.ensures.fails bytes (c.new-intake.ensures.known ∙ known) two))

@@ -1,4 +1,4 @@
-use Rattle.std.proofs.Common.{ℕ, List, [], ap, arith, option_map, subst, sym, ◌<◌, ◌∙◌}
+use Rattle.std.proofs.Common.{ℕ, List, [], ap, arith, option_map, subst, sym, ◌<◌, ◌≤◌, ◌∙◌}
 use Rattle.cose_cwt.specs.Admission.View.{policy_value}
 use Rattle.cose_cwt.specs.Requirements.View.{requirements_value}
 use Rattle.cose_map.specs.Key.View.{contents}
@@ -69,3 +69,18 @@ returns-clause-same_lines g c =
     let tokens = c.args.self.now in
     let has = anew tokens.verifier c.reset.new.self tokens.verifies c.reset.ensures.none_taken in
     ap (λ (s : Setting). λ (message : List ℕ). outcome_said tokens.readable (input_token g.row.H g.row.D s (vouching (option_map contents tokens.vouch.word)) (policy_value tokens.policy) (requirements_value tokens.requirements) message)) (c.verify_cwt-claims.ensures.context (setting_in tokens.verifier) has ∙ c.reset.ensures.context)
+
+pub invariant_of-self : goal.invariant_of-self
+invariant_of-self g c =
+    let tokens = c.args.self.now in
+    let has = anew tokens.verifier c.reset.new.self tokens.verifies c.reset.ensures.none_taken in
+    let same = c.verify_cwt-claims.ensures.context (setting_in tokens.verifier) has ∙ c.reset.ensures.context in
+    record {
+      nesting = tokens.nesting;
+      some_store = tokens.some_store;
+      store_limit = tokens.store_limit;
+      verifies = c.verify_cwt-claims.ensures.inspects;
+      attached = c.verify_cwt-claims.ensures.attached;
+      cwt = ap (λ (s : Setting). s.cwt) same ∙ tokens.cwt;
+      payload_limit = subst (λ (s : Setting). s.payload_limit ≤ g.row.L) (sym same) tokens.payload_limit;
+    }
