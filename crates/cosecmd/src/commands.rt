@@ -255,7 +255,7 @@ const TOKENS: CommandOption = CommandOption {
     argument: "",
     value: Value::Flag,
     presence: Presence::Optional,
-    help: "Admit each token of a CBOR sequence (RFC 8742), each after a line with its place, until the next can't be found",
+    help: "Take a CBOR sequence of messages (RFC 8742), each printed after its place",
 };
 
 /// Each message of a sequence.
@@ -264,7 +264,7 @@ const SEQUENCE: CommandOption = CommandOption {
     argument: "",
     value: Value::Flag,
     presence: Presence::WithoutAny(&["payload", "payload-file", "payload-length"]),
-    help: "Verify each message of a CBOR sequence (RFC 8742), each after a line with its place, until the next can't be found",
+    help: "Take a CBOR sequence of messages (RFC 8742), each printed after its place",
 };
 
 /// The current time.
