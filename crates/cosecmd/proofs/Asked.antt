@@ -45,7 +45,9 @@ not_made (asks.Make words) A by_name other = absurd (other (by_name refl))
 not_made (asks.Show limits wanted diagnostic) A by_name other = refl
 not_made (asks.Message question checks from) A by_name other = refl
 not_made (asks.Keep checks name) A by_name other = refl
+not_made (asks.MessageSequence checks) A by_name other = refl
 not_made (asks.Cwt words) A by_name other = refl
+not_made (asks.TokenSequence words) A by_name other = refl
 not_made (asks.Keys words) A by_name other = refl
 
 pub message_words : (question : Question) (owned : OwnedChecks) (checks : Checks) (payload : Option (Bor (List ℕ))) (detached : Option (List ℕ)) (bytes : List ℕ) (job : Job) → job ≡ job_of question checks payload →

@@ -10,14 +10,14 @@ use Rattle.cose_map.specs.Key.{key_of}
 use Rattle.cose_cwt.specs.Claims.Audience.{text_value}
 use Rattle.cose_cwt.specs.Requirements.{RequirementsValue}
 use Rattle.cosecmd.specs.Admitted.{program_policy}
-use Rattle.cosecmd.specs.CommandLine.{IsFoundIn, IsReadFrom, begins_as_answer, command_prints, cwt_prints, keys_prints, line_prints, make_prints, matches_print}
+use Rattle.cosecmd.specs.CommandLine.{Admits, IsFoundIn, IsReadFrom, begins_as_answer, command_prints, keys_prints, line_prints, make_prints, matches_print, tokens_print}
 use Rattle.cosecmd.specs.Fields.{AreChecks, CwtFields, KeysFields, MakeFields, checks_in}
 use Rattle.cosecmd.specs.Options.{Options, ◌>>=◌, flag_in, key_in, key_set_in, text_in}
 use Rattle.cosecmd.specs.PayloadTo.{new_file_of}
-use Rattle.cosecmd.specs.Printed.{Output, admitted_under, keys_listed, made_under}
-use Rattle.cosecmd.specs.Requirements.{requirements_with}
+use Rattle.cosecmd.specs.Printed.{Output, keys_listed, made_under}
+use Rattle.cosecmd.specs.Requirements.{requirements_for, requirements_with}
 use Rattle.cosecmd.specs.Under.{Under, owned_under}
-use Rattle.cosecmd.specs.Arguments.{admitted_for, made_for}
+use Rattle.cosecmd.specs.Arguments.{made_for}
 use Rattle.cosecmd.specs.declared.request.Cwt.{Cwt}
 use Rattle.cosecmd.specs.declared.request.Keys.{Keys}
 use Rattle.cosecmd.specs.declared.request.Make.{Make}
@@ -38,23 +38,25 @@ payload_asks prints (Some under) (Some detached) checks payload bytes said are i
     let same : prints under detached bytes ≡ said = cc in
     (detached, is, ap (λ (u : Under). prints u detached bytes) (are under refl) ∙ same)
 
-pub cwt_asks : (content : List ℕ → Option (List ℕ)) (options : Options) (words : Cwt) (bytes : List ℕ) (said : Output) → CwtFields content options words → cwt_prints content options bytes ≡ Some said →
-    admitted_for words bytes ≡ said
-cwt_asks content options words bytes said fields prints = go (checks_in content options) refl
+-- What the options state of a token, or of each of a sequence, is what they ask for.
+pub cwt_asks : (admits : Admits) (content : List ℕ → Option (List ℕ)) (options : Options) (words : Cwt) (bytes : List ℕ) (said : Output) → CwtFields content options words → tokens_print admits content options bytes ≡ Some said →
+    admits (owned_under words.checks) (program_policy words.now words.leeway (option_map text_value words.aud)) (requirements_for words.now words.leeway words.required) words.readable bytes ≡ said
+cwt_asks admits content options words bytes said fields prints = go (checks_in content options) refl
   where
-    go : (known : Option Under) → checks_in content options ≡ known → admitted_for words bytes ≡ said
+    go : (known : Option Under) → checks_in content options ≡ known →
+        admits (owned_under words.checks) (program_policy words.now words.leeway (option_map text_value words.aud)) (requirements_for words.now words.leeway words.required) words.readable bytes ≡ said
     go None checks =
         let none : None ≡ Some said = rw checks at prints in
         cc
     go (Some under) checks =
         let required : RequirementsValue = requirements_with words.now words.leeway options words.required.present.items in
-        let some : Some (admitted_under under (program_policy words.now words.leeway (text_in (codes "aud") options)) required (flag_in (codes "text") options) bytes) ≡ Some said =
+        let some : Some (admits under (program_policy words.now words.leeway (text_in (codes "aud") options)) required (flag_in (codes "text") options) bytes) ≡ Some said =
         rw (checks, fields.now, fields.leeway, fields.required.present) at prints in
-        let same : admitted_under under (program_policy words.now words.leeway (text_in (codes "aud") options)) required (flag_in (codes "text") options) bytes ≡ said = cc in
-        ap (λ (r : RequirementsValue). admitted_under (owned_under words.checks) (program_policy words.now words.leeway (option_map text_value words.aud)) r words.readable bytes)
-        (same_requirements words.now words.leeway options words.required fields.required) ∙ ap (λ (aud : Option (List ℕ)). admitted_under (owned_under words.checks) (program_policy words.now words.leeway aud) required words.readable bytes) fields.aud
-        ∙ ap (λ (readable : Bool). admitted_under (owned_under words.checks) (program_policy words.now words.leeway (text_in (codes "aud") options)) required readable bytes) fields.readable
-        ∙ ap (λ (u : Under). admitted_under u (program_policy words.now words.leeway (text_in (codes "aud") options)) required (flag_in (codes "text") options) bytes) (fields.checks under checks) ∙ same
+        let same : admits under (program_policy words.now words.leeway (text_in (codes "aud") options)) required (flag_in (codes "text") options) bytes ≡ said = cc in
+        ap (λ (r : RequirementsValue). admits (owned_under words.checks) (program_policy words.now words.leeway (option_map text_value words.aud)) r words.readable bytes)
+        (same_requirements words.now words.leeway options words.required fields.required) ∙ ap (λ (aud : Option (List ℕ)). admits (owned_under words.checks) (program_policy words.now words.leeway aud) required words.readable bytes) fields.aud
+        ∙ ap (λ (readable : Bool). admits (owned_under words.checks) (program_policy words.now words.leeway (text_in (codes "aud") options)) required readable bytes) fields.readable
+        ∙ ap (λ (u : Under). admits u (program_policy words.now words.leeway (text_in (codes "aud") options)) required (flag_in (codes "text") options) bytes) (fields.checks under checks) ∙ same
 
 pub keys_asks : (content : List ℕ → Option (List ℕ)) (options : Options) (words : Keys) (said : Output) → KeysFields content options words →
     keys_prints content options ≡ Some said → keys_listed words.keys.items ≡ said

@@ -1,6 +1,7 @@
 pub mod Admissions
 pub mod AllowedKeys
 pub mod Asked
+pub mod AskedSequences
 pub mod ChecksAsked
 pub mod CommandLines
 pub mod DigestPayloads
@@ -10,14 +11,19 @@ pub mod KeptPayloads
 pub mod KeyFiles
 pub mod Listings
 pub mod Makings
+pub mod NextTokens
+pub mod Nexts
 pub mod Options
+pub mod PartLines
 pub mod PayloadFiles
 pub mod Replies
 pub mod RequiredOptions
+pub mod Sequences
 pub mod Shows
 pub mod Sizes
 pub mod Stated
 pub mod Trailing
+pub mod VerifiedSequences
 pub mod Vouches
 pub mod WorkedAdmitted
 pub mod WorkedAllowed
@@ -30,5 +36,6 @@ pub mod WorkedOptions
 pub mod WorkedPayloads
 pub mod WorkedPrinted
 pub mod WorkedRequired
+pub mod WorkedSequences
 pub mod WorkedShown
 pub mod Writes

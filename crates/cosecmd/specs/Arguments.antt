@@ -6,6 +6,7 @@ use Rattle.cosecmd.specs.Admitted.{program_policy}
 use Rattle.cosecmd.specs.Payload.{detached_in}
 use Rattle.cosecmd.specs.Printed.{Output, admitted_under, answered_under, keys_listed, made_under, shown, verified_under}
 use Rattle.cosecmd.specs.Requirements.{requirements_for}
+use Rattle.cosecmd.specs.Sequence.{admitted_sequence, verified_sequence}
 use Rattle.cosecmd.specs.Under.{owned_under}
 use Rattle.cosecmd.specs.declared.request.Cwt.{Cwt}
 use Rattle.cosecmd.specs.declared.request.Make.{Make}
@@ -16,6 +17,10 @@ abbrev pub admitted_for : Cwt → List ℕ → Output
 admitted_for words bytes =
     admitted_under (owned_under words.checks) (program_policy words.now words.leeway (option_map text_value words.aud)) (requirements_for words.now words.leeway words.required) words.readable bytes
 
+abbrev pub admitted_each_for : Cwt → List ℕ → Output
+admitted_each_for words bytes =
+    admitted_sequence (owned_under words.checks) (program_policy words.now words.leeway (option_map text_value words.aud)) (requirements_for words.now words.leeway words.required) words.readable bytes
+
 abbrev pub made_for : Make → List ℕ → Output
 made_for words bytes =
     made_under (key_of (record { bytes = words.key.items; place = 0 })) words.alg words.length (option_map (λ word. word.items) words.kid) words.aad.items bytes
@@ -24,8 +29,10 @@ made_for words bytes =
 abbrev pub payload_for : (List ℕ → Option (List ℕ)) → Request → Option (Option (List ℕ))
 payload_for content (asks.Message question checks payload) = detached_in content payload
 payload_for content (asks.Keep checks name) = Some None
+payload_for content (asks.MessageSequence checks) = Some None
 payload_for content (asks.Show limits wanted diagnostic) = Some None
 payload_for content (asks.Cwt words) = Some None
+payload_for content (asks.TokenSequence words) = Some None
 payload_for content (asks.Keys words) = Some None
 payload_for content (asks.Make words) = Some None
 
@@ -34,7 +41,9 @@ abbrev pub asked_for : Request → Option (List ℕ) → List ℕ → Output
 asked_for (asks.Show limits wanted diagnostic) payload bytes = shown limits wanted diagnostic bytes
 asked_for (asks.Message question checks from) payload bytes = answered_under question (owned_under checks) payload bytes
 asked_for (asks.Keep checks name) payload bytes = verified_under (owned_under checks) payload bytes
+asked_for (asks.MessageSequence checks) payload bytes = verified_sequence (owned_under checks) bytes
 asked_for (asks.Cwt words) payload bytes = admitted_for words bytes
+asked_for (asks.TokenSequence words) payload bytes = admitted_each_for words bytes
 asked_for (asks.Keys words) payload bytes = keys_listed words.keys.items
 asked_for (asks.Make words) payload bytes = made_for words bytes
 
@@ -44,5 +53,18 @@ makes (asks.Make words) = true
 makes (asks.Show limits wanted diagnostic) = false
 makes (asks.Message question checks from) = false
 makes (asks.Keep checks name) = false
+makes (asks.MessageSequence checks) = false
 makes (asks.Cwt words) = false
+makes (asks.TokenSequence words) = false
 makes (asks.Keys words) = false
+
+-- Whether the messages or the tokens of a sequence are asked for.
+abbrev pub is_sequence : Request → Bool
+is_sequence (asks.MessageSequence checks) = true
+is_sequence (asks.TokenSequence words) = true
+is_sequence (asks.Show limits wanted diagnostic) = false
+is_sequence (asks.Message question checks from) = false
+is_sequence (asks.Keep checks name) = false
+is_sequence (asks.Cwt words) = false
+is_sequence (asks.Keys words) = false
+is_sequence (asks.Make words) = false

@@ -8,6 +8,8 @@ use Rattle.clap.specs.Simple.{HasMatchesOf, app_of, subcommand_rows_of}
 use Rattle.clap.specs.Walk.{Text}
 use Rattle.clap.specs.declared.builder.command.Command.{Command}
 use Rattle.clap.specs.declared.parser.matches.ArgMatches.{ArgMatches}
+use Rattle.cose_cwt.specs.Admission.{PolicyValue}
+use Rattle.cose_cwt.specs.Requirements.{RequirementsValue}
 use Rattle.cose_map.specs.Key.{key_of}
 use Rattle.cose_msg.specs.Sink.{AppendsFront}
 use Rattle.cosecmd.specs.Admitted.{program_policy}
@@ -16,6 +18,8 @@ use Rattle.cosecmd.specs.Options.{Options, ◌>>=◌, algorithm_in, bytes_in, fl
 use Rattle.cosecmd.specs.Fields.{checks_in, digest_checks_in}
 use Rattle.cosecmd.specs.Printed.{EndsWith, Fails, Output, admitted_under, digested_under, keys_listed, made_under, shown, verified_under}
 use Rattle.cosecmd.specs.Requirements.{requirements_in}
+use Rattle.cosecmd.specs.Sequence.{FailsInSequence, admitted_sequence, verified_sequence}
+use Rattle.cosecmd.specs.Under.{Under}
 use Rattle.cosecmd.specs.Arguments.{asked_for, payload_for}
 use Rattle.cosecmd.specs.declared.fault.Fault.{Fault}
 use Rattle.cosecmd.specs.declared.reply.Status.TheVariants as statuses
@@ -23,19 +27,37 @@ use Rattle.cosecmd.specs.declared.request.Request.{Request}
 use Rattle.cosecmd.specs.declared.arguments.Parsed.{Parsed}
 use Rattle.cosecmd.specs.declared.arguments.Parsed.TheVariants.{Matches, Text as Reply}
 
-abbrev pub verify_prints : (List ℕ → Option (List ℕ)) → Options → List ℕ → Option Output
-verify_prints content options bytes = do
+abbrev pub message_prints : (List ℕ → Option (List ℕ)) → Options → List ℕ → Option Output
+message_prints content options bytes = do
   under ← checks_in content options
   payload ← payload_in content options
   Some (verified_under under payload bytes)
 
-abbrev pub cwt_prints : (List ℕ → Option (List ℕ)) → Options → List ℕ → Option Output
-cwt_prints content options bytes = do
+-- Each message of a sequence has its payload.
+abbrev pub sequence_prints : (List ℕ → Option (List ℕ)) → Options → List ℕ → Option Output
+sequence_prints content options bytes = do
+  under ← checks_in content options
+  Some (verified_sequence under bytes)
+
+abbrev pub verify_prints : (List ℕ → Option (List ℕ)) → Options → List ℕ → Option Output
+verify_prints content options bytes =
+    if flag_in (codes "sequence") options then sequence_prints content options bytes else message_prints content options bytes
+
+-- What `cwt` prints for an input under what the options say.
+abbrev pub Admits : Type 0
+Admits = Under → PolicyValue → RequirementsValue → Bool → List ℕ → Output
+
+abbrev pub tokens_print : Admits → (List ℕ → Option (List ℕ)) → Options → List ℕ → Option Output
+tokens_print admits content options bytes = do
   under ← checks_in content options
   now ← integer_in (codes "now") options
   leeway ← number_in (codes "leeway") options
   requirements ← requirements_in now leeway options
-  Some (admitted_under under (program_policy now leeway (text_in (codes "aud") options)) requirements (flag_in (codes "text") options) bytes)
+  Some (admits under (program_policy now leeway (text_in (codes "aud") options)) requirements (flag_in (codes "text") options) bytes)
+
+abbrev pub cwt_prints : (List ℕ → Option (List ℕ)) → Options → List ℕ → Option Output
+cwt_prints content options bytes =
+    if flag_in (codes "sequence") options then tokens_print admitted_sequence content options bytes else tokens_print admitted_under content options bytes
 
 abbrev pub digest_prints : (List ℕ → Option (List ℕ)) → Options → List ℕ → Option Output
 digest_prints content options bytes = do
@@ -76,6 +98,14 @@ line_prints content (Some command) bytes = command_prints content command.0 comm
 abbrev pub matches_print : (List ℕ → Option (List ℕ)) → ArgMatches → List ℕ → Option Output
 matches_print content matches bytes = line_prints content (subcommand_rows_of matches) bytes
 
+-- Whether the command has the option `--sequence`.
+abbrev pub has_sequence : Option (Text × Options) → Bool
+has_sequence None = false
+has_sequence (Some command) = flag_in (codes "sequence") command.1
+
+abbrev pub is_of_sequence : ArgMatches → Bool
+is_of_sequence matches = has_sequence (subcommand_rows_of matches)
+
 -- A request for which this is printed, with the payload that it names.
 abbrev pub AsksFor : (List ℕ → Option (List ℕ)) → Request → List ℕ → Output → Type 0
 AsksFor content request bytes said = (payload : Option (List ℕ)) × (payload_for content request ≡ Some payload) × (asked_for request payload bytes ≡ said)
@@ -104,12 +134,20 @@ Answers content words bytes old new status =
     ((text : Text) × (begins_as_answer text ≡ false) × EndsWith (record { text = text; status = statuses.Done }) old new status)
     ⊎ ((matches : ArgMatches) × IsFoundIn words matches × ((said : Output) → matches_print content matches bytes ≡ Some said → EndsWith said old new status))
 
--- What a run with these arguments has written that ends with status 2: the line of a fault, or a text of clap's, or, for
--- what clap found, a fault's line or a part of what is printed for it. Any of them may be cut short where the output fails.
--- `make` may have begun its message.
+-- What is printed for what clap found, for each input.
+abbrev pub PrintsEach : (List ℕ → Option (List ℕ)) → ArgMatches → (List ℕ → Output) → Type 0
+PrintsEach content matches said = (input : List ℕ) → matches_print content matches input ≡ Some (said input)
+
+-- What a run has written that ends with status 2, by what clap found: a fault's line, or a part of what is printed for it. A
+-- sequence may have lines before that of a fault: those of a front of the input.
+pub record FailsAsFound (content : List ℕ → Option (List ℕ)) (matches : ArgMatches) (bytes : List ℕ) (old new : Option (List ℕ)) : Type 0 where
+  pub one : (said : Output) → matches_print content matches bytes ≡ Some said → subcommand_name_of matches ≢ Some (codes "make") → is_of_sequence matches ≡ false → Fails said old new
+  pub sequence : (said : List ℕ → Output) → PrintsEach content matches said → subcommand_name_of matches ≢ Some (codes "make") → FailsInSequence said bytes old new
+
+-- What a run with these arguments has written that ends with status 2: the line of a fault, or a text of clap's, or what is
+-- written by what clap found. Any of them may be cut short where the output fails. `make` may have begun its message.
 abbrev pub FailsOn : (List ℕ → Option (List ℕ)) → List Text → List ℕ → Option (List ℕ) → Option (List ℕ) → Type 0
 FailsOn content words bytes old new =
     ((fault : Fault) × WritesLine fault old new)
     ⊎ (((text : Text) × (begins_as_answer text ≡ false) × AppendsFront old new text)
-    ⊎ ((matches : ArgMatches) × IsFoundIn words matches
-    × ((said : Output) → matches_print content matches bytes ≡ Some said → subcommand_name_of matches ≢ Some (codes "make") → Fails said old new)))
+    ⊎ ((matches : ArgMatches) × IsFoundIn words matches × FailsAsFound content matches bytes old new))

@@ -10,12 +10,14 @@ pub mod KeysListed
 pub mod Limits
 pub mod NewFile
 pub mod Options
+pub mod Part
 pub mod Payload
 pub mod PayloadFile
 pub mod PayloadTo
 pub mod Printed
 pub mod Readable
 pub mod Requirements
+pub mod Sequence
 pub mod Stated
 pub mod Under
 pub mod Vouch

@@ -14,7 +14,7 @@ use Rattle.cosecmd.specs.Payload.{detached_in}
 use Rattle.cosecmd.specs.Printed.{setting_under, verified_under}
 use Rattle.cosecmd.specs.Under.{Under, owned_under}
 use Rattle.cosecmd.specs.Vouch.{vouching}
-use Rattle.cosecmd.specs.Arguments.{asked_for, makes, payload_for}
+use Rattle.cosecmd.specs.Arguments.{asked_for, is_sequence, makes, payload_for}
 use Rattle.cosecmd.specs.declared.fault.Fault.{Fault}
 use Rattle.cosecmd.specs.declared.fault.Fault.TheVariants as faults
 use Rattle.cosecmd.specs.declared.request.OwnedChecks.{OwnedChecks}
@@ -54,7 +54,9 @@ abbrev pub new_file_for : Request → Option Text
 new_file_for (asks.Keep checks name) = Some name.now
 new_file_for (asks.Show limits wanted diagnostic) = None
 new_file_for (asks.Message question checks payload) = None
+new_file_for (asks.MessageSequence checks) = None
 new_file_for (asks.Cwt words) = None
+new_file_for (asks.TokenSequence words) = None
 new_file_for (asks.Keys words) = None
 new_file_for (asks.Make words) = None
 
@@ -63,6 +65,7 @@ pub record AsksToVerify (checks : OwnedChecks) (payload : Payload) (request : Re
   pub payload_is : (content : List ℕ → Option (List ℕ)) → payload_for content request ≡ detached_in content payload
   pub asked : (detached : Option (List ℕ)) (bytes : List ℕ) → asked_for request detached bytes ≡ verified_under (owned_under checks) detached bytes
   pub makes_none : makes request ≡ false
+  pub one : is_sequence request ≡ false
 
 -- Where the arguments name a new file whose name exists, nothing of the input is read, and there is a fault.
 abbrev pub ReadsNothingBefore : {R : Type 0} → (List ℕ → Option Bool) → List Text → R → R → ℕ → Type 0

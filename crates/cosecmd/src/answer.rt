@@ -4,25 +4,30 @@ ghost use Rattle.std.specs.Prelude.{◌≡◌, ◌≤◌, ◌⊎◌, ℕ, false,
 ghost use Rattle.cosecmd.specs.Faults.{WritesLine, making_fault};
 ghost use Rattle.cosecmd.specs.Job.{aad_of, is_make, reads_input};
 ghost use Rattle.cosecmd.specs.Printed.{EndsWith, Fails, Prints, Says, printed};
+ghost use Rattle.cosecmd.specs.Sequence.{FailsInSequence, admitted_each, verified_sequence};
 ghost use Rattle.cosecmd.specs.Stated.{answered_from};
+ghost use Rattle.cosecmd.specs.Under.{job_under};
 
 mod cwt;
 mod digest;
 mod keys;
 mod make;
 pub mod payload_to;
+mod sequence;
 mod show;
 mod unmet;
 mod verify;
 
 use crate::fault::Fault;
-use crate::job::{FileJob, Job, Question};
+use crate::job::{Checks, FileJob, Job, Question, TokenJob};
 use crate::print::{print_fault, print_reply};
 use crate::reply::{Reply, Status};
 use cwt::{cwt_reply, policy_of};
 use digest::{digest_reply, digest_reply_with_file};
 use keys::keys_reply;
 use make::make_message;
+use sequence::messages::print_verified;
+use sequence::tokens::print_admitted;
 use show::show_reply;
 use std::alloc::Global;
 use std::io::{Read, Write};
@@ -167,4 +172,50 @@ pub fn answer_with_payload_file<P: Read, R: Read, W: Write>(
 {
     let reply = reply_with_file(alloc, job, payload, input);
     print_reply(alloc, reply, output).code()
+}
+
+/// Verifies each message of a CBOR sequence (RFC 8742), each of which is followed at once by the next, and writes for each the
+/// lines that [`answer`] writes for it alone, after a line with its place.
+///
+/// A message takes the bytes up to its end and none after it, where the next begins. Where one is refused before its end, a last
+/// line says so, since the next can't be found. It returns 0 where all are authentic, 1 where one isn't, and 2 where there is a
+/// fault, whose line follows those that were written before.
+pub fn answer_message_sequence<R: Read, W: Write>(
+    alloc: Global,
+    checks: &Checks,
+    input: &mut R,
+    output: &mut W,
+) -> u8
+    requires external { length_of checks.now.aad.now ≤ 65535 }
+    ensures status { result ≤ 2 }
+    // Each message takes the bytes up to its end and none after it, where the next begins.
+    ensures printed { (bytes : List ℕ) → R.remaining input.old ≡ Some bytes →
+        EndsWith (verified_sequence (job_under checks.now) bytes) (W.contents output.old)
+        (W.contents output.new) result }
+    ensures fails { (bytes : List ℕ) → R.remaining input.old ≡ Some bytes → result ≡ 2 →
+        FailsInSequence (verified_sequence (job_under checks.now)) bytes (W.contents output.old)
+        (W.contents output.new) }
+{
+    print_verified(alloc, checks, input, output).code()
+}
+
+/// Admits each token of a CBOR sequence (RFC 8742), and writes for each the lines that [`answer`] writes for it alone, after a line
+/// with its place. In all else it is as [`answer_message_sequence`]; a token whose claims are refused, or don't meet what is
+/// required, was read to its end.
+pub fn answer_token_sequence<'j, R: Read, W: Write>(
+    alloc: Global,
+    job: &'j TokenJob<'j>,
+    input: &mut R,
+    output: &mut W,
+) -> u8
+    requires external { length_of job.now.checks.aad.now ≤ 65535 }
+    ensures status { result ≤ 2 }
+    // Each token takes the bytes up to its end and none after it, where the next begins.
+    ensures printed { (bytes : List ℕ) → R.remaining input.old ≡ Some bytes →
+        EndsWith (admitted_each job.entry.now bytes) (W.contents output.old) (W.contents output.new) result }
+    ensures fails { (bytes : List ℕ) → R.remaining input.old ≡ Some bytes → result ≡ 2 →
+        FailsInSequence (admitted_each job.entry.now) bytes (W.contents output.old)
+        (W.contents output.new) }
+{
+    print_admitted(alloc, job, input, output).code()
 }

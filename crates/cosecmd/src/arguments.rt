@@ -4,13 +4,13 @@ ghost use Rattle.std.specs.Prelude.{◌≡◌, ◌≢◌, ◌≤◌, ◌⊎◌, 
 ghost use Rattle.clap.specs.Matches.{first_value, found_of, subcommand_name_of};
 ghost use Rattle.clap.specs.Simple.{subcommand_rows_of};
 ghost use Rattle.cose_cwt.specs.Claims.Audience.{text_value};
-ghost use Rattle.cosecmd.specs.CommandLine.{AsksFor, IsReadFrom, begins_as_answer, digest_prints, matches_print, verify_prints};
+ghost use Rattle.cosecmd.specs.CommandLine.{AsksFor, IsReadFrom, begins_as_answer, cwt_prints, digest_prints, is_of_sequence, matches_print, message_prints, sequence_prints, verify_prints};
 ghost use Rattle.cosecmd.specs.Fields.{AreChecks, CwtFields, HasKeysOf, IsKeyOf, IsListedAs, KeysFields, MakeFields, checks_in, digest_checks_in};
 ghost use Rattle.cosecmd.specs.Options.{algorithm_in, bytes_in, flag_in, hex_bytes, integer_in, kind_in, kind_named, limits_in, limits_named, number_in, optional_bytes_in, options_of, payload_in, text_in};
 ghost use Rattle.cosecmd.specs.Payload.{IsFile, detached_in};
 ghost use Rattle.cosecmd.specs.PayloadTo.{AsksToVerify, new_file_for, new_file_of};
 ghost use Rattle.cosecmd.specs.Printed.{Output};
-ghost use Rattle.cosecmd.specs.Arguments.{makes};
+ghost use Rattle.cosecmd.specs.Arguments.{is_sequence, makes};
 
 use crate::allowed::allowed_of;
 use crate::commands::line;
@@ -432,7 +432,48 @@ fn verify_or_keep<'a>(
     }
 }
 
-/// What the arguments of `verify` ask for. The payload goes last, as help lists it.
+/// What the arguments of `verify` ask for, where the input is one message. The payload goes last, as help lists it.
+fn message_request<'a, F: NamedFiles>(
+    alloc: Global,
+    files: &F,
+    matches: &ArgMatches<'a>,
+) -> Result<Request<'a>, Fault>
+    ensures asks { IfOk result (λ request. (bytes : List ℕ) (said : Output) →
+        message_prints (F.content files.now) (options_of matches.now) bytes ≡ Some said →
+        AsksFor (F.content files.now) request bytes said) }
+    ensures verifies { IfOk result (λ request. makes request ≡ false) }
+    ensures one { IfOk result (λ request. is_sequence request ≡ false) }
+    // Where the arguments name a new file, the payload is to be kept in it.
+    ensures keeps { IfOk result (λ request. new_file_for request
+        ≡ text_in (codes "payload-to") (options_of matches.now)) }
+{
+    let checks = checks_of(alloc, files, matches)?;
+    let payload = payload_of(alloc, matches)?;
+    verify_or_keep(checks, payload, text_of(matches, "payload-to"))
+}
+
+/// What the arguments of `verify` ask for, where the input is a sequence.
+fn sequence_request<'a, F: NamedFiles>(
+    alloc: Global,
+    files: &F,
+    matches: &ArgMatches<'a>,
+) -> Result<Request<'a>, Fault>
+    ensures asks { IfOk result (λ request. (bytes : List ℕ) (said : Output) →
+        sequence_prints (F.content files.now) (options_of matches.now) bytes ≡ Some said →
+        AsksFor (F.content files.now) request bytes said) }
+    ensures verifies { IfOk result (λ request. makes request ≡ false) }
+    ensures keeps { IfOk result (λ request. new_file_for request
+        ≡ text_in (codes "payload-to") (options_of matches.now)) }
+{
+    // clap refuses the options together.
+    if text_of(matches, "payload-to").is_some() {
+        return Err(Fault::Line("payload-to"));
+    }
+    let checks = checks_of(alloc, files, matches)?;
+    Ok(Request::MessageSequence(checks))
+}
+
+/// What the arguments of `verify` ask for.
 fn verify_request<'a, F: NamedFiles>(
     alloc: Global,
     files: &F,
@@ -445,10 +486,35 @@ fn verify_request<'a, F: NamedFiles>(
     // Where the arguments name a new file, the payload is to be kept in it.
     ensures keeps { IfOk result (λ request. new_file_for request
         ≡ text_in (codes "payload-to") (options_of matches.now)) }
+    // It is a sequence only where the option says so.
+    ensures sequence { IfOk result (λ request. is_sequence request ≡ true
+        → flag_in (codes "sequence") (options_of matches.now) ≡ true) }
 {
-    let checks = checks_of(alloc, files, matches)?;
-    let payload = payload_of(alloc, matches)?;
-    verify_or_keep(checks, payload, text_of(matches, "payload-to"))
+    if flag_of(matches, "sequence") {
+        return sequence_request(alloc, files, matches);
+    }
+    message_request(alloc, files, matches)
+}
+
+/// What the arguments of `cwt` ask for.
+fn cwt_request<'a, F: NamedFiles>(
+    alloc: Global,
+    files: &F,
+    matches: &ArgMatches<'a>,
+) -> Result<Request<'a>, Fault>
+    ensures asks { IfOk result (λ request. (bytes : List ℕ) (said : Output) →
+        cwt_prints (F.content files.now) (options_of matches.now) bytes ≡ Some said →
+        AsksFor (F.content files.now) request bytes said) }
+    ensures admits { IfOk result (λ request. makes request ≡ false) }
+    ensures keeps { IfOk result (λ request. new_file_for request ≡ None) }
+    ensures sequence { IfOk result (λ request. is_sequence request ≡ true
+        → flag_in (codes "sequence") (options_of matches.now) ≡ true) }
+{
+    let words = cwt_of(alloc, files, matches)?;
+    if flag_of(matches, "sequence") {
+        return Ok(Request::TokenSequence(words));
+    }
+    Ok(Request::Cwt(words))
 }
 
 /// What the arguments of `digest` ask for. The payload goes last, as help lists it.
@@ -462,6 +528,7 @@ fn digest_request<'a, F: NamedFiles>(
         AsksFor (F.content files.now) request bytes said) }
     ensures digests { IfOk result (λ request. makes request ≡ false) }
     ensures keeps { IfOk result (λ request. new_file_for request ≡ None) }
+    ensures one { IfOk result (λ request. is_sequence request ≡ false) }
 {
     let checks = digest_checks_of(alloc, files, matches)?;
     let payload = payload_of(alloc, matches)?;
@@ -497,6 +564,9 @@ pub fn request_of<'a, F: NamedFiles>(
     // A new file is made where the arguments name one.
     ensures keeping { IfOk result (λ request. new_file_for request
         ≡ new_file_of (subcommand_rows_of matches.now)) }
+    // A sequence is asked for only where the option says so.
+    ensures sequence { IfOk result (λ request. is_sequence request ≡ true
+        → is_of_sequence matches.now ≡ true) }
 {
     if let Some(show) = matches.subcommand_matches("show") {
         return Ok(Request::Show {
@@ -509,7 +579,7 @@ pub fn request_of<'a, F: NamedFiles>(
         return verify_request(alloc, files, verify);
     }
     if let Some(cwt) = matches.subcommand_matches("cwt") {
-        return Ok(Request::Cwt(cwt_of(alloc, files, cwt)?));
+        return cwt_request(alloc, files, cwt);
     }
     if let Some(digest) = matches.subcommand_matches("digest") {
         return digest_request(alloc, files, digest);

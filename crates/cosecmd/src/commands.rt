@@ -276,6 +276,24 @@ const PAYLOAD_TO: CommandOption = CommandOption {
     help: "The new file, mode 0600, that gets the payload of an authentic message; a name that exists is a fault",
 };
 
+/// Each token of a sequence.
+const TOKENS: CommandOption = CommandOption {
+    name: "sequence",
+    argument: "",
+    value: Value::Flag,
+    presence: Presence::Optional,
+    help: "Take a CBOR sequence of messages (RFC 8742), each printed after its place",
+};
+
+/// Each message of a sequence.
+const SEQUENCE: CommandOption = CommandOption {
+    name: "sequence",
+    argument: "",
+    value: Value::Flag,
+    presence: Presence::Without(&["payload", "payload-file", "payload-length", "payload-to"]),
+    help: "Take a CBOR sequence of messages (RFC 8742), each printed after its place",
+};
+
 /// The current time.
 const NOW: CommandOption = CommandOption {
     name: "now",
@@ -452,6 +470,7 @@ const MESSAGE_COMMANDS: &[Subcommand] = &[
             PAYLOAD_FILE,
             PAYLOAD_LENGTH,
             PAYLOAD_TO,
+            SEQUENCE,
             LIMITS,
         ],
         one_of: KEY_SET,
@@ -482,6 +501,7 @@ const TOKEN_COMMANDS: &[Subcommand] = &[
             MAX_LIFETIME,
             MAX_AGE,
             TEXT,
+            TOKENS,
             LIMITS,
         ],
         one_of: KEY_SET,

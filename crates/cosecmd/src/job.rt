@@ -107,6 +107,23 @@ pub enum Job<'j> {
     },
 }
 
+/// What each token of a sequence is admitted under.
+#[derive(Clone, Copy)]
+pub struct TokenJob<'j> {
+    /// What its message is verified under.
+    pub checks: Checks<'j>,
+    /// The current time, in seconds since 1970.
+    pub now: i64,
+    /// By how many seconds the clocks of the issuer and of this machine may differ.
+    pub leeway: u32,
+    /// The text of the audience, where a token that names an audience has to be for it.
+    pub aud: Option<&'j str>,
+    /// What is required of the claims beyond their admission.
+    pub requirements: Requirements<'j>,
+    /// Whether texts are printed in quotes too, and dates as RFC 3339 has them.
+    pub readable: bool,
+}
+
 /// What a run is asked of the message on the input, with a payload from a file.
 #[derive(Clone, Copy)]
 pub struct FileJob<'j> {

@@ -110,8 +110,12 @@ pub enum Request<'w> {
         /// The name of the new file.
         name: &'w str,
     },
+    /// To verify each message of a sequence under these checks.
+    MessageSequence(OwnedChecks),
     /// To admit a token.
     Cwt(Cwt<'w>),
+    /// To admit each token of a sequence.
+    TokenSequence(Cwt<'w>),
     /// To list the items of a key set.
     Keys(Keys),
     /// To make a message.

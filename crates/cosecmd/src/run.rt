@@ -3,21 +3,24 @@
 ghost use Rattle.std.specs.Prelude.{◌≡◌, ◌≢◌, ◌≤◌, ℕ, true, false, List, Option, Some, None, codes, length, map};
 ghost use Rattle.clap.specs.Matches.{subcommand_name_of};
 ghost use Rattle.clap.specs.Simple.{subcommand_rows_of};
-ghost use Rattle.cosecmd.specs.CommandLine.{Answers, FailsOn, matches_print};
+ghost use Rattle.cosecmd.specs.CommandLine.{Answers, FailsOn, PrintsEach, is_of_sequence, matches_print};
 ghost use Rattle.cosecmd.specs.Options.{part_of_file};
 ghost use Rattle.cosecmd.specs.Payload.{detached_in};
 ghost use Rattle.cosecmd.specs.PayloadTo.{ReadsNothingBefore, new_file_for, new_file_of};
 ghost use Rattle.cosecmd.specs.Printed.{EndsWith, Fails, Output, answered_under, keys_listed, shown, verified_under};
+ghost use Rattle.cosecmd.specs.Sequence.{FailsInSequence, verified_sequence};
 ghost use Rattle.cosecmd.specs.Under.{job_under, owned_under};
-ghost use Rattle.cosecmd.specs.Arguments.{admitted_for, asked_for, made_for, makes, payload_for};
+ghost use Rattle.cosecmd.specs.Arguments.{admitted_each_for, admitted_for, asked_for, is_sequence, made_for, makes, payload_for};
 
 use crate::answer::payload_to::answer_with_payload_to;
-use crate::answer::{answer, answer_with_payload_file};
+use crate::answer::{
+    answer, answer_message_sequence, answer_token_sequence, answer_with_payload_file,
+};
 use crate::arguments::{Parsed, parse, request_of};
 use crate::checks::slice_of;
 use crate::fault::Fault;
 use crate::files::{NamedFiles, NoFiles};
-use crate::job::{Checks, FileJob, Job, Question};
+use crate::job::{Checks, FileJob, Job, Question, TokenJob};
 use crate::limits::Limits;
 use crate::new_file::NewFiles;
 use crate::print::{print, print_fault};
@@ -148,6 +151,24 @@ fn answer_keep<F: NewFiles, R: Read, W: Write>(
     answer_with_payload_to(alloc, &checks, files, name, input, output)
 }
 
+/// The command `verify`, where the input is a sequence.
+fn answer_messages<R: Read, W: Write>(
+    alloc: Global,
+    checks: &OwnedChecks,
+    input: &mut R,
+    output: &mut W,
+) -> u8
+    ensures status { result ≤ 2 }
+    ensures printed { (bytes : List ℕ) → R.remaining input.old ≡ Some bytes →
+        EndsWith (verified_sequence (owned_under checks.now) bytes) (W.contents output.old)
+        (W.contents output.new) result }
+    ensures fails { (bytes : List ℕ) → R.remaining input.old ≡ Some bytes → result ≡ 2 →
+        FailsInSequence (verified_sequence (owned_under checks.now)) bytes (W.contents output.old)
+        (W.contents output.new) }
+{
+    answer_message_sequence(alloc, &checks.borrowed(), input, output)
+}
+
 /// The job of the command `cwt`.
 fn answer_cwt<R: Read, W: Write>(alloc: Global, words: &Cwt, input: &mut R, output: &mut W) -> u8
     ensures status { result ≤ 2 }
@@ -167,6 +188,27 @@ fn answer_cwt<R: Read, W: Write>(alloc: Global, words: &Cwt, input: &mut R, outp
         readable: words.readable,
     };
     answer(alloc, &job, input, output)
+}
+
+/// The command `cwt`, where the input is a sequence.
+fn answer_tokens<R: Read, W: Write>(alloc: Global, words: &Cwt, input: &mut R, output: &mut W) -> u8
+    ensures status { result ≤ 2 }
+    ensures printed { (bytes : List ℕ) → R.remaining input.old ≡ Some bytes →
+        EndsWith (admitted_each_for words.entry.now bytes) (W.contents output.old)
+        (W.contents output.new) result }
+    ensures fails { (bytes : List ℕ) → R.remaining input.old ≡ Some bytes → result ≡ 2 →
+        FailsInSequence (admitted_each_for words.entry.now) bytes (W.contents output.old)
+        (W.contents output.new) }
+{
+    let job = TokenJob {
+        checks: words.checks.borrowed(),
+        now: words.now,
+        leeway: words.leeway,
+        aud: words.aud,
+        requirements: requirements_of(&words.required, words.now, words.leeway),
+        readable: words.readable,
+    };
+    answer_token_sequence(alloc, &job, input, output)
 }
 
 /// The job of the command `keys`.
@@ -219,12 +261,16 @@ fn answer_request<F: NamedFiles + NewFiles, R: Read, W: Write>(
     ensures fails { (bytes : List ℕ) (payload : Option (List ℕ))
         → R.remaining input.old ≡ Some bytes →
         payload_for (F.content files.now) request.entry.now ≡ Some payload →
-        makes request.entry.now ≡ false → result ≡ 2 →
+        makes request.entry.now ≡ false → is_sequence request.entry.now ≡ false → result ≡ 2 →
         Fails (asked_for request.entry.now payload bytes) (W.contents output.old)
         (W.contents output.new) }
     // Where the name of a new file exists, nothing of the input is read.
     ensures taken { (name : List ℕ) → new_file_for request.entry.now ≡ Some name →
         F.is_taken files.now name ≡ Some true → (input.new ≡ input.old) × (result ≡ 2) }
+    ensures sequence { (bytes : List ℕ) → R.remaining input.old ≡ Some bytes →
+        is_sequence request.entry.now ≡ true → result ≡ 2 →
+        FailsInSequence (asked_for request.entry.now None) bytes (W.contents output.old)
+        (W.contents output.new) }
 {
     match request {
         Request::Show {
@@ -238,7 +284,9 @@ fn answer_request<F: NamedFiles + NewFiles, R: Read, W: Write>(
             payload,
         } => answer_message(alloc, files, *question, checks, payload, input, output),
         Request::Keep { checks, name } => answer_keep(alloc, files, checks, name, input, output),
+        Request::MessageSequence(checks) => answer_messages(alloc, checks, input, output),
         Request::Cwt(words) => answer_cwt(alloc, words, input, output),
+        Request::TokenSequence(words) => answer_tokens(alloc, words, input, output),
         Request::Keys(words) => answer_keys(alloc, words, input, output),
         Request::Make(words) => answer_make(alloc, words, input, output),
     }
@@ -260,10 +308,15 @@ fn answer_matches<F: NamedFiles + NewFiles, R: Read, W: Write>(
         EndsWith said (W.contents output.old) (W.contents output.new) result }
     ensures fails { (bytes : List ℕ) (said : Output) → R.remaining input.old ≡ Some bytes →
         matches_print (F.content files.now) matches.now bytes ≡ Some said →
-        subcommand_name_of matches.now ≢ Some (codes "make") → result ≡ 2 →
+        subcommand_name_of matches.now ≢ Some (codes "make") → is_of_sequence matches.now ≡ false →
+        result ≡ 2 →
         Fails said (W.contents output.old) (W.contents output.new) }
     ensures taken { (name : List ℕ) → new_file_of (subcommand_rows_of matches.now) ≡ Some name →
         F.is_taken files.now name ≡ Some true → (input.new ≡ input.old) × (result ≡ 2) }
+    ensures sequence { (bytes : List ℕ) (said : List ℕ → Output) →
+        R.remaining input.old ≡ Some bytes → PrintsEach (F.content files.now) matches.now said →
+        subcommand_name_of matches.now ≢ Some (codes "make") → result ≡ 2 →
+        FailsInSequence said bytes (W.contents output.old) (W.contents output.new) }
 {
     match request_of(alloc, files, matches) {
         Ok(request) => answer_request(alloc, files, &request, input, output),
@@ -310,7 +363,8 @@ pub fn run_with_files<'a, F: NamedFiles + NewFiles, R: Read, W: Write>(
     ensures printed { (bytes : List ℕ) → R.remaining input.old ≡ Some bytes →
         Answers (F.content files.now) (map (λ word. word.now) words.entry.now) bytes
         (W.contents output.old) (W.contents output.new) result }
-    // With status 2 it prints a fault's line, what is wrong with the arguments, or a part of the output, and no more.
+    // With status 2 it prints a fault's line, what is wrong with the arguments, or a part of the output, and no more. A fault's
+    // line may follow what is printed for the first messages of a sequence.
     ensures fails { (bytes : List ℕ) → R.remaining input.old ≡ Some bytes → result ≡ 2 →
         FailsOn (F.content files.now) (map (λ word. word.now) words.entry.now) bytes
         (W.contents output.old) (W.contents output.new) }

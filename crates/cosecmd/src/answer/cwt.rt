@@ -253,7 +253,7 @@ fn refused_reply(alloc: Global, part: &str, refusal: Refusal) -> Result<Reply, F
 }
 
 /// The lines of a token, or why it has none.
-fn token_reply(
+pub fn token_reply(
     alloc: Global,
     token: Result<Claims, TokenStop>,
     readable: bool,
@@ -279,7 +279,7 @@ fn token_reply(
 }
 
 /// The context of a token: that of a message, with a payload of at most `L` bytes, which the store holds.
-fn token_context<'j, const L: usize, S: Keys<'j>>(
+pub fn token_context<'j, const L: usize, S: Keys<'j>>(
     keys: S,
     aad: &'j [u8],
     wanted: Wanted,

@@ -89,7 +89,7 @@ fn reply_into<const H: usize, const D: usize, const N: usize, I: Intake, S: Sink
         IfOk result (λ _. Appends (S.contents sink.old) (S.contents sink.new)
         (payload_under (job_under checks.now) bytes)) }
 {
-    let keys = match KeyTable::<N>::read(checks.keys) {
+    let keys = match KeyTable::<N>::read_restricted(checks.keys, &checks.restrictions) {
         Ok(keys) => keys,
         Err(refusal) => return Err(Fault::Keys(refusal)),
     };

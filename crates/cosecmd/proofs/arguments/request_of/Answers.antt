@@ -1,16 +1,9 @@
-use Rattle.std.proofs.Common.{◌≡◌, None, Some, codes, refl}
-use Rattle.cosecmd.specs.CommandLine.{cwt_prints, keys_prints, make_prints}
+use Rattle.std.proofs.Common.{◌≡◌, ◌∙◌, None, Some, ap, codes, refl}
+use Rattle.std.proofs.lemmas.Result.{IfOk-weaker}
+use Rattle.cosecmd.specs.CommandLine.{has_sequence, keys_prints, make_prints}
 use Rattle.cosecmd.specs.Options.{options_of}
-use Rattle.cosecmd.proofs.CommandLines.{command_asked, cwt_asks, keys_asks, make_asks}
+use Rattle.cosecmd.proofs.CommandLines.{command_asked, command_met, keys_asks, make_asks}
 use Rattle.cosecmd.proofs.arguments.request_of.Goals as goal
-
-pub returns-in-Some-subcommand_matches-2-clause-asks : goal.returns-in-Some-subcommand_matches-2-clause-asks
-returns-in-Some-subcommand_matches-2-clause-asks g c = λ bytes said prints.
-    let content = g.F.NamedFiles.content c.args.files.now in
-    let met = c.in-Some-subcommand_matches-2 in
-    let options = options_of met.cwt.now in
-    let asked : cwt_prints content options bytes ≡ Some said = command_asked content c.args.matches.now (codes "cwt") options bytes said (met.ensures.found.0 refl) met.ensures.rows prints in
-    (None, refl, cwt_asks content options c.in_ok-cwt_of.field-0 bytes said c.in_ok-cwt_of.ensures asked)
 
 pub returns-in-Some-subcommand_matches-4-clause-asks : goal.returns-in-Some-subcommand_matches-4-clause-asks
 returns-in-Some-subcommand_matches-4-clause-asks g c = λ bytes said prints.
@@ -28,3 +21,15 @@ returns-in_ok-make_of-in-Some-subcommand_matches-5-clause-asks g c = λ bytes sa
     let made = c.in_ok-make_of-in-Some-subcommand_matches-5 in
     let asked : make_prints content options bytes ≡ Some said = command_asked content c.args.matches.now (codes "make") options bytes said (met.ensures.found.0 refl) met.ensures.rows prints in
     (None, refl, make_asks content options made.field-0 bytes said made.ensures asked)
+
+pub returns-in-Some-subcommand_matches-clause-sequence : goal.returns-in-Some-subcommand_matches-clause-sequence
+returns-in-Some-subcommand_matches-clause-sequence g c =
+    let met = c.in-Some-subcommand_matches in
+    let command = command_met c.args.matches.now (codes "verify") (options_of met.verify.now) (met.ensures.found.0 refl) met.ensures.rows in
+    IfOk-weaker c.verify_request.result _ _ (λ request only is. ap has_sequence command ∙ only is) c.verify_request.ensures.sequence
+
+pub returns-in-Some-subcommand_matches-2-clause-sequence : goal.returns-in-Some-subcommand_matches-2-clause-sequence
+returns-in-Some-subcommand_matches-2-clause-sequence g c =
+    let met = c.in-Some-subcommand_matches-2 in
+    let command = command_met c.args.matches.now (codes "cwt") (options_of met.cwt.now) (met.ensures.found.0 refl) met.ensures.rows in
+    IfOk-weaker c.cwt_request.result _ _ (λ request only is. ap has_sequence command ∙ only is) c.cwt_request.ensures.sequence

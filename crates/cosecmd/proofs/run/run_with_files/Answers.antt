@@ -15,7 +15,14 @@ pub returns-in-Ok-Matches-clause-fails : goal.returns-in-Ok-Matches-clause-fails
 returns-in-Ok-Matches-clause-fails g c = λ bytes e two.
     let met = c.in-Ok-Matches in
     let is : met.field-0 ≡ Matches met.matches = search rules in
-    inr (inr (met.matches, found_in _ met.field-0 met.matches is met.ensures, λ said prints other. c.answer_matches.ensures.fails bytes said e prints other two))
+    inr (inr (
+      met.matches,
+      found_in _ met.field-0 met.matches is met.ensures,
+      record {
+        one = λ said prints other alone. c.answer_matches.ensures.fails bytes said e prints other alone two;
+        sequence = λ said each other. c.answer_matches.ensures.sequence bytes said e each other two;
+      },
+    ))
 
 pub returns-in-Ok-Text-clause-printed : goal.returns-in-Ok-Text-clause-printed
 returns-in-Ok-Text-clause-printed g c = λ bytes e.

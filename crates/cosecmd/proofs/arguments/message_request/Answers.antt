@@ -2,7 +2,7 @@ use Rattle.std.proofs.Common.{◌∙◌}
 use Rattle.std.proofs.lemmas.Result.{IfOk-weaker}
 use Rattle.cosecmd.specs.Printed.{verified_under}
 use Rattle.cosecmd.proofs.CommandLines.{payload_asks}
-use Rattle.cosecmd.proofs.arguments.verify_request.Goals as goal
+use Rattle.cosecmd.proofs.arguments.message_request.Goals as goal
 
 pub returns-clause-asks : goal.returns-clause-asks
 returns-clause-asks g c =
@@ -13,6 +13,9 @@ returns-clause-asks g c =
 
 pub returns-clause-verifies : goal.returns-clause-verifies
 returns-clause-verifies g c = IfOk-weaker c.verify_or_keep.result _ _ (λ request verifies. verifies.makes_none) c.verify_or_keep.ensures.asks
+
+pub returns-clause-one : goal.returns-clause-one
+returns-clause-one g c = IfOk-weaker c.verify_or_keep.result _ _ (λ request verifies. verifies.one) c.verify_or_keep.ensures.asks
 
 pub returns-clause-keeps : goal.returns-clause-keeps
 returns-clause-keeps g c = IfOk-weaker c.verify_or_keep.result _ _ (λ request keeps. keeps ∙ c.text_of.ensures) c.verify_or_keep.ensures.keeps

@@ -1,0 +1,48 @@
+-- A sequence whose messages are verified, or whose tokens are admitted, under a key set.
+use Rattle.std.proofs.Common.{◌≡◌, ℕ, Bool, List, [], ◌++◌, Option, Some, Ok, inr, refl, subst}
+use Rattle.std.specs.Prelude.{codes}
+use Rattle.std.specs.Io.Buffered.{reader_buffer, reader_capacity, reader_inner, reader_remaining}
+use Rattle.std.specs.declared.io.buffered.BufReader.{BufReader}
+use Rattle.cose_cwt.specs.Admission.{PolicyValue}
+use Rattle.cose_cwt.specs.Requirements.{RequirementsValue}
+use Rattle.cose_cwt.specs.Token.{read_as}
+use Rattle.cose_map.specs.Key.Value.{KeyValue}
+use Rattle.cose_msg.specs.Message.{Setting}
+use Rattle.cose_msg.specs.Sink.{AppendsFront}
+use Rattle.cosecmd.specs.Admitted.{input_token}
+use Rattle.cosecmd.specs.Faults.{fault_text}
+use Rattle.cosecmd.specs.declared.reply.Status.{Status}
+use Rattle.cosecmd.specs.Printed.{Output, Prints, input_answer, outcome_said, output_of, setting_under, token_setting}
+use Rattle.cosecmd.specs.Sequence.{FailsAfter, FailsInSequence, admitted_sequence, sequence_said, verified_sequence}
+use Rattle.cosecmd.specs.Under.{Under}
+use Rattle.cosecmd.specs.Vouch.{vouching}
+
+-- What is printed in a setting that is that of these checks.
+abbrev pub verified_in : Setting → Under → List ℕ → Output
+verified_in setting under bytes =
+    sequence_said (read_as under.room.header under.room.nesting setting (vouching under.vouch)) (λ message. output_of (input_answer under.room.header under.room.nesting setting (vouching under.vouch) message)) bytes
+
+pub verified_as : (under : Under) (keys : List KeyValue) (setting : Setting) (bytes : List ℕ) → under.keys ≡ Ok keys → setting ≡ setting_under under keys → verified_in setting under bytes ≡ verified_sequence under bytes
+verified_as under keys setting bytes set same = rw (same, set) refl
+
+abbrev pub admitted_in : Setting → Under → PolicyValue → RequirementsValue → Bool → List ℕ → Output
+admitted_in setting under policy requirements readable bytes =
+    sequence_said (read_as under.room.header under.room.nesting setting (vouching under.vouch))
+    (λ message. outcome_said readable (input_token under.room.header under.room.nesting setting (vouching under.vouch) policy requirements message)) bytes
+
+pub admitted_as : (under : Under) (policy : PolicyValue) (requirements : RequirementsValue) (readable : Bool) (keys : List KeyValue) (setting : Setting) (bytes : List ℕ) → under.keys ≡ Ok keys → setting ≡ token_setting under.room.claims keys under.aad under.wanted →
+    admitted_in setting under policy requirements readable bytes ≡ admitted_sequence under policy requirements readable bytes
+admitted_as under policy requirements readable keys setting bytes set same = rw (same, set) refl
+
+-- What was printed is what is printed for equal outputs.
+pub prints_as : (said wanted : List ℕ → Output) (bytes : List ℕ) (old new : Option (List ℕ)) (status : Status) → ((input : List ℕ) → said input ≡ wanted input) → Prints (said bytes) old new status → Prints (wanted bytes) old new status
+prints_as said wanted bytes old new status same prints = subst (λ (o : Output). Prints o old new status) (same bytes) prints
+
+pub fails_after_as : (said wanted : List ℕ → Output) (bytes : List ℕ) (old new : Option (List ℕ)) → ((input : List ℕ) → said input ≡ wanted input) → FailsAfter said bytes old new → FailsInSequence wanted bytes old new
+fails_after_as said wanted bytes old new same (fault, first, rest, split, front) =
+    inr (fault, first, rest, split, subst (λ (o : Output). AppendsFront old new (o.text ++ (fault_text fault ++ codes "\n"))) (same first) front)
+
+-- A reader behind a buffer that is empty yet.
+pub behind_buffer : {T A : Type 0} (remaining : T → Option (List ℕ)) (reader : BufReader T A) (inner : T) (bytes : List ℕ) → reader_inner reader ≡ inner → reader_buffer reader ≡ [] → reader_capacity reader ≡ 4096 →
+    remaining inner ≡ Some bytes → reader_remaining remaining reader ≡ Some bytes
+behind_buffer remaining reader inner bytes same empty capacity known = rw (capacity, empty, same, known) refl

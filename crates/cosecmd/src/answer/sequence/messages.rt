@@ -1,0 +1,142 @@
+//! The messages of a sequence, each of which is verified.
+
+ghost use Rattle.std.specs.Prelude.{◌≡◌, ◌≤◌, ℕ, false, List, Some, length, option_map};
+ghost use Rattle.cose_cwt.specs.Token.{read_as};
+ghost use Rattle.cose_map.specs.Key.View.{contents};
+ghost use Rattle.cose_msg.specs.Kept.{is_inspecting};
+ghost use Rattle.cose_msg.specs.Verifier.{is_detached, setting_in};
+ghost use Rattle.cosecmd.specs.Limits.{AreSizesUnder};
+ghost use Rattle.cosecmd.specs.Printed.{Prints, input_answer, output_of};
+ghost use Rattle.cosecmd.specs.Sequence.{FailsInSequence, verified_sequence};
+ghost use Rattle.cosecmd.specs.Under.{job_under};
+ghost use Rattle.cosecmd.specs.Vouch.{vouching};
+
+use crate::answer::sequence::{Missing, Part, Parts, is_read_whole, missing_by, print_all};
+use crate::answer::verify::{CHUNK, program_context, reply_of};
+use crate::fault::Fault;
+use crate::job::Checks;
+use crate::limits::{
+    LARGE_HEADER, LARGE_KEYS, LARGE_NESTING, Limits, SMALL_HEADER, SMALL_KEYS, SMALL_NESTING,
+};
+use crate::print::print_fault;
+use crate::reply::Status;
+use crate::vouch::Vouch;
+use cose_msg::laws::settled_stays;
+use cose_msg::{Intake, KeyTable, Keys, Nothing, ReadIntake, Verifier, verify};
+use std::alloc::Global;
+use std::io::{BufReader, Read, Write};
+
+/// What verifies the messages of a sequence.
+#[derive(Drop)]
+pub struct Messages<'j, const H: usize, const D: usize, S: Keys<'j>> {
+    vouch: Vouch<'j>,
+    verifier: Verifier<'j, H, D, S>,
+    ghost verifies: { is_inspecting verifier ≡ false },
+    ghost attached: { is_detached verifier ≡ false },
+}
+
+impl<'j, const H: usize, const D: usize, S: Keys<'j>> Parts for Messages<'j, H, D, S> {
+    ghost reads = { λ messages. read_as H D (setting_in messages.verifier)
+        (vouching (option_map contents messages.vouch.word)) };
+
+    ghost alone = { λ messages message. output_of (input_answer H D (setting_in messages.verifier)
+        (vouching (option_map contents messages.vouch.word)) message) };
+
+    fn next<I: Intake>(&mut self, alloc: Global, intake: &mut I) -> Result<Option<Part>, Missing> {
+        // The law that the proof cites: what isn't settled is Truncated.
+        settled_stays();
+        self.verifier.reset();
+        let verdict = verify::<CHUNK, H, D, _, _, _, _>(
+            &mut self.verifier,
+            intake,
+            &mut Nothing,
+            &self.vouch,
+        );
+        let verdict = match verdict {
+            Ok(verdict) => verdict,
+            // The sink `Nothing` never fails, and a verifier that was reset hasn't stopped.
+            Err(_) => return Err(Missing::Input),
+        };
+        let taken = self.verifier.taken();
+        if taken == 0 {
+            return Ok(None);
+        }
+        let whole = is_read_whole(verdict);
+        match reply_of(alloc, verdict) {
+            Ok(reply) => Ok(Some(Part {
+                reply,
+                taken,
+                whole,
+            })),
+            Err(fault) => Err(missing_by(fault)),
+        }
+    }
+}
+
+/// Verifies each message of a sequence, in buckets and with a table of keys of these sizes.
+#[inline(never)]
+fn print_within<const H: usize, const D: usize, const N: usize, R: Read, W: Write>(
+    alloc: Global,
+    checks: &Checks,
+    input: &mut R,
+    output: &mut W,
+) -> Status
+    requires some_room { 16 ≤ H }
+    requires limit { H ≤ 65535 }
+    requires nesting { D ≤ 32 }
+    requires some_keys { 1 ≤ N }
+    requires keys_limit { N ≤ 256 }
+    requires sizes { AreSizesUnder checks.now.limits H D N }
+    requires external { length checks.now.aad.now ≤ 65535 }
+    ensures prints { (bytes : List ℕ) → R.remaining input.old ≡ Some bytes →
+        Prints (verified_sequence (job_under checks.now) bytes)
+        (W.contents output.old) (W.contents output.new) result }
+    ensures fails { (bytes : List ℕ) → R.remaining input.old ≡ Some bytes → result ≡ Status.Fault →
+        FailsInSequence (verified_sequence (job_under checks.now)) bytes
+        (W.contents output.old) (W.contents output.new) }
+{
+    let keys = match KeyTable::<N>::read_restricted(checks.keys, &checks.restrictions) {
+        Ok(keys) => keys,
+        Err(refusal) => return print_fault(alloc, Fault::Keys(refusal), output),
+    };
+    // One read serves many messages.
+    let reader = match BufReader::with_capacity(alloc, CHUNK, &mut *input) {
+        Ok(reader) => reader,
+        Err(_) => return print_fault(alloc, Fault::Memory, output),
+    };
+    let mut intake = ReadIntake::new(reader);
+    let mut messages = Messages {
+        vouch: Vouch { word: checks.vouch },
+        verifier: Verifier::<H, D, KeyTable<'_, N>>::new(program_context(
+            keys,
+            checks.aad,
+            checks.wanted,
+        )),
+    };
+    print_all(alloc, &mut messages, &mut intake, output)
+}
+
+/// Verifies each message of a sequence, and writes its lines as soon as its verdict is known.
+pub fn print_verified<R: Read, W: Write>(
+    alloc: Global,
+    checks: &Checks,
+    input: &mut R,
+    output: &mut W,
+) -> Status
+    requires external { length checks.now.aad.now ≤ 65535 }
+    ensures prints { (bytes : List ℕ) → R.remaining input.old ≡ Some bytes →
+        Prints (verified_sequence (job_under checks.now) bytes)
+        (W.contents output.old) (W.contents output.new) result }
+    ensures fails { (bytes : List ℕ) → R.remaining input.old ≡ Some bytes → result ≡ Status.Fault →
+        FailsInSequence (verified_sequence (job_under checks.now)) bytes
+        (W.contents output.old) (W.contents output.new) }
+{
+    match checks.limits {
+        Limits::Small => print_within::<SMALL_HEADER, SMALL_NESTING, SMALL_KEYS, _, _>(
+            alloc, checks, input, output,
+        ),
+        Limits::Large => print_within::<LARGE_HEADER, LARGE_NESTING, LARGE_KEYS, _, _>(
+            alloc, checks, input, output,
+        ),
+    }
+}

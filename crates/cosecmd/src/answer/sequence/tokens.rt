@@ -1,0 +1,201 @@
+//! The tokens of a sequence, each of which is admitted.
+
+ghost use Rattle.std.specs.Prelude.{◌≡◌, ◌≤◌, ℕ, true, false, List, Some, length, option_map};
+ghost use Rattle.cose_cwt.specs.Admission.View.{policy_value};
+ghost use Rattle.cose_cwt.specs.Requirements.View.{requirements_value};
+ghost use Rattle.cose_cwt.specs.Token.{claims_seen, read_as};
+ghost use Rattle.cose_map.specs.Key.View.{contents};
+ghost use Rattle.cose_msg.specs.Kept.{is_inspecting};
+ghost use Rattle.cose_msg.specs.Verifier.{is_detached, setting_in};
+ghost use Rattle.cosecmd.specs.Admitted.{admission_seen, if_admitted, input_token};
+ghost use Rattle.cosecmd.specs.Limits.{AreSizesUnder, room_of};
+ghost use Rattle.cosecmd.specs.Printed.{Prints, outcome_said};
+ghost use Rattle.cosecmd.specs.Sequence.{FailsInSequence, admitted_each, is_read_to_its_end};
+ghost use Rattle.cosecmd.specs.Vouch.{vouching};
+
+use crate::answer::cwt::{policy_of, token_context, token_reply};
+use crate::answer::sequence::{Missing, Part, Parts, missing_by, print_all};
+use crate::answer::verify::CHUNK;
+use crate::fault::Fault;
+use crate::job::TokenJob;
+use crate::limits::{
+    LARGE_CLAIMS, LARGE_HEADER, LARGE_KEYS, LARGE_NESTING, Limits, SMALL_CLAIMS, SMALL_HEADER,
+    SMALL_KEYS, SMALL_NESTING,
+};
+use crate::print::print_fault;
+use crate::reply::Status;
+use crate::vouch::Vouch;
+use cose_cwt::{Claims, CwtStop, Policy, Requirements, TokenStop, verify_cwt};
+use cose_msg::laws::settled_stays;
+use cose_msg::{Intake, KeyTable, Keys, ReadIntake, Reason, Store, Verifier};
+use std::alloc::Global;
+use std::io::{BufReader, Read, Write};
+
+/// What admits the tokens of a sequence, whose claims have at most `L` bytes.
+#[derive(Drop)]
+pub struct Tokens<'j, const H: usize, const D: usize, const L: usize, S: Keys<'j>> {
+    vouch: Vouch<'j>,
+    policy: Policy<'j>,
+    requirements: Requirements<'j>,
+    readable: bool,
+    verifier: Verifier<'j, H, D, S>,
+    ghost nesting: { D ≤ 32 },
+    ghost some_store: { 16 ≤ L },
+    ghost store_limit: { L ≤ 65535 },
+    ghost verifies: { is_inspecting verifier ≡ false },
+    ghost attached: { is_detached verifier ≡ false },
+    ghost cwt: { (setting_in verifier).cwt ≡ true },
+    ghost payload_limit: { (setting_in verifier).payload_limit ≤ L },
+}
+
+/// Whether the message of a token was read to its end: where its claims are refused, it is authentic.
+fn is_token_whole(claims: &Result<Claims, CwtStop>) -> bool
+    ensures { result ≡ is_read_to_its_end (claims_seen claims.entry.now) }
+{
+    match claims {
+        Ok(_) | Err(CwtStop::Claims(_)) => true,
+        Err(CwtStop::Message(refusal)) => matches!(refusal.reason, Reason::BadAuth),
+        Err(CwtStop::Stopped(_)) => false,
+    }
+}
+
+/// The claims of a token, where they are admitted and meet what is required.
+fn claims_required<'a>(
+    claims: Result<Claims<'a>, CwtStop>,
+    requirements: &Requirements,
+) -> Result<Claims<'a>, TokenStop>
+    ensures { admission_seen result
+        ≡ if_admitted (requirements_value requirements.entry.now) (claims_seen claims.entry) }
+{
+    match claims {
+        Ok(claims) => match claims.meets(requirements) {
+            Ok(()) => Ok(claims),
+            Err(unmet) => Err(TokenStop::Unmet(unmet)),
+        },
+        Err(stop) => Err(TokenStop::Cwt(stop)),
+    }
+}
+
+impl<'j, const H: usize, const D: usize, const L: usize, S: Keys<'j>> Parts
+    for Tokens<'j, H, D, L, S> {
+    ghost reads = { λ tokens. read_as H D (setting_in tokens.verifier)
+        (vouching (option_map contents tokens.vouch.word)) };
+
+    ghost alone = { λ tokens message. outcome_said tokens.readable
+        (input_token H D (setting_in tokens.verifier)
+        (vouching (option_map contents tokens.vouch.word)) (policy_value tokens.policy)
+        (requirements_value tokens.requirements) message) };
+
+    fn next<I: Intake>(&mut self, alloc: Global, intake: &mut I) -> Result<Option<Part>, Missing> {
+        // The law that the proof cites: what isn't settled is Truncated.
+        settled_stays();
+        self.verifier.reset();
+        let mut store = Store::<L>::new();
+        let claims = verify_cwt::<CHUNK, H, D, L, _, _, _>(
+            &mut self.verifier,
+            intake,
+            &mut store,
+            &self.vouch,
+            &self.policy,
+        );
+        let whole = is_token_whole(&claims);
+        let token = claims_required(claims, &self.requirements);
+        let reply = match token_reply(alloc, token, self.readable) {
+            Ok(reply) => reply,
+            Err(fault) => return Err(missing_by(fault)),
+        };
+        let taken = self.verifier.taken();
+        if taken == 0 {
+            return Ok(None);
+        }
+        Ok(Some(Part {
+            reply,
+            taken,
+            whole,
+        }))
+    }
+}
+
+/// Admits each token of a sequence, in buckets, with a table of keys and claims of these sizes.
+#[inline(never)]
+fn print_within<
+    'j,
+    const H: usize,
+    const D: usize,
+    const N: usize,
+    const L: usize,
+    R: Read,
+    W: Write,
+>(alloc: Global, job: &'j TokenJob<'j>, input: &mut R, output: &mut W) -> Status
+    requires some_room { 16 ≤ H }
+    requires limit { H ≤ 65535 }
+    requires nesting { D ≤ 32 }
+    requires some_keys { 1 ≤ N }
+    requires keys_limit { N ≤ 256 }
+    requires some_store { 16 ≤ L }
+    requires store_limit { L ≤ 65535 }
+    requires sizes { AreSizesUnder job.now.checks.limits H D N }
+    requires claims { (room_of job.now.checks.limits).claims ≡ L }
+    requires external { length job.now.checks.aad.now ≤ 65535 }
+    ensures prints { (bytes : List ℕ) → R.remaining input.old ≡ Some bytes →
+        Prints (admitted_each job.entry.now bytes)
+        (W.contents output.old) (W.contents output.new) result }
+    ensures fails { (bytes : List ℕ) → R.remaining input.old ≡ Some bytes → result ≡ Status.Fault →
+        FailsInSequence (admitted_each job.entry.now) bytes
+        (W.contents output.old) (W.contents output.new) }
+{
+    let keys = match KeyTable::<N>::read_restricted(job.checks.keys, &job.checks.restrictions) {
+        Ok(keys) => keys,
+        Err(refusal) => return print_fault(alloc, Fault::Keys(refusal), output),
+    };
+    // One read serves many tokens.
+    let reader = match BufReader::with_capacity(alloc, CHUNK, &mut *input) {
+        Ok(reader) => reader,
+        Err(_) => return print_fault(alloc, Fault::Memory, output),
+    };
+    let mut intake = ReadIntake::new(reader);
+    let vouch = Vouch {
+        word: job.checks.vouch,
+    };
+    let policy = policy_of(job.now, job.leeway, &job.aud);
+    let requirements = job.requirements;
+    let context = token_context::<L, _>(keys, job.checks.aad, job.checks.wanted);
+    let verifier = Verifier::<H, D, KeyTable<'_, N>>::new(context);
+    let mut tokens = Tokens::<'_, H, D, L, KeyTable<'_, N>> {
+        vouch,
+        policy,
+        requirements,
+        readable: job.readable,
+        verifier,
+    };
+    print_all(alloc, &mut tokens, &mut intake, output)
+}
+
+/// Admits each token of a sequence, and writes its lines as soon as they are known.
+pub fn print_admitted<'j, R: Read, W: Write>(
+    alloc: Global,
+    job: &'j TokenJob<'j>,
+    input: &mut R,
+    output: &mut W,
+) -> Status
+    requires external { length job.now.checks.aad.now ≤ 65535 }
+    ensures prints { (bytes : List ℕ) → R.remaining input.old ≡ Some bytes →
+        Prints (admitted_each job.entry.now bytes)
+        (W.contents output.old) (W.contents output.new) result }
+    ensures fails { (bytes : List ℕ) → R.remaining input.old ≡ Some bytes → result ≡ Status.Fault →
+        FailsInSequence (admitted_each job.entry.now) bytes
+        (W.contents output.old) (W.contents output.new) }
+{
+    match job.checks.limits {
+        Limits::Small => {
+            print_within::<SMALL_HEADER, SMALL_NESTING, SMALL_KEYS, SMALL_CLAIMS, _, _>(
+                alloc, job, input, output,
+            )
+        }
+        Limits::Large => {
+            print_within::<LARGE_HEADER, LARGE_NESTING, LARGE_KEYS, LARGE_CLAIMS, _, _>(
+                alloc, job, input, output,
+            )
+        }
+    }
+}
