@@ -86,6 +86,7 @@ fn argument(low: u8, bytes: &[u8]) -> u64
 /// The head that `bytes` begin with, of any width (RFC 8949 section 3).
 ///
 /// `More` is 1 where there are no bytes, and else the number of argument bytes that are missing.
+#[inline(always)]
 #[tactic(auto, unfolding(crate::specs::Head::bare_head))]
 pub fn parse_head(bytes: &[u8]) -> HeadStep
     ensures answer { result ≡ bare_head bytes.now }

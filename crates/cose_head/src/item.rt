@@ -151,6 +151,7 @@ fn begins_with_small_integer(bytes: &[u8]) -> bool
 
 /// The item that `bytes` begin with. The first of `bytes` is at `place`. An integer of one byte, as most items of headers are, takes
 /// no further reading.
+#[inline(always)]
 #[cycle(item)]
 pub(crate) fn item_at(bytes: &[u8], room: usize, place: u64, depth: usize) -> Result<Span, Refusal>
     requires in_range { place + length bytes.now < 2 ^ 64 }

@@ -127,6 +127,7 @@ impl<'a> ItemRef<'a> {
     }
 
     /// The content of the text string, if the item is one and it is UTF-8.
+    #[inline(always)]
     #[tactic(auto, unfolding(crate::specs::Placed::look), using(crate::proofs::Placed::text_found, crate::proofs::Placed::no_text))]
     pub fn as_text(&self) -> Option<&'a str>
         ensures { option_map (λ text. text.now) result ≡ text_in (look (placed self.now)) }

@@ -19,6 +19,7 @@ pub enum Label<'a> {
 
 impl<'a> Label<'a> {
     /// The label that an item is, if it is an integer, or a text string that is UTF-8.
+    #[inline(always)]
     #[tactic(auto, using(crate::proofs::lemmas::Label::integer_label, crate::proofs::lemmas::Label::text_label, crate::proofs::lemmas::Label::no_label))]
     pub fn of(item: &ItemRef<'a>) -> Option<Label<'a>>
         ensures { option_map label_value result ≡ label_of (placed item.now) }
@@ -62,6 +63,7 @@ impl<'a> Label<'a> {
     }
 
     /// Whether deterministic encoding has this label before the other (RFC 8949 section 4.2.1).
+    #[inline(always)]
     pub(crate) fn precedes(&self, other: &Label<'_>) -> bool
         ensures { result ≡ order.precedes (label_value self.now) (label_value other.now) }
     {

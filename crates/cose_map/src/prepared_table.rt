@@ -81,8 +81,8 @@ impl<const N: usize> PreparedTable<'_, N> {
         ensures { FedMac result alg secret.now [] }
     {
         for key in self.prepared.as_slice() {
-            if let Some(running) = key.begin(alg, secret) {
-                return running;
+            if let Some(prepared) = key.prepared_for(alg, secret) {
+                return prepared.begin(alg);
             }
         }
         Running::hmac(alg, secret)

@@ -9,6 +9,7 @@ use arrayvec::ArrayVec;
 use cose_head::{HeadStep, parse_head};
 
 /// Takes the next byte of a head, and returns the result for the bytes so far. They are kept until the head is whole.
+#[inline(always)]
 pub(crate) fn take_bare_head_byte(head: &mut ArrayVec<u8, 9>, byte: u8) -> HeadStep
     requires short { array_vec_len head.old < 9 }
     ensures short { array_vec_len head.new < 9 }

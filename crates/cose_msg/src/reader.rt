@@ -153,6 +153,7 @@ impl<'k, const H: usize, const D: usize> Reader<'k, H, D> {
     }
 
     /// Takes the next byte of a head. In any other phase nothing changes.
+    #[inline(never)]
     fn take_byte(&mut self, byte: u8, stated: Option<u64>)
         requires { takes_bytes self.old.phase ≡ true }
         ensures { (task : Task) (B : List ℕ) (n : ℕ) (reading : List ℕ → Reading)
@@ -173,6 +174,7 @@ impl<'k, const H: usize, const D: usize> Reader<'k, H, D> {
     /// Takes the next bytes, all of one phase, and returns their number. A string takes all that it has left, or the
     /// whole piece. The key is chosen from those that are passed, once both header buckets are there; none are passed
     /// where the message is only inspected. The length of a detached payload is stated.
+    #[inline(always)]
     pub(crate) fn advance<K: Keys<'k>>(
         &mut self,
         piece: &[u8],

@@ -81,6 +81,7 @@ pub(crate) struct ClaimsForm;
 impl Form for ClaimsForm {
     ghost table = { λ form. spec.claims_table };
 
+    #[inline(always)]
     #[tactic(auto, unfolding(crate::specs::Claims::Form::claims_table))]
     fn fault(&self, label: &Label<'_>, value: &ItemRef<'_>) -> Option<Reason> {
         match *label {

@@ -31,6 +31,7 @@ fn is_named(label: &Label<'_>, name: &Label<'_>) -> bool
 ///     kid = first_value(kid, &header::KID, &name, value);
 /// }
 /// ```
+#[inline(always)]
 #[tactic(auto, using(crate::proofs::lemmas::Map::First::value_found, crate::proofs::lemmas::Map::First::value_passed))]
 pub fn first_value<'a>(
     so_far: Option<ItemRef<'a>>,

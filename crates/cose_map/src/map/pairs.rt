@@ -19,6 +19,7 @@ impl<'a> Iterator for Pairs<'a> {
 
     ghost remaining = { item_count pairs_left };
 
+    #[inline(always)]
     #[tactic(auto, unfolding(crate::specs::Map::Pairs::pairs_of))]
     fn next(&mut self) -> Option<(Label<'a>, ItemRef<'a>, ItemRef<'a>)> {
         let mut items = self.items;

@@ -28,6 +28,7 @@ pub fn refused(reason: Reason, item: &ItemRef<'_>) -> Refusal
 }
 
 /// The next two items.
+#[inline(always)]
 fn next_two<'a>(items: &mut Items<'a>) -> Option<(ItemRef<'a>, ItemRef<'a>)>
     ensures { MatchOption result (length (items_left items.old) < 2) (λ found. items_left items.old
         ≡ placed found.0 ∷ placed found.1 ∷ items_left items.new) }
@@ -38,6 +39,7 @@ fn next_two<'a>(items: &mut Items<'a>) -> Option<(ItemRef<'a>, ItemRef<'a>)>
 }
 
 /// The label that an item of a pair is.
+#[inline(always)]
 fn label_at<'a>(item: &ItemRef<'a>) -> Result<Label<'a>, Refusal>
     ensures { seen_by label_value result ≡ name_at (placed item.now) (label_of (placed item.now)) }
 {
@@ -48,6 +50,7 @@ fn label_at<'a>(item: &ItemRef<'a>) -> Result<Label<'a>, Refusal>
 }
 
 /// The label of a pair, if it is new and the value has its form.
+#[inline(always)]
 fn check_new<'a, F: Form>(
     form: &F,
     name: Label<'a>,

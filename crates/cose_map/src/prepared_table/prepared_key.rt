@@ -1,15 +1,14 @@
 //! The prepared keys of a table.
 
-ghost use Rattle.std.specs.Prelude.{[], IfSome};
+ghost use Rattle.std.specs.Prelude.{IfSome, IsTrue};
 ghost use Rattle.std.specs.Option.{ForSome};
-ghost use Rattle.cose_mac.specs.Prepared.{IsPrepared};
-ghost use Rattle.cose_mac.specs.Running.{FedMac};
+ghost use Rattle.cose_mac.specs.Prepared.{IsPrepared, serves};
 
 use crate::key::Key;
 use crate::key::material::Material;
 use crate::label::Label;
 use cose_head::Alg;
-use cose_mac::{Prepared, Running, same_bytes};
+use cose_mac::{Prepared, same_bytes};
 
 /// A secret of a table, and the same prepared for MACs. A place that is empty has none.
 #[derive(Drop)]
@@ -52,15 +51,16 @@ impl<'a> PreparedKey<'a> {
         }
     }
 
-    /// The MAC of the empty message, if the secret is this one, and is prepared for the algorithm.
-    pub(crate) fn begin(&self, alg: Alg, secret: &[u8]) -> Option<Running>
-        ensures { IfSome result (λ running. FedMac running alg secret.now []) }
+    /// What is prepared, if the secret is this one, and it is prepared for the algorithm.
+    pub(crate) fn prepared_for(&self, alg: Alg, secret: &[u8]) -> Option<&Prepared>
+        ensures { IfSome result (λ prepared.
+            IsTrue (serves prepared.now alg) × IsPrepared prepared.now secret.now) }
     {
         let Some(prepared) = &self.prepared else {
             return None;
         };
         if prepared.serves(alg) && same_bytes(self.secret, secret) {
-            return Some(prepared.begin(alg));
+            return Some(prepared);
         }
         None
     }

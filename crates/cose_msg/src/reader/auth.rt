@@ -75,6 +75,7 @@ impl<'k, const H: usize, const D: usize> Reader<'k, H, D> {
     }
 
     /// The head of the tag or signature begins here, after a payload of this length.
+    #[inline(never)]
     pub(crate) fn begin_auth_head(&mut self, kind: Kind, at: u64, payload: u64)
         requires early { at < 2 ^ 57 }
         ensures further { status_of_phase self.new.phase ≡ Status.More }
@@ -143,6 +144,7 @@ impl<'k, const H: usize, const D: usize> Reader<'k, H, D> {
     }
 
     /// Takes a piece of the tag or signature.
+    #[inline(never)]
     pub(crate) fn auth(&mut self, auth: Auth, piece: &[u8])
         requires phase { self.old.phase ≡ Phase.Auth auth }
         requires fits { length piece.now ≤ auth.left }

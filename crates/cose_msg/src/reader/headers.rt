@@ -117,6 +117,7 @@ impl<'k, const H: usize, const D: usize> Reader<'k, H, D> {
     }
 
     /// Takes a piece of the protected bucket's content.
+    #[inline(never)]
     pub(crate) fn protected_piece(&mut self, protected: Protected, piece: &[u8])
         requires phase { self.old.phase ≡ Phase.Protected protected }
         requires fits { length piece.now ≤ protected.left }
@@ -203,6 +204,7 @@ impl<'k, const H: usize, const D: usize> Reader<'k, H, D> {
     }
 
     /// Takes a piece of the unprotected bucket, of no more bytes than it wants.
+    #[inline(never)]
     pub(crate) fn unprotected_piece<K: Keys<'k>>(
         &mut self,
         unprotected: Unprotected,

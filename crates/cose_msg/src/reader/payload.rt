@@ -204,6 +204,7 @@ impl<'k, const H: usize, const D: usize> Reader<'k, H, D> {
     }
 
     /// Takes a piece of the payload.
+    #[inline(always)]
     pub(crate) fn payload(&mut self, payload: Payload, piece: &[u8])
         requires phase { self.old.phase ≡ Phase.Payload payload }
         requires fits { length piece.now ≤ payload.left }

@@ -82,6 +82,7 @@ impl<'k, const H: usize, const D: usize, S: Keys<'k>> Verifier<'k, H, D, S> {
     }
 
     /// Takes a piece of no more bytes than are wanted, and counts them.
+    #[inline(always)]
     pub(crate) fn take_piece(&mut self, piece: &[u8])
         requires some { 0 < length piece.now }
         requires wanted { length piece.now ≤ want_of self.old.reader.phase }
