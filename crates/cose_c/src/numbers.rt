@@ -83,18 +83,7 @@ pub struct CoseVerdict {
 fn number_of_alg(alg: Alg) -> i32
     ensures { result ≡ algorithm_number alg }
 {
-    match alg {
-        Alg::Hmac64 => 4,
-        Alg::Hmac256 => 5,
-        Alg::Hmac384 => 6,
-        Alg::Hmac512 => 7,
-        Alg::Es256 => -7,
-        Alg::Es384 => -35,
-        Alg::Es512 => -36,
-        Alg::Esp256 => -9,
-        Alg::Esp384 => -51,
-        Alg::Esp512 => -52,
-    }
+    alg.number() as i32
 }
 
 /// The number of the tag of a kind of messages.

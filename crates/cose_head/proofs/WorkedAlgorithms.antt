@@ -20,8 +20,7 @@ all_rows : map row_of algorithms ≡
     row (negsuc 51) Sign1 (Elliptic 3) Sha512 132 ∷ []
 all_rows = refl
 
-macs : map is_mac_of (Hmac64 ∷ Hmac256 ∷ Hmac384 ∷ Hmac512 ∷ Es256 ∷ Es384 ∷ Es512 ∷ Esp256 ∷ Esp384 ∷ Esp512 ∷ []) ≡
-    replicate 4 true ++ replicate 6 false
+macs : map is_mac_of algorithms ≡ replicate 4 true ++ replicate 6 false
 macs = refl
 
 by_number : map algorithm_numbered (pos 4 ∷ pos 5 ∷ pos 6 ∷ pos 7 ∷ negsuc 6 ∷ negsuc 34 ∷ negsuc 35 ∷ negsuc 8 ∷ negsuc 50 ∷ negsuc 51 ∷ []) ≡

@@ -61,7 +61,7 @@ struct Row {
 }
 
 impl Alg {
-    const ALL: [Alg; 10] = [
+    const ALL: &'static [Alg] = &[
         Alg::Hmac64,
         Alg::Hmac256,
         Alg::Hmac384,
