@@ -1,4 +1,5 @@
-use Rattle.std.proofs.Common.{ap, option_map, sym, ◌∙◌}
+use Rattle.std.proofs.Common.{SFits, ℤ, ap, option_map, rules, sym, w64, ◌∙◌}
+use Rattle.std.proofs.lemmas.Int.{to_z-of_z}
 use Rattle.cose_cwt.specs.Admission.{PolicyValue}
 use Rattle.cose_cwt.specs.Admission.View.{policy_value}
 use Rattle.cose_cwt.specs.Claims.Audience.{text_value}
@@ -22,21 +23,23 @@ returns-in-Err-with_capacity-clause-fails g c = λ bytes e two. line_alone (admi
 pub returns-clause-prints : goal.returns-clause-prints
 returns-clause-prints g c = λ bytes e.
     let job = c.args.job.now in
+    let in_range : SFits w64 job.now = search rules in
     let under = job_under job.checks in
     let policy = program_policy job.now job.leeway (option_map text_value job.aud) in
     let setting = setting_in c.new-verifier.result in
     let known = behind_buffer (λ r. g.R.Read.remaining r.now) c.in-Ok-with_capacity.reader _ bytes c.in-Ok-with_capacity.ensures.inner c.in-Ok-with_capacity.ensures.empty c.in-Ok-with_capacity.ensures.capacity e in
     prints_as (admitted_in setting under (policy_value c.policy_of-policy.result) (requirements_value job.requirements) job.readable) (admitted_each job) bytes _ _ _
-    (λ input. ap (λ (p : PolicyValue). admitted_in setting under p (requirements_value job.requirements) job.readable input) c.policy_of-policy.ensures ∙ admitted_as under policy (requirements_value job.requirements) job.readable (usable c.in-Ok.keys) setting input (rw c.requires.sizes.keys_are (sym c.in-Ok.ensures.exact)) (rw c.requires.claims (c.new-verifier.ensures.context ∙ c.token_context-context.ensures.setting)))
+    (λ input. ap (λ (p : PolicyValue). admitted_in setting under p (requirements_value job.requirements) job.readable input) (c.policy_of-policy.ensures ∙ ap (λ (at : ℤ). program_policy at job.leeway (option_map text_value job.aud)) (to_z-of_z w64 job.now in_range)) ∙ admitted_as under policy (requirements_value job.requirements) job.readable (usable c.in-Ok.keys) setting input (rw c.requires.sizes.keys_are (sym c.in-Ok.ensures.exact)) (rw c.requires.claims (c.new-verifier.ensures.context ∙ c.token_context-context.ensures.setting)))
     (rw (c.requires.sizes.header_is, c.requires.sizes.nesting_is) (c.print_all.ensures.prints bytes (c.new-intake.ensures.known ∙ known)))
 
 pub returns-clause-fails : goal.returns-clause-fails
 returns-clause-fails g c = λ bytes e two.
     let job = c.args.job.now in
+    let in_range : SFits w64 job.now = search rules in
     let under = job_under job.checks in
     let policy = program_policy job.now job.leeway (option_map text_value job.aud) in
     let setting = setting_in c.new-verifier.result in
     let known = behind_buffer (λ r. g.R.Read.remaining r.now) c.in-Ok-with_capacity.reader _ bytes c.in-Ok-with_capacity.ensures.inner c.in-Ok-with_capacity.ensures.empty c.in-Ok-with_capacity.ensures.capacity e in
     fails_after_as (admitted_in setting under (policy_value c.policy_of-policy.result) (requirements_value job.requirements) job.readable) (admitted_each job) bytes _ _
-    (λ input. ap (λ (p : PolicyValue). admitted_in setting under p (requirements_value job.requirements) job.readable input) c.policy_of-policy.ensures ∙ admitted_as under policy (requirements_value job.requirements) job.readable (usable c.in-Ok.keys) setting input (rw c.requires.sizes.keys_are (sym c.in-Ok.ensures.exact)) (rw c.requires.claims (c.new-verifier.ensures.context ∙ c.token_context-context.ensures.setting)))
+    (λ input. ap (λ (p : PolicyValue). admitted_in setting under p (requirements_value job.requirements) job.readable input) (c.policy_of-policy.ensures ∙ ap (λ (at : ℤ). program_policy at job.leeway (option_map text_value job.aud)) (to_z-of_z w64 job.now in_range)) ∙ admitted_as under policy (requirements_value job.requirements) job.readable (usable c.in-Ok.keys) setting input (rw c.requires.sizes.keys_are (sym c.in-Ok.ensures.exact)) (rw c.requires.claims (c.new-verifier.ensures.context ∙ c.token_context-context.ensures.setting)))
     (rw (c.requires.sizes.header_is, c.requires.sizes.nesting_is) (c.print_all.ensures.fails bytes (c.new-intake.ensures.known ∙ known) two))
