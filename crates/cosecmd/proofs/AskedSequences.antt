@@ -2,9 +2,9 @@
 use Rattle.std.proofs.Common.{◌≡◌, ◌⊎◌, ℕ, ℤ, Bool, true, false, List, [], ◌++◌, Option, Some, None, Result, inl, inr, refl, ap, subst, sym, ◌∙◌, append-nil, append_assoc}
 use Rattle.std.specs.Prelude.{codes, option_map}
 use Rattle.cose_cwt.specs.Claims.Audience.{text_value}
-use Rattle.cose_cwt.specs.Admission.{PolicyValue}
 use Rattle.cose_cwt.specs.Requirements.{RequirementsValue}
 use Rattle.cose_cwt.specs.Requirements.View.{requirements_value}
+use Rattle.cose_cwt.specs.declared.requirements.Requirements.{Requirements}
 use Rattle.cose_msg.specs.Sink.{AppendsFront}
 use Rattle.cosecmd.specs.Admitted.{program_policy}
 use Rattle.cosecmd.specs.Arguments.{admitted_each_for, asked_for, is_sequence}
@@ -14,11 +14,11 @@ use Rattle.cosecmd.specs.Fields.{AreChecks}
 use Rattle.cosecmd.specs.Options.{◌>>=◌}
 use Rattle.cosecmd.specs.Printed.{Fails, Output, WritesPart}
 use Rattle.cosecmd.specs.Requirements.{requirements_for}
-use Rattle.cosecmd.specs.Sequence.{FailsInSequence, admitted_each, admitted_sequence, verified_sequence}
+use Rattle.cosecmd.specs.Sequence.{FailsInSequence, admitted_sequence, verified_sequence}
 use Rattle.cosecmd.specs.Under.{Under, job_under, owned_under}
 use Rattle.cosecmd.specs.declared.fault.Fault.{Fault}
 use Rattle.cosecmd.specs.declared.fault.Fault.TheVariants as faults
-use Rattle.cosecmd.specs.declared.job.TokenJob.{TokenJob}
+use Rattle.cosecmd.specs.declared.job.Checks.{Checks}
 use Rattle.cosecmd.specs.declared.request.Cwt.{Cwt}
 use Rattle.cosecmd.specs.declared.request.OwnedChecks.{OwnedChecks}
 use Rattle.cosecmd.specs.declared.request.Request.{Request}
@@ -43,21 +43,20 @@ sequence_asks (Some under) checks bytes said are e =
     ap (λ (u : Under). verified_sequence u bytes) (are under refl) ∙ same
 
 -- The job of some arguments prints what they ask for.
-same_sequence : (under asked : Under) (policy wanted : PolicyValue) (requirements needed : RequirementsValue) (readable quoted : Bool) (bytes : List ℕ) → under ≡ asked → policy ≡ wanted → requirements ≡ needed → readable ≡ quoted →
-    admitted_sequence under policy requirements readable bytes ≡ admitted_sequence asked wanted needed quoted bytes
-same_sequence under asked policy wanted requirements needed readable quoted bytes u p r q =
-    ap (λ (x : Under). admitted_sequence x policy requirements readable bytes) u
-    ∙ ap (λ (x : PolicyValue). admitted_sequence asked x requirements readable bytes) p
-    ∙ ap (λ (x : RequirementsValue). admitted_sequence asked wanted x readable bytes) r
-    ∙ ap (λ (x : Bool). admitted_sequence asked wanted needed x bytes) q
+pub tokens_words : (words : Cwt) (checks : Checks) (now : ℤ) (requirements : Requirements) (bytes : List ℕ) → job_under checks ≡ owned_under words.checks → now ≡ words.now →
+    requirements_value requirements ≡ requirements_for now words.leeway words.required →
+    admitted_sequence (job_under checks) (program_policy now words.leeway (option_map text_value words.aud)) (requirements_value requirements) words.readable bytes ≡ admitted_each_for words bytes
+tokens_words words checks now requirements bytes same n required =
+    ap (λ (r : RequirementsValue). admitted_sequence (job_under checks) (program_policy now words.leeway (option_map text_value words.aud)) r words.readable bytes) required
+    ∙ ap (λ (at : ℤ). admitted_sequence (job_under checks) (program_policy at words.leeway (option_map text_value words.aud)) (requirements_for at words.leeway words.required) words.readable bytes) n
+    ∙ ap (λ (under : Under). admitted_sequence under (program_policy words.now words.leeway (option_map text_value words.aud)) (requirements_for words.now words.leeway words.required) words.readable bytes) same
 
-pub tokens_words : (words : Cwt) (job : TokenJob) (now : ℤ) (bytes : List ℕ) → job_under job.checks ≡ owned_under words.checks → job.now ≡ now → now ≡ words.now → job.leeway ≡ words.leeway → job.aud ≡ words.aud → job.readable ≡ words.readable →
-    requirements_value job.requirements ≡ requirements_for now words.leeway words.required → admitted_each job bytes ≡ admitted_each_for words bytes
-tokens_words words job now bytes same m n l a r required =
-    same_sequence (job_under job.checks) (owned_under words.checks) (program_policy job.now job.leeway (option_map text_value job.aud)) (program_policy words.now words.leeway (option_map text_value words.aud))
-    (requirements_value job.requirements) (requirements_for words.now words.leeway words.required) job.readable words.readable bytes same
-    (ap (λ (at : ℤ). program_policy at job.leeway (option_map text_value job.aud)) (m ∙ n) ∙ ap (λ (s : ℕ). program_policy words.now s (option_map text_value job.aud)) l ∙ rw a refl)
-    (required ∙ ap (λ (at : ℤ). requirements_for at words.leeway words.required) n) r
+-- The request for a sequence asks for what is printed for it.
+pub message_sequence_words : (request : Request) (checks : OwnedChecks) (payload : Option (List ℕ)) (bytes : List ℕ) → request ≡ asks.MessageSequence checks → verified_sequence (owned_under checks) bytes ≡ asked_for request payload bytes
+message_sequence_words request checks payload bytes is = rw is refl
+
+pub token_sequence_words : (request : Request) (words : Cwt) (payload : Option (List ℕ)) (bytes : List ℕ) → request ≡ asks.TokenSequence words → admitted_each_for words bytes ≡ asked_for request payload bytes
+token_sequence_words request words payload bytes is = rw is refl
 
 -- What is printed for a sequence depends on no payload.
 of_no_payload : (request : Request) (payload : Option (List ℕ)) (input : List ℕ) → is_sequence request ≡ true → asked_for request None input ≡ asked_for request payload input

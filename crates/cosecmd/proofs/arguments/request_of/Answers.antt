@@ -1,9 +1,18 @@
 use Rattle.std.proofs.Common.{◌≡◌, ◌∙◌, None, Some, ap, codes, refl}
 use Rattle.std.proofs.lemmas.Result.{IfOk-weaker}
-use Rattle.cosecmd.specs.CommandLine.{has_sequence, keys_prints, make_prints}
+use Rattle.cosecmd.specs.CommandLine.{cwt_prints, has_sequence, keys_prints, make_prints}
 use Rattle.cosecmd.specs.Options.{options_of}
 use Rattle.cosecmd.proofs.CommandLines.{command_asked, command_met, keys_asks, make_asks}
 use Rattle.cosecmd.proofs.arguments.request_of.Goals as goal
+
+pub returns-in-Some-subcommand_matches-2-clause-asks : goal.returns-in-Some-subcommand_matches-2-clause-asks
+returns-in-Some-subcommand_matches-2-clause-asks g c =
+    let content = g.F.NamedFiles.content c.args.files.now in
+    let met = c.in-Some-subcommand_matches-2 in
+    let options = options_of met.cwt.now in
+    IfOk-weaker c.cwt_request.result _ _ (λ request asks bytes said prints.
+    let asked : cwt_prints content options bytes ≡ Some said = command_asked content c.args.matches.now (codes "cwt") options bytes said (met.ensures.found.0 refl) met.ensures.rows prints in
+    asks bytes said asked) c.cwt_request.ensures.asks
 
 pub returns-in-Some-subcommand_matches-4-clause-asks : goal.returns-in-Some-subcommand_matches-4-clause-asks
 returns-in-Some-subcommand_matches-4-clause-asks g c = λ bytes said prints.

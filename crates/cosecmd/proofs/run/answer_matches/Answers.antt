@@ -1,4 +1,5 @@
-use Rattle.std.proofs.Common.{◌∙◌}
+use Rattle.std.proofs.Common.{ℕ, List, ◌∙◌}
+use Rattle.cosecmd.specs.CommandLine.{AsksFor}
 use Rattle.cosecmd.proofs.Asked.{ends_with, fails_with, not_made}
 use Rattle.cosecmd.proofs.AskedSequences.{found_fails, line_alone, not_of_sequence}
 use Rattle.cosecmd.proofs.Replies.{line_fails}
@@ -16,7 +17,7 @@ returns-in-Ok-clause-fails g c = λ bytes said e asked other one two.
 
 pub returns-in-Ok-clause-sequence : goal.returns-in-Ok-clause-sequence
 returns-in-Ok-clause-sequence g c = λ bytes said e each other two.
-    let asks = λ input. c.in-Ok.ensures.asks input (said input) (each input) in
+    let asks : (input : List ℕ) → AsksFor (g.F.NamedFiles.content c.args.files.now) c.in-Ok.request input (said input) = λ input. c.in-Ok.ensures.asks input (said input) (each input) in
     let these = asks bytes in
     found_fails (g.F.NamedFiles.content c.args.files.now) c.in-Ok.request said bytes _ _ asks
     (λ one. fails_with _ _ these.2 (c.answer_request.ensures.fails bytes these.0 e these.1 (not_made c.in-Ok.request _ c.in-Ok.ensures.making other) one two))
