@@ -122,7 +122,8 @@ impl<'k, const H: usize, const D: usize> Reader<'k, H, D> {
 
     /// Refuses the message.
     fn refuse(&mut self, reason: Reason, place: u64)
-        ensures { (task : Task) (B : List ℕ) (n : ℕ) (so_far : Findings) → Shows task so_far self.old
+        ensures { (task : Task) (B : List ℕ) (n : ℕ) (so_far : Findings)
+            → Shows task so_far self.old
             → so_far.payload ≡ B
             → StandsFor task B n self.new (λ z. stop so_far reason place) }
     {

@@ -163,7 +163,8 @@ impl<'k, const H: usize, const D: usize> Reader<'k, H, D> {
     fn begin_payload(&mut self, kind: Kind, at: u64, length: u64)
         requires early { at < 2 ^ 19 }
         requires limit { length < 2 ^ 56 }
-        ensures reads_on { (task : Task) (known : Known) → IsAtPayload task known self.old kind length
+        ensures reads_on { (task : Task) (known : Known)
+            → IsAtPayload task known self.old kind length
             → task.setting.source ≡ attached
             → StandsFor task [] at self.new
             (λ z. payload (rules_of H D task) known.headers known.chosen length at z) }
