@@ -14,7 +14,8 @@ use std::io::{ErrorKind, Write};
 /// Writes bytes by as many writes as it takes, and returns whether all are written. A write that is interrupted is tried
 /// again, as `write_all` does; any other error ends it, and so does a write that takes no byte.
 fn write_bytes<W: Write>(output: &mut W, bytes: &[u8]) -> bool
-    ensures whole { result ≡ true → Appends (W.contents output.old) (W.contents output.new) bytes.now }
+    ensures whole { result ≡ true
+        → Appends (W.contents output.old) (W.contents output.new) bytes.now }
     ensures part { result ≡ false
         → WritesPart bytes.now (W.contents output.old) (W.contents output.new) }
 {
