@@ -25,8 +25,8 @@ fn write_bytes<W: Write>(output: &mut W, bytes: &[u8]) -> bool
         match output.write(rest) {
             Ok(0) => return false,
             Ok(count) => {
-                let (_written, behind) = rest.split_at(count);
-                rest = behind;
+                let (_written, unwritten) = rest.split_at(count);
+                rest = unwritten;
             }
             Err(error) => {
                 if error.kind() != ErrorKind::Interrupted || interruptions_left == 0 {
