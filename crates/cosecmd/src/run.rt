@@ -26,7 +26,7 @@ use crate::limits::Limits;
 use crate::new_file::NewFiles;
 use crate::print::{print, print_fault};
 use crate::request::{Cwt, Keys, Make, OwnedChecks, Payload, Request};
-use crate::required::requirements_of;
+use crate::requirements::requirements_of;
 use clap::ArgMatches;
 use cose_msg::Wanted;
 use std::alloc::Global;
