@@ -21,7 +21,7 @@ use Rattle.cose_c.specs.contracts.held.table.HeldTable.{the_row as held_table}
 abbrev pub with_verifier : CoseVerifier → HeldVerifier → CoseVerifier
 with_verifier handle held = record handle { value = held }
 
--- The value in the block is the last one behind the reference.
+-- The value in the block is the last one after the reference.
 abbrev pub LendsVerifier : MutBor CoseVerifier → MutBor HeldVerifier → Fml
 LendsVerifier handle held = Lends verifier_handle held_verifier handle held (with_verifier handle.now)
 

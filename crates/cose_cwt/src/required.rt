@@ -3,7 +3,7 @@
 ghost use Rattle.std.specs.Prelude.{◌≡◌, ◌≤◌, ℕ, true, false, List, [], Some, Result, IsErr};
 ghost use Rattle.cose_msg.specs.declared.verdict.Stop.{Stop};
 ghost use Rattle.cose_msg.specs.declared.verdict.Verdict.{Verdict};
-ghost use Rattle.cose_msg.specs.Kept.{HasTaken, bytes_taken, is_inspecting, kept_answer};
+ghost use Rattle.cose_msg.specs.Kept.{HasTaken, SamePurpose, bytes_taken, is_inspecting, kept_answer};
 ghost use Rattle.cose_msg.specs.Message.{Setting};
 ghost use Rattle.cose_msg.specs.Task.{to_verify};
 ghost use Rattle.cose_msg.specs.Verifier.{is_detached, setting_in};
@@ -153,8 +153,7 @@ pub fn verify_token<
         (token_seen result ≡ required_of D (policy_value policy.entry.now)
         (requirements_value requirements.entry.now) answer [])
         × (verifier.new ≡ verifier.old) × (intake.new ≡ intake.old) }
-    ensures inspects { is_inspecting verifier.new ≡ false }
-    ensures attached { is_detached verifier.new ≡ false }
+    ensures purpose { SamePurpose verifier.old verifier.new }
 {
     // Laws that the proof cites: a verdict is the same when bytes follow, and the places of refusals of claims.
     settled_stays();

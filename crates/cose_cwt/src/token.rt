@@ -5,7 +5,7 @@ ghost use Rattle.cose_head.specs.declared.refusal.Refusal.{Refusal};
 ghost use Rattle.cose_map.specs.Map.View.{seen_by};
 ghost use Rattle.cose_msg.specs.declared.verdict.Stop.{Stop};
 ghost use Rattle.cose_msg.specs.declared.verdict.Verdict.{Verdict};
-ghost use Rattle.cose_msg.specs.Kept.{HasTaken, bytes_taken, is_inspecting, is_stopped, kept_answer};
+ghost use Rattle.cose_msg.specs.Kept.{HasTaken, SamePurpose, bytes_taken, is_inspecting, is_stopped, kept_answer};
 ghost use Rattle.cose_msg.specs.Message.{Setting};
 ghost use Rattle.cose_msg.specs.Task.{to_verify};
 ghost use Rattle.cose_msg.specs.Verifier.{is_detached, setting_in};
@@ -142,10 +142,7 @@ pub fn verify_cwt<
         × (verifier.new ≡ verifier.old) × (intake.new ≡ intake.old) }
     ensures stopped { (claims_seen result ≡ Err (CwtStop.Stopped Stop.Again))
         ↔ (is_stopped verifier.old ≡ true) }
-    ensures inspects { is_inspecting verifier.new ≡ false }
-    ensures attached { is_detached verifier.new ≡ false }
-    ensures context { (setting : Setting) → HasTaken (to_verify setting) [] [] verifier.old
-        → setting_in verifier.new ≡ setting_in verifier.old }
+    ensures purpose { SamePurpose verifier.old verifier.new }
 
     // The place of a refusal of the claims is within the store's length, for any verifier. In a run it is in the
     // payload, or at its end.

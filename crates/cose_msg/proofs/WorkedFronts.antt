@@ -50,7 +50,7 @@ unfolding reading
 untagged = refl
 
 -- After a tag comes an array of four: first its type is looked at, then its count.
-behind_a_tag : Gives (verdict plain) (
+after_a_tag : Gives (verdict plain) (
     (hex "d1", refused Truncated 1) ∷
     (hex "d2", refused Truncated 1) ∷
     (hex "d811", refused Truncated 2) ∷
@@ -66,7 +66,7 @@ behind_a_tag : Gives (verdict plain) (
     (hex "d19c", refused Reserved 1) ∷
     (hex "d19f", refused Indefinite 1) ∷ [])
 unfolding reading
-behind_a_tag = refl
+after_a_tag = refl
 
 -- Where COSE_Mac0 is wanted, and where COSE_Sign1 is: its own tag, or the array alone. The tags of other kinds are
 -- refused as such.
@@ -132,7 +132,7 @@ unfolding reading
 numbers_of_no_tags = refl
 
 -- After the tag of a CWT comes a COSE tag, and no second one of a CWT.
-behind_the_cwt_tag : Gives (verdict plain) (
+after_the_cwt_tag : Gives (verdict plain) (
     (hex "d83d", refused Truncated 2) ∷
     (hex "d83d84", refused CwtTagAlone 2) ∷
     (hex "d83d83", refused CwtTagAlone 2) ∷
@@ -153,7 +153,7 @@ behind_the_cwt_tag : Gives (verdict plain) (
     (hex "d83dd2a4", refused WrongType 3) ∷
     (hex "d83dd1d1", refused WrongType 3) ∷ [])
 unfolding reading
-behind_the_cwt_tag = refl
+after_the_cwt_tag = refl
 
 no_cwt_tag : Gives without_cwt ((hex "d83d", refused WrongTag 0) ∷ (hex "d83dd1", refused WrongTag 0) ∷ (hex "d1", refused Truncated 1) ∷ [])
 unfolding reading

@@ -76,13 +76,13 @@ unfolding reading
 no_maps = refl
 
 -- What crit lists is looked at with both buckets, so after every fault of the unprotected one, though crit precedes it.
-crit_behind_the_unprotected : Gives (verdict plain) (
+crit_after_the_unprotected : Gives (verdict plain) (
     (hex "d18447a201050281182a", refused Truncated 10) ∷
     (hex "d18447a201050281182a a1", refused Truncated 11) ∷
     (hex "d18447a201050281182a 80", refused NotMap 10) ∷
     (hex "d18447a201050281182a a14000", refused BadLabel 11) ∷ [])
 unfolding reading
-crit_behind_the_unprotected = refl
+crit_after_the_unprotected = refl
 
 -- Both buckets together, once each alone has no fault.
 both_buckets : Gives (verdict plain) (

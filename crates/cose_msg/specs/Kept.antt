@@ -1,4 +1,4 @@
--- What a verifier counts and keeps in addition to the message itself.
+-- What a verifier counts and keeps in addition to the message itself, and across its calls.
 use Rattle.std.specs.Prelude.{◌≡◌, ℕ, Bool, true, false, List, [], ◌++◌, length, Option, Some, None, Result, Ok, Err}
 use Rattle.cose_msg.specs.declared.hashing.Hashing.TheVariants as states
 use Rattle.cose_msg.specs.declared.phase.Phase.{Phase}
@@ -13,7 +13,7 @@ use Rattle.cose_msg.specs.declared.verifier.Verifier.{Verifier}
 use Rattle.cose_msg.specs.Reader.{SoFar}
 use Rattle.cose_msg.specs.Message.{Setting}
 use Rattle.cose_msg.specs.Task.{Task, given_to, to_inspect, to_verify}
-use Rattle.cose_msg.specs.Verifier.{task_of}
+use Rattle.cose_msg.specs.Verifier.{is_detached, setting_in, task_of}
 
 abbrev pub bytes_taken : {H D : ℕ} {S : Type 0} {K : _} → Verifier H D S K → ℕ
 bytes_taken v = v.taken
@@ -84,3 +84,10 @@ WhateverVerified v fact = (setting : Setting) (taken payload_so_far : List ℕ) 
 
 abbrev pub WhateverInspected : {H D : ℕ} {S : Type 0} {K : _} → Verifier H D S K → (Setting → List ℕ → List ℕ → Type 0) → Type 0
 WhateverInspected v fact = (setting : Setting) (taken payload_so_far : List ℕ) → HasTaken (to_inspect setting) taken payload_so_far v → fact setting taken payload_so_far
+
+-- What the verifier was made for is the same after a call: whether it inspects, whether it awaits a detached payload, and
+-- the setting that it reads a message under. (Of a call that takes bytes the setting is said where those before are known.)
+pub record SamePurpose {H D : ℕ} {S : Type 0} {K : _} (old new : Verifier H D S K) : Type 0 where
+  pub inspects : is_inspecting new ≡ is_inspecting old
+  pub detached : is_detached new ≡ is_detached old
+  pub context : {task : Task} {taken payload_so_far : List ℕ} → HasTaken task taken payload_so_far old → setting_in new ≡ setting_in old

@@ -5,13 +5,13 @@ ghost use Rattle.cose_msg.specs.declared.verdict.Inspected.{Inspected};
 ghost use Rattle.cose_msg.specs.declared.verdict.Stop.{Stop};
 ghost use Rattle.cose_msg.specs.declared.verdict.Verdict.{Verdict};
 ghost use Rattle.cose_msg.specs.Answer.{decided};
-ghost use Rattle.cose_msg.specs.Kept.{answered_again, is_inspecting, is_stopped, kept_answer, kept_inspection, WhateverInspected, WhateverTaken, WhateverVerified, HasTaken};
+ghost use Rattle.cose_msg.specs.Kept.{answered_again, is_inspecting, is_stopped, kept_answer, kept_inspection, WhateverInspected, WhateverTaken, WhateverVerified, HasTaken, SamePurpose};
 ghost use Rattle.cose_msg.specs.Message.{inspecting, message, verdict_of, verifying, Setting};
 ghost use Rattle.cose_msg.specs.Run.{Drive, Run, inspection, stop_in, stops_for_intake, stops_for_sink, LeftAt};
 ghost use Rattle.cose_msg.specs.Shown.{held};
 ghost use Rattle.cose_msg.specs.Source.{is_detached_from};
 ghost use Rattle.cose_msg.specs.Task.{rules_of, to_inspect, to_verify};
-ghost use Rattle.cose_msg.specs.Verifier.{is_detached, opened, setting_in};
+ghost use Rattle.cose_msg.specs.Verifier.{is_detached, opened};
 
 use crate::elliptic::EcVerifier;
 use crate::intake::Intake;
@@ -39,10 +39,7 @@ pub(crate) fn take_message<'k, const H: usize, const D: usize, K: Keys<'k>, I: I
         (I.ended intake.new) (S.contents sink.old) (S.contents sink.new)
         (stop_in result) verifier.new) }
     ensures stopped { is_stopped verifier.new ≡ is_err result }
-    ensures inspects { is_inspecting verifier.new ≡ is_inspecting verifier.old }
-    ensures detached { is_detached verifier.new ≡ is_detached verifier.old }
-    ensures context { WhateverTaken verifier.old (λ _ _ _.
-        setting_in verifier.new ≡ setting_in verifier.old) }
+    ensures purpose { SamePurpose verifier.old verifier.new }
     ensures held { held verifier.new ≤ 2 * H + 512 }
     ensures opened { opened verifier.new ≤ D }
     ensures once { result ≢ Err Stop.Again }
@@ -137,10 +134,7 @@ pub fn verify<
         (result ≡ answer) × (verifier.new ≡ verifier.old) × (intake.new ≡ intake.old)
         × (sink.new ≡ sink.old) }
     ensures stopped { (result ≡ Err Stop.Again) ↔ (is_stopped verifier.old ≡ true) }
-    ensures inspects { is_inspecting verifier.new ≡ false }
-    ensures attached { is_detached verifier.new ≡ false }
-    ensures context { WhateverVerified verifier.old (λ _ _ _.
-        setting_in verifier.new ≡ setting_in verifier.old) }
+    ensures purpose { SamePurpose verifier.old verifier.new }
     // What it holds of the message is within a bound, in addition to the `C` bytes of the call, and so is what is open
     // of it.
     ensures held { held verifier.new ≤ 2 * H + 512 }
@@ -207,10 +201,7 @@ pub fn inspect<'k, const C: usize, const H: usize, const D: usize, K: Keys<'k>, 
         (result ≡ answer) × (verifier.new ≡ verifier.old) × (intake.new ≡ intake.old)
         × (sink.new ≡ sink.old) }
     ensures stopped { (result ≡ Err Stop.Again) ↔ (is_stopped verifier.old ≡ true) }
-    ensures inspects { is_inspecting verifier.new ≡ true }
-    ensures attached { is_detached verifier.new ≡ false }
-    ensures context { WhateverInspected verifier.old (λ _ _ _.
-        setting_in verifier.new ≡ setting_in verifier.old) }
+    ensures purpose { SamePurpose verifier.old verifier.new }
     // What it holds of the message is within a bound, in addition to the `C` bytes of the call, and so is what is open
     // of it.
     ensures held { held verifier.new ≤ 2 * H + 512 }

@@ -10,7 +10,7 @@ ghost use Rattle.cose_msg.specs.Shown.{ShowsReading, held};
 ghost use Rattle.cose_msg.specs.Slice.{IfPayload, outcome, outcome_of};
 ghost use Rattle.cose_msg.specs.Status.{status_in, status_of_answer};
 ghost use Rattle.cose_msg.specs.Task.{rules_of, to_verify};
-ghost use Rattle.cose_msg.specs.Verifier.{is_detached, opened, setting_in};
+ghost use Rattle.cose_msg.specs.Verifier.{is_detached, opened, setting_in, task_of};
 
 use crate::elliptic::EcVerifier;
 use crate::laws::{deciding_goes_last, settled_stays};
@@ -96,9 +96,7 @@ pub fn verify_slice<'k, 'm, const H: usize, const D: usize, K: Keys<'k>, E: EcVe
         × (verdict_of H D (setting_in verifier.old) (E.decides ec.now) message.now
         ≡ decided verdict)
         × (kept_answer verifier.new ≡ Some (Ok verdict)) }
-    ensures context { setting_in verifier.new ≡ setting_in verifier.old }
-    ensures inspects { is_inspecting verifier.new ≡ false }
-    ensures attached { is_detached verifier.new ≡ false }
+    ensures purpose { task_of verifier.new ≡ task_of verifier.old }
     ensures held { held verifier.new ≤ 2 * H + 512 }
     ensures opened { opened verifier.new ≤ D }
 {

@@ -165,9 +165,7 @@ impl<'k, const H: usize, const D: usize, S: Keys<'k>> Verifier<'k, H, D, S> {
         ensures status { status_in self.new ≡ Status.More }
         ensures held { held self.new ≡ 256 }
         ensures keyless { KeepsNoKey self.new }
-        ensures context { setting_in self.new ≡ setting_in self.old }
-        ensures inspects { is_inspecting self.new ≡ is_inspecting self.old }
-        ensures detached { is_detached self.new ≡ is_detached self.old }
+        ensures purpose { task_of self.new ≡ task_of self.old }
     {
         self.reader.reset();
         self.taken = 0;

@@ -64,19 +64,19 @@ module _ (header nesting : ℕ) where
       refused_token token.verdict (length bytes) policy requirements (read_as header nesting setting decides bytes).so_far.payload (read_as header nesting setting decides bytes).answer (Err stop) stop token.judged token.comes refl
 
   -- A byte after a token that is admitted, and meets what is required, refuses it.
-  unless_behind : (rest taken bytes : List ℕ) (count : ℕ) (claims : ClaimsValue) → bytes ≡ taken ++ rest → count ≡ length taken →
+  unless_followed : (rest taken bytes : List ℕ) (count : ℕ) (claims : ClaimsValue) → bytes ≡ taken ++ rest → count ≡ length taken →
       unless_trailed (length bytes) count (Ok claims) ≡ or_trailing (trailing_refusal rest count) claims
-  unless_behind [] taken bytes count claims whole counted =
+  unless_followed [] taken bytes count claims whole counted =
       let short : length bytes ≤ count = rw (whole, counted) (omega (arith, length-append taken [])) in
       rw (le-ltb count (length bytes) short) refl
-  unless_behind (byte ∷ rest) taken bytes count claims whole counted =
+  unless_followed (byte ∷ rest) taken bytes count claims whole counted =
       let long : count < length bytes = rw (whole, counted) (omega (arith, length-append taken (byte ∷ rest))) in
       rw (lt-ltb count (length bytes) long) refl
 
-  required_behind : (rest taken bytes : List ℕ) (count : ℕ) (claims : ClaimsValue) (meets : Result (Unit {0}) UnmetRequirement) → bytes ≡ taken ++ rest → count ≡ length taken →
+  required_unless_followed : (rest taken bytes : List ℕ) (count : ℕ) (claims : ClaimsValue) (meets : Result (Unit {0}) UnmetRequirement) → bytes ≡ taken ++ rest → count ≡ length taken →
       unless_trailed (length bytes) count (if_met meets (Ok claims)) ≡ if_met meets (or_trailing (trailing_refusal rest count) claims)
-  required_behind rest taken bytes count claims (Ok done) whole counted = unless_behind rest taken bytes count claims whole counted
-  required_behind rest taken bytes count claims (Err unmet) whole counted = refl
+  required_unless_followed rest taken bytes count claims (Ok done) whole counted = unless_followed rest taken bytes count claims whole counted
+  required_unless_followed rest taken bytes count claims (Err unmet) whole counted = refl
 
   admitted_token : (verdict : Verdict) (rest taken bytes : List ℕ) (policy : PolicyValue) (requirements : RequirementsValue) (payload : List ℕ) (answer : Answer) (claims : ClaimsValue) → bytes ≡ taken ++ rest → Counts verdict (length taken) →
       answer ≡ decided verdict → Ok claims ≡ token_of nesting policy (Ok verdict) payload →
@@ -84,7 +84,7 @@ module _ (header nesting : ℕ) where
   admitted_token (Refused refusal) rest taken bytes policy requirements payload answer claims whole counted judged comes = absurd cc
   admitted_token (Authentic kind alg size count) rest taken bytes policy requirements payload answer claims whole counted judged comes =
       ap (token_told nesting (length bytes) policy requirements payload) judged ∙ ap (λ (o : Outcome). unless_trailed (length bytes) count (if_admitted requirements o)) (sym comes)
-      ∙ required_behind rest taken bytes count claims (met requirements claims) whole counted ∙ ap (λ (n : ℕ). required_then requirements (trailing_refusal rest n) claims) counted
+      ∙ required_unless_followed rest taken bytes count claims (met requirements claims) whole counted ∙ ap (λ (n : ℕ). required_then requirements (trailing_refusal rest n) claims) counted
 
   -- The verdict of the bytes taken is that of all.
   same_verdict : VerdictStays → (setting : Setting) (decides : Decides) (taken rest : List ℕ) (settled : Bool) → (read_as header nesting setting decides taken).settled ≡ settled →

@@ -35,7 +35,7 @@ pub mod WorkedMade
 pub mod WorkedOptions
 pub mod WorkedPayloads
 pub mod WorkedPrinted
-pub mod WorkedRequired
+pub mod WorkedRequirements
 pub mod WorkedSequences
 pub mod WorkedShown
 pub mod Writes

@@ -13,15 +13,15 @@ use Rattle.cosecmd.specs.Sequence.{FailsAfter, Reads, is_whole, joined_status, l
 use Rattle.cosecmd.proofs.Sequences.{from_first, text_fails}
 
 -- What is printed for an input that begins with a message.
-abbrev behind : Reads → (List ℕ → Output) → ℕ → List ℕ → List ℕ → Output
-behind reads alone place message rest = messages_from reads alone (place + length message) rest
+abbrev after_message : Reads → (List ℕ → Output) → ℕ → List ℕ → List ℕ → Output
+after_message reads alone place message rest = messages_from reads alone (place + length message) rest
 
 said_from : (reads : Reads) (alone : List ℕ → Output) (place : ℕ) (bytes : List ℕ) (come_after : Option (List ℕ)) (part : Part) (next : IsNext reads alone bytes come_after part) →
-    messages_from reads alone place bytes ≡ message_then reads alone place next.message (behind reads alone place next.message next.rest)
+    messages_from reads alone place bytes ≡ message_then reads alone place next.message (after_message reads alone place next.message next.rest)
 said_from reads alone place bytes come_after part next = ap (messages_from reads alone place) next.split ∙ from_first reads alone place next.message next.rest next.begins
 
 said_whole : (reads : Reads) (alone : List ℕ → Output) (place : ℕ) (bytes : List ℕ) (come_after : Option (List ℕ)) (part : Part) (next : IsNext reads alone bytes come_after part) → part.whole ≡ true →
-    messages_from reads alone place bytes ≡ then_said (placed place (alone next.message)) (behind reads alone place next.message next.rest)
+    messages_from reads alone place bytes ≡ then_said (placed place (alone next.message)) (after_message reads alone place next.message next.rest)
 said_whole reads alone place bytes come_after part next is =
     let whole : is_whole (reads next.message).answer ≡ true = sym next.whole ∙ is in
     said_from reads alone place bytes come_after part next ∙ rw whole refl
@@ -88,7 +88,7 @@ part_fails reads alone place bytes come_after old new part text next same front 
   where
     go : (whole : Bool) → part.whole ≡ whole → FailsAfter (messages_from reads alone place) bytes old new
     go true is =
-        let later : Output = behind reads alone place next.message next.rest in
+        let later : Output = after_message reads alone place next.message next.rest in
         let said : (messages_from reads alone place bytes).text ≡ (placed place (alone next.message)).text ++ later.text = ap (λ (o : Output). o.text) (said_whole reads alone place bytes come_after part next is) in
         text_fails reads alone place bytes old new text later.text (said ∙ ap (λ (t : List ℕ). t ++ later.text) (sym (same ∙ text_whole place part (alone next.message) next.says.text is))) front
     go false is =

@@ -31,9 +31,9 @@ one_read left count (Some bytes) None piece fits n consumes = absurd consumes
 one_read left count (Some bytes) (Some rest) piece fits n consumes = read_by left count bytes rest piece (nat_lt (length bytes) left) refl fits n consumes
 
 -- The bytes of a read are the first ones of what it was to fill.
-pub read_into : (left count : ℕ) (old new : Option (List ℕ)) (filled behind : List ℕ) → count ≤ left → count ≤ length filled → 0 < count → Consumes old new (take count filled) →
-    Consumes (counted left old) (counted (left - count) new) (take count (filled ++ behind)) × (count ≡ 0 → IsAtEnd (counted (left - count) new))
-read_into left count old new filled behind fits within some consumes = rw (take-append-le count filled behind within)
+pub read_into : (left count : ℕ) (old new : Option (List ℕ)) (filled later : List ℕ) → count ≤ left → count ≤ length filled → 0 < count → Consumes old new (take count filled) →
+    Consumes (counted left old) (counted (left - count) new) (take count (filled ++ later)) × (count ≡ 0 → IsAtEnd (counted (left - count) new))
+read_into left count old new filled later fits within some consumes = rw (take-append-le count filled later within)
     (one_read left count old new (take count filled) fits (length-take-le count filled within) consumes, λ none. absurd (omega (arith, none, some)))
 
 -- It ends only after all of the stated bytes.

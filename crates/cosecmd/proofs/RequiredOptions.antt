@@ -8,7 +8,7 @@ use Rattle.clap.specs.Walk.{Text, all_of, one_of}
 use Rattle.clap.specs.declared.parser.matches.ArgMatches.{ArgMatches}
 use Rattle.clap.proofs.WalkLemmas.{one_text-rows, raw_values-rows}
 use Rattle.cose_cwt.specs.declared.requirements.Claim.{Claim}
-use Rattle.cosecmd.specs.declared.required.Required.{Required}
+use Rattle.cosecmd.specs.declared.requirements.Required.{Required}
 use Rattle.cose_cwt.specs.Claims.Audience.{text_value}
 use Rattle.cosecmd.specs.Options.{Options, flag_in, number_in, options_of, text_in}
 use Rattle.cosecmd.specs.Requirements.{RequiredFields, and_named, audience_required, claim_named, claims_named, present_in, requirements_for, requirements_with, texts_in, wants_any_audience, with_audience}

@@ -12,7 +12,7 @@ use Rattle.cosecmd.specs.declared.reply.Status.{Status}
 use Rattle.cosecmd.specs.declared.reply.Status.TheVariants as statuses
 use Rattle.cosecmd.specs.Printed.{Output, Prints}
 use Rattle.cosecmd.specs.Part.{Begins, Follows}
-use Rattle.cosecmd.specs.Sequence.{FailsAfter, Reads, behind_first, first_message, front_size, is_whole, joined_status, lost, message_size, message_then, messages_from, messages_said, nothing_said, placed, sequence_said, then_said}
+use Rattle.cosecmd.specs.Sequence.{FailsAfter, Reads, after_first, first_message, front_size, is_whole, joined_status, lost, message_size, message_then, messages_from, messages_said, nothing_said, placed, sequence_said, then_said}
 
 -- ---- the first message
 
@@ -58,9 +58,9 @@ same_counts reads alone (suc count) zero place (byte ∷ bytes) few fewer = absu
 same_counts reads alone (suc count) (suc other) place [] few fewer = refl
 same_counts reads alone (suc count) (suc other) place (byte ∷ bytes) few fewer =
     let size : ℕ = front_size (λ front. (reads (byte ∷ front)).settled) bytes in
-    let left : length (behind_first reads (byte ∷ bytes)) ≤ length bytes = omega (arith, length-drop size bytes) in
+    let left : length (after_first reads (byte ∷ bytes)) ≤ length bytes = omega (arith, length-drop size bytes) in
     ap (message_then reads alone place (first_message reads (byte ∷ bytes)))
-    (same_counts reads alone count other (place + message_size reads (byte ∷ bytes)) (behind_first reads (byte ∷ bytes)) (omega (arith, left, few)) (omega (arith, left, fewer)))
+    (same_counts reads alone count other (place + message_size reads (byte ∷ bytes)) (after_first reads (byte ∷ bytes)) (omega (arith, left, few)) (omega (arith, left, fewer)))
 
 pub from_first : (reads : Reads) (alone : List ℕ → Output) (place : ℕ) (message rest : List ℕ) → Begins reads message rest →
     messages_from reads alone place (message ++ rest) ≡ message_then reads alone place message (messages_from reads alone (place + length message) rest)
@@ -70,12 +70,12 @@ from_first reads alone place (byte ∷ message) rest begins =
     let bytes : List ℕ = byte ∷ (message ++ rest) in
     let size : message_size reads bytes ≡ length (byte ∷ message) = size_is reads (byte ∷ message) rest begins in
     let first : first_message reads bytes ≡ byte ∷ message = ap (λ (n : ℕ). take n bytes) size ∙ take-append_seam (byte ∷ message) rest in
-    let behind : behind_first reads bytes ≡ rest = ap (λ (n : ℕ). drop n bytes) size ∙ drop-append_seam (byte ∷ message) rest in
-    let others : messages_said reads alone (length (message ++ rest)) (place + message_size reads bytes) (behind_first reads bytes) ≡ messages_from reads alone (place + length (byte ∷ message)) rest =
-    ap (λ (n : ℕ). messages_said reads alone (length (message ++ rest)) (place + n) (behind_first reads bytes)) size
-    ∙ ap (messages_said reads alone (length (message ++ rest)) (place + length (byte ∷ message))) behind
+    let after : after_first reads bytes ≡ rest = ap (λ (n : ℕ). drop n bytes) size ∙ drop-append_seam (byte ∷ message) rest in
+    let others : messages_said reads alone (length (message ++ rest)) (place + message_size reads bytes) (after_first reads bytes) ≡ messages_from reads alone (place + length (byte ∷ message)) rest =
+    ap (λ (n : ℕ). messages_said reads alone (length (message ++ rest)) (place + n) (after_first reads bytes)) size
+    ∙ ap (messages_said reads alone (length (message ++ rest)) (place + length (byte ∷ message))) after
     ∙ same_counts reads alone (length (message ++ rest)) (length rest) (place + length (byte ∷ message)) rest (omega (arith, length-append message rest)) (omega arith) in
-    ap (λ (m : List ℕ). message_then reads alone place m (messages_said reads alone (length (message ++ rest)) (place + message_size reads bytes) (behind_first reads bytes))) first
+    ap (λ (m : List ℕ). message_then reads alone place m (messages_said reads alone (length (message ++ rest)) (place + message_size reads bytes) (after_first reads bytes))) first
     ∙ ap (message_then reads alone place (byte ∷ message)) others
 
 -- ---- one output after the other
@@ -189,13 +189,13 @@ ends_lost reads alone bytes come old mid new place status last so_far sound some
     )
 
 -- What follows a text that was written.
-front_behind : (old mid new : Option (List ℕ)) (written text : List ℕ) → Appends old mid written → AppendsFront mid new text → AppendsFront old new (written ++ text)
-front_behind old mid new written text grown (front, (rest, whole), more) =
+front_after : (old mid new : Option (List ℕ)) (written text : List ℕ) → Appends old mid written → AppendsFront mid new text → AppendsFront old new (written ++ text)
+front_after old mid new written text grown (front, (rest, whole), more) =
     (written ++ front, (rest, ap (λ (t : List ℕ). written ++ t) whole ∙ sym (append_assoc written front rest)), Appends-trans old mid new written front grown more)
 
-pub fails_behind : (reads : Reads) (alone : List ℕ → Output) (bytes : List ℕ) (come old mid new : Option (List ℕ)) (place : ℕ) (status : Status) → SoFar reads alone bytes come old mid place status →
+pub fails_later : (reads : Reads) (alone : List ℕ → Output) (bytes : List ℕ) (come old mid new : Option (List ℕ)) (place : ℕ) (status : Status) → SoFar reads alone bytes come old mid place status →
     ((rest : List ℕ) → come ≡ Some rest → FailsAfter (messages_from reads alone place) rest mid new) → FailsAfter (sequence_said reads alone) bytes old new
-fails_behind reads alone bytes come old mid new place status so_far step =
+fails_later reads alone bytes come old mid new place status so_far step =
     let (fault, first, rest, split, front) = step so_far.rest so_far.left in
     let line : List ℕ = fault_text fault ++ codes "\n" in
     let text : List ℕ = (messages_from reads alone place first).text in
@@ -206,7 +206,7 @@ fails_behind reads alone bytes come old mid new place status so_far step =
       so_far.first ++ first,
       rest,
       so_far.split ∙ ap (λ (t : List ℕ). so_far.first ++ t) split ∙ sym (append_assoc so_far.first first rest),
-      subst (AppendsFront old new) all (front_behind old mid new so_far.written (text ++ line) so_far.grown front),
+      subst (AppendsFront old new) all (front_after old mid new so_far.written (text ++ line) so_far.grown front),
     )
 
 -- The line of a fault where nothing was printed.
@@ -217,10 +217,10 @@ line_first reads alone place bytes old new fault (inl line) = (fault, [], bytes,
 line_first reads alone place bytes old new fault (inr line) = (faults.Memory, [], bytes, refl, line)
 
 -- A front of the text of a message.
-pub text_fails : (reads : Reads) (alone : List ℕ → Output) (place : ℕ) (bytes : List ℕ) (old new : Option (List ℕ)) (text behind : List ℕ) → (messages_from reads alone place bytes).text ≡ text ++ behind →
+pub text_fails : (reads : Reads) (alone : List ℕ → Output) (place : ℕ) (bytes : List ℕ) (old new : Option (List ℕ)) (text after : List ℕ) → (messages_from reads alone place bytes).text ≡ text ++ after →
     AppendsFront old new text → FailsAfter (messages_from reads alone place) bytes old new
-text_fails reads alone place bytes old new text behind is (front, (rest, whole), grown) =
+text_fails reads alone place bytes old new text after is (front, (rest, whole), grown) =
     let line : List ℕ = fault_text faults.Memory ++ codes "\n" in
-    let all : (messages_from reads alone place bytes).text ++ line ≡ front ++ (rest ++ (behind ++ line)) =
-    ap (λ (t : List ℕ). t ++ line) (is ∙ ap (λ (t : List ℕ). t ++ behind) whole) ∙ append_assoc (front ++ rest) behind line ∙ append_assoc front rest (behind ++ line) in
-    (faults.Memory, bytes, [], sym (append-nil bytes), (front, (rest ++ (behind ++ line), all), grown))
+    let all : (messages_from reads alone place bytes).text ++ line ≡ front ++ (rest ++ (after ++ line)) =
+    ap (λ (t : List ℕ). t ++ line) (is ∙ ap (λ (t : List ℕ). t ++ after) whole) ∙ append_assoc (front ++ rest) after line ∙ append_assoc front rest (after ++ line) in
+    (faults.Memory, bytes, [], sym (append-nil bytes), (front, (rest ++ (after ++ line), all), grown))

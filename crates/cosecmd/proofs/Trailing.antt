@@ -56,12 +56,12 @@ verdict_of_whole come (Some rest) bytes taken answer verdict (Err fault) e consu
 verdict_of_whole come (Some rest) bytes taken answer verdict (Ok w) e consumes counted a h = rw (a, h rest refl) (trails bytes taken rest verdict (rw e at consumes) counted)
 
 -- A further byte refuses an authentic message, and nothing else does.
-pub refused_behind : (rest : List ℕ) (verdict : Verdict) (kind : Kind) (alg : Alg) (payload taken : ℕ) (refusal : Refusal) → verdict ≡ Authentic kind alg payload taken →
+pub refused_if_followed : (rest : List ℕ) (verdict : Verdict) (kind : Kind) (alg : Alg) (payload taken : ℕ) (refusal : Refusal) → verdict ≡ Authentic kind alg payload taken →
     Some refusal ≡ trailing_refusal rest taken → Refused refusal ≡ followed_by rest verdict
-refused_behind [] verdict kind alg payload taken refusal is e = absurd cc
-refused_behind (byte ∷ rest) verdict kind alg payload taken refusal is e = rw is cc
+refused_if_followed [] verdict kind alg payload taken refusal is e = absurd cc
+refused_if_followed (byte ∷ rest) verdict kind alg payload taken refusal is e = rw is cc
 
-pub nothing_behind : (rest : List ℕ) (verdict : Verdict) (kind : Kind) (alg : Alg) (payload taken : ℕ) → verdict ≡ Authentic kind alg payload taken →
+pub same_if_last : (rest : List ℕ) (verdict : Verdict) (kind : Kind) (alg : Alg) (payload taken : ℕ) → verdict ≡ Authentic kind alg payload taken →
     None ≡ trailing_refusal rest taken → Authentic kind alg payload taken ≡ followed_by rest verdict
-nothing_behind [] verdict kind alg payload taken is e = rw is refl
-nothing_behind (byte ∷ rest) verdict kind alg payload taken is e = absurd cc
+same_if_last [] verdict kind alg payload taken is e = rw is refl
+same_if_last (byte ∷ rest) verdict kind alg payload taken is e = absurd cc

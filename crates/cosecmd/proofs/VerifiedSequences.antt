@@ -42,7 +42,7 @@ pub fails_after_as : (said wanted : List ℕ → Output) (bytes : List ℕ) (old
 fails_after_as said wanted bytes old new same (fault, first, rest, split, front) =
     inr (fault, first, rest, split, subst (λ (o : Output). AppendsFront old new (o.text ++ (fault_text fault ++ codes "\n"))) (same first) front)
 
--- A reader behind a buffer that is empty yet.
-pub behind_buffer : {T A : Type 0} (remaining : T → Option (List ℕ)) (reader : BufReader T A) (inner : T) (bytes : List ℕ) → reader_inner reader ≡ inner → reader_buffer reader ≡ [] → reader_capacity reader ≡ 4096 →
+-- A reader through a buffer that is empty yet.
+pub through_buffer : {T A : Type 0} (remaining : T → Option (List ℕ)) (reader : BufReader T A) (inner : T) (bytes : List ℕ) → reader_inner reader ≡ inner → reader_buffer reader ≡ [] → reader_capacity reader ≡ 4096 →
     remaining inner ≡ Some bytes → reader_remaining remaining reader ≡ Some bytes
-behind_buffer remaining reader inner bytes same empty capacity known = rw (capacity, empty, same, known) refl
+through_buffer remaining reader inner bytes same empty capacity known = rw (capacity, empty, same, known) refl

@@ -10,9 +10,9 @@ use Rattle.cose_map.specs.Key.View.{contents}
 use Rattle.cosecmd.specs.Vouch.{is_then}
 
 -- An argument is a piece and the rest exactly where it begins with the piece and what is left is the rest.
-pub same_behind : (word piece rest : List ℕ) (left : Option (Bor (List ℕ))) → MatchOption left ((rest : List ℕ) → word ≢ piece ++ rest) (λ x. word ≡ piece ++ x.now)
+pub same_rest : (word piece rest : List ℕ) (left : Option (Bor (List ℕ))) → MatchOption left ((rest : List ℕ) → word ≢ piece ++ rest) (λ x. word ≡ piece ++ x.now)
     → bytes_eq word (piece ++ rest) ≡ is_then (option_map contents left) rest
-same_behind word piece rest None m = false_from_ne_true _ (λ e. m rest ((bytes_eq-Decides word (piece ++ rest)).0 e))
-same_behind word piece rest (Some x) m =
+same_rest word piece rest None m = false_from_ne_true _ (λ e. m rest ((bytes_eq-Decides word (piece ++ rest)).0 e))
+same_rest word piece rest (Some x) m =
     same_from_decides _ _ (bytes_eq-Decides word (piece ++ rest))
     (Decides-like (bytes_eq x.now rest) (λ e. m ∙ ap (λ (t : List ℕ). piece ++ t) e) (λ e. append_cancel_left piece x.now rest (sym m ∙ e)) (bytes_eq-Decides x.now rest))

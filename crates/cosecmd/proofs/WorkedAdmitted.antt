@@ -195,9 +195,9 @@ at_the_limits = refl
 abbrev found : Chosen
 found = record { key = record { kid = None; alg = None; operations = None; material = symmetric jefe }; alg = Hmac256 }
 
-unfoldable said_behind : ℕ → ℕ → Bool → Output
+unfoldable said_in_input : ℕ → ℕ → Bool → Output
 unfolding said
-said_behind now n holds = outcome_said false (token_told 8 n (program_policy (pos now) 0 None) (nothing now 0) (hex example)
+said_in_input now n holds = outcome_said false (token_told 8 n (program_policy (pos now) 0 None) (nothing now 0) (hex example)
     (verified [] (vouching None) (Some found) (if holds then decided (Authentic Mac0 Hmac256 80 123) else refused BadAuth 89)))
 
 -- For an authentic message with this payload; its claims nest at most 8 deep.
@@ -214,19 +214,19 @@ nested_claims = refl
 abbrev either : Bool → Output → Output
 either holds output = if holds then output else line "refused message BadAuth at 89" statuses.Refused
 
-alone : (holds : Bool) → said_behind 1444064943 123 holds ≡ either holds example_lines
-unfolding said_behind
+alone : (holds : Bool) → said_in_input 1444064943 123 holds ≡ either holds example_lines
+unfolding said_in_input
 alone true = refl
 alone false = refl
 
-followed : (holds : Bool) → said_behind 1444064943 124 holds ≡ either holds (line "refused message Trailing at 123" statuses.Refused)
-unfolding said_behind
+followed : (holds : Bool) → said_in_input 1444064943 124 holds ≡ either holds (line "refused message Trailing at 123" statuses.Refused)
+unfolding said_in_input
 followed true = refl
 followed false = refl
 
 -- After claims that are refused no byte is looked for.
-followed_late : (holds : Bool) → said_behind 1444064944 124 holds ≡ either holds (line "refused claims Expired at 59" statuses.Refused)
-unfolding said_behind
+followed_late : (holds : Bool) → said_in_input 1444064944 124 holds ≡ either holds (line "refused claims Expired at 59" statuses.Refused)
+unfolding said_in_input
 followed_late true = refl
 followed_late false = refl
 
@@ -238,13 +238,13 @@ abbrev holds_of : (ℕ → ℕ) → Bool
 holds_of byte = bytes_eq (any byte 32) (mac Hmac256 jefe (hex "84644d41433043a10105 40 5850" ++ hex example))
 
 token_alone : (byte : ℕ → ℕ) → prints plain 1444064943 (token byte) ≡ either (holds_of byte) example_lines
-unfolding prints said_behind structure mac_structure shortest shortest_all shortest_head
+unfolding prints said_in_input structure mac_structure shortest shortest_all shortest_head
 token_alone byte = alone (holds_of byte)
 
 token_followed : (byte : ℕ → ℕ) → prints plain 1444064943 (token byte ++ (0 ∷ [])) ≡ either (holds_of byte) (line "refused message Trailing at 123" statuses.Refused)
-unfolding prints said_behind structure mac_structure shortest shortest_all shortest_head
+unfolding prints said_in_input structure mac_structure shortest shortest_all shortest_head
 token_followed byte = followed (holds_of byte)
 
 token_late : (byte : ℕ → ℕ) → prints plain 1444064944 (token byte ++ (0 ∷ [])) ≡ either (holds_of byte) (line "refused claims Expired at 59" statuses.Refused)
-unfolding prints said_behind structure mac_structure shortest shortest_all shortest_head
+unfolding prints said_in_input structure mac_structure shortest shortest_all shortest_head
 token_late byte = followed_late (holds_of byte)

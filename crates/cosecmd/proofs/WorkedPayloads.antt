@@ -63,20 +63,20 @@ unfolding prints digits
 empty_payload = refl
 
 -- What is printed for a message of 42 bytes and a payload of so many, where so many bytes are in the input.
-abbrev said_behind : ℕ → ℕ → Bool → Output
-said_behind payload n holds = output_of (trailed n (verified [] (vouching None) (Some found) (if holds then decided (Authentic Mac0 Hmac256 payload 42) else refused BadAuth 8)))
+abbrev said_in_input : ℕ → ℕ → Bool → Output
+said_in_input payload n holds = output_of (trailed n (verified [] (vouching None) (Some found) (if holds then decided (Authentic Mac0 Hmac256 payload 42) else refused BadAuth 8)))
 
-alone : (holds : Bool) → said_behind 2 42 holds ≡ either holds "authentic mac0 alg 5 payload 2 taken 42" "refused BadAuth at 8"
+alone : (holds : Bool) → said_in_input 2 42 holds ≡ either holds "authentic mac0 alg 5 payload 2 taken 42" "refused BadAuth at 8"
 unfolding digits
 alone true = refl
 alone false = refl
 
-of_no_byte : (holds : Bool) → said_behind 0 42 holds ≡ either holds "authentic mac0 alg 5 payload 0 taken 42" "refused BadAuth at 8"
+of_no_byte : (holds : Bool) → said_in_input 0 42 holds ≡ either holds "authentic mac0 alg 5 payload 0 taken 42" "refused BadAuth at 8"
 unfolding digits
 of_no_byte true = refl
 of_no_byte false = refl
 
-followed : (holds : Bool) → said_behind 2 43 holds ≡
+followed : (holds : Bool) → said_in_input 2 43 holds ≡
     (if holds then line "refused Trailing at 42" statuses.Refused else line "refused BadAuth at 8" statuses.Refused)
 unfolding digits
 followed true = refl

@@ -149,15 +149,15 @@ either holds authentic other = if holds then line authentic statuses.Done else l
 abbrev pub found : Chosen
 found = record { key = record { kid = None; alg = None; operations = None; material = symmetric jefe }; alg = Hmac256 }
 
-abbrev said_behind : ℕ → Bool → Output
-said_behind n holds = output_of (trailed n (verified [] (vouching None) (Some found) (if holds then decided (Authentic Mac0 Hmac256 2 44) else refused BadAuth 10)))
+abbrev said_in_input : ℕ → Bool → Output
+said_in_input n holds = output_of (trailed n (verified [] (vouching None) (Some found) (if holds then decided (Authentic Mac0 Hmac256 2 44) else refused BadAuth 10)))
 
-alone : (holds : Bool) → said_behind 44 holds ≡ either holds "authentic mac0 alg 5 payload 2 taken 44" "refused BadAuth at 10"
+alone : (holds : Bool) → said_in_input 44 holds ≡ either holds "authentic mac0 alg 5 payload 2 taken 44" "refused BadAuth at 10"
 unfolding digits
 alone true = refl
 alone false = refl
 
-followed : (holds : Bool) → said_behind 45 holds ≡
+followed : (holds : Bool) → said_in_input 45 holds ≡
     (if holds then line "refused Trailing at 44" statuses.Refused else line "refused BadAuth at 10" statuses.Refused)
 unfolding digits
 followed true = refl

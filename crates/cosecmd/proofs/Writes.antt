@@ -16,9 +16,9 @@ pub none_written : (piece : List ℕ) (old : Option (List ℕ)) → Written piec
 none_written piece old = record { front = []; whole = refl; grown = Appends-nil old }
 
 -- One write took the first bytes of the rest.
-pub more_written : {piece rest : List ℕ} {old now : Option (List ℕ)} (next : Option (List ℕ)) (count : ℕ) (behind : List ℕ) →
-    Written piece old now rest → Appends now next (take count rest) → behind ≡ drop count rest → Written piece old next behind
-more_written {piece} {rest} {old} {now} next count behind w grown left = record {
+pub more_written : {piece rest : List ℕ} {old now : Option (List ℕ)} (next : Option (List ℕ)) (count : ℕ) (unwritten : List ℕ) →
+    Written piece old now rest → Appends now next (take count rest) → unwritten ≡ drop count rest → Written piece old next unwritten
+more_written {piece} {rest} {old} {now} next count unwritten w grown left = record {
   front = w.front ++ take count rest;
   whole = w.whole ∙ ap (λ (t : List ℕ). w.front ++ t) (sym (take-append-drop count rest)) ∙ sym (append_assoc w.front (take count rest) (drop count rest)) ∙ ap (λ (t : List ℕ). (w.front ++ take count rest) ++ t) (sym left);
   grown = Appends-trans old now next w.front (take count rest) w.grown grown;

@@ -1,7 +1,8 @@
 -- Which fault a run ends with, and the line that is printed for it.
-use Rattle.std.specs.Prelude.{◌≡◌, ℕ, Bool, true, false, List, ◌++◌, Option, Some, None, Result, Ok, Err, ⊤, codes, option_map}
+use Rattle.std.specs.Prelude.{◌≡◌, ◌↔◌, ◌⊎◌, ℕ, Bool, true, false, List, ◌++◌, Option, Some, None, Result, Ok, Err, ⊤, codes, option_map}
 use Rattle.cose_head.specs.Refusal.{refusal_text}
 use Rattle.cose_head.specs.declared.algorithm.Alg.{Alg}
+use Rattle.cose_head.specs.declared.refusal.Refusal.{Refusal}
 use Rattle.cose_map.specs.Key.Value.{KeyValue}
 use Rattle.cose_map.specs.Map.Read.{Read}
 use Rattle.cose_msg.specs.declared.make.MakeFault.{MakeFault}
@@ -32,6 +33,13 @@ is_of_file _ = false
 abbrev pub fails_by_file : {A : Type 0} → Result A Fault → Bool
 fails_by_file (Ok answer) = false
 fails_by_file (Err fault) = is_of_file fault
+
+abbrev pub IsOfMemoryOrInput : Fault → Type 0
+IsOfMemoryOrInput fault = (fault ≡ faults.Memory) ⊎ (fault ≡ faults.Input)
+
+-- Where the key set is refused, and only there, the fault is of the keys, with the same refusal.
+abbrev pub FailsForKeys : {A : Type 0} → Read (List KeyValue) → Result A Fault → Type 0
+FailsForKeys keys result = (refusal : Refusal) → keys ≡ Err refusal ↔ result ≡ Err (faults.Keys refusal)
 
 -- A fault of a file names this option.
 abbrev pub NamesOption : List ℕ → Fault → Type 0

@@ -16,6 +16,7 @@ pub mod PayloadFile
 pub mod PayloadTo
 pub mod Printed
 pub mod Readable
+pub mod Replies
 pub mod Requirements
 pub mod Sequence
 pub mod Stated

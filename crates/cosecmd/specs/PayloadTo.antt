@@ -1,5 +1,6 @@
 -- The payload of a message, which is kept in a new file where the message is authentic.
-use Rattle.std.specs.Prelude.{◌≡◌, ℕ, ◌⊎◌, Bool, true, false, List, [], Option, Some, None, Ok, Err, ⊤, codes, if◌then◌else◌}
+use Rattle.std.specs.Prelude.{◌≡◌, ℕ, ◌⊎◌, Bool, true, false, List, [], Option, Some, None, Result, Ok, Err, IfOk, ⊤, codes, if◌then◌else◌}
+use Rattle.std.specs.Io.KnownBytes.{Appends}
 use Rattle.std.specs.Str.{bytes_eq}
 use Rattle.clap.specs.Simple.{subcommand_rows_of}
 use Rattle.clap.specs.Walk.{Text}
@@ -33,6 +34,10 @@ payload_where_read under (Err refusal) bytes = []
 
 abbrev pub payload_under : Under → List ℕ → List ℕ
 payload_under under bytes = payload_where_read under under.keys bytes
+
+-- Where the bytes to come are known to the contract, exactly the payload of these was written, unless there is a fault.
+abbrev pub PutsPayload : {A : Type 0} → Option (List ℕ) → (List ℕ → List ℕ) → Option (List ℕ) → Option (List ℕ) → Result A Fault → Type 0
+PutsPayload come payload old new result = (bytes : List ℕ) → come ≡ Some bytes → IfOk result (λ _. Appends old new (payload bytes))
 
 -- The fault of the new file, or of memory for it.
 abbrev pub IsOfNewFile : Fault → Type 0

@@ -1,5 +1,6 @@
 -- What the program prints for a job and an input, and how it ends.
 use Rattle.std.specs.Prelude.{◌≡◌, ◌≢◌, ◌⊎◌, ℕ, ◌<◌, ◌-◌, ◌^◌, Bool, true, List, [], ◌∷◌, ◌++◌, length, map, take, Option, Some, None, Ok, Err, option_map, codes, string_bytes, nat_lt, if◌then◌else◌}
+use Rattle.std.specs.Borrow.{Bor}
 use Rattle.std.specs.List.{concat}
 use Rattle.std.specs.Fmt.{decimal, signed_decimal}
 use Rattle.std.specs.Io.KnownBytes.{Appends}
@@ -40,6 +41,7 @@ use Rattle.cosecmd.specs.Faults.{WritesLine}
 use Rattle.cosecmd.specs.KeysListed.{set_status, set_text}
 use Rattle.cosecmd.specs.Limits.{room_of}
 use Rattle.cosecmd.specs.declared.fault.Fault.{Fault}
+use Rattle.cosecmd.specs.declared.job.Checks.{Checks}
 use Rattle.cosecmd.specs.declared.job.FileJob.{FileJob}
 use Rattle.cosecmd.specs.declared.job.Job.{Job}
 use Rattle.cosecmd.specs.declared.job.Job.TheVariants.{Show, Verify, Cwt, Digest, Keys, Make}
@@ -155,6 +157,10 @@ abbrev pub verified_under : Under → Option (List ℕ) → List ℕ → Output
 verified_under under payload bytes =
     with_keys under.keys (λ keys. output_of (input_answer under.room.header under.room.nesting (with_payload payload (setting_under under keys)) (vouching under.vouch) bytes))
 
+-- The same for the checks of a job, and the payload that it has, if any.
+abbrev pub verified_for : Checks → Option (Bor (List ℕ)) → List ℕ → Output
+verified_for checks payload bytes = verified_under (job_under checks) (option_map contents payload) bytes
+
 -- The same for a job whose payload comes from a file, and has these bytes.
 abbrev pub verified_with : FileJob → List ℕ → List ℕ → Output
 verified_with job payload bytes = verified_under (job_under job.checks) (Some payload) bytes
@@ -237,6 +243,10 @@ digested_in header nesting setting bytes = digested_as setting.aad (input_compar
 abbrev pub digested_under : Under → Option (List ℕ) → List ℕ → Output
 digested_under under payload bytes = with_keys under.keys (λ keys. digested_in under.room.header under.room.nesting (with_payload payload (setting_under under keys)) bytes)
 
+-- The same for the checks of a job, and the payload that it has, if any.
+abbrev pub digested_for : Checks → Option (Bor (List ℕ)) → List ℕ → Output
+digested_for checks payload bytes = digested_under (job_under checks) (option_map contents payload) bytes
+
 -- The same for a job whose payload comes from a file, and has these bytes.
 abbrev pub digested_with : FileJob → List ℕ → List ℕ → Output
 digested_with job payload bytes = digested_under (job_under job.checks) (Some payload) bytes
@@ -297,10 +307,10 @@ keys_listed bytes = set_listed (record { bytes = bytes; place = 0 }) (keys_of by
 -- say; no clause requires a run that ends so to print all of it.
 unfoldable pub printed : Job → List ℕ → Output
 printed (Show limits wanted diagnostic) bytes = shown limits wanted diagnostic bytes
-printed (Verify checks payload) bytes = verified_under (job_under checks) (option_map contents payload) bytes
+printed (Verify checks payload) bytes = verified_for checks payload bytes
 printed (Cwt checks now leeway aud requirements readable) bytes =
     admitted_under (job_under checks) (program_policy now leeway (option_map text_value aud)) (requirements_value requirements) readable bytes
-printed (Digest checks payload) bytes = digested_under (job_under checks) (option_map contents payload) bytes
+printed (Digest checks payload) bytes = digested_for checks payload bytes
 printed (Keys keys) bytes = keys_listed keys.now
 printed (Make alg key payload_length kid aad) bytes =
     made_under (key_of (record { bytes = key.now; place = 0 })) alg payload_length (option_map contents kid) aad.now bytes

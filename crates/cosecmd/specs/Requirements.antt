@@ -10,7 +10,7 @@ use Rattle.cose_cwt.specs.declared.requirements.Requirement.TheVariants.{Present
 use Rattle.cose_cwt.specs.declared.requirements.Unmet.{Unmet}
 use Rattle.cose_cwt.specs.Claims.Audience.{text_value}
 use Rattle.cose_cwt.specs.Requirements.{RequirementsValue}
-use Rattle.cosecmd.specs.declared.required.Required.{Required}
+use Rattle.cosecmd.specs.declared.requirements.Required.{Required}
 use Rattle.cosecmd.specs.Options.{Options, flag_in, number_in, text_in}
 
 -- ---- the options

@@ -41,8 +41,8 @@ message_size reads (byte ∷ bytes) = suc (front_size (λ front. (reads (byte �
 abbrev pub first_message : Reads → List ℕ → List ℕ
 first_message reads bytes = take (message_size reads bytes) bytes
 
-abbrev pub behind_first : Reads → List ℕ → List ℕ
-behind_first reads bytes = drop (message_size reads bytes) bytes
+abbrev pub after_first : Reads → List ℕ → List ℕ
+after_first reads bytes = drop (message_size reads bytes) bytes
 
 -- A message was read to its end where it is authentic, and where its tag or signature isn't good, which is looked at last. A
 -- message that is refused for another reason wasn't, so where it ends isn't known.
@@ -88,7 +88,7 @@ placed place said = record { text = place_line place ++ said.text; status = said
 abbrev pub lost : ℕ → Output
 lost place = record { text = lost_line place; status = statuses.Refused }
 
--- The lines that a message at this place has alone, and then those of the messages behind it, if these can be found.
+-- The lines that a message at this place has alone, and then those of the messages after it, if these can be found.
 abbrev pub message_then : Reads → (List ℕ → Output) → ℕ → List ℕ → Output → Output
 message_then reads alone place message later =
     then_said (placed place (alone message)) (if is_whole (reads message).answer then later else lost place)
@@ -99,7 +99,7 @@ messages_said reads alone zero place bytes = nothing_said
 messages_said reads alone (suc count) place [] = nothing_said
 messages_said reads alone (suc count) place (byte ∷ bytes) =
     message_then reads alone place (first_message reads (byte ∷ bytes))
-    (messages_said reads alone count (place + message_size reads (byte ∷ bytes)) (behind_first reads (byte ∷ bytes)))
+    (messages_said reads alone count (place + message_size reads (byte ∷ bytes)) (after_first reads (byte ∷ bytes)))
 
 -- What is printed for all. Each of them has a byte at least.
 abbrev pub messages_from : Reads → (List ℕ → Output) → ℕ → List ℕ → Output

@@ -212,7 +212,8 @@ pub fn answer_token_sequence<'j, R: Read, W: Write>(
     ensures status { result ≤ 2 }
     // Each token takes the bytes up to its end and none after it, where the next begins.
     ensures printed { (bytes : List ℕ) → R.remaining input.old ≡ Some bytes →
-        EndsWith (admitted_each job.entry.now bytes) (W.contents output.old) (W.contents output.new) result }
+        EndsWith (admitted_each job.entry.now bytes) (W.contents output.old)
+        (W.contents output.new) result }
     ensures fails { (bytes : List ℕ) → R.remaining input.old ≡ Some bytes → result ≡ 2 →
         FailsInSequence (admitted_each job.entry.now) bytes (W.contents output.old)
         (W.contents output.new) }

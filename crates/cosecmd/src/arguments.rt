@@ -21,7 +21,7 @@ use crate::limits::Limits;
 use crate::mistake::mistake;
 use crate::reply::{Reply, Status};
 use crate::request::{Cwt, Keys, Make, OwnedChecks, Payload, Request};
-use crate::required::required_of;
+use crate::requirements::required_of;
 use clap::ArgMatches;
 use clap::error::ErrorKind;
 use cose_msg::{Alg, Wanted};

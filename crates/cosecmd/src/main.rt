@@ -25,7 +25,7 @@ mod payload_file;
 mod print;
 mod reply;
 mod request;
-mod required;
+mod requirements;
 mod run;
 mod streams;
 mod vouch;

@@ -14,7 +14,8 @@ use std::io::{ErrorKind, Write};
 /// Writes bytes by as many writes as it takes, and returns whether all are written. A write that is interrupted is tried
 /// again, as `write_all` does; any other error ends it, and so does a write that takes no byte.
 fn write_bytes<W: Write>(output: &mut W, bytes: &[u8]) -> bool
-    ensures whole { result ≡ true → Appends (W.contents output.old) (W.contents output.new) bytes.now }
+    ensures whole { result ≡ true
+        → Appends (W.contents output.old) (W.contents output.new) bytes.now }
     ensures part { result ≡ false
         → WritesPart bytes.now (W.contents output.old) (W.contents output.new) }
 {
@@ -24,8 +25,8 @@ fn write_bytes<W: Write>(output: &mut W, bytes: &[u8]) -> bool
         match output.write(rest) {
             Ok(0) => return false,
             Ok(count) => {
-                let (_written, behind) = rest.split_at(count);
-                rest = behind;
+                let (_written, unwritten) = rest.split_at(count);
+                rest = unwritten;
             }
             Err(error) => {
                 if error.kind() != ErrorKind::Interrupted || interruptions_left == 0 {

@@ -5,7 +5,7 @@ ghost use Rattle.std.specs.Prelude.{◌≤◌, length as length_of};
 use crate::allowed::Allowed;
 use crate::job::Question;
 use crate::limits::Limits;
-use crate::required::Required;
+use crate::requirements::Required;
 use cose_msg::{Alg, Wanted};
 
 /// What the arguments say that a message is verified under.

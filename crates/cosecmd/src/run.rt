@@ -8,6 +8,7 @@ ghost use Rattle.cosecmd.specs.Options.{part_of_file};
 ghost use Rattle.cosecmd.specs.Payload.{detached_in};
 ghost use Rattle.cosecmd.specs.PayloadTo.{ReadsNothingBefore, new_file_for, new_file_of};
 ghost use Rattle.cosecmd.specs.Printed.{EndsWith, Fails, Output, answered_under, keys_listed, shown, verified_under};
+ghost use Rattle.cosecmd.specs.Replies.{FailsFor, PrintsFor};
 ghost use Rattle.cosecmd.specs.Sequence.{FailsInSequence, verified_sequence};
 ghost use Rattle.cosecmd.specs.Under.{job_under, owned_under};
 ghost use Rattle.cosecmd.specs.Arguments.{admitted_each_for, admitted_for, asked_for, is_sequence, made_for, makes, payload_for};
@@ -25,7 +26,7 @@ use crate::limits::Limits;
 use crate::new_file::NewFiles;
 use crate::print::{print, print_fault};
 use crate::request::{Cwt, Keys, Make, OwnedChecks, Payload, Request};
-use crate::required::requirements_of;
+use crate::requirements::requirements_of;
 use clap::ArgMatches;
 use cose_msg::Wanted;
 use std::alloc::Global;
@@ -41,11 +42,10 @@ fn answer_show<R: Read, W: Write>(
     output: &mut W,
 ) -> u8
     ensures status { result ≤ 2 }
-    ensures printed { (bytes : List ℕ) → R.remaining input.old ≡ Some bytes →
-        EndsWith (shown limits wanted diagnostic bytes) (W.contents output.old) (W.contents output.new)
-        result }
-    ensures fails { (bytes : List ℕ) → R.remaining input.old ≡ Some bytes → result ≡ 2 →
-        Fails (shown limits wanted diagnostic bytes) (W.contents output.old) (W.contents output.new) }
+    ensures printed { PrintsFor (R.remaining input.old) (shown limits wanted diagnostic)
+        (W.contents output.old) (W.contents output.new) result }
+    ensures fails { FailsFor (R.remaining input.old) (shown limits wanted diagnostic)
+        (W.contents output.old) (W.contents output.new) result }
 {
     let job = Job::Show {
         limits,

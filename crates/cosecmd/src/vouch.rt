@@ -18,7 +18,7 @@ pub struct Vouch<'v> {
 }
 
 /// What follows a piece in an argument that begins with it.
-fn behind<'w>(word: &'w [u8], piece: &[u8]) -> Option<&'w [u8]>
+fn rest_after<'w>(word: &'w [u8], piece: &[u8]) -> Option<&'w [u8]>
     ensures { (rest : List ℕ) → bytes_eq word.entry.now (piece.now ++ rest)
         ≡ is_then (option_map contents result) rest }
 {
@@ -74,16 +74,16 @@ impl EcVerifier for Vouch<'_> {
         let (Some(word), Material::Ec { crv, x, y }) = (self.word, key.material) else {
             return false;
         };
-        let Some(word) = behind(word, &[crv]) else {
+        let Some(word) = rest_after(word, &[crv]) else {
             return false;
         };
-        let Some(word) = behind(word, digest) else {
+        let Some(word) = rest_after(word, digest) else {
             return false;
         };
-        let Some(word) = behind(word, signature) else {
+        let Some(word) = rest_after(word, signature) else {
             return false;
         };
-        match behind(word, x) {
+        match rest_after(word, x) {
             Some(word) => is_y(word, y),
             None => false,
         }

@@ -61,8 +61,8 @@ impl<W: Write> Sink for WriteSink<'_, W> {
                 self.failed = true;
                 return Err(SinkFault);
             }
-            let (_written, behind) = rest.split_at(count);
-            rest = behind;
+            let (_written, unwritten) = rest.split_at(count);
+            rest = unwritten;
         }
         Ok(())
     }

@@ -5,14 +5,13 @@ ghost use Rattle.cose_msg.specs.declared.verdict.Stop.{Stop};
 ghost use Rattle.cose_msg.specs.declared.verdict.Verdict.{Verdict};
 ghost use Rattle.cose_msg.specs.Answer.{decided};
 ghost use Rattle.cose_msg.specs.Detached.{Brings, DetachedRun, EitherFails, TakesDetached};
-ghost use Rattle.cose_msg.specs.Kept.{answered_again, is_inspecting, is_stopped, kept_answer, WhateverTaken, WhateverVerified, HasTaken};
+ghost use Rattle.cose_msg.specs.Kept.{answered_again, is_stopped, kept_answer, WhateverTaken, WhateverVerified, HasTaken, SamePurpose};
 ghost use Rattle.cose_msg.specs.Message.{given, message as reading, verdict_of, verifying, Setting};
 ghost use Rattle.cose_msg.specs.Run.{stop_in, stops_for_intake, stops_for_sink, LeftAt};
 ghost use Rattle.cose_msg.specs.Shown.{held};
-ghost use Rattle.cose_msg.specs.Source.{is_detached_from};
 ghost use Rattle.cose_msg.specs.Status.{payload_wanted_in};
 ghost use Rattle.cose_msg.specs.Task.{rules_of, to_verify};
-ghost use Rattle.cose_msg.specs.Verifier.{is_detached, opened, setting_in};
+ghost use Rattle.cose_msg.specs.Verifier.{is_detached, opened};
 
 use crate::elliptic::EcVerifier;
 use crate::intake::Intake;
@@ -40,10 +39,7 @@ fn take_payload<'k, const H: usize, const D: usize, K: Keys<'k>, P: Intake, S: S
         (P.ended payload.new) (S.contents sink.old) (S.contents sink.new)
         (stop_in result) verifier.new) }
     ensures stopped { is_stopped verifier.new ≡ is_err result }
-    ensures inspects { is_inspecting verifier.new ≡ is_inspecting verifier.old }
-    ensures detached { is_detached verifier.new ≡ is_detached verifier.old }
-    ensures context { WhateverTaken verifier.old (λ _ _ _.
-        setting_in verifier.new ≡ setting_in verifier.old) }
+    ensures purpose { SamePurpose verifier.old verifier.new }
     ensures held { held verifier.new ≤ 2 * H + 512 }
     ensures opened { opened verifier.new ≤ D }
     ensures once { result ≢ Err Stop.Again }
@@ -95,17 +91,13 @@ fn take_detached<'k, const H: usize, const D: usize, K: Keys<'k>, I: Intake, P: 
     requires some { 1 ≤ length chunk.old }
     requires limit { length chunk.old ≤ 65536 }
     requires goes_on { is_stopped verifier.old ≡ false }
+    requires detached { is_detached verifier.old ≡ true }
     ensures takes { WhateverTaken verifier.old (λ task before payload_before.
-        is_detached_from task.setting.source ≡ true
-        → TakesDetached task before payload_before (I.to_come message.old) (I.to_come message.new)
+        TakesDetached task before payload_before (I.to_come message.old) (I.to_come message.new)
         (I.ended message.new) (P.to_come payload.old) (P.to_come payload.new) (P.ended payload.new)
         (S.contents sink.old) (S.contents sink.new) (stop_in result) verifier.new) }
     ensures stopped { is_stopped verifier.new ≡ is_err result }
-    ensures inspects { is_inspecting verifier.new ≡ is_inspecting verifier.old }
-    ensures detached { is_detached verifier.new ≡ is_detached verifier.old }
-    ensures context { WhateverTaken verifier.old (λ task _ _.
-        is_detached_from task.setting.source ≡ true
-        → setting_in verifier.new ≡ setting_in verifier.old) }
+    ensures purpose { SamePurpose verifier.old verifier.new }
     ensures held { held verifier.new ≤ 2 * H + 512 }
     ensures opened { opened verifier.new ≤ D }
     ensures once { result ≢ Err Stop.Again }
@@ -117,8 +109,7 @@ fn take_detached<'k, const H: usize, const D: usize, K: Keys<'k>, I: Intake, P: 
     ensures sink_failure { S.has_failed sink.new
         ≡ (S.has_failed sink.old || stops_for_sink result) }
     ensures sure { WhateverTaken verifier.old (λ task _ _.
-        is_detached_from task.setting.source ≡ true → task.setting.payload_limit ≤ S.sure sink.old
-        → stops_for_sink result ≡ false) }
+        task.setting.payload_limit ≤ S.sure sink.old → stops_for_sink result ≡ false) }
 {
     // The law of messages that the proof cites.
     payload_stays();
@@ -194,10 +185,7 @@ pub fn verify_detached<
         → (result ≡ answer) × (verifier.new ≡ verifier.old) × (message.new ≡ message.old)
         × (payload.new ≡ payload.old) × (sink.new ≡ sink.old) }
     ensures stopped { (result ≡ Err Stop.Again) ↔ (is_stopped verifier.old ≡ true) }
-    ensures inspects { is_inspecting verifier.new ≡ is_inspecting verifier.old }
-    ensures detached { is_detached verifier.new ≡ true }
-    ensures context { WhateverVerified verifier.old (λ _ _ _.
-        setting_in verifier.new ≡ setting_in verifier.old) }
+    ensures purpose { SamePurpose verifier.old verifier.new }
     // What it holds of the message and of the payload is within a bound, in addition to the `C` bytes of the call, and so is
     // what is open of the message.
     ensures held { held verifier.new ≤ 2 * H + 512 }

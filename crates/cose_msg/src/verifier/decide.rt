@@ -38,7 +38,7 @@ fn keys_to_choose_from<'k, K: Keys<'k>>(keys: &K, inspecting: bool) -> Option<&K
 
 impl<'k, const H: usize, const D: usize, S: Keys<'k>> Verifier<'k, H, D, S> {
     ghost use Rattle.cose_msg.specs.Answer.{decided};
-    ghost use Rattle.cose_msg.specs.Kept.{HasTaken, is_inspecting, kept_answer, kept_inspection};
+    ghost use Rattle.cose_msg.specs.Kept.{HasTaken, kept_answer, kept_inspection, SamePurpose};
     ghost use Rattle.cose_msg.specs.Laws.{then_verified};
     ghost use Rattle.cose_msg.specs.Message.{Setting};
     ghost use Rattle.cose_msg.specs.Phase.{awaits_decision, grown, is_settled, want_of};
@@ -49,7 +49,7 @@ impl<'k, const H: usize, const D: usize, S: Keys<'k>> Verifier<'k, H, D, S> {
     ghost use Rattle.cose_msg.specs.declared.status.Status.{Status};
     ghost use Rattle.cose_msg.specs.Status.{status_in, status_of_answer};
     ghost use Rattle.cose_msg.specs.Task.{given_to, to_inspect, to_verify};
-    ghost use Rattle.cose_msg.specs.Verifier.{is_detached, opened, setting_in};
+    ghost use Rattle.cose_msg.specs.Verifier.{opened, task_of};
 
     /// The answer that is kept until `reset`: that it had stopped, or the verdict.
     pub(crate) fn kept_answer(&self) -> Option<Result<Verdict, Stop>>
@@ -90,8 +90,7 @@ impl<'k, const H: usize, const D: usize, S: Keys<'k>> Verifier<'k, H, D, S> {
         requires short { length piece.now ≤ 65536 }
         ensures counted { self.new.taken ≡ self.old.taken + length piece.now }
         ensures marked { self.new.stopped ≡ self.old.stopped }
-        ensures inspects { is_inspecting self.new ≡ is_inspecting self.old }
-        ensures detached { is_detached self.new ≡ is_detached self.old }
+        ensures purpose { SamePurpose self.old self.new }
         ensures taken { WhateverTaken self.old (λ task taken payload_so_far.
             HasTaken task (taken ++ piece.now)
             (grown self.old.reader.phase payload_so_far piece.now) self.new) }
@@ -108,9 +107,7 @@ impl<'k, const H: usize, const D: usize, S: Keys<'k>> Verifier<'k, H, D, S> {
         ensures shown { shown_of self.new ≡ shown_of self.old }
         ensures held { held self.new ≡ held self.old }
         ensures opened { opened self.new ≡ opened self.old }
-        ensures inspects { is_inspecting self.new ≡ is_inspecting self.old }
-        ensures detached { is_detached self.new ≡ is_detached self.old }
-        ensures context { setting_in self.new ≡ setting_in self.old }
+        ensures purpose { task_of self.new ≡ task_of self.old }
     {
         self.stopped = true;
     }
@@ -120,9 +117,7 @@ impl<'k, const H: usize, const D: usize, S: Keys<'k>> Verifier<'k, H, D, S> {
     pub(crate) fn conclude<E: EcVerifier>(&mut self, ec: &E) -> Verdict
         ensures kept { kept_answer self.new ≡ answer_kept self.old.stopped (Some result) }
         ensures counts { self.new.taken ≡ self.old.taken }
-        ensures inspects { is_inspecting self.new ≡ is_inspecting self.old }
-        ensures detached { is_detached self.new ≡ is_detached self.old }
-        ensures context { setting_in self.new ≡ setting_in self.old }
+        ensures purpose { task_of self.new ≡ task_of self.old }
         ensures shown { shown_of self.new ≡ shown_of self.old }
         ensures held { held self.new ≡ held self.old }
         ensures opened { opened self.new ≡ opened self.old }
@@ -148,9 +143,7 @@ impl<'k, const H: usize, const D: usize, S: Keys<'k>> Verifier<'k, H, D, S> {
     pub(crate) fn conclude_inspection(&mut self) -> Inspected
         ensures kept { kept_inspection self.new ≡ answer_kept self.old.stopped (Some result) }
         ensures counts { self.new.taken ≡ self.old.taken }
-        ensures inspects { is_inspecting self.new ≡ is_inspecting self.old }
-        ensures detached { is_detached self.new ≡ is_detached self.old }
-        ensures context { setting_in self.new ≡ setting_in self.old }
+        ensures purpose { task_of self.new ≡ task_of self.old }
         ensures shown { (setting : Setting) (payload_so_far : List ℕ) (reading : List ℕ → Reading)
             → StandsFor (to_inspect setting) payload_so_far self.old.taken self.old.reader reading
             → given_to payload_so_far (to_inspect setting) ≡ to_inspect setting

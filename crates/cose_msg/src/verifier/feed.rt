@@ -37,13 +37,13 @@ impl<'k, const H: usize, const D: usize, S: Keys<'k>> Verifier<'k, H, D, S> {
     ghost use Rattle.cose_head.specs.declared.reason.Reason.{Reason};
     ghost use Rattle.cose_msg.specs.Answer.{decided};
     ghost use Rattle.cose_msg.specs.Feed.{Uses, nothing_used, payload_in};
-    ghost use Rattle.cose_msg.specs.Kept.{HasTaken, bytes_taken, is_inspecting, kept_answer, WhateverTaken, WhateverVerified};
+    ghost use Rattle.cose_msg.specs.Kept.{HasTaken, bytes_taken, is_inspecting, kept_answer, WhateverTaken, WhateverVerified, SamePurpose};
     ghost use Rattle.cose_msg.specs.Message.{message, verdict_of};
     ghost use Rattle.cose_msg.specs.Phase.{is_settled, want_of};
     ghost use Rattle.cose_msg.specs.Shown.{ShowsReading, held, shown_of};
     ghost use Rattle.cose_msg.specs.Status.{is_complete, is_more, is_open, status_in, status_of_reading, status_of_answer, wanted_in};
     ghost use Rattle.cose_msg.specs.Task.{rules_of};
-    ghost use Rattle.cose_msg.specs.Verifier.{is_detached, opened, setting_in};
+    ghost use Rattle.cose_msg.specs.Verifier.{is_detached, opened, task_of};
 
     /// The status of the message after the bytes so far.
     pub fn status(&self) -> Status
@@ -140,10 +140,7 @@ impl<'k, const H: usize, const D: usize, S: Keys<'k>> Verifier<'k, H, D, S> {
         // Where no byte is wanted, nothing changes.
         ensures again { is_more (status_in self.old) ≡ false
             → (result ≡ nothing_used (status_in self.old)) × (self.new ≡ self.old) }
-        ensures inspects { is_inspecting self.new ≡ is_inspecting self.old }
-        ensures detached { is_detached self.new ≡ is_detached self.old }
-        ensures context { WhateverTaken self.old (λ _ _ _.
-            setting_in self.new ≡ setting_in self.old) }
+        ensures purpose { SamePurpose self.old self.new }
         ensures held { held self.new ≤ 2 * H + 512 }
         ensures opened { opened self.new ≤ D }
     {
@@ -198,9 +195,7 @@ impl<'k, const H: usize, const D: usize, S: Keys<'k>> Verifier<'k, H, D, S> {
         ensures again { is_open (status_in self.old) ≡ false → (result ≡ status_in self.old)
             × (self.new ≡ self.old) }
         ensures counts { bytes_taken self.new ≡ bytes_taken self.old }
-        ensures inspects { is_inspecting self.new ≡ is_inspecting self.old }
-        ensures detached { is_detached self.new ≡ is_detached self.old }
-        ensures context { setting_in self.new ≡ setting_in self.old }
+        ensures purpose { task_of self.new ≡ task_of self.old }
         ensures shown { shown_of self.new ≡ shown_of self.old }
         ensures held { held self.new ≤ 2 * H + 512 }
         ensures opened { opened self.new ≤ D }
@@ -231,9 +226,7 @@ impl<'k, const H: usize, const D: usize, S: Keys<'k>> Verifier<'k, H, D, S> {
         ensures again { (verdict : Verdict) → kept_answer self.old ≡ Some (Ok verdict)
             → (result ≡ verdict) × (self.new ≡ self.old) }
         ensures counts { bytes_taken self.new ≡ bytes_taken self.old }
-        ensures inspects { is_inspecting self.new ≡ false }
-        ensures detached { is_detached self.new ≡ is_detached self.old }
-        ensures context { setting_in self.new ≡ setting_in self.old }
+        ensures purpose { task_of self.new ≡ task_of self.old }
         ensures shown { shown_of self.new ≡ shown_of self.old }
         ensures held { held self.new ≤ 2 * H + 512 }
         ensures opened { opened self.new ≤ D }

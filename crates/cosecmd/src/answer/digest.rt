@@ -1,17 +1,16 @@
 //! The line of the job `digest`: what the signature of a message is verified with.
 
-ghost use Rattle.std.specs.Prelude.{◌≡◌, ◌≤◌, ◌↔◌, ◌||◌, ◌⊎◌, ℕ, false, List, Some, Ok, Err, IfErr, IfOk, codes, length, option_map};
-ghost use Rattle.cose_head.specs.declared.refusal.Refusal.{Refusal};
-ghost use Rattle.cose_map.specs.Key.View.{contents};
+ghost use Rattle.std.specs.Prelude.{◌≡◌, ◌≤◌, ◌||◌, ℕ, false, List, Some, IfErr, IfOk, codes, length};
 ghost use Rattle.cose_map.specs.KeyTable.{keys as usable};
 ghost use Rattle.cose_msg.specs.Detached.{EitherFails};
 ghost use Rattle.cose_msg.specs.Kept.{bytes_taken};
 ghost use Rattle.cose_msg.specs.Shown.{sign_input_of};
 ghost use Rattle.cose_msg.specs.Verifier.{setting_of};
-ghost use Rattle.cosecmd.specs.Faults.{NamesOption, fails_by_file, fails_by_input};
+ghost use Rattle.cosecmd.specs.Faults.{FailsForKeys, IsOfMemoryOrInput, NamesOption, fails_by_file, fails_by_input};
 ghost use Rattle.cosecmd.specs.Limits.{AreSizesUnder};
 ghost use Rattle.cosecmd.specs.PayloadFile.{counted};
-ghost use Rattle.cosecmd.specs.Printed.{Says, digested_before, digested_in, digested_under, vouched, with_payload};
+ghost use Rattle.cosecmd.specs.Printed.{Says, digested_before, digested_for, digested_in, vouched, with_payload};
+ghost use Rattle.cosecmd.specs.Replies.{RepliesTo, RepliesToBoth};
 ghost use Rattle.cosecmd.specs.Stated.{DigestedOf, digested_from};
 ghost use Rattle.cosecmd.specs.Under.{job_under};
 
@@ -53,11 +52,11 @@ fn signed_reply<'k, const H: usize, const D: usize, const N: usize, I: Intake>(
     verifier: &Verifier<'k, H, D, KeyTable<'k, N>>,
     intake: &mut I,
 ) -> Result<Reply, Fault>
-    ensures says { (rest : List ℕ) → I.to_come intake.old ≡ Some rest →
-        IfOk result (Says (digested_before rest (sign_input_of verifier.now)
-        (bytes_taken verifier.now) verdict)) }
+    ensures says { RepliesTo (I.to_come intake.old)
+        (λ rest. digested_before rest (sign_input_of verifier.now) (bytes_taken verifier.now)
+        verdict) result }
     // Its fault is that the input failed exactly where the intake failed in this call, or else that there is no memory.
-    ensures fault { IfErr result (λ fault. (fault ≡ Fault.Memory) ⊎ (fault ≡ Fault.Input)) }
+    ensures fault { IfErr result IsOfMemoryOrInput }
     ensures input { I.has_failed intake.new ≡ (I.has_failed intake.old || fails_by_input result) }
 {
     let Some((key, digest, signature)) = verifier.sign_input() else {
@@ -83,9 +82,9 @@ fn attached_reply<'j, const H: usize, const D: usize, const N: usize, I: Intake>
     requires limit { H ≤ 65535 }
     requires nesting { D ≤ 32 }
     requires external { length context.aad.now ≤ 65535 }
-    ensures says { (bytes : List ℕ) → I.to_come intake.old ≡ Some bytes →
-        IfOk result (Says (digested_in H D (setting_of usable context.entry) bytes)) }
-    ensures fault { IfErr result (λ fault. (fault ≡ Fault.Memory) ⊎ (fault ≡ Fault.Input)) }
+    ensures says { RepliesTo (I.to_come intake.old)
+        (digested_in H D (setting_of usable context.entry)) result }
+    ensures fault { IfErr result IsOfMemoryOrInput }
     ensures input { I.has_failed intake.new ≡ (I.has_failed intake.old || fails_by_input result) }
 {
     // Laws of messages that the proof cites.
@@ -118,7 +117,7 @@ fn detached_reply<'j, const H: usize, const D: usize, const N: usize, I: Intake,
     ensures came { (bytes : List ℕ) → I.to_come intake.old ≡ Some bytes →
         IfOk result (λ said. DigestedOf H D (setting_of usable context.entry) payload_length bytes
         (P.to_come payload.old) (P.to_come payload.new) (P.ended payload.new) said) }
-    ensures fault { IfErr result (λ fault. (fault ≡ Fault.Memory) ⊎ (fault ≡ Fault.Input)) }
+    ensures fault { IfErr result IsOfMemoryOrInput }
     // One of the intakes has failed in this call, where the fault is of an input, and otherwise none.
     ensures failure { EitherFails (fails_by_input result)
         (I.has_failed intake.old) (I.has_failed intake.new)
@@ -155,11 +154,10 @@ fn reply_with_bytes<'j, const H: usize, const D: usize, const N: usize, I: Intak
     requires limit { H ≤ 65535 }
     requires nesting { D ≤ 32 }
     requires external { length context.aad.now ≤ 65535 }
-    ensures says { (bytes : List ℕ) → I.to_come intake.old ≡ Some bytes →
-        IfOk result
-        (Says (digested_in H D (with_payload (Some payload.now) (setting_of usable context.entry))
-        bytes)) }
-    ensures fault { IfErr result (λ fault. (fault ≡ Fault.Memory) ⊎ (fault ≡ Fault.Input)) }
+    ensures says { RepliesTo (I.to_come intake.old)
+        (digested_in H D (with_payload (Some payload.now) (setting_of usable context.entry)))
+        result }
+    ensures fault { IfErr result IsOfMemoryOrInput }
     ensures input { I.has_failed intake.new ≡ (I.has_failed intake.old || fails_by_input result) }
 {
     // The law that the proof cites: what comes of a payload changes nothing where none of it is wanted.
@@ -184,10 +182,8 @@ fn digested_reply<const H: usize, const D: usize, const N: usize, I: Intake>(
     requires keys_limit { N ≤ 256 }
     requires sizes { AreSizesUnder checks.now.limits H D N }
     requires external { length checks.now.aad.now ≤ 65535 }
-    ensures says { (bytes : List ℕ) → I.to_come intake.old ≡ Some bytes →
-        IfOk result (Says (digested_under (job_under checks.now) (option_map contents payload.entry) bytes)) }
-    ensures keys { (refusal : Refusal)
-        → (job_under checks.now).keys ≡ Err refusal ↔ result ≡ Err (Fault.Keys refusal) }
+    ensures says { RepliesTo (I.to_come intake.old) (digested_for checks.now payload.entry) result }
+    ensures keys { FailsForKeys (job_under checks.now).keys result }
     // Its fault is that the input failed exactly where the intake failed in this call.
     ensures input { I.has_failed intake.new ≡ (I.has_failed intake.old || fails_by_input result) }
 {
@@ -210,10 +206,9 @@ pub fn digest_reply<R: Read>(
     input: &mut R,
 ) -> Result<Reply, Fault>
     requires external { length checks.now.aad.now ≤ 65535 }
-    ensures says { (bytes : List ℕ) → R.remaining input.old ≡ Some bytes →
-        IfOk result (Says (digested_under (job_under checks.now) (option_map contents payload.entry) bytes)) }
-    ensures keys { (refusal : Refusal) →
-        (job_under checks.now).keys ≡ Err refusal ↔ result ≡ Err (Fault.Keys refusal) }
+    ensures says { RepliesTo (R.remaining input.old) (digested_for checks.now payload.entry)
+        result }
+    ensures keys { FailsForKeys (job_under checks.now).keys result }
 {
     let mut intake = ReadIntake::new(input);
     match checks.limits {
@@ -251,8 +246,7 @@ fn digested_with_file<const H: usize, const D: usize, const N: usize, I: Intake,
     ensures says { (bytes content : List ℕ) → I.to_come intake.old ≡ Some bytes →
         ⟦<PayloadFile<R> as Intake>⟧.to_come payload.old ≡ counted job.now.length (Some content)
         → IfOk result (Says (digested_from job.now content bytes)) }
-    ensures keys { (refusal : Refusal) →
-        (job_under job.now.checks).keys ≡ Err refusal ↔ result ≡ Err (Fault.Keys refusal) }
+    ensures keys { FailsForKeys (job_under job.now.checks).keys result }
     // Its fault is that the file failed, or the input, exactly where it failed in this call.
     ensures file { ⟦<PayloadFile<R> as Intake>⟧.has_failed payload.new ≡ fails_by_file result }
     ensures option { IfErr result (NamesOption (codes "payload-file")) }
@@ -280,11 +274,9 @@ pub fn digest_reply_with_file<P: Read, R: Read>(
     input: &mut R,
 ) -> Result<Reply, Fault>
     requires external { length job.now.checks.aad.now ≤ 65535 }
-    ensures says { (bytes content : List ℕ) → R.remaining input.old ≡ Some bytes →
-        P.remaining payload.old ≡ Some content →
-        IfOk result (Says (digested_from job.now content bytes)) }
-    ensures keys { (refusal : Refusal) →
-        (job_under job.now.checks).keys ≡ Err refusal ↔ result ≡ Err (Fault.Keys refusal) }
+    ensures says { RepliesToBoth (R.remaining input.old) (P.remaining payload.old)
+        (digested_from job.now) result }
+    ensures keys { FailsForKeys (job_under job.now.checks).keys result }
 {
     let mut intake = ReadIntake::new(input);
     let mut payload_file = PayloadFile::new(payload, job.length);

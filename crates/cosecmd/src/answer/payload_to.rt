@@ -1,18 +1,16 @@
 //! The job `verify` with a new file that the payload of an authentic message is kept in.
 
-ghost use Rattle.std.specs.Prelude.{◌≡◌, ◌≢◌, ◌≤◌, ◌⊎◌, ◌||◌, ℕ, true, List, Some, None, IfErr, IfOk, IsErr, length, option_map};
+ghost use Rattle.std.specs.Prelude.{◌≡◌, ◌≢◌, ◌≤◌, ◌⊎◌, ◌||◌, ℕ, true, List, Some, None, IfErr, IfOk, IsErr, length};
 ghost use Rattle.std.specs.Io.KnownBytes.{Appends, Keeps};
-ghost use Rattle.cose_map.specs.Key.View.{contents};
 ghost use Rattle.cose_map.specs.KeyTable.{keys as usable};
-ghost use Rattle.cose_msg.specs.Answer.{decided};
 ghost use Rattle.cose_msg.specs.Verifier.{setting_of};
 ghost use Rattle.cosecmd.specs.Faults.{fails_by_file, fails_by_input};
 ghost use Rattle.cosecmd.specs.Limits.{AreSizesUnder};
 ghost use Rattle.cosecmd.specs.NewFile.{IsRemoved};
-ghost use Rattle.cosecmd.specs.PayloadTo.{IsOfNewFile, WritesFileFault, payload_in, payload_under};
-ghost use Rattle.cosecmd.specs.Printed.{EndsWith, Fails, Output, Says, input_answer, verified_under};
+ghost use Rattle.cosecmd.specs.PayloadTo.{IsOfNewFile, PutsPayload, WritesFileFault, payload_in, payload_under};
+ghost use Rattle.cosecmd.specs.Printed.{Output, Says, verified_for};
+ghost use Rattle.cosecmd.specs.Replies.{FailsFor, IsVerdictOfInput, PrintsFor, RepliesTo, vouching_by};
 ghost use Rattle.cosecmd.specs.Under.{job_under};
-ghost use Rattle.cosecmd.specs.Vouch.{vouching};
 ghost use Rattle.cosecmd.specs.declared.new_file.Standing.TheVariants.{Gone, Kept};
 
 use crate::answer::verify::{CHUNK, program_context, reply_of, whole_verdict};
@@ -42,13 +40,11 @@ fn verdict_into<'j, const H: usize, const D: usize, const N: usize, I: Intake, S
     requires limit { H ≤ 65535 }
     requires nesting { D ≤ 32 }
     requires external { length context.aad.now ≤ 65535 }
-    ensures verdict { (bytes : List ℕ) → I.to_come intake.old ≡ Some bytes →
-        IfOk result (λ verdict. input_answer H D (setting_of usable context.entry)
-        (vouching (option_map contents vouch.now.word)) bytes ≡ decided verdict) }
-    ensures payload { (bytes : List ℕ) → I.to_come intake.old ≡ Some bytes →
-        IfOk result (λ _. Appends (S.contents sink.old) (S.contents sink.new)
-        (payload_in H D (setting_of usable context.entry)
-        (vouching (option_map contents vouch.now.word)) bytes)) }
+    ensures verdict { IsVerdictOfInput H D (setting_of usable context.entry)
+        (vouching_by vouch.now) (I.to_come intake.old) result }
+    ensures payload { PutsPayload (I.to_come intake.old)
+        (payload_in H D (setting_of usable context.entry) (vouching_by vouch.now))
+        (S.contents sink.old) (S.contents sink.new) result }
     // It fails exactly where the intake or the sink failed in this call.
     ensures fault { IfErr result (λ fault. (fault ≡ Fault.Input)
         ⊎ (fails_by_file result ≡ true)) }
@@ -83,11 +79,9 @@ fn reply_into<const H: usize, const D: usize, const N: usize, I: Intake, S: Sink
     requires keys_limit { N ≤ 256 }
     requires sizes { AreSizesUnder checks.now.limits H D N }
     requires external { length checks.now.aad.now ≤ 65535 }
-    ensures says { (bytes : List ℕ) → I.to_come intake.old ≡ Some bytes →
-        IfOk result (Says (verified_under (job_under checks.now) None bytes)) }
-    ensures payload { (bytes : List ℕ) → I.to_come intake.old ≡ Some bytes →
-        IfOk result (λ _. Appends (S.contents sink.old) (S.contents sink.new)
-        (payload_under (job_under checks.now) bytes)) }
+    ensures says { RepliesTo (I.to_come intake.old) (verified_for checks.now None) result }
+    ensures payload { PutsPayload (I.to_come intake.old) (payload_under (job_under checks.now))
+        (S.contents sink.old) (S.contents sink.new) result }
 {
     let keys = match KeyTable::<N>::read_restricted(checks.keys, &checks.restrictions) {
         Ok(keys) => keys,
@@ -107,11 +101,9 @@ fn reply_in_room<I: Intake, S: Sink>(
     sink: &mut S,
 ) -> Result<Reply, Fault>
     requires external { length checks.now.aad.now ≤ 65535 }
-    ensures says { (bytes : List ℕ) → I.to_come intake.old ≡ Some bytes →
-        IfOk result (Says (verified_under (job_under checks.now) None bytes)) }
-    ensures payload { (bytes : List ℕ) → I.to_come intake.old ≡ Some bytes →
-        IfOk result (λ _. Appends (S.contents sink.old) (S.contents sink.new)
-        (payload_under (job_under checks.now) bytes)) }
+    ensures says { RepliesTo (I.to_come intake.old) (verified_for checks.now None) result }
+    ensures payload { PutsPayload (I.to_come intake.old) (payload_under (job_under checks.now))
+        (S.contents sink.old) (S.contents sink.new) result }
 {
     match checks.limits {
         Limits::Small => reply_into::<SMALL_HEADER, SMALL_NESTING, SMALL_KEYS, _, _>(
@@ -131,11 +123,9 @@ fn reply_written<N: Write, R: Read>(
     input: &mut R,
 ) -> Result<Reply, Fault>
     requires external { length checks.now.aad.now ≤ 65535 }
-    ensures says { (bytes : List ℕ) → R.remaining input.old ≡ Some bytes →
-        IfOk result (Says (verified_under (job_under checks.now) None bytes)) }
-    ensures payload { (bytes : List ℕ) → R.remaining input.old ≡ Some bytes →
-        IfOk result (λ _. Appends (N.contents file.old) (N.contents file.new)
-        (payload_under (job_under checks.now) bytes)) }
+    ensures says { RepliesTo (R.remaining input.old) (verified_for checks.now None) result }
+    ensures payload { PutsPayload (R.remaining input.old) (payload_under (job_under checks.now))
+        (N.contents file.old) (N.contents file.new) result }
 {
     let mut intake = ReadIntake::new(input);
     let mut sink = WriteSink::new(file);
@@ -232,12 +222,10 @@ pub fn answer_to_new_file<N: NewFile, R: Read, W: Write>(
     requires external { length checks.now.aad.now ≤ 65535 }
     ensures status { result ≤ 2 }
     // It prints what it prints without a file.
-    ensures printed { (bytes : List ℕ) → R.remaining input.old ≡ Some bytes →
-        EndsWith (verified_under (job_under checks.now) None bytes)
+    ensures printed { PrintsFor (R.remaining input.old) (verified_for checks.now None)
         (W.contents output.old) (W.contents output.new) result }
-    ensures fails { (bytes : List ℕ) → R.remaining input.old ≡ Some bytes → result ≡ 2 →
-        Fails (verified_under (job_under checks.now) None bytes)
-        (W.contents output.old) (W.contents output.new) }
+    ensures fails { FailsFor (R.remaining input.old) (verified_for checks.now None)
+        (W.contents output.old) (W.contents output.new) result }
     // Where it says authentic, the file is kept, and exactly the payload was written to it.
     ensures kept { result ≡ 0 → N.standing file.new ≡ Kept }
     ensures payload { (bytes : List ℕ) → R.remaining input.old ≡ Some bytes → result ≡ 0 →
@@ -280,12 +268,10 @@ pub fn answer_with_payload_to<F: NewFiles, R: Read, W: Write>(
 ) -> u8
     requires external { length checks.now.aad.now ≤ 65535 }
     ensures status { result ≤ 2 }
-    ensures printed { (bytes : List ℕ) → R.remaining input.old ≡ Some bytes →
-        EndsWith (verified_under (job_under checks.now) None bytes)
+    ensures printed { PrintsFor (R.remaining input.old) (verified_for checks.now None)
         (W.contents output.old) (W.contents output.new) result }
-    ensures fails { (bytes : List ℕ) → R.remaining input.old ≡ Some bytes → result ≡ 2 →
-        Fails (verified_under (job_under checks.now) None bytes)
-        (W.contents output.old) (W.contents output.new) }
+    ensures fails { FailsFor (R.remaining input.old) (verified_for checks.now None)
+        (W.contents output.old) (W.contents output.new) result }
     // Where the name exists, there is a fault, and nothing of the input is read.
     ensures taken { F.is_taken files.now name.now ≡ Some true → (result ≡ 2)
         × (input.new ≡ input.old)

@@ -78,7 +78,7 @@ pub trait Parts {
 
     ghost alone: { Self → List ℕ → Output };
 
-    /// The next message of an intake, if there is one. It takes none of the bytes behind it.
+    /// The next message of an intake, if there is one. It takes none of the bytes after it.
     fn next<I: Intake>(&mut self, alloc: Global, intake: &mut I) -> Result<Option<Part>, Missing>
         ensures part { (bytes : List ℕ) → I.to_come intake.old ≡ Some bytes →
             IfOk result (IsNextOf (reads self.old) (alone self.old) bytes

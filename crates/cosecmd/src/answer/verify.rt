@@ -1,20 +1,19 @@
 //! The verdict of the job `verify`, and the reply that prints it.
 
-ghost use Rattle.std.specs.Prelude.{◌≡◌, ◌≤◌, ◌↔◌, ◌||◌, ℕ, false, List, Some, Ok, Err, IfErr, IfOk, codes, drop, is_err, length, option_map};
+ghost use Rattle.std.specs.Prelude.{◌≡◌, ◌≤◌, ◌||◌, ℕ, false, List, Some, Ok, IfErr, IfOk, codes, drop, is_err, length, option_map};
 ghost use Rattle.cose_head.specs.declared.refusal.Refusal.{Refusal};
 ghost use Rattle.cose_map.specs.Key.View.{contents};
 ghost use Rattle.cose_map.specs.KeyTable.{keys as usable};
-ghost use Rattle.cose_msg.specs.Answer.{decided};
 ghost use Rattle.cose_msg.specs.Detached.{EitherFails};
 ghost use Rattle.cose_msg.specs.Verifier.{setting_of};
 ghost use Rattle.cose_msg.specs.declared.verdict.Verdict.{Verdict};
-ghost use Rattle.cosecmd.specs.Faults.{NamesOption, fails_by_file, fails_by_input};
+ghost use Rattle.cosecmd.specs.Faults.{FailsForKeys, NamesOption, fails_by_file, fails_by_input};
 ghost use Rattle.cosecmd.specs.Limits.{AreSizesUnder};
 ghost use Rattle.cosecmd.specs.PayloadFile.{counted, left_of};
-ghost use Rattle.cosecmd.specs.Printed.{Says, input_answer, trailing_refusal, program_setting, said_of, verified_under, verified_with, followed_by, with_payload};
+ghost use Rattle.cosecmd.specs.Printed.{Says, trailing_refusal, program_setting, said_of, verified_for, verified_with, followed_by, with_payload};
+ghost use Rattle.cosecmd.specs.Replies.{IsVerdictOfInput, RepliesTo, RepliesToBoth, vouching_by};
 ghost use Rattle.cosecmd.specs.Stated.{CameOf, verified_from};
 ghost use Rattle.cosecmd.specs.Under.{job_under};
-ghost use Rattle.cosecmd.specs.Vouch.{vouching};
 
 use crate::fault::Fault;
 use crate::job::{Checks, FileJob};
@@ -123,9 +122,8 @@ fn input_verdict<'j, const H: usize, const D: usize, const N: usize, I: Intake>(
     requires limit { H ≤ 65535 }
     requires nesting { D ≤ 32 }
     requires external { length context.aad.now ≤ 65535 }
-    ensures verdict { (bytes : List ℕ) → I.to_come intake.old ≡ Some bytes →
-        IfOk result (λ verdict. input_answer H D (setting_of usable context.entry)
-        (vouching (option_map contents vouch.now.word)) bytes ≡ decided verdict) }
+    ensures verdict { IsVerdictOfInput H D (setting_of usable context.entry)
+        (vouching_by vouch.now) (I.to_come intake.old) result }
     ensures fault { IfErr result (λ fault. fault ≡ Fault.Input) }
     ensures failure { I.has_failed intake.new ≡ (I.has_failed intake.old || is_err result) }
 {
@@ -151,15 +149,14 @@ fn detached_verdict<'j, const H: usize, const D: usize, const N: usize, I: Intak
     requires limit { H ≤ 65535 }
     requires nesting { D ≤ 32 }
     requires external { length context.aad.now ≤ 65535 }
-    ensures verdict { (bytes more : List ℕ) → I.to_come intake.old ≡ Some bytes →
-        P.to_come payload.old ≡ Some more → length more ≡ payload_length →
-        IfOk result
-        (λ verdict. input_answer H D (with_payload (Some more) (setting_of usable context.entry))
-        (vouching (option_map contents vouch.now.word)) bytes ≡ decided verdict) }
+    ensures verdict { (more : List ℕ) → P.to_come payload.old ≡ Some more
+        → length more ≡ payload_length
+        → IsVerdictOfInput H D (with_payload (Some more) (setting_of usable context.entry))
+        (vouching_by vouch.now) (I.to_come intake.old) result }
     ensures came { (bytes : List ℕ) → I.to_come intake.old ≡ Some bytes →
-        IfOk result
-        (CameOf H D (setting_of usable context.entry) (vouching (option_map contents vouch.now.word))
-        payload_length bytes (P.to_come payload.old) (P.to_come payload.new) (P.ended payload.new)) }
+        IfOk result (CameOf H D (setting_of usable context.entry) (vouching_by vouch.now)
+        payload_length bytes (P.to_come payload.old) (P.to_come payload.new)
+        (P.ended payload.new)) }
     ensures fault { IfErr result (λ fault. fault ≡ Fault.Input) }
     // One of the intakes has failed in this call, where there is no verdict, and otherwise none.
     ensures failure { EitherFails (is_err result)
@@ -194,10 +191,9 @@ fn verdict_with_bytes<'j, const H: usize, const D: usize, const N: usize, I: Int
     requires limit { H ≤ 65535 }
     requires nesting { D ≤ 32 }
     requires external { length context.aad.now ≤ 65535 }
-    ensures verdict { (bytes : List ℕ) → I.to_come intake.old ≡ Some bytes →
-        IfOk result
-        (λ verdict. input_answer H D (with_payload (Some payload.now) (setting_of usable context.entry))
-        (vouching (option_map contents vouch.now.word)) bytes ≡ decided verdict) }
+    ensures verdict { IsVerdictOfInput H D
+        (with_payload (Some payload.now) (setting_of usable context.entry))
+        (vouching_by vouch.now) (I.to_come intake.old) result }
     ensures fault { IfErr result (λ fault. fault ≡ Fault.Input) }
     ensures failure { I.has_failed intake.new ≡ (I.has_failed intake.old || is_err result) }
 {
@@ -217,11 +213,9 @@ fn verdict_of_input<'j, const H: usize, const D: usize, const N: usize, I: Intak
     requires limit { H ≤ 65535 }
     requires nesting { D ≤ 32 }
     requires external { length context.aad.now ≤ 65535 }
-    ensures verdict { (bytes : List ℕ) → I.to_come intake.old ≡ Some bytes →
-        IfOk result
-        (λ verdict. input_answer H D
+    ensures verdict { IsVerdictOfInput H D
         (with_payload (option_map contents payload.entry) (setting_of usable context.entry))
-        (vouching (option_map contents vouch.now.word)) bytes ≡ decided verdict) }
+        (vouching_by vouch.now) (I.to_come intake.old) result }
     ensures fault { IfErr result (λ fault. fault ≡ Fault.Input) }
     ensures failure { I.has_failed intake.new ≡ (I.has_failed intake.old || is_err result) }
 {
@@ -246,10 +240,8 @@ fn verified_reply<const H: usize, const D: usize, const N: usize, I: Intake>(
     requires keys_limit { N ≤ 256 }
     requires sizes { AreSizesUnder checks.now.limits H D N }
     requires external { length checks.now.aad.now ≤ 65535 }
-    ensures says { (bytes : List ℕ) → I.to_come intake.old ≡ Some bytes →
-        IfOk result (Says (verified_under (job_under checks.now) (option_map contents payload.entry) bytes)) }
-    ensures keys { (refusal : Refusal)
-        → (job_under checks.now).keys ≡ Err refusal ↔ result ≡ Err (Fault.Keys refusal) }
+    ensures says { RepliesTo (I.to_come intake.old) (verified_for checks.now payload.entry) result }
+    ensures keys { FailsForKeys (job_under checks.now).keys result }
     // Its fault is that the input failed exactly where the intake failed in this call.
     ensures input { I.has_failed intake.new ≡ (I.has_failed intake.old || fails_by_input result) }
 {
@@ -271,10 +263,9 @@ pub fn verify_reply<R: Read>(
     input: &mut R,
 ) -> Result<Reply, Fault>
     requires external { length checks.now.aad.now ≤ 65535 }
-    ensures says { (bytes : List ℕ) → R.remaining input.old ≡ Some bytes →
-        IfOk result (Says (verified_under (job_under checks.now) (option_map contents payload.entry) bytes)) }
-    ensures keys { (refusal : Refusal) →
-        (job_under checks.now).keys ≡ Err refusal ↔ result ≡ Err (Fault.Keys refusal) }
+    ensures says { RepliesTo (R.remaining input.old) (verified_for checks.now payload.entry)
+        result }
+    ensures keys { FailsForKeys (job_under checks.now).keys result }
 {
     let mut intake = ReadIntake::new(input);
     match checks.limits {
@@ -316,8 +307,7 @@ fn reply_with_file<const H: usize, const D: usize, const N: usize, I: Intake, R:
     ensures from { (bytes content : List ℕ) → I.to_come intake.old ≡ Some bytes →
         ⟦<PayloadFile<R> as Intake>⟧.to_come payload.old ≡ counted job.now.length (Some content)
         → IfOk result (Says (verified_from job.now content bytes)) }
-    ensures keys { (refusal : Refusal) →
-        (job_under job.now.checks).keys ≡ Err refusal ↔ result ≡ Err (Fault.Keys refusal) }
+    ensures keys { FailsForKeys (job_under job.now.checks).keys result }
     // Its fault is that the file failed, or the input, exactly where it failed in this call.
     ensures file { ⟦<PayloadFile<R> as Intake>⟧.has_failed payload.new ≡ fails_by_file result }
     ensures option { IfErr result (NamesOption (codes "payload-file")) }
@@ -348,11 +338,9 @@ pub fn verify_reply_with_file<P: Read, R: Read>(
     input: &mut R,
 ) -> Result<Reply, Fault>
     requires external { length job.now.checks.aad.now ≤ 65535 }
-    ensures says { (bytes content : List ℕ) → R.remaining input.old ≡ Some bytes →
-        P.remaining payload.old ≡ Some content →
-        IfOk result (Says (verified_from job.now content bytes)) }
-    ensures keys { (refusal : Refusal) →
-        (job_under job.now.checks).keys ≡ Err refusal ↔ result ≡ Err (Fault.Keys refusal) }
+    ensures says { RepliesToBoth (R.remaining input.old) (P.remaining payload.old)
+        (verified_from job.now) result }
+    ensures keys { FailsForKeys (job_under job.now.checks).keys result }
 {
     let mut intake = ReadIntake::new(input);
     let mut payload_file = PayloadFile::new(payload, job.length);

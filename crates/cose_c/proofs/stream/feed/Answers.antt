@@ -23,5 +23,5 @@ returns-in-Some-clause-status g c = λ task taken payload read.
 pub returns-in-Some-clause-same_task : goal.returns-in-Some-clause-same_task
 returns-in-Some-clause-same_task g c = λ task taken payload read.
     let v = (read_in task taken payload _ c.in-Some.verifier c.in-Some.is read).0 in
-    ap Some (same_task c.in-Some.verifier c.feed.new.self (c.feed.ensures.context task taken payload v) c.feed.ensures.inspects)
+    ap Some (same_task c.in-Some.verifier c.feed.new.self (c.feed.ensures.purpose.context v) c.feed.ensures.purpose.inspects)
     ∙ sym (ap task_by c.in-Some.is)

@@ -35,3 +35,6 @@ returns-clause-again g c = λ answer kept.
     let before = c.verify-verdict.ensures.again answer kept in
     let none : c.lend-lender.result.0.now ≡ [] = nothing_held (λ (store : Store g.row.L). Some (unless_dropped store.dropped store.held.items)) _ _ _ c.clear.ensures.empty before.3 c.lend-lender.ensures.held in
     (required_again _ _ _ _ _ _ _ c.token_or_cleared.ensures.token before.0 none, before.1, before.2)
+
+pub returns-clause-purpose : goal.returns-clause-purpose
+returns-clause-purpose g c = c.verify-verdict.ensures.purpose

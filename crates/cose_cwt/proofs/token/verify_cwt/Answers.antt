@@ -48,8 +48,8 @@ returns-clause-within g c = λ refusal e.
     let placed : refusal.place ≤ length c.lend-lender.result.0.now = token_placed _ _ _ _ _ refusal c.claims_or_cleared.ensures.claims e (c.claims_refusals_stand_inside.ensures.admission _ _ _) in
     omega (arith, placed, c.lend-lender.ensures.limit)
 
-pub returns-clause-context : goal.returns-clause-context
-returns-clause-context g c = λ setting h. c.verify-verdict.ensures.context setting [] [] h
+pub returns-clause-purpose : goal.returns-clause-purpose
+returns-clause-purpose g c = c.verify-verdict.ensures.purpose
 
 pub returns-clause-again : goal.returns-clause-again
 returns-clause-again g c = λ answer kept.

@@ -125,9 +125,9 @@ module _ (answer : Answer) (unrefused : NotRefused answer) (laws : SpellingLaws)
   past_tag_found at (Err reason) place bytes comes = absurd (unrefused reason at comes)
 
   -- What begins with a tag, after which a part was found.
-  behind_tag : (IsPart : List ℕ → Type 0) (kind : Kind) (place number : ℕ) (bytes tag rest : List ℕ) → bytes ≡ tag ++ rest → IsHead tag 6 number → PartFound IsPart rules kind (place + length tag) rest answer
+  after_tag : (IsPart : List ℕ → Type 0) (kind : Kind) (place number : ℕ) (bytes tag rest : List ℕ) → bytes ≡ tag ++ rest → IsHead tag 6 number → PartFound IsPart rules kind (place + length tag) rest answer
       → PartFound (λ part. Begins part 6 number IsPart) rules kind place bytes answer
-  behind_tag IsPart kind place number bytes tag rest is is_head p =
+  after_tag IsPart kind place number bytes tag rest is is_head p =
       let end : place + length tag + length p.part ≡ place + length (tag ++ p.part) = omega (arith, length-append tag p.part) in
       record {
         part = tag ++ p.part;
@@ -146,7 +146,7 @@ module _ (answer : Answer) (unrefused : NotRefused answer) (laws : SpellingLaws)
       record {
         kind = k.found;
         wanted = number.1;
-        found = behind_tag IsArrayOfFour k.found place (tag_number k.found) bytes part rest is (is_head_of part head 6 (tag_number k.found) is_head major number.0) array;
+        found = after_tag IsArrayOfFour k.found place (tag_number k.found) bytes part rest is (is_head_of part head 6 (tag_number k.found) is_head major number.0) array;
       }
 
   tag_after_cwt_found : (b : Bool) (kind : Result Kind Reason) (at place : ℕ) (bytes : List ℕ) → Comes (past_tag rules at (cond b kind (Err CwtTagAlone))) place bytes answer → (b ≡ true) × Comes (past_tag rules at kind) place bytes answer
@@ -156,8 +156,8 @@ module _ (answer : Answer) (unrefused : NotRefused answer) (laws : SpellingLaws)
   second_found : (place : ℕ) (bytes : List ℕ) → Comes (second_head rules) place bytes answer → TagFound rules place bytes answer
   second_found place bytes comes =
       let h = head_found answer unrefused laws nothing_so_far (past_second_head rules) place bytes comes in
-      let behind = tag_after_cwt_found (is_tag h.head) (kind_of_tag rules.wanted h.head.arg) place (place + length h.part) h.rest h.comes in
-      tag_found place place bytes h.head h.part h.rest h.is h.is_head (eqb-true h.head.major 6 behind.0) behind.1
+      let tests_then = tag_after_cwt_found (is_tag h.head) (kind_of_tag rules.wanted h.head.arg) place (place + length h.part) h.rest h.comes in
+      tag_found place place bytes h.head h.part h.rest h.is h.is_head (eqb-true h.head.major 6 tests_then.0) tests_then.1
 
   untagged_found : (wanted : Wanted) (at : ℕ) (head : Head) (place : ℕ) (bytes : List ℕ) → Comes (past_untagged rules wanted at head) place bytes answer → UntaggedFound rules wanted head place bytes answer
   untagged_found wants.Mac0 at head place bytes comes = record { kind = kinds.Mac0; wanted_is = refl; found = past_array_found kinds.Mac0 at head place bytes comes }
@@ -185,7 +185,7 @@ module _ (answer : Answer) (unrefused : NotRefused answer) (laws : SpellingLaws)
         | inl cwt ↦
             let tests = is_cwt_head rules.cwt h.head cwt.0 in
             let t = second_found end h.rest cwt.1 in
-            let p = behind_tag (IsTagged t.kind) t.kind 0 61 bytes h.part h.rest h.is (is_head_of h.part h.head 6 61 h.is_head tests.1 tests.2) t.found in
+            let p = after_tag (IsTagged t.kind) t.kind 0 61 bytes h.part h.rest h.is (is_head_of h.part h.head 6 61 h.is_head tests.1 tests.2) t.found in
             front_of (λ part. Begins part 6 61 (IsTagged t.kind)) t.kind bytes p (in_cwt tests.0 t.wanted p.is_part)
         | inr (inl tag) ↦
             let t = tag_found 0 0 bytes h.head h.part h.rest h.is h.is_head (eqb-true h.head.major 6 tag.0) tag.1 in

@@ -28,8 +28,8 @@ module _ (rules : Rules) (bytes : List ℕ) (answer : Answer) (f : FrontFound ru
   abbrev parts : Spellings
   parts = record { front = f.part; protected = f.next.part; unprotected = f.next.next.part; payload = f.next.next.next.part; auth = f.next.next.next.next.part }
 
-  abbrev behind : List ℕ
-  behind = f.next.next.next.next.rest
+  abbrev left : List ℕ
+  left = f.next.next.next.next.rest
 
   abbrev end : ℕ
   end = auth_at parts + length parts.auth
@@ -40,14 +40,14 @@ module _ (rules : Rules) (bytes : List ℕ) (answer : Answer) (f : FrontFound ru
   abbrev whole_found : Whole
   whole_found = whole_of headers f.next.next.chosen f.next.next.next.payload (auth_at parts) f.next.next.next.next.auth end
 
-  bytes_are : bytes ≡ spelling parts ++ behind
+  bytes_are : bytes ≡ spelling parts ++ left
   bytes_are =
       let p = f.next in let u = p.next in let b = u.next in let a = b.next in
       f.is ∙ ap (λ (list : List ℕ). f.part ++ list) (p.is ∙ ap (λ (list : List ℕ). p.part ++ list) (u.is ∙ ap (λ (list : List ℕ). u.part ++ list) (b.is ∙ ap (λ (list : List ℕ). b.part ++ list) a.is)))
-      ∙ sym (all_apart parts behind)
+      ∙ sym (all_apart parts left)
 
   begins_so : take end bytes ≡ spelling parts
-  begins_so = ap (λ (list : List ℕ). take end list) bytes_are ∙ take_at (spelling parts) behind end (spelled_length parts)
+  begins_so = ap (λ (list : List ℕ). take end list) bytes_are ∙ take_at (spelling parts) left end (spelled_length parts)
 
   is_message : IsMessage rules (take end bytes) whole_found
   is_message =
@@ -76,7 +76,7 @@ module _ (rules : Rules) (bytes : List ℕ) (answer : Answer) (f : FrontFound ru
       }
 
   in_bytes : end ≤ length bytes
-  in_bytes = omega (arith, ap (λ (list : List ℕ). length list) bytes_are, length-append (spelling parts) behind, spelled_length parts)
+  in_bytes = omega (arith, ap (λ (list : List ℕ). length list) bytes_are, length-append (spelling parts) left, spelled_length parts)
 
   message_of : MessageFound rules bytes answer
   message_of = record { whole = whole_found; begins = record { within = in_bytes; message = is_message }; comes = f.next.next.next.next.comes }

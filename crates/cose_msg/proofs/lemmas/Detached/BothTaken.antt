@@ -174,14 +174,14 @@ module _ {H D : ℕ} {S : Type 0} {K : _} (stays : OpenStays) {task : Task} {s B
 -- No byte of both pieces but the last settles the message.
 none_of_both : (rules : Rules) (s first last : List ℕ) → ((n : ℕ) → n < length first → (message rules (s ++ take n first)).settled ≡ false) → ((n : ℕ) → n < length last → (message rules ((s ++ first) ++ take n last)).settled ≡ false) →
     (n : ℕ) → n < length (first ++ last) → (message rules (s ++ take n (first ++ last))).settled ≡ false
-none_of_both rules s first last before behind n lt = elim (cases_lt n (length first)) [
+none_of_both rules s first last before after n lt = elim (cases_lt n (length first)) [
   | inl earlier ↦ (let le : n ≤ length first = omega arith in rw (take-append-le n first last le) (before n earlier))
   | inr later ↦ (
       let m : ℕ = n - length first in
       let place : n ≡ length first + m = omega arith in
       let e : take n (first ++ last) ≡ first ++ take m last = ap (λ (k : ℕ). take k (first ++ last)) place ∙ take-append-add first last m in
       let short : m < length last = omega (arith, lt, later, length-append first last) in
-      rw (e, ← append_assoc s first (take m last)) (behind m short))
+      rw (e, ← append_assoc s first (take m last)) (after m short))
 ]
 
 -- The rest begins where the message isn't settled, so it has a byte where it settles the message.

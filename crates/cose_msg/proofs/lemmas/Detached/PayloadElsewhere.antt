@@ -1,5 +1,5 @@
 -- Rules that differ in where the payload is, and in the answer for a whole message: what is said of two readings of the same
--- bytes, and holds behind the payload's head, holds of the whole message, phase by phase.
+-- bytes, and holds after the payload's head, holds of the whole message, phase by phase.
 use Rattle.std.proofs.Common.{ℕ, ◌+◌, Bool, true, false, cond, List, [], length, take, drop, Option, Some, None, Result, Ok, Err}
 use Rattle.std.specs.Prelude.{max, ◌-◌, nat_lt}
 use Rattle.cose_head.specs.declared.head.Head.{Head}
@@ -77,15 +77,15 @@ module _ (R : Reading → Reading → Type 0) (cuts : (so_far : Findings) (wante
     abbrev pub others : Rules
     others = record rules { source = source; finish = last }
 
-    abbrev pub GoesBehind : Type 0
-    GoesBehind = (headers : Headers) (chosen : Option Chosen) (at : ℕ) (head : Head) → Goes (past_payload_head rules headers chosen at head) (past_payload_head others headers chosen at head)
+    abbrev pub GoesAfter : Type 0
+    GoesAfter = (headers : Headers) (chosen : Option Chosen) (at : ℕ) (head : Head) → Goes (past_payload_head rules headers chosen at head) (past_payload_head others headers chosen at head)
 
-  module _ (rules : Rules) (source : Source) (last : Whole → Answer) (behind : GoesBehind rules source last) where
+  module _ (rules : Rules) (source : Source) (last : Whole → Answer) (after_head : GoesAfter rules source last) where
     abbrev changed : Rules
     changed = others rules source last
 
     payload_head-goes : (headers : Headers) (chosen : Option Chosen) → Goes (payload_head rules headers chosen) (payload_head changed headers chosen)
-    payload_head-goes headers chosen = with_head-goes (headers_so_far headers []) (past_payload_head rules headers chosen) (past_payload_head changed headers chosen) (behind headers chosen)
+    payload_head-goes headers chosen = with_head-goes (headers_so_far headers []) (past_payload_head rules headers chosen) (past_payload_head changed headers chosen) (after_head headers chosen)
 
     past_choice-goes : (headers : Headers) (found : Result (Option Chosen) Reason) → Goes (past_choice rules headers found) (past_choice changed headers found)
     past_choice-goes headers (Ok chosen) = payload_head-goes headers chosen

@@ -32,7 +32,7 @@ module _ (change : Answer → Answer) (keeps : (reason : Reason) (place : ℕ) �
   abbrev Follows : Phase → Phase → Type 0
   Follows = Goes IsChanged cuts stops
 
-  -- ---- the phases behind the payload's head, the last first
+  -- ---- the phases after the payload's head, the last first
 
   module _ (rules : Rules) (last : Whole → Answer) (same : (whole : Whole) → last whole ≡ change (rules.finish whole)) where
     abbrev changed : Rules

@@ -26,7 +26,7 @@ use Rattle.cose_msg.specs.Rules.{Rules}
 use Rattle.cose_msg.specs.Source.{Source, attached, detached}
 use Rattle.cose_msg.proofs.lemmas.Reading.Forms.{HeadLaws}
 use Rattle.cose_msg.proofs.lemmas.Reading.Lawful.{message_ends_truncated}
-use Rattle.cose_msg.proofs.lemmas.Reading.SoundForms.{Sound, reads_on_later, stop-sound, awaits-sound, behind_head-sound, with_head-sound, with_string-sound, with_item-sound, unless_fault-sound, unless_at-sound, with_value-sound, choose-sound}
+use Rattle.cose_msg.proofs.lemmas.Reading.SoundForms.{Sound, reads_on_later, stop-sound, awaits-sound, after_head-sound, with_head-sound, with_string-sound, with_item-sound, unless_fault-sound, unless_at-sound, with_value-sound, choose-sound}
 
 -- The laws of buckets and keys that these proofs cite.
 pub record MapLaws : Type 0 where
@@ -125,7 +125,7 @@ module _ (laws : HeadLaws) (maps : MapLaws) (rules : Rules) (fair : AreFair rule
       (detached_payload-sound headers chosen came stated at)
 
   payload_head-sound : (headers : Headers) (chosen : Option Chosen) (from : ℕ) → Sound from (payload_head rules headers chosen)
-  payload_head-sound headers chosen from = behind_head-sound laws (headers_so_far headers []) (past_payload_head rules headers chosen) from (λ at head. past_payload_head-sound rules.source headers chosen at head)
+  payload_head-sound headers chosen from = after_head-sound laws (headers_so_far headers []) (past_payload_head rules headers chosen) from (λ at head. past_payload_head-sound rules.source headers chosen at head)
 
   past_choice-sound : (headers : Headers) (found : Result (Option Chosen) Reason) (from : ℕ) → IfErr found (λ reason. reason ≢ Truncated) → Sound from (past_choice rules headers found)
   past_choice-sound headers (Ok chosen) from definite = payload_head-sound headers chosen from

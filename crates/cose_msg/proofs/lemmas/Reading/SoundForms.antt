@@ -67,12 +67,12 @@ module _ (laws : HeadLaws) where
   past_head-sound so_far next h place bytes (Fault reason) e = stop-sound so_far reason place (place + length bytes) (omega arith) (laws.faults bytes reason e)
 
   -- What follows a head is at a later place.
-  pub behind_head-sound : (so_far : Findings) (next : Next Head) (from : ℕ) → ((at : ℕ) (head : Head) → Sound (at + 1) (next at head)) → Sound from (with_head so_far next)
+  pub after_head-sound : (so_far : Findings) (next : Next Head) (from : ℕ) → ((at : ℕ) (head : Head) → Sound (at + 1) (next at head)) → Sound from (with_head so_far next)
   unfolding with_head
-  behind_head-sound so_far next from h place bytes le = past_head-sound so_far next h place bytes (bare_head bytes) refl
+  after_head-sound so_far next from h place bytes le = past_head-sound so_far next h place bytes (bare_head bytes) refl
 
   pub with_head-sound : (so_far : Findings) (next : Next Head) (from : ℕ) → ((at : ℕ) (head : Head) → Sound at (next at head)) → Sound from (with_head so_far next)
-  with_head-sound so_far next from h = behind_head-sound so_far next from (λ at head place bytes le. h at head place bytes (omega (arith, le)))
+  with_head-sound so_far next from h = after_head-sound so_far next from (λ at head place bytes le. h at head place bytes (omega (arith, le)))
 
 -- ---- a string
 

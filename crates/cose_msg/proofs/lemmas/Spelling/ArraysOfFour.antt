@@ -30,11 +30,11 @@ record Four (bytes : List ℕ) (whole : Whole) (bucket element : Item) : Type 0 
 four_of : (bytes : List ℕ) (whole : Whole) (bucket element : Item) → Spells bytes (elements_of whole bucket element) → Four bytes whole bucket element
 unfolding Spells SpellsAll
 four_of bytes whole bucket element array =
-    let (one, behind_one, is_one, spells_one, others) = array.is_rest in
-    let (two, behind_two, is_two, spells_two, last_two) = others in
-    let (three, behind_three, is_three, spells_three, last_one) = last_two in
-    let (four, behind_four, is_four, spells_four, ends) = last_one in
-    let last : behind_three ≡ four = is_four ∙ rw ends (append-nil four) in
+    let (one, after_one, is_one, spells_one, others) = array.is_rest in
+    let (two, after_two, is_two, spells_two, last_two) = others in
+    let (three, after_three, is_three, spells_three, last_one) = last_two in
+    let (four, after_four, is_four, spells_four, ends) = last_one in
+    let last : after_three ≡ four = is_four ∙ rw ends (append-nil four) in
     record {
       head = array.head;
       protected = one;

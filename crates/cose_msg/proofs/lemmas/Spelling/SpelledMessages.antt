@@ -105,9 +105,9 @@ module _ (laws : SpellingLaws) (rules : Rules) where
   wanted_tag wanted kinds.Mac0 e = rw e refl
   wanted_tag wanted kinds.Sign1 e = rw e refl
 
-  array_behind_tag : (kind : Kind) (at place : ℕ) (head more : List ℕ) → wants_kind rules.wanted kind ≡ true → IsArrayOfFour head
+  array_after_tag : (kind : Kind) (at place : ℕ) (head more : List ℕ) → wants_kind rules.wanted kind ≡ true → IsArrayOfFour head
       → past_tag rules at (kind_of_tag rules.wanted (tag_number kind)) place (head ++ more) ≡ protected_head rules kind (place + length head) more
-  array_behind_tag kind at place head more wanted is = rw (wanted_tag rules.wanted kind wanted) (array_read kind place head more is)
+  array_after_tag kind at place head more wanted is = rw (wanted_tag rules.wanted kind wanted) (array_read kind place head more is)
 
   past_untagged_array : (wanted : Wanted) (kind : Kind) (at width place : ℕ) (more : List ℕ) → is_untagged wanted kind ≡ true → past_untagged rules wanted at (head_of_width 4 4 width) place more ≡ protected_head rules kind place more
   past_untagged_array wants.Mac0 kinds.Mac0 at width place more e = refl
@@ -137,14 +137,14 @@ module _ (laws : SpellingLaws) (rules : Rules) where
       apart (first_head rules) place front b.head b.rest more b.whole
       ∙ (head_read laws nothing_so_far (past_first_head rules) place 6 (tag_number kind) b.head (b.rest ++ more) refl b.is_head
       ∙ (past_first_tag kind place (length b.head) (place + length b.head) (b.rest ++ more)
-      ∙ (array_behind_tag kind place (place + length b.head) b.rest more wanted b.is_rest
+      ∙ (array_after_tag kind place (place + length b.head) b.rest more wanted b.is_rest
       ∙ ends_at kind place front b.head b.rest more b.whole)))
 
   tagged_second : (kind : Kind) (place : ℕ) (front more : List ℕ) → wants_kind rules.wanted kind ≡ true → Begins front 6 (tag_number kind) IsArrayOfFour → second_head rules place (front ++ more) ≡ protected_head rules kind (place + length front) more
   tagged_second kind place front more wanted b =
       apart (second_head rules) place front b.head b.rest more b.whole
       ∙ (head_read laws nothing_so_far (past_second_head rules) place 6 (tag_number kind) b.head (b.rest ++ more) refl b.is_head
-      ∙ (array_behind_tag kind place (place + length b.head) b.rest more wanted b.is_rest
+      ∙ (array_after_tag kind place (place + length b.head) b.rest more wanted b.is_rest
       ∙ ends_at kind place front b.head b.rest more b.whole))
 
   past_cwt_tag : rules.cwt ≡ true → (at width place : ℕ) (more : List ℕ) → past_first_head rules at (head_of_width 6 61 width) place more ≡ second_head rules place more

@@ -1,10 +1,12 @@
-use Rattle.std.proofs.Common.{◌≡◌, ℕ, ◌<◌, ◌≤◌, rules, length-append, true, false, List, [], ◌++◌, length, take, drop, refl, sym, ap, ◌∙◌, arith}
+use Rattle.std.proofs.Common.{◌≡◌, ℕ, ◌<◌, ◌≤◌, rules, length-append, true, false, List, [], ◌++◌, length, take, drop, refl, sym, ◌∙◌, arith}
 use Rattle.std.proofs.lemmas.Grind.{common_steps}
 use Rattle.std.proofs.lemmas.List.{length-drop, length-take}
 use Rattle.std.proofs.KnownBytes.{Consumes-nil, Appends-nil}
+use Rattle.cose_msg.specs.Kept.{SamePurpose}
 use Rattle.cose_msg.specs.Phase.{in_payload, want_of}
-use Rattle.cose_msg.specs.Task.{Task, rules_of}
+use Rattle.cose_msg.specs.Task.{rules_of}
 use Rattle.cose_msg.proofs.lemmas.Run.PayloadLimit.{payload_within}
+use Rattle.cose_msg.proofs.lemmas.Run.Purposes.{same_setting_of, then_same_task}
 use Rattle.cose_msg.proofs.lemmas.Run.Runs.{at_start, concluded, first_of, goes_on, is_done, marks_fault, marks_nothing, none_apart, not_at_end, promise_kept, put_done, put_failed, put_none, sure_enough, settled_if_none_asked, stopped_by_intake, stopped_by_sink, take_short}
 use Rattle.cose_msg.proofs.lemmas.Deciding.KeptAnswers.{unfailed}
 use Rattle.cose_msg.proofs.run.take_message.Goals.{else-in_payload-via-then-in_payload+else-is_err, else-in_payload-via-else-in_payload}
@@ -20,8 +22,8 @@ pieces-preserved g c =
     let within : (l more : List ℕ) → length more < length (take c.in-Ok.count l) → length more < want_of c.pieces.verifier.reader.phase = λ l more lt. omega (arith, fits l, lt) in
     let some : 0 < c.in-Ok.count = omega (arith, c.if-count-eq0.false) in
     let stopped = c.take_piece.ensures.marked ∙ c.pieces.invariant.1 in
-    let inspects = c.take_piece.ensures.inspects ∙ c.pieces.invariant.2 in
-    let detached = c.take_piece.ensures.detached ∙ c.pieces.invariant.5 in
+    let inspects = c.take_piece.ensures.purpose.inspects ∙ c.pieces.invariant.2 in
+    let detached = c.take_piece.ensures.purpose.detached ∙ c.pieces.invariant.5 in
     let room : length (c.take.new.into ++ drop c.request-asked.result c.pieces.chunk) ≡ length c.args.chunk.now = omega (arith, c.take.auto.into, c.pieces.invariant.6, length-append c.take.new.into (drop c.request-asked.result c.pieces.chunk), length-take c.request-asked.result c.pieces.chunk, length-drop c.request-asked.result c.pieces.chunk) in
     elim c.else-in_payload.branch [
       | else-in_payload-via-then-in_payload+else-is_err w ↦
@@ -105,26 +107,31 @@ returns-then-is_err-clause-sure g c = λ task s B h enough.
     let promised = c.put.ensures.promised (sure_enough _ _ a in_it known limit enough) in
     absurd (is_done c.put.result (sym c.is_err.ensures.value ∙ c.if-is_err.true) promised)
 
-pub returns-then-asked-eq0-clause-context : goal.returns-then-asked-eq0-clause-context
-returns-then-asked-eq0-clause-context g c = λ task s B h. ap (λ (t : Task). t.setting) (c.pieces.invariant.0 task s B h).reads_on.made_for ∙ sym (ap (λ (t : Task). t.setting) h.made_for)
+pub returns-then-asked-eq0-clause-purpose : goal.returns-then-asked-eq0-clause-purpose
+returns-then-asked-eq0-clause-purpose g c = record { inspects = c.pieces.invariant.2; detached = c.pieces.invariant.5; context = λ h. same_setting_of h (c.pieces.invariant.0 _ _ _ h).reads_on }
 
-pub returns-in-Err-clause-context : goal.returns-in-Err-clause-context
-returns-in-Err-clause-context g c = λ task s B h. c.stop.ensures.context ∙ ap (λ (t : Task). t.setting) (c.pieces.invariant.0 task s B h).reads_on.made_for ∙ sym (ap (λ (t : Task). t.setting) h.made_for)
+pub returns-in-Err-clause-purpose : goal.returns-in-Err-clause-purpose
+returns-in-Err-clause-purpose g c =
+    let purpose : SamePurpose c.args.verifier.now c.pieces.verifier = record { inspects = c.pieces.invariant.2; detached = c.pieces.invariant.5; context = λ h. same_setting_of h (c.pieces.invariant.0 _ _ _ h).reads_on } in
+    then_same_task purpose c.stop.ensures.purpose
 
-pub returns-then-count-eq0-clause-context : goal.returns-then-count-eq0-clause-context
-returns-then-count-eq0-clause-context g c = λ task s B h. ap (λ (t : Task). t.setting) (c.pieces.invariant.0 task s B h).reads_on.made_for ∙ sym (ap (λ (t : Task). t.setting) h.made_for)
+pub returns-then-count-eq0-clause-purpose : goal.returns-then-count-eq0-clause-purpose
+returns-then-count-eq0-clause-purpose g c = record { inspects = c.pieces.invariant.2; detached = c.pieces.invariant.5; context = λ h. same_setting_of h (c.pieces.invariant.0 _ _ _ h).reads_on }
 
-pub returns-then-is_err-clause-context : goal.returns-then-is_err-clause-context
-returns-then-is_err-clause-context g c = λ task s B h. c.stop-then-is_err.ensures.context ∙ ap (λ (t : Task). t.setting) (c.take_piece.ensures.taken task _ _ (c.pieces.invariant.0 task s B h).reads_on).made_for ∙ sym (ap (λ (t : Task). t.setting) h.made_for)
+pub returns-then-is_err-clause-purpose : goal.returns-then-is_err-clause-purpose
+returns-then-is_err-clause-purpose g c =
+    let taken : SamePurpose c.args.verifier.now c.take_piece.new.self = record {
+      inspects = c.take_piece.ensures.purpose.inspects ∙ c.pieces.invariant.2;
+      detached = c.take_piece.ensures.purpose.detached ∙ c.pieces.invariant.5;
+      context = λ h. same_setting_of h (c.take_piece.ensures.taken _ _ _ (c.pieces.invariant.0 _ _ _ h).reads_on);
+    } in
+    then_same_task taken c.stop-then-is_err.ensures.purpose
 
 pub messages_are_bounded-requires : goal.messages_are_bounded-requires
 messages_are_bounded-requires g c = cc
 
 pub returns-then-asked-eq0-clause-stopped : goal.returns-then-asked-eq0-clause-stopped
 returns-then-asked-eq0-clause-stopped g c = cc
-
-pub returns-then-asked-eq0-clause-inspects : goal.returns-then-asked-eq0-clause-inspects
-returns-then-asked-eq0-clause-inspects g c = cc
 
 pub returns-then-asked-eq0-clause-held : goal.returns-then-asked-eq0-clause-held
 returns-then-asked-eq0-clause-held g c = grind (arith, common_steps)
@@ -144,9 +151,6 @@ returns-then-asked-eq0-clause-sure g c = grind (arith, common_steps)
 pub returns-in-Err-clause-stopped : goal.returns-in-Err-clause-stopped
 returns-in-Err-clause-stopped g c = cc
 
-pub returns-in-Err-clause-inspects : goal.returns-in-Err-clause-inspects
-returns-in-Err-clause-inspects g c = cc
-
 pub returns-in-Err-clause-held : goal.returns-in-Err-clause-held
 returns-in-Err-clause-held g c = grind (arith, common_steps)
 
@@ -161,9 +165,6 @@ returns-in-Err-clause-sure g c = grind (arith, common_steps)
 
 pub returns-then-count-eq0-clause-stopped : goal.returns-then-count-eq0-clause-stopped
 returns-then-count-eq0-clause-stopped g c = cc
-
-pub returns-then-count-eq0-clause-inspects : goal.returns-then-count-eq0-clause-inspects
-returns-then-count-eq0-clause-inspects g c = cc
 
 pub returns-then-count-eq0-clause-held : goal.returns-then-count-eq0-clause-held
 returns-then-count-eq0-clause-held g c = grind (arith, common_steps)
@@ -182,9 +183,6 @@ returns-then-count-eq0-clause-sure g c = grind (arith, common_steps)
 
 pub returns-then-is_err-clause-stopped : goal.returns-then-is_err-clause-stopped
 returns-then-is_err-clause-stopped g c = cc
-
-pub returns-then-is_err-clause-inspects : goal.returns-then-is_err-clause-inspects
-returns-then-is_err-clause-inspects g c = cc
 
 pub returns-then-is_err-clause-held : goal.returns-then-is_err-clause-held
 returns-then-is_err-clause-held g c = grind (arith, common_steps)
@@ -219,18 +217,6 @@ take_piece-requires g c κs =
         ),
       ),
     )
-
-pub returns-then-asked-eq0-clause-detached : goal.returns-then-asked-eq0-clause-detached
-returns-then-asked-eq0-clause-detached g c = c.pieces.invariant.5
-
-pub returns-in-Err-clause-detached : goal.returns-in-Err-clause-detached
-returns-in-Err-clause-detached g c = c.stop.ensures.detached ∙ c.pieces.invariant.5
-
-pub returns-then-count-eq0-clause-detached : goal.returns-then-count-eq0-clause-detached
-returns-then-count-eq0-clause-detached g c = c.pieces.invariant.5
-
-pub returns-then-is_err-clause-detached : goal.returns-then-is_err-clause-detached
-returns-then-is_err-clause-detached g c = c.stop-then-is_err.ensures.detached ∙ c.take_piece.ensures.detached ∙ c.pieces.invariant.5
 
 -- Of a detached payload nothing was put.
 pub returns-then-asked-eq0-clause-beside : goal.returns-then-asked-eq0-clause-beside

@@ -1,4 +1,4 @@
-use Rattle.std.proofs.Common.{refl, sym, ap, ◌∙◌, ◌++◌, arith}
+use Rattle.std.proofs.Common.{sym, ap, ◌∙◌, ◌++◌, arith}
 use Rattle.std.proofs.lemmas.Grind.{common_steps}
 use Rattle.std.specs.Prelude.{is_err}
 use Rattle.cose_msg.specs.Answer.{decided}
@@ -9,6 +9,7 @@ use Rattle.cose_msg.proofs.lemmas.Deciding.KeptAnswers.{kept_again, kept_intake,
 use Rattle.cose_msg.proofs.lemmas.Run.Answered.{kept_verdict_run, kept_verdict_settles, of_any, still, stopped, verdict_run, verifying_alike}
 use Rattle.cose_msg.proofs.lemmas.Run.Runs.{counted_stands, so_far_before}
 use Rattle.cose_msg.proofs.lemmas.Feeding.Statuses.{left_by_answer, left_by_kept, left_by_stop}
+use Rattle.cose_msg.proofs.lemmas.Run.Purposes.{then_same_task, unchanged}
 use Rattle.cose_msg.proofs.run.verify.Goals as goal
 
 pub returns-in-Some-clause-run : goal.returns-in-Some-clause-run
@@ -56,14 +57,14 @@ returns-in-Ok-clause-before g c = λ setting s B h. so_far_before g.row.H g.row.
 pub returns-in-Err-clause-before : goal.returns-in-Err-clause-before
 returns-in-Err-clause-before g c = λ setting s B h. so_far_before g.row.H g.row.D (to_verify setting) s B (c.lemma_reading_so_far.ensures.payload (to_verify setting) B _ _ h.so_far h.came)
 
-pub returns-in-Some-clause-context : goal.returns-in-Some-clause-context
-returns-in-Some-clause-context g c = λ setting s B h. refl
+pub returns-in-Some-clause-purpose : goal.returns-in-Some-clause-purpose
+returns-in-Some-clause-purpose g c = unchanged c.args.verifier.now
 
-pub returns-in-Ok-clause-context : goal.returns-in-Ok-clause-context
-returns-in-Ok-clause-context g c = λ setting s B h. c.conclude.ensures.context ∙ c.take_message.ensures.context (to_verify setting) s B h
+pub returns-in-Ok-clause-purpose : goal.returns-in-Ok-clause-purpose
+returns-in-Ok-clause-purpose g c = then_same_task c.take_message.ensures.purpose c.conclude.ensures.purpose
 
-pub returns-in-Err-clause-context : goal.returns-in-Err-clause-context
-returns-in-Err-clause-context g c = λ setting s B h. c.take_message.ensures.context (to_verify setting) s B h
+pub returns-in-Err-clause-purpose : goal.returns-in-Err-clause-purpose
+returns-in-Err-clause-purpose g c = c.take_message.ensures.purpose
 
 pub returns-in-Some-clause-kept : goal.returns-in-Some-clause-kept
 returns-in-Some-clause-kept g c = kept_again c.args.verifier.now.stopped (verdict_in c.args.verifier.now.reader.phase) c.in-Some.answer (sym c.kept_answer.ensures ∙ c.in-Some.is)
@@ -73,9 +74,6 @@ returns-in-Some-clause-again g c = grind (arith, common_steps)
 
 pub returns-in-Some-clause-stopped : goal.returns-in-Some-clause-stopped
 returns-in-Some-clause-stopped g c = kept_stop c.args.verifier.now.stopped (verdict_in c.args.verifier.now.reader.phase) c.in-Some.answer (sym c.kept_answer.ensures ∙ c.in-Some.is)
-
-pub returns-in-Some-clause-inspects : goal.returns-in-Some-clause-inspects
-returns-in-Some-clause-inspects g c = grind (arith, common_steps)
 
 pub returns-in-Some-clause-held : goal.returns-in-Some-clause-held
 returns-in-Some-clause-held g c = grind (arith, common_steps)
@@ -100,9 +98,6 @@ returns-in-Ok-clause-again g c = grind (arith, common_steps)
 
 pub returns-in-Ok-clause-stopped : goal.returns-in-Ok-clause-stopped
 returns-in-Ok-clause-stopped g c = grind (arith, common_steps)
-
-pub returns-in-Ok-clause-inspects : goal.returns-in-Ok-clause-inspects
-returns-in-Ok-clause-inspects g c = grind (arith, common_steps)
 
 pub returns-in-Ok-clause-held : goal.returns-in-Ok-clause-held
 returns-in-Ok-clause-held g c = grind (arith, common_steps)
@@ -130,9 +125,6 @@ returns-in-Err-clause-again g c = grind (arith, common_steps)
 
 pub returns-in-Err-clause-stopped : goal.returns-in-Err-clause-stopped
 returns-in-Err-clause-stopped g c = grind (arith, common_steps)
-
-pub returns-in-Err-clause-inspects : goal.returns-in-Err-clause-inspects
-returns-in-Err-clause-inspects g c = grind (arith, common_steps)
 
 pub returns-in-Err-clause-held : goal.returns-in-Err-clause-held
 returns-in-Err-clause-held g c = grind (arith, common_steps)

@@ -7,6 +7,7 @@ use Rattle.cose_msg.specs.Slice.{outcome_of}
 use Rattle.cose_msg.specs.Status.{status_of_answer}
 use Rattle.cose_msg.specs.Task.{rules_of, to_verify}
 use Rattle.cose_msg.specs.Verifier.{setting_in}
+use Rattle.cose_msg.proofs.lemmas.Run.Purposes.{same_task}
 use Rattle.cose_msg.proofs.lemmas.Run.Runs.{counted_stands}
 use Rattle.cose_msg.proofs.lemmas.Run.Slices.{begun, counted_fed, payload_is, payload_of_fed, reads_all, verdict_of_fed}
 use Rattle.cose_msg.proofs.lemmas.Feeding.Statuses.{left_by_answer}
@@ -59,16 +60,10 @@ returns-clause-kept g c =
     let verdict = verdict_of_fed c.settled_stays.ensures.message c.deciding_goes_last.ensures.verifying g.row.H g.row.D setting (g.E.EcVerifier.decides c.args.ec.now) c.args.message.now c.feed-fed.result.used c.conclude-verdict.result (c.feed-fed.ensures.uses (to_verify setting) [] [] fresh) (c.conclude-verdict.ensures.answer setting _ _ (counted_stands fed) fed.came) in
     (c.conclude-verdict.result, verdict, c.conclude-verdict.ensures.kept ∙ ap (λ (stopped : Bool). answer_kept stopped (Some c.conclude-verdict.result)) fed.goes_on)
 
-pub returns-clause-context : goal.returns-clause-context
-returns-clause-context g c =
+pub returns-clause-purpose : goal.returns-clause-purpose
+returns-clause-purpose g c =
     let fresh = begun c.requires.verifies c.reset.ensures.none_taken in
-    c.conclude-verdict.ensures.context ∙ c.feed-fed.ensures.context (to_verify (setting_in c.args.verifier.now)) [] [] fresh ∙ c.reset.ensures.context
-
-pub returns-clause-inspects : goal.returns-clause-inspects
-returns-clause-inspects g c = c.conclude-verdict.ensures.inspects ∙ c.feed-fed.ensures.inspects ∙ c.reset.ensures.inspects ∙ c.requires.verifies
-
-pub returns-clause-attached : goal.returns-clause-attached
-returns-clause-attached g c = c.conclude-verdict.ensures.detached ∙ c.feed-fed.ensures.detached ∙ c.reset.ensures.detached ∙ c.requires.attached
+    c.conclude-verdict.ensures.purpose ∙ same_task c.feed-fed.ensures.purpose fresh ∙ c.reset.ensures.purpose
 
 pub returns-clause-held : goal.returns-clause-held
 returns-clause-held g c = omega (arith, c.conclude-verdict.ensures.held, c.feed-fed.ensures.held)

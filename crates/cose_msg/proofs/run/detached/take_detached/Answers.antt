@@ -5,50 +5,60 @@ use Rattle.cose_msg.specs.Message.{message}
 use Rattle.cose_msg.specs.Run.{stop_in}
 use Rattle.cose_msg.specs.Status.{payload_wanted_in}
 use Rattle.cose_msg.specs.Task.{given_to, rules_of}
+use Rattle.cose_msg.proofs.lemmas.Detached.BothAnswered.{is_of_detached}
 use Rattle.cose_msg.proofs.lemmas.Detached.BothTaken.{all_there, detached_given, ended_in_payload, none_awaited, settled_awaiting, stopped_before_nil, stopped_in_payload, taken_alone, took_or_stopped}
 use Rattle.cose_msg.proofs.run.detached.take_detached.Goals as goal
 
 pub returns-in_err-take_message-clause-takes : goal.returns-in_err-take_message-clause-takes
-returns-in_err-take_message-clause-takes g c = λ task s B h detached.
+returns-in_err-take_message-clause-takes g c = λ task s B h.
+    let detached = is_of_detached h c.requires.detached in
     let p = err_from_is_err_and c.from_residual.result c.from_residual.ensures.1 in
     rw (p.1, p.2) (stopped_before_nil h.came detached _ _ _ (c.in_err-take_message.ensures.drive task s B h))
 
-pub returns-in_err-take_message-clause-context : goal.returns-in_err-take_message-clause-context
-returns-in_err-take_message-clause-context g c = λ task s B h detached. c.take_message.ensures.context task s B h
+pub returns-in_err-take_message-clause-purpose : goal.returns-in_err-take_message-clause-purpose
+returns-in_err-take_message-clause-purpose g c = c.take_message.ensures.purpose
 
 pub returns-in_err-take_message-clause-sure : goal.returns-in_err-take_message-clause-sure
-returns-in_err-take_message-clause-sure g c = λ task s B h detached enough.
+returns-in_err-take_message-clause-sure g c = λ task s B h enough.
+    let detached = is_of_detached h c.requires.detached in
     let p = err_from_is_err_and c.from_residual.result c.from_residual.ensures.1 in
     rw (p.1, p.2) (c.in_err-take_message.ensures.beside task s B h detached).0
 
 pub returns-then-payload_wanted-eq0-clause-takes : goal.returns-then-payload_wanted-eq0-clause-takes
-returns-then-payload_wanted-eq0-clause-takes g c = λ task s B h detached.
+returns-then-payload_wanted-eq0-clause-takes g c = λ task s B h.
+    let detached = is_of_detached h c.requires.detached in
     let d = c.in_ok-take_message.ensures.drive task s B h in
     none_awaited h.came detached _ _ d (sym (c.payload_wanted.ensures.reads task _ _ d.reads_on.0) ∙ omega (arith, c.if-payload_wanted-eq0.true))
 
-pub returns-then-payload_wanted-eq0-clause-context : goal.returns-then-payload_wanted-eq0-clause-context
-returns-then-payload_wanted-eq0-clause-context g c = λ task s B h detached. c.take_message.ensures.context task s B h
+pub returns-then-payload_wanted-eq0-clause-purpose : goal.returns-then-payload_wanted-eq0-clause-purpose
+returns-then-payload_wanted-eq0-clause-purpose g c = c.take_message.ensures.purpose
 
 pub returns-in_err-take_payload-clause-takes : goal.returns-in_err-take_payload-clause-takes
-returns-in_err-take_payload-clause-takes g c = λ task s B h detached.
+returns-in_err-take_payload-clause-takes g c = λ task s B h.
+    let detached = is_of_detached h c.requires.detached in
     let p = err_from_is_err_and c.from_residual-in_err-take_payload.result c.from_residual-in_err-take_payload.ensures.1 in
     let d = c.in_ok-take_message.ensures.drive task s B h in
     rw (p.1, p.2) (stopped_in_payload c.payload_stays.ensures.unsettled h.came detached d _ (c.in_err-take_payload.ensures.brings task _ B (taken_alone (d.beside detached) d.reads_on.0)))
 
-pub returns-in_err-take_payload-clause-context : goal.returns-in_err-take_payload-clause-context
-returns-in_err-take_payload-clause-context g c = λ task s B h detached.
-    let d = c.in_ok-take_message.ensures.drive task s B h in
-    c.take_payload.ensures.context task _ B (taken_alone (d.beside detached) d.reads_on.0) ∙ c.take_message.ensures.context task s B h
+pub returns-in_err-take_payload-clause-purpose : goal.returns-in_err-take_payload-clause-purpose
+returns-in_err-take_payload-clause-purpose g c =
+    record {
+      inspects = c.take_payload.ensures.purpose.inspects ∙ c.take_message.ensures.purpose.inspects;
+      detached = c.take_payload.ensures.purpose.detached ∙ c.take_message.ensures.purpose.detached;
+      context = λ h. (let d = c.in_ok-take_message.ensures.drive _ _ _ h in c.take_payload.ensures.purpose.context (taken_alone (d.beside (is_of_detached h c.requires.detached)) d.reads_on.0) ∙ c.take_message.ensures.purpose.context h);
+    }
 
 pub returns-in_err-take_payload-clause-sure : goal.returns-in_err-take_payload-clause-sure
-returns-in_err-take_payload-clause-sure g c = λ task s B h detached enough.
+returns-in_err-take_payload-clause-sure g c = λ task s B h enough.
+    let detached = is_of_detached h c.requires.detached in
     let p = err_from_is_err_and c.from_residual-in_err-take_payload.result c.from_residual-in_err-take_payload.ensures.1 in
     let d = c.in_ok-take_message.ensures.drive task s B h in
     let later = (c.in_ok-take_message.ensures.beside task s B h detached).1 in
     rw (p.1, p.2) (c.in_err-take_payload.ensures.sure task _ B (taken_alone (d.beside detached) d.reads_on.0) (omega (arith, enough, later)))
 
 pub returns-then-payload_wanted-gt0-clause-takes : goal.returns-then-payload_wanted-gt0-clause-takes
-returns-then-payload_wanted-gt0-clause-takes g c = λ task s B h detached.
+returns-then-payload_wanted-gt0-clause-takes g c = λ task s B h.
+    let detached = is_of_detached h c.requires.detached in
     let d = c.in_ok-take_message.ensures.drive task s B h in
     let alone = taken_alone (d.beside detached) d.reads_on.0 in
     let b = c.in_ok-take_payload.ensures.brings task _ B alone in
@@ -57,13 +67,17 @@ returns-then-payload_wanted-gt0-clause-takes g c = λ task s B h detached.
     ended_in_payload c.payload_stays.ensures.unsettled h.came detached d b (settled_awaiting alone (c.lemma_reading_so_far.ensures.settled task _ _ _ alone.so_far alone.came) wanted)
     (settled_awaiting b.reads_on.0 (c.lemma_reading_so_far-2.ensures.settled _ _ _ _ b.reads_on.0.so_far b.reads_on.0.came) wanted_then)
 
-pub returns-then-payload_wanted-gt0-clause-context : goal.returns-then-payload_wanted-gt0-clause-context
-returns-then-payload_wanted-gt0-clause-context g c = λ task s B h detached.
-    let d = c.in_ok-take_message.ensures.drive task s B h in
-    c.take_payload.ensures.context task _ B (taken_alone (d.beside detached) d.reads_on.0) ∙ c.take_message.ensures.context task s B h
+pub returns-then-payload_wanted-gt0-clause-purpose : goal.returns-then-payload_wanted-gt0-clause-purpose
+returns-then-payload_wanted-gt0-clause-purpose g c =
+    record {
+      inspects = c.take_payload.ensures.purpose.inspects ∙ c.take_message.ensures.purpose.inspects;
+      detached = c.take_payload.ensures.purpose.detached ∙ c.take_message.ensures.purpose.detached;
+      context = λ h. (let d = c.in_ok-take_message.ensures.drive _ _ _ h in c.take_payload.ensures.purpose.context (taken_alone (d.beside (is_of_detached h c.requires.detached)) d.reads_on.0) ∙ c.take_message.ensures.purpose.context h);
+    }
 
 pub returns-clause-takes : goal.returns-clause-takes
-returns-clause-takes g c = λ task s B h detached.
+returns-clause-takes g c = λ task s B h.
+    let detached = is_of_detached h c.requires.detached in
     let d = c.in_ok-take_message.ensures.drive task s B h in
     let alone = taken_alone (d.beside detached) d.reads_on.0 in
     let b = c.in_ok-take_payload.ensures.brings task _ B alone in
@@ -73,27 +87,27 @@ returns-clause-takes g c = λ task s B h detached.
     (λ r. let now = taken_alone (r.beside (detached_given (B ++ b.came) task detached)) r.reads_on.0 in all_there now (c.lemma_reading_so_far-3.ensures.payload_wanted _ _ _ _ now.so_far now.came) there.1) none
     (c.take_message-result.ensures.drive _ _ _ b.reads_on.0)
 
-pub returns-clause-context : goal.returns-clause-context
-returns-clause-context g c = λ task s B h detached.
-    let d = c.in_ok-take_message.ensures.drive task s B h in
-    let alone = taken_alone (d.beside detached) d.reads_on.0 in
-    let b = c.in_ok-take_payload.ensures.brings task _ B alone in
-    c.take_message-result.ensures.context _ _ _ b.reads_on.0 ∙ c.take_payload.ensures.context task _ B alone ∙ c.take_message.ensures.context task s B h
+pub returns-clause-purpose : goal.returns-clause-purpose
+returns-clause-purpose g c =
+    record {
+      inspects = c.take_message-result.ensures.purpose.inspects ∙ c.take_payload.ensures.purpose.inspects ∙ c.take_message.ensures.purpose.inspects;
+      detached = c.take_message-result.ensures.purpose.detached ∙ c.take_payload.ensures.purpose.detached ∙ c.take_message.ensures.purpose.detached;
+      context = λ h. (
+          let d = c.in_ok-take_message.ensures.drive _ _ _ h in
+          let alone = taken_alone (d.beside (is_of_detached h c.requires.detached)) d.reads_on.0 in
+          let b = c.in_ok-take_payload.ensures.brings _ _ _ alone in
+          c.take_message-result.ensures.purpose.context b.reads_on.0 ∙ c.take_payload.ensures.purpose.context alone ∙ c.take_message.ensures.purpose.context h);
+    }
 
 pub returns-clause-sure : goal.returns-clause-sure
-returns-clause-sure g c = λ task s B h detached enough.
+returns-clause-sure g c = λ task s B h enough.
+    let detached = is_of_detached h c.requires.detached in
     let d = c.in_ok-take_message.ensures.drive task s B h in
     let b = c.in_ok-take_payload.ensures.brings task _ B (taken_alone (d.beside detached) d.reads_on.0) in
     (c.take_message-result.ensures.beside _ _ _ b.reads_on.0 (detached_given (B ++ b.came) task detached)).0
 
 pub returns-in_err-take_message-clause-stopped : goal.returns-in_err-take_message-clause-stopped
 returns-in_err-take_message-clause-stopped g c = grind (arith, common_steps)
-
-pub returns-in_err-take_message-clause-inspects : goal.returns-in_err-take_message-clause-inspects
-returns-in_err-take_message-clause-inspects g c = grind (arith, common_steps)
-
-pub returns-in_err-take_message-clause-detached : goal.returns-in_err-take_message-clause-detached
-returns-in_err-take_message-clause-detached g c = grind (arith, common_steps)
 
 pub returns-in_err-take_message-clause-held : goal.returns-in_err-take_message-clause-held
 returns-in_err-take_message-clause-held g c = grind (arith, common_steps)
@@ -116,12 +130,6 @@ returns-then-payload_wanted-eq0-clause-sure g c = grind (arith, common_steps)
 pub returns-in_err-take_payload-clause-stopped : goal.returns-in_err-take_payload-clause-stopped
 returns-in_err-take_payload-clause-stopped g c = grind (arith, common_steps)
 
-pub returns-in_err-take_payload-clause-inspects : goal.returns-in_err-take_payload-clause-inspects
-returns-in_err-take_payload-clause-inspects g c = grind (arith, common_steps)
-
-pub returns-in_err-take_payload-clause-detached : goal.returns-in_err-take_payload-clause-detached
-returns-in_err-take_payload-clause-detached g c = grind (arith, common_steps)
-
 pub returns-in_err-take_payload-clause-held : goal.returns-in_err-take_payload-clause-held
 returns-in_err-take_payload-clause-held g c = grind (arith, common_steps)
 
@@ -142,12 +150,6 @@ returns-then-payload_wanted-gt0-clause-sure g c = grind (arith, common_steps)
 
 pub returns-clause-stopped : goal.returns-clause-stopped
 returns-clause-stopped g c = grind (arith, common_steps)
-
-pub returns-clause-inspects : goal.returns-clause-inspects
-returns-clause-inspects g c = grind (arith, common_steps)
-
-pub returns-clause-detached : goal.returns-clause-detached
-returns-clause-detached g c = grind (arith, common_steps)
 
 pub returns-clause-held : goal.returns-clause-held
 returns-clause-held g c = grind (arith, common_steps)

@@ -2,11 +2,13 @@ use Rattle.std.proofs.Common.{◌≡◌, ℕ, ◌+◌, ◌<◌, ◌≤◌, List,
 use Rattle.std.proofs.lemmas.Grind.{common_steps}
 use Rattle.std.proofs.lemmas.List.{length-drop, length-take}
 use Rattle.std.proofs.KnownBytes.{Consumes-nil}
+use Rattle.cose_msg.specs.Kept.{SamePurpose}
 use Rattle.cose_msg.specs.Status.{payload_wanted_in}
 use Rattle.cose_msg.specs.Task.{rules_of}
 use Rattle.cose_msg.proofs.lemmas.Detached.PayloadRuns.{brings_more, brings_nothing, brings_until, brought, came_next, payload_is_sure, wanted_is_open, within_more, keeps_setting, whole_piece}
 use Rattle.cose_msg.proofs.lemmas.Deciding.KeptAnswers.{unfailed}
 use Rattle.cose_msg.proofs.lemmas.Run.PayloadLimit.{payload_within}
+use Rattle.cose_msg.proofs.lemmas.Run.Purposes.{then_same_task}
 use Rattle.cose_msg.proofs.lemmas.Run.Runs.{AppendsFront-then, first_of, is_done, marks_fault, marks_nothing, not_at_end, promise_kept, put_done, put_failed, taken_before_failure}
 use Rattle.std.proofs.KnownBytes.{Consumes-trans}
 use Rattle.cose_msg.proofs.lemmas.Feeding.Statuses.{open_goes_on}
@@ -25,8 +27,8 @@ returns-then-asked-eq0-clause-brings g c = λ task s B h.
     (record { so_far = c.lemma_reading_so_far.ensures.payload _ _ _ _ a.reads_on.so_far a.reads_on.came; shown = c.lemma_reading_so_far.ensures.shows _ _ _ _ a.reads_on.so_far a.reads_on.came; status = c.lemma_reading_so_far.ensures.status _ _ _ _ a.reads_on.so_far a.reads_on.came; wanted = c.lemma_reading_so_far.ensures.payload_wanted _ _ _ _ a.reads_on.so_far a.reads_on.came })
     c.pieces.invariant.2 (λ some. absurd (omega (arith, some, none))) (λ zero. a.not_ended)
 
-pub returns-then-asked-eq0-clause-context : goal.returns-then-asked-eq0-clause-context
-returns-then-asked-eq0-clause-context g c = λ task s B h. keeps_setting _ (c.pieces.invariant.0 task s B h).reads_on h
+pub returns-then-asked-eq0-clause-purpose : goal.returns-then-asked-eq0-clause-purpose
+returns-then-asked-eq0-clause-purpose g c = record { inspects = c.pieces.invariant.3; detached = c.pieces.invariant.4; context = λ h. keeps_setting _ (c.pieces.invariant.0 _ _ _ h).reads_on h }
 
 pub returns-in-Err-clause-brings : goal.returns-in-Err-clause-brings
 returns-in-Err-clause-brings g c = λ task s B h.
@@ -35,8 +37,10 @@ returns-in-Err-clause-brings g c = λ task s B h.
     (record { so_far = c.lemma_reading_so_far.ensures.payload _ _ _ _ a.reads_on.so_far a.reads_on.came; shown = c.lemma_reading_so_far.ensures.shows _ _ _ _ a.reads_on.so_far a.reads_on.came; status = c.lemma_reading_so_far.ensures.status _ _ _ _ a.reads_on.so_far a.reads_on.came; wanted = c.lemma_reading_so_far.ensures.payload_wanted _ _ _ _ a.reads_on.so_far a.reads_on.came })
     c.pieces.invariant.2 a.payload c.stop.ensures.taken c.stop.ensures.shown
 
-pub returns-in-Err-clause-context : goal.returns-in-Err-clause-context
-returns-in-Err-clause-context g c = λ task s B h. c.stop.ensures.context ∙ keeps_setting _ (c.pieces.invariant.0 task s B h).reads_on h
+pub returns-in-Err-clause-purpose : goal.returns-in-Err-clause-purpose
+returns-in-Err-clause-purpose g c =
+    let purpose : SamePurpose c.args.verifier.now c.pieces.verifier = record { inspects = c.pieces.invariant.3; detached = c.pieces.invariant.4; context = λ h. keeps_setting _ (c.pieces.invariant.0 _ _ _ h).reads_on h } in
+    then_same_task purpose c.stop.ensures.purpose
 
 pub returns-then-count-eq0-clause-brings : goal.returns-then-count-eq0-clause-brings
 returns-then-count-eq0-clause-brings g c = λ task s B h.
@@ -49,8 +53,8 @@ returns-then-count-eq0-clause-brings g c = λ task s B h.
     (record { so_far = c.lemma_reading_so_far.ensures.payload _ _ _ _ a.reads_on.so_far a.reads_on.came; shown = c.lemma_reading_so_far.ensures.shows _ _ _ _ a.reads_on.so_far a.reads_on.came; status = c.lemma_reading_so_far.ensures.status _ _ _ _ a.reads_on.so_far a.reads_on.came; wanted = c.lemma_reading_so_far.ensures.payload_wanted _ _ _ _ a.reads_on.so_far a.reads_on.came })
     c.pieces.invariant.2 (λ wanted. (ended, took.1 refl)) (λ zero. absurd (omega (arith, some, zero)))
 
-pub returns-then-count-eq0-clause-context : goal.returns-then-count-eq0-clause-context
-returns-then-count-eq0-clause-context g c = λ task s B h. keeps_setting _ (c.pieces.invariant.0 task s B h).reads_on h
+pub returns-then-count-eq0-clause-purpose : goal.returns-then-count-eq0-clause-purpose
+returns-then-count-eq0-clause-purpose g c = record { inspects = c.pieces.invariant.3; detached = c.pieces.invariant.4; context = λ h. keeps_setting _ (c.pieces.invariant.0 _ _ _ h).reads_on h }
 
 pub returns-then-is_err-clause-brings : goal.returns-then-is_err-clause-brings
 returns-then-is_err-clause-brings g c = λ task s B h.
@@ -65,10 +69,14 @@ returns-then-is_err-clause-brings g c = λ task s B h.
     c.feed_payload.ensures.further (AppendsFront-then _ _ _ a.came piece a.payload (put_failed _ _ _ c.put.result (sym c.is_err.ensures.value ∙ c.if-is_err.true) c.put.ensures.bytes))
     c.stop-then-is_err.ensures.taken c.stop-then-is_err.ensures.shown
 
-pub returns-then-is_err-clause-context : goal.returns-then-is_err-clause-context
-returns-then-is_err-clause-context g c = λ task s B h.
-    let a = c.pieces.invariant.0 task s B h in
-    c.stop-then-is_err.ensures.context ∙ c.feed_payload.ensures.context _ _ _ a.reads_on ∙ keeps_setting _ a.reads_on h
+pub returns-then-is_err-clause-purpose : goal.returns-then-is_err-clause-purpose
+returns-then-is_err-clause-purpose g c =
+    let taken : SamePurpose c.args.verifier.now c.feed_payload.new.self = record {
+      inspects = c.feed_payload.ensures.purpose.inspects ∙ c.pieces.invariant.3;
+      detached = c.feed_payload.ensures.purpose.detached ∙ c.pieces.invariant.4;
+      context = λ h. (let a = c.pieces.invariant.0 _ _ _ h in c.feed_payload.ensures.purpose.context a.reads_on ∙ keeps_setting _ a.reads_on h);
+    } in
+    then_same_task taken c.stop-then-is_err.ensures.purpose
 
 pub returns-then-is_err-clause-payload_failure : goal.returns-then-is_err-clause-payload_failure
 returns-then-is_err-clause-payload_failure g c = c.in-Ok.ensures.failure ∙ c.pieces.invariant.5 ∙ unfailed _ _ refl
@@ -104,8 +112,8 @@ pieces-preserved g c =
           (put_done _ _ _ c.put.result done c.put.ensures.bytes) (promise_kept c.put.result _ _ _ done c.put.ensures.promise)),
       open_goes_on c.feed_payload.new.self.stopped _ c.feed_payload.ensures.further,
       c.feed_payload.ensures.further,
-      c.feed_payload.ensures.inspects ∙ c.pieces.invariant.3,
-      c.feed_payload.ensures.detached ∙ c.pieces.invariant.4,
+      c.feed_payload.ensures.purpose.inspects ∙ c.pieces.invariant.3,
+      c.feed_payload.ensures.purpose.detached ∙ c.pieces.invariant.4,
       c.in-Ok.ensures.failure ∙ c.pieces.invariant.5,
       c.put.ensures.failure ∙ marks_nothing _ c.put.result done ∙ c.pieces.invariant.6,
       room,
@@ -113,9 +121,6 @@ pieces-preserved g c =
 
 pub returns-then-asked-eq0-clause-stopped : goal.returns-then-asked-eq0-clause-stopped
 returns-then-asked-eq0-clause-stopped g c = cc
-
-pub returns-then-asked-eq0-clause-inspects : goal.returns-then-asked-eq0-clause-inspects
-returns-then-asked-eq0-clause-inspects g c = cc
 
 pub returns-then-asked-eq0-clause-held : goal.returns-then-asked-eq0-clause-held
 returns-then-asked-eq0-clause-held g c = grind (arith, common_steps)
@@ -132,9 +137,6 @@ returns-then-asked-eq0-clause-sure g c = grind (arith, common_steps)
 pub returns-in-Err-clause-stopped : goal.returns-in-Err-clause-stopped
 returns-in-Err-clause-stopped g c = cc
 
-pub returns-in-Err-clause-inspects : goal.returns-in-Err-clause-inspects
-returns-in-Err-clause-inspects g c = cc
-
 pub returns-in-Err-clause-held : goal.returns-in-Err-clause-held
 returns-in-Err-clause-held g c = grind (arith, common_steps)
 
@@ -149,9 +151,6 @@ returns-in-Err-clause-sure g c = grind (arith, common_steps)
 
 pub returns-then-count-eq0-clause-stopped : goal.returns-then-count-eq0-clause-stopped
 returns-then-count-eq0-clause-stopped g c = cc
-
-pub returns-then-count-eq0-clause-inspects : goal.returns-then-count-eq0-clause-inspects
-returns-then-count-eq0-clause-inspects g c = cc
 
 pub returns-then-count-eq0-clause-held : goal.returns-then-count-eq0-clause-held
 returns-then-count-eq0-clause-held g c = grind (arith, common_steps)
@@ -168,9 +167,6 @@ returns-then-count-eq0-clause-sure g c = grind (arith, common_steps)
 pub returns-then-is_err-clause-stopped : goal.returns-then-is_err-clause-stopped
 returns-then-is_err-clause-stopped g c = cc
 
-pub returns-then-is_err-clause-inspects : goal.returns-then-is_err-clause-inspects
-returns-then-is_err-clause-inspects g c = cc
-
 pub returns-then-is_err-clause-held : goal.returns-then-is_err-clause-held
 returns-then-is_err-clause-held g c = grind (arith, common_steps)
 
@@ -180,23 +176,11 @@ returns-then-is_err-clause-opened g c = grind (arith, common_steps)
 pub returns-then-is_err-clause-once : goal.returns-then-is_err-clause-once
 returns-then-is_err-clause-once g c = grind (arith, common_steps)
 
-pub returns-then-asked-eq0-clause-detached : goal.returns-then-asked-eq0-clause-detached
-returns-then-asked-eq0-clause-detached g c = c.pieces.invariant.4
-
 pub returns-then-asked-eq0-clause-sink_failure : goal.returns-then-asked-eq0-clause-sink_failure
 returns-then-asked-eq0-clause-sink_failure g c = c.pieces.invariant.6 ∙ unfailed _ _ refl
 
-pub returns-then-count-eq0-clause-detached : goal.returns-then-count-eq0-clause-detached
-returns-then-count-eq0-clause-detached g c = c.pieces.invariant.4
-
 pub returns-then-count-eq0-clause-sink_failure : goal.returns-then-count-eq0-clause-sink_failure
 returns-then-count-eq0-clause-sink_failure g c = c.pieces.invariant.6 ∙ unfailed _ _ refl
-
-pub returns-in-Err-clause-detached : goal.returns-in-Err-clause-detached
-returns-in-Err-clause-detached g c = c.stop.ensures.detached ∙ c.pieces.invariant.4
-
-pub returns-then-is_err-clause-detached : goal.returns-then-is_err-clause-detached
-returns-then-is_err-clause-detached g c = c.stop-then-is_err.ensures.detached ∙ c.feed_payload.ensures.detached ∙ c.pieces.invariant.4
 
 pub returns-in-Err-clause-sink_failure : goal.returns-in-Err-clause-sink_failure
 returns-in-Err-clause-sink_failure g c = c.pieces.invariant.6 ∙ unfailed _ _ refl

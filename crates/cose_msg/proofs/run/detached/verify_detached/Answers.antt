@@ -1,4 +1,4 @@
-use Rattle.std.proofs.Common.{◌++◌, refl, sym, ap, ◌∙◌, arith}
+use Rattle.std.proofs.Common.{◌++◌, sym, ap, ◌∙◌, arith}
 use Rattle.std.proofs.lemmas.Grind.{common_steps}
 use Rattle.std.specs.Prelude.{is_err}
 use Rattle.cose_msg.specs.Kept.{verdict_in}
@@ -8,6 +8,7 @@ use Rattle.cose_msg.proofs.lemmas.Run.Answered.{kept_verdict_settles, still}
 use Rattle.cose_msg.proofs.lemmas.Detached.BothAnswered.{done_wants_none, is_of_detached, kept_on_both, of_both, stopped_on_both, verdict_on_both}
 use Rattle.cose_msg.proofs.lemmas.Detached.BothTaken.{none_awaited}
 use Rattle.cose_msg.proofs.lemmas.Deciding.KeptAnswers.{kept_again, kept_stop}
+use Rattle.cose_msg.proofs.lemmas.Run.Purposes.{then_same_task, unchanged}
 use Rattle.cose_msg.proofs.lemmas.Run.Runs.{counted_stands, so_far_before}
 use Rattle.cose_msg.proofs.lemmas.Feeding.Statuses.{left_by_answer, left_by_kept, left_by_stop}
 use Rattle.cose_msg.proofs.run.detached.verify_detached.Goals as goal
@@ -39,12 +40,12 @@ returns-in-Some-clause-kept g c = kept_again c.args.verifier.now.stopped (verdic
 pub returns-in-Some-clause-stopped : goal.returns-in-Some-clause-stopped
 returns-in-Some-clause-stopped g c = kept_stop c.args.verifier.now.stopped (verdict_in c.args.verifier.now.reader.phase) c.in-Some.answer (sym c.kept_answer.ensures ∙ c.in-Some.is)
 
-pub returns-in-Some-clause-context : goal.returns-in-Some-clause-context
-returns-in-Some-clause-context g c = λ setting s B h. refl
+pub returns-in-Some-clause-purpose : goal.returns-in-Some-clause-purpose
+returns-in-Some-clause-purpose g c = unchanged c.args.verifier.now
 
 pub returns-in-Ok-clause-run : goal.returns-in-Ok-clause-run
 returns-in-Ok-clause-run g c = λ setting s B h.
-    let t = rw c.in-Ok.is at (c.take_detached.ensures.takes (to_verify setting) s B h (is_of_detached h c.requires.detached)) in
+    let t = rw c.in-Ok.is at (c.take_detached.ensures.takes (to_verify setting) s B h) in
     let reads_on = counted_stands t.reads_on.0 in (
       t.taken,
       t.came,
@@ -60,12 +61,12 @@ returns-in-Ok-clause-answer g c = λ setting s B bytes more h come beside.
 pub returns-in-Ok-clause-before : goal.returns-in-Ok-clause-before
 returns-in-Ok-clause-before g c = λ setting s B h. so_far_before g.row.H g.row.D (to_verify setting) s B (c.lemma_reading_so_far.ensures.payload (to_verify setting) B _ _ h.so_far h.came)
 
-pub returns-in-Ok-clause-context : goal.returns-in-Ok-clause-context
-returns-in-Ok-clause-context g c = λ setting s B h. c.conclude.ensures.context ∙ c.take_detached.ensures.context (to_verify setting) s B h (is_of_detached h c.requires.detached)
+pub returns-in-Ok-clause-purpose : goal.returns-in-Ok-clause-purpose
+returns-in-Ok-clause-purpose g c = then_same_task c.take_detached.ensures.purpose c.conclude.ensures.purpose
 
 pub returns-in-Err-clause-run : goal.returns-in-Err-clause-run
 returns-in-Err-clause-run g c = λ setting s B h.
-    let t = rw c.in-Err.is at (c.take_detached.ensures.takes (to_verify setting) s B h (is_of_detached h c.requires.detached)) in
+    let t = rw c.in-Err.is at (c.take_detached.ensures.takes (to_verify setting) s B h) in
     (t.taken, t.came, stopped_on_both c.deciding_goes_last.ensures.verifying (g.E.EcVerifier.decides c.args.ec.now) c.in-Err.stop t, (t.counted, t.shows, left_by_stop c.take_detached.new.verifier (c.take_detached.ensures.stopped ∙ ap is_err c.in-Err.is)))
 
 pub returns-in-Err-clause-answer : goal.returns-in-Err-clause-answer
@@ -74,20 +75,14 @@ returns-in-Err-clause-answer g c = λ setting s B bytes more h come beside. tt
 pub returns-in-Err-clause-before : goal.returns-in-Err-clause-before
 returns-in-Err-clause-before g c = λ setting s B h. so_far_before g.row.H g.row.D (to_verify setting) s B (c.lemma_reading_so_far.ensures.payload (to_verify setting) B _ _ h.so_far h.came)
 
-pub returns-in-Err-clause-context : goal.returns-in-Err-clause-context
-returns-in-Err-clause-context g c = λ setting s B h. c.take_detached.ensures.context (to_verify setting) s B h (is_of_detached h c.requires.detached)
+pub returns-in-Err-clause-purpose : goal.returns-in-Err-clause-purpose
+returns-in-Err-clause-purpose g c = c.take_detached.ensures.purpose
 
 pub returns-in-Err-clause-sure : goal.returns-in-Err-clause-sure
-returns-in-Err-clause-sure g c = λ setting s B h enough. rw c.in-Err.is at (c.take_detached.ensures.sure (to_verify setting) s B h (is_of_detached h c.requires.detached) enough)
+returns-in-Err-clause-sure g c = λ setting s B h enough. rw c.in-Err.is at (c.take_detached.ensures.sure (to_verify setting) s B h enough)
 
 pub returns-in-Some-clause-again : goal.returns-in-Some-clause-again
 returns-in-Some-clause-again g c = grind (arith, common_steps)
-
-pub returns-in-Some-clause-inspects : goal.returns-in-Some-clause-inspects
-returns-in-Some-clause-inspects g c = grind (arith, common_steps)
-
-pub returns-in-Some-clause-detached : goal.returns-in-Some-clause-detached
-returns-in-Some-clause-detached g c = grind (arith, common_steps)
 
 pub returns-in-Some-clause-held : goal.returns-in-Some-clause-held
 returns-in-Some-clause-held g c = grind (arith, common_steps)
@@ -103,12 +98,6 @@ returns-in-Ok-clause-again g c = grind (arith, common_steps)
 
 pub returns-in-Ok-clause-stopped : goal.returns-in-Ok-clause-stopped
 returns-in-Ok-clause-stopped g c = grind (arith, common_steps)
-
-pub returns-in-Ok-clause-inspects : goal.returns-in-Ok-clause-inspects
-returns-in-Ok-clause-inspects g c = grind (arith, common_steps)
-
-pub returns-in-Ok-clause-detached : goal.returns-in-Ok-clause-detached
-returns-in-Ok-clause-detached g c = grind (arith, common_steps)
 
 pub returns-in-Ok-clause-held : goal.returns-in-Ok-clause-held
 returns-in-Ok-clause-held g c = grind (arith, common_steps)
@@ -130,12 +119,6 @@ returns-in-Err-clause-again g c = grind (arith, common_steps)
 
 pub returns-in-Err-clause-stopped : goal.returns-in-Err-clause-stopped
 returns-in-Err-clause-stopped g c = grind (arith, common_steps)
-
-pub returns-in-Err-clause-inspects : goal.returns-in-Err-clause-inspects
-returns-in-Err-clause-inspects g c = grind (arith, common_steps)
-
-pub returns-in-Err-clause-detached : goal.returns-in-Err-clause-detached
-returns-in-Err-clause-detached g c = grind (arith, common_steps)
 
 pub returns-in-Err-clause-held : goal.returns-in-Err-clause-held
 returns-in-Err-clause-held g c = grind (arith, common_steps)

@@ -7,9 +7,7 @@ returns g c =
     record {
       kept = rw e.kept refl;
       counts = refl;
-      inspects = refl;
-      detached = refl;
-      context = rw e.terms refl;
+      purpose = rw e.terms refl;
       shown = e.shown;
       held = e.held;
       opened = e.opened;

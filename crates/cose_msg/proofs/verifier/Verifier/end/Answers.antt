@@ -39,8 +39,8 @@ pub returns-in-More-clause-again : goal.returns-in-More-clause-again
 returns-in-More-clause-again g c = λ closed.
     let clash : true ≡ false = sym (ap is_open (sym c.status.ensures.value) ∙ either_is_open c.status.result c.in-More.is) ∙ closed in absurd cc
 
-pub returns-in-More-clause-context : goal.returns-in-More-clause-context
-returns-in-More-clause-context g c = rw c.truncate.ensures.terms refl
+pub returns-in-More-clause-purpose : goal.returns-in-More-clause-purpose
+returns-in-More-clause-purpose g c = rw c.truncate.ensures.terms refl
 
 -- A message of which bytes are wanted, or of its payload, gives no signature.
 pub returns-in-More-clause-shown : goal.returns-in-More-clause-shown

@@ -3,8 +3,8 @@ use Rattle.std.proofs.lemmas.Grind.{common_steps}
 use Rattle.std.proofs.Common.{rules, ◌≡◌, ◌+◌, ◌<◌, ◌≤◌, ℕ, true, false, List, length, refl, sym, ap, ◌∙◌, arith}
 use Rattle.cose_msg.specs.Phase.{in_payload, want_of}
 use Rattle.cose_msg.specs.Status.{status_of_reading}
-use Rattle.cose_msg.specs.Task.{Task}
 use Rattle.cose_msg.proofs.lemmas.Feeding.Feeds.{at_start, chosen_within, fits_in, goes_on, goes_past, in_order, is_behind, knows_payload, part_extended, stepped, shows_now, uses_all, uses_none}
+use Rattle.cose_msg.proofs.lemmas.Run.Purposes.{same_setting_of, unchanged}
 use Rattle.cose_msg.proofs.lemmas.Run.Runs.{without_more}
 use Rattle.cose_msg.specs.Reading.{Reading}
 use Rattle.cose_msg.proofs.lemmas.Deciding.PhaseCases.{unsettled_is_more}
@@ -52,8 +52,8 @@ pieces-preserved g c =
     let wanted : 0 < want_of c.pieces.self.reader.phase = omega (arith, some, c.step-count.ensures.wanted) in
     let within : (more : List ℕ) → length more < count → length more < want_of c.pieces.self.reader.phase = λ more lt. omega (arith, lt, c.step-count.ensures.wanted) in
     let goes_still = c.take_piece.ensures.marked ∙ i.1 in
-    let inspects = c.take_piece.ensures.inspects ∙ i.2 in
-    let detached = c.take_piece.ensures.detached ∙ i.8 in
+    let inspects = c.take_piece.ensures.purpose.inspects ∙ i.2 in
+    let detached = c.take_piece.ensures.purpose.detached ∙ i.8 in
     elim c.if-is_in_payload.branch [
       | then-is_in_payload w ↦
           (let inside : in_payload c.pieces.self.reader.phase ≡ true = sym c.is_in_payload.ensures ∙ w.if-is_in_payload.true in
@@ -117,11 +117,9 @@ returns-then-count-eq0-clause-shows g c = λ task s B h.
     let a = c.pieces.invariant.0 task s B h in
     shows_now task _ c.pieces.self (c.lemma_reading_so_far-in-pieces.ensures.shows task _ _ _ a.reads_on.so_far a.reads_on.came)
 
-pub returns-then-count-eq0-clause-context : goal.returns-then-count-eq0-clause-context
-returns-then-count-eq0-clause-context g c = λ task s B h. let a = c.pieces.invariant.0 task s B h in ap (λ (t : Task). t.setting) a.reads_on.made_for ∙ sym (ap (λ (t : Task). t.setting) h.made_for)
-
-pub returns-then-count-eq0-clause-detached : goal.returns-then-count-eq0-clause-detached
-returns-then-count-eq0-clause-detached g c = c.pieces.invariant.8
+pub returns-then-count-eq0-clause-purpose : goal.returns-then-count-eq0-clause-purpose
+returns-then-count-eq0-clause-purpose g c =
+    record { inspects = c.pieces.invariant.2; detached = c.pieces.invariant.8; context = λ h. same_setting_of h (c.pieces.invariant.0 _ _ _ h).reads_on }
 
 pub returns-then-count-eq0-clause-again : goal.returns-then-count-eq0-clause-again
 returns-then-count-eq0-clause-again g c = λ settled. absurd (c.if-want-eq0.false (c.want.ensures.none settled))
@@ -167,14 +165,8 @@ returns-then-want-eq0-clause-counted g c = grind (arith, common_steps)
 pub returns-then-want-eq0-clause-again : goal.returns-then-want-eq0-clause-again
 returns-then-want-eq0-clause-again g c = grind (arith, common_steps)
 
-pub returns-then-want-eq0-clause-inspects : goal.returns-then-want-eq0-clause-inspects
-returns-then-want-eq0-clause-inspects g c = grind (arith, common_steps)
-
-pub returns-then-want-eq0-clause-detached : goal.returns-then-want-eq0-clause-detached
-returns-then-want-eq0-clause-detached g c = grind (arith, common_steps)
-
-pub returns-then-want-eq0-clause-context : goal.returns-then-want-eq0-clause-context
-returns-then-want-eq0-clause-context g c = grind (arith, common_steps)
+pub returns-then-want-eq0-clause-purpose : goal.returns-then-want-eq0-clause-purpose
+returns-then-want-eq0-clause-purpose g c = unchanged c.args.self.now
 
 pub returns-then-want-eq0-clause-held : goal.returns-then-want-eq0-clause-held
 returns-then-want-eq0-clause-held g c = grind (arith, common_steps)
@@ -205,9 +197,6 @@ returns-then-count-eq0-clause-current g c = grind (arith, common_steps)
 
 pub returns-then-count-eq0-clause-counted : goal.returns-then-count-eq0-clause-counted
 returns-then-count-eq0-clause-counted g c = grind (arith, common_steps)
-
-pub returns-then-count-eq0-clause-inspects : goal.returns-then-count-eq0-clause-inspects
-returns-then-count-eq0-clause-inspects g c = grind (arith, common_steps)
 
 pub returns-then-count-eq0-clause-held : goal.returns-then-count-eq0-clause-held
 returns-then-count-eq0-clause-held g c = grind (arith, common_steps)

@@ -1,4 +1,4 @@
-use Rattle.std.proofs.Common.{◌≡◌, ℕ, List, [], ◌++◌, length, take, sym, ap, subst, ◌∙◌, append_assoc, arith}
+use Rattle.std.proofs.Common.{◌≡◌, ℕ, List, [], ◌++◌, length, take, refl, sym, ap, subst, ◌∙◌, append_assoc, arith}
 use Rattle.std.proofs.lemmas.Grind.{common_steps}
 use Rattle.cose_msg.specs.Kept.{HasTaken}
 use Rattle.cose_msg.specs.Reader.{SoFar}
@@ -6,6 +6,7 @@ use Rattle.cose_msg.specs.Shown.{shown_in}
 use Rattle.cose_msg.specs.Phase.{payload_want_of}
 use Rattle.cose_msg.specs.Status.{payload_wanted_in, status_of_reading}
 use Rattle.cose_msg.specs.Task.{Task, given_to}
+use Rattle.cose_msg.proofs.lemmas.Detached.PayloadRuns.{keeps_setting}
 use Rattle.cose_msg.proofs.lemmas.Detached.PayloadTaken.{came_more, given_again, now_given, reads_on_beside}
 use Rattle.cose_msg.proofs.lemmas.Run.Runs.{without_more}
 use Rattle.cose_msg.proofs.lemmas.Reader.Standing.{whole_task}
@@ -41,10 +42,8 @@ returns-in-Detached-clause-shows g c = λ task s B h.
     let now = returns-in-Detached-clause-taken g c task s B h in
     c.lemma_reading_so_far.ensures.shows _ _ _ _ now.so_far now.came ∙ ap (shown_in (given_to (B ++ take c.min-count.result c.args.piece.now) task).setting) (without_more g.row.H g.row.D _ s)
 
-pub returns-in-Detached-clause-context : goal.returns-in-Detached-clause-context
-returns-in-Detached-clause-context g c = λ task s B h.
-    let now = returns-in-Detached-clause-taken g c task s B h in
-    ap (λ (t : Task). t.setting) now.made_for ∙ ap (λ (t : Task). t.setting) (given_again task [] _) ∙ sym (ap (λ (t : Task). t.setting) h.made_for)
+pub returns-in-Detached-clause-purpose : goal.returns-in-Detached-clause-purpose
+returns-in-Detached-clause-purpose g c = record { inspects = refl; detached = refl; context = λ h. keeps_setting _ (returns-in-Detached-clause-taken g c _ _ _ h) h }
 
 pub returns-in-Detached-clause-uses : goal.returns-in-Detached-clause-uses
 returns-in-Detached-clause-uses g c =
@@ -61,12 +60,6 @@ invariant_of-self-clause-untouched g c = λ none. absurd (untouched_awaits_none 
 
 pub returns-in-Detached-clause-counts : goal.returns-in-Detached-clause-counts
 returns-in-Detached-clause-counts g c = grind (arith, common_steps)
-
-pub returns-in-Detached-clause-inspects : goal.returns-in-Detached-clause-inspects
-returns-in-Detached-clause-inspects g c = grind (arith, common_steps)
-
-pub returns-in-Detached-clause-detached : goal.returns-in-Detached-clause-detached
-returns-in-Detached-clause-detached g c = grind (arith, common_steps)
 
 pub returns-in-Detached-clause-held : goal.returns-in-Detached-clause-held
 returns-in-Detached-clause-held g c = grind (arith, common_steps)

@@ -18,11 +18,8 @@ returns-clause-held g c = c.reset.ensures.held
 pub returns-clause-keyless : goal.returns-clause-keyless
 returns-clause-keyless g c = (c.reset.ensures.no_key, c.reset.ensures.no_hash)
 
-pub returns-clause-context : goal.returns-clause-context
-returns-clause-context g c = rw c.reset.ensures.terms refl
-
-pub returns-clause-inspects : goal.returns-clause-inspects
-returns-clause-inspects g c = refl
+pub returns-clause-purpose : goal.returns-clause-purpose
+returns-clause-purpose g c = rw c.reset.ensures.terms refl
 
 pub invariant_of-self-clause-untouched : goal.invariant_of-self-clause-untouched
 invariant_of-self-clause-untouched g c = λ none. c.reset.ensures.untouched

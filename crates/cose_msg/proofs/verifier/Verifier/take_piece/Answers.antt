@@ -5,6 +5,7 @@ use Rattle.cose_msg.specs.Reader.{SoFar}
 use Rattle.cose_msg.specs.Source.{attached}
 use Rattle.cose_msg.specs.Task.{Task, given_to, keys_for, rules_of}
 use Rattle.cose_msg.proofs.lemmas.Detached.PayloadTaken.{given_again, stated_for, still_comes, whatever_then}
+use Rattle.cose_msg.proofs.lemmas.Run.Purposes.{same_setting_of}
 use Rattle.cose_msg.proofs.lemmas.Run.Runs.{reads_on_attached}
 use Rattle.cose_msg.proofs.lemmas.Reader.Standing.{took_piece, whole_task}
 use Rattle.cose_msg.proofs.verifier.Verifier.take_piece.Goals as goal
@@ -27,3 +28,6 @@ returns-clause-taken g c = λ task s B h.
       counted = omega (arith, h.counted, length-append s piece);
       goes_on = h.goes_on;
     }
+
+pub returns-clause-purpose : goal.returns-clause-purpose
+returns-clause-purpose g c = record { inspects = refl; detached = refl; context = λ h. same_setting_of h (returns-clause-taken g c _ _ _ h) }

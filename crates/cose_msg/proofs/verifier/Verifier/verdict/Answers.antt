@@ -1,4 +1,4 @@
-use Rattle.std.proofs.Common.{ap, sym, ◌∙◌, arith}
+use Rattle.std.proofs.Common.{ap, refl, sym, ◌∙◌, arith}
 use Rattle.std.proofs.lemmas.Grind.{common_steps}
 use Rattle.cose_msg.specs.Laws.{then_verified}
 use Rattle.cose_msg.proofs.lemmas.Run.Answered.{verdict_so_far}
@@ -28,11 +28,8 @@ returns-in-Some-clause-again g c = grind (arith, common_steps)
 pub returns-in-Some-clause-counts : goal.returns-in-Some-clause-counts
 returns-in-Some-clause-counts g c = grind (arith, common_steps)
 
-pub returns-in-Some-clause-inspects : goal.returns-in-Some-clause-inspects
-returns-in-Some-clause-inspects g c = grind (arith, common_steps)
-
-pub returns-in-Some-clause-context : goal.returns-in-Some-clause-context
-returns-in-Some-clause-context g c = grind (arith, common_steps)
+pub returns-in-Some-clause-purpose : goal.returns-in-Some-clause-purpose
+returns-in-Some-clause-purpose g c = refl
 
 pub returns-in-Some-clause-shown : goal.returns-in-Some-clause-shown
 returns-in-Some-clause-shown g c = grind (arith, common_steps)
@@ -46,11 +43,8 @@ returns-in-Some-clause-opened g c = grind (arith, common_steps)
 pub returns-in-None-clause-counts : goal.returns-in-None-clause-counts
 returns-in-None-clause-counts g c = grind (arith, common_steps)
 
-pub returns-in-None-clause-inspects : goal.returns-in-None-clause-inspects
-returns-in-None-clause-inspects g c = grind (arith, common_steps)
-
-pub returns-in-None-clause-context : goal.returns-in-None-clause-context
-returns-in-None-clause-context g c = grind (arith, common_steps)
+pub returns-in-None-clause-purpose : goal.returns-in-None-clause-purpose
+returns-in-None-clause-purpose g c = c.conclude.ensures.purpose
 
 pub returns-in-None-clause-shown : goal.returns-in-None-clause-shown
 returns-in-None-clause-shown g c = grind (arith, common_steps)

@@ -3,7 +3,7 @@ use Rattle.cosecmd.specs.declared.answer.sequence.Step.TheVariants.{Over, Printe
 use Rattle.cosecmd.specs.declared.fault.Fault.TheVariants as faults
 use Rattle.cosecmd.specs.declared.reply.Status.TheVariants as statuses
 use Rattle.cosecmd.proofs.PartLines.{joined_sound, same_step}
-use Rattle.cosecmd.proofs.Sequences.{SoFar, all_printed, ends_lost, fails_behind, line_first, none_so_far, one_more}
+use Rattle.cosecmd.proofs.Sequences.{SoFar, all_printed, ends_lost, fails_later, line_first, none_so_far, one_more}
 use Rattle.cosecmd.proofs.answer.sequence.print_all.Goals as goal
 
 pub messages-init : goal.messages-init
@@ -37,7 +37,7 @@ returns-in-Over-clause-prints g c = λ bytes e.
 
 pub returns-in-Over-clause-fails : goal.returns-in-Over-clause-fails
 returns-in-Over-clause-fails g c = λ bytes e two.
-    fails_behind _ _ bytes _ _ _ _ c.messages.place c.messages.status (c.messages.invariant.0 bytes e)
+    fails_later _ _ bytes _ _ _ _ c.messages.place c.messages.status (c.messages.invariant.0 bytes e)
     (λ rest left.
     (let step = same_step (g.P.Parts.reads c.messages.parts) (g.P.Parts.reads c.args.parts.now) (g.P.Parts.alone c.messages.parts) (g.P.Parts.alone c.args.parts.now) c.messages.place rest
     (g.I.Intake.to_come c.print_next.new.intake) (g.W.Write.contents c.messages.output) (g.W.Write.contents c.print_next.new.output) (Over c.in-Over.last) c.messages.invariant.2 c.messages.invariant.3
@@ -54,5 +54,5 @@ returns-in-None-clause-fails g c = λ bytes e two.
     (g.I.Intake.to_come c.print_next.new.intake) (g.W.Write.contents c.messages.output) (g.W.Write.contents c.print_next.new.output) (Printed c.in-Printed.taken c.in-Printed.latest) c.messages.invariant.2 c.messages.invariant.3
     (c.in-Printed.ensures.step rest left))
     refl c.joined-status.ensures in
-    fails_behind reads alone bytes _ _ _ _ (c.messages.place + c.in-Printed.taken) c.joined-status.result so_far
+    fails_later reads alone bytes _ _ _ _ (c.messages.place + c.in-Printed.taken) c.joined-status.result so_far
     (λ rest left. line_first reads alone (c.messages.place + c.in-Printed.taken) rest _ _ faults.Input c.print_fault.ensures.line)

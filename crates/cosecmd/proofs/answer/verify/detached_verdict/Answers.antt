@@ -8,7 +8,7 @@ use Rattle.cosecmd.proofs.Trailing.{verdict_of_whole}
 use Rattle.cosecmd.proofs.answer.verify.detached_verdict.Goals as goal
 
 pub returns-in-Ok-clause-verdict : goal.returns-in-Ok-clause-verdict
-returns-in-Ok-clause-verdict g c = λ bytes more e come whole.
+returns-in-Ok-clause-verdict g c = λ more come whole bytes e.
     let setting = detaching c.args.payload_length (setting_of usable c.args.context) in
     let none = c.detached-verifier.ensures.none_taken in
     let run = c.in-Ok.ensures.run setting [] [] none in

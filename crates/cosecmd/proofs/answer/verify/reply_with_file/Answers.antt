@@ -61,5 +61,5 @@ returns-in-Ok-detached_verdict-clause-from g c = λ bytes content e told.
     let small_left : after.left < 2 ^ 64 = after.in_range in
     says_from c.payload_stays.ensures.complete job (usable c.in-Ok.keys) content bytes after.left (g.R.Read.remaining after.reader) _ c.in-Ok-detached_verdict.verdict c.reply_of.result
     (rw c.requires.sizes.keys_are (sym c.in-Ok.ensures.exact)) small small_left c.reply_of.ensures.says _ _ c.program_context-context.ensures.setting told
-    (λ more known count. rw (c.requires.sizes.header_is, c.requires.sizes.nesting_is) (c.in-Ok-detached_verdict.ensures.verdict bytes more e known count))
+    (λ more known count. rw (c.requires.sizes.header_is, c.requires.sizes.nesting_is) (c.in-Ok-detached_verdict.ensures.verdict more known count bytes e))
     (rw (c.requires.sizes.header_is, c.requires.sizes.nesting_is) (c.in-Ok-detached_verdict.ensures.came bytes e)) (ends_whole after.ended after.left)

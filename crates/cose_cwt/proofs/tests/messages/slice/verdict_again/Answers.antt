@@ -9,9 +9,3 @@ returns-clause-answers g c = let kept = c.verify_slice.ensures.kept in rw (c.ver
 
 pub returns-clause-none_taken : goal.returns-clause-none_taken
 returns-clause-none_taken g c = let kept = c.verify_slice.ensures.kept in (c.verify.ensures.again (Ok kept.0) kept.2).2
-
-pub returns-clause-verifies : goal.returns-clause-verifies
-returns-clause-verifies g c = c.verify.ensures.inspects
-
-pub returns-clause-attached : goal.returns-clause-attached
-returns-clause-attached g c = c.verify.ensures.attached

@@ -2,6 +2,7 @@ use Rattle.std.proofs.Common.{ℕ, List, [], ap, arith, option_map, subst, ◌<�
 use Rattle.cose_map.specs.Key.View.{contents}
 use Rattle.cose_cwt.specs.Token.{read_as}
 use Rattle.cose_msg.specs.Message.{Setting, verifying}
+use Rattle.cose_msg.specs.Task.{Task}
 use Rattle.cose_msg.specs.Verifier.{setting_in}
 use Rattle.cosecmd.specs.Printed.{Output, Says, input_answer, output_of}
 use Rattle.cosecmd.specs.Vouch.{vouching}
@@ -33,46 +34,46 @@ pub returns-in-Err-clause-same_reading : goal.returns-in-Err-clause-same_reading
 returns-in-Err-clause-same_reading g c =
     let made = c.args.self.now.verifier in
     let has = anew made c.reset.new.self c.args.self.now.verifies c.reset.ensures.none_taken in
-    ap (λ (s : Setting). read_as g.row.H g.row.D s (vouching (option_map contents c.args.self.now.vouch.word))) (c.verify-verdict.ensures.context (setting_in made) [] [] has ∙ c.reset.ensures.context)
+    ap (λ (s : Setting). read_as g.row.H g.row.D s (vouching (option_map contents c.args.self.now.vouch.word))) (c.verify-verdict.ensures.purpose.context has ∙ ap (λ (t : Task). t.setting) c.reset.ensures.purpose)
 
 pub returns-in-Err-clause-same_lines : goal.returns-in-Err-clause-same_lines
 returns-in-Err-clause-same_lines g c =
     let made = c.args.self.now.verifier in
     let has = anew made c.reset.new.self c.args.self.now.verifies c.reset.ensures.none_taken in
-    ap (λ (s : Setting). λ (message : List ℕ). output_of (input_answer g.row.H g.row.D s (vouching (option_map contents c.args.self.now.vouch.word)) message)) (c.verify-verdict.ensures.context (setting_in made) [] [] has ∙ c.reset.ensures.context)
+    ap (λ (s : Setting). λ (message : List ℕ). output_of (input_answer g.row.H g.row.D s (vouching (option_map contents c.args.self.now.vouch.word)) message)) (c.verify-verdict.ensures.purpose.context has ∙ ap (λ (t : Task). t.setting) c.reset.ensures.purpose)
 
 pub returns-then-taken-eq0-clause-same_reading : goal.returns-then-taken-eq0-clause-same_reading
 returns-then-taken-eq0-clause-same_reading g c =
     let made = c.args.self.now.verifier in
     let has = anew made c.reset.new.self c.args.self.now.verifies c.reset.ensures.none_taken in
-    ap (λ (s : Setting). read_as g.row.H g.row.D s (vouching (option_map contents c.args.self.now.vouch.word))) (c.verify-verdict.ensures.context (setting_in made) [] [] has ∙ c.reset.ensures.context)
+    ap (λ (s : Setting). read_as g.row.H g.row.D s (vouching (option_map contents c.args.self.now.vouch.word))) (c.verify-verdict.ensures.purpose.context has ∙ ap (λ (t : Task). t.setting) c.reset.ensures.purpose)
 
 pub returns-then-taken-eq0-clause-same_lines : goal.returns-then-taken-eq0-clause-same_lines
 returns-then-taken-eq0-clause-same_lines g c =
     let made = c.args.self.now.verifier in
     let has = anew made c.reset.new.self c.args.self.now.verifies c.reset.ensures.none_taken in
-    ap (λ (s : Setting). λ (message : List ℕ). output_of (input_answer g.row.H g.row.D s (vouching (option_map contents c.args.self.now.vouch.word)) message)) (c.verify-verdict.ensures.context (setting_in made) [] [] has ∙ c.reset.ensures.context)
+    ap (λ (s : Setting). λ (message : List ℕ). output_of (input_answer g.row.H g.row.D s (vouching (option_map contents c.args.self.now.vouch.word)) message)) (c.verify-verdict.ensures.purpose.context has ∙ ap (λ (t : Task). t.setting) c.reset.ensures.purpose)
 
 pub returns-in-Ok-reply_of-clause-same_reading : goal.returns-in-Ok-reply_of-clause-same_reading
 returns-in-Ok-reply_of-clause-same_reading g c =
     let made = c.args.self.now.verifier in
     let has = anew made c.reset.new.self c.args.self.now.verifies c.reset.ensures.none_taken in
-    ap (λ (s : Setting). read_as g.row.H g.row.D s (vouching (option_map contents c.args.self.now.vouch.word))) (c.verify-verdict.ensures.context (setting_in made) [] [] has ∙ c.reset.ensures.context)
+    ap (λ (s : Setting). read_as g.row.H g.row.D s (vouching (option_map contents c.args.self.now.vouch.word))) (c.verify-verdict.ensures.purpose.context has ∙ ap (λ (t : Task). t.setting) c.reset.ensures.purpose)
 
 pub returns-in-Ok-reply_of-clause-same_lines : goal.returns-in-Ok-reply_of-clause-same_lines
 returns-in-Ok-reply_of-clause-same_lines g c =
     let made = c.args.self.now.verifier in
     let has = anew made c.reset.new.self c.args.self.now.verifies c.reset.ensures.none_taken in
-    ap (λ (s : Setting). λ (message : List ℕ). output_of (input_answer g.row.H g.row.D s (vouching (option_map contents c.args.self.now.vouch.word)) message)) (c.verify-verdict.ensures.context (setting_in made) [] [] has ∙ c.reset.ensures.context)
+    ap (λ (s : Setting). λ (message : List ℕ). output_of (input_answer g.row.H g.row.D s (vouching (option_map contents c.args.self.now.vouch.word)) message)) (c.verify-verdict.ensures.purpose.context has ∙ ap (λ (t : Task). t.setting) c.reset.ensures.purpose)
 
 pub returns-in-Err-reply_of-clause-same_reading : goal.returns-in-Err-reply_of-clause-same_reading
 returns-in-Err-reply_of-clause-same_reading g c =
     let made = c.args.self.now.verifier in
     let has = anew made c.reset.new.self c.args.self.now.verifies c.reset.ensures.none_taken in
-    ap (λ (s : Setting). read_as g.row.H g.row.D s (vouching (option_map contents c.args.self.now.vouch.word))) (c.verify-verdict.ensures.context (setting_in made) [] [] has ∙ c.reset.ensures.context)
+    ap (λ (s : Setting). read_as g.row.H g.row.D s (vouching (option_map contents c.args.self.now.vouch.word))) (c.verify-verdict.ensures.purpose.context has ∙ ap (λ (t : Task). t.setting) c.reset.ensures.purpose)
 
 pub returns-in-Err-reply_of-clause-same_lines : goal.returns-in-Err-reply_of-clause-same_lines
 returns-in-Err-reply_of-clause-same_lines g c =
     let made = c.args.self.now.verifier in
     let has = anew made c.reset.new.self c.args.self.now.verifies c.reset.ensures.none_taken in
-    ap (λ (s : Setting). λ (message : List ℕ). output_of (input_answer g.row.H g.row.D s (vouching (option_map contents c.args.self.now.vouch.word)) message)) (c.verify-verdict.ensures.context (setting_in made) [] [] has ∙ c.reset.ensures.context)
+    ap (λ (s : Setting). λ (message : List ℕ). output_of (input_answer g.row.H g.row.D s (vouching (option_map contents c.args.self.now.vouch.word)) message)) (c.verify-verdict.ensures.purpose.context has ∙ ap (λ (t : Task). t.setting) c.reset.ensures.purpose)

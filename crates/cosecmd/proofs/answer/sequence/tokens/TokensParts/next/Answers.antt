@@ -4,6 +4,8 @@ use Rattle.cose_cwt.specs.Requirements.View.{requirements_value}
 use Rattle.cose_map.specs.Key.View.{contents}
 use Rattle.cose_cwt.specs.Token.{read_as}
 use Rattle.cose_msg.specs.Message.{Setting, verifying}
+use Rattle.cose_msg.specs.Source.{is_detached_from}
+use Rattle.cose_msg.specs.Task.{Task}
 use Rattle.cose_msg.specs.Verifier.{setting_in}
 use Rattle.cosecmd.specs.Admitted.{Admission, input_token, stopped_in}
 use Rattle.cosecmd.specs.Printed.{Says, outcome_said}
@@ -38,49 +40,49 @@ pub returns-in-Err-clause-same_reading : goal.returns-in-Err-clause-same_reading
 returns-in-Err-clause-same_reading g c =
     let tokens = c.args.self.now in
     let has = anew tokens.verifier c.reset.new.self tokens.verifies c.reset.ensures.none_taken in
-    ap (λ (s : Setting). read_as g.row.H g.row.D s (vouching (option_map contents tokens.vouch.word))) (c.verify_cwt-claims.ensures.context (setting_in tokens.verifier) has ∙ c.reset.ensures.context)
+    ap (λ (s : Setting). read_as g.row.H g.row.D s (vouching (option_map contents tokens.vouch.word))) (c.verify_cwt-claims.ensures.purpose.context has ∙ ap (λ (t : Task). t.setting) c.reset.ensures.purpose)
 
 pub returns-in-Err-clause-same_lines : goal.returns-in-Err-clause-same_lines
 returns-in-Err-clause-same_lines g c =
     let tokens = c.args.self.now in
     let has = anew tokens.verifier c.reset.new.self tokens.verifies c.reset.ensures.none_taken in
-    ap (λ (s : Setting). λ (message : List ℕ). outcome_said tokens.readable (input_token g.row.H g.row.D s (vouching (option_map contents tokens.vouch.word)) (policy_value tokens.policy) (requirements_value tokens.requirements) message)) (c.verify_cwt-claims.ensures.context (setting_in tokens.verifier) has ∙ c.reset.ensures.context)
+    ap (λ (s : Setting). λ (message : List ℕ). outcome_said tokens.readable (input_token g.row.H g.row.D s (vouching (option_map contents tokens.vouch.word)) (policy_value tokens.policy) (requirements_value tokens.requirements) message)) (c.verify_cwt-claims.ensures.purpose.context has ∙ ap (λ (t : Task). t.setting) c.reset.ensures.purpose)
 
 pub returns-then-taken-eq0-clause-same_reading : goal.returns-then-taken-eq0-clause-same_reading
 returns-then-taken-eq0-clause-same_reading g c =
     let tokens = c.args.self.now in
     let has = anew tokens.verifier c.reset.new.self tokens.verifies c.reset.ensures.none_taken in
-    ap (λ (s : Setting). read_as g.row.H g.row.D s (vouching (option_map contents tokens.vouch.word))) (c.verify_cwt-claims.ensures.context (setting_in tokens.verifier) has ∙ c.reset.ensures.context)
+    ap (λ (s : Setting). read_as g.row.H g.row.D s (vouching (option_map contents tokens.vouch.word))) (c.verify_cwt-claims.ensures.purpose.context has ∙ ap (λ (t : Task). t.setting) c.reset.ensures.purpose)
 
 pub returns-then-taken-eq0-clause-same_lines : goal.returns-then-taken-eq0-clause-same_lines
 returns-then-taken-eq0-clause-same_lines g c =
     let tokens = c.args.self.now in
     let has = anew tokens.verifier c.reset.new.self tokens.verifies c.reset.ensures.none_taken in
-    ap (λ (s : Setting). λ (message : List ℕ). outcome_said tokens.readable (input_token g.row.H g.row.D s (vouching (option_map contents tokens.vouch.word)) (policy_value tokens.policy) (requirements_value tokens.requirements) message)) (c.verify_cwt-claims.ensures.context (setting_in tokens.verifier) has ∙ c.reset.ensures.context)
+    ap (λ (s : Setting). λ (message : List ℕ). outcome_said tokens.readable (input_token g.row.H g.row.D s (vouching (option_map contents tokens.vouch.word)) (policy_value tokens.policy) (requirements_value tokens.requirements) message)) (c.verify_cwt-claims.ensures.purpose.context has ∙ ap (λ (t : Task). t.setting) c.reset.ensures.purpose)
 
 pub returns-clause-same_reading : goal.returns-clause-same_reading
 returns-clause-same_reading g c =
     let tokens = c.args.self.now in
     let has = anew tokens.verifier c.reset.new.self tokens.verifies c.reset.ensures.none_taken in
-    ap (λ (s : Setting). read_as g.row.H g.row.D s (vouching (option_map contents tokens.vouch.word))) (c.verify_cwt-claims.ensures.context (setting_in tokens.verifier) has ∙ c.reset.ensures.context)
+    ap (λ (s : Setting). read_as g.row.H g.row.D s (vouching (option_map contents tokens.vouch.word))) (c.verify_cwt-claims.ensures.purpose.context has ∙ ap (λ (t : Task). t.setting) c.reset.ensures.purpose)
 
 pub returns-clause-same_lines : goal.returns-clause-same_lines
 returns-clause-same_lines g c =
     let tokens = c.args.self.now in
     let has = anew tokens.verifier c.reset.new.self tokens.verifies c.reset.ensures.none_taken in
-    ap (λ (s : Setting). λ (message : List ℕ). outcome_said tokens.readable (input_token g.row.H g.row.D s (vouching (option_map contents tokens.vouch.word)) (policy_value tokens.policy) (requirements_value tokens.requirements) message)) (c.verify_cwt-claims.ensures.context (setting_in tokens.verifier) has ∙ c.reset.ensures.context)
+    ap (λ (s : Setting). λ (message : List ℕ). outcome_said tokens.readable (input_token g.row.H g.row.D s (vouching (option_map contents tokens.vouch.word)) (policy_value tokens.policy) (requirements_value tokens.requirements) message)) (c.verify_cwt-claims.ensures.purpose.context has ∙ ap (λ (t : Task). t.setting) c.reset.ensures.purpose)
 
 pub invariant_of-self : goal.invariant_of-self
 invariant_of-self g c =
     let tokens = c.args.self.now in
     let has = anew tokens.verifier c.reset.new.self tokens.verifies c.reset.ensures.none_taken in
-    let same = c.verify_cwt-claims.ensures.context (setting_in tokens.verifier) has ∙ c.reset.ensures.context in
+    let same = c.verify_cwt-claims.ensures.purpose.context has ∙ ap (λ (t : Task). t.setting) c.reset.ensures.purpose in
     record {
       nesting = tokens.nesting;
       some_store = tokens.some_store;
       store_limit = tokens.store_limit;
-      verifies = c.verify_cwt-claims.ensures.inspects;
-      attached = c.verify_cwt-claims.ensures.attached;
+      verifies = c.verify_cwt-claims.ensures.purpose.inspects ∙ ap (λ (t : Task). t.inspects) c.reset.ensures.purpose ∙ tokens.verifies;
+      attached = c.verify_cwt-claims.ensures.purpose.detached ∙ ap (λ (t : Task). is_detached_from t.setting.source) c.reset.ensures.purpose ∙ tokens.attached;
       cwt = ap (λ (s : Setting). s.cwt) same ∙ tokens.cwt;
       payload_limit = subst (λ (s : Setting). s.payload_limit ≤ g.row.L) (sym same) tokens.payload_limit;
     }

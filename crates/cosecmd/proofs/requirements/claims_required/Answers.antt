@@ -2,7 +2,7 @@ use Rattle.std.proofs.Common.{◌≡◌, ◌∙◌, Some, Bor, ap, codes, map, s
 use Rattle.clap.specs.Walk.{Text}
 use Rattle.cosecmd.specs.Requirements.{claims_named}
 use Rattle.cosecmd.proofs.RequiredOptions.{no_texts, texts_given}
-use Rattle.cosecmd.proofs.required.claims_required.Goals as goal
+use Rattle.cosecmd.proofs.requirements.claims_required.Goals as goal
 
 pub returns-in-Some-2 : goal.returns-in-Some-2
 returns-in-Some-2 c =

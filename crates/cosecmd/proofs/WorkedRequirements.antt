@@ -166,14 +166,14 @@ unfolding asked
 ages = refl
 
 -- What is required is looked at after the claims are admitted, and before a further byte.
-unfoldable behind : RequirementsValue → ℕ → List ℕ → Output
+unfoldable said_in_input : RequirementsValue → ℕ → List ℕ → Output
 unfolding asked
-behind r n payload = outcome_said false (token_told 8 n (program_policy r.now r.leeway None) r payload (decided (Authentic Mac0 Hmac256 0 9)))
+said_in_input r n payload = outcome_said false (token_told 8 n (program_policy r.now r.leeway None) r payload (decided (Authentic Mac0 Hmac256 0 9)))
 
-orders : (behind (requiring (Exp ∷ [])) 9 (hex "a0") ≡ unmet_line "refused policy PresentExp at 0")
-    × (behind (requiring (Exp ∷ [])) 10 (hex "a0") ≡ unmet_line "refused policy PresentExp at 0")
-    × (behind (requiring (Exp ∷ [])) 10 (hex "a10400") ≡ unmet_line "refused claims Expired at 2")
-    × (behind (requiring (Exp ∷ [])) 10 (hex "a10401") ≡ unmet_line "refused message Trailing at 9")
-    × (behind (requiring (Exp ∷ [])) 9 (hex "a10401") ≡ lines ("admitted" ∷ "exp 1" ∷ []))
-unfolding behind
+orders : (said_in_input (requiring (Exp ∷ [])) 9 (hex "a0") ≡ unmet_line "refused policy PresentExp at 0")
+    × (said_in_input (requiring (Exp ∷ [])) 10 (hex "a0") ≡ unmet_line "refused policy PresentExp at 0")
+    × (said_in_input (requiring (Exp ∷ [])) 10 (hex "a10400") ≡ unmet_line "refused claims Expired at 2")
+    × (said_in_input (requiring (Exp ∷ [])) 10 (hex "a10401") ≡ unmet_line "refused message Trailing at 9")
+    × (said_in_input (requiring (Exp ∷ [])) 9 (hex "a10401") ≡ lines ("admitted" ∷ "exp 1" ∷ []))
+unfolding said_in_input
 orders = (refl, refl, refl, refl, refl)

@@ -1,6 +1,6 @@
 use Rattle.std.specs.Str.Parse.{ExplainsUnsignedError, HasUnsignedDigitsIfOk, ParsesUnsigned}
 use Rattle.cosecmd.proofs.RequiredOptions.{number_tried}
-use Rattle.cosecmd.proofs.required.number_of.Goals as goal
+use Rattle.cosecmd.proofs.requirements.number_of.Goals as goal
 
 pub returns-in-Ok : goal.returns-in-Ok
 returns-in-Ok c =

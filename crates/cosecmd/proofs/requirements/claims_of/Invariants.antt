@@ -2,7 +2,7 @@
 use Rattle.std.proofs.Common.{◌≡◌, ◌++◌, drop, option_map}
 use Rattle.std.specs.Prelude.{map}
 use Rattle.cosecmd.specs.Requirements.{claims_named}
-use Rattle.cosecmd.proofs.required.claims_of.Given as goal
+use Rattle.cosecmd.proofs.requirements.claims_of.Given as goal
 
 abbrev pub invariant-names : goal.invariant-names
 invariant-names l =

@@ -1,4 +1,4 @@
-use Rattle.cosecmd.proofs.required.required_of.Goals as goal
+use Rattle.cosecmd.proofs.requirements.required_of.Goals as goal
 
 pub returns : goal.returns
 returns c = record {
