@@ -66,7 +66,7 @@ impl<'k, const H: usize, const D: usize> Reader<'k, H, D> {
     ghost use Rattle.cose_msg.specs.Task.{Task, rules_of};
     ghost use Rattle.cose_msg.specs.Reader.{HoldsKey, IsAtPayload, Known, Shows, StandsFor};
     ghost use Rattle.cose_msg.specs.declared.status.Status.{Status};
-    ghost use Rattle.cose_msg.specs.Phase.{payload_want_of};
+    ghost use Rattle.cose_msg.specs.Phase.{in_payload, payload_want_of, want_of};
     ghost use Rattle.cose_msg.specs.Status.{is_open, status_of_phase};
     ghost use Rattle.cose_msg.specs.Source.{IsStated, attached, came_of, detached};
 
@@ -226,6 +226,24 @@ impl<'k, const H: usize, const D: usize> Reader<'k, H, D> {
                 left,
             });
         }
+    }
+
+    /// Takes a piece that ends before the payload does. The phase isn't copied: what is left is counted in its place.
+    #[inline(always)]
+    pub(crate) fn payload_part(&mut self, piece: &[u8])
+        requires inside { in_payload self.old.phase ≡ true }
+        requires fewer { length piece.now < want_of self.old.phase }
+        ensures inside { in_payload self.new.phase ≡ true }
+        ensures reads_on { (task : Task) (B : List ℕ) (n : ℕ) (reading : List ℕ → Reading)
+            → StandsFor task B n self.old reading
+            → StandsFor task (B ++ piece.now) (n + length piece.now) self.new
+            (λ z. reading (piece.now ++ z)) }
+    {
+        match &mut self.phase {
+            Phase::Payload(payload) => payload.left -= piece.len() as u64,
+            _ => {}
+        }
+        self.hashing.update(piece);
     }
 
     /// Takes a piece of a detached payload.

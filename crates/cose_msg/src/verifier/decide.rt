@@ -41,7 +41,7 @@ impl<'k, const H: usize, const D: usize, S: Keys<'k>> Verifier<'k, H, D, S> {
     ghost use Rattle.cose_msg.specs.Kept.{HasTaken, kept_answer, kept_inspection, SamePurpose};
     ghost use Rattle.cose_msg.specs.Laws.{then_verified};
     ghost use Rattle.cose_msg.specs.Message.{Setting};
-    ghost use Rattle.cose_msg.specs.Phase.{awaits_decision, grown, is_settled, want_of};
+    ghost use Rattle.cose_msg.specs.Phase.{awaits_decision, grown, in_payload, is_settled, want_of};
     ghost use Rattle.cose_msg.specs.Reader.{Counts, StandsFor};
     ghost use Rattle.cose_msg.specs.Reading.{Reading};
     ghost use Rattle.cose_msg.specs.Run.{SaysCount, inspection};
@@ -97,6 +97,40 @@ impl<'k, const H: usize, const D: usize, S: Keys<'k>> Verifier<'k, H, D, S> {
     {
         let keys = keys_to_choose_from(&self.keys, self.inspecting);
         self.reader.advance(piece, keys, self.stated);
+        self.taken += piece.len() as u64;
+    }
+
+    /// Whether so many bytes, at least one, all are the payload's, and others of it follow.
+    #[inline(always)]
+    pub(crate) fn has_more_payload_than(&self, count: usize) -> bool
+        ensures some { result ≡ true → 0 < count }
+        ensures fewer { result ≡ true → count < want_of self.now.reader.phase }
+        ensures inside { result ≡ true → in_payload self.now.reader.phase ≡ true }
+        ensures early { result ≡ true → self.now.taken < 2 ^ 57 }
+        ensures goes_on { result ≡ true → self.now.stopped ≡ false }
+    {
+        0 < count
+            && self.reader.is_in_payload()
+            && (count as u64) < self.reader.wanted()
+            && self.taken < MESSAGE_LIMIT
+            && !self.stopped
+    }
+
+    /// Takes a piece that ends before the payload does, and counts it.
+    #[inline(always)]
+    pub(crate) fn take_payload_part(&mut self, piece: &[u8])
+        requires some { 0 < length piece.now }
+        requires fewer { length piece.now < want_of self.old.reader.phase }
+        requires inside { in_payload self.old.reader.phase ≡ true }
+        requires early { self.old.taken < 2 ^ 57 }
+        ensures inside { in_payload self.new.reader.phase ≡ true }
+        ensures counted { self.new.taken ≡ self.old.taken + length piece.now }
+        ensures marked { self.new.stopped ≡ self.old.stopped }
+        ensures purpose { SamePurpose self.old self.new }
+        ensures taken { WhateverTaken self.old (λ task taken payload_so_far.
+            HasTaken task (taken ++ piece.now) (payload_so_far ++ piece.now) self.new) }
+    {
+        self.reader.payload_part(piece);
         self.taken += piece.len() as u64;
     }
 

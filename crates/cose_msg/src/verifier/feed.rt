@@ -105,6 +105,70 @@ impl<'k, const H: usize, const D: usize, S: Keys<'k>> Verifier<'k, H, D, S> {
         self.request(rest.min(STEP))
     }
 
+    /// [`Verifier::feed`] of any piece, step by step. Not inlined, so that a piece that is all within the payload takes few steps.
+    #[inline(never)]
+    fn feed_across(&mut self, piece: &[u8]) -> Fed
+        ensures uses { WhateverTaken self.old (λ task taken _.
+            Uses (rules_of H D task) taken piece.now result.used) }
+        ensures taken { WhateverTaken self.old (λ task taken payload_so_far.
+            HasTaken task (taken ++ take result.used piece.now)
+            (payload_so_far ++ payload_in result piece.now) self.new) }
+        ensures status { WhateverTaken self.old (λ task taken _.
+            result.status
+            ≡ status_of_reading
+            (message (rules_of H D task) (taken ++ take result.used piece.now))) }
+        ensures attached { WhateverTaken self.old (λ _ _ _.
+            is_detached self.old ≡ false → result.status ≢ Status.PayloadNext) }
+        ensures payload { WhateverTaken self.old (λ task taken _.
+            (message (rules_of H D task) (taken ++ take result.used piece.now)).so_far.payload
+            ≡ (message (rules_of H D task) taken).so_far.payload ++ payload_in result piece.now) }
+        ensures shows { WhateverTaken self.old (λ task taken _.
+            ShowsReading task (taken ++ take result.used piece.now) self.new) }
+        ensures fits { result.used ≤ length piece.now }
+        ensures ordered { result.payload_from ≤ result.payload_to }
+        ensures among { result.payload_to ≤ result.used }
+        ensures none { result.payload_from ≡ result.payload_to → result.payload_to ≡ 0 }
+        ensures current { result.status ≡ status_in self.new }
+        ensures counted { bytes_taken self.new ≡ bytes_taken self.old + result.used }
+        ensures again { is_more (status_in self.old) ≡ false
+            → (result ≡ nothing_used (status_in self.old)) × (self.new ≡ self.old) }
+        ensures purpose { SamePurpose self.old self.new }
+        ensures held { held self.new ≤ 2 * H + 512 }
+        ensures opened { opened self.new ≤ D }
+    {
+        // The law of messages that the proof cites.
+        messages_are_bounded();
+        self.reader.lemma_reading_so_far();
+        let mut used = 0;
+        let mut payload = Part { from: 0, to: 0 };
+        if self.want() == 0 {
+            return Fed {
+                used,
+                payload_from: 0,
+                payload_to: 0,
+                status: self.status(),
+            };
+        }
+        'pieces: loop {
+            self.reader.lemma_reading_so_far();
+            let rest = &piece[used..];
+            let count = self.step(rest.len());
+            if count == 0 {
+                return Fed {
+                    used,
+                    payload_from: payload.from,
+                    payload_to: payload.to,
+                    status: self.status(),
+                };
+            }
+            if self.reader.is_in_payload() {
+                payload = payload.extended(used, count);
+            }
+            self.take_piece(&rest[..count]);
+            used += count;
+        }
+    }
+
     /// Takes the next bytes of the message: the fewest that settle it, or the whole piece. It says how many it used, and which of
     /// them are of the payload; these are hashed, and not kept.
     ///
@@ -144,37 +208,18 @@ impl<'k, const H: usize, const D: usize, S: Keys<'k>> Verifier<'k, H, D, S> {
         ensures held { held self.new ≤ 2 * H + 512 }
         ensures opened { opened self.new ≤ D }
     {
-        // The law of messages that the proof cites.
-        messages_are_bounded();
         self.reader.lemma_reading_so_far();
-        let mut used = 0;
-        let mut payload = Part { from: 0, to: 0 };
-        if self.want() == 0 {
+        if self.has_more_payload_than(piece.len()) {
+            self.take_payload_part(piece);
+            self.reader.lemma_reading_so_far();
             return Fed {
-                used,
+                used: piece.len(),
                 payload_from: 0,
-                payload_to: 0,
-                status: self.status(),
+                payload_to: piece.len(),
+                status: Status::More,
             };
         }
-        'pieces: loop {
-            self.reader.lemma_reading_so_far();
-            let rest = &piece[used..];
-            let count = self.step(rest.len());
-            if count == 0 {
-                return Fed {
-                    used,
-                    payload_from: payload.from,
-                    payload_to: payload.to,
-                    status: self.status(),
-                };
-            }
-            if self.reader.is_in_payload() {
-                payload = payload.extended(used, count);
-            }
-            self.take_piece(&rest[..count]);
-            used += count;
-        }
+        self.feed_across(piece)
     }
 
     /// Says that no further byte comes: a message that isn't settled is Truncated where its bytes end, and one whose detached

@@ -12,7 +12,7 @@ use Rattle.cose_msg.specs.declared.status.Status.TheVariants.{More}
 use Rattle.cose_msg.specs.declared.verdict.Verdict.{Verdict}
 use Rattle.cose_msg.specs.declared.verdict.Verdict.TheVariants.{Authentic, Refused}
 use Rattle.cose_msg.specs.Kept.{verdict_in}
-use Rattle.cose_msg.specs.Phase.{awaits_decision, ends_at, is_settled, payload_want_of, takes_bytes}
+use Rattle.cose_msg.specs.Phase.{awaits_decision, ends_at, in_payload, is_settled, payload_want_of, takes_bytes}
 use Rattle.cose_msg.specs.Shown.{SignInput, input_in}
 use Rattle.cose_msg.specs.Status.{is_payload_next, status_of_phase}
 
@@ -34,6 +34,42 @@ takes_byte (phases.Signed p) a b c d e = absurd cc
 takes_byte (phases.Decided verdict) a b c d e = absurd cc
 takes_byte (phases.Settled verdict) a b c d e = absurd cc
 takes_byte (phases.Shaped p) a b c d e = absurd cc
+
+-- A phase that isn't the payload's isn't in the payload.
+pub not_in_payload : (phase : Phase) → ((p : Payload) → phase ≡ phases.Payload p → ⊥) → in_payload phase ≡ true → ⊥
+not_in_payload phases.FirstHead none inside = cc
+not_in_payload (phases.TagHead p) none inside = cc
+not_in_payload (phases.ArrayHead p) none inside = cc
+not_in_payload (phases.ProtectedHead p) none inside = cc
+not_in_payload (phases.Protected p) none inside = cc
+not_in_payload (phases.Unprotected p) none inside = cc
+not_in_payload (phases.PayloadHead p) none inside = cc
+not_in_payload (phases.Payload p) none inside = none p refl
+not_in_payload (phases.Detached p) none inside = cc
+not_in_payload (phases.AuthHead p) none inside = cc
+not_in_payload (phases.Auth p) none inside = cc
+not_in_payload (phases.Signed p) none inside = cc
+not_in_payload (phases.Decided verdict) none inside = cc
+not_in_payload (phases.Settled verdict) none inside = cc
+not_in_payload (phases.Shaped p) none inside = cc
+
+-- In the payload further bytes are wanted.
+pub payload_is_more : (phase : Phase) → in_payload phase ≡ true → status_of_phase phase ≡ More
+payload_is_more phases.FirstHead inside = absurd cc
+payload_is_more (phases.TagHead p) inside = absurd cc
+payload_is_more (phases.ArrayHead p) inside = absurd cc
+payload_is_more (phases.ProtectedHead p) inside = absurd cc
+payload_is_more (phases.Protected p) inside = absurd cc
+payload_is_more (phases.Unprotected p) inside = absurd cc
+payload_is_more (phases.PayloadHead p) inside = absurd cc
+payload_is_more (phases.Payload p) inside = refl
+payload_is_more (phases.Detached p) inside = absurd cc
+payload_is_more (phases.AuthHead p) inside = absurd cc
+payload_is_more (phases.Auth p) inside = absurd cc
+payload_is_more (phases.Signed p) inside = absurd cc
+payload_is_more (phases.Decided verdict) inside = absurd cc
+payload_is_more (phases.Settled verdict) inside = absurd cc
+payload_is_more (phases.Shaped p) inside = absurd cc
 
 pub unsigned_is_undecided : (phase : Phase) → ((p : Signed) → phase ≡ phases.Signed p → ⊥) → awaits_decision phase ≡ false
 unsigned_is_undecided phases.FirstHead none = refl

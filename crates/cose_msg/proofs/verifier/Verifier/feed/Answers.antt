@@ -1,214 +1,137 @@
-use Rattle.std.specs.Prelude.{◌==◌}
-use Rattle.std.proofs.lemmas.Grind.{common_steps}
-use Rattle.std.proofs.Common.{rules, ◌≡◌, ◌+◌, ◌<◌, ◌≤◌, ℕ, true, false, List, length, refl, sym, ap, ◌∙◌, arith}
-use Rattle.cose_msg.specs.Phase.{in_payload, want_of}
-use Rattle.cose_msg.specs.Status.{status_of_reading}
-use Rattle.cose_msg.proofs.lemmas.Feeding.Feeds.{at_start, chosen_within, fits_in, goes_on, goes_past, in_order, is_behind, knows_payload, part_extended, stepped, shows_now, uses_all, uses_none}
-use Rattle.cose_msg.proofs.lemmas.Run.Purposes.{same_setting_of, unchanged}
-use Rattle.cose_msg.proofs.lemmas.Run.Runs.{without_more}
+use Rattle.std.proofs.Common.{◌≡◌, ◌-◌, ◌<◌, ℕ, true, false, List, ◌++◌, length, take, refl, sym, ap, subst, ◌∙◌, arith}
+use Rattle.std.proofs.lemmas.List.{length-take-le}
+use Rattle.std.proofs.Math.Seq.{take-length}
+use Rattle.cose_msg.specs.declared.verifier.Verifier.{Verifier}
+use Rattle.cose_msg.specs.Kept.{HasTaken}
 use Rattle.cose_msg.specs.Reading.{Reading}
-use Rattle.cose_msg.proofs.lemmas.Deciding.PhaseCases.{unsettled_is_more}
-use Rattle.cose_msg.proofs.lemmas.Feeding.Statuses.{status_going, wants_and_goes_on}
-use Rattle.cose_msg.proofs.verifier.Verifier.feed.Goals.{then-is_in_payload, else-is_in_payload}
+use Rattle.cose_msg.specs.Status.{is_more, status_in, status_of_reading}
+use Rattle.cose_msg.specs.declared.status.Status.TheVariants.{More}
+use Rattle.cose_msg.specs.Task.{Task}
+use Rattle.cose_msg.proofs.lemmas.Deciding.PhaseCases.{payload_is_more}
+use Rattle.cose_msg.proofs.lemmas.Feeding.Feeds.{shows_now}
+use Rattle.cose_msg.proofs.lemmas.Feeding.Statuses.{status_going}
+use Rattle.cose_msg.proofs.lemmas.Run.Runs.{without_more}
 use Rattle.cose_msg.proofs.verifier.Verifier.feed.Goals as goal
 
-pub returns-then-want-eq0-clause-uses : goal.returns-then-want-eq0-clause-uses
-returns-then-want-eq0-clause-uses g c = λ task s B h.
-    uses_none task s c.args.piece.now (λ unsettled. (
-    let open_yet = unsettled_is_more c.args.self.now.reader.phase (sym (c.lemma_reading_so_far.ensures.settled task B _ _ h.so_far h.came) ∙ ap (λ (r : Reading). r.settled) (without_more g.row.H g.row.D task s) ∙ unsettled) in
-    let wants : 0 < c.want.result = c.want.ensures.some (status_going c.args.self.now _ h.goes_on open_yet) in
-    omega (arith, wants, c.if-want-eq0.true)))
+all_of : (piece : List ℕ) → take (length piece - 0) piece ≡ piece
+all_of piece = let all : length piece - 0 ≡ length piece = omega arith in ap (λ (n : ℕ). take n piece) all ∙ take-length piece
 
-pub returns-then-want-eq0-clause-status : goal.returns-then-want-eq0-clause-status
-returns-then-want-eq0-clause-status g c = λ task s B h.
-    c.status.ensures.reads task s B h ∙ ap status_of_reading (sym (without_more g.row.H g.row.D task s))
+fewer_of : (n most : ℕ) (piece : List ℕ) → n < length piece → length piece < most → length (take n piece) < most
+fewer_of n most piece lt fewer = omega (arith, length-take-le n piece (omega (arith, lt)), lt, fewer)
 
-pub returns-then-want-eq0-clause-attached : goal.returns-then-want-eq0-clause-attached
-returns-then-want-eq0-clause-attached g c = λ task s B h is. c.status.ensures.attached task s B h is
+took_all : {H D : ℕ} {S : Type 0} {K : _} {task : Task} (s B : List ℕ) (v : Verifier H D S K) (piece : List ℕ) → HasTaken task (s ++ piece) (B ++ piece) v → HasTaken task (s ++ take (length piece) piece) (B ++ take (length piece - 0) piece) v
+took_all {H} {D} {S} {K} {task} s B v piece h =
+    let grown : HasTaken task (s ++ piece) (B ++ take (length piece - 0) piece) v = subst (λ (t : List ℕ). HasTaken task (s ++ piece) (B ++ t) v) (sym (all_of piece)) h in
+    subst (λ (t : List ℕ). HasTaken task (s ++ t) (B ++ take (length piece - 0) piece) v) (sym (take-length piece)) grown
 
-pub returns-then-want-eq0-clause-shows : goal.returns-then-want-eq0-clause-shows
-returns-then-want-eq0-clause-shows g c = λ task s B h. c.lemma_reading_so_far.ensures.shows task B _ _ h.so_far h.came
+pub returns-then-has_more_payload_than-clause-uses : goal.returns-then-has_more_payload_than-clause-uses
+returns-then-has_more_payload_than-clause-uses g c = λ task s B h. record {
+  within = omega arith;
+  none_earlier = λ n lt. c.lemma_reading_so_far.ensures.open task B _ _ (take n c.args.piece.now) h.so_far (fewer_of n _ c.args.piece.now lt (c.has_more_payload_than.ensures.fewer c.if-has_more_payload_than.true));
+  all = λ _. refl;
+}
 
-pub pieces-init : goal.pieces-init
-pieces-init g c = (
-  λ task s B h. at_start c.args.piece.now h,
-  wants_and_goes_on c.args.self.now.stopped _ _ c.want.ensures.value c.if-want-eq0.false,
-  refl,
-  omega arith,
-  omega arith,
-  omega arith,
-  omega arith,
-  λ e. e,
-  refl,
-)
+pub returns-then-has_more_payload_than-clause-taken : goal.returns-then-has_more_payload_than-clause-taken
+returns-then-has_more_payload_than-clause-taken g c = λ task s B h. took_all s B c.take_payload_part.new.self c.args.piece.now (c.take_payload_part.ensures.taken task s B h)
 
-pub pieces-preserved : goal.pieces-preserved
-pieces-preserved g c =
-    let i = c.pieces.invariant in
-    let used : ℕ = c.pieces.used in
-    let count : ℕ = c.step-count.result in
-    let fits = fits_in c.args.piece.now used count i.4 c.step-count.ensures.rest in
-    let some : 0 < count = omega (arith, c.if-count-eq0.false) in
-    let wanted : 0 < want_of c.pieces.self.reader.phase = omega (arith, some, c.step-count.ensures.wanted) in
-    let within : (more : List ℕ) → length more < count → length more < want_of c.pieces.self.reader.phase = λ more lt. omega (arith, lt, c.step-count.ensures.wanted) in
-    let goes_still = c.take_piece.ensures.marked ∙ i.1 in
-    let inspects = c.take_piece.ensures.purpose.inspects ∙ i.2 in
-    let detached = c.take_piece.ensures.purpose.detached ∙ i.8 in
-    elim c.if-is_in_payload.branch [
-      | then-is_in_payload w ↦
-          (let inside : in_payload c.pieces.self.reader.phase ≡ true = sym c.is_in_payload.ensures ∙ w.if-is_in_payload.true in
-          rw (w.payload-is, w.extended-payload.ensures.from, w.extended-payload.ensures.to) (
-            λ task s B h.
-                (let a = i.0 task s B h in
-                let behind = is_behind c.take_piece.new.self count a (λ more. c.lemma_reading_so_far-in-pieces.ensures.grows task _ _ _ more a.reads_on.so_far inside) wanted in
-                goes_on c.take_piece.new.self count a _ inside (part_extended c.args.piece.now c.pieces.payload.from c.pieces.payload.to used count i.5 (λ begun. behind begun i.6))
-                (λ more lt. c.lemma_reading_so_far-in-pieces.ensures.open task _ _ _ more a.reads_on.so_far (within more lt)) (stepped c.take_piece.new.self count a (c.take_piece.ensures.taken task _ _ a.reads_on))),
-            goes_still,
-            inspects,
-            omega (arith, c.take_piece.ensures.counted, i.3, fits.1),
-            fits.0,
-            chosen_within _ used c.pieces.payload.from (used + count) (omega arith) (omega (arith, i.5, i.6)),
-            omega arith,
-            λ e. (let before = chosen_within (c.pieces.payload.to == 0) used c.pieces.payload.from used (omega arith) (omega (arith, i.5, i.6)) in absurd (omega (arith, before, e, some))),
-            detached,
-          ))
-      | else-is_in_payload w ↦
-          (let outside : in_payload c.pieces.self.reader.phase ≡ false = sym c.is_in_payload.ensures ∙ w.if-is_in_payload.false in
-          rw w.payload-is (
-            λ task s B h.
-                (let a = i.0 task s B h in
-                goes_past c.take_piece.new.self count a outside (λ more there. c.lemma_reading_so_far-in-pieces.ensures.fixed task _ _ _ more a.reads_on.so_far a.reads_on.came outside there)
-                (λ more lt. c.lemma_reading_so_far-in-pieces.ensures.open task _ _ _ more a.reads_on.so_far (within more lt)) (stepped c.take_piece.new.self count a (c.take_piece.ensures.taken task _ _ a.reads_on))
-                (in_order c.pieces.payload.from c.pieces.payload.to i.5 i.7) i.6 fits.0),
-            goes_still,
-            inspects,
-            omega (arith, c.take_piece.ensures.counted, i.3, fits.1),
-            fits.0,
-            i.5,
-            omega (arith, i.6),
-            i.7,
-            detached,
-          ))
-    ]
+pub returns-then-has_more_payload_than-clause-status : goal.returns-then-has_more_payload_than-clause-status
+returns-then-has_more_payload_than-clause-status g c = λ task s B h.
+    let now = took_all s B c.take_payload_part.new.self c.args.piece.now (c.take_payload_part.ensures.taken task s B h) in
+    sym (payload_is_more c.take_payload_part.new.self.reader.phase c.take_payload_part.ensures.inside) ∙ c.lemma_reading_so_far-then-has_more_payload_than.ensures.status task _ _ _ now.so_far now.came ∙ ap status_of_reading (without_more g.row.H g.row.D task _)
 
-pub returns-then-count-eq0-clause-uses : goal.returns-then-count-eq0-clause-uses
-returns-then-count-eq0-clause-uses g c = λ task s B h.
-    let a = c.pieces.invariant.0 task s B h in
-    let limit : g.row.H ≤ 65535 = c.pieces.self.reader.limit in
-    uses_all a (record { compared = c.messages_are_bounded.ensures.verified.1; inspected = c.messages_are_bounded.ensures.inspected }) limit c.step-count.result (c.lemma_reading_so_far-in-pieces.ensures.settled task _ _ _ a.reads_on.so_far a.reads_on.came) c.step-count.ensures.some c.if-count-eq0.true c.pieces.invariant.4
+pub returns-then-has_more_payload_than-clause-attached : goal.returns-then-has_more_payload_than-clause-attached
+returns-then-has_more_payload_than-clause-attached g c = λ task s B h is e. cc
 
-pub returns-then-count-eq0-clause-taken : goal.returns-then-count-eq0-clause-taken
-returns-then-count-eq0-clause-taken g c = λ task s B h. let a = c.pieces.invariant.0 task s B h in a.reads_on
+pub returns-then-has_more_payload_than-clause-payload : goal.returns-then-has_more_payload_than-clause-payload
+returns-then-has_more_payload_than-clause-payload g c = λ task s B h.
+    let now = took_all s B c.take_payload_part.new.self c.args.piece.now (c.take_payload_part.ensures.taken task s B h) in
+    let payload : Reading → List ℕ = λ reading. reading.so_far.payload in
+    let after = sym (ap payload (without_more g.row.H g.row.D task _)) ∙ c.lemma_reading_so_far-then-has_more_payload_than.ensures.payload task _ _ _ now.so_far now.came in
+    let before = sym (c.lemma_reading_so_far.ensures.payload task B _ _ h.so_far h.came) ∙ ap payload (without_more g.row.H g.row.D task s) in
+    after ∙ ap (λ (t : List ℕ). t ++ take (length c.args.piece.now - 0) c.args.piece.now) before
 
-pub returns-then-count-eq0-clause-status : goal.returns-then-count-eq0-clause-status
-returns-then-count-eq0-clause-status g c = λ task s B h. let a = c.pieces.invariant.0 task s B h in c.status-then-count-eq0.ensures.reads task _ _ a.reads_on
+pub returns-then-has_more_payload_than-clause-shows : goal.returns-then-has_more_payload_than-clause-shows
+returns-then-has_more_payload_than-clause-shows g c = λ task s B h.
+    let now = took_all s B c.take_payload_part.new.self c.args.piece.now (c.take_payload_part.ensures.taken task s B h) in
+    shows_now task _ c.take_payload_part.new.self (c.lemma_reading_so_far-then-has_more_payload_than.ensures.shows task _ _ _ now.so_far now.came)
 
-pub returns-then-count-eq0-clause-attached : goal.returns-then-count-eq0-clause-attached
-returns-then-count-eq0-clause-attached g c = λ task s B h is.
-    let a = c.pieces.invariant.0 task s B h in c.status-then-count-eq0.ensures.attached task _ _ a.reads_on (c.pieces.invariant.8 ∙ is)
+pub returns-then-has_more_payload_than-clause-fits : goal.returns-then-has_more_payload_than-clause-fits
+returns-then-has_more_payload_than-clause-fits g c = omega arith
 
-pub returns-then-count-eq0-clause-payload : goal.returns-then-count-eq0-clause-payload
-returns-then-count-eq0-clause-payload g c = λ task s B h.
-    let a = c.pieces.invariant.0 task s B h in
-    knows_payload a (c.lemma_reading_so_far-in-pieces.ensures.payload task _ _ _ a.reads_on.so_far a.reads_on.came) (c.lemma_reading_so_far.ensures.payload task B _ _ h.so_far h.came)
+pub returns-then-has_more_payload_than-clause-ordered : goal.returns-then-has_more_payload_than-clause-ordered
+returns-then-has_more_payload_than-clause-ordered g c = omega arith
 
-pub returns-then-count-eq0-clause-shows : goal.returns-then-count-eq0-clause-shows
-returns-then-count-eq0-clause-shows g c = λ task s B h.
-    let a = c.pieces.invariant.0 task s B h in
-    shows_now task _ c.pieces.self (c.lemma_reading_so_far-in-pieces.ensures.shows task _ _ _ a.reads_on.so_far a.reads_on.came)
+pub returns-then-has_more_payload_than-clause-among : goal.returns-then-has_more_payload_than-clause-among
+returns-then-has_more_payload_than-clause-among g c = omega arith
 
-pub returns-then-count-eq0-clause-purpose : goal.returns-then-count-eq0-clause-purpose
-returns-then-count-eq0-clause-purpose g c =
-    record { inspects = c.pieces.invariant.2; detached = c.pieces.invariant.8; context = λ h. same_setting_of h (c.pieces.invariant.0 _ _ _ h).reads_on }
+pub returns-then-has_more_payload_than-clause-none : goal.returns-then-has_more_payload_than-clause-none
+returns-then-has_more_payload_than-clause-none g c = λ e. sym e
 
-pub returns-then-count-eq0-clause-again : goal.returns-then-count-eq0-clause-again
-returns-then-count-eq0-clause-again g c = λ settled. absurd (c.if-want-eq0.false (c.want.ensures.none settled))
+pub returns-then-has_more_payload_than-clause-current : goal.returns-then-has_more_payload_than-clause-current
+returns-then-has_more_payload_than-clause-current g c = sym (status_going c.take_payload_part.new.self More (c.take_payload_part.ensures.marked ∙ c.has_more_payload_than.ensures.goes_on c.if-has_more_payload_than.true) (payload_is_more c.take_payload_part.new.self.reader.phase c.take_payload_part.ensures.inside))
 
-pub take_piece-requires : goal.take_piece-requires
-take_piece-requires g c κs =
-    let fits = fits_in c.args.piece.now c.pieces.used c.step-count.result c.pieces.invariant.4 c.step-count.ensures.rest in
-    let some : 0 < c.step-count.result = omega (arith, c.if-count-eq0.false) in (
-      search rules,
-      (
-        (refl, tt),
-        (
-          omega (arith, fits.1, some),
-          (omega (arith, fits.1, c.step-count.ensures.wanted), (c.step-count.ensures.early some, omega (arith, fits.1, c.step-count.ensures.short))),
-        ),
-      ),
-    )
+pub returns-then-has_more_payload_than-clause-counted : goal.returns-then-has_more_payload_than-clause-counted
+returns-then-has_more_payload_than-clause-counted g c = c.take_payload_part.ensures.counted
 
-pub returns-then-want-eq0-clause-taken : goal.returns-then-want-eq0-clause-taken
-returns-then-want-eq0-clause-taken g c = grind (arith, common_steps)
+pub returns-then-has_more_payload_than-clause-again : goal.returns-then-has_more_payload_than-clause-again
+returns-then-has_more_payload_than-clause-again g c = λ none.
+    let more : status_in c.args.self.now ≡ More = status_going c.args.self.now More (c.has_more_payload_than.ensures.goes_on c.if-has_more_payload_than.true) (payload_is_more c.args.self.now.reader.phase (c.has_more_payload_than.ensures.inside c.if-has_more_payload_than.true)) in
+    let clash : true ≡ false = sym (ap is_more more) ∙ none in
+    absurd cc
 
-pub returns-then-want-eq0-clause-payload : goal.returns-then-want-eq0-clause-payload
-returns-then-want-eq0-clause-payload g c = grind (arith, common_steps)
+pub returns-then-has_more_payload_than-clause-purpose : goal.returns-then-has_more_payload_than-clause-purpose
+returns-then-has_more_payload_than-clause-purpose g c = c.take_payload_part.ensures.purpose
 
-pub returns-then-want-eq0-clause-fits : goal.returns-then-want-eq0-clause-fits
-returns-then-want-eq0-clause-fits g c = grind (arith, common_steps)
+pub returns-then-has_more_payload_than-clause-held : goal.returns-then-has_more_payload_than-clause-held
+returns-then-has_more_payload_than-clause-held g c = c.lemma_reading_so_far-then-has_more_payload_than.ensures.held
 
-pub returns-then-want-eq0-clause-ordered : goal.returns-then-want-eq0-clause-ordered
-returns-then-want-eq0-clause-ordered g c = grind (arith, common_steps)
+pub returns-then-has_more_payload_than-clause-opened : goal.returns-then-has_more_payload_than-clause-opened
+returns-then-has_more_payload_than-clause-opened g c = c.lemma_reading_so_far-then-has_more_payload_than.ensures.opened
 
-pub returns-then-want-eq0-clause-among : goal.returns-then-want-eq0-clause-among
-returns-then-want-eq0-clause-among g c = grind (arith, common_steps)
+pub returns-clause-uses : goal.returns-clause-uses
+returns-clause-uses g c = c.feed_across.ensures.uses
 
-pub returns-then-want-eq0-clause-none : goal.returns-then-want-eq0-clause-none
-returns-then-want-eq0-clause-none g c = grind (arith, common_steps)
+pub returns-clause-taken : goal.returns-clause-taken
+returns-clause-taken g c = c.feed_across.ensures.taken
 
-pub returns-then-want-eq0-clause-current : goal.returns-then-want-eq0-clause-current
-returns-then-want-eq0-clause-current g c = grind (arith, common_steps)
+pub returns-clause-status : goal.returns-clause-status
+returns-clause-status g c = c.feed_across.ensures.status
 
-pub returns-then-want-eq0-clause-counted : goal.returns-then-want-eq0-clause-counted
-returns-then-want-eq0-clause-counted g c = grind (arith, common_steps)
+pub returns-clause-attached : goal.returns-clause-attached
+returns-clause-attached g c = c.feed_across.ensures.attached
 
-pub returns-then-want-eq0-clause-again : goal.returns-then-want-eq0-clause-again
-returns-then-want-eq0-clause-again g c = grind (arith, common_steps)
+pub returns-clause-payload : goal.returns-clause-payload
+returns-clause-payload g c = c.feed_across.ensures.payload
 
-pub returns-then-want-eq0-clause-purpose : goal.returns-then-want-eq0-clause-purpose
-returns-then-want-eq0-clause-purpose g c = unchanged c.args.self.now
+pub returns-clause-shows : goal.returns-clause-shows
+returns-clause-shows g c = c.feed_across.ensures.shows
 
-pub returns-then-want-eq0-clause-held : goal.returns-then-want-eq0-clause-held
-returns-then-want-eq0-clause-held g c = grind (arith, common_steps)
+pub returns-clause-fits : goal.returns-clause-fits
+returns-clause-fits g c = c.feed_across.ensures.fits
 
-pub returns-then-want-eq0-clause-opened : goal.returns-then-want-eq0-clause-opened
-returns-then-want-eq0-clause-opened g c = grind (arith, common_steps)
+pub returns-clause-ordered : goal.returns-clause-ordered
+returns-clause-ordered g c = c.feed_across.ensures.ordered
 
-pub slice_bounds-rest-count : goal.slice_bounds-rest-count
-slice_bounds-rest-count g c = grind (arith, common_steps)
+pub returns-clause-among : goal.returns-clause-among
+returns-clause-among g c = c.feed_across.ensures.among
 
-pub slice_bounds-rest-start : goal.slice_bounds-rest-start
-slice_bounds-rest-start g c = grind (arith, common_steps)
+pub returns-clause-none : goal.returns-clause-none
+returns-clause-none g c = c.feed_across.ensures.none
 
-pub slice_bounds-rest-end : goal.slice_bounds-rest-end
-slice_bounds-rest-end g c = grind (arith, common_steps)
+pub returns-clause-current : goal.returns-clause-current
+returns-clause-current g c = c.feed_across.ensures.current
 
-pub returns-then-count-eq0-clause-fits : goal.returns-then-count-eq0-clause-fits
-returns-then-count-eq0-clause-fits g c = grind (arith, common_steps)
+pub returns-clause-counted : goal.returns-clause-counted
+returns-clause-counted g c = c.feed_across.ensures.counted
 
-pub returns-then-count-eq0-clause-ordered : goal.returns-then-count-eq0-clause-ordered
-returns-then-count-eq0-clause-ordered g c = grind (arith, common_steps)
+pub returns-clause-again : goal.returns-clause-again
+returns-clause-again g c = c.feed_across.ensures.again
 
-pub returns-then-count-eq0-clause-among : goal.returns-then-count-eq0-clause-among
-returns-then-count-eq0-clause-among g c = grind (arith, common_steps)
+pub returns-clause-purpose : goal.returns-clause-purpose
+returns-clause-purpose g c = c.feed_across.ensures.purpose
 
-pub returns-then-count-eq0-clause-current : goal.returns-then-count-eq0-clause-current
-returns-then-count-eq0-clause-current g c = grind (arith, common_steps)
+pub returns-clause-held : goal.returns-clause-held
+returns-clause-held g c = c.feed_across.ensures.held
 
-pub returns-then-count-eq0-clause-counted : goal.returns-then-count-eq0-clause-counted
-returns-then-count-eq0-clause-counted g c = grind (arith, common_steps)
-
-pub returns-then-count-eq0-clause-held : goal.returns-then-count-eq0-clause-held
-returns-then-count-eq0-clause-held g c = grind (arith, common_steps)
-
-pub returns-then-count-eq0-clause-opened : goal.returns-then-count-eq0-clause-opened
-returns-then-count-eq0-clause-opened g c = grind (arith, common_steps)
-
-pub slice_bounds-take_piece-end : goal.slice_bounds-take_piece-end
-slice_bounds-take_piece-end g c = grind (arith, common_steps)
-
-pub overflow_add-used : goal.overflow_add-used
-overflow_add-used g c = grind (arith, common_steps)
-
-pub pieces-smaller : goal.pieces-smaller
-pieces-smaller g c = grind (arith, common_steps)
+pub returns-clause-opened : goal.returns-clause-opened
+returns-clause-opened g c = c.feed_across.ensures.opened

@@ -3,7 +3,7 @@ use Rattle.cose_msg.specs.Kept.{HasTaken}
 use Rattle.cose_msg.specs.Task.{Task}
 use Rattle.cose_msg.specs.Verifier.{is_detached}
 use Rattle.cose_msg.proofs.lemmas.Feeding.Feeds.{Along}
-use Rattle.cose_msg.proofs.verifier.Verifier.feed.Given as goal
+use Rattle.cose_msg.proofs.verifier.Verifier.feed_across.Given as goal
 
 abbrev pub invariant-pieces : goal.invariant-pieces
 invariant-pieces g l =
