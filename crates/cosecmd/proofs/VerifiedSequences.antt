@@ -7,6 +7,7 @@ use Rattle.cose_cwt.specs.Admission.{PolicyValue}
 use Rattle.cose_cwt.specs.Requirements.{RequirementsValue}
 use Rattle.cose_cwt.specs.Token.{read_as}
 use Rattle.cose_map.specs.Key.Value.{KeyValue}
+use Rattle.cose_map.specs.Map.Read.{Read}
 use Rattle.cose_msg.specs.Message.{Setting}
 use Rattle.cose_msg.specs.Sink.{AppendsFront}
 use Rattle.cosecmd.specs.Admitted.{input_token}
@@ -25,6 +26,10 @@ verified_in setting under bytes =
 pub verified_as : (under : Under) (keys : List KeyValue) (setting : Setting) (bytes : List ℕ) → under.keys ≡ Ok keys → setting ≡ setting_under under keys → verified_in setting under bytes ≡ verified_sequence under bytes
 verified_as under keys setting bytes set same = rw (same, set) refl
 
+-- The keys that were read, prepared.
+pub prepared_as : (read : Read (List KeyValue)) (keys prepared : List KeyValue) → read ≡ Ok keys → prepared ≡ keys → read ≡ Ok prepared
+prepared_as read keys prepared is same = rw same is
+
 abbrev pub admitted_in : Setting → Under → PolicyValue → RequirementsValue → Bool → List ℕ → Output
 admitted_in setting under policy requirements readable bytes =
     sequence_said (read_as under.room.header under.room.nesting setting (vouching under.vouch))
@@ -37,10 +42,6 @@ admitted_as under policy requirements readable keys setting bytes set same = rw 
 -- What was printed is what is printed for equal outputs.
 pub prints_as : (said wanted : List ℕ → Output) (bytes : List ℕ) (old new : Option (List ℕ)) (status : Status) → ((input : List ℕ) → said input ≡ wanted input) → Prints (said bytes) old new status → Prints (wanted bytes) old new status
 prints_as said wanted bytes old new status same prints = subst (λ (o : Output). Prints o old new status) (same bytes) prints
-
-pub fails_after_as : (said wanted : List ℕ → Output) (bytes : List ℕ) (old new : Option (List ℕ)) → ((input : List ℕ) → said input ≡ wanted input) → FailsAfter said bytes old new → FailsInSequence wanted bytes old new
-fails_after_as said wanted bytes old new same (fault, first, rest, split, front) =
-    inr (fault, first, rest, split, subst (λ (o : Output). AppendsFront old new (o.text ++ (fault_text fault ++ codes "\n"))) (same first) front)
 
 -- A reader through a buffer that is empty yet.
 pub through_buffer : {T A : Type 0} (remaining : T → Option (List ℕ)) (reader : BufReader T A) (inner : T) (bytes : List ℕ) → reader_inner reader ≡ inner → reader_buffer reader ≡ [] → reader_capacity reader ≡ 4096 →

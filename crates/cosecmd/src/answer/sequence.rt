@@ -4,17 +4,21 @@ ghost use Rattle.std.specs.Prelude.{◌≡◌, ℕ, Bool, List, Some, IfErr, IfO
 ghost use Rattle.cose_msg.specs.Answer.{decided};
 ghost use Rattle.cosecmd.specs.Part.{HasBytes, IsNextOf, MovesOn, Steps, part_text};
 ghost use Rattle.cosecmd.specs.Printed.{Output, Prints};
-ghost use Rattle.cosecmd.specs.Sequence.{FailsAfter, Reads, is_whole, joined_status, sequence_said};
+ghost use Rattle.cosecmd.specs.Sequence.{FailsAfter, FailsInSequence, Reads, is_whole, joined_status, sequence_said};
 
 pub mod messages;
 pub mod tokens;
 
+use crate::answer::verify::CHUNK;
 use crate::fault::Fault;
 use crate::print::{print, print_fault};
 use crate::reply::{Reply, Status};
-use cose_msg::{Intake, Reason, Verdict};
+use cose_msg::{Intake, ReadIntake, Reason, Verdict};
 use std::alloc::Global;
-use std::io::Write;
+use std::io::{BufReader, Read, Write};
+
+/// The most bytes of a message that are taken at once. They come from a buffer, so that no read is for so few.
+pub const PIECE: usize = 512;
 
 /// One message of a sequence.
 #[derive(Drop)]
@@ -191,4 +195,26 @@ pub fn print_all<P: Parts, I: Intake, W: Write>(
             }
         }
     }
+}
+
+/// Writes the lines of all messages that a reader gives, and says how the run ends. One read serves many messages.
+pub fn print_read<P: Parts, R: Read, W: Write>(
+    alloc: Global,
+    parts: &mut P,
+    input: &mut R,
+    output: &mut W,
+) -> Status
+    ensures prints { (bytes : List ℕ) → R.remaining input.old ≡ Some bytes →
+        Prints (sequence_said (P.reads parts.old) (P.alone parts.old) bytes)
+        (W.contents output.old) (W.contents output.new) result }
+    ensures fails { (bytes : List ℕ) → R.remaining input.old ≡ Some bytes → result ≡ Status.Fault →
+        FailsInSequence (sequence_said (P.reads parts.old) (P.alone parts.old)) bytes
+        (W.contents output.old) (W.contents output.new) }
+{
+    let reader = match BufReader::with_capacity(alloc, CHUNK, &mut *input) {
+        Ok(reader) => reader,
+        Err(_) => return print_fault(alloc, Fault::Memory, output),
+    };
+    let mut intake = ReadIntake::new(reader);
+    print_all(alloc, parts, &mut intake, output)
 }

@@ -11,8 +11,8 @@ ghost use Rattle.cosecmd.specs.Sequence.{FailsInSequence, verified_sequence};
 ghost use Rattle.cosecmd.specs.Under.{job_under};
 ghost use Rattle.cosecmd.specs.Vouch.{vouching};
 
-use crate::answer::sequence::{Missing, Part, Parts, is_read_whole, missing_by, print_all};
-use crate::answer::verify::{CHUNK, program_context, reply_of};
+use crate::answer::sequence::{Missing, PIECE, Part, Parts, is_read_whole, missing_by, print_read};
+use crate::answer::verify::{program_context, reply_of};
 use crate::fault::Fault;
 use crate::job::Checks;
 use crate::limits::{
@@ -22,9 +22,9 @@ use crate::print::print_fault;
 use crate::reply::Status;
 use crate::vouch::Vouch;
 use cose_msg::laws::settled_stays;
-use cose_msg::{Intake, KeyTable, Keys, Nothing, ReadIntake, Verifier, verify};
+use cose_msg::{Intake, KeyTable, Keys, Nothing, PreparedTable, Verifier, verify};
 use std::alloc::Global;
-use std::io::{BufReader, Read, Write};
+use std::io::{Read, Write};
 
 /// What verifies the messages of a sequence.
 #[derive(Drop)]
@@ -46,7 +46,7 @@ impl<'j, const H: usize, const D: usize, S: Keys<'j>> Parts for Messages<'j, H, 
         // The law that the proof cites: what isn't settled is Truncated.
         settled_stays();
         self.verifier.reset();
-        let verdict = verify::<CHUNK, H, D, _, _, _, _>(
+        let verdict = verify::<PIECE, H, D, _, _, _, _>(
             &mut self.verifier,
             intake,
             &mut Nothing,
@@ -99,12 +99,6 @@ fn print_within<const H: usize, const D: usize, const N: usize, R: Read, W: Writ
         Ok(keys) => keys,
         Err(refusal) => return print_fault(alloc, Fault::Keys(refusal), output),
     };
-    // One read serves many messages.
-    let reader = match BufReader::with_capacity(alloc, CHUNK, &mut *input) {
-        Ok(reader) => reader,
-        Err(_) => return print_fault(alloc, Fault::Memory, output),
-    };
-    let mut intake = ReadIntake::new(reader);
     let mut messages = Messages {
         vouch: Vouch { word: checks.vouch },
         verifier: Verifier::<H, D, KeyTable<'_, N>>::new(program_context(
@@ -113,7 +107,45 @@ fn print_within<const H: usize, const D: usize, const N: usize, R: Read, W: Writ
             checks.wanted,
         )),
     };
-    print_all(alloc, &mut messages, &mut intake, output)
+    print_read(alloc, &mut messages, input, output)
+}
+
+/// The same with keys that are prepared once for many messages. Each of the `N` places takes 480 bytes more of the stack.
+#[inline(never)]
+fn print_prepared<const H: usize, const D: usize, const N: usize, R: Read, W: Write>(
+    alloc: Global,
+    checks: &Checks,
+    input: &mut R,
+    output: &mut W,
+) -> Status
+    requires some_room { 16 ≤ H }
+    requires limit { H ≤ 65535 }
+    requires nesting { D ≤ 32 }
+    requires some_keys { 1 ≤ N }
+    requires keys_limit { N ≤ 256 }
+    requires sizes { AreSizesUnder checks.now.limits H D N }
+    requires external { length checks.now.aad.now ≤ 65535 }
+    ensures prints { (bytes : List ℕ) → R.remaining input.old ≡ Some bytes →
+        Prints (verified_sequence (job_under checks.now) bytes)
+        (W.contents output.old) (W.contents output.new) result }
+    ensures fails { (bytes : List ℕ) → R.remaining input.old ≡ Some bytes → result ≡ Status.Fault →
+        FailsInSequence (verified_sequence (job_under checks.now)) bytes
+        (W.contents output.old) (W.contents output.new) }
+{
+    let keys = match KeyTable::<N>::read_restricted(checks.keys, &checks.restrictions) {
+        Ok(keys) => keys,
+        Err(refusal) => return print_fault(alloc, Fault::Keys(refusal), output),
+    };
+    let prepared = PreparedTable::new(keys);
+    let mut messages = Messages {
+        vouch: Vouch { word: checks.vouch },
+        verifier: Verifier::<H, D, &PreparedTable<'_, N>>::new(program_context(
+            &prepared,
+            checks.aad,
+            checks.wanted,
+        )),
+    };
+    print_read(alloc, &mut messages, input, output)
 }
 
 /// Verifies each message of a sequence, and writes its lines as soon as its verdict is known.
@@ -132,7 +164,7 @@ pub fn print_verified<R: Read, W: Write>(
         (W.contents output.old) (W.contents output.new) }
 {
     match checks.limits {
-        Limits::Small => print_within::<SMALL_HEADER, SMALL_NESTING, SMALL_KEYS, _, _>(
+        Limits::Small => print_prepared::<SMALL_HEADER, SMALL_NESTING, SMALL_KEYS, _, _>(
             alloc, checks, input, output,
         ),
         Limits::Large => print_within::<LARGE_HEADER, LARGE_NESTING, LARGE_KEYS, _, _>(

@@ -14,8 +14,7 @@ ghost use Rattle.cosecmd.specs.Sequence.{FailsInSequence, admitted_each, is_read
 ghost use Rattle.cosecmd.specs.Vouch.{vouching};
 
 use crate::answer::cwt::{policy_of, token_context, token_reply};
-use crate::answer::sequence::{Missing, Part, Parts, missing_by, print_all};
-use crate::answer::verify::CHUNK;
+use crate::answer::sequence::{Missing, PIECE, Part, Parts, missing_by, print_read};
 use crate::fault::Fault;
 use crate::job::TokenJob;
 use crate::limits::{
@@ -27,9 +26,9 @@ use crate::reply::Status;
 use crate::vouch::Vouch;
 use cose_cwt::{Claims, CwtStop, Policy, Requirements, TokenStop, verify_cwt};
 use cose_msg::laws::settled_stays;
-use cose_msg::{Intake, KeyTable, Keys, ReadIntake, Reason, Store, Verifier};
+use cose_msg::{Intake, KeyTable, Keys, PreparedTable, Reason, Store, Verifier};
 use std::alloc::Global;
-use std::io::{BufReader, Read, Write};
+use std::io::{Read, Write};
 
 /// What admits the tokens of a sequence, whose claims have at most `L` bytes.
 #[derive(Drop)]
@@ -39,6 +38,8 @@ pub struct Tokens<'j, const H: usize, const D: usize, const L: usize, S: Keys<'j
     requirements: Requirements<'j>,
     readable: bool,
     verifier: Verifier<'j, H, D, S>,
+    /// The claims of one token after the other.
+    store: Store<L>,
     ghost nesting: { D ≤ 32 },
     ghost some_store: { 16 ≤ L },
     ghost store_limit: { L ≤ 65535 },
@@ -90,11 +91,10 @@ impl<'j, const H: usize, const D: usize, const L: usize, S: Keys<'j>> Parts
         // The law that the proof cites: what isn't settled is Truncated.
         settled_stays();
         self.verifier.reset();
-        let mut store = Store::<L>::new();
-        let claims = verify_cwt::<CHUNK, H, D, L, _, _, _>(
+        let claims = verify_cwt::<PIECE, H, D, L, _, _, _>(
             &mut self.verifier,
             intake,
-            &mut store,
+            &mut self.store,
             &self.vouch,
             &self.policy,
         );
@@ -148,12 +148,6 @@ fn print_within<
         Ok(keys) => keys,
         Err(refusal) => return print_fault(alloc, Fault::Keys(refusal), output),
     };
-    // One read serves many tokens.
-    let reader = match BufReader::with_capacity(alloc, CHUNK, &mut *input) {
-        Ok(reader) => reader,
-        Err(_) => return print_fault(alloc, Fault::Memory, output),
-    };
-    let mut intake = ReadIntake::new(reader);
     let vouch = Vouch {
         word: job.checks.vouch,
     };
@@ -167,8 +161,60 @@ fn print_within<
         requirements,
         readable: job.readable,
         verifier,
+        store: Store::new(),
     };
-    print_all(alloc, &mut tokens, &mut intake, output)
+    print_read(alloc, &mut tokens, input, output)
+}
+
+/// The same with keys that are prepared once for many tokens. Each of the `N` places takes 480 bytes more of the stack.
+#[inline(never)]
+fn print_prepared<
+    'j,
+    const H: usize,
+    const D: usize,
+    const N: usize,
+    const L: usize,
+    R: Read,
+    W: Write,
+>(alloc: Global, job: &'j TokenJob<'j>, input: &mut R, output: &mut W) -> Status
+    requires some_room { 16 ≤ H }
+    requires limit { H ≤ 65535 }
+    requires nesting { D ≤ 32 }
+    requires some_keys { 1 ≤ N }
+    requires keys_limit { N ≤ 256 }
+    requires some_store { 16 ≤ L }
+    requires store_limit { L ≤ 65535 }
+    requires sizes { AreSizesUnder job.now.checks.limits H D N }
+    requires claims { (room_of job.now.checks.limits).claims ≡ L }
+    requires external { length job.now.checks.aad.now ≤ 65535 }
+    ensures prints { (bytes : List ℕ) → R.remaining input.old ≡ Some bytes →
+        Prints (admitted_each job.entry.now bytes)
+        (W.contents output.old) (W.contents output.new) result }
+    ensures fails { (bytes : List ℕ) → R.remaining input.old ≡ Some bytes → result ≡ Status.Fault →
+        FailsInSequence (admitted_each job.entry.now) bytes
+        (W.contents output.old) (W.contents output.new) }
+{
+    let keys = match KeyTable::<N>::read_restricted(job.checks.keys, &job.checks.restrictions) {
+        Ok(keys) => keys,
+        Err(refusal) => return print_fault(alloc, Fault::Keys(refusal), output),
+    };
+    let vouch = Vouch {
+        word: job.checks.vouch,
+    };
+    let policy = policy_of(job.now, job.leeway, &job.aud);
+    let requirements = job.requirements;
+    let prepared = PreparedTable::new(keys);
+    let context = token_context::<L, _>(&prepared, job.checks.aad, job.checks.wanted);
+    let verifier = Verifier::<H, D, &PreparedTable<'_, N>>::new(context);
+    let mut tokens = Tokens::<'_, H, D, L, &PreparedTable<'_, N>> {
+        vouch,
+        policy,
+        requirements,
+        readable: job.readable,
+        verifier,
+        store: Store::new(),
+    };
+    print_read(alloc, &mut tokens, input, output)
 }
 
 /// Admits each token of a sequence, and writes its lines as soon as they are known.
@@ -188,7 +234,7 @@ pub fn print_admitted<'j, R: Read, W: Write>(
 {
     match job.checks.limits {
         Limits::Small => {
-            print_within::<SMALL_HEADER, SMALL_NESTING, SMALL_KEYS, SMALL_CLAIMS, _, _>(
+            print_prepared::<SMALL_HEADER, SMALL_NESTING, SMALL_KEYS, SMALL_CLAIMS, _, _>(
                 alloc, job, input, output,
             )
         }

@@ -10,15 +10,12 @@ use Rattle.cosecmd.specs.Admitted.{program_policy}
 use Rattle.cosecmd.specs.declared.fault.Fault.TheVariants as faults
 use Rattle.cosecmd.specs.Sequence.{admitted_each}
 use Rattle.cosecmd.specs.Under.{job_under}
-use Rattle.cosecmd.proofs.AskedSequences.{line_alone}
-use Rattle.cosecmd.proofs.VerifiedSequences.{admitted_as, admitted_in, through_buffer, fails_after_as, prints_as}
+use Rattle.cosecmd.proofs.AskedSequences.{fails_as, line_alone}
+use Rattle.cosecmd.proofs.VerifiedSequences.{admitted_as, admitted_in, prints_as}
 use Rattle.cosecmd.proofs.answer.sequence.tokens.print_within.Goals as goal
 
 pub returns-in-Err-clause-fails : goal.returns-in-Err-clause-fails
 returns-in-Err-clause-fails g c = λ bytes e two. line_alone (admitted_each c.args.job.now) bytes _ _ (faults.Keys c.in-Err.refusal) c.print_fault.ensures.line
-
-pub returns-in-Err-with_capacity-clause-fails : goal.returns-in-Err-with_capacity-clause-fails
-returns-in-Err-with_capacity-clause-fails g c = λ bytes e two. line_alone (admitted_each c.args.job.now) bytes _ _ faults.Memory c.print_fault-in-Err-with_capacity.ensures.line
 
 pub returns-clause-prints : goal.returns-clause-prints
 returns-clause-prints g c = λ bytes e.
@@ -27,10 +24,9 @@ returns-clause-prints g c = λ bytes e.
     let under = job_under job.checks in
     let policy = program_policy job.now job.leeway (option_map text_value job.aud) in
     let setting = setting_in c.new-verifier.result in
-    let known = through_buffer (λ r. g.R.Read.remaining r.now) c.in-Ok-with_capacity.reader _ bytes c.in-Ok-with_capacity.ensures.inner c.in-Ok-with_capacity.ensures.empty c.in-Ok-with_capacity.ensures.capacity e in
     prints_as (admitted_in setting under (policy_value c.policy_of-policy.result) (requirements_value job.requirements) job.readable) (admitted_each job) bytes _ _ _
     (λ input. ap (λ (p : PolicyValue). admitted_in setting under p (requirements_value job.requirements) job.readable input) (c.policy_of-policy.ensures ∙ ap (λ (at : ℤ). program_policy at job.leeway (option_map text_value job.aud)) (to_z-of_z w64 job.now in_range)) ∙ admitted_as under policy (requirements_value job.requirements) job.readable (usable c.in-Ok.keys) setting input (rw c.requires.sizes.keys_are (sym c.in-Ok.ensures.exact)) (rw c.requires.claims (c.new-verifier.ensures.context ∙ c.token_context-context.ensures.setting)))
-    (rw (c.requires.sizes.header_is, c.requires.sizes.nesting_is) (c.print_all.ensures.prints bytes (c.new-intake.ensures.known ∙ known)))
+    (rw (c.requires.sizes.header_is, c.requires.sizes.nesting_is) (c.print_read.ensures.prints bytes e))
 
 pub returns-clause-fails : goal.returns-clause-fails
 returns-clause-fails g c = λ bytes e two.
@@ -39,7 +35,6 @@ returns-clause-fails g c = λ bytes e two.
     let under = job_under job.checks in
     let policy = program_policy job.now job.leeway (option_map text_value job.aud) in
     let setting = setting_in c.new-verifier.result in
-    let known = through_buffer (λ r. g.R.Read.remaining r.now) c.in-Ok-with_capacity.reader _ bytes c.in-Ok-with_capacity.ensures.inner c.in-Ok-with_capacity.ensures.empty c.in-Ok-with_capacity.ensures.capacity e in
-    fails_after_as (admitted_in setting under (policy_value c.policy_of-policy.result) (requirements_value job.requirements) job.readable) (admitted_each job) bytes _ _
+    fails_as (admitted_in setting under (policy_value c.policy_of-policy.result) (requirements_value job.requirements) job.readable) (admitted_each job) bytes _ _
     (λ input. ap (λ (p : PolicyValue). admitted_in setting under p (requirements_value job.requirements) job.readable input) (c.policy_of-policy.ensures ∙ ap (λ (at : ℤ). program_policy at job.leeway (option_map text_value job.aud)) (to_z-of_z w64 job.now in_range)) ∙ admitted_as under policy (requirements_value job.requirements) job.readable (usable c.in-Ok.keys) setting input (rw c.requires.sizes.keys_are (sym c.in-Ok.ensures.exact)) (rw c.requires.claims (c.new-verifier.ensures.context ∙ c.token_context-context.ensures.setting)))
-    (rw (c.requires.sizes.header_is, c.requires.sizes.nesting_is) (c.print_all.ensures.fails bytes (c.new-intake.ensures.known ∙ known) two))
+    (rw (c.requires.sizes.header_is, c.requires.sizes.nesting_is) (c.print_read.ensures.fails bytes e two))
