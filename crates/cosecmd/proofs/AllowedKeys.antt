@@ -1,5 +1,5 @@
 -- What `--algs` and `--least-secret` say, as the code reads them.
-use Rattle.std.proofs.Common.{◌≡◌, ◌∙◌, ◌<◌, ℕ, ℤ, Bool, true, false, List, [], ◌∷◌, ◌++◌, append_assoc, Option, Some, None, Result, Ok, Err, refl, ap, subst, sym, arith, length, cond, lit<, option_map, w64}
+use Rattle.std.proofs.Common.{◌≡◌, ◌∙◌, ◌<◌, ℕ, ℤ, Bool, true, false, List, [], ◌∷◌, ◌++◌, append_assoc, Option, Some, None, Err, refl, ap, subst, sym, arith, length, lit<, option_map, w64}
 use Rattle.std.specs.Prelude.{FitsSigned, find, nat_lt, pos, negsuc}
 use Rattle.std.specs.Char.{digit_value, is_digit}
 use Rattle.std.specs.List.{list_all}

@@ -1,5 +1,5 @@
 -- What the arguments of a sequence ask for, and what a run over it leaves where it fails.
-use Rattle.std.proofs.Common.{◌≡◌, ◌⊎◌, ℕ, ℤ, Bool, true, false, List, [], ◌++◌, Option, Some, None, Result, inl, inr, refl, ap, subst, sym, ◌∙◌, append-nil, append_assoc}
+use Rattle.std.proofs.Common.{◌≡◌, ◌⊎◌, ℕ, ℤ, Bool, true, false, List, [], ◌++◌, Option, Some, None, inl, inr, refl, ap, subst, sym, ◌∙◌, append-nil, append_assoc}
 use Rattle.std.specs.Prelude.{codes, option_map}
 use Rattle.cose_cwt.specs.Claims.Audience.{text_value}
 use Rattle.cose_cwt.specs.Requirements.{RequirementsValue}
@@ -8,11 +8,11 @@ use Rattle.cose_cwt.specs.declared.requirements.Requirements.{Requirements}
 use Rattle.cose_msg.specs.Sink.{AppendsFront}
 use Rattle.cosecmd.specs.Admitted.{program_policy}
 use Rattle.cosecmd.specs.Arguments.{admitted_each_for, asked_for, is_sequence}
-use Rattle.cosecmd.specs.CommandLine.{AsksFor, PrintsEach, matches_print}
+use Rattle.cosecmd.specs.CommandLine.{AsksFor}
 use Rattle.cosecmd.specs.Faults.{WritesLine, fault_text}
 use Rattle.cosecmd.specs.Fields.{AreChecks}
 use Rattle.cosecmd.specs.Options.{◌>>=◌}
-use Rattle.cosecmd.specs.Printed.{Fails, Output, WritesPart}
+use Rattle.cosecmd.specs.Printed.{Fails, Output}
 use Rattle.cosecmd.specs.Requirements.{requirements_for}
 use Rattle.cosecmd.specs.Sequence.{FailsInSequence, admitted_sequence, verified_sequence}
 use Rattle.cosecmd.specs.Under.{Under, job_under, owned_under}

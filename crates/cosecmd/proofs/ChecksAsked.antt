@@ -6,7 +6,7 @@ use Rattle.cose_map.specs.Restrictions.{RestrictionsValue}
 use Rattle.cosecmd.specs.Allowed.{restrictions_in}
 use Rattle.cosecmd.specs.Fields.{HasKeysOf, checks_in, digest_checks_in}
 use Rattle.cosecmd.specs.Limits.{Room, room_of}
-use Rattle.cosecmd.specs.Options.{Options, ◌>>=◌, bytes_in, key_set_in, kind_in, limits_in, optional_bytes_in}
+use Rattle.cosecmd.specs.Options.{Options, bytes_in, key_set_in, kind_in, limits_in, optional_bytes_in}
 use Rattle.cosecmd.specs.declared.limits.Limits.{Limits}
 use Rattle.cosecmd.specs.Under.{Under, program_keys}
 

@@ -1,11 +1,10 @@
 -- The next message of a sequence, by what a run of the verifier did.
-use Rattle.std.proofs.Common.{◌≡◌, ℕ, ◌<◌, Bool, true, false, List, [], ◌∷◌, ◌++◌, length, take, Option, Some, None, Ok, refl, sym, ap, subst, ◌∙◌, arith, append-nil}
-use Rattle.std.specs.Io.KnownBytes.{Consumes, IsAtEnd}
+use Rattle.std.proofs.Common.{◌≡◌, ℕ, ◌<◌, Bool, true, false, List, [], ◌∷◌, ◌++◌, length, take, Option, Some, Ok, refl, sym, ap, subst, ◌∙◌, arith, append-nil}
+use Rattle.std.specs.Io.KnownBytes.{IsAtEnd}
 use Rattle.cose_head.specs.Head.{bare_head}
-use Rattle.cose_head.specs.declared.reason.Reason.TheVariants.{Truncated}
 use Rattle.cose_msg.specs.declared.verdict.Verdict.{Verdict}
 use Rattle.cose_msg.specs.declared.verifier.Verifier.{Verifier}
-use Rattle.cose_msg.specs.Answer.{Answer, decided, refused}
+use Rattle.cose_msg.specs.Answer.{decided}
 use Rattle.cose_msg.specs.Kept.{HasTaken, is_inspecting}
 use Rattle.cose_msg.specs.Laws.{MessageEndsTruncated}
 use Rattle.cose_msg.specs.Message.{Decides, Setting, message, verifying}
@@ -13,12 +12,12 @@ use Rattle.cose_msg.specs.Reader.{Counts}
 use Rattle.cose_msg.specs.Reading.{with_head}
 use Rattle.cose_msg.specs.Rules.{Rules}
 use Rattle.cose_msg.specs.Run.{Run}
-use Rattle.cose_msg.specs.Task.{Task, to_verify}
+use Rattle.cose_msg.specs.Task.{to_verify}
 use Rattle.cose_msg.specs.Verifier.{setting_in, task_of}
 use Rattle.cosecmd.specs.declared.answer.sequence.Part.{Part}
-use Rattle.cosecmd.specs.Part.{Begins, IsNext}
+use Rattle.cosecmd.specs.Part.{IsNext}
 use Rattle.cosecmd.specs.Printed.{Output, Says, followed_by, input_answer, output_of, said_of, trailed}
-use Rattle.cosecmd.specs.Sequence.{Reads, is_whole}
+use Rattle.cosecmd.specs.Sequence.{is_whole}
 use Rattle.cosecmd.proofs.Trailing.{left_of_input, trails}
 
 -- A verifier that was reset, for what it was made for.

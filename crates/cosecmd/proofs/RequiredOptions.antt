@@ -1,17 +1,17 @@
 -- What the options of `cwt` require, as the code reads them.
-use Rattle.std.proofs.Common.{◌≡◌, ◌∙◌, ℕ, ℤ, List, [], ◌∷◌, ◌++◌, Option, Some, None, Result, Ok, Err, refl, ap, subst, sym, option_map, append-nil, append_assoc, codes}
+use Rattle.std.proofs.Common.{◌≡◌, ◌∙◌, ℕ, ℤ, List, [], Option, Some, None, Result, Ok, refl, ap, subst, sym, option_map, codes}
 use Rattle.std.specs.Prelude.{Bool, is_some, map, not, unwrap_or}
 use Rattle.std.specs.Borrow.{Bor}
 use Rattle.std.specs.Str.Parse.{ParsesUnsigned, digits_value, without_leading_plus}
 use Rattle.clap.specs.Matches.{TriesOne, found_of, one_text, matched_of, raw_values}
-use Rattle.clap.specs.Walk.{Text, all_of, one_of}
+use Rattle.clap.specs.Walk.{Text}
 use Rattle.clap.specs.declared.parser.matches.ArgMatches.{ArgMatches}
 use Rattle.clap.proofs.WalkLemmas.{one_text-rows, raw_values-rows}
 use Rattle.cose_cwt.specs.declared.requirements.Claim.{Claim}
 use Rattle.cosecmd.specs.declared.requirements.Required.{Required}
 use Rattle.cose_cwt.specs.Claims.Audience.{text_value}
 use Rattle.cosecmd.specs.Options.{Options, flag_in, number_in, options_of, text_in}
-use Rattle.cosecmd.specs.Requirements.{RequiredFields, and_named, audience_required, claim_named, claims_named, present_in, requirements_for, requirements_with, texts_in, wants_any_audience, with_audience}
+use Rattle.cosecmd.specs.Requirements.{RequiredFields, audience_required, claims_named, present_in, requirements_for, requirements_with, texts_in, wants_any_audience, with_audience}
 
 -- ---- the claims of `--require`
 

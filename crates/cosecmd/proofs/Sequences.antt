@@ -1,5 +1,5 @@
 -- The messages of a sequence, one after the other.
-use Rattle.std.proofs.Common.{◌≡◌, ◌≢◌, ◌⊎◌, ℕ, zero, suc, ◌+◌, ◌-◌, ◌<◌, ◌≤◌, Bool, true, false, List, [], ◌∷◌, ◌++◌, length, take, drop, Option, Some, None, inl, inr, refl, sym, ap, subst, ◌∙◌, arith, append-nil, append_assoc, length-append, length-drop}
+use Rattle.std.proofs.Common.{◌≡◌, ◌≢◌, ◌⊎◌, ℕ, zero, suc, ◌+◌, ◌<◌, ◌≤◌, Bool, true, false, List, [], ◌∷◌, ◌++◌, length, take, drop, Option, Some, inl, inr, refl, sym, ap, subst, ◌∙◌, arith, append-nil, append_assoc, length-append, length-drop}
 use Rattle.std.specs.Prelude.{codes}
 use Rattle.std.specs.Io.KnownBytes.{Appends}
 use Rattle.std.proofs.KnownBytes.{Appends-nil, Appends-trans}
@@ -12,7 +12,7 @@ use Rattle.cosecmd.specs.declared.reply.Status.{Status}
 use Rattle.cosecmd.specs.declared.reply.Status.TheVariants as statuses
 use Rattle.cosecmd.specs.Printed.{Output, Prints}
 use Rattle.cosecmd.specs.Part.{Begins, Follows}
-use Rattle.cosecmd.specs.Sequence.{FailsAfter, Reads, after_first, first_message, front_size, is_whole, joined_status, lost, message_size, message_then, messages_from, messages_said, nothing_said, placed, sequence_said, then_said}
+use Rattle.cosecmd.specs.Sequence.{FailsAfter, Reads, after_first, first_message, front_size, is_whole, joined_status, message_size, message_then, messages_from, messages_said, nothing_said, placed, sequence_said, then_said}
 
 -- ---- the first message
 

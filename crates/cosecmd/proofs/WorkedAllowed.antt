@@ -1,6 +1,6 @@
 -- Which keys `--algs` and `--least-secret` allow, on examples, by computing; and that without them all usable keys are allowed.
-use Rattle.std.proofs.Common.{◌≡◌, ℕ, ℤ, true, List, [], ◌∷◌, Option, Some, None, Ok, Err, refl, ap, length, map, codes}
-use Rattle.std.specs.Prelude.{nat_le, negsuc, pos, zero}
+use Rattle.std.proofs.Common.{◌≡◌, ℕ, true, List, [], ◌∷◌, Some, None, Ok, Err, refl, ap, length, map, codes}
+use Rattle.std.specs.Prelude.{negsuc, pos}
 use Rattle.std.proofs.Math.Dec.{leb-zero}
 use Rattle.cose_map.specs.Key.Value.{KeyValue, MaterialValue, symmetric, elliptic}
 use Rattle.cose_map.specs.KeySet.{keys_of}

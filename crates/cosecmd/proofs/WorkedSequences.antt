@@ -1,6 +1,5 @@
 -- What the program prints for a sequence, on examples, by computing.
 use Rattle.std.specs.Prelude.{◌≡◌, ℕ, zero, suc, List, [], ◌∷◌, None, refl}
-use Prim.Native.String.{String}
 use Rattle.std.specs.Fmt.{digits}
 use Rattle.std.specs.Str.{is_utf8, chars}
 use Rattle.cose_head.specs.Head.{bare_head}
@@ -9,7 +8,7 @@ use Rattle.cose_head.specs.Placed.{look, children_of, items_from, head_of_item}
 use Rattle.cose_head.specs.Reading.{read, head}
 use Rattle.cose_head.specs.declared.algorithm.Alg.TheVariants.{Hmac256}
 use Rattle.cose_head.specs.declared.kind.Kind.TheVariants.{Mac0}
-use Rattle.cose_head.specs.declared.reason.Reason.TheVariants.{BadAuth, NoKey, Truncated}
+use Rattle.cose_head.specs.declared.reason.Reason.TheVariants.{BadAuth, NoKey}
 use Rattle.cose_map.specs.Bucket.{bucket_of}
 use Rattle.cose_map.specs.Bucket.Both.{pair_faults}
 use Rattle.cose_map.specs.Bucket.Form.{bucket_table}
@@ -24,7 +23,7 @@ use Rattle.cose_msg.specs.declared.verdict.Verdict.TheVariants.{Authentic}
 use Rattle.cose_msg.specs.Answer.{Answer, decided, refused}
 use Rattle.cose_msg.specs.Message.{message}
 use Rattle.cose_msg.specs.Phases.{nothing_so_far}
-use Rattle.cose_msg.specs.Reading.{Reading, cut, settled, with_head, with_string, with_item}
+use Rattle.cose_msg.specs.Reading.{cut, settled, with_head, with_string, with_item}
 use Rattle.cosecmd.specs.declared.reply.Status.TheVariants as statuses
 use Rattle.cosecmd.specs.Printed.{Output, output_of}
 use Rattle.cosecmd.specs.Sequence.{Reads, front_size, messages_said, nothing_said, sequence_said, verified_sequence}

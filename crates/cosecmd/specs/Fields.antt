@@ -5,7 +5,7 @@ use Rattle.cose_msg.specs.declared.context.Wanted.TheVariants as wants
 use Rattle.cose_cwt.specs.Claims.Audience.{text_value}
 use Rattle.cosecmd.specs.Options.{Options, ◌>>=◌, algorithm_in, bytes_in, flag_in, integer_in, key_in, key_set_in, kind_in, limits_in, number_in, optional_bytes_in, text_in}
 use Rattle.cosecmd.specs.Allowed.{restrictions_in}
-use Rattle.cosecmd.specs.Limits.{Room, room_of}
+use Rattle.cosecmd.specs.Limits.{room_of}
 use Rattle.cosecmd.specs.Printed.{keys_listed}
 use Rattle.cosecmd.specs.Requirements.{RequiredFields}
 use Rattle.cosecmd.specs.Under.{Under, owned_under, program_keys}

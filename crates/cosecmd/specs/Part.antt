@@ -1,9 +1,6 @@
 -- What one step over a sequence did.
-use Rattle.std.specs.Prelude.{◌≡◌, ◌≢◌, ◌⊎◌, ℕ, ◌<◌, Bool, true, false, List, [], ◌++◌, length, take, Option, Some, None, ⊤, string_bytes, codes, if◌then◌else◌}
+use Rattle.std.specs.Prelude.{◌≡◌, ◌≢◌, ℕ, ◌<◌, true, false, List, [], ◌++◌, length, take, Option, Some, None, ⊤, string_bytes, if◌then◌else◌}
 use Rattle.std.specs.Io.KnownBytes.{Appends}
-use Rattle.cose_msg.specs.Sink.{AppendsFront}
-use Rattle.cosecmd.specs.Faults.{fault_text}
-use Rattle.cosecmd.specs.declared.fault.Fault.{Fault}
 use Rattle.cosecmd.specs.declared.answer.sequence.Part.{Part}
 use Rattle.cosecmd.specs.declared.answer.sequence.Step.{Step}
 use Rattle.cosecmd.specs.declared.answer.sequence.Step.TheVariants.{Ended, Printed, Over}

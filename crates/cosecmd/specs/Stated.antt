@@ -1,9 +1,6 @@
 -- What is printed of a message whose payload comes from a reader, where the number of its bytes is stated.
-use Rattle.std.specs.Prelude.{◌≡◌, ℕ, zero, suc, ◌<◌, ◌≤◌, Bool, true, List, length, take, Option, Ok, Err, option_map, codes, nat_lt, if◌then◌else◌}
+use Rattle.std.specs.Prelude.{◌≡◌, ℕ, zero, suc, ◌<◌, ◌≤◌, Bool, true, List, length, take, Option, codes, nat_lt, if◌then◌else◌}
 use Rattle.std.specs.Io.KnownBytes.{Consumes, IsAtEnd}
-use Rattle.cose_map.specs.Key.Value.{KeyValue}
-use Rattle.cose_map.specs.Key.View.{contents}
-use Rattle.cose_map.specs.Map.Read.{Read}
 use Rattle.cose_msg.specs.declared.verdict.Verdict.{Verdict}
 use Rattle.cose_msg.specs.Answer.{decided}
 use Rattle.cose_msg.specs.Message.{Decides, Setting, comparing, message, verifying}

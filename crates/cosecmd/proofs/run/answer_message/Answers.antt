@@ -1,4 +1,4 @@
-use Rattle.std.proofs.Common.{◌≡◌, ◌∙◌, None, Some, ap, refl}
+use Rattle.std.proofs.Common.{◌≡◌, ◌∙◌, None, Some, ap}
 use Rattle.cosecmd.proofs.Asked.{ends_with, fails_with, message_is_no_make, message_words}
 use Rattle.cosecmd.proofs.run.answer_message.Goals as goal
 

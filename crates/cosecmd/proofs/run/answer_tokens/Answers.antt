@@ -1,4 +1,4 @@
-use Rattle.std.proofs.Common.{SFits, refl, rules, w64}
+use Rattle.std.proofs.Common.{SFits, rules, w64}
 use Rattle.std.proofs.lemmas.Int.{to_z-of_z}
 use Rattle.cosecmd.proofs.Asked.{ends_with}
 use Rattle.cosecmd.proofs.AskedSequences.{fails_as, tokens_words}

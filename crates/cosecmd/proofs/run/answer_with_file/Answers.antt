@@ -1,4 +1,4 @@
-use Rattle.std.proofs.Common.{ap, subst, sym, ◌≡◌, ◌∙◌, ℕ}
+use Rattle.std.proofs.Common.{subst, sym, ℕ}
 use Rattle.cosecmd.specs.declared.job.FileJob.{FileJob}
 use Rattle.cosecmd.proofs.Asked.{Part, ends_with, fails_with, file_words, known_part}
 use Rattle.cosecmd.proofs.Replies.{line_fails}

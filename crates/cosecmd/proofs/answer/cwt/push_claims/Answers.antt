@@ -1,4 +1,4 @@
-use Rattle.std.proofs.Common.{codes, map, ◌∙◌}
+use Rattle.std.proofs.Common.{codes, map}
 use Rattle.std.specs.List.{concat}
 use Rattle.cosecmd.specs.Admitted.{bytes_line, confirmation_lines, date_line, text_line, where_present}
 use Rattle.cosecmd.proofs.Admissions.{first_lines, then_lines}

@@ -1,4 +1,4 @@
-use Rattle.std.proofs.Common.{false, [], ap, sym, ◌∙◌}
+use Rattle.std.proofs.Common.{false, [], ap}
 use Rattle.cose_map.specs.KeyTable.{keys as usable}
 use Rattle.cose_msg.specs.Shown.{Shown, sign_input_of}
 use Rattle.cose_msg.specs.Verifier.{setting_of}

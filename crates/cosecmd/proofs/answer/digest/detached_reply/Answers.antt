@@ -1,4 +1,4 @@
-use Rattle.std.proofs.Common.{false, [], ◌≤◌, length, arith, ap, sym, ◌∙◌}
+use Rattle.std.proofs.Common.{false, [], ◌≤◌, length, arith, ap}
 use Rattle.cose_map.specs.KeyTable.{keys as usable}
 use Rattle.cose_msg.specs.Shown.{Shown, sign_input_of}
 use Rattle.cose_msg.specs.Verifier.{detaching, setting_of}

@@ -1,4 +1,4 @@
-use Rattle.std.proofs.Common.{ap, sym, ◌∙◌}
+use Rattle.std.proofs.Common.{sym, ◌∙◌}
 use Rattle.cose_msg.specs.Shown.{input_value, sign_input_of}
 use Rattle.cosecmd.proofs.Digests.{says_longer, says_unsigned, says_vouched}
 use Rattle.cosecmd.proofs.answer.digest.signed_reply.Goals as goal

@@ -1,8 +1,6 @@
-use Rattle.std.proofs.Common.{None, ap, sym, subst, ◌∙◌}
-use Rattle.cosecmd.specs.NewFile.{IsRemoved}
-use Rattle.cosecmd.specs.Printed.{code_of, verified_under}
+use Rattle.std.proofs.Common.{None, ap, sym, ◌∙◌}
+use Rattle.cosecmd.specs.Printed.{verified_under}
 use Rattle.cosecmd.specs.Under.{job_under}
-use Rattle.cosecmd.specs.declared.reply.Status.TheVariants as statuses
 use Rattle.cosecmd.proofs.KeptPayloads.{differs_from_fault, is_done, is_refused, payload_kept, where_done, where_refused}
 use Rattle.cosecmd.proofs.Replies.{ends_so, is_fault}
 use Rattle.cosecmd.proofs.answer.payload_to.answer_to_new_file.Goals as goal

@@ -1,4 +1,3 @@
-use Rattle.cosecmd.proofs.KeptPayloads.{file_line}
 use Rattle.cosecmd.proofs.Replies.{line_fails}
 use Rattle.cosecmd.proofs.answer.payload_to.answer_with_payload_to.Goals as goal
 

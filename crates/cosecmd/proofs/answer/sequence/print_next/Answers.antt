@@ -1,4 +1,4 @@
-use Rattle.std.proofs.Common.{refl, sym, ◌∙◌}
+use Rattle.std.proofs.Common.{refl, ◌∙◌}
 use Rattle.cosecmd.proofs.PartLines.{is_next, part_fails, part_lost}
 use Rattle.cosecmd.proofs.Sequences.{line_first}
 use Rattle.cosecmd.proofs.answer.sequence.print_next.Goals as goal

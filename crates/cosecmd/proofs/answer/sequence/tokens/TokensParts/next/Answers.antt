@@ -1,4 +1,4 @@
-use Rattle.std.proofs.Common.{ℕ, List, [], ap, arith, option_map, subst, sym, ◌<◌, ◌≤◌, ◌∙◌}
+use Rattle.std.proofs.Common.{ℕ, List, ap, arith, option_map, subst, sym, ◌<◌, ◌≤◌, ◌∙◌}
 use Rattle.cose_cwt.specs.Admission.View.{policy_value}
 use Rattle.cose_cwt.specs.Requirements.View.{requirements_value}
 use Rattle.cose_map.specs.Key.View.{contents}
