@@ -1,13 +1,14 @@
 //! The claims that are known here, found in one pass over the claims of a token.
 
-ghost use Rattle.std.specs.Prelude.{◌≡◌, option_map};
+ghost use Rattle.std.specs.Prelude.{◌≡◌, Some, option_map};
+ghost use Rattle.std.specs.Option.{option_or};
 ghost use Rattle.cose_head.specs.ItemRef.{placed};
 ghost use Rattle.cose_map.specs.Map.Pairs.{value_of};
 ghost use Rattle.cose_map.specs.Map.View.{pairs_left};
 ghost use Rattle.cose_cwt.specs.Claims.Labels as names;
 
 use crate::claims::labels;
-use cose_map::{ItemRef, Pairs, first_value};
+use cose_map::{ItemRef, Label, Pairs};
 
 /// The values of the registered claims (RFC 8392 section 3.1) and of the confirmation (RFC 8747 section 3.1), where a token has
 /// them. Each is an item of the payload, at its place in it.
@@ -31,7 +32,94 @@ pub struct Known<'a> {
     pub cnf: Option<ItemRef<'a>>,
 }
 
+/// Keeps a value, unless one was kept before.
+fn keep_first<'a>(kept: &mut Option<ItemRef<'a>>, value: ItemRef<'a>)
+    ensures { option_map placed kept.new ≡ option_or (option_map placed kept.old) (Some (placed value.entry)) }
+{
+    if kept.is_none() {
+        *kept = Some(value);
+    }
+}
+
 impl<'a> Known<'a> {
+    ghost use Rattle.std.specs.Prelude.{List, None, ◌∷◌};
+    ghost use Rattle.cose_head.specs.Placed.{Placed};
+    ghost use Rattle.cose_map.specs.Label.View.{label_value};
+    ghost use Rattle.cose_map.specs.Map.Pairs.{Pair};
+
+    /// None of them.
+    fn none() -> Known<'a>
+        ensures iss { result.iss ≡ None }
+        ensures sub { result.sub ≡ None }
+        ensures aud { result.aud ≡ None }
+        ensures exp { result.exp ≡ None }
+        ensures nbf { result.nbf ≡ None }
+        ensures iat { result.iat ≡ None }
+        ensures cti { result.cti ≡ None }
+        ensures cnf { result.cnf ≡ None }
+    {
+        Known {
+            iss: None,
+            sub: None,
+            aud: None,
+            exp: None,
+            nbf: None,
+            iat: None,
+            cti: None,
+            cnf: None,
+        }
+    }
+
+    /// Keeps the value of the next pair, where it is the first of one of the labels. Not inlined, so that those found are kept in
+    /// their place.
+    #[inline(never)]
+    fn keep(&mut self, name: &Label<'_>, value: ItemRef<'a>)
+        ensures iss { (item : Placed) (others : List Pair)
+            → option_or (option_map placed self.new.iss) (value_of names.iss others)
+            ≡ option_or (option_map placed self.old.iss) (value_of names.iss (record {
+              name = label_value name.now; label = item; value = placed value.entry } ∷ others)) }
+        ensures sub { (item : Placed) (others : List Pair)
+            → option_or (option_map placed self.new.sub) (value_of names.sub others)
+            ≡ option_or (option_map placed self.old.sub) (value_of names.sub (record {
+              name = label_value name.now; label = item; value = placed value.entry } ∷ others)) }
+        ensures aud { (item : Placed) (others : List Pair)
+            → option_or (option_map placed self.new.aud) (value_of names.aud others)
+            ≡ option_or (option_map placed self.old.aud) (value_of names.aud (record {
+              name = label_value name.now; label = item; value = placed value.entry } ∷ others)) }
+        ensures exp { (item : Placed) (others : List Pair)
+            → option_or (option_map placed self.new.exp) (value_of names.exp others)
+            ≡ option_or (option_map placed self.old.exp) (value_of names.exp (record {
+              name = label_value name.now; label = item; value = placed value.entry } ∷ others)) }
+        ensures nbf { (item : Placed) (others : List Pair)
+            → option_or (option_map placed self.new.nbf) (value_of names.nbf others)
+            ≡ option_or (option_map placed self.old.nbf) (value_of names.nbf (record {
+              name = label_value name.now; label = item; value = placed value.entry } ∷ others)) }
+        ensures iat { (item : Placed) (others : List Pair)
+            → option_or (option_map placed self.new.iat) (value_of names.iat others)
+            ≡ option_or (option_map placed self.old.iat) (value_of names.iat (record {
+              name = label_value name.now; label = item; value = placed value.entry } ∷ others)) }
+        ensures cti { (item : Placed) (others : List Pair)
+            → option_or (option_map placed self.new.cti) (value_of names.cti others)
+            ≡ option_or (option_map placed self.old.cti) (value_of names.cti (record {
+              name = label_value name.now; label = item; value = placed value.entry } ∷ others)) }
+        ensures cnf { (item : Placed) (others : List Pair)
+            → option_or (option_map placed self.new.cnf) (value_of names.cnf others)
+            ≡ option_or (option_map placed self.old.cnf) (value_of names.cnf (record {
+              name = label_value name.now; label = item; value = placed value.entry } ∷ others)) }
+    {
+        match *name {
+            labels::ISS => keep_first(&mut self.iss, value),
+            labels::SUB => keep_first(&mut self.sub, value),
+            labels::AUD => keep_first(&mut self.aud, value),
+            labels::EXP => keep_first(&mut self.exp, value),
+            labels::NBF => keep_first(&mut self.nbf, value),
+            labels::IAT => keep_first(&mut self.iat, value),
+            labels::CTI => keep_first(&mut self.cti, value),
+            labels::CNF => keep_first(&mut self.cnf, value),
+            _ => {}
+        }
+    }
+
     /// Those of the pairs of a token's claims.
     pub(crate) fn of(pairs: Pairs<'a>) -> Known<'a>
         ensures iss { option_map placed result.iss ≡ value_of names.iss (pairs_left pairs.entry) }
@@ -43,33 +131,10 @@ impl<'a> Known<'a> {
         ensures cti { option_map placed result.cti ≡ value_of names.cti (pairs_left pairs.entry) }
         ensures cnf { option_map placed result.cnf ≡ value_of names.cnf (pairs_left pairs.entry) }
     {
-        let mut iss = None;
-        let mut sub = None;
-        let mut aud = None;
-        let mut exp = None;
-        let mut nbf = None;
-        let mut iat = None;
-        let mut cti = None;
-        let mut cnf = None;
+        let mut known = Known::none();
         'pairs: for (name, _item, value) in pairs {
-            iss = first_value(iss, &labels::ISS, &name, value);
-            sub = first_value(sub, &labels::SUB, &name, value);
-            aud = first_value(aud, &labels::AUD, &name, value);
-            exp = first_value(exp, &labels::EXP, &name, value);
-            nbf = first_value(nbf, &labels::NBF, &name, value);
-            iat = first_value(iat, &labels::IAT, &name, value);
-            cti = first_value(cti, &labels::CTI, &name, value);
-            cnf = first_value(cnf, &labels::CNF, &name, value);
+            known.keep(&name, value);
         }
-        Known {
-            iss,
-            sub,
-            aud,
-            exp,
-            nbf,
-            iat,
-            cti,
-            cnf,
-        }
+        known
     }
 }
