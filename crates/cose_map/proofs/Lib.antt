@@ -4,5 +4,6 @@ pub mod WorkedBuckets
 pub mod WorkedKeys
 pub mod WorkedTables
 pub mod WorkedChoice
+pub mod WorkedMismatches
 pub mod WorkedRestrictions
 mod WorkedReasons

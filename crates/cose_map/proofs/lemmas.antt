@@ -5,3 +5,4 @@ pub mod KeySet
 pub mod KeyTable
 pub mod ReadyKeys
 pub mod Laws
+pub mod Mismatch

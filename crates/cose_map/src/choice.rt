@@ -2,4 +2,5 @@
 
 mod algorithm;
 pub mod fitting;
+pub mod mismatch;
 pub mod query;

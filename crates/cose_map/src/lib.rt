@@ -63,6 +63,7 @@ mod restrictions;
 
 pub use bucket::both::check_pair;
 pub use bucket::{Bucket, header};
+pub use choice::mismatch::Mismatch;
 pub use choice::query::Query;
 pub use cose_head::{Head, ItemRef, Items, Kind, Reason, Refusal};
 pub use key::Key;

@@ -50,7 +50,7 @@ fn is_for(material: &Material, algorithm: Option<Alg>) -> bool
 }
 
 /// Whether this is the key's own algorithm, if it names one.
-fn is_allowed_algorithm(own: Option<Label>, algorithm: i128) -> bool
+pub(crate) fn is_allowed_algorithm(own: Option<Label>, algorithm: i128) -> bool
     ensures { result ≡ allows_algorithm (option_map label_value own.entry) (number algorithm) }
 {
     match own {
@@ -61,14 +61,14 @@ fn is_allowed_algorithm(own: Option<Label>, algorithm: i128) -> bool
 }
 
 /// Whether a key's operations, if it lists them, contain this one.
-fn is_allowed_operation(own: Option<Ops>, operation: i128) -> bool
+pub(crate) fn is_allowed_operation(own: Option<Ops>, operation: i128) -> bool
     ensures { result ≡ allows_operation (option_map operations_of own.entry) operation }
 {
     own.is_none_or(|own| own.holds(operation))
 }
 
 /// Whether two identifiers are equal, where both are present.
-fn is_allowed_kid(own: Option<&[u8]>, asked: Option<&[u8]>) -> bool
+pub(crate) fn is_allowed_kid(own: Option<&[u8]>, asked: Option<&[u8]>) -> bool
     ensures { result ≡ allows_kid (option_map contents own.entry)
         (option_map contents asked.entry) }
 {
@@ -114,7 +114,7 @@ impl<'q> Query<'q> {
     }
 
     /// The algorithm that the key is used with.
-    fn algorithm_for(&self, key: &Key) -> Option<i128>
+    pub(crate) fn algorithm_for(&self, key: &Key) -> Option<i128>
         ensures { let q = question self.now in
             result ≡ option_and_then integer_in_label
             (algorithm_used q.protected_alg q.unprotected_alg (key_value key.now).alg) }
