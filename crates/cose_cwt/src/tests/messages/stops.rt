@@ -1,8 +1,8 @@
 //! An intake or a sink that fails in the course of a message.
 
 ghost use Rattle.std.specs.Prelude.{◌≡◌, ◌≤◌, false};
-ghost use Rattle.cose_msg.specs.Kept.{is_inspecting};
-ghost use Rattle.cose_msg.specs.Verifier.{is_detached};
+ghost use Rattle.cose_msg.specs.Kept.{WhateverVerified, is_inspecting};
+ghost use Rattle.cose_msg.specs.Verifier.{is_detached, setting_in};
 
 use crate::tests::is;
 use crate::tests::messages::streams::{Asked, FailingIntake, FailingSink};
@@ -22,7 +22,7 @@ const PROTECTED: &[u8] = b"\xa2\x01\x05\x0a\x4b12345678901";
 
 const UNPROTECTED: &[u8] = b"\xa1\x0b\x4d1234567890123";
 
-/// What `verify` answers where it takes a byte at a time.
+/// What `verify` answers where it takes a byte at a time. The verifier is for the same purpose then, part by part.
 fn answer<const H: usize, I: Intake, S: Sink, E: EcVerifier>(
     verifier: &mut Verifier<H, 4>,
     intake: &mut I,
@@ -33,6 +33,8 @@ fn answer<const H: usize, I: Intake, S: Sink, E: EcVerifier>(
     requires attached { is_detached verifier.old ≡ false }
     ensures verifies { is_inspecting verifier.new ≡ false }
     ensures attached { is_detached verifier.new ≡ false }
+    ensures context { WhateverVerified verifier.old (λ _ _ _.
+        setting_in verifier.new ≡ setting_in verifier.old) }
 {
     verify::<1, H, 4, _, _, _, _>(verifier, intake, sink, ec)
 }
