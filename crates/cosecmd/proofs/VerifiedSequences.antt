@@ -1,5 +1,5 @@
 -- A sequence whose messages are verified, or whose tokens are admitted, under a key set.
-use Rattle.std.proofs.Common.{◌≡◌, ℕ, Bool, List, [], ◌++◌, Option, Some, Ok, inr, refl, subst}
+use Rattle.std.proofs.Common.{◌≡◌, ℕ, Bool, List, [], ◌++◌, Option, Some, Ok, refl, subst}
 use Rattle.std.specs.Prelude.{codes}
 use Rattle.std.specs.Io.Buffered.{reader_buffer, reader_capacity, reader_inner, reader_remaining}
 use Rattle.std.specs.declared.io.buffered.BufReader.{BufReader}
@@ -7,7 +7,6 @@ use Rattle.cose_cwt.specs.Admission.{PolicyValue}
 use Rattle.cose_cwt.specs.Requirements.{RequirementsValue}
 use Rattle.cose_cwt.specs.Token.{read_as}
 use Rattle.cose_map.specs.Key.Value.{KeyValue}
-use Rattle.cose_map.specs.Map.Read.{Read}
 use Rattle.cose_msg.specs.Message.{Setting}
 use Rattle.cose_msg.specs.Sink.{AppendsFront}
 use Rattle.cosecmd.specs.Admitted.{input_token}
@@ -25,10 +24,6 @@ verified_in setting under bytes =
 
 pub verified_as : (under : Under) (keys : List KeyValue) (setting : Setting) (bytes : List ℕ) → under.keys ≡ Ok keys → setting ≡ setting_under under keys → verified_in setting under bytes ≡ verified_sequence under bytes
 verified_as under keys setting bytes set same = rw (same, set) refl
-
--- The keys that were read, prepared.
-pub prepared_as : (read : Read (List KeyValue)) (keys prepared : List KeyValue) → read ≡ Ok keys → prepared ≡ keys → read ≡ Ok prepared
-prepared_as read keys prepared is same = rw same is
 
 abbrev pub admitted_in : Setting → Under → PolicyValue → RequirementsValue → Bool → List ℕ → Output
 admitted_in setting under policy requirements readable bytes =

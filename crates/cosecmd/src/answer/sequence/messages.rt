@@ -1,8 +1,9 @@
 //! The messages of a sequence, each of which is verified.
 
-ghost use Rattle.std.specs.Prelude.{◌≡◌, ◌≤◌, ℕ, false, List, Some, length, option_map};
+ghost use Rattle.std.specs.Prelude.{◌≡◌, ◌≤◌, ℕ, false, List, Some, Ok, length, option_map};
 ghost use Rattle.cose_cwt.specs.Token.{read_as};
 ghost use Rattle.cose_map.specs.Key.View.{contents};
+ghost use Rattle.cose_map.specs.PreparedTable.{prepared_keys};
 ghost use Rattle.cose_msg.specs.Kept.{is_inspecting};
 ghost use Rattle.cose_msg.specs.Verifier.{is_detached, setting_in};
 ghost use Rattle.cosecmd.specs.Limits.{AreSizesUnder};
@@ -110,20 +111,49 @@ fn print_within<const H: usize, const D: usize, const N: usize, R: Read, W: Writ
     print_read(alloc, &mut messages, input, output)
 }
 
-/// The same with keys that are prepared once for many messages. Each of the `N` places takes 480 bytes more of the stack.
+/// The same under keys that are prepared.
 #[inline(never)]
-fn print_prepared<const H: usize, const D: usize, const N: usize, R: Read, W: Write>(
+fn print_prepared<'j, const H: usize, const D: usize, const N: usize, R: Read, W: Write>(
     alloc: Global,
-    checks: &Checks,
+    prepared: &'j PreparedTable<'j, N>,
+    checks: &'j Checks<'j>,
     input: &mut R,
     output: &mut W,
 ) -> Status
     requires some_room { 16 ≤ H }
     requires limit { H ≤ 65535 }
     requires nesting { D ≤ 32 }
-    requires some_keys { 1 ≤ N }
-    requires keys_limit { N ≤ 256 }
     requires sizes { AreSizesUnder checks.now.limits H D N }
+    requires keys_are { (job_under checks.now).keys ≡ Ok (prepared_keys prepared.now) }
+    requires external { length checks.now.aad.now ≤ 65535 }
+    ensures prints { (bytes : List ℕ) → R.remaining input.old ≡ Some bytes →
+        Prints (verified_sequence (job_under checks.entry.now) bytes)
+        (W.contents output.old) (W.contents output.new) result }
+    ensures fails { (bytes : List ℕ) → R.remaining input.old ≡ Some bytes → result ≡ Status.Fault →
+        FailsInSequence (verified_sequence (job_under checks.entry.now)) bytes
+        (W.contents output.old) (W.contents output.new) }
+{
+    let messages = &mut Messages {
+        vouch: Vouch { word: checks.vouch },
+        verifier: Verifier::<H, D, &PreparedTable<'_, N>>::new(program_context(
+            prepared,
+            checks.aad,
+            checks.wanted,
+        )),
+    };
+    print_read(alloc, messages, input, output)
+}
+
+/// Verifies each message of a sequence within small limits. The keys are prepared once for many messages, before there is a
+/// verifier: the stack has no room for what both need.
+#[inline(never)]
+fn print_small<R: Read, W: Write>(
+    alloc: Global,
+    checks: &Checks,
+    input: &mut R,
+    output: &mut W,
+) -> Status
+    requires small { checks.now.limits ≡ Limits.Small }
     requires external { length checks.now.aad.now ≤ 65535 }
     ensures prints { (bytes : List ℕ) → R.remaining input.old ≡ Some bytes →
         Prints (verified_sequence (job_under checks.now) bytes)
@@ -132,20 +162,14 @@ fn print_prepared<const H: usize, const D: usize, const N: usize, R: Read, W: Wr
         FailsInSequence (verified_sequence (job_under checks.now)) bytes
         (W.contents output.old) (W.contents output.new) }
 {
-    let keys = match KeyTable::<N>::read_restricted(checks.keys, &checks.restrictions) {
+    let keys = match KeyTable::<SMALL_KEYS>::read_restricted(checks.keys, &checks.restrictions) {
         Ok(keys) => keys,
         Err(refusal) => return print_fault(alloc, Fault::Keys(refusal), output),
     };
-    let prepared = PreparedTable::new(keys);
-    let mut messages = Messages {
-        vouch: Vouch { word: checks.vouch },
-        verifier: Verifier::<H, D, &PreparedTable<'_, N>>::new(program_context(
-            &prepared,
-            checks.aad,
-            checks.wanted,
-        )),
-    };
-    print_read(alloc, &mut messages, input, output)
+    let prepared = &PreparedTable::new(keys);
+    print_prepared::<SMALL_HEADER, SMALL_NESTING, SMALL_KEYS, _, _>(
+        alloc, prepared, checks, input, output,
+    )
 }
 
 /// Verifies each message of a sequence, and writes its lines as soon as its verdict is known.
@@ -164,9 +188,7 @@ pub fn print_verified<R: Read, W: Write>(
         (W.contents output.old) (W.contents output.new) }
 {
     match checks.limits {
-        Limits::Small => print_prepared::<SMALL_HEADER, SMALL_NESTING, SMALL_KEYS, _, _>(
-            alloc, checks, input, output,
-        ),
+        Limits::Small => print_small(alloc, checks, input, output),
         Limits::Large => print_within::<LARGE_HEADER, LARGE_NESTING, LARGE_KEYS, _, _>(
             alloc, checks, input, output,
         ),

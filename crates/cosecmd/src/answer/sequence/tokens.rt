@@ -1,16 +1,18 @@
 //! The tokens of a sequence, each of which is admitted.
 
-ghost use Rattle.std.specs.Prelude.{◌≡◌, ◌≤◌, ℕ, true, false, List, Some, length, option_map};
+ghost use Rattle.std.specs.Prelude.{◌≡◌, ◌≤◌, ℕ, true, false, List, Some, Ok, length, option_map};
 ghost use Rattle.cose_cwt.specs.Admission.View.{policy_value};
 ghost use Rattle.cose_cwt.specs.Requirements.View.{requirements_value};
 ghost use Rattle.cose_cwt.specs.Token.{claims_seen, read_as};
 ghost use Rattle.cose_map.specs.Key.View.{contents};
+ghost use Rattle.cose_map.specs.PreparedTable.{prepared_keys};
 ghost use Rattle.cose_msg.specs.Kept.{is_inspecting};
 ghost use Rattle.cose_msg.specs.Verifier.{is_detached, setting_in};
 ghost use Rattle.cosecmd.specs.Admitted.{admission_seen, if_admitted, input_token};
 ghost use Rattle.cosecmd.specs.Limits.{AreSizesUnder, room_of};
 ghost use Rattle.cosecmd.specs.Printed.{Prints, outcome_said};
 ghost use Rattle.cosecmd.specs.Sequence.{FailsInSequence, admitted_each, is_read_to_its_end};
+ghost use Rattle.cosecmd.specs.Under.{job_under};
 ghost use Rattle.cosecmd.specs.Vouch.{vouching};
 
 use crate::answer::cwt::{policy_of, token_context, token_reply};
@@ -166,7 +168,7 @@ fn print_within<
     print_read(alloc, &mut tokens, input, output)
 }
 
-/// The same with keys that are prepared once for many tokens. Each of the `N` places takes 480 bytes more of the stack.
+/// The same under keys that are prepared.
 #[inline(never)]
 fn print_prepared<
     'j,
@@ -176,16 +178,21 @@ fn print_prepared<
     const L: usize,
     R: Read,
     W: Write,
->(alloc: Global, job: &'j TokenJob<'j>, input: &mut R, output: &mut W) -> Status
+>(
+    alloc: Global,
+    prepared: &'j PreparedTable<'j, N>,
+    job: &'j TokenJob<'j>,
+    input: &mut R,
+    output: &mut W,
+) -> Status
     requires some_room { 16 ≤ H }
     requires limit { H ≤ 65535 }
     requires nesting { D ≤ 32 }
-    requires some_keys { 1 ≤ N }
-    requires keys_limit { N ≤ 256 }
     requires some_store { 16 ≤ L }
     requires store_limit { L ≤ 65535 }
     requires sizes { AreSizesUnder job.now.checks.limits H D N }
     requires claims { (room_of job.now.checks.limits).claims ≡ L }
+    requires keys_are { (job_under job.now.checks).keys ≡ Ok (prepared_keys prepared.now) }
     requires external { length job.now.checks.aad.now ≤ 65535 }
     ensures prints { (bytes : List ℕ) → R.remaining input.old ≡ Some bytes →
         Prints (admitted_each job.entry.now bytes)
@@ -194,27 +201,50 @@ fn print_prepared<
         FailsInSequence (admitted_each job.entry.now) bytes
         (W.contents output.old) (W.contents output.new) }
 {
-    let keys = match KeyTable::<N>::read_restricted(job.checks.keys, &job.checks.restrictions) {
-        Ok(keys) => keys,
-        Err(refusal) => return print_fault(alloc, Fault::Keys(refusal), output),
-    };
     let vouch = Vouch {
         word: job.checks.vouch,
     };
     let policy = policy_of(job.now, job.leeway, &job.aud);
     let requirements = job.requirements;
-    let prepared = PreparedTable::new(keys);
-    let context = token_context::<L, _>(&prepared, job.checks.aad, job.checks.wanted);
-    let verifier = Verifier::<H, D, &PreparedTable<'_, N>>::new(context);
-    let mut tokens = Tokens::<'_, H, D, L, &PreparedTable<'_, N>> {
+    let context = token_context::<L, _>(prepared, job.checks.aad, job.checks.wanted);
+    let tokens = &mut Tokens::<'_, H, D, L, &PreparedTable<'_, N>> {
         vouch,
         policy,
         requirements,
         readable: job.readable,
-        verifier,
+        verifier: Verifier::<H, D, &PreparedTable<'_, N>>::new(context),
         store: Store::new(),
     };
-    print_read(alloc, &mut tokens, input, output)
+    print_read(alloc, tokens, input, output)
+}
+
+/// Admits each token of a sequence within small limits. The keys are prepared once for many tokens, before there is a
+/// verifier: the stack has no room for what both need.
+#[inline(never)]
+fn print_small<'j, R: Read, W: Write>(
+    alloc: Global,
+    job: &'j TokenJob<'j>,
+    input: &mut R,
+    output: &mut W,
+) -> Status
+    requires small { job.now.checks.limits ≡ Limits.Small }
+    requires external { length job.now.checks.aad.now ≤ 65535 }
+    ensures prints { (bytes : List ℕ) → R.remaining input.old ≡ Some bytes →
+        Prints (admitted_each job.entry.now bytes)
+        (W.contents output.old) (W.contents output.new) result }
+    ensures fails { (bytes : List ℕ) → R.remaining input.old ≡ Some bytes → result ≡ Status.Fault →
+        FailsInSequence (admitted_each job.entry.now) bytes
+        (W.contents output.old) (W.contents output.new) }
+{
+    let checks = &job.checks;
+    let keys = match KeyTable::<SMALL_KEYS>::read_restricted(checks.keys, &checks.restrictions) {
+        Ok(keys) => keys,
+        Err(refusal) => return print_fault(alloc, Fault::Keys(refusal), output),
+    };
+    let prepared = &PreparedTable::new(keys);
+    print_prepared::<SMALL_HEADER, SMALL_NESTING, SMALL_KEYS, SMALL_CLAIMS, _, _>(
+        alloc, prepared, job, input, output,
+    )
 }
 
 /// Admits each token of a sequence, and writes its lines as soon as they are known.
@@ -233,11 +263,7 @@ pub fn print_admitted<'j, R: Read, W: Write>(
         (W.contents output.old) (W.contents output.new) }
 {
     match job.checks.limits {
-        Limits::Small => {
-            print_prepared::<SMALL_HEADER, SMALL_NESTING, SMALL_KEYS, SMALL_CLAIMS, _, _>(
-                alloc, job, input, output,
-            )
-        }
+        Limits::Small => print_small(alloc, job, input, output),
         Limits::Large => {
             print_within::<LARGE_HEADER, LARGE_NESTING, LARGE_KEYS, LARGE_CLAIMS, _, _>(
                 alloc, job, input, output,
