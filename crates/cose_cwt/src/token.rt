@@ -48,28 +48,10 @@ pub(crate) fn admitted_claims<'a>(
     Ok(claims)
 }
 
-/// The result for a token, by the verdict on the message and its payload.
-fn claims_after<'a>(
-    verdict: Result<Verdict, Stop>,
-    payload: &'a [u8],
-    depth: usize,
-    policy: &Policy<'_>,
-) -> Result<Claims<'a>, CwtStop>
-    requires { depth ≤ 32 }
-    ensures { claims_seen result
-        ≡ token_of depth (policy_value policy.entry.now) verdict payload.entry.now }
-{
-    match verdict {
-        Ok(Verdict::Authentic { .. }) => {
-            admitted_claims(payload, depth, policy).map_err(CwtStop::Claims)
-        }
-        Ok(Verdict::Refused(refusal)) => Err(CwtStop::Message(refusal)),
-        Err(stop) => Err(CwtStop::Stopped(stop)),
-    }
-}
-
-/// The same of a payload that a store lends. Where there are no claims the store is cleared, so that nothing of a
-/// refused payload is left in it.
+/// The result for a token, by the verdict on the message and its payload, which a store lends. Where there are no claims the
+/// store is cleared, so that nothing of a refused payload is left in it.
+///
+/// (The claims are read into the result's own place: they are of some 400 bytes.)
 fn claims_or_cleared<'a>(
     verdict: Result<Verdict, Stop>,
     payload: &'a [u8],
@@ -82,11 +64,19 @@ fn claims_or_cleared<'a>(
         ≡ token_of depth (policy_value policy.entry.now) verdict payload.entry.now }
     ensures cleared { IsErr result → lender.exit.0.now ≡ true }
 {
-    let claims = claims_after(verdict, payload, depth, policy);
-    if claims.is_err() {
-        lender.clear();
-    }
-    claims
+    let why = match verdict {
+        Ok(Verdict::Authentic { .. }) => match Claims::read(payload, depth) {
+            Ok(claims) => match claims.admit(policy) {
+                Ok(()) => return Ok(claims),
+                Err(refusal) => CwtStop::Claims(refusal),
+            },
+            Err(refusal) => CwtStop::Claims(refusal),
+        },
+        Ok(Verdict::Refused(refusal)) => CwtStop::Message(refusal),
+        Err(stop) => CwtStop::Stopped(stop),
+    };
+    lender.clear();
+    Err(why)
 }
 
 /// Verifies one token, and returns its claims where the message is authentic and the claims are admitted.

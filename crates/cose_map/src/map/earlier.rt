@@ -1,6 +1,6 @@
 //! The pairs of a map before the current one, among which its label must not be (RFC 9052 section 3).
 
-ghost use Rattle.std.specs.Prelude.{◌≡◌, ◌+◌, ◌<◌, ◌^◌, [], take, true, option_map};
+ghost use Rattle.std.specs.Prelude.{◌≡◌, ◌+◌, ◌<◌, ◌^◌, [], take, true, Some, option_map};
 ghost use Rattle.cose_head.specs.ItemRef.{placed};
 ghost use Rattle.cose_map.specs.Label.Order as order;
 ghost use Rattle.cose_map.specs.Map.Pairs.{has_label};
@@ -73,6 +73,18 @@ impl<'a> Earlier<'a> {
         ensures count { self.new.count ≡ self.old.count + 1 }
     {
         self.greatest = greater(self.greatest, name);
+        self.count += 1;
+    }
+
+    /// Adds the next pair, whose label this is: one that passes the greatest so far.
+    pub(crate) fn push_greatest(&mut self, name: Label<'a>)
+        requires few { self.old.count + 1 < 2 ^ 128 }
+        requires greatest { order.is_greatest (option_map label_value (Some name))
+            (take (self.old.count + 1) (pairs_left self.old.pairs)) ≡ true }
+        ensures pairs { pairs_left self.new.pairs ≡ pairs_left self.old.pairs }
+        ensures count { self.new.count ≡ self.old.count + 1 }
+    {
+        self.greatest = Some(name);
         self.count += 1;
     }
 }

@@ -104,7 +104,7 @@ fn check_items<'a, F: Form>(form: &F, items: Items<'a>) -> Result<Pairs<'a>, Ref
             return check_in_any_order(form, items);
         }
         let checked = check_new(form, name, true, &label, &value)?;
-        earlier.push(checked);
+        earlier.push_greatest(checked);
     }
     Ok(earlier.pairs)
 }

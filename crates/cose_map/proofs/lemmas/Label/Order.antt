@@ -1,5 +1,5 @@
 -- A label after the greatest so far is new.
-use Rattle.std.proofs.Common.{◌≡◌, ◌∙◌, ℕ, Bool, true, false, not, List, [], ◌∷◌, ◌++◌, Option, Some, None, refl, sym, ap, arith, ⊎_elim}
+use Rattle.std.proofs.Common.{◌≡◌, ◌∙◌, ℕ, Bool, true, false, not, List, [], ◌∷◌, ◌++◌, Option, Some, None, refl, sym, ap, subst, arith, ⊎_elim}
 use Rattle.std.specs.Prelude.{nat_lt, ◌==◌, ◌&&◌, ◌||◌}
 use Rattle.std.specs.Ordering.{nat_cmp, is_lt}
 use Rattle.std.specs.declared.cmp.Ordering.{Ordering}
@@ -94,3 +94,9 @@ still_greatest greatest pair pairs all = ⊎_elim
     (λ p. rw p (one_more (Some pair.name) pair pairs (none_after greatest pair.name pairs all p) (irreflexive pair.name)))
     (λ p. rw p (one_more greatest pair pairs all p))
     (cases_Bool (passes greatest pair.name))
+
+-- a label that passes the greatest is the greatest then
+pub greatest_now : (greatest : Option LabelValue) (pair : Pair) (pairs : List Pair) → is_greatest greatest pairs ≡ true → passes greatest pair.name ≡ true → is_greatest (Some pair.name) (pairs ++ pair ∷ []) ≡ true
+greatest_now greatest pair pairs all passed =
+    let is : greater greatest pair.name ≡ Some pair.name = rw passed refl in
+    subst (λ (g : Option LabelValue). is_greatest g (pairs ++ pair ∷ []) ≡ true) is (still_greatest greatest pair pairs all)

@@ -107,6 +107,14 @@ pair_checked table earlier label value name new answer e is checked =
     twice true = refl
     twice false = refl
 
+-- a pair that was checked has the name that it was checked under
+named : (o : Option Reason) (name : LabelValue) (label value : Placed) (pair : Pair) → value_at label o name value ≡ Ok pair → pair.name ≡ name
+named None name label value pair e = let same : record { name = name; label = label; value = value } ≡ pair = cc in sym (ap (λ (p : Pair). p.name) same)
+named (Some reason) name label value pair e = absurd cc
+
+pub checked_label : (table : Table) (label value : Placed) (name : LabelValue) (pair : Pair) → Ok pair ≡ new_pair table false label name value → pair.name ≡ name
+checked_label table label value name pair e = named (table name value) name label value pair (sym e)
+
 -- the label of the first pair of those that are left
 pub named_first : (label value : Placed) (others : List Placed) (rest : List Placed) (name : LabelValue) → rest ≡ label ∷ value ∷ others → Ok name ≡ name_at label (label_of label) → is_first name (pairs_of rest) ≡ true
 unfolding pairs_of
