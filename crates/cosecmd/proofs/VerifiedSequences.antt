@@ -1,6 +1,5 @@
 -- A sequence whose messages are verified, or whose tokens are admitted, under a key set.
-use Rattle.std.proofs.Common.{◌≡◌, ℕ, Bool, List, [], ◌++◌, Option, Some, Ok, refl, subst}
-use Rattle.std.specs.Prelude.{codes}
+use Rattle.std.proofs.Common.{◌≡◌, ℕ, Bool, List, [], Option, Some, Ok, refl, subst}
 use Rattle.std.specs.Io.Buffered.{reader_buffer, reader_capacity, reader_inner, reader_remaining}
 use Rattle.std.specs.declared.io.buffered.BufReader.{BufReader}
 use Rattle.cose_cwt.specs.Admission.{PolicyValue}
@@ -8,12 +7,10 @@ use Rattle.cose_cwt.specs.Requirements.{RequirementsValue}
 use Rattle.cose_cwt.specs.Token.{read_as}
 use Rattle.cose_map.specs.Key.Value.{KeyValue}
 use Rattle.cose_msg.specs.Message.{Setting}
-use Rattle.cose_msg.specs.Sink.{AppendsFront}
 use Rattle.cosecmd.specs.Admitted.{input_token}
-use Rattle.cosecmd.specs.Faults.{fault_text}
 use Rattle.cosecmd.specs.declared.reply.Status.{Status}
 use Rattle.cosecmd.specs.Printed.{Output, Prints, input_answer, outcome_said, output_of, setting_under, token_setting}
-use Rattle.cosecmd.specs.Sequence.{FailsAfter, FailsInSequence, admitted_sequence, sequence_said, verified_sequence}
+use Rattle.cosecmd.specs.Sequence.{admitted_sequence, sequence_said, verified_sequence}
 use Rattle.cosecmd.specs.Under.{Under}
 use Rattle.cosecmd.specs.Vouch.{vouching}
 
