@@ -84,4 +84,3 @@ returns-clause-fits c = ap is_none (returns-clause-first c) ∙ none_where_fitti
 
 pub returns-clause-unanswerable : goal.returns-clause-unanswerable
 returns-clause-unanswerable c = λ e. returns-clause-first c ∙ algorithm_where_unanswerable (question c.args.self.now) (key_value c.args.key.now) e
-
