@@ -36,7 +36,7 @@
 //! assert_eq!(rt; algorithm, 5);
 //! ```
 //!
-//! Code that takes either is generic over [`Keys`].
+//! Code that takes either is generic over [`Keys`]. Why none of them fits, [`Query::mismatch`] says of each key.
 //!
 //! A usable key is a secret, or a point on P-256, P-384 or P-521 ([`Material`]). Whether a point is on its curve isn't
 //! checked: no curve arithmetic is included.
