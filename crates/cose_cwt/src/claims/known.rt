@@ -77,35 +77,59 @@ impl<'a> Known<'a> {
         ensures iss { (item : Placed) (others : List Pair)
             → option_or (option_map placed self.new.iss) (value_of names.iss others)
             ≡ option_or (option_map placed self.old.iss) (value_of names.iss (record {
-              name = label_value name.now; label = item; value = placed value.entry } ∷ others)) }
+              name = label_value name.now;
+              label = item;
+              value = placed value.entry;
+            } ∷ others)) }
         ensures sub { (item : Placed) (others : List Pair)
             → option_or (option_map placed self.new.sub) (value_of names.sub others)
             ≡ option_or (option_map placed self.old.sub) (value_of names.sub (record {
-              name = label_value name.now; label = item; value = placed value.entry } ∷ others)) }
+              name = label_value name.now;
+              label = item;
+              value = placed value.entry;
+            } ∷ others)) }
         ensures aud { (item : Placed) (others : List Pair)
             → option_or (option_map placed self.new.aud) (value_of names.aud others)
             ≡ option_or (option_map placed self.old.aud) (value_of names.aud (record {
-              name = label_value name.now; label = item; value = placed value.entry } ∷ others)) }
+              name = label_value name.now;
+              label = item;
+              value = placed value.entry;
+            } ∷ others)) }
         ensures exp { (item : Placed) (others : List Pair)
             → option_or (option_map placed self.new.exp) (value_of names.exp others)
             ≡ option_or (option_map placed self.old.exp) (value_of names.exp (record {
-              name = label_value name.now; label = item; value = placed value.entry } ∷ others)) }
+              name = label_value name.now;
+              label = item;
+              value = placed value.entry;
+            } ∷ others)) }
         ensures nbf { (item : Placed) (others : List Pair)
             → option_or (option_map placed self.new.nbf) (value_of names.nbf others)
             ≡ option_or (option_map placed self.old.nbf) (value_of names.nbf (record {
-              name = label_value name.now; label = item; value = placed value.entry } ∷ others)) }
+              name = label_value name.now;
+              label = item;
+              value = placed value.entry;
+            } ∷ others)) }
         ensures iat { (item : Placed) (others : List Pair)
             → option_or (option_map placed self.new.iat) (value_of names.iat others)
             ≡ option_or (option_map placed self.old.iat) (value_of names.iat (record {
-              name = label_value name.now; label = item; value = placed value.entry } ∷ others)) }
+              name = label_value name.now;
+              label = item;
+              value = placed value.entry;
+            } ∷ others)) }
         ensures cti { (item : Placed) (others : List Pair)
             → option_or (option_map placed self.new.cti) (value_of names.cti others)
             ≡ option_or (option_map placed self.old.cti) (value_of names.cti (record {
-              name = label_value name.now; label = item; value = placed value.entry } ∷ others)) }
+              name = label_value name.now;
+              label = item;
+              value = placed value.entry;
+            } ∷ others)) }
         ensures cnf { (item : Placed) (others : List Pair)
             → option_or (option_map placed self.new.cnf) (value_of names.cnf others)
             ≡ option_or (option_map placed self.old.cnf) (value_of names.cnf (record {
-              name = label_value name.now; label = item; value = placed value.entry } ∷ others)) }
+              name = label_value name.now;
+              label = item;
+              value = placed value.entry;
+            } ∷ others)) }
     {
         match *name {
             labels::ISS => keep_first(&mut self.iss, value),
