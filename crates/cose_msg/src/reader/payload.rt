@@ -230,20 +230,20 @@ impl<'k, const H: usize, const D: usize> Reader<'k, H, D> {
 
     /// Takes a piece that ends before the payload does. The phase isn't copied: what is left is counted in its place.
     #[inline(always)]
-    pub(crate) fn payload_part(&mut self, piece: &[u8])
+    pub(crate) fn payload_part(&mut self, bytes: &[u8])
         requires inside { in_payload self.old.phase ≡ true }
-        requires fewer { length piece.now < want_of self.old.phase }
+        requires fewer { length bytes.now < want_of self.old.phase }
         ensures inside { in_payload self.new.phase ≡ true }
         ensures reads_on { (task : Task) (B : List ℕ) (n : ℕ) (reading : List ℕ → Reading)
             → StandsFor task B n self.old reading
-            → StandsFor task (B ++ piece.now) (n + length piece.now) self.new
-            (λ z. reading (piece.now ++ z)) }
+            → StandsFor task (B ++ bytes.now) (n + length bytes.now) self.new
+            (λ z. reading (bytes.now ++ z)) }
     {
         match &mut self.phase {
-            Phase::Payload(payload) => payload.left -= piece.len() as u64,
+            Phase::Payload(payload) => payload.left -= bytes.len() as u64,
             _ => {}
         }
-        self.hashing.update(piece);
+        self.hashing.update(bytes);
     }
 
     /// Takes a piece of a detached payload.

@@ -118,20 +118,20 @@ impl<'k, const H: usize, const D: usize, S: Keys<'k>> Verifier<'k, H, D, S> {
 
     /// Takes a piece that ends before the payload does, and counts it.
     #[inline(always)]
-    pub(crate) fn take_payload_part(&mut self, piece: &[u8])
-        requires some { 0 < length piece.now }
-        requires fewer { length piece.now < want_of self.old.reader.phase }
+    pub(crate) fn take_payload_part(&mut self, bytes: &[u8])
+        requires some { 0 < length bytes.now }
+        requires fewer { length bytes.now < want_of self.old.reader.phase }
         requires inside { in_payload self.old.reader.phase ≡ true }
         requires early { self.old.taken < 2 ^ 57 }
         ensures inside { in_payload self.new.reader.phase ≡ true }
-        ensures counted { self.new.taken ≡ self.old.taken + length piece.now }
+        ensures counted { self.new.taken ≡ self.old.taken + length bytes.now }
         ensures marked { self.new.stopped ≡ self.old.stopped }
         ensures purpose { SamePurpose self.old self.new }
         ensures taken { WhateverTaken self.old (λ task taken payload_so_far.
-            HasTaken task (taken ++ piece.now) (payload_so_far ++ piece.now) self.new) }
+            HasTaken task (taken ++ bytes.now) (payload_so_far ++ bytes.now) self.new) }
     {
-        self.reader.payload_part(piece);
-        self.taken += piece.len() as u64;
+        self.reader.payload_part(bytes);
+        self.taken += bytes.len() as u64;
     }
 
     /// Stops until `reset`.

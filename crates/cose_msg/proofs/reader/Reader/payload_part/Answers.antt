@@ -13,7 +13,7 @@ returns-clause-reads_on g c = λ task B n reading h.
     elim c.match-self.branch [
       | in-Payload w ↦ rw w.self-is (
           let before = w.in-Payload.payload in
-          let piece = c.args.piece.now in
+          let piece = c.args.bytes.now in
           let inside = rw w.in-Payload.is at h.holds in
           let fewer : length piece < before.left = subst (λ (p : Phase). length piece < want_of p) w.in-Payload.is c.requires.fewer in
           let opened = opened_more task.setting.aad h.known.headers h.known.payload before.length h.known.chosen c.args.self.now.hashing c.update.new.self piece c.update.ensures inside.4 in

@@ -11,7 +11,7 @@ use Rattle.cose_msg.proofs.verifier.Verifier.take_payload_part.Goals as goal
 
 pub returns-clause-taken : goal.returns-clause-taken
 returns-clause-taken g c = λ task s B h.
-    let piece = c.args.piece.now in
+    let piece = c.args.bytes.now in
     let next = c.payload_part.new.self in
     let is_attached : task.setting.source ≡ attached = reads_on_attached h.so_far c.requires.inside in
     let count : length s + length piece ≡ length (s ++ piece) = omega (arith, length-append s piece) in
