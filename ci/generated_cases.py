@@ -425,6 +425,10 @@ class Round:
         """The options but `keys`, in their order."""
         options = {}
         if self.command == "keys":
+            if self.happens(0.5):
+                options["for-message"] = True
+                if not self.is_tagged or self.happens(0.3):
+                    options["kind"] = self.pick("mac0", "sign1", "tagged") if self.slips() else self.kind
             return options
         if self.command != "digest" and (not self.is_tagged or self.happens(0.3)):
             options["kind"] = self.pick("mac0", "sign1", "tagged") if self.slips() else self.kind

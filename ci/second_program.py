@@ -202,21 +202,25 @@ def make(options, data):
     return made + reading.string(reading.mac(alg, key, reading.structure("mac0", protected, aad, payload)))
 
 
-def keys(options, _data):
+def keys(options, data):
     try:
         items = reading.read_key_items(hexadecimal(options, "keys"))
     except Refused as refusal:
         raise Fault(f"keys {refusal}") from None
     usable = sum(isinstance(it, reading.Key) for _place, it in items)
-    lines = [f"key at {place} {words_of(it)}" for place, it in items]
+    asked = None
+    if "for-message" in options:
+        # the headers have the large limits
+        asked = reading.read_headers(data, options.get("kind", "tagged"), 65_535, 16)
+    lines = [f"key at {place} {words_of(it, asked)}" for place, it in items]
     count = f"usable {usable} of {len(items)}"
     if usable > reading.USABLE_KEYS:
         raise TooMany(printed([*lines, f"{count} refused BadKeySet at 0"]))
     return printed([*lines, count])
 
 
-def words_of(key):
-    """What the line of an item says of a usable key, or of a refusal."""
+def words_of(key, asked):
+    """What the line of an item says of a usable key, for the headers of a message where there are any, or of a refusal."""
     if isinstance(key, Refused):
         return f"refused {key}"
     words = [f"kty {key.type}"]
@@ -229,7 +233,11 @@ def words_of(key):
     if key.operations is not None:
         listed = ",".join(str(it) for it in range(1, 11) if it in key.operations)
         words.append(f"ops {listed}".strip())
-    return " ".join([*words, "usable"])
+    words.append("usable")
+    if asked is not None:
+        failed = reading.failed_condition(key, asked)
+        words.append(f"fails {failed}" if failed else "fits")
+    return " ".join(words)
 
 
 def quoted(text):

@@ -469,12 +469,12 @@ def read_string(data, place, is_good, reason):
     return data[place + width : end], end
 
 
-def read_protected(data, place):
+def read_protected(data, place, limit, nesting):
     """The protected bucket, its bytes as they are authenticated, and the place after them."""
-    content, end = read_string(data, place, lambda it: it <= HEADER_LIMIT, Reason.PastRoom)
+    content, end = read_string(data, place, lambda it: it <= limit, Reason.PastRoom)
     if not content:
         return {}, b"", end
-    pairs = read_map(read_whole(data, end - len(content), end, NESTING), HEADER_FORMS)
+    pairs = read_map(read_whole(data, end - len(content), end, nesting), HEADER_FORMS)
     return pairs, content if pairs else b"", end
 
 
@@ -490,14 +490,36 @@ def read_payload(data, place, context):
     return context.payload, place + width
 
 
+def read_headers(data, wanted, limit=HEADER_LIMIT, nesting=NESTING):
+    """The kind of a message, its buckets, the bytes of the protected one, and the place after them."""
+    kind, place = read_front(data, wanted)
+    protected, protected_bytes, place = read_protected(data, place, limit, nesting)
+    item = read_item(data, place, place + limit, nesting)
+    unprotected = read_map(item, HEADER_FORMS)
+    check_buckets(protected, unprotected, item.end)
+    return kind, protected, unprotected, protected_bytes, item.end
+
+
+def failed_condition(key, headers):
+    """The first condition that a key fails to fit these headers, or nothing."""
+    kind, protected, unprotected = headers[:3]
+    inside, outside = name_of(protected, ALG), name_of(unprotected, ALG)
+    used = key.alg if inside is None else inside
+    if not is_of_kind(used, kind) or key.alg not in (None, used) or (inside is None and outside not in (None, used)):
+        return "algorithm"
+    if ALGORITHMS[used].key_type != key.type:
+        return "type"
+    if ALGORITHMS[used].curve != key.curve:
+        return "curve"
+    if key.operations is not None and OPERATIONS[kind] not in key.operations:
+        return "key_ops"
+    kid = content_of(protected | unprotected, KID)
+    return "" if None in (key.kid, kid) or key.kid == kid else "kid"
+
+
 def read_message(data, context):
     """The message that some bytes begin with, up to its last byte, which is before the comparison."""
-    kind, place = read_front(data, context.wanted)
-    protected, protected_bytes, place = read_protected(data, place)
-    item = read_item(data, place, place + HEADER_LIMIT, NESTING)
-    unprotected = read_map(item, HEADER_FORMS)
-    place = item.end
-    check_buckets(protected, unprotected, place)
+    kind, protected, unprotected, protected_bytes, place = read_headers(data, context.wanted)
     key, alg = None, None
     if context.keys is not None:
         key, alg = choose_key(context.keys, kind, protected, unprotected, place)

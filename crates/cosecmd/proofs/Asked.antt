@@ -10,7 +10,7 @@ use Rattle.cose_cwt.specs.Requirements.View.{requirements_value}
 use Rattle.cose_map.specs.Key.View.{contents}
 use Rattle.cose_msg.specs.declared.context.Wanted.{Wanted}
 use Rattle.cosecmd.specs.declared.job.Job.{Job}
-use Rattle.cosecmd.specs.declared.job.Job.TheVariants.{Cwt, Keys, Make}
+use Rattle.cosecmd.specs.declared.job.Job.TheVariants.{Cwt, Keys, KeysFor, Make}
 use Rattle.cosecmd.specs.declared.job.Question.{Question}
 use Rattle.cosecmd.specs.declared.job.Question.TheVariants as questions
 use Rattle.cosecmd.specs.declared.limits.Limits.{Limits}
@@ -23,7 +23,7 @@ use Rattle.cosecmd.specs.declared.request.OwnedChecks.{OwnedChecks}
 use Rattle.cosecmd.specs.declared.job.Checks.{Checks}
 use Rattle.cosecmd.specs.declared.job.FileJob.{FileJob}
 use Rattle.cosecmd.specs.Admitted.{program_policy}
-use Rattle.cosecmd.specs.Printed.{EndsWith, Fails, Output, admitted_under, answered_under, digested_under, keys_listed, printed, shown, verified_under}
+use Rattle.cosecmd.specs.Printed.{EndsWith, Fails, Output, admitted_under, answered_under, digested_under, keys_said, printed, shown, verified_under}
 use Rattle.cosecmd.specs.Job.{aad_of, is_make, job_of}
 use Rattle.cosecmd.specs.Options.{stated_part}
 use Rattle.cosecmd.specs.Stated.{answered_from, digested_from, verified_from}
@@ -74,9 +74,15 @@ cwt_words words checks now requirements bytes same n required =
     ∙ ap (λ (at : ℤ). admitted_under (job_under checks) (program_policy at words.leeway (option_map text_value words.aud)) (requirements_for at words.leeway words.required) words.readable bytes) n
     ∙ ap (λ (under : Under). admitted_under under (program_policy words.now words.leeway (option_map text_value words.aud)) (requirements_for words.now words.leeway words.required) words.readable bytes) same
 
-pub keys_words : (words : KeysWords) (keys : Bor (List ℕ)) (bytes : List ℕ) → keys.now ≡ words.keys.items → printed (Keys keys) bytes ≡ keys_listed words.keys.items
+pub keys_words : (words : KeysWords) (keys : Bor (List ℕ)) (bytes : List ℕ) → keys.now ≡ words.keys.items → words.message ≡ None →
+    printed (Keys keys) bytes ≡ keys_said words.message words.keys.items bytes
 unfolding printed
-keys_words words keys bytes k = rw k refl
+keys_words words keys bytes k none = rw (k, none) refl
+
+pub keys_for_words : (words : KeysWords) (keys : Bor (List ℕ)) (wanted : Wanted) (bytes : List ℕ) → keys.now ≡ words.keys.items → words.message ≡ Some wanted →
+    printed (KeysFor keys wanted) bytes ≡ keys_said words.message words.keys.items bytes
+unfolding printed
+keys_for_words words keys wanted bytes k some = rw (k, some) refl
 
 pub make_words : (words : MakeWords) (key aad : Bor (List ℕ)) (kid : Option (Bor (List ℕ))) (bytes : List ℕ) → key.now ≡ words.key.items → aad.now ≡ words.aad.items →
     option_map contents kid ≡ option_map (λ word. word.items) words.kid → printed (Make words.alg key words.length kid aad) bytes ≡ made_for words bytes

@@ -9,12 +9,14 @@ use Rattle.clap.specs.declared.parser.matches.ArgMatches.TheViews.{out-ArgMatche
 use Rattle.cose_map.specs.Key.{key_of}
 use Rattle.cose_cwt.specs.Claims.Audience.{text_value}
 use Rattle.cose_cwt.specs.Requirements.{RequirementsValue}
+use Rattle.cose_msg.specs.declared.context.Wanted.{Wanted}
 use Rattle.cosecmd.specs.Admitted.{program_policy}
+use Rattle.cosecmd.specs.AskedKeys.{asked}
 use Rattle.cosecmd.specs.CommandLine.{Admits, IsFoundIn, IsReadFrom, begins_as_answer, command_prints, keys_prints, line_prints, make_prints, matches_print, tokens_print}
-use Rattle.cosecmd.specs.Fields.{AreChecks, CwtFields, KeysFields, MakeFields, checks_in}
-use Rattle.cosecmd.specs.Options.{Options, ◌>>=◌, flag_in, key_in, key_set_in, text_in}
+use Rattle.cosecmd.specs.Fields.{AreChecks, CwtFields, IsListedAs, KeysFields, MakeFields, checks_in}
+use Rattle.cosecmd.specs.Options.{Options, ◌>>=◌, flag_in, key_in, key_set_in, message_in, text_in}
 use Rattle.cosecmd.specs.PayloadTo.{new_file_of}
-use Rattle.cosecmd.specs.Printed.{Output, keys_listed, made_under}
+use Rattle.cosecmd.specs.Printed.{Output, items_listed, items_listed_for, keys_said, made_under}
 use Rattle.cosecmd.specs.Requirements.{requirements_for, requirements_with}
 use Rattle.cosecmd.specs.Under.{Under, owned_under}
 use Rattle.cosecmd.specs.Arguments.{made_for}
@@ -58,18 +60,25 @@ cwt_asks admits content options words bytes said fields prints = go (checks_in c
         ∙ ap (λ (readable : Bool). admits (owned_under words.checks) (program_policy words.now words.leeway (text_in (codes "aud") options)) required readable bytes) fields.readable
         ∙ ap (λ (u : Under). admits u (program_policy words.now words.leeway (text_in (codes "aud") options)) required (flag_in (codes "text") options) bytes) (fields.checks under checks) ∙ same
 
-pub keys_asks : (content : List ℕ → Option (List ℕ)) (options : Options) (words : Keys) (said : Output) → KeysFields content options words →
-    keys_prints content options ≡ Some said → keys_listed words.keys.items ≡ said
-keys_asks content options words said fields prints = go (key_set_in content options) refl
+-- For a message or for none, the lines of these bytes are those of the argument or of the file.
+listed_as : (content : List ℕ → Option (List ℕ)) (options : Options) (keys known : List ℕ) (message : Option Wanted) (bytes : List ℕ) → IsListedAs content options keys → key_set_in content options ≡ Some known →
+    keys_said message keys bytes ≡ keys_said message known bytes
+listed_as content options keys known None bytes listed is = listed known is (items_listed None)
+listed_as content options keys known (Some wanted) bytes listed is = listed known is (items_listed_for (asked wanted bytes))
+
+pub keys_asks : (content : List ℕ → Option (List ℕ)) (options : Options) (words : Keys) (bytes : List ℕ) (said : Output) → KeysFields content options words →
+    keys_prints content options bytes ≡ Some said → keys_said words.message words.keys.items bytes ≡ said
+keys_asks content options words bytes said fields prints = go (key_set_in content options) refl
   where
-    go : (known : Option (List ℕ)) → key_set_in content options ≡ known → keys_listed words.keys.items ≡ said
+    go : (known : Option (List ℕ)) → key_set_in content options ≡ known → keys_said words.message words.keys.items bytes ≡ said
     go None keys =
         let none : None ≡ Some said = rw keys at prints in
         cc
     go (Some known) keys =
-        let some : Some (keys_listed known) ≡ Some said = rw keys at prints in
-        let same : keys_listed known ≡ said = cc in
-        fields.keys known keys ∙ same
+        let some : Some (keys_said (message_in options) known bytes) ≡ Some said = rw keys at prints in
+        let same : keys_said (message_in options) known bytes ≡ said = cc in
+        listed_as content options words.keys.items known words.message bytes fields.keys keys
+        ∙ ap (λ (message : Option Wanted). keys_said message known bytes) fields.message ∙ same
 
 pub make_asks : (content : List ℕ → Option (List ℕ)) (options : Options) (words : Make) (bytes : List ℕ) (said : Output) → MakeFields content options words →
     make_prints content options bytes ≡ Some said → made_for words bytes ≡ said

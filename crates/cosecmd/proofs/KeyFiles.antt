@@ -3,12 +3,12 @@ use Rattle.std.proofs.Common.{◌≡◌, ℕ, ◌≤◌, ◌<◌, Bool, true, fa
 use Rattle.std.specs.Prelude.{IfSome}
 use Rattle.std.proofs.lemmas.Bool.{lt-ltb, ltb-false, ltb-true}
 use Rattle.std.proofs.lemmas.List.{length-take, take_all}
-use Rattle.cosecmd.specs.Printed.{keys_listed}
+use Rattle.cosecmd.specs.Printed.{ItemsPrint, keys_print}
 use Rattle.cose_map.specs.KeySet.{keys_of}
 
-pub first_read : (left : Option (List ℕ)) (limit : ℕ) (old new bytes : List ℕ) → left ≡ Some bytes → limit ≡ 65536 → old ≡ [] →
-    IfSome (option_map (take limit) left) (λ more. new ≡ old ++ more) → new ≡ take 65536 bytes
-first_read left limit old new bytes l m o read = rw (l, m, o) at read
+pub first_read : (most : ℕ) (left : Option (List ℕ)) (limit : ℕ) (old new bytes : List ℕ) → left ≡ Some bytes → limit ≡ most → old ≡ [] →
+    IfSome (option_map (take limit) left) (λ more. new ≡ old ++ more) → new ≡ take most bytes
+first_read most left limit old new bytes l m o read = rw (l, m, o) at read
 
 -- Where fewer bytes were read, they are the whole file.
 pub whole_read : (read bytes : List ℕ) → read ≡ take 65536 bytes → length read < 65536 → read ≡ bytes
@@ -19,19 +19,19 @@ whole_read read bytes is short =
 
 -- So many bytes are no key set, whatever follows them.
 same_set_by : (bytes : List ℕ) (long : Bool) → nat_lt 65536 (length bytes) ≡ long →
-    (keys_of (take 65536 bytes) ≡ keys_of bytes) × (keys_listed (take 65536 bytes) ≡ keys_listed bytes)
+    (keys_of (take 65536 bytes) ≡ keys_of bytes) × ((said : ItemsPrint) → keys_print said (take 65536 bytes) ≡ keys_print said bytes)
 unfolding keys_of
 same_set_by bytes false e =
     let fits : length bytes ≤ 65536 = let f = ltb-false 65536 (length bytes) e in omega (arith, f) in
-    (ap keys_of (take_all 65536 bytes fits), ap keys_listed (take_all 65536 bytes fits))
+    (ap keys_of (take_all 65536 bytes fits), λ said. ap (keys_print said) (take_all 65536 bytes fits))
 same_set_by bytes true e =
     let more : 65536 < length bytes = ltb-true 65536 (length bytes) e in
     let n : length (take 65536 bytes) ≡ 65536 = let m = length-take 65536 bytes in omega (arith, m, more) in
     let long : nat_lt 65535 (length bytes) ≡ true = lt-ltb 65535 (length bytes) (omega (arith, more)) in
-    (rw (n, long) refl, rw (n, long) refl)
+    (rw (n, long) refl, λ said. rw (n, long) refl)
 
 pub keys_read : (read bytes : List ℕ) → read ≡ take 65536 bytes → keys_of read ≡ keys_of bytes
 keys_read read bytes is = ap keys_of is ∙ (same_set_by bytes (nat_lt 65536 (length bytes)) refl).0
 
-pub list_read : (read bytes : List ℕ) → read ≡ take 65536 bytes → keys_listed read ≡ keys_listed bytes
-list_read read bytes is = ap keys_listed is ∙ (same_set_by bytes (nat_lt 65536 (length bytes)) refl).1
+pub list_read : (read bytes : List ℕ) → read ≡ take 65536 bytes → (said : ItemsPrint) → keys_print said read ≡ keys_print said bytes
+list_read read bytes is said = ap (keys_print said) is ∙ (same_set_by bytes (nat_lt 65536 (length bytes)) refl).1 said

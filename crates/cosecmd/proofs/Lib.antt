@@ -1,6 +1,7 @@
 pub mod Admissions
 pub mod AllowedKeys
 pub mod Asked
+pub mod AskedKeys
 pub mod AskedSequences
 pub mod ChecksAsked
 pub mod CommandLines
@@ -27,6 +28,7 @@ pub mod VerifiedSequences
 pub mod Vouches
 pub mod WorkedAdmitted
 pub mod WorkedAllowed
+pub mod WorkedAsked
 pub mod WorkedDigests
 pub mod WorkedKept
 pub mod WorkedLimits

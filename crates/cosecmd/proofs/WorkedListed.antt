@@ -1,5 +1,5 @@
 -- What the program prints of key sets that it lists, on examples, by computing.
-use Rattle.std.specs.Prelude.{◌≡◌, ℕ, ℤ, List, [], ◌∷◌, ◌++◌, replicate, codes, Option, Ok, pos, refl}
+use Rattle.std.specs.Prelude.{◌≡◌, ℕ, ℤ, List, [], ◌∷◌, ◌++◌, replicate, codes, Option, Some, None, Ok, pos, refl}
 use Rattle.std.specs.Fmt.{digits}
 use Rattle.std.specs.Str.{is_utf8, chars}
 use Rattle.cose_head.specs.Head.{bare_head}
@@ -78,11 +78,11 @@ status_of_too_many = refl
 
 -- Whatever the bytes of a secret are, and however many there are, its line is the same; and so is that of a point on a curve.
 no_byte_of_a_secret : (kid : Option (List ℕ)) (alg : Option LabelValue) (operations : Option (List ℤ)) (secret other : List ℕ) →
-    outcome_words (Ok (record { kid = kid; alg = alg; operations = operations; material = symmetric secret }))
-    ≡ outcome_words (Ok (record { kid = kid; alg = alg; operations = operations; material = symmetric other }))
+    outcome_words None (Ok (record { kid = kid; alg = alg; operations = operations; material = symmetric secret }))
+    ≡ outcome_words None (Ok (record { kid = kid; alg = alg; operations = operations; material = symmetric other }))
 no_byte_of_a_secret kid alg operations secret other = refl
 
 no_byte_of_a_point : (kid : Option (List ℕ)) (alg : Option LabelValue) (operations : Option (List ℤ)) (curve : ℕ) (x other_x : List ℕ) (y other_y : YValue) →
-    outcome_words (Ok (record { kid = kid; alg = alg; operations = operations; material = elliptic curve x y }))
-    ≡ outcome_words (Ok (record { kid = kid; alg = alg; operations = operations; material = elliptic curve other_x other_y }))
+    outcome_words None (Ok (record { kid = kid; alg = alg; operations = operations; material = elliptic curve x y }))
+    ≡ outcome_words None (Ok (record { kid = kid; alg = alg; operations = operations; material = elliptic curve other_x other_y }))
 no_byte_of_a_point kid alg operations curve x other_x y other_y = refl

@@ -4,7 +4,7 @@ use Rattle.cose_cwt.specs.Claims.Audience.{text_value}
 use Rattle.cose_map.specs.Key.{key_of}
 use Rattle.cosecmd.specs.Admitted.{program_policy}
 use Rattle.cosecmd.specs.Payload.{detached_in}
-use Rattle.cosecmd.specs.Printed.{Output, admitted_under, answered_under, keys_listed, made_under, shown, verified_under}
+use Rattle.cosecmd.specs.Printed.{Output, admitted_under, answered_under, keys_said, made_under, shown, verified_under}
 use Rattle.cosecmd.specs.Requirements.{requirements_for}
 use Rattle.cosecmd.specs.Sequence.{admitted_sequence, verified_sequence}
 use Rattle.cosecmd.specs.Under.{owned_under}
@@ -44,7 +44,7 @@ asked_for (asks.Keep checks name) payload bytes = verified_under (owned_under ch
 asked_for (asks.MessageSequence checks) payload bytes = verified_sequence (owned_under checks) bytes
 asked_for (asks.Cwt words) payload bytes = admitted_for words bytes
 asked_for (asks.TokenSequence words) payload bytes = admitted_each_for words bytes
-asked_for (asks.Keys words) payload bytes = keys_listed words.keys.items
+asked_for (asks.Keys words) payload bytes = keys_said words.message words.keys.items bytes
 asked_for (asks.Make words) payload bytes = made_for words bytes
 
 -- Whether a message is to be made.

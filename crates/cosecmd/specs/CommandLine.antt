@@ -14,9 +14,9 @@ use Rattle.cose_map.specs.Key.{key_of}
 use Rattle.cose_msg.specs.Sink.{AppendsFront}
 use Rattle.cosecmd.specs.Admitted.{program_policy}
 use Rattle.cosecmd.specs.Faults.{WritesLine}
-use Rattle.cosecmd.specs.Options.{Options, ◌>>=◌, algorithm_in, bytes_in, flag_in, integer_in, key_in, key_set_in, kind_in, limits_in, number_in, optional_bytes_in, payload_in, text_in}
+use Rattle.cosecmd.specs.Options.{Options, ◌>>=◌, algorithm_in, bytes_in, flag_in, integer_in, key_in, key_set_in, kind_in, limits_in, message_in, number_in, optional_bytes_in, payload_in, text_in}
 use Rattle.cosecmd.specs.Fields.{checks_in, digest_checks_in}
-use Rattle.cosecmd.specs.Printed.{EndsWith, Fails, Output, admitted_under, digested_under, keys_listed, made_under, shown, verified_under}
+use Rattle.cosecmd.specs.Printed.{EndsWith, Fails, Output, admitted_under, digested_under, keys_said, made_under, shown, verified_under}
 use Rattle.cosecmd.specs.Requirements.{requirements_in}
 use Rattle.cosecmd.specs.Sequence.{FailsInSequence, admitted_sequence, verified_sequence}
 use Rattle.cosecmd.specs.Under.{Under}
@@ -65,10 +65,10 @@ digest_prints content options bytes = do
   payload ← payload_in content options
   Some (digested_under under payload bytes)
 
-abbrev pub keys_prints : (List ℕ → Option (List ℕ)) → Options → Option Output
-keys_prints content options = do
+abbrev pub keys_prints : (List ℕ → Option (List ℕ)) → Options → List ℕ → Option Output
+keys_prints content options bytes = do
   keys ← key_set_in content options
-  Some (keys_listed keys)
+  Some (keys_said (message_in options) keys bytes)
 
 abbrev pub make_prints : (List ℕ → Option (List ℕ)) → Options → List ℕ → Option Output
 make_prints content options bytes = do
@@ -86,7 +86,7 @@ command_prints content name options bytes =
     else if bytes_eq name (codes "verify") then verify_prints content options bytes
     else if bytes_eq name (codes "cwt") then cwt_prints content options bytes
     else if bytes_eq name (codes "digest") then digest_prints content options bytes
-    else if bytes_eq name (codes "keys") then keys_prints content options
+    else if bytes_eq name (codes "keys") then keys_prints content options bytes
     else if bytes_eq name (codes "make") then make_prints content options bytes
     else None
 

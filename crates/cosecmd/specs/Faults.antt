@@ -14,7 +14,7 @@ use Rattle.cose_map.specs.Key.View.{contents}
 use Rattle.cosecmd.specs.declared.fault.Fault.{Fault}
 use Rattle.cosecmd.specs.declared.fault.Fault.TheVariants as faults
 use Rattle.cosecmd.specs.declared.job.Job.{Job}
-use Rattle.cosecmd.specs.declared.job.Job.TheVariants.{Show, Verify, Cwt, Digest, Keys, Make}
+use Rattle.cosecmd.specs.declared.job.Job.TheVariants.{Show, Verify, Cwt, Digest, Keys, KeysFor, Make}
 
 -- Whether the fault says that the input failed.
 abbrev pub is_of_input : Fault → Bool
@@ -69,6 +69,7 @@ making_fault (Verify checks payload) = None
 making_fault (Cwt checks now leeway aud requirements readable) = None
 making_fault (Digest checks payload) = None
 making_fault (Keys keys) = None
+making_fault (KeysFor keys wanted) = None
 
 abbrev pub fault_text : Fault → List ℕ
 fault_text faults.Memory = codes "fault memory"

@@ -3,10 +3,10 @@ use Rattle.std.specs.Prelude.{◌≡◌, ℕ, List, Option, Some, None, codes, o
 use Rattle.cose_map.specs.KeySet.{keys_of}
 use Rattle.cose_msg.specs.declared.context.Wanted.TheVariants as wants
 use Rattle.cose_cwt.specs.Claims.Audience.{text_value}
-use Rattle.cosecmd.specs.Options.{Options, ◌>>=◌, algorithm_in, bytes_in, flag_in, integer_in, key_in, key_set_in, kind_in, limits_in, number_in, optional_bytes_in, text_in}
+use Rattle.cosecmd.specs.Options.{Options, ◌>>=◌, algorithm_in, bytes_in, flag_in, integer_in, key_in, key_set_in, kind_in, limits_in, message_in, number_in, optional_bytes_in, text_in}
 use Rattle.cosecmd.specs.Allowed.{restrictions_in}
 use Rattle.cosecmd.specs.Limits.{room_of}
-use Rattle.cosecmd.specs.Printed.{keys_listed}
+use Rattle.cosecmd.specs.Printed.{ItemsPrint, keys_print}
 use Rattle.cosecmd.specs.Requirements.{RequiredFields}
 use Rattle.cosecmd.specs.Under.{Under, owned_under, program_keys}
 use Rattle.cosecmd.specs.declared.request.Cwt.{Cwt}
@@ -18,9 +18,10 @@ use Rattle.cosecmd.specs.declared.request.OwnedChecks.{OwnedChecks}
 abbrev pub HasKeysOf : (List ℕ → Option (List ℕ)) → Options → List ℕ → Type 0
 HasKeysOf content options keys = (bytes : List ℕ) → key_set_in content options ≡ Some bytes → keys_of keys ≡ keys_of bytes
 
--- The lines of these bytes are those of the argument, or of the file that is named, where its bytes are known.
+-- Whatever is printed for the items of a key set, of these bytes it is what is printed for the argument, or for the file that is
+-- named, where its bytes are known.
 abbrev pub IsListedAs : (List ℕ → Option (List ℕ)) → Options → List ℕ → Type 0
-IsListedAs content options keys = (bytes : List ℕ) → key_set_in content options ≡ Some bytes → keys_listed keys ≡ keys_listed bytes
+IsListedAs content options keys = (bytes : List ℕ) → key_set_in content options ≡ Some bytes → (said : ItemsPrint) → keys_print said keys ≡ keys_print said bytes
 
 -- The bytes are those of the argument, or of the file that is named, where its bytes are known.
 abbrev pub IsKeyOf : (List ℕ → Option (List ℕ)) → Options → List ℕ → Type 0
@@ -57,6 +58,7 @@ pub record CwtFields (content : List ℕ → Option (List ℕ)) (options : Optio
 
 pub record KeysFields (content : List ℕ → Option (List ℕ)) (options : Options) (words : Keys) : Type 0 where
   pub keys : IsListedAs content options words.keys.items
+  pub message : words.message ≡ message_in options
 
 pub record MakeFields (content : List ℕ → Option (List ℕ)) (options : Options) (words : Make) : Type 0 where
   pub alg : algorithm_in options ≡ Some words.alg

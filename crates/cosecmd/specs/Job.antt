@@ -3,7 +3,7 @@ use Rattle.std.specs.Prelude.{ℕ, Bool, true, false, List, [], Option}
 use Rattle.std.specs.Borrow.{Bor}
 use Rattle.cosecmd.specs.declared.job.Checks.{Checks}
 use Rattle.cosecmd.specs.declared.job.Job.{Job}
-use Rattle.cosecmd.specs.declared.job.Job.TheVariants.{Show, Verify, Cwt, Digest, Keys, Make}
+use Rattle.cosecmd.specs.declared.job.Job.TheVariants.{Show, Verify, Cwt, Digest, Keys, KeysFor, Make}
 use Rattle.cosecmd.specs.declared.job.Question.{Question}
 use Rattle.cosecmd.specs.declared.job.Question.TheVariants as questions
 
@@ -13,6 +13,7 @@ aad_of (Verify checks payload) = checks.aad.now
 aad_of (Cwt checks now leeway aud requirements readable) = checks.aad.now
 aad_of (Digest checks payload) = checks.aad.now
 aad_of (Keys keys) = []
+aad_of (KeysFor keys wanted) = []
 aad_of (Make alg key length kid aad) = aad.now
 
 abbrev pub is_make : Job → Bool
@@ -22,10 +23,12 @@ is_make (Verify checks payload) = false
 is_make (Cwt checks now leeway aud requirements readable) = false
 is_make (Digest checks payload) = false
 is_make (Keys keys) = false
+is_make (KeysFor keys wanted) = false
 
--- To list a key set the input isn't read.
+-- To list a key set for no message the input isn't read.
 abbrev pub reads_input : Job → Bool
 reads_input (Keys keys) = false
+reads_input (KeysFor keys wanted) = true
 reads_input (Show limits wanted diagnostic) = true
 reads_input (Verify checks payload) = true
 reads_input (Cwt checks now leeway aud requirements readable) = true

@@ -1,11 +1,16 @@
 -- What `keys` prints of a key set (RFC 9052 section 7): a line for each item that should be a key, in their order, and a last line
--- with how many of them are usable. No byte of a secret, and no coordinate of a point.
-use Rattle.std.specs.Prelude.{ℕ, ℤ, Bool, true, false, pos, List, [], ◌∷◌, ◌++◌, filter, length, map, Ok, Err, codes, nat_lt, if◌then◌else◌}
+-- with how many of them are usable. No byte of a secret, and no coordinate of a point. Where a message asks for a key, a line also
+-- says why the key doesn't fit it.
+use Rattle.std.specs.Prelude.{ℕ, ℤ, Bool, true, false, pos, List, [], ◌∷◌, ◌++◌, Option, Some, None, filter, length, map, Ok, Err, codes, nat_lt, if◌then◌else◌}
 use Rattle.std.specs.Fmt.{decimal, signed_decimal}
 use Rattle.std.specs.List.{concat, list_any}
 use Rattle.std.specs.Ordering.{int_eq}
 use Rattle.cose_head.specs.Placed.{Placed}
 use Rattle.cose_head.specs.Refusal.{refusal_text}
+use Rattle.cose_map.specs.Choice.{Question}
+use Rattle.cose_map.specs.Choice.Mismatch.{mismatch}
+use Rattle.cose_map.specs.declared.choice.mismatch.Mismatch.{Mismatch}
+use Rattle.cose_map.specs.declared.choice.mismatch.Mismatch.TheVariants as conditions
 use Rattle.cose_map.specs.Key.{key_of}
 use Rattle.cose_map.specs.Key.Value.{KeyValue, MaterialValue, symmetric, elliptic}
 use Rattle.cose_map.specs.Label.{LabelValue, number, words}
@@ -53,14 +58,31 @@ ops_words listed = codes " ops" ++ numbers true (filter (lists listed) operation
 abbrev pub key_words : KeyValue → List ℕ
 key_words key = type_words key.material ++ where_present kid_words key.kid ++ where_present alg_words key.alg ++ where_present ops_words key.operations
 
+-- The condition of the choice that a key fails (RFC 9052 section 7.1), or that it fails none.
+abbrev pub condition_word : Mismatch → List ℕ
+condition_word conditions.Algorithm = codes "algorithm"
+condition_word conditions.KeyType = codes "type"
+condition_word conditions.Curve = codes "curve"
+condition_word conditions.Operation = codes "key_ops"
+condition_word conditions.Identifier = codes "kid"
+
+abbrev pub fit_words : Option Mismatch → List ℕ
+fit_words None = codes " usable fits"
+fit_words (Some condition) = codes " usable fails " ++ condition_word condition
+
+-- What a message asks for, if there is one.
+abbrev pub usable_words : Option Question → KeyValue → List ℕ
+usable_words None key = codes " usable"
+usable_words (Some q) key = fit_words (mismatch q key)
+
 -- An item is a usable key, or it is refused, with the place of the fault.
-abbrev pub outcome_words : Read KeyValue → List ℕ
-outcome_words (Ok key) = key_words key ++ codes " usable"
-outcome_words (Err refusal) = codes " refused " ++ refusal_text refusal
+abbrev pub outcome_words : Option Question → Read KeyValue → List ℕ
+outcome_words asked (Ok key) = key_words key ++ usable_words asked key
+outcome_words asked (Err refusal) = codes " refused " ++ refusal_text refusal
 
 -- The place of an item is relative to the first byte of the set.
-abbrev pub item_line : Placed → List ℕ
-item_line item = codes "key at " ++ decimal item.place ++ outcome_words (key_of item) ++ codes "\n"
+abbrev pub item_line : Option Question → Placed → List ℕ
+item_line asked item = codes "key at " ++ decimal item.place ++ outcome_words asked (key_of item) ++ codes "\n"
 
 -- The other commands have room for 16 usable keys, and refuse a set with more.
 abbrev pub room_words : ℕ → List ℕ
@@ -69,8 +91,8 @@ room_words usable = if nat_lt 16 usable then codes " refused BadKeySet at 0" els
 abbrev pub count_line : ℕ → ℕ → List ℕ
 count_line usable items = codes "usable " ++ decimal usable ++ codes " of " ++ decimal items ++ room_words usable ++ codes "\n"
 
-abbrev pub set_text : List Placed → ℕ → List ℕ
-set_text items usable = concat (map item_line items) ++ count_line usable (length items)
+abbrev pub set_text : Option Question → List Placed → ℕ → List ℕ
+set_text asked items usable = concat (map (item_line asked) items) ++ count_line usable (length items)
 
 abbrev pub set_status : ℕ → Status
 set_status usable = if nat_lt 16 usable then statuses.Refused else statuses.Done

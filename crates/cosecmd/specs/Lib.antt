@@ -1,6 +1,7 @@
 pub mod Admitted
 pub mod Allowed
 pub mod Arguments
+pub mod AskedKeys
 pub mod CommandLine
 pub mod Faults
 pub mod Fields

@@ -87,6 +87,10 @@ limits_in options = limits_named (unwrap_or (text_in (codes "limits") options) (
 abbrev pub flag_in : Text → Options → Bool
 flag_in name options = bytes_eq (unwrap_or (text_in name options) (codes "false")) (codes "true")
 
+-- The kinds of messages that keys are listed for, where they are.
+abbrev pub message_in : Options → Option Wanted
+message_in options = if flag_in (codes "for-message") options then Some (kind_in options) else None
+
 abbrev pub algorithm_in : Options → Option Alg
 algorithm_in options = option_and_then (λ number. algorithm_numbered (pos number)) (number_in (codes "alg") options)
 

@@ -1,5 +1,5 @@
 -- What the program prints for a job and an input, and how it ends.
-use Rattle.std.specs.Prelude.{◌≡◌, ◌≢◌, ◌⊎◌, ℕ, ◌<◌, ◌-◌, ◌^◌, Bool, true, List, [], ◌∷◌, ◌++◌, length, map, take, Option, Some, None, Ok, Err, option_map, codes, string_bytes, nat_lt, if◌then◌else◌}
+use Rattle.std.specs.Prelude.{◌≡◌, ◌≢◌, ◌⊎◌, ℕ, ◌<◌, ◌-◌, ◌^◌, Bool, true, List, [], ◌∷◌, ◌++◌, length, map, take, Option, Some, None, Result, Ok, Err, option_map, codes, string_bytes, nat_lt, if◌then◌else◌}
 use Rattle.std.specs.Borrow.{Bor}
 use Rattle.std.specs.List.{concat}
 use Rattle.std.specs.Fmt.{decimal, signed_decimal}
@@ -12,6 +12,7 @@ use Rattle.cose_head.specs.Placed.{Placed}
 use Rattle.cose_head.specs.Refusal.{refusal_text}
 use Rattle.cose_head.specs.declared.algorithm.Alg.{Alg}
 use Rattle.cose_head.specs.Algorithm.{algorithm_number}
+use Rattle.cose_map.specs.Choice.{Question as KeyQuestion}
 use Rattle.cose_map.specs.Key.{key_of}
 use Rattle.cose_map.specs.Key.Value.{KeyValue}
 use Rattle.cose_map.specs.KeySet.{items_in, keys_of}
@@ -36,6 +37,7 @@ use Rattle.cose_cwt.specs.Claims.Audience.{text_value}
 use Rattle.cose_cwt.specs.Requirements.{RequirementsValue}
 use Rattle.cose_cwt.specs.Requirements.View.{requirements_value}
 use Rattle.cosecmd.specs.Admitted.{Admission, input_token, outcome_status, outcome_text, program_policy}
+use Rattle.cosecmd.specs.AskedKeys.{asked}
 use Rattle.cosecmd.specs.Faults.{WritesLine}
 use Rattle.cosecmd.specs.KeysListed.{set_status, set_text}
 use Rattle.cosecmd.specs.Limits.{room_of}
@@ -43,7 +45,7 @@ use Rattle.cosecmd.specs.declared.fault.Fault.{Fault}
 use Rattle.cosecmd.specs.declared.job.Checks.{Checks}
 use Rattle.cosecmd.specs.declared.job.FileJob.{FileJob}
 use Rattle.cosecmd.specs.declared.job.Job.{Job}
-use Rattle.cosecmd.specs.declared.job.Job.TheVariants.{Show, Verify, Cwt, Digest, Keys, Make}
+use Rattle.cosecmd.specs.declared.job.Job.TheVariants.{Show, Verify, Cwt, Digest, Keys, KeysFor, Make}
 use Rattle.cosecmd.specs.declared.job.Question.{Question}
 use Rattle.cosecmd.specs.declared.job.Question.TheVariants as questions
 use Rattle.cosecmd.specs.declared.limits.Limits.{Limits}
@@ -294,13 +296,37 @@ made_under (Ok key) alg payload_length kid aad bytes =
     unless_faulty (make_fault alg key kid aad payload_length) (message_made key alg payload_length kid aad bytes)
 made_under (Err refusal) alg payload_length kid aad bytes = fault_of_key refusal
 
--- The lines of a key set with these usable keys. One that is refused as a whole has none.
-abbrev pub set_listed : Placed → Read (List KeyValue) → Output
-set_listed set (Ok usable) = record { text = set_text (items_in set) (length usable); status = set_status (length usable) }
-set_listed set (Err refusal) = fault_of_keys refusal
+-- What is printed for the items of a key set, so many of which are usable keys. One that is refused as a whole has none.
+abbrev pub ItemsPrint : Type 0
+ItemsPrint = List Placed → ℕ → Output
+
+abbrev pub set_prints : ItemsPrint → Placed → Read (List KeyValue) → Output
+set_prints said set (Ok usable) = said (items_in set) (length usable)
+set_prints said set (Err refusal) = fault_of_keys refusal
+
+abbrev pub keys_print : ItemsPrint → List ℕ → Output
+keys_print said bytes = set_prints said (record { bytes = bytes; place = 0 }) (keys_of bytes)
+
+-- Their lines, with what a message asks for, if there is one.
+abbrev pub items_listed : Option KeyQuestion → ItemsPrint
+items_listed question items usable = record { text = set_text question items usable; status = set_status usable }
 
 abbrev pub keys_listed : List ℕ → Output
-keys_listed bytes = set_listed (record { bytes = bytes; place = 0 }) (keys_of bytes)
+keys_listed keys = keys_print (items_listed None) keys
+
+-- A message whose headers are refused is refused as by the other commands, and nothing is listed for it.
+abbrev pub items_listed_for : Result KeyQuestion Answer → ItemsPrint
+items_listed_for (Ok question) items usable = items_listed (Some question) items usable
+items_listed_for (Err answer) items usable = output_of answer
+
+-- The lines of a key set for the message that the input begins with.
+abbrev pub keys_listed_for : Wanted → List ℕ → List ℕ → Output
+keys_listed_for wanted keys bytes = keys_print (items_listed_for (asked wanted bytes)) keys
+
+-- By whether a message of the kinds that are wanted is on the input.
+abbrev pub keys_said : Option Wanted → List ℕ → List ℕ → Output
+keys_said None keys bytes = keys_listed keys
+keys_said (Some wanted) keys bytes = keys_listed_for wanted keys bytes
 
 -- What is printed for a job, where the input is these bytes. A text of status Fault is what the program's documents
 -- say; no clause requires a run that ends so to print all of it.
@@ -311,6 +337,7 @@ printed (Cwt checks now leeway aud requirements readable) bytes =
     admitted_under (job_under checks) (program_policy now leeway (option_map text_value aud)) (requirements_value requirements) readable bytes
 printed (Digest checks payload) bytes = digested_for checks payload bytes
 printed (Keys keys) bytes = keys_listed keys.now
+printed (KeysFor keys wanted) bytes = keys_listed_for wanted keys.now bytes
 printed (Make alg key payload_length kid aad) bytes =
     made_under (key_of (record { bytes = key.now; place = 0 })) alg payload_length (option_map contents kid) aad.now bytes
 

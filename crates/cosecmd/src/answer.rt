@@ -24,7 +24,7 @@ use crate::print::{print_fault, print_reply};
 use crate::reply::{Reply, Status};
 use cwt::{cwt_reply, policy_of};
 use digest::{digest_reply, digest_reply_with_file};
-use keys::keys_reply;
+use keys::{keys_reply, keys_reply_for};
 use make::make_message;
 use sequence::messages::print_verified;
 use sequence::tokens::print_admitted;
@@ -81,6 +81,10 @@ fn status_of<R: Read, W: Write>(alloc: Global, job: &Job, input: &mut R, output:
             let reply = keys_reply(alloc, keys);
             print_reply(alloc, reply, output)
         }
+        Job::KeysFor { keys, wanted } => {
+            let reply = keys_reply_for(alloc, keys, *wanted, input);
+            print_reply(alloc, reply, output)
+        }
         Job::Make {
             alg,
             key,
@@ -97,7 +101,8 @@ fn status_of<R: Read, W: Write>(alloc: Global, job: &Job, input: &mut R, output:
 /// Does a job: it reads the message or the payload from `input`, and writes the lines, or the message that is made, to `output`.
 ///
 /// After an accepted message, and after an admitted token, it reads once more: a further byte is `Trailing` at the end of the
-/// message. After the payload of `make` it reads nothing. It returns the exit status: 0 for a message that is authentic, shown or
+/// message. After the payload of `make` it reads nothing. To list
+/// keys for a message it reads at most the first 131,124 bytes, which have the headers. It returns the exit status: 0 for a message that is authentic, shown or
 /// made, or whose digest is printed, and for a token that is admitted; 1 for a message or a token that is refused; 2 where the key
 /// or the key set is refused, a request for memory is refused, the input or the output fails, or a message can't be made.
 ///
@@ -115,7 +120,7 @@ pub fn answer<R: Read, W: Write>(alloc: Global, job: &Job, input: &mut R, output
     ensures fails { (bytes : List ℕ) → R.remaining input.old ≡ Some bytes → is_make job.now ≡ false
         → result ≡ 2
         → Fails (printed job.now bytes) (W.contents output.old) (W.contents output.new) }
-    // To list a key set it reads nothing.
+    // To list a key set for no message it reads nothing.
     ensures listing { reads_input job.now ≡ false → input.new ≡ input.old }
     // Where the key or another argument of `make` is at fault, it reads nothing, and prints the line of this fault, unless
     // there is no memory for it.

@@ -6,7 +6,7 @@ ghost use Rattle.clap.specs.Simple.{subcommand_rows_of};
 ghost use Rattle.cose_cwt.specs.Claims.Audience.{text_value};
 ghost use Rattle.cosecmd.specs.CommandLine.{AsksFor, IsReadFrom, begins_as_answer, cwt_prints, digest_prints, is_of_sequence, matches_print, message_prints, sequence_prints, verify_prints};
 ghost use Rattle.cosecmd.specs.Fields.{AreChecks, CwtFields, HasKeysOf, IsKeyOf, IsListedAs, KeysFields, MakeFields, checks_in, digest_checks_in};
-ghost use Rattle.cosecmd.specs.Options.{algorithm_in, bytes_in, flag_in, hex_bytes, integer_in, kind_in, kind_named, limits_in, limits_named, number_in, optional_bytes_in, options_of, payload_in, text_in};
+ghost use Rattle.cosecmd.specs.Options.{algorithm_in, bytes_in, flag_in, hex_bytes, integer_in, kind_in, kind_named, limits_in, limits_named, message_in, number_in, optional_bytes_in, options_of, payload_in, text_in};
 ghost use Rattle.cosecmd.specs.Payload.{IsFile, detached_in};
 ghost use Rattle.cosecmd.specs.PayloadTo.{AsksToVerify, new_file_for, new_file_of};
 ghost use Rattle.cosecmd.specs.Printed.{Output};
@@ -369,12 +369,23 @@ fn digest_checks_of<F: NamedFiles>(
     })
 }
 
+/// The kinds of messages that keys are listed for, where they are.
+fn message_of(matches: &ArgMatches) -> Option<Wanted>
+    ensures { result ≡ message_in (options_of matches.now) }
+{
+    if flag_of(matches, "for-message") {
+        return Some(kind_of(matches));
+    }
+    None
+}
+
 /// The arguments of `keys`.
 fn keys_of<F: NamedFiles>(alloc: Global, files: &F, matches: &ArgMatches) -> Result<Keys, Fault>
     ensures { IfOk result (KeysFields (F.content files.now) (options_of matches.now)) }
 {
     let keys = key_set_of(alloc, files, matches)?;
-    Ok(Keys { keys })
+    let message = message_of(matches);
+    Ok(Keys { keys, message })
 }
 
 /// The arguments of `make`, in the order in which help lists them.

@@ -42,9 +42,10 @@ Example: cosecmd digest --keys-file keys < message";
 const KEYS_NOTES: &str =
     "Arguments in hexadecimal have an even number of digits, no prefix and no spaces.
 It prints for each item of the set its place, and its kty, crv, kid (in hexadecimal), alg and key_ops and `usable`, or \
-why it is refused; and last how many are usable. No byte of a secret is printed.
-Exit status: 0 listed, 1 listed, and too many usable keys for other commands, 2 no answer (command line, keys, memory or \
-output).
+why it is refused; and last how many are usable. No byte of a secret is printed. With --for-message `usable` is followed by \
+`fits`, or by `fails` and the first of algorithm, type, curve, key_ops and kid that the key fails.
+Exit status: 0 listed, 1 listed, and too many usable keys for other commands, or the message is refused, 2 no answer (command \
+line, keys, memory, input or output).
 Example: cosecmd keys --keys-file keys";
 
 /// What help says below the options of `show`.
@@ -211,6 +212,15 @@ const KIND: CommandOption = CommandOption {
     value: Value::Kind,
     presence: Presence::Default("tagged"),
     help: "The kind of message; with `tagged` either kind, as its tag says",
+};
+
+/// A message that keys are listed for.
+const FOR_MESSAGE: CommandOption = CommandOption {
+    name: "for-message",
+    argument: "",
+    value: Value::Flag,
+    presence: Presence::Optional,
+    help: "Say of each usable key whether it fits the COSE message on standard input, of which the headers alone are read",
 };
 
 /// Diagnostic notation.
@@ -525,13 +535,13 @@ const TOKEN_COMMANDS: &[Subcommand] = &[
     },
 ];
 
-/// The commands that read no message.
+/// The commands that list keys, or make a message.
 const OTHER_COMMANDS: &[Subcommand] = &[
     Subcommand {
         name: "keys",
         about: "Lists the items of a key set: the usable keys, and why an item is none",
         notes: KEYS_NOTES,
-        options: &[KEYS, KEYS_FILE],
+        options: &[KEYS, KEYS_FILE, FOR_MESSAGE, KIND],
         one_of: KEY_SET,
     },
     Subcommand {

@@ -87,4 +87,15 @@ impl Fault {
             _ => Fault::File(option),
         }
     }
+
+    /// The fault of an input that couldn't be read.
+    pub fn input(error: &io::Error) -> Fault
+        ensures memory { error_kind error.now ≡ ErrorKind.OutOfMemory → result ≡ Fault.Memory }
+        ensures input { error_kind error.now ≢ ErrorKind.OutOfMemory → result ≡ Fault.Input }
+    {
+        match error.kind() {
+            ErrorKind::OutOfMemory => Fault::Memory,
+            _ => Fault::Input,
+        }
+    }
 }

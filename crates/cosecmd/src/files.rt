@@ -4,7 +4,7 @@ ghost use Rattle.std.specs.Prelude.{◌≡◌, ◌≢◌, ◌⊎◌, ℕ, List, 
 ghost use Rattle.std.specs.Fs.{IsFile, file_type, metadata_len};
 ghost use Rattle.std.specs.IoError.{error_kind};
 ghost use Rattle.cose_map.specs.KeySet.{keys_of};
-ghost use Rattle.cosecmd.specs.Printed.{keys_listed};
+ghost use Rattle.cosecmd.specs.Printed.{ItemsPrint, keys_print};
 
 use crate::fault::Fault;
 use std::alloc::Global;
@@ -126,7 +126,8 @@ pub fn key_set_bytes<F: NamedFiles>(
     ensures keys { (bytes : List ℕ) → F.content files.now name.now ≡ Some bytes →
         IfOk result (λ read. keys_of read.items ≡ keys_of bytes) }
     ensures listed { (bytes : List ℕ) → F.content files.now name.now ≡ Some bytes →
-        IfOk result (λ read. keys_listed read.items ≡ keys_listed bytes) }
+        IfOk result (λ read. (said : ItemsPrint)
+        → keys_print said read.items ≡ keys_print said bytes) }
     ensures fault { IfErr result (λ fault. (fault ≡ Fault.Memory)
         ⊎ (fault ≡ Fault.File option.entry)) }
 {

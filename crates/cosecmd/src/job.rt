@@ -92,6 +92,14 @@ pub enum Job<'j> {
         /// The bytes of the key set (RFC 9052 section 7).
         keys: &'j [u8],
     },
+    /// To list the items of a key set, and to say of each usable key whether it fits the message on the input, whose headers alone
+    /// are read.
+    KeysFor {
+        /// The bytes of the key set (RFC 9052 section 7).
+        keys: &'j [u8],
+        /// The kinds of messages that are wanted.
+        wanted: Wanted,
+    },
     /// To make a COSE_Mac0 of the payload on the input.
     Make {
         /// The algorithm of the MAC.

@@ -48,6 +48,8 @@ pub struct Cwt<'w> {
 pub struct Keys {
     /// The bytes of the key set.
     pub keys: Vec<u8>,
+    /// The kinds of messages that are wanted, where the keys are listed for a message.
+    pub message: Option<Wanted>,
 }
 
 /// The arguments of `make`.

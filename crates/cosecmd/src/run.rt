@@ -7,7 +7,7 @@ ghost use Rattle.cosecmd.specs.CommandLine.{Answers, FailsOn, PrintsEach, is_of_
 ghost use Rattle.cosecmd.specs.Options.{part_of_file};
 ghost use Rattle.cosecmd.specs.Payload.{detached_in};
 ghost use Rattle.cosecmd.specs.PayloadTo.{ReadsNothingBefore, new_file_for, new_file_of};
-ghost use Rattle.cosecmd.specs.Printed.{EndsWith, Fails, Output, answered_under, keys_listed, shown, verified_under};
+ghost use Rattle.cosecmd.specs.Printed.{EndsWith, Fails, Output, answered_under, keys_said, shown, verified_under};
 ghost use Rattle.cosecmd.specs.Replies.{FailsFor, PrintsFor};
 ghost use Rattle.cosecmd.specs.Sequence.{FailsInSequence, verified_sequence};
 ghost use Rattle.cosecmd.specs.Under.{job_under, owned_under};
@@ -215,13 +215,17 @@ fn answer_tokens<R: Read, W: Write>(alloc: Global, words: &Cwt, input: &mut R, o
 fn answer_keys<R: Read, W: Write>(alloc: Global, words: &Keys, input: &mut R, output: &mut W) -> u8
     ensures status { result ≤ 2 }
     ensures printed { (bytes : List ℕ) → R.remaining input.old ≡ Some bytes →
-        EndsWith (keys_listed words.now.keys.items) (W.contents output.old)
+        EndsWith (keys_said words.now.message words.now.keys.items bytes) (W.contents output.old)
         (W.contents output.new) result }
     ensures fails { (bytes : List ℕ) → R.remaining input.old ≡ Some bytes → result ≡ 2 →
-        Fails (keys_listed words.now.keys.items) (W.contents output.old) (W.contents output.new) }
+        Fails (keys_said words.now.message words.now.keys.items bytes) (W.contents output.old)
+        (W.contents output.new) }
 {
     let keys = words.keys.as_slice();
-    answer(alloc, &Job::Keys { keys }, input, output)
+    match words.message {
+        Some(wanted) => answer(alloc, &Job::KeysFor { keys, wanted }, input, output),
+        None => answer(alloc, &Job::Keys { keys }, input, output),
+    }
 }
 
 /// The job of the command `make`.

@@ -18,6 +18,7 @@ pub fn hold_closed(rt: &HostRuntime, stream: &str) -> Option<File> {
 /// Whether the arguments are those of a command that reads standard input.
 pub fn reads_input(words: &[&str]) -> bool {
     let is_command = match words.get(1) {
+        Some(&"keys") => words.iter().any(|&word| word == "--for-message"),
         Some(&command) => matches!(command, "verify" | "cwt" | "digest" | "show" | "make"),
         None => false,
     };

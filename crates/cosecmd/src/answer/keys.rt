@@ -1,6 +1,7 @@
-//! The lines of the job `keys`: what each item of a key set is, and which of them are usable keys. No byte of a secret.
+//! The lines of the jobs that list keys: what each item of a key set is, and which of them are usable keys. For a message also
+//! whether a usable key fits it. No byte of a secret.
 
-ghost use Rattle.std.specs.Prelude.{◌≡◌, ◌↔◌, ◌++◌, ℕ, List, ◌∷◌, Err, true, IfErr, IfOk, filter, length, map, option_map, string_bytes};
+ghost use Rattle.std.specs.Prelude.{◌≡◌, ◌↔◌, ◌++◌, ℕ, List, ◌∷◌, Some, Err, None, true, IfErr, IfOk, filter, length, map, option_map, string_bytes};
 ghost use Rattle.std.specs.List.{concat};
 ghost use Rattle.cose_head.specs.declared.refusal.Refusal.{Refusal};
 ghost use Rattle.cose_head.specs.ItemRef.{placed};
@@ -10,16 +11,22 @@ ghost use Rattle.cose_map.specs.KeySet.{items_in, keys_of};
 ghost use Rattle.cose_map.specs.Label.View.{label_value};
 ghost use Rattle.cose_map.specs.Map.View.{seen_by};
 ghost use Rattle.cosecmd.specs.Admitted.{where_present};
+ghost use Rattle.cosecmd.specs.AskedKeys.{question_at};
 ghost use Rattle.cosecmd.specs.KeysListed as spec;
-ghost use Rattle.cosecmd.specs.Printed.{Says, keys_listed};
+ghost use Rattle.cosecmd.specs.Printed.{Says, keys_listed, keys_listed_for};
+
+mod asked;
 
 use crate::fault::Fault;
 use crate::limits::{SMALL_KEYS, SMALL_NESTING};
 use crate::reply::{Reply, Status};
+use asked::asked_reply;
 use cose_head::{ItemRef, Items, Refusal};
-use cose_map::{Key, KeySet, Label, Material, Ops};
+use cose_map::{Key, KeySet, Label, Material, Mismatch, Ops, Query};
+use cose_msg::Wanted;
 use cose_text::push_quoted;
 use std::alloc::Global;
+use std::io::Read;
 
 /// The operations of RFC 9052 section 7.1.
 const OPERATIONS: &[u8] = &[1, 2, 3, 4, 5, 6, 7, 8, 9, 10];
@@ -172,20 +179,76 @@ fn push_key(alloc: Global, line: &mut String, key: &Key) -> Result<(), Fault>
     push_ops(alloc, line, key.ops)
 }
 
+/// The word of a condition under which a key fits a message.
+fn condition_word(condition: Mismatch) -> &'static str
+    ensures { result.now ≡ spec.condition_word condition }
+{
+    match condition {
+        Mismatch::Algorithm => "algorithm",
+        Mismatch::KeyType => "type",
+        Mismatch::Curve => "curve",
+        Mismatch::Operation => "key_ops",
+        Mismatch::Identifier => "kid",
+    }
+}
+
+/// Appends that a key is usable, and the condition that it fails.
+fn push_condition(line: &mut String, condition: Mismatch) -> Result<(), Fault>
+    ensures words { IfOk result (λ _. string_bytes line.new
+        ≡ string_bytes line.old ++ spec.fit_words (Some condition)) }
+    ensures fault { IfErr result (λ fault. fault ≡ Fault.Memory) }
+{
+    line.push_str(" usable fails ")?;
+    line.push_str(condition_word(condition))?;
+    Ok(())
+}
+
+/// Appends that a key is usable, and the first condition that it fails to fit a message, if there is one.
+fn push_fit(line: &mut String, mismatch: Option<Mismatch>) -> Result<(), Fault>
+    ensures words { IfOk result (λ _. string_bytes line.new
+        ≡ string_bytes line.old ++ spec.fit_words mismatch) }
+    ensures fault { IfErr result (λ fault. fault ≡ Fault.Memory) }
+{
+    match mismatch {
+        Some(condition) => push_condition(line, condition),
+        None => {
+            line.push_str(" usable fits")?;
+            Ok(())
+        }
+    }
+}
+
+/// Appends that a key is usable, and whether it fits what a message asks for, if there is one.
+fn push_usable(line: &mut String, key: &Key, query: Option<&Query>) -> Result<(), Fault>
+    ensures words { IfOk result (λ _. string_bytes line.new ≡ string_bytes line.old
+        ++ spec.usable_words (option_map question_at query.entry) (key_value key.now)) }
+    ensures fault { IfErr result (λ fault. fault ≡ Fault.Memory) }
+{
+    match query {
+        Some(query) => push_fit(line, query.mismatch(key)),
+        None => {
+            line.push_str(" usable")?;
+            Ok(())
+        }
+    }
+}
+
 /// Appends what an item is: a usable key, or refused.
 fn push_outcome(
     alloc: Global,
     line: &mut String,
     outcome: Result<Key, Refusal>,
+    query: Option<&Query>,
 ) -> Result<(), Fault>
-    ensures words { IfOk result (λ _. string_bytes line.new
-        ≡ string_bytes line.old ++ spec.outcome_words (seen_by key_value outcome.entry)) }
+    ensures words { IfOk result (λ _. string_bytes line.new ≡ string_bytes line.old
+        ++ spec.outcome_words (option_map question_at query.entry)
+        (seen_by key_value outcome.entry)) }
     ensures fault { IfErr result (λ fault. fault ≡ Fault.Memory) }
 {
     match outcome {
         Ok(key) => {
             push_key(alloc, line, &key)?;
-            line.push_str(" usable")?;
+            push_usable(line, &key, query)?;
         }
         Err(refusal) => {
             let words = format!(in alloc; " refused {refusal}")?;
@@ -196,58 +259,78 @@ fn push_outcome(
 }
 
 /// Appends the line of an item that should be a key.
-fn push_item(alloc: Global, text: &mut String, item: &ItemRef) -> Result<(), Fault>
-    ensures line { IfOk result (λ _. string_bytes text.new
-        ≡ string_bytes text.old ++ spec.item_line (placed item.now)) }
+fn push_item(
+    alloc: Global,
+    text: &mut String,
+    item: &ItemRef,
+    query: Option<&Query>,
+) -> Result<(), Fault>
+    ensures line { IfOk result (λ _. string_bytes text.new ≡ string_bytes text.old
+        ++ spec.item_line (option_map question_at query.entry) (placed item.now)) }
     ensures fault { IfErr result (λ fault. fault ≡ Fault.Memory) }
 {
     let place = item.place;
     let words = format!(in alloc; "key at {place}")?;
     text.push_str(words.as_str())?;
-    push_outcome(alloc, text, Key::read(item.bytes, place))?;
+    push_outcome(alloc, text, Key::read(item.bytes, place), query)?;
     text.push_str("\n")?;
     Ok(())
 }
 
 /// Appends a line for each of these items, and returns how many there are.
-fn push_items(alloc: Global, text: &mut String, items: Items) -> Result<u128, Fault>
-    ensures lines { IfOk result (λ _. string_bytes text.new
-        ≡ string_bytes text.old ++ concat (map spec.item_line (items_left items.entry))) }
+fn push_items(
+    alloc: Global,
+    text: &mut String,
+    items: Items,
+    query: Option<&Query>,
+) -> Result<u128, Fault>
+    ensures lines { IfOk result (λ _. string_bytes text.new ≡ string_bytes text.old
+        ++ concat (map (spec.item_line (option_map question_at query.entry)) (items_left items.entry))) }
     ensures count { IfOk result (λ count. count ≡ length (items_left items.entry)) }
     ensures fault { IfErr result (λ fault. fault ≡ Fault.Memory) }
 {
     let mut count = 0;
     'items: for item in items {
-        push_item(alloc, text, &item)?;
+        push_item(alloc, text, &item, query)?;
         count += 1;
     }
     Ok(count)
 }
 
 /// Appends the line of the only item of a set, and returns how many there are.
-fn push_only(alloc: Global, text: &mut String, item: &ItemRef) -> Result<u128, Fault>
-    ensures line { IfOk result (λ _. string_bytes text.new
-        ≡ string_bytes text.old ++ spec.item_line (placed item.now)) }
+fn push_only(
+    alloc: Global,
+    text: &mut String,
+    item: &ItemRef,
+    query: Option<&Query>,
+) -> Result<u128, Fault>
+    ensures line { IfOk result (λ _. string_bytes text.new ≡ string_bytes text.old
+        ++ spec.item_line (option_map question_at query.entry) (placed item.now)) }
     ensures count { IfOk result (λ count. count ≡ 1) }
     ensures fault { IfErr result (λ fault. fault ≡ Fault.Memory) }
 {
-    push_item(alloc, text, item)?;
+    push_item(alloc, text, item, query)?;
     Ok(1)
 }
 
 /// Appends a line for each item of a set that should be a key, and returns how many there are.
-fn push_set(alloc: Global, text: &mut String, set: &ItemRef) -> Result<u128, Fault>
-    ensures lines { IfOk result (λ _. string_bytes text.new
-        ≡ string_bytes text.old ++ concat (map spec.item_line (items_in (placed set.now)))) }
+fn push_set(
+    alloc: Global,
+    text: &mut String,
+    set: &ItemRef,
+    query: Option<&Query>,
+) -> Result<u128, Fault>
+    ensures lines { IfOk result (λ _. string_bytes text.new ≡ string_bytes text.old
+        ++ concat (map (spec.item_line (option_map question_at query.entry)) (items_in (placed set.now)))) }
     ensures count { IfOk result (λ count. count ≡ length (items_in (placed set.now))) }
     ensures fault { IfErr result (λ fault. fault ≡ Fault.Memory) }
 {
     let major = set.head().major;
     if major == 4 {
-        return push_items(alloc, text, Items::of(set));
+        return push_items(alloc, text, Items::of(set), query);
     }
     if major == 5 {
-        return push_only(alloc, text, set);
+        return push_only(alloc, text, set, query);
     }
     Ok(0)
 }
@@ -277,15 +360,20 @@ fn status_of(usable: usize) -> Status
     Status::Done
 }
 
-/// The lines of a set that is one item, with so many usable keys.
-fn set_reply(alloc: Global, set: &ItemRef, usable: usize) -> Result<Reply, Fault>
+/// The lines of a set that is one item, with so many usable keys, for what a message asks for, if there is one.
+fn set_reply(
+    alloc: Global,
+    set: &ItemRef,
+    usable: usize,
+    query: Option<&Query>,
+) -> Result<Reply, Fault>
     ensures text { IfOk result (λ reply. string_bytes reply.text
-        ≡ spec.set_text (items_in (placed set.now)) usable) }
+        ≡ spec.set_text (option_map question_at query.entry) (items_in (placed set.now)) usable) }
     ensures status { IfOk result (λ reply. reply.status ≡ spec.set_status usable) }
     ensures fault { IfErr result (λ fault. fault ≡ Fault.Memory) }
 {
     let mut text = String::new(alloc);
-    let items = push_set(alloc, &mut text, set)?;
+    let items = push_set(alloc, &mut text, set, query)?;
     push_count(alloc, &mut text, usable, items)?;
     let status = status_of(usable);
     Ok(Reply { status, text })
@@ -302,7 +390,30 @@ pub fn keys_reply(alloc: Global, keys: &[u8]) -> Result<Reply, Fault>
         Err(refusal) => return Err(Fault::Keys(refusal)),
     };
     match ItemRef::read(keys, 0, SMALL_NESTING) {
-        Ok(item) => set_reply(alloc, &item, set.count()),
+        Ok(item) => set_reply(alloc, &item, set.count(), None),
+        // It was read as a set.
+        Err(refusal) => Err(Fault::Keys(refusal)),
+    }
+}
+
+/// The reply to the job that lists keys for a message. The key set is read before the input.
+pub fn keys_reply_for<R: Read>(
+    alloc: Global,
+    keys: &[u8],
+    wanted: Wanted,
+    input: &mut R,
+) -> Result<Reply, Fault>
+    ensures says { (bytes : List ℕ) → R.remaining input.old ≡ Some bytes →
+        IfOk result (Says (keys_listed_for wanted keys.now bytes)) }
+    ensures keys { (refusal : Refusal)
+        → keys_of keys.now ≡ Err refusal ↔ result ≡ Err (Fault.Keys refusal) }
+{
+    let set = match KeySet::read(keys) {
+        Ok(set) => set,
+        Err(refusal) => return Err(Fault::Keys(refusal)),
+    };
+    match ItemRef::read(keys, 0, SMALL_NESTING) {
+        Ok(item) => asked_reply(alloc, &item, set.count(), wanted, input),
         // It was read as a set.
         Err(refusal) => Err(Fault::Keys(refusal)),
     }

@@ -2,7 +2,7 @@ use Rattle.std.proofs.Common.{ap, codes}
 use Rattle.std.proofs.lemmas.Result.{IfOk-weaker}
 use Rattle.cosecmd.specs.Options.{options_of}
 use Rattle.cose_map.specs.KeySet.{keys_of}
-use Rattle.cosecmd.specs.Printed.{keys_listed}
+use Rattle.cosecmd.specs.Printed.{keys_print}
 use Rattle.cosecmd.proofs.Options.{given, left_out, of_named_file, of_no_file, where_known}
 use Rattle.cosecmd.proofs.arguments.key_set_of.Goals as goal
 
@@ -24,4 +24,4 @@ returns-in-Some-clause-listed g c =
 pub returns-in-None-clause-listed : goal.returns-in-None-clause-listed
 returns-in-None-clause-listed g c =
     let unnamed = left_out (codes "keys-file") (options_of c.args.matches.now) c.text_of.result c.text_of.ensures c.in-None.is in
-    IfOk-weaker c.bytes_of.result _ _ (λ keys has bytes known. ap keys_listed (of_no_file _ _ _ _ bytes unnamed has known)) c.bytes_of.ensures
+    IfOk-weaker c.bytes_of.result _ _ (λ keys has bytes known said. ap (keys_print said) (of_no_file _ _ _ _ bytes unnamed has known)) c.bytes_of.ensures

@@ -19,8 +19,8 @@ returns-in-Some-subcommand_matches-4-clause-asks g c = λ bytes said prints.
     let content = g.F.NamedFiles.content c.args.files.now in
     let met = c.in-Some-subcommand_matches-4 in
     let options = options_of met.keys.now in
-    let asked : keys_prints content options ≡ Some said = command_asked content c.args.matches.now (codes "keys") options bytes said (met.ensures.found.0 refl) met.ensures.rows prints in
-    (None, refl, keys_asks content options c.in_ok-keys_of.field-0 said c.in_ok-keys_of.ensures asked)
+    let asked : keys_prints content options bytes ≡ Some said = command_asked content c.args.matches.now (codes "keys") options bytes said (met.ensures.found.0 refl) met.ensures.rows prints in
+    (None, refl, keys_asks content options c.in_ok-keys_of.field-0 bytes said c.in_ok-keys_of.ensures asked)
 
 pub returns-in_ok-make_of-in-Some-subcommand_matches-5-clause-asks : goal.returns-in_ok-make_of-in-Some-subcommand_matches-5-clause-asks
 returns-in_ok-make_of-in-Some-subcommand_matches-5-clause-asks g c = λ bytes said prints.

@@ -5,7 +5,7 @@ use Rattle.cosecmd.proofs.answer.keys.push_set.Goals as goal
 
 pub returns-then-major-eq4-clause-lines : goal.returns-then-major-eq4-clause-lines
 returns-then-major-eq4-clause-lines c =
-    all_listed _ _ _ _ _ (array_items _ _ c.head-major.ensures.exact c.if-major-eq4.true ∙ sym c.of.ensures) c.push_items.ensures.lines
+    all_listed _ _ _ _ _ _ (array_items _ _ c.head-major.ensures.exact c.if-major-eq4.true ∙ sym c.of.ensures) c.push_items.ensures.lines
 
 pub returns-then-major-eq4-clause-count : goal.returns-then-major-eq4-clause-count
 returns-then-major-eq4-clause-count c =
@@ -13,14 +13,14 @@ returns-then-major-eq4-clause-count c =
 
 pub returns-then-major-eq5-clause-lines : goal.returns-then-major-eq5-clause-lines
 returns-then-major-eq5-clause-lines c =
-    one_listed _ _ _ _ _ (map_items _ _ c.head-major.ensures.exact c.if-major-eq5.true) c.push_only.ensures.line
+    one_listed _ _ _ _ _ _ (map_items _ _ c.head-major.ensures.exact c.if-major-eq5.true) c.push_only.ensures.line
 
 pub returns-then-major-eq5-clause-count : goal.returns-then-major-eq5-clause-count
 returns-then-major-eq5-clause-count c =
     one_counted _ _ _ (map_items _ _ c.head-major.ensures.exact c.if-major-eq5.true) c.push_only.ensures.count
 
 pub returns-clause-lines : goal.returns-clause-lines
-returns-clause-lines c = none_listed _ _ (no_items _ _ c.head-major.ensures.exact c.if-major-eq5.false c.if-major-eq4.false)
+returns-clause-lines c = none_listed _ _ _ (no_items _ _ c.head-major.ensures.exact c.if-major-eq5.false c.if-major-eq4.false)
 
 pub returns-clause-count : goal.returns-clause-count
 returns-clause-count c = none_counted _ (no_items _ _ c.head-major.ensures.exact c.if-major-eq5.false c.if-major-eq4.false)
