@@ -22,14 +22,15 @@ use Rattle.cosecmd.specs.declared.request.Request.TheVariants as asks
 use Rattle.cosecmd.specs.declared.request.OwnedChecks.{OwnedChecks}
 use Rattle.cosecmd.specs.declared.job.Checks.{Checks}
 use Rattle.cosecmd.specs.declared.job.FileJob.{FileJob}
+use Rattle.cosecmd.specs.declared.job.TokenJob.{TokenJob}
 use Rattle.cosecmd.specs.Admitted.{program_policy}
-use Rattle.cosecmd.specs.Printed.{EndsWith, Fails, Output, admitted_under, answered_under, digested_under, keys_said, printed, shown, verified_under}
+use Rattle.cosecmd.specs.Printed.{Admits, EndsWith, Fails, Output, admits_for_job, admitted_under, answered_under, digested_under, keys_said, printed, shown, verified_under}
 use Rattle.cosecmd.specs.Job.{aad_of, is_make, job_of}
 use Rattle.cosecmd.specs.Options.{stated_part}
 use Rattle.cosecmd.specs.Stated.{answered_from, digested_from, verified_from}
 use Rattle.cosecmd.specs.Requirements.{requirements_for}
 use Rattle.cosecmd.specs.Under.{Under, job_under, owned_under}
-use Rattle.cosecmd.specs.Arguments.{admitted_for, asked_for, made_for, makes}
+use Rattle.cosecmd.specs.Arguments.{admits_for_words, admitted_for, asked_for, made_for, makes}
 
 -- A run that ends with one output ends with an equal one.
 pub ends_with : {said asked : Output} (old new : Option (List ℕ)) (status : ℕ) → said ≡ asked → EndsWith said old new status → EndsWith asked old new status
@@ -65,14 +66,18 @@ pub message_external : (question : Question) (checks : Checks) (payload : Option
 message_external questions.Verdict checks payload job is few = rw is few
 message_external questions.Digest checks payload job is few = rw is few
 
-pub cwt_words : (words : CwtWords) (checks : Checks) (now : ℤ) (requirements : Requirements) (bytes : List ℕ) → job_under checks ≡ owned_under words.checks → now ≡ words.now →
+-- The same for what `cwt` prints of one token, or of each of a sequence.
+pub token_words : (admits : Admits) (words : CwtWords) (checks : Checks) (now : ℤ) (requirements : Requirements) (bytes : List ℕ) → job_under checks ≡ owned_under words.checks → now ≡ words.now →
     requirements_value requirements ≡ requirements_for now words.leeway words.required →
-    printed (Cwt checks now words.leeway words.aud requirements words.readable) bytes ≡ admitted_for words bytes
+    admits (job_under checks) (program_policy now words.leeway (option_map text_value words.aud)) (requirements_value requirements) words.readable bytes ≡ admits_for_words admits words bytes
+token_words admits words checks now requirements bytes same n required =
+    ap (λ (r : RequirementsValue). admits (job_under checks) (program_policy now words.leeway (option_map text_value words.aud)) r words.readable bytes) required
+    ∙ ap (λ (at : ℤ). admits (job_under checks) (program_policy at words.leeway (option_map text_value words.aud)) (requirements_for at words.leeway words.required) words.readable bytes) n
+    ∙ ap (λ (under : Under). admits under (program_policy words.now words.leeway (option_map text_value words.aud)) (requirements_for words.now words.leeway words.required) words.readable bytes) same
+
+pub token_printed : (job : TokenJob) (words : CwtWords) (bytes : List ℕ) → admits_for_job admitted_under job bytes ≡ admitted_for words bytes → printed (Cwt job) bytes ≡ admitted_for words bytes
 unfolding printed
-cwt_words words checks now requirements bytes same n required =
-    ap (λ (r : RequirementsValue). admitted_under (job_under checks) (program_policy now words.leeway (option_map text_value words.aud)) r words.readable bytes) required
-    ∙ ap (λ (at : ℤ). admitted_under (job_under checks) (program_policy at words.leeway (option_map text_value words.aud)) (requirements_for at words.leeway words.required) words.readable bytes) n
-    ∙ ap (λ (under : Under). admitted_under under (program_policy words.now words.leeway (option_map text_value words.aud)) (requirements_for words.now words.leeway words.required) words.readable bytes) same
+token_printed job words bytes same = same
 
 pub keys_words : (words : KeysWords) (keys : Bor (List ℕ)) (bytes : List ℕ) → keys.now ≡ words.keys.items → words.message ≡ None →
     printed (Keys keys) bytes ≡ keys_said words.message words.keys.items bytes

@@ -1,24 +1,17 @@
 -- What the arguments of a sequence ask for, and what a run over it leaves where it fails.
-use Rattle.std.proofs.Common.{◌≡◌, ◌⊎◌, ℕ, ℤ, Bool, true, false, List, [], ◌++◌, Option, Some, None, inl, inr, refl, ap, subst, sym, ◌∙◌, append-nil, append_assoc}
-use Rattle.std.specs.Prelude.{codes, option_map}
-use Rattle.cose_cwt.specs.Claims.Audience.{text_value}
-use Rattle.cose_cwt.specs.Requirements.{RequirementsValue}
-use Rattle.cose_cwt.specs.Requirements.View.{requirements_value}
-use Rattle.cose_cwt.specs.declared.requirements.Requirements.{Requirements}
+use Rattle.std.proofs.Common.{◌≡◌, ◌⊎◌, ℕ, Bool, true, false, List, [], ◌++◌, Option, Some, None, inl, inr, refl, ap, subst, sym, ◌∙◌, append-nil, append_assoc}
+use Rattle.std.specs.Prelude.{codes}
 use Rattle.cose_msg.specs.Sink.{AppendsFront}
-use Rattle.cosecmd.specs.Admitted.{program_policy}
 use Rattle.cosecmd.specs.Arguments.{admitted_each_for, asked_for, is_sequence}
 use Rattle.cosecmd.specs.CommandLine.{AsksFor}
 use Rattle.cosecmd.specs.Faults.{WritesLine, fault_text}
 use Rattle.cosecmd.specs.Fields.{AreChecks}
 use Rattle.cosecmd.specs.Options.{◌>>=◌}
 use Rattle.cosecmd.specs.Printed.{Fails, Output}
-use Rattle.cosecmd.specs.Requirements.{requirements_for}
-use Rattle.cosecmd.specs.Sequence.{FailsInSequence, admitted_sequence, verified_sequence}
-use Rattle.cosecmd.specs.Under.{Under, job_under, owned_under}
+use Rattle.cosecmd.specs.Sequence.{FailsInSequence, verified_sequence}
+use Rattle.cosecmd.specs.Under.{Under, owned_under}
 use Rattle.cosecmd.specs.declared.fault.Fault.{Fault}
 use Rattle.cosecmd.specs.declared.fault.Fault.TheVariants as faults
-use Rattle.cosecmd.specs.declared.job.Checks.{Checks}
 use Rattle.cosecmd.specs.declared.request.Cwt.{Cwt}
 use Rattle.cosecmd.specs.declared.request.OwnedChecks.{OwnedChecks}
 use Rattle.cosecmd.specs.declared.request.Request.{Request}
@@ -41,15 +34,6 @@ sequence_asks None checks bytes said are e = cc
 sequence_asks (Some under) checks bytes said are e =
     let same : verified_sequence under bytes ≡ said = cc in
     ap (λ (u : Under). verified_sequence u bytes) (are under refl) ∙ same
-
--- The job of some arguments prints what they ask for.
-pub tokens_words : (words : Cwt) (checks : Checks) (now : ℤ) (requirements : Requirements) (bytes : List ℕ) → job_under checks ≡ owned_under words.checks → now ≡ words.now →
-    requirements_value requirements ≡ requirements_for now words.leeway words.required →
-    admitted_sequence (job_under checks) (program_policy now words.leeway (option_map text_value words.aud)) (requirements_value requirements) words.readable bytes ≡ admitted_each_for words bytes
-tokens_words words checks now requirements bytes same n required =
-    ap (λ (r : RequirementsValue). admitted_sequence (job_under checks) (program_policy now words.leeway (option_map text_value words.aud)) r words.readable bytes) required
-    ∙ ap (λ (at : ℤ). admitted_sequence (job_under checks) (program_policy at words.leeway (option_map text_value words.aud)) (requirements_for at words.leeway words.required) words.readable bytes) n
-    ∙ ap (λ (under : Under). admitted_sequence under (program_policy words.now words.leeway (option_map text_value words.aud)) (requirements_for words.now words.leeway words.required) words.readable bytes) same
 
 -- The request for a sequence asks for what is printed for it.
 pub message_sequence_words : (request : Request) (checks : OwnedChecks) (payload : Option (List ℕ)) (bytes : List ℕ) → request ≡ asks.MessageSequence checks → verified_sequence (owned_under checks) bytes ≡ asked_for request payload bytes

@@ -12,14 +12,14 @@ use Rattle.cose_cwt.specs.Requirements.{RequirementsValue}
 use Rattle.cose_msg.specs.declared.context.Wanted.{Wanted}
 use Rattle.cosecmd.specs.Admitted.{program_policy}
 use Rattle.cosecmd.specs.AskedKeys.{asked}
-use Rattle.cosecmd.specs.CommandLine.{Admits, IsFoundIn, IsReadFrom, begins_as_answer, command_prints, keys_prints, line_prints, make_prints, matches_print, tokens_print}
+use Rattle.cosecmd.specs.CommandLine.{IsFoundIn, IsReadFrom, begins_as_answer, command_prints, keys_prints, line_prints, make_prints, matches_print, tokens_print}
 use Rattle.cosecmd.specs.Fields.{AreChecks, CwtFields, IsListedAs, KeysFields, MakeFields, checks_in}
 use Rattle.cosecmd.specs.Options.{Options, ◌>>=◌, flag_in, key_in, key_set_in, message_in, text_in}
 use Rattle.cosecmd.specs.PayloadTo.{new_file_of}
-use Rattle.cosecmd.specs.Printed.{Output, items_listed, items_listed_for, keys_said, made_under}
-use Rattle.cosecmd.specs.Requirements.{requirements_for, requirements_with}
+use Rattle.cosecmd.specs.Printed.{Admits, Output, items_listed, items_listed_for, keys_said, made_under}
+use Rattle.cosecmd.specs.Requirements.{requirements_with}
 use Rattle.cosecmd.specs.Under.{Under, owned_under}
-use Rattle.cosecmd.specs.Arguments.{made_for}
+use Rattle.cosecmd.specs.Arguments.{admits_for_words, made_for}
 use Rattle.cosecmd.specs.declared.request.Cwt.{Cwt}
 use Rattle.cosecmd.specs.declared.request.Keys.{Keys}
 use Rattle.cosecmd.specs.declared.request.Make.{Make}
@@ -42,11 +42,11 @@ payload_asks prints (Some under) (Some detached) checks payload bytes said are i
 
 -- What the options state of a token, or of each of a sequence, is what they ask for.
 pub cwt_asks : (admits : Admits) (content : List ℕ → Option (List ℕ)) (options : Options) (words : Cwt) (bytes : List ℕ) (said : Output) → CwtFields content options words → tokens_print admits content options bytes ≡ Some said →
-    admits (owned_under words.checks) (program_policy words.now words.leeway (option_map text_value words.aud)) (requirements_for words.now words.leeway words.required) words.readable bytes ≡ said
+    admits_for_words admits words bytes ≡ said
 cwt_asks admits content options words bytes said fields prints = go (checks_in content options) refl
   where
     go : (known : Option Under) → checks_in content options ≡ known →
-        admits (owned_under words.checks) (program_policy words.now words.leeway (option_map text_value words.aud)) (requirements_for words.now words.leeway words.required) words.readable bytes ≡ said
+        admits_for_words admits words bytes ≡ said
     go None checks =
         let none : None ≡ Some said = rw checks at prints in
         cc

@@ -154,7 +154,7 @@ abbrev pub no_requirements : ℕ → Requirements
 no_requirements now = record { now = pos now; leeway = 0; present = record { ref_ptr = (0, 0); now = [] }; iss = None; sub = None; aud = None; lifetime = None; age = None; issued = false }
 
 abbrev admitting : List ℕ → ℕ → Job
-admitting keys now = Cwt (checks_for keys [] wants.Tagged None) (pos now) 0 None (no_requirements now) false
+admitting keys now = Cwt (record { checks = checks_for keys [] wants.Tagged None; now = pos now; leeway = 0; aud = None; requirements = no_requirements now; readable = false })
 
 unfoldable prints : List ℕ → ℕ → List ℕ → Output
 unfolding printed unmet admitted claims_of claims_table members_table confirmation_of texts_from keys_of key_of key_table material_of message with_head with_string with_item bucket_of bucket_table check_pairs pair_faults chosen children_of items_from look head_of_item bare_head read head depth_of is_utf8 chars lib.Utf8.encode digits encode_with

@@ -37,7 +37,7 @@ abbrev verifying : Limits → List ℕ → Job
 verifying limits keys = Verify (checks_within limits keys [] wants.Tagged None) None
 
 abbrev admitting : Limits → Job
-admitting limits = Cwt (checks_within limits plain [] wants.Tagged None) (pos 0) 0 None (no_requirements 0) false
+admitting limits = Cwt (record { checks = checks_within limits plain [] wants.Tagged None; now = pos 0; leeway = 0; aud = None; requirements = no_requirements 0; readable = false })
 
 -- A header bucket has at most 65,535 bytes and nests at most 16 deep.
 at_the_large_limits : Prints (prints (verifying Large plain)) (

@@ -4,7 +4,7 @@ use Rattle.cose_cwt.specs.Claims.Audience.{text_value}
 use Rattle.cose_map.specs.Key.{key_of}
 use Rattle.cosecmd.specs.Admitted.{program_policy}
 use Rattle.cosecmd.specs.Payload.{detached_in}
-use Rattle.cosecmd.specs.Printed.{Output, admitted_under, answered_under, keys_said, made_under, shown, verified_under}
+use Rattle.cosecmd.specs.Printed.{Admits, Output, admitted_under, answered_under, keys_said, made_under, shown, verified_under}
 use Rattle.cosecmd.specs.Requirements.{requirements_for}
 use Rattle.cosecmd.specs.Sequence.{admitted_sequence, verified_sequence}
 use Rattle.cosecmd.specs.Under.{owned_under}
@@ -13,13 +13,15 @@ use Rattle.cosecmd.specs.declared.request.Make.{Make}
 use Rattle.cosecmd.specs.declared.request.Request.{Request}
 use Rattle.cosecmd.specs.declared.request.Request.TheVariants as asks
 
+abbrev pub admits_for_words : Admits → Cwt → List ℕ → Output
+admits_for_words admits words bytes =
+    admits (owned_under words.checks) (program_policy words.now words.leeway (option_map text_value words.aud)) (requirements_for words.now words.leeway words.required) words.readable bytes
+
 abbrev pub admitted_for : Cwt → List ℕ → Output
-admitted_for words bytes =
-    admitted_under (owned_under words.checks) (program_policy words.now words.leeway (option_map text_value words.aud)) (requirements_for words.now words.leeway words.required) words.readable bytes
+admitted_for words bytes = admits_for_words admitted_under words bytes
 
 abbrev pub admitted_each_for : Cwt → List ℕ → Output
-admitted_each_for words bytes =
-    admitted_sequence (owned_under words.checks) (program_policy words.now words.leeway (option_map text_value words.aud)) (requirements_for words.now words.leeway words.required) words.readable bytes
+admitted_each_for words bytes = admits_for_words admitted_sequence words bytes
 
 abbrev pub made_for : Make → List ℕ → Output
 made_for words bytes =

@@ -8,18 +8,15 @@ use Rattle.clap.specs.Simple.{HasMatchesOf, app_of, subcommand_rows_of}
 use Rattle.clap.specs.Walk.{Text}
 use Rattle.clap.specs.declared.builder.command.Command.{Command}
 use Rattle.clap.specs.declared.parser.matches.ArgMatches.{ArgMatches}
-use Rattle.cose_cwt.specs.Admission.{PolicyValue}
-use Rattle.cose_cwt.specs.Requirements.{RequirementsValue}
 use Rattle.cose_map.specs.Key.{key_of}
 use Rattle.cose_msg.specs.Sink.{AppendsFront}
 use Rattle.cosecmd.specs.Admitted.{program_policy}
 use Rattle.cosecmd.specs.Faults.{WritesLine}
 use Rattle.cosecmd.specs.Options.{Options, ◌>>=◌, algorithm_in, bytes_in, flag_in, integer_in, key_in, key_set_in, kind_in, limits_in, message_in, number_in, optional_bytes_in, payload_in, text_in}
 use Rattle.cosecmd.specs.Fields.{checks_in, digest_checks_in}
-use Rattle.cosecmd.specs.Printed.{EndsWith, Fails, Output, admitted_under, digested_under, keys_said, made_under, shown, verified_under}
+use Rattle.cosecmd.specs.Printed.{Admits, EndsWith, Fails, Output, admitted_under, digested_under, keys_said, made_under, shown, verified_under}
 use Rattle.cosecmd.specs.Requirements.{requirements_in}
 use Rattle.cosecmd.specs.Sequence.{FailsInSequence, admitted_sequence, verified_sequence}
-use Rattle.cosecmd.specs.Under.{Under}
 use Rattle.cosecmd.specs.Arguments.{asked_for, payload_for}
 use Rattle.cosecmd.specs.declared.fault.Fault.{Fault}
 use Rattle.cosecmd.specs.declared.reply.Status.TheVariants as statuses
@@ -42,10 +39,6 @@ sequence_prints content options bytes = do
 abbrev pub verify_prints : (List ℕ → Option (List ℕ)) → Options → List ℕ → Option Output
 verify_prints content options bytes =
     if flag_in (codes "sequence") options then sequence_prints content options bytes else message_prints content options bytes
-
--- What `cwt` prints for an input under what the options say.
-abbrev pub Admits : Type 0
-Admits = Under → PolicyValue → RequirementsValue → Bool → List ℕ → Output
 
 abbrev pub tokens_print : Admits → (List ℕ → Option (List ℕ)) → Options → List ℕ → Option Output
 tokens_print admits content options bytes = do

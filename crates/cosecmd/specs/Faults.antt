@@ -66,7 +66,7 @@ making_fault (Make alg key payload_length kid aad) =
     fault_of_making (key_of (record { bytes = key.now; place = 0 })) alg (option_map contents kid) aad.now payload_length
 making_fault (Show limits wanted diagnostic) = None
 making_fault (Verify checks payload) = None
-making_fault (Cwt checks now leeway aud requirements readable) = None
+making_fault (Cwt job) = None
 making_fault (Digest checks payload) = None
 making_fault (Keys keys) = None
 making_fault (KeysFor keys wanted) = None

@@ -10,7 +10,7 @@ use Rattle.cosecmd.specs.declared.job.Question.TheVariants as questions
 abbrev pub aad_of : Job → List ℕ
 aad_of (Show limits wanted diagnostic) = []
 aad_of (Verify checks payload) = checks.aad.now
-aad_of (Cwt checks now leeway aud requirements readable) = checks.aad.now
+aad_of (Cwt job) = job.checks.aad.now
 aad_of (Digest checks payload) = checks.aad.now
 aad_of (Keys keys) = []
 aad_of (KeysFor keys wanted) = []
@@ -20,7 +20,7 @@ abbrev pub is_make : Job → Bool
 is_make (Make alg key length kid aad) = true
 is_make (Show limits wanted diagnostic) = false
 is_make (Verify checks payload) = false
-is_make (Cwt checks now leeway aud requirements readable) = false
+is_make (Cwt job) = false
 is_make (Digest checks payload) = false
 is_make (Keys keys) = false
 is_make (KeysFor keys wanted) = false
@@ -31,7 +31,7 @@ reads_input (Keys keys) = false
 reads_input (KeysFor keys wanted) = true
 reads_input (Show limits wanted diagnostic) = true
 reads_input (Verify checks payload) = true
-reads_input (Cwt checks now leeway aud requirements readable) = true
+reads_input (Cwt job) = true
 reads_input (Digest checks payload) = true
 reads_input (Make alg key length kid aad) = true
 

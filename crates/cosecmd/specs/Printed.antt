@@ -47,6 +47,7 @@ use Rattle.cosecmd.specs.declared.job.FileJob.{FileJob}
 use Rattle.cosecmd.specs.declared.job.Job.{Job}
 use Rattle.cosecmd.specs.declared.job.Job.TheVariants.{Show, Verify, Cwt, Digest, Keys, KeysFor, Make}
 use Rattle.cosecmd.specs.declared.job.Question.{Question}
+use Rattle.cosecmd.specs.declared.job.TokenJob.{TokenJob}
 use Rattle.cosecmd.specs.declared.job.Question.TheVariants as questions
 use Rattle.cosecmd.specs.declared.limits.Limits.{Limits}
 use Rattle.cosecmd.specs.declared.reply.Reply.{Reply}
@@ -181,6 +182,15 @@ outcome_said readable outcome = record { text = outcome_text readable outcome; s
 abbrev pub admitted_under : Under → PolicyValue → RequirementsValue → Bool → List ℕ → Output
 admitted_under under policy requirements readable bytes =
     with_keys under.keys (λ keys. outcome_said readable (token_under under policy requirements bytes keys))
+
+-- What `cwt` prints for an input: under these checks, by this policy, with what is required beyond it, and whether texts are
+-- printed in quotes too. It is that of the one token that the input is, or of each of a sequence.
+abbrev pub Admits : Type 0
+Admits = Under → PolicyValue → RequirementsValue → Bool → List ℕ → Output
+
+abbrev pub admits_for_job : Admits → TokenJob → List ℕ → Output
+admits_for_job admits job bytes =
+    admits (job_under job.checks) (program_policy job.now job.leeway (option_map text_value job.aud)) (requirements_value job.requirements) job.readable bytes
 
 -- The shape of a message: its kind, and the numbers of bytes of its payload, of its tag or signature, and of the whole.
 abbrev pub shape_line : Kind → ℕ → ℕ → ℕ → List ℕ
@@ -333,8 +343,7 @@ keys_said (Some wanted) keys bytes = keys_listed_for wanted keys bytes
 unfoldable pub printed : Job → List ℕ → Output
 printed (Show limits wanted diagnostic) bytes = shown limits wanted diagnostic bytes
 printed (Verify checks payload) bytes = verified_for checks payload bytes
-printed (Cwt checks now leeway aud requirements readable) bytes =
-    admitted_under (job_under checks) (program_policy now leeway (option_map text_value aud)) (requirements_value requirements) readable bytes
+printed (Cwt job) bytes = admits_for_job admitted_under job bytes
 printed (Digest checks payload) bytes = digested_for checks payload bytes
 printed (Keys keys) bytes = keys_listed keys.now
 printed (KeysFor keys wanted) bytes = keys_listed_for wanted keys.now bytes

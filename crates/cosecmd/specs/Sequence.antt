@@ -1,26 +1,23 @@
 -- What the program prints for a sequence of messages (RFC 8742), each of which is followed at once by the next, and how it ends.
-use Rattle.std.specs.Prelude.{◌≡◌, ◌⊎◌, ℕ, zero, suc, ◌+◌, Bool, true, false, List, [], ◌∷◌, ◌++◌, length, take, drop, Option, None, Ok, Err, option_map, codes, if◌then◌else◌}
+use Rattle.std.specs.Prelude.{◌≡◌, ◌⊎◌, ℕ, zero, suc, ◌+◌, Bool, true, false, List, [], ◌∷◌, ◌++◌, length, take, drop, Option, Some, None, Ok, Err, codes, if◌then◌else◌}
 use Rattle.std.specs.Fmt.{decimal}
 use Rattle.cose_head.specs.declared.reason.Reason.{Reason}
 use Rattle.cose_head.specs.declared.reason.Reason.TheVariants.{BadAuth}
 use Rattle.cose_cwt.specs.Admission.{PolicyValue}
-use Rattle.cose_cwt.specs.Claims.Audience.{text_value}
 use Rattle.cose_cwt.specs.Requirements.{RequirementsValue}
-use Rattle.cose_cwt.specs.Requirements.View.{requirements_value}
 use Rattle.cose_cwt.specs.declared.token.CwtStop.TheVariants as stops
 use Rattle.cose_cwt.specs.Token.{Outcome, read_as}
 use Rattle.cose_msg.specs.declared.verdict.Verdict.TheVariants.{Authentic, Refused}
 use Rattle.cose_msg.specs.Answer.{Answer, decided, complete, shaped}
 use Rattle.cose_msg.specs.Reading.{Reading}
 use Rattle.cose_msg.specs.Sink.{AppendsFront}
-use Rattle.cosecmd.specs.Admitted.{program_policy}
 use Rattle.cosecmd.specs.Faults.{WritesLine, fault_text}
 use Rattle.cosecmd.specs.declared.fault.Fault.{Fault}
 use Rattle.cosecmd.specs.declared.job.TokenJob.{TokenJob}
 use Rattle.cosecmd.specs.declared.reply.Status.{Status}
 use Rattle.cosecmd.specs.declared.reply.Status.TheVariants as statuses
-use Rattle.cosecmd.specs.Printed.{Output, admitted_under, setting_under, token_setting, verified_under, with_keys}
-use Rattle.cosecmd.specs.Under.{Under, job_under}
+use Rattle.cosecmd.specs.Printed.{Output, Prints, admits_for_job, admitted_under, setting_under, token_setting, verified_under, with_keys}
+use Rattle.cosecmd.specs.Under.{Under}
 use Rattle.cosecmd.specs.Vouch.{vouching}
 
 -- How the bytes of a message are read.
@@ -119,8 +116,7 @@ admitted_sequence under policy requirements readable bytes =
     with_keys under.keys (λ keys. sequence_said (read_as under.room.header under.room.nesting (token_setting under.room.claims keys under.aad under.wanted) (vouching under.vouch)) (admitted_under under policy requirements readable) bytes)
 
 abbrev pub admitted_each : TokenJob → List ℕ → Output
-admitted_each job bytes =
-    admitted_sequence (job_under job.checks) (program_policy job.now job.leeway (option_map text_value job.aud)) (requirements_value job.requirements) job.readable bytes
+admitted_each job bytes = admits_for_job admitted_sequence job bytes
 
 -- What a run over a sequence has written that ends with status Fault: the line of a fault, perhaps after all that is printed for
 -- a front of the input; or a front of that, where the output fails.
@@ -130,3 +126,10 @@ FailsAfter said bytes old new = (fault : Fault) × (first : List ℕ) × (rest :
 
 abbrev pub FailsInSequence : (List ℕ → Output) → List ℕ → Option (List ℕ) → Option (List ℕ) → Type 0
 FailsInSequence said bytes old new = ((fault : Fault) × WritesLine fault old new) ⊎ FailsAfter said bytes old new
+
+-- A run over a sequence has printed the output for the input, unless there is a fault; and what it has written where there is one.
+abbrev pub PrintsSequence : Option (List ℕ) → (List ℕ → Output) → Option (List ℕ) → Option (List ℕ) → Status → Type 0
+PrintsSequence come said old new status = (bytes : List ℕ) → come ≡ Some bytes → Prints (said bytes) old new status
+
+abbrev pub FailsOverSequence : Option (List ℕ) → (List ℕ → Output) → Option (List ℕ) → Option (List ℕ) → Status → Type 0
+FailsOverSequence come said old new status = (bytes : List ℕ) → come ≡ Some bytes → status ≡ statuses.Fault → FailsInSequence said bytes old new

@@ -61,16 +61,16 @@ fn status_of<R: Read, W: Write>(alloc: Global, job: &Job, input: &mut R, output:
             let reply = verify_reply(alloc, checks, *payload, input);
             print_reply(alloc, reply, output)
         }
-        Job::Cwt {
-            checks,
-            now,
-            leeway,
-            aud,
-            requirements,
-            readable,
-        } => {
-            let policy = policy_of(*now, *leeway, aud);
-            let reply = cwt_reply(alloc, checks, &policy, requirements, *readable, input);
+        Job::Cwt(job) => {
+            let policy = policy_of(job.now, job.leeway, &job.aud);
+            let reply = cwt_reply(
+                alloc,
+                &job.checks,
+                &policy,
+                &job.requirements,
+                job.readable,
+                input,
+            );
             print_reply(alloc, reply, output)
         }
         Job::Digest { checks, payload } => {

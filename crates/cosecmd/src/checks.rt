@@ -1,11 +1,14 @@
-//! What a message is verified under, from the arguments to the job.
+//! What a message is verified under, and what a token is admitted under, from the arguments to the job.
 
-ghost use Rattle.std.specs.Prelude.{◌≡◌, ◌≤◌, length as length_of, option_map};
+ghost use Rattle.std.specs.Prelude.{◌≡◌, ◌≤◌, ℕ, List, length as length_of, option_map};
 ghost use Rattle.cose_map.specs.Key.View.{contents};
+ghost use Rattle.cosecmd.specs.Arguments.{admits_for_words};
+ghost use Rattle.cosecmd.specs.Printed.{Admits, admits_for_job};
 ghost use Rattle.cosecmd.specs.Under.{job_under, owned_under};
 
-use crate::job::Checks;
-use crate::request::OwnedChecks;
+use crate::job::{Checks, TokenJob};
+use crate::request::{Cwt, OwnedChecks};
+use crate::requirements::requirements_of;
 
 /// The bytes of an argument, where there is one.
 pub fn slice_of(word: &Option<Vec<u8>>) -> Option<&[u8]>
@@ -31,5 +34,21 @@ impl OwnedChecks {
             vouch: slice_of(&self.vouch),
             limits: self.limits,
         }
+    }
+}
+
+/// What the arguments of `cwt` ask for, of one token or of each of a sequence.
+pub fn token_job<'j>(words: &'j Cwt<'j>) -> TokenJob<'j>
+    ensures same { (admits : Admits) (bytes : List ℕ) →
+        admits_for_job admits result bytes ≡ admits_for_words admits words.entry.now bytes }
+    ensures external { length_of result.checks.aad.now ≤ 65535 }
+{
+    TokenJob {
+        checks: words.checks.borrowed(),
+        now: words.now,
+        leeway: words.leeway,
+        aud: words.aud,
+        requirements: requirements_of(&words.required, words.now, words.leeway),
+        readable: words.readable,
     }
 }

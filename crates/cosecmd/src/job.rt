@@ -66,20 +66,7 @@ pub enum Job<'j> {
         payload: Option<&'j [u8]>,
     },
     /// To admit the token on the input, and to show its claims.
-    Cwt {
-        /// What its message is verified under.
-        checks: Checks<'j>,
-        /// The current time, in seconds since 1970.
-        now: i64,
-        /// By how many seconds the clocks of the issuer and of this machine may differ.
-        leeway: u32,
-        /// The text of the audience, where a token that names an audience has to be for it.
-        aud: Option<&'j str>,
-        /// What is required of the claims beyond their admission.
-        requirements: Requirements<'j>,
-        /// Whether texts are printed in quotes too, and dates as RFC 3339 has them.
-        readable: bool,
-    },
+    Cwt(TokenJob<'j>),
     /// To print what the signature of the message on the input is verified with. Nobody vouches for it.
     Digest {
         /// What it is read under.
@@ -115,7 +102,7 @@ pub enum Job<'j> {
     },
 }
 
-/// What each token of a sequence is admitted under.
+/// What a token is admitted under, or each of a sequence, and how its claims are printed.
 #[derive(Clone, Copy)]
 pub struct TokenJob<'j> {
     /// What its message is verified under.

@@ -18,15 +18,14 @@ use crate::answer::{
     answer, answer_message_sequence, answer_token_sequence, answer_with_payload_file,
 };
 use crate::arguments::{Parsed, parse, request_of};
-use crate::checks::slice_of;
+use crate::checks::{slice_of, token_job};
 use crate::fault::Fault;
 use crate::files::{NamedFiles, NoFiles};
-use crate::job::{Checks, FileJob, Job, Question, TokenJob};
+use crate::job::{Checks, FileJob, Job, Question};
 use crate::limits::Limits;
 use crate::new_file::NewFiles;
 use crate::print::{print, print_fault};
 use crate::request::{Cwt, Keys, Make, OwnedChecks, Payload, Request};
-use crate::requirements::requirements_of;
 use clap::ArgMatches;
 use cose_msg::Wanted;
 use std::alloc::Global;
@@ -179,15 +178,7 @@ fn answer_cwt<R: Read, W: Write>(alloc: Global, words: &Cwt, input: &mut R, outp
         Fails (admitted_for words.entry.now bytes) (W.contents output.old)
         (W.contents output.new) }
 {
-    let job = Job::Cwt {
-        checks: words.checks.borrowed(),
-        now: words.now,
-        leeway: words.leeway,
-        aud: words.aud,
-        requirements: requirements_of(&words.required, words.now, words.leeway),
-        readable: words.readable,
-    };
-    answer(alloc, &job, input, output)
+    answer(alloc, &Job::Cwt(token_job(words)), input, output)
 }
 
 /// The command `cwt`, where the input is a sequence.
@@ -200,15 +191,7 @@ fn answer_tokens<R: Read, W: Write>(alloc: Global, words: &Cwt, input: &mut R, o
         FailsInSequence (admitted_each_for words.entry.now) bytes (W.contents output.old)
         (W.contents output.new) }
 {
-    let job = TokenJob {
-        checks: words.checks.borrowed(),
-        now: words.now,
-        leeway: words.leeway,
-        aud: words.aud,
-        requirements: requirements_of(&words.required, words.now, words.leeway),
-        readable: words.readable,
-    };
-    answer_token_sequence(alloc, &job, input, output)
+    answer_token_sequence(alloc, &token_job(words), input, output)
 }
 
 /// The job of the command `keys`.

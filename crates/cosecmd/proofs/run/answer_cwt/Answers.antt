@@ -1,16 +1,12 @@
-use Rattle.std.proofs.Common.{SFits, refl, rules, w64}
-use Rattle.std.proofs.lemmas.Int.{to_z-of_z}
-use Rattle.cosecmd.proofs.Asked.{cwt_words, ends_with, fails_with}
+use Rattle.std.proofs.Common.{refl}
+use Rattle.cosecmd.specs.Printed.{admitted_under}
+use Rattle.cosecmd.proofs.Asked.{ends_with, fails_with, token_printed}
 use Rattle.cosecmd.proofs.run.answer_cwt.Goals as goal
 
 pub returns-clause-printed : goal.returns-clause-printed
 returns-clause-printed g c = λ bytes e.
-    let in_range : SFits w64 c.args.words.now.now = search rules in
-    ends_with _ _ _ (cwt_words c.args.words.now c.borrowed.result _ c.requirements_of.result bytes c.borrowed.ensures.same (to_z-of_z w64 c.args.words.now.now in_range)
-    c.requirements_of.ensures) (c.answer.ensures.printed bytes e)
+    ends_with _ _ _ (token_printed c.token_job.result c.args.words.now bytes (c.token_job.ensures.same admitted_under bytes)) (c.answer.ensures.printed bytes e)
 
 pub returns-clause-fails : goal.returns-clause-fails
 returns-clause-fails g c = λ bytes e two.
-    let in_range : SFits w64 c.args.words.now.now = search rules in
-    fails_with _ _ (cwt_words c.args.words.now c.borrowed.result _ c.requirements_of.result bytes c.borrowed.ensures.same (to_z-of_z w64 c.args.words.now.now in_range)
-    c.requirements_of.ensures) (c.answer.ensures.fails bytes e refl two)
+    fails_with _ _ (token_printed c.token_job.result c.args.words.now bytes (c.token_job.ensures.same admitted_under bytes)) (c.answer.ensures.fails bytes e refl two)

@@ -1,14 +1,14 @@
 //! The messages of a sequence, each of which is verified.
 
-ghost use Rattle.std.specs.Prelude.{◌≡◌, ◌≤◌, ℕ, false, List, Some, Ok, length, option_map};
+ghost use Rattle.std.specs.Prelude.{◌≡◌, ◌≤◌, false, Ok, length, option_map};
 ghost use Rattle.cose_cwt.specs.Token.{read_as};
 ghost use Rattle.cose_map.specs.Key.View.{contents};
 ghost use Rattle.cose_map.specs.PreparedTable.{prepared_keys};
 ghost use Rattle.cose_msg.specs.Kept.{is_inspecting};
 ghost use Rattle.cose_msg.specs.Verifier.{is_detached, setting_in};
 ghost use Rattle.cosecmd.specs.Limits.{AreSizesUnder};
-ghost use Rattle.cosecmd.specs.Printed.{Prints, input_answer, output_of};
-ghost use Rattle.cosecmd.specs.Sequence.{FailsInSequence, verified_sequence};
+ghost use Rattle.cosecmd.specs.Printed.{input_answer, output_of};
+ghost use Rattle.cosecmd.specs.Sequence.{FailsOverSequence, PrintsSequence, verified_sequence};
 ghost use Rattle.cosecmd.specs.Under.{job_under};
 ghost use Rattle.cosecmd.specs.Vouch.{vouching};
 
@@ -89,12 +89,12 @@ fn print_within<const H: usize, const D: usize, const N: usize, R: Read, W: Writ
     requires keys_limit { N ≤ 256 }
     requires sizes { AreSizesUnder checks.now.limits H D N }
     requires external { length checks.now.aad.now ≤ 65535 }
-    ensures prints { (bytes : List ℕ) → R.remaining input.old ≡ Some bytes →
-        Prints (verified_sequence (job_under checks.now) bytes)
-        (W.contents output.old) (W.contents output.new) result }
-    ensures fails { (bytes : List ℕ) → R.remaining input.old ≡ Some bytes → result ≡ Status.Fault →
-        FailsInSequence (verified_sequence (job_under checks.now)) bytes
-        (W.contents output.old) (W.contents output.new) }
+    ensures prints { PrintsSequence (R.remaining input.old)
+        (verified_sequence (job_under checks.now)) (W.contents output.old)
+        (W.contents output.new) result }
+    ensures fails { FailsOverSequence (R.remaining input.old)
+        (verified_sequence (job_under checks.now)) (W.contents output.old)
+        (W.contents output.new) result }
 {
     let keys = match KeyTable::<N>::read_restricted(checks.keys, &checks.restrictions) {
         Ok(keys) => keys,
@@ -126,12 +126,12 @@ fn print_prepared<'j, const H: usize, const D: usize, const N: usize, R: Read, W
     requires sizes { AreSizesUnder checks.now.limits H D N }
     requires keys_are { (job_under checks.now).keys ≡ Ok (prepared_keys prepared.now) }
     requires external { length checks.now.aad.now ≤ 65535 }
-    ensures prints { (bytes : List ℕ) → R.remaining input.old ≡ Some bytes →
-        Prints (verified_sequence (job_under checks.entry.now) bytes)
-        (W.contents output.old) (W.contents output.new) result }
-    ensures fails { (bytes : List ℕ) → R.remaining input.old ≡ Some bytes → result ≡ Status.Fault →
-        FailsInSequence (verified_sequence (job_under checks.entry.now)) bytes
-        (W.contents output.old) (W.contents output.new) }
+    ensures prints { PrintsSequence (R.remaining input.old)
+        (verified_sequence (job_under checks.entry.now)) (W.contents output.old)
+        (W.contents output.new) result }
+    ensures fails { FailsOverSequence (R.remaining input.old)
+        (verified_sequence (job_under checks.entry.now)) (W.contents output.old)
+        (W.contents output.new) result }
 {
     let messages = &mut Messages {
         vouch: Vouch { word: checks.vouch },
@@ -155,12 +155,12 @@ fn print_small<R: Read, W: Write>(
 ) -> Status
     requires small { checks.now.limits ≡ Limits.Small }
     requires external { length checks.now.aad.now ≤ 65535 }
-    ensures prints { (bytes : List ℕ) → R.remaining input.old ≡ Some bytes →
-        Prints (verified_sequence (job_under checks.now) bytes)
-        (W.contents output.old) (W.contents output.new) result }
-    ensures fails { (bytes : List ℕ) → R.remaining input.old ≡ Some bytes → result ≡ Status.Fault →
-        FailsInSequence (verified_sequence (job_under checks.now)) bytes
-        (W.contents output.old) (W.contents output.new) }
+    ensures prints { PrintsSequence (R.remaining input.old)
+        (verified_sequence (job_under checks.now)) (W.contents output.old)
+        (W.contents output.new) result }
+    ensures fails { FailsOverSequence (R.remaining input.old)
+        (verified_sequence (job_under checks.now)) (W.contents output.old)
+        (W.contents output.new) result }
 {
     let keys = match KeyTable::<SMALL_KEYS>::read_restricted(checks.keys, &checks.restrictions) {
         Ok(keys) => keys,
@@ -180,12 +180,12 @@ pub fn print_verified<R: Read, W: Write>(
     output: &mut W,
 ) -> Status
     requires external { length checks.now.aad.now ≤ 65535 }
-    ensures prints { (bytes : List ℕ) → R.remaining input.old ≡ Some bytes →
-        Prints (verified_sequence (job_under checks.now) bytes)
-        (W.contents output.old) (W.contents output.new) result }
-    ensures fails { (bytes : List ℕ) → R.remaining input.old ≡ Some bytes → result ≡ Status.Fault →
-        FailsInSequence (verified_sequence (job_under checks.now)) bytes
-        (W.contents output.old) (W.contents output.new) }
+    ensures prints { PrintsSequence (R.remaining input.old)
+        (verified_sequence (job_under checks.now)) (W.contents output.old)
+        (W.contents output.new) result }
+    ensures fails { FailsOverSequence (R.remaining input.old)
+        (verified_sequence (job_under checks.now)) (W.contents output.old)
+        (W.contents output.new) result }
 {
     match checks.limits {
         Limits::Small => print_small(alloc, checks, input, output),

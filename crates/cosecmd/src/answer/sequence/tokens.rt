@@ -1,6 +1,6 @@
 //! The tokens of a sequence, each of which is admitted.
 
-ghost use Rattle.std.specs.Prelude.{◌≡◌, ◌≤◌, ℕ, true, false, List, Some, Ok, length, option_map};
+ghost use Rattle.std.specs.Prelude.{◌≡◌, ◌≤◌, true, false, Ok, length, option_map};
 ghost use Rattle.cose_cwt.specs.Admission.View.{policy_value};
 ghost use Rattle.cose_cwt.specs.Requirements.View.{requirements_value};
 ghost use Rattle.cose_cwt.specs.Token.{claims_seen, read_as};
@@ -10,8 +10,8 @@ ghost use Rattle.cose_msg.specs.Kept.{is_inspecting};
 ghost use Rattle.cose_msg.specs.Verifier.{is_detached, setting_in};
 ghost use Rattle.cosecmd.specs.Admitted.{admission_seen, if_admitted, input_token};
 ghost use Rattle.cosecmd.specs.Limits.{AreSizesUnder, room_of};
-ghost use Rattle.cosecmd.specs.Printed.{Prints, outcome_said};
-ghost use Rattle.cosecmd.specs.Sequence.{FailsInSequence, admitted_each, is_read_to_its_end};
+ghost use Rattle.cosecmd.specs.Printed.{outcome_said};
+ghost use Rattle.cosecmd.specs.Sequence.{FailsOverSequence, PrintsSequence, admitted_each, is_read_to_its_end};
 ghost use Rattle.cosecmd.specs.Under.{job_under};
 ghost use Rattle.cosecmd.specs.Vouch.{vouching};
 
@@ -139,12 +139,10 @@ fn print_within<
     requires sizes { AreSizesUnder job.now.checks.limits H D N }
     requires claims { (room_of job.now.checks.limits).claims ≡ L }
     requires external { length job.now.checks.aad.now ≤ 65535 }
-    ensures prints { (bytes : List ℕ) → R.remaining input.old ≡ Some bytes →
-        Prints (admitted_each job.entry.now bytes)
+    ensures prints { PrintsSequence (R.remaining input.old) (admitted_each job.entry.now)
         (W.contents output.old) (W.contents output.new) result }
-    ensures fails { (bytes : List ℕ) → R.remaining input.old ≡ Some bytes → result ≡ Status.Fault →
-        FailsInSequence (admitted_each job.entry.now) bytes
-        (W.contents output.old) (W.contents output.new) }
+    ensures fails { FailsOverSequence (R.remaining input.old) (admitted_each job.entry.now)
+        (W.contents output.old) (W.contents output.new) result }
 {
     let keys = match KeyTable::<N>::read_restricted(job.checks.keys, &job.checks.restrictions) {
         Ok(keys) => keys,
@@ -194,12 +192,10 @@ fn print_prepared<
     requires claims { (room_of job.now.checks.limits).claims ≡ L }
     requires keys_are { (job_under job.now.checks).keys ≡ Ok (prepared_keys prepared.now) }
     requires external { length job.now.checks.aad.now ≤ 65535 }
-    ensures prints { (bytes : List ℕ) → R.remaining input.old ≡ Some bytes →
-        Prints (admitted_each job.entry.now bytes)
+    ensures prints { PrintsSequence (R.remaining input.old) (admitted_each job.entry.now)
         (W.contents output.old) (W.contents output.new) result }
-    ensures fails { (bytes : List ℕ) → R.remaining input.old ≡ Some bytes → result ≡ Status.Fault →
-        FailsInSequence (admitted_each job.entry.now) bytes
-        (W.contents output.old) (W.contents output.new) }
+    ensures fails { FailsOverSequence (R.remaining input.old) (admitted_each job.entry.now)
+        (W.contents output.old) (W.contents output.new) result }
 {
     let vouch = Vouch {
         word: job.checks.vouch,
@@ -229,12 +225,10 @@ fn print_small<'j, R: Read, W: Write>(
 ) -> Status
     requires small { job.now.checks.limits ≡ Limits.Small }
     requires external { length job.now.checks.aad.now ≤ 65535 }
-    ensures prints { (bytes : List ℕ) → R.remaining input.old ≡ Some bytes →
-        Prints (admitted_each job.entry.now bytes)
+    ensures prints { PrintsSequence (R.remaining input.old) (admitted_each job.entry.now)
         (W.contents output.old) (W.contents output.new) result }
-    ensures fails { (bytes : List ℕ) → R.remaining input.old ≡ Some bytes → result ≡ Status.Fault →
-        FailsInSequence (admitted_each job.entry.now) bytes
-        (W.contents output.old) (W.contents output.new) }
+    ensures fails { FailsOverSequence (R.remaining input.old) (admitted_each job.entry.now)
+        (W.contents output.old) (W.contents output.new) result }
 {
     let checks = &job.checks;
     let keys = match KeyTable::<SMALL_KEYS>::read_restricted(checks.keys, &checks.restrictions) {
@@ -255,12 +249,10 @@ pub fn print_admitted<'j, R: Read, W: Write>(
     output: &mut W,
 ) -> Status
     requires external { length job.now.checks.aad.now ≤ 65535 }
-    ensures prints { (bytes : List ℕ) → R.remaining input.old ≡ Some bytes →
-        Prints (admitted_each job.entry.now bytes)
+    ensures prints { PrintsSequence (R.remaining input.old) (admitted_each job.entry.now)
         (W.contents output.old) (W.contents output.new) result }
-    ensures fails { (bytes : List ℕ) → R.remaining input.old ≡ Some bytes → result ≡ Status.Fault →
-        FailsInSequence (admitted_each job.entry.now) bytes
-        (W.contents output.old) (W.contents output.new) }
+    ensures fails { FailsOverSequence (R.remaining input.old) (admitted_each job.entry.now)
+        (W.contents output.old) (W.contents output.new) result }
 {
     match job.checks.limits {
         Limits::Small => print_small(alloc, job, input, output),
