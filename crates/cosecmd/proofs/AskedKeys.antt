@@ -1,5 +1,5 @@
 -- What a message asks of its key: under no key nothing is authentic, and its first bytes decide it.
-use Rattle.std.proofs.Common.{◌≡◌, ℕ, ◌+◌, ◌*◌, ◌<◌, ◌≤◌, Bool, true, false, List, [], ◌∷◌, ◌++◌, take, drop, length, Option, Some, None, Result, Ok, Err, refl, sym, ap, subst, ◌∙◌, arith, min}
+use Rattle.std.proofs.Common.{◌≡◌, ℕ, ◌+◌, ◌*◌, ◌<◌, ◌≤◌, Bool, true, false, List, [], ◌∷◌, take, drop, length, Option, Some, Result, Ok, Err, refl, sym, ap, subst, ◌∙◌, arith}
 use Rattle.std.specs.Prelude.{IfOk, IsOk, nat_lt, if◌then◌else◌, string_bytes}
 use Rattle.std.proofs.lemmas.Bool.{ltb-false, ltb-true}
 use Rattle.std.proofs.lemmas.List.{length-take, take-append-drop, take_all}
@@ -28,12 +28,12 @@ use Rattle.cose_msg.specs.declared.verdict.Verdict.TheVariants.{Authentic, Refus
 use Rattle.cose_msg.specs.Answer.{Answer, Chosen, Headers, decided, complete, shaped}
 use Rattle.cose_msg.specs.GrammarLaws.{AuthenticIsMessage}
 use Rattle.cose_msg.specs.Laws.{MessageIsBounded, MessageStays, payload_inside}
-use Rattle.cose_msg.specs.Message.{Decides, Setting, as_choice, comparing, key_choice_of, message, past_chosen, question_of, verdict_of, verifying}
+use Rattle.cose_msg.specs.Message.{Setting, as_choice, comparing, key_choice_of, message, past_chosen, question_of, verdict_of, verifying}
 use Rattle.cose_msg.specs.Reading.{Findings, Reading}
 use Rattle.cose_msg.specs.Rules.{Rules}
 use Rattle.cose_msg.specs.Slice.{outcome_of}
 use Rattle.cosecmd.specs.declared.reply.Reply.{Reply}
-use Rattle.cosecmd.specs.AskedKeys.{asked, headers_found, headers_setting, headers_verdict, is_of_choice, is_of_tag, is_refused_for_tag, kind_asked, question_in, question_with, unless_refused}
+use Rattle.cosecmd.specs.AskedKeys.{asked, headers_found, headers_setting, headers_verdict, is_of_choice, is_refused_for_tag, kind_asked, question_in, question_with, unless_refused}
 use Rattle.cosecmd.specs.Printed.{ItemsPrint, Output, Says, items_listed, items_listed_for, keys_print, said_of}
 
 -- ---- under no key

@@ -1,6 +1,6 @@
 -- What the program prints of key sets that it lists for a message, on examples, by computing: each condition that a key fails, and a
 -- message that is refused for its headers.
-use Rattle.std.specs.Prelude.{◌≡◌, ℕ, List, [], ◌∷◌, ◌++◌, codes, replicate, Some, refl}
+use Rattle.std.specs.Prelude.{◌≡◌, ℕ, List, [], ◌∷◌, ◌++◌, replicate, refl}
 use Rattle.std.specs.Fmt.{digits}
 use Rattle.std.specs.Str.{is_utf8, chars}
 use Rattle.cose_head.specs.Head.{bare_head}
