@@ -63,6 +63,10 @@ HoldsBucket nesting (Some pairs) (Some place) content = bucket_of nesting (place
 abbrev pub opened_by : {H D : ℕ} → Reader H D → ℕ
 opened_by v = open_now v.walker
 
+-- The bytes of the message in the stores. The running hash counts as 256.
+abbrev pub held_by : {H D : ℕ} → Reader H D → ℕ
+held_by v = length v.protected.items + length v.unprotected.items + length v.head.items + length v.auth.items + 256
+
 -- The task's terms, the buckets that are known, and what is open.
 abbrev pub Shows : {H D : ℕ} → Task → Findings → Reader H D → Type 0
 Shows {H} {D} task so_far v = (task_in task v ≡ task)

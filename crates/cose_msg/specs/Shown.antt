@@ -19,7 +19,7 @@ use Rattle.cose_msg.specs.Hashing.{result_of}
 use Rattle.cose_msg.specs.Message.{Setting, digest_signed, message, comparing, uncompared}
 use Rattle.cose_msg.specs.Phase.{has_signature}
 use Rattle.cose_msg.specs.Phases.{placed_at}
-use Rattle.cose_msg.specs.Reader.{opened_by}
+use Rattle.cose_msg.specs.Reader.{held_by, opened_by}
 use Rattle.cose_msg.specs.Reading.{Reading}
 use Rattle.cose_msg.specs.Task.{Task, rules_of}
 
@@ -103,10 +103,6 @@ shown_by v = record {
   sign_input = sign_input_by v;
   open_items = opened_by v;
 }
-
--- The bytes of the message in the stores. The running hash counts as 256.
-abbrev pub held_by : {H D : ℕ} → Reader H D → ℕ
-held_by v = length v.protected.items + length v.unprotected.items + length v.head.items + length v.auth.items + 256
 
 -- ---- of a verifier
 

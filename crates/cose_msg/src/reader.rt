@@ -64,10 +64,10 @@ impl<'k, const H: usize, const D: usize> Reader<'k, H, D> {
     ghost use Rattle.std.specs.Prelude.{◌≡◌, ℕ, List, [], ◌∷◌, ◌++◌, ◌+◌, None, length, take, true, false};
     ghost use Rattle.cose_msg.specs.Message.{message};
     ghost use Rattle.cose_msg.specs.Phase.{grown, in_payload, is_settled, takes_bytes, want_of};
-    ghost use Rattle.cose_msg.specs.Reader.{IsUntouched, Shows, StandsFor, keys_in};
+    ghost use Rattle.cose_msg.specs.Reader.{IsUntouched, Shows, StandsFor, held_by, keys_in};
     ghost use Rattle.cose_msg.specs.Reading.{Reading, stop, Findings};
     ghost use Rattle.cose_msg.specs.Source.{IsStated};
-    ghost use Rattle.cose_msg.specs.Shown.{held_by, shown_by, shown_in};
+    ghost use Rattle.cose_msg.specs.Shown.{shown_by, shown_in};
     ghost use Rattle.cose_msg.specs.Task.{Task, keys_for, rules_of};
 
     /// A reader of a message under these terms.

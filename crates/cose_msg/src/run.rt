@@ -8,10 +8,9 @@ ghost use Rattle.cose_msg.specs.Answer.{decided};
 ghost use Rattle.cose_msg.specs.Kept.{answered_again, is_inspecting, is_stopped, kept_answer, kept_inspection, WhateverInspected, WhateverTaken, WhateverVerified, HasTaken, SamePurpose};
 ghost use Rattle.cose_msg.specs.Message.{inspecting, message, verdict_of, verifying, Setting};
 ghost use Rattle.cose_msg.specs.Run.{Drive, Run, inspection, stop_in, stops_for_intake, stops_for_sink, LeftAt};
-ghost use Rattle.cose_msg.specs.Shown.{held};
 ghost use Rattle.cose_msg.specs.Source.{is_detached_from};
 ghost use Rattle.cose_msg.specs.Task.{rules_of, to_inspect, to_verify};
-ghost use Rattle.cose_msg.specs.Verifier.{is_detached, opened};
+ghost use Rattle.cose_msg.specs.Verifier.{is_detached};
 
 use crate::elliptic::EcVerifier;
 use crate::intake::Intake;
@@ -40,8 +39,6 @@ pub(crate) fn take_message<'k, const H: usize, const D: usize, K: Keys<'k>, I: I
         (stop_in result) verifier.new) }
     ensures stopped { is_stopped verifier.new ≡ is_err result }
     ensures purpose { SamePurpose verifier.old verifier.new }
-    ensures held { held verifier.new ≤ 2 * H + 512 }
-    ensures opened { opened verifier.new ≤ D }
     ensures once { result ≢ Err Stop.Again }
 
     // It stops only for a failure in this call.
@@ -135,10 +132,6 @@ pub fn verify<
         × (sink.new ≡ sink.old) }
     ensures stopped { (result ≡ Err Stop.Again) ↔ (is_stopped verifier.old ≡ true) }
     ensures purpose { SamePurpose verifier.old verifier.new }
-    // What it holds of the message is within a bound, in addition to the `C` bytes of the call, and so is what is open
-    // of it.
-    ensures held { held verifier.new ≤ 2 * H + 512 }
-    ensures opened { opened verifier.new ≤ D }
 
     // It stops only for a failure in this call.
     ensures intake_failure { I.has_failed intake.new
@@ -202,10 +195,6 @@ pub fn inspect<'k, const C: usize, const H: usize, const D: usize, K: Keys<'k>, 
         × (sink.new ≡ sink.old) }
     ensures stopped { (result ≡ Err Stop.Again) ↔ (is_stopped verifier.old ≡ true) }
     ensures purpose { SamePurpose verifier.old verifier.new }
-    // What it holds of the message is within a bound, in addition to the `C` bytes of the call, and so is what is open
-    // of it.
-    ensures held { held verifier.new ≤ 2 * H + 512 }
-    ensures opened { opened verifier.new ≤ D }
 
     // It stops only for a failure in this call.
     ensures intake_failure { I.has_failed intake.new

@@ -6,11 +6,11 @@ ghost use Rattle.cose_msg.specs.Answer.{decided};
 ghost use Rattle.cose_msg.specs.Feed.{Uses, payload_in};
 ghost use Rattle.cose_msg.specs.Kept.{bytes_taken, is_inspecting, kept_answer};
 ghost use Rattle.cose_msg.specs.Message.{message as reading, verdict_of};
-ghost use Rattle.cose_msg.specs.Shown.{ShowsReading, held};
+ghost use Rattle.cose_msg.specs.Shown.{ShowsReading};
 ghost use Rattle.cose_msg.specs.Slice.{IfPayload, outcome, outcome_of};
 ghost use Rattle.cose_msg.specs.Status.{status_in, status_of_answer};
 ghost use Rattle.cose_msg.specs.Task.{rules_of, to_verify};
-ghost use Rattle.cose_msg.specs.Verifier.{is_detached, opened, setting_in, task_of};
+ghost use Rattle.cose_msg.specs.Verifier.{is_detached, setting_in, task_of};
 
 use crate::elliptic::EcVerifier;
 use crate::laws::{deciding_goes_last, settled_stays};
@@ -97,8 +97,6 @@ pub fn verify_slice<'k, 'm, const H: usize, const D: usize, K: Keys<'k>, E: EcVe
         ≡ decided verdict)
         × (kept_answer verifier.new ≡ Some (Ok verdict)) }
     ensures purpose { task_of verifier.new ≡ task_of verifier.old }
-    ensures held { held verifier.new ≤ 2 * H + 512 }
-    ensures opened { opened verifier.new ≤ D }
 {
     // Laws that the proof cites.
     settled_stays();

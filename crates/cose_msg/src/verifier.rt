@@ -1,7 +1,7 @@
 //! A verifier of one message, changed in place: a reader of the message, the keys, and what is counted and kept.
 
-ghost use Rattle.std.specs.Prelude.{◌≡◌};
-ghost use Rattle.cose_msg.specs.Reader.{IsUntouched};
+ghost use Rattle.std.specs.Prelude.{◌≡◌, ◌≤◌, ◌+◌, ◌*◌};
+ghost use Rattle.cose_msg.specs.Reader.{IsUntouched, held_by, opened_by};
 
 use crate::context::{Context, Terms};
 use crate::reader::Reader;
@@ -27,10 +27,13 @@ pub struct Verifier<'k, const H: usize, const D: usize, S: Keys<'k> = KeySet<'k>
     // (The meaning of the keys belongs to the type of a verifier in a contract, since a field of it names them.)
     ghost keys_known: { S.usable keys ≡ S.usable keys },
     ghost untouched: { taken ≡ 0 → IsUntouched reader },
+    // What it holds of the message is within a bound, and so is what is open of it.
+    pub ghost held: { held_by reader ≤ 2 * H + 512 },
+    pub ghost opened: { opened_by reader ≤ D },
 }
 
 impl<'k, const H: usize, const D: usize, S: Keys<'k>> Verifier<'k, H, D, S> {
-    ghost use Rattle.std.specs.Prelude.{◌≤◌, [], length, true, false, None, Some, Ok};
+    ghost use Rattle.std.specs.Prelude.{[], length, true, false, None, Some, Ok};
     ghost use Rattle.cose_head.specs.declared.reason.Reason.{Reason};
     ghost use Rattle.cose_msg.specs.declared.verdict.Verdict.{Verdict};
     ghost use Rattle.cose_msg.specs.Kept.{HasTaken, KeepsNoKey, bytes_taken, is_inspecting, kept_answer};

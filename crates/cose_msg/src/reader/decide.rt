@@ -17,10 +17,10 @@ impl<'k, const H: usize, const D: usize> Reader<'k, H, D> {
     ghost use Rattle.cose_msg.specs.Laws.{then_verified};
     ghost use Rattle.cose_msg.specs.Message.{Setting};
     ghost use Rattle.cose_msg.specs.Phase.{awaits_decision, ends_at, in_payload, is_settled, payload_want_of, want_of};
-    ghost use Rattle.cose_msg.specs.Reader.{Counts, IsUntouched, StandsFor, opened_by};
+    ghost use Rattle.cose_msg.specs.Reader.{Counts, IsUntouched, StandsFor, held_by, opened_by};
     ghost use Rattle.cose_msg.specs.Reading.{Reading};
     ghost use Rattle.cose_msg.specs.Run.{SaysCount, inspection};
-    ghost use Rattle.cose_msg.specs.Shown.{held_by, shown_by, shown_in, sign_input_by};
+    ghost use Rattle.cose_msg.specs.Shown.{shown_by, shown_in, sign_input_by};
     ghost use Rattle.cose_msg.specs.declared.status.Status.{Status};
     ghost use Rattle.cose_msg.specs.Status.{is_open, status_of_phase, status_of_reading, status_of_answer};
     ghost use Rattle.cose_msg.specs.Task.{Task, given_to, to_inspect, to_verify};
@@ -74,9 +74,6 @@ impl<'k, const H: usize, const D: usize> Reader<'k, H, D> {
         ensures shows { (task : Task) (B : List ℕ) (n : ℕ) (reading : List ℕ → Reading)
             → StandsFor task B n self.now reading → given_to B task ≡ task
             → shown_by self.now ≡ shown_in task.setting (reading []) }
-        // It holds no more than its stores do, the half of a head, and the hash.
-        ensures held { held_by self.now ≤ 2 * H + 512 }
-        ensures opened { opened_by self.now ≤ D }
         ensures payload_wanted { (task : Task) (B : List ℕ) (n : ℕ) (reading : List ℕ → Reading)
             → StandsFor task B n self.now reading → given_to B task ≡ task
             → (reading []).payload_wanted ≡ payload_want_of self.now.phase }
@@ -101,8 +98,16 @@ impl<'k, const H: usize, const D: usize> Reader<'k, H, D> {
             → in_payload self.now.phase ≡ true → length more ≤ want_of self.now.phase
             → (reading more).settled ≡ false }
     {
-        // What these calls ensure, of the item that is being read and of the stores, is what the proof cites.
+        // What this call ensures of the item that is being read is what the proof cites.
         let _wanted = self.walker.want();
+    }
+
+    /// It holds no more than its stores do, the half of a head, and the hash, and no more is open than the walker allows.
+    /// Proof only; no run-time effect.
+    pub(crate) fn lemma_bounded(&self)
+        ensures held { held_by self.now ≤ 2 * H + 512 }
+        ensures opened { opened_by self.now ≤ D }
+    {
         let _held = self.held();
         let _opened = self.open_items();
     }

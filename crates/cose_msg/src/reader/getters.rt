@@ -3,8 +3,8 @@
 ghost use Rattle.std.specs.Prelude.{◌≡◌, ◌<◌, ◌≤◌, ◌+◌, ◌*◌, ◌^◌, length, option_map};
 ghost use Rattle.cose_map.specs.Bucket.View.{bucket_pairs};
 ghost use Rattle.cose_msg.specs.Phase.{has_signature};
-ghost use Rattle.cose_msg.specs.Shown.{held_by, input_value, pairs_at, protected_by, sign_input_by, unprotected_by};
-ghost use Rattle.cose_msg.specs.Reader.{opened_by};
+ghost use Rattle.cose_msg.specs.Shown.{input_value, pairs_at, protected_by, sign_input_by, unprotected_by};
+ghost use Rattle.cose_msg.specs.Reader.{held_by, opened_by};
 
 use crate::phase::Phase;
 use crate::reader::{Place, Reader};

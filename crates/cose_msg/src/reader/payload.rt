@@ -59,12 +59,12 @@ fn empty_if(is_bare: bool, bytes: &[u8]) -> &[u8]
 }
 
 impl<'k, const H: usize, const D: usize> Reader<'k, H, D> {
-    ghost use Rattle.std.specs.Prelude.{List, ◌∷◌, ◌++◌, length, ◌==◌, true};
+    ghost use Rattle.std.specs.Prelude.{List, ◌∷◌, ◌++◌, length, ◌==◌, ◌*◌, true};
     ghost use Rattle.cose_msg.specs.Hashing.{HashesFor};
     ghost use Rattle.cose_msg.specs.Phases.{detached_payload, headers_so_far, past_payload_head, payload, payload_head};
     ghost use Rattle.cose_msg.specs.Reading.{Reading};
     ghost use Rattle.cose_msg.specs.Task.{Task, rules_of};
-    ghost use Rattle.cose_msg.specs.Reader.{HoldsKey, IsAtPayload, Known, Shows, StandsFor};
+    ghost use Rattle.cose_msg.specs.Reader.{HoldsKey, IsAtPayload, Known, Shows, StandsFor, held_by, opened_by};
     ghost use Rattle.cose_msg.specs.declared.status.Status.{Status};
     ghost use Rattle.cose_msg.specs.Phase.{in_payload, payload_want_of, want_of};
     ghost use Rattle.cose_msg.specs.Status.{is_open, status_of_phase};
@@ -255,6 +255,8 @@ impl<'k, const H: usize, const D: usize> Reader<'k, H, D> {
         ensures further { is_open (status_of_phase self.new.phase) ≡ true }
         ensures complete { payload_want_of self.new.phase ≡ 0 → status_of_phase self.new.phase
             ≡ Status.More }
+        ensures held { held_by self.new ≤ 2 * H + 512 }
+        ensures opened { opened_by self.new ≤ D }
         // Where it is the next one of what comes of the payload, the reading stays.
         ensures reads_on { (task : Task) (B more : List ℕ) (n : ℕ) (reading : List ℕ → Reading)
             → came_of task.setting.source ≡ (B ++ part.now) ++ more
@@ -265,6 +267,7 @@ impl<'k, const H: usize, const D: usize> Reader<'k, H, D> {
         let left = detached.left - part.len() as u64;
         if left == 0 {
             self.begin_auth_head(detached.kind, detached.after, detached.length);
+            self.lemma_bounded();
         } else {
             self.phase = Phase::Detached(Detached {
                 kind: detached.kind,
@@ -273,6 +276,7 @@ impl<'k, const H: usize, const D: usize> Reader<'k, H, D> {
                 length: detached.length,
                 left,
             });
+            self.lemma_bounded();
         }
     }
 }

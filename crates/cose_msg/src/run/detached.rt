@@ -8,10 +8,9 @@ ghost use Rattle.cose_msg.specs.Detached.{Brings, DetachedRun, EitherFails, Take
 ghost use Rattle.cose_msg.specs.Kept.{answered_again, is_stopped, kept_answer, WhateverTaken, WhateverVerified, HasTaken, SamePurpose};
 ghost use Rattle.cose_msg.specs.Message.{given, message as reading, verdict_of, verifying, Setting};
 ghost use Rattle.cose_msg.specs.Run.{stop_in, stops_for_intake, stops_for_sink, LeftAt};
-ghost use Rattle.cose_msg.specs.Shown.{held};
 ghost use Rattle.cose_msg.specs.Status.{payload_wanted_in};
 ghost use Rattle.cose_msg.specs.Task.{rules_of, to_verify};
-ghost use Rattle.cose_msg.specs.Verifier.{is_detached, opened};
+ghost use Rattle.cose_msg.specs.Verifier.{is_detached};
 
 use crate::elliptic::EcVerifier;
 use crate::intake::Intake;
@@ -40,8 +39,6 @@ fn take_payload<'k, const H: usize, const D: usize, K: Keys<'k>, P: Intake, S: S
         (stop_in result) verifier.new) }
     ensures stopped { is_stopped verifier.new ≡ is_err result }
     ensures purpose { SamePurpose verifier.old verifier.new }
-    ensures held { held verifier.new ≤ 2 * H + 512 }
-    ensures opened { opened verifier.new ≤ D }
     ensures once { result ≢ Err Stop.Again }
 
     // It stops only for a failure in this call.
@@ -98,8 +95,6 @@ fn take_detached<'k, const H: usize, const D: usize, K: Keys<'k>, I: Intake, P: 
         (S.contents sink.old) (S.contents sink.new) (stop_in result) verifier.new) }
     ensures stopped { is_stopped verifier.new ≡ is_err result }
     ensures purpose { SamePurpose verifier.old verifier.new }
-    ensures held { held verifier.new ≤ 2 * H + 512 }
-    ensures opened { opened verifier.new ≤ D }
     ensures once { result ≢ Err Stop.Again }
 
     // It stops only for a failure in this call.
@@ -186,10 +181,6 @@ pub fn verify_detached<
         × (payload.new ≡ payload.old) × (sink.new ≡ sink.old) }
     ensures stopped { (result ≡ Err Stop.Again) ↔ (is_stopped verifier.old ≡ true) }
     ensures purpose { SamePurpose verifier.old verifier.new }
-    // What it holds of the message and of the payload is within a bound, in addition to the `C` bytes of the call, and so is
-    // what is open of the message.
-    ensures held { held verifier.new ≤ 2 * H + 512 }
-    ensures opened { opened verifier.new ≤ D }
 
     // It stops only for a failure in this call.
     ensures intake_failure { EitherFails (stops_for_intake result)

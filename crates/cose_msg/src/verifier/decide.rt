@@ -45,11 +45,11 @@ impl<'k, const H: usize, const D: usize, S: Keys<'k>> Verifier<'k, H, D, S> {
     ghost use Rattle.cose_msg.specs.Reader.{Counts, StandsFor};
     ghost use Rattle.cose_msg.specs.Reading.{Reading};
     ghost use Rattle.cose_msg.specs.Run.{SaysCount, inspection};
-    ghost use Rattle.cose_msg.specs.Shown.{held, shown_of};
+    ghost use Rattle.cose_msg.specs.Shown.{shown_of};
     ghost use Rattle.cose_msg.specs.declared.status.Status.{Status};
     ghost use Rattle.cose_msg.specs.Status.{status_in, status_of_answer};
     ghost use Rattle.cose_msg.specs.Task.{given_to, to_inspect, to_verify};
-    ghost use Rattle.cose_msg.specs.Verifier.{opened, task_of};
+    ghost use Rattle.cose_msg.specs.Verifier.{task_of};
 
     /// The answer that is kept until `reset`: that it had stopped, or the verdict.
     pub(crate) fn kept_answer(&self) -> Option<Result<Verdict, Stop>>
@@ -97,6 +97,7 @@ impl<'k, const H: usize, const D: usize, S: Keys<'k>> Verifier<'k, H, D, S> {
     {
         let keys = keys_to_choose_from(&self.keys, self.inspecting);
         self.reader.advance(piece, keys, self.stated);
+        self.reader.lemma_bounded();
         self.taken += piece.len() as u64;
     }
 
@@ -131,6 +132,7 @@ impl<'k, const H: usize, const D: usize, S: Keys<'k>> Verifier<'k, H, D, S> {
             HasTaken task (taken ++ bytes.now) (payload_so_far ++ bytes.now) self.new) }
     {
         self.reader.payload_part(bytes);
+        self.reader.lemma_bounded();
         self.taken += bytes.len() as u64;
     }
 
@@ -139,8 +141,6 @@ impl<'k, const H: usize, const D: usize, S: Keys<'k>> Verifier<'k, H, D, S> {
         ensures stopped { self.new.stopped ≡ true }
         ensures taken { self.new.taken ≡ self.old.taken }
         ensures shown { shown_of self.new ≡ shown_of self.old }
-        ensures held { held self.new ≡ held self.old }
-        ensures opened { opened self.new ≡ opened self.old }
         ensures purpose { task_of self.new ≡ task_of self.old }
     {
         self.stopped = true;
@@ -153,8 +153,6 @@ impl<'k, const H: usize, const D: usize, S: Keys<'k>> Verifier<'k, H, D, S> {
         ensures counts { self.new.taken ≡ self.old.taken }
         ensures purpose { task_of self.new ≡ task_of self.old }
         ensures shown { shown_of self.new ≡ shown_of self.old }
-        ensures held { held self.new ≡ held self.old }
-        ensures opened { opened self.new ≡ opened self.old }
         ensures complete { awaits_decision self.old.reader.phase ≡ true → self.old.stopped ≡ false
             → status_in self.new ≡ Status.Complete }
         ensures answer { (setting : Setting) (payload_so_far : List ℕ) (reading : List ℕ → Reading)
@@ -182,8 +180,6 @@ impl<'k, const H: usize, const D: usize, S: Keys<'k>> Verifier<'k, H, D, S> {
             → StandsFor (to_inspect setting) payload_so_far self.old.taken self.old.reader reading
             → given_to payload_so_far (to_inspect setting) ≡ to_inspect setting
             → shown_of self.new ≡ shown_of self.old }
-        ensures held { held self.new ≡ held self.old }
-        ensures opened { opened self.new ≡ opened self.old }
         ensures answer { (setting : Setting) (payload_so_far : List ℕ) (reading : List ℕ → Reading)
             → StandsFor (to_inspect setting) payload_so_far self.old.taken self.old.reader reading
             → given_to payload_so_far (to_inspect setting) ≡ to_inspect setting

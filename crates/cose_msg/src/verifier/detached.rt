@@ -9,11 +9,10 @@ use cose_map::Keys;
 impl<'k, const H: usize, const D: usize, S: Keys<'k>> Verifier<'k, H, D, S> {
     ghost use Rattle.cose_msg.specs.Kept.{HasTaken, bytes_taken, WhateverTaken, SamePurpose};
     ghost use Rattle.cose_msg.specs.Message.{message};
-    ghost use Rattle.cose_msg.specs.Shown.{ShowsReading, held};
+    ghost use Rattle.cose_msg.specs.Shown.{ShowsReading};
     ghost use Rattle.cose_msg.specs.declared.status.Status.{Status};
     ghost use Rattle.cose_msg.specs.Status.{is_open, is_payload_next, payload_wanted_in, status_in, status_of_reading};
     ghost use Rattle.cose_msg.specs.Task.{given_to, rules_of};
-    ghost use Rattle.cose_msg.specs.Verifier.{opened};
 
     /// How many bytes of the detached payload are to come. None unless the status is
     /// [`Status::PayloadNext`](crate::Status::PayloadNext).
@@ -56,8 +55,6 @@ impl<'k, const H: usize, const D: usize, S: Keys<'k>> Verifier<'k, H, D, S> {
         ensures complete { payload_wanted_in self.new ≡ 0 → status_in self.new ≡ Status.More }
         ensures counts { bytes_taken self.new ≡ bytes_taken self.old }
         ensures purpose { SamePurpose self.old self.new }
-        ensures held { held self.new ≤ 2 * H + 512 }
-        ensures opened { opened self.new ≤ D }
     {
         match self.reader.phase {
             Phase::Detached(detached) => {

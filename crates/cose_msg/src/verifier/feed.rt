@@ -40,10 +40,10 @@ impl<'k, const H: usize, const D: usize, S: Keys<'k>> Verifier<'k, H, D, S> {
     ghost use Rattle.cose_msg.specs.Kept.{HasTaken, bytes_taken, is_inspecting, kept_answer, WhateverTaken, WhateverVerified, SamePurpose};
     ghost use Rattle.cose_msg.specs.Message.{message, verdict_of};
     ghost use Rattle.cose_msg.specs.Phase.{is_settled, want_of};
-    ghost use Rattle.cose_msg.specs.Shown.{ShowsReading, held, shown_of};
+    ghost use Rattle.cose_msg.specs.Shown.{ShowsReading, shown_of};
     ghost use Rattle.cose_msg.specs.Status.{is_complete, is_more, is_open, status_in, status_of_reading, status_of_answer, wanted_in};
     ghost use Rattle.cose_msg.specs.Task.{rules_of};
-    ghost use Rattle.cose_msg.specs.Verifier.{is_detached, opened, task_of};
+    ghost use Rattle.cose_msg.specs.Verifier.{is_detached, task_of};
 
     /// The status of the message after the bytes so far.
     pub fn status(&self) -> Status
@@ -133,8 +133,6 @@ impl<'k, const H: usize, const D: usize, S: Keys<'k>> Verifier<'k, H, D, S> {
         ensures again { is_more (status_in self.old) ≡ false
             → (result ≡ nothing_used (status_in self.old)) × (self.new ≡ self.old) }
         ensures purpose { SamePurpose self.old self.new }
-        ensures held { held self.new ≤ 2 * H + 512 }
-        ensures opened { opened self.new ≤ D }
     {
         // The law of messages that the proof cites.
         messages_are_bounded();
@@ -205,8 +203,6 @@ impl<'k, const H: usize, const D: usize, S: Keys<'k>> Verifier<'k, H, D, S> {
         ensures again { is_more (status_in self.old) ≡ false
             → (result ≡ nothing_used (status_in self.old)) × (self.new ≡ self.old) }
         ensures purpose { SamePurpose self.old self.new }
-        ensures held { held self.new ≤ 2 * H + 512 }
-        ensures opened { opened self.new ≤ D }
     {
         self.reader.lemma_reading_so_far();
         if self.has_more_payload_than(piece.len()) {
@@ -242,8 +238,6 @@ impl<'k, const H: usize, const D: usize, S: Keys<'k>> Verifier<'k, H, D, S> {
         ensures counts { bytes_taken self.new ≡ bytes_taken self.old }
         ensures purpose { task_of self.new ≡ task_of self.old }
         ensures shown { shown_of self.new ≡ shown_of self.old }
-        ensures held { held self.new ≤ 2 * H + 512 }
-        ensures opened { opened self.new ≤ D }
     {
         self.reader.lemma_reading_so_far();
         match self.status() {
@@ -273,8 +267,6 @@ impl<'k, const H: usize, const D: usize, S: Keys<'k>> Verifier<'k, H, D, S> {
         ensures counts { bytes_taken self.new ≡ bytes_taken self.old }
         ensures purpose { task_of self.new ≡ task_of self.old }
         ensures shown { shown_of self.new ≡ shown_of self.old }
-        ensures held { held self.new ≤ 2 * H + 512 }
-        ensures opened { opened self.new ≤ D }
     {
         // The law of messages that the proof cites.
         deciding_goes_last();

@@ -131,8 +131,8 @@ module _ {H D : ℕ} {S : Type 0} {K : _} {task : Task} {s B piece : List ℕ} {
       }
 
   -- The payload doesn't begin a second time.
-  pub is_behind : ((more : List ℕ) → (message (rules_of H D task) ((s ++ take used piece) ++ more)).so_far.payload ≡ (B ++ part_of piece from to) ++ take (want_of v.reader.phase) more) → 0 < want_of v.reader.phase → 0 < to → to ≤ used → to ≡ used
-  is_behind grows some begun among = elim (cases_lt to used) [
+  pub begins_once : ((more : List ℕ) → (message (rules_of H D task) ((s ++ take used piece) ++ more)).so_far.payload ≡ (B ++ part_of piece from to) ++ take (want_of v.reader.phase) more) → 0 < want_of v.reader.phase → 0 < to → to ≤ used → to ≡ used
+  begins_once grows some begun among = elim (cases_lt to used) [
     | inl before ↦ (
         let byte : List ℕ = 0 ∷ [] in
         let both : B ++ part_of piece from to ≡ (B ++ part_of piece from to) ++ take (want_of v.reader.phase) byte = sym (a.over begun before byte) ∙ grows byte in

@@ -133,12 +133,6 @@ messages_are_bounded-requires g c = cc
 pub returns-then-asked-eq0-clause-stopped : goal.returns-then-asked-eq0-clause-stopped
 returns-then-asked-eq0-clause-stopped g c = cc
 
-pub returns-then-asked-eq0-clause-held : goal.returns-then-asked-eq0-clause-held
-returns-then-asked-eq0-clause-held g c = grind (arith, common_steps)
-
-pub returns-then-asked-eq0-clause-opened : goal.returns-then-asked-eq0-clause-opened
-returns-then-asked-eq0-clause-opened g c = grind (arith, common_steps)
-
 pub returns-then-asked-eq0-clause-once : goal.returns-then-asked-eq0-clause-once
 returns-then-asked-eq0-clause-once g c = grind (arith, common_steps)
 
@@ -151,12 +145,6 @@ returns-then-asked-eq0-clause-sure g c = grind (arith, common_steps)
 pub returns-in-Err-clause-stopped : goal.returns-in-Err-clause-stopped
 returns-in-Err-clause-stopped g c = cc
 
-pub returns-in-Err-clause-held : goal.returns-in-Err-clause-held
-returns-in-Err-clause-held g c = grind (arith, common_steps)
-
-pub returns-in-Err-clause-opened : goal.returns-in-Err-clause-opened
-returns-in-Err-clause-opened g c = grind (arith, common_steps)
-
 pub returns-in-Err-clause-once : goal.returns-in-Err-clause-once
 returns-in-Err-clause-once g c = grind (arith, common_steps)
 
@@ -165,12 +153,6 @@ returns-in-Err-clause-sure g c = grind (arith, common_steps)
 
 pub returns-then-count-eq0-clause-stopped : goal.returns-then-count-eq0-clause-stopped
 returns-then-count-eq0-clause-stopped g c = cc
-
-pub returns-then-count-eq0-clause-held : goal.returns-then-count-eq0-clause-held
-returns-then-count-eq0-clause-held g c = grind (arith, common_steps)
-
-pub returns-then-count-eq0-clause-opened : goal.returns-then-count-eq0-clause-opened
-returns-then-count-eq0-clause-opened g c = grind (arith, common_steps)
 
 pub returns-then-count-eq0-clause-once : goal.returns-then-count-eq0-clause-once
 returns-then-count-eq0-clause-once g c = grind (arith, common_steps)
@@ -183,12 +165,6 @@ returns-then-count-eq0-clause-sure g c = grind (arith, common_steps)
 
 pub returns-then-is_err-clause-stopped : goal.returns-then-is_err-clause-stopped
 returns-then-is_err-clause-stopped g c = cc
-
-pub returns-then-is_err-clause-held : goal.returns-then-is_err-clause-held
-returns-then-is_err-clause-held g c = grind (arith, common_steps)
-
-pub returns-then-is_err-clause-opened : goal.returns-then-is_err-clause-opened
-returns-then-is_err-clause-opened g c = grind (arith, common_steps)
 
 pub returns-then-is_err-clause-once : goal.returns-then-is_err-clause-once
 returns-then-is_err-clause-once g c = grind (arith, common_steps)

@@ -75,12 +75,6 @@ returns-in-Some-clause-again g c = grind (arith, common_steps)
 pub returns-in-Some-clause-stopped : goal.returns-in-Some-clause-stopped
 returns-in-Some-clause-stopped g c = kept_stop c.args.verifier.now.stopped (verdict_in c.args.verifier.now.reader.phase) c.in-Some.answer (sym c.kept_answer.ensures ∙ c.in-Some.is)
 
-pub returns-in-Some-clause-held : goal.returns-in-Some-clause-held
-returns-in-Some-clause-held g c = grind (arith, common_steps)
-
-pub returns-in-Some-clause-opened : goal.returns-in-Some-clause-opened
-returns-in-Some-clause-opened g c = grind (arith, common_steps)
-
 pub returns-in-Some-clause-intake_failure : goal.returns-in-Some-clause-intake_failure
 returns-in-Some-clause-intake_failure g c = unfailed _ _ (kept_intake c.args.verifier.now.stopped (verdict_in c.args.verifier.now.reader.phase) c.in-Some.answer (sym c.kept_answer.ensures ∙ c.in-Some.is))
 
@@ -98,12 +92,6 @@ returns-in-Ok-clause-again g c = grind (arith, common_steps)
 
 pub returns-in-Ok-clause-stopped : goal.returns-in-Ok-clause-stopped
 returns-in-Ok-clause-stopped g c = grind (arith, common_steps)
-
-pub returns-in-Ok-clause-held : goal.returns-in-Ok-clause-held
-returns-in-Ok-clause-held g c = grind (arith, common_steps)
-
-pub returns-in-Ok-clause-opened : goal.returns-in-Ok-clause-opened
-returns-in-Ok-clause-opened g c = grind (arith, common_steps)
 
 pub returns-in-Ok-clause-intake_failure : goal.returns-in-Ok-clause-intake_failure
 returns-in-Ok-clause-intake_failure g c = grind (arith, common_steps)
@@ -125,12 +113,6 @@ returns-in-Err-clause-again g c = grind (arith, common_steps)
 
 pub returns-in-Err-clause-stopped : goal.returns-in-Err-clause-stopped
 returns-in-Err-clause-stopped g c = grind (arith, common_steps)
-
-pub returns-in-Err-clause-held : goal.returns-in-Err-clause-held
-returns-in-Err-clause-held g c = grind (arith, common_steps)
-
-pub returns-in-Err-clause-opened : goal.returns-in-Err-clause-opened
-returns-in-Err-clause-opened g c = grind (arith, common_steps)
 
 pub returns-in-Err-clause-intake_failure : goal.returns-in-Err-clause-intake_failure
 returns-in-Err-clause-intake_failure g c = grind (arith, common_steps)

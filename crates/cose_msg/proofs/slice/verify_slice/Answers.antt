@@ -64,9 +64,3 @@ pub returns-clause-purpose : goal.returns-clause-purpose
 returns-clause-purpose g c =
     let fresh = begun c.requires.verifies c.reset.ensures.none_taken in
     c.conclude-verdict.ensures.purpose ∙ same_task c.feed-fed.ensures.purpose fresh ∙ c.reset.ensures.purpose
-
-pub returns-clause-held : goal.returns-clause-held
-returns-clause-held g c = omega (arith, c.conclude-verdict.ensures.held, c.feed-fed.ensures.held)
-
-pub returns-clause-opened : goal.returns-clause-opened
-returns-clause-opened g c = omega (arith, c.conclude-verdict.ensures.opened, c.feed-fed.ensures.opened)

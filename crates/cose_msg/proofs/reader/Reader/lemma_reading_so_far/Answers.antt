@@ -1,5 +1,4 @@
 use Rattle.std.proofs.Common.{◌<◌, arith}
-use Rattle.std.proofs.lemmas.Grind.{common_steps}
 use Rattle.cose_msg.proofs.lemmas.Deciding.Decisions.{reads_on_ended, reads_on_shown}
 use Rattle.cose_msg.proofs.lemmas.Feeding.PayloadsKnown.{reads_on_fixed, reads_on_grows}
 use Rattle.cose_msg.proofs.lemmas.Feeding.Statuses.{reads_on_status}
@@ -7,7 +6,7 @@ use Rattle.cose_msg.proofs.lemmas.Reader.Waits.{ItemWaits, reads_on_open, reads_
 use Rattle.cose_msg.proofs.reader.Reader.lemma_reading_so_far.Goals as goal
 
 -- Fewer bytes than the walker wants don't end its item.
-walker : (g : Rattle.cose_msg.proofs.reader.Reader.lemma_reading_so_far.Given.Over) (c : goal.After-open_items-opened g) → ItemWaits c.args.self.now
+walker : (g : Rattle.cose_msg.proofs.reader.Reader.lemma_reading_so_far.Given.Over) (c : goal.After-want-wanted g) → ItemWaits c.args.self.now
 walker g c = λ put more lt.
     let room : 0 < g.row.H = omega (arith, c.args.self.now.some_room) in
     c.want-wanted.ensures.early _ _ more put room (omega (arith, lt, c.want-wanted.ensures.content _ _ put))
@@ -44,9 +43,3 @@ returns-clause-grows g c = λ task B n reading more h is. reads_on_grows more h 
 
 pub returns-clause-fixed : goal.returns-clause-fixed
 returns-clause-fixed g c = λ task B n reading more h came is some. reads_on_fixed more h came is some
-
-pub returns-clause-held : goal.returns-clause-held
-returns-clause-held g c = grind (arith, common_steps)
-
-pub returns-clause-opened : goal.returns-clause-opened
-returns-clause-opened g c = grind (arith, common_steps)

@@ -109,17 +109,8 @@ returns-clause-sure g c = λ task s B h enough.
 pub returns-in_err-take_message-clause-stopped : goal.returns-in_err-take_message-clause-stopped
 returns-in_err-take_message-clause-stopped g c = grind (arith, common_steps)
 
-pub returns-in_err-take_message-clause-held : goal.returns-in_err-take_message-clause-held
-returns-in_err-take_message-clause-held g c = grind (arith, common_steps)
-
-pub returns-in_err-take_message-clause-opened : goal.returns-in_err-take_message-clause-opened
-returns-in_err-take_message-clause-opened g c = grind (arith, common_steps)
-
 pub returns-in_err-take_message-clause-once : goal.returns-in_err-take_message-clause-once
 returns-in_err-take_message-clause-once g c = grind (arith, common_steps)
-
-pub returns-then-payload_wanted-eq0-clause-held : goal.returns-then-payload_wanted-eq0-clause-held
-returns-then-payload_wanted-eq0-clause-held g c = grind (arith, common_steps)
 
 pub returns-then-payload_wanted-eq0-clause-once : goal.returns-then-payload_wanted-eq0-clause-once
 returns-then-payload_wanted-eq0-clause-once g c = grind (arith, common_steps)
@@ -130,17 +121,8 @@ returns-then-payload_wanted-eq0-clause-sure g c = grind (arith, common_steps)
 pub returns-in_err-take_payload-clause-stopped : goal.returns-in_err-take_payload-clause-stopped
 returns-in_err-take_payload-clause-stopped g c = grind (arith, common_steps)
 
-pub returns-in_err-take_payload-clause-held : goal.returns-in_err-take_payload-clause-held
-returns-in_err-take_payload-clause-held g c = grind (arith, common_steps)
-
-pub returns-in_err-take_payload-clause-opened : goal.returns-in_err-take_payload-clause-opened
-returns-in_err-take_payload-clause-opened g c = grind (arith, common_steps)
-
 pub returns-in_err-take_payload-clause-once : goal.returns-in_err-take_payload-clause-once
 returns-in_err-take_payload-clause-once g c = grind (arith, common_steps)
-
-pub returns-then-payload_wanted-gt0-clause-held : goal.returns-then-payload_wanted-gt0-clause-held
-returns-then-payload_wanted-gt0-clause-held g c = grind (arith, common_steps)
 
 pub returns-then-payload_wanted-gt0-clause-once : goal.returns-then-payload_wanted-gt0-clause-once
 returns-then-payload_wanted-gt0-clause-once g c = grind (arith, common_steps)
@@ -150,12 +132,6 @@ returns-then-payload_wanted-gt0-clause-sure g c = grind (arith, common_steps)
 
 pub returns-clause-stopped : goal.returns-clause-stopped
 returns-clause-stopped g c = grind (arith, common_steps)
-
-pub returns-clause-held : goal.returns-clause-held
-returns-clause-held g c = grind (arith, common_steps)
-
-pub returns-clause-opened : goal.returns-clause-opened
-returns-clause-opened g c = grind (arith, common_steps)
 
 pub returns-clause-once : goal.returns-clause-once
 returns-clause-once g c = grind (arith, common_steps)

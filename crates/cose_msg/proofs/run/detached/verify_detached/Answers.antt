@@ -84,12 +84,6 @@ returns-in-Err-clause-sure g c = λ setting s B h enough. rw c.in-Err.is at (c.t
 pub returns-in-Some-clause-again : goal.returns-in-Some-clause-again
 returns-in-Some-clause-again g c = grind (arith, common_steps)
 
-pub returns-in-Some-clause-held : goal.returns-in-Some-clause-held
-returns-in-Some-clause-held g c = grind (arith, common_steps)
-
-pub returns-in-Some-clause-opened : goal.returns-in-Some-clause-opened
-returns-in-Some-clause-opened g c = grind (arith, common_steps)
-
 pub returns-in-Ok-clause-kept : goal.returns-in-Ok-clause-kept
 returns-in-Ok-clause-kept g c = grind (arith, common_steps)
 
@@ -98,12 +92,6 @@ returns-in-Ok-clause-again g c = grind (arith, common_steps)
 
 pub returns-in-Ok-clause-stopped : goal.returns-in-Ok-clause-stopped
 returns-in-Ok-clause-stopped g c = grind (arith, common_steps)
-
-pub returns-in-Ok-clause-held : goal.returns-in-Ok-clause-held
-returns-in-Ok-clause-held g c = grind (arith, common_steps)
-
-pub returns-in-Ok-clause-opened : goal.returns-in-Ok-clause-opened
-returns-in-Ok-clause-opened g c = grind (arith, common_steps)
 
 pub returns-in-Ok-clause-sink_failure : goal.returns-in-Ok-clause-sink_failure
 returns-in-Ok-clause-sink_failure g c = grind (arith, common_steps)
@@ -119,12 +107,6 @@ returns-in-Err-clause-again g c = grind (arith, common_steps)
 
 pub returns-in-Err-clause-stopped : goal.returns-in-Err-clause-stopped
 returns-in-Err-clause-stopped g c = grind (arith, common_steps)
-
-pub returns-in-Err-clause-held : goal.returns-in-Err-clause-held
-returns-in-Err-clause-held g c = grind (arith, common_steps)
-
-pub returns-in-Err-clause-opened : goal.returns-in-Err-clause-opened
-returns-in-Err-clause-opened g c = grind (arith, common_steps)
 
 pub returns-in-Err-clause-sink_failure : goal.returns-in-Err-clause-sink_failure
 returns-in-Err-clause-sink_failure g c = grind (arith, common_steps)

@@ -1,4 +1,4 @@
-use Rattle.std.proofs.Common.{refl}
+use Rattle.std.proofs.Common.{arith, refl}
 use Rattle.cose_msg.proofs.verifier.Verifier.conclude_inspection.Goals as goal
 
 pub returns : goal.returns
@@ -9,9 +9,13 @@ returns g c =
       counts = refl;
       purpose = rw e.terms refl;
       shown = e.shown;
-      held = e.held;
-      opened = e.opened;
       answer = e.answer;
       counted = e.counted;
       status = λ setting B reading h came goes_on. rw goes_on (e.status setting B reading h came);
     }
+
+pub invariant_of-self-clause-held : goal.invariant_of-self-clause-held
+invariant_of-self-clause-held g c = omega (arith, c.conclude_inspection.ensures.held, c.args.self.now.held)
+
+pub invariant_of-self-clause-opened : goal.invariant_of-self-clause-opened
+invariant_of-self-clause-opened g c = omega (arith, c.conclude_inspection.ensures.opened, c.args.self.now.opened)

@@ -1,4 +1,4 @@
-use Rattle.std.proofs.Common.{◌≡◌, true, false, refl, sym, ap, ◌∙◌}
+use Rattle.std.proofs.Common.{arith, ◌≡◌, true, false, refl, sym, ap, ◌∙◌}
 use Rattle.cose_msg.specs.Phase.{ends_at}
 use Rattle.cose_msg.specs.Reading.{Reading}
 use Rattle.cose_msg.specs.Status.{is_open, status_of_phase, status_of_answer}
@@ -53,3 +53,9 @@ pub invariant_of-self-clause-untouched : goal.invariant_of-self-clause-untouched
 invariant_of-self-clause-untouched g c = λ none.
     let untouched = c.args.self.now.untouched none in
     c.truncate.ensures.untouched (c.ends_at-place.ensures ∙ untouched_ends c.args.self.now.reader c.args.self.now.taken untouched ∙ none) untouched
+
+pub invariant_of-self-clause-held : goal.invariant_of-self-clause-held
+invariant_of-self-clause-held g c = omega (arith, c.truncate.ensures.held, c.args.self.now.held)
+
+pub invariant_of-self-clause-opened : goal.invariant_of-self-clause-opened
+invariant_of-self-clause-opened g c = omega (arith, c.truncate.ensures.opened, c.args.self.now.opened)

@@ -82,12 +82,6 @@ returns-then-has_more_payload_than-clause-again g c = λ none.
 pub returns-then-has_more_payload_than-clause-purpose : goal.returns-then-has_more_payload_than-clause-purpose
 returns-then-has_more_payload_than-clause-purpose g c = c.take_payload_part.ensures.purpose
 
-pub returns-then-has_more_payload_than-clause-held : goal.returns-then-has_more_payload_than-clause-held
-returns-then-has_more_payload_than-clause-held g c = c.lemma_reading_so_far-then-has_more_payload_than.ensures.held
-
-pub returns-then-has_more_payload_than-clause-opened : goal.returns-then-has_more_payload_than-clause-opened
-returns-then-has_more_payload_than-clause-opened g c = c.lemma_reading_so_far-then-has_more_payload_than.ensures.opened
-
 pub returns-clause-uses : goal.returns-clause-uses
 returns-clause-uses g c = c.feed_across.ensures.uses
 
@@ -129,9 +123,3 @@ returns-clause-again g c = c.feed_across.ensures.again
 
 pub returns-clause-purpose : goal.returns-clause-purpose
 returns-clause-purpose g c = c.feed_across.ensures.purpose
-
-pub returns-clause-held : goal.returns-clause-held
-returns-clause-held g c = c.feed_across.ensures.held
-
-pub returns-clause-opened : goal.returns-clause-opened
-returns-clause-opened g c = c.feed_across.ensures.opened

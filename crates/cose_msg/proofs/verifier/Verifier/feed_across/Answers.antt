@@ -3,7 +3,7 @@ use Rattle.std.proofs.lemmas.Grind.{common_steps}
 use Rattle.std.proofs.Common.{rules, ◌≡◌, ◌+◌, ◌<◌, ◌≤◌, ℕ, true, false, List, length, refl, sym, ap, ◌∙◌, arith}
 use Rattle.cose_msg.specs.Phase.{in_payload, want_of}
 use Rattle.cose_msg.specs.Status.{status_of_reading}
-use Rattle.cose_msg.proofs.lemmas.Feeding.Feeds.{at_start, chosen_within, fits_in, goes_on, goes_past, in_order, is_behind, knows_payload, part_extended, stepped, shows_now, uses_all, uses_none}
+use Rattle.cose_msg.proofs.lemmas.Feeding.Feeds.{at_start, begins_once, chosen_within, fits_in, goes_on, goes_past, in_order, knows_payload, part_extended, stepped, shows_now, uses_all, uses_none}
 use Rattle.cose_msg.proofs.lemmas.Run.Purposes.{same_setting_of, unchanged}
 use Rattle.cose_msg.proofs.lemmas.Run.Runs.{without_more}
 use Rattle.cose_msg.specs.Reading.{Reading}
@@ -60,8 +60,8 @@ pieces-preserved g c =
           rw (w.payload-is, w.extended-payload.ensures.from, w.extended-payload.ensures.to) (
             λ task s B h.
                 (let a = i.0 task s B h in
-                let behind = is_behind c.take_piece.new.self count a (λ more. c.lemma_reading_so_far-in-pieces.ensures.grows task _ _ _ more a.reads_on.so_far inside) wanted in
-                goes_on c.take_piece.new.self count a _ inside (part_extended c.args.piece.now c.pieces.payload.from c.pieces.payload.to used count i.5 (λ begun. behind begun i.6))
+                let once = begins_once c.take_piece.new.self count a (λ more. c.lemma_reading_so_far-in-pieces.ensures.grows task _ _ _ more a.reads_on.so_far inside) wanted in
+                goes_on c.take_piece.new.self count a _ inside (part_extended c.args.piece.now c.pieces.payload.from c.pieces.payload.to used count i.5 (λ begun. once begun i.6))
                 (λ more lt. c.lemma_reading_so_far-in-pieces.ensures.open task _ _ _ more a.reads_on.so_far (within more lt)) (stepped c.take_piece.new.self count a (c.take_piece.ensures.taken task _ _ a.reads_on))),
             goes_still,
             inspects,
@@ -168,12 +168,6 @@ returns-then-want-eq0-clause-again g c = grind (arith, common_steps)
 pub returns-then-want-eq0-clause-purpose : goal.returns-then-want-eq0-clause-purpose
 returns-then-want-eq0-clause-purpose g c = unchanged c.args.self.now
 
-pub returns-then-want-eq0-clause-held : goal.returns-then-want-eq0-clause-held
-returns-then-want-eq0-clause-held g c = grind (arith, common_steps)
-
-pub returns-then-want-eq0-clause-opened : goal.returns-then-want-eq0-clause-opened
-returns-then-want-eq0-clause-opened g c = grind (arith, common_steps)
-
 pub slice_bounds-rest-count : goal.slice_bounds-rest-count
 slice_bounds-rest-count g c = grind (arith, common_steps)
 
@@ -197,12 +191,6 @@ returns-then-count-eq0-clause-current g c = grind (arith, common_steps)
 
 pub returns-then-count-eq0-clause-counted : goal.returns-then-count-eq0-clause-counted
 returns-then-count-eq0-clause-counted g c = grind (arith, common_steps)
-
-pub returns-then-count-eq0-clause-held : goal.returns-then-count-eq0-clause-held
-returns-then-count-eq0-clause-held g c = grind (arith, common_steps)
-
-pub returns-then-count-eq0-clause-opened : goal.returns-then-count-eq0-clause-opened
-returns-then-count-eq0-clause-opened g c = grind (arith, common_steps)
 
 pub slice_bounds-take_piece-end : goal.slice_bounds-take_piece-end
 slice_bounds-take_piece-end g c = grind (arith, common_steps)

@@ -61,11 +61,11 @@ invariant_of-self-clause-untouched g c = λ none. absurd (untouched_awaits_none 
 pub returns-in-Detached-clause-counts : goal.returns-in-Detached-clause-counts
 returns-in-Detached-clause-counts g c = grind (arith, common_steps)
 
-pub returns-in-Detached-clause-held : goal.returns-in-Detached-clause-held
-returns-in-Detached-clause-held g c = grind (arith, common_steps)
-
-pub returns-in-Detached-clause-opened : goal.returns-in-Detached-clause-opened
-returns-in-Detached-clause-opened g c = grind (arith, common_steps)
-
 pub slice_bounds-detached_piece-end : goal.slice_bounds-detached_piece-end
 slice_bounds-detached_piece-end g c = grind (arith, common_steps)
+
+pub invariant_of-self-clause-held : goal.invariant_of-self-clause-held
+invariant_of-self-clause-held g c = c.detached_piece.ensures.held
+
+pub invariant_of-self-clause-opened : goal.invariant_of-self-clause-opened
+invariant_of-self-clause-opened g c = c.detached_piece.ensures.opened

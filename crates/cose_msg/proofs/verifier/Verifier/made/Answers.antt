@@ -1,4 +1,4 @@
-use Rattle.std.proofs.Common.{refl}
+use Rattle.std.proofs.Common.{arith, refl}
 use Rattle.cose_msg.proofs.lemmas.Deciding.Untouched.{begins}
 use Rattle.cose_msg.proofs.verifier.Verifier.made.Goals as goal
 
@@ -22,3 +22,9 @@ returns-clause-inspects g c = refl
 
 pub invariant_of-result-clause-untouched : goal.invariant_of-result-clause-untouched
 invariant_of-result-clause-untouched g c = λ none. c.new.ensures.untouched
+
+pub invariant_of-result-clause-held : goal.invariant_of-result-clause-held
+invariant_of-result-clause-held g c = omega (arith, c.new.ensures.held)
+
+pub invariant_of-result-clause-opened : goal.invariant_of-result-clause-opened
+invariant_of-result-clause-opened g c = omega (arith, c.new.ensures.untouched.4)

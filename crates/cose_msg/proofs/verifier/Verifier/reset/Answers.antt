@@ -1,4 +1,4 @@
-use Rattle.std.proofs.Common.{refl}
+use Rattle.std.proofs.Common.{arith, refl}
 use Rattle.cose_msg.specs.Verifier.{task_of}
 use Rattle.cose_msg.proofs.lemmas.Deciding.Untouched.{begins}
 use Rattle.cose_msg.proofs.verifier.Verifier.reset.Goals as goal
@@ -23,3 +23,9 @@ returns-clause-purpose g c = rw c.reset.ensures.terms refl
 
 pub invariant_of-self-clause-untouched : goal.invariant_of-self-clause-untouched
 invariant_of-self-clause-untouched g c = λ none. c.reset.ensures.untouched
+
+pub invariant_of-self-clause-held : goal.invariant_of-self-clause-held
+invariant_of-self-clause-held g c = omega (arith, c.reset.ensures.held)
+
+pub invariant_of-self-clause-opened : goal.invariant_of-self-clause-opened
+invariant_of-self-clause-opened g c = omega (arith, c.reset.ensures.untouched.4)

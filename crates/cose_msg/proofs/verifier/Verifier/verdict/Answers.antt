@@ -34,12 +34,6 @@ returns-in-Some-clause-purpose g c = refl
 pub returns-in-Some-clause-shown : goal.returns-in-Some-clause-shown
 returns-in-Some-clause-shown g c = grind (arith, common_steps)
 
-pub returns-in-Some-clause-held : goal.returns-in-Some-clause-held
-returns-in-Some-clause-held g c = grind (arith, common_steps)
-
-pub returns-in-Some-clause-opened : goal.returns-in-Some-clause-opened
-returns-in-Some-clause-opened g c = grind (arith, common_steps)
-
 pub returns-in-None-clause-counts : goal.returns-in-None-clause-counts
 returns-in-None-clause-counts g c = grind (arith, common_steps)
 
@@ -48,9 +42,3 @@ returns-in-None-clause-purpose g c = c.conclude.ensures.purpose
 
 pub returns-in-None-clause-shown : goal.returns-in-None-clause-shown
 returns-in-None-clause-shown g c = grind (arith, common_steps)
-
-pub returns-in-None-clause-held : goal.returns-in-None-clause-held
-returns-in-None-clause-held g c = grind (arith, common_steps)
-
-pub returns-in-None-clause-opened : goal.returns-in-None-clause-opened
-returns-in-None-clause-opened g c = grind (arith, common_steps)
