@@ -73,7 +73,9 @@ impl Signature {
 
 // Asked about anything else it says the contrary.
 impl EcVerifier for Signature {
-    ghost decides = { λ it _ digest signature. if bytes_eq digest it.digest.items && bytes_eq signature it.signature.items then it.holds else not it.holds };
+    ghost decides = { λ it _ digest signature.
+        if bytes_eq digest it.digest.items && bytes_eq signature it.signature.items
+        then it.holds else not it.holds };
 
     fn holds(&self, _key: &Key<'_>, digest: &[u8], signature: &[u8]) -> bool {
         if digest == self.digest.as_slice() && signature == self.signature.as_slice() {

@@ -191,6 +191,6 @@ never_stops result Intake is intake sink again = let stopped : stops_for_intake 
 never_stops result Sink is intake sink again = let stopped : stops_for_sink result ≡ true = ap stops_for_sink is in absurd cc
 never_stops result Again is intake sink again = again is
 
-pub either_fails : (stops : Bool) → EitherFails stops false false false false → stops ≡ false
-either_fails stops (inl first) = sym first.0
-either_fails stops (inr second) = sym second.1
+pub either_fails : {F G : Type 0} (stops : Bool) (first first_after : F) (second second_after : G) → EitherFails stops (λ _. false) first first_after (λ _. false) second second_after → stops ≡ false
+either_fails stops first first_after second second_after (inl fails) = sym fails.0
+either_fails stops first first_after second second_after (inr fails) = sym fails.1

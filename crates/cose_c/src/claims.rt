@@ -70,7 +70,8 @@ fn utf8(bytes: &[u8]) -> Option<&str>
 
 /// The name that an audience has to have, if any.
 fn name_of<'p>(policy: &CosePolicy<'p>) -> Result<Option<&'p str>, CoseStatus>
-    ensures { name_seen result ≡ name_given policy.entry.now.has_audience policy.entry.now.audience.now }
+    ensures { name_seen result
+        ≡ name_given policy.entry.now.has_audience policy.entry.now.audience.now }
 {
     if policy.has_audience == 0 {
         return Ok(None);
@@ -347,7 +348,8 @@ fn told_claims(claims: &Claims<'_>, payload: &[u8]) -> CoseClaims
 fn claims_named(payload: &[u8], depth: usize, policy: &Policy<'_>) -> CoseClaims
     requires { depth ≤ 32 }
     ensures { Gives payload.now
-        (unless_refused (admitted_claims depth (policy_value policy.entry.now) payload.now)) result }
+        (unless_refused (admitted_claims depth (policy_value policy.entry.now) payload.now))
+        result }
 {
     match admitted(payload, depth, policy) {
         Ok(claims) => told_claims(&claims, payload),
@@ -444,7 +446,8 @@ pub(crate) fn claims_of_token<'k, const H: usize, const D: usize, K: Keys<'k>>(
     requires verifies { is_inspecting verifier.old ≡ false }
     requires attached { is_detached verifier.old ≡ false }
     requires fresh { HasTaken (to_verify (setting_in verifier.old)) [] [] verifier.old }
-    ensures { GivesTokenIn H D (setting_in verifier.old) (policy_given policy.entry.now) token.now result }
+    ensures { GivesTokenIn H D (setting_in verifier.old) (policy_given policy.entry.now) token.now
+        result }
 {
     let mut input = blank_input();
     let verdict = read_whole(verifier, token, &mut input);
@@ -463,7 +466,8 @@ pub extern "C" fn cose_edge_verify_cwt(
     token: &[u8],
     claims: &mut CoseClaims,
 )
-    ensures { GivesToken 1024 8 (setting_given (keys_of keys.now) aad.now 0) (policy_given policy.entry.now) token.now claims.new }
+    ensures { GivesToken 1024 8 (setting_given (keys_of keys.now) aad.now 0)
+        (policy_given policy.entry.now) token.now claims.new }
 {
     *claims = match context(keys, aad, 0) {
         Ok(context) => {
@@ -483,7 +487,8 @@ pub extern "C" fn cose_edge_large_verify_cwt(
     token: &[u8],
     claims: &mut CoseClaims,
 )
-    ensures { GivesToken 65535 16 (setting_given (keys_of keys.now) aad.now 0) (policy_given policy.entry.now) token.now claims.new }
+    ensures { GivesToken 65535 16 (setting_given (keys_of keys.now) aad.now 0)
+        (policy_given policy.entry.now) token.now claims.new }
 {
     *claims = match context(keys, aad, 0) {
         Ok(context) => {
@@ -497,7 +502,8 @@ pub extern "C" fn cose_edge_large_verify_cwt(
 /// Reads the claims of a payload that is known to be authentic, such as that of a COSE_Sign1 whose signature is good.
 #[unsafe(no_mangle)]
 pub extern "C" fn cose_edge_claims(payload: &[u8], policy: &CosePolicy<'_>, claims: &mut CoseClaims)
-    ensures { Gives payload.now (claims_given 8 (policy_given policy.entry.now) payload.now) claims.new }
+    ensures { Gives payload.now (claims_given 8 (policy_given policy.entry.now) payload.now)
+        claims.new }
 {
     *claims = claims_under(payload, NESTING, policy);
 }
@@ -509,7 +515,8 @@ pub extern "C" fn cose_edge_large_claims(
     policy: &CosePolicy<'_>,
     claims: &mut CoseClaims,
 )
-    ensures { Gives payload.now (claims_given 16 (policy_given policy.entry.now) payload.now) claims.new }
+    ensures { Gives payload.now (claims_given 16 (policy_given policy.entry.now) payload.now)
+        claims.new }
 {
     *claims = claims_under(payload, LARGE_NESTING, policy);
 }

@@ -171,7 +171,8 @@ pub(crate) fn read_detached<'k, const H: usize, const D: usize, K: Keys<'k>>(
 ) -> CoseVerdict
     requires detached { is_detached verifier.old ≡ true }
     requires fresh { HasTaken (to_verify (setting_in verifier.old)) [] [] verifier.old }
-    ensures { result ≡ verdict_read H D (given payload.now (setting_in verifier.old)) 0 message.now }
+    ensures { result
+        ≡ verdict_read H D (given payload.now (setting_in verifier.old)) 0 message.now }
 {
     let mut bytes = SliceIntake::new(message, CHUNK);
     let mut beside = SliceIntake::new(payload, CHUNK);

@@ -103,7 +103,8 @@ fn shape_of<'k, const H: usize, const D: usize, K: Keys<'k>>(
 /// The shape of a message in memory: the bytes are the message, and nothing follows it. Nothing of it is authenticated.
 #[unsafe(no_mangle)]
 pub extern "C" fn cose_edge_shape(wanted: u8, message: &[u8], shape: &mut CoseShape)
-    ensures { shape.new ≡ shape_given 1024 8 (setting_given (keys_of no_keys) [] wanted) message.now }
+    ensures { shape.new
+        ≡ shape_given 1024 8 (setting_given (keys_of no_keys) [] wanted) message.now }
 {
     *shape = match context(NO_KEYS, b"", wanted) {
         Ok(context) => {

@@ -84,7 +84,8 @@ pub extern "C" fn cose_edge_table_verify(
     input: &mut CoseSignInput,
 )
     ensures verdict { verdict.new
-        ≡ verdict_given 1024 8 (setting_under_table (keys_in table.old.value.content) aad.now wanted)
+        ≡ verdict_given 1024 8
+        (setting_under_table (keys_in table.old.value.content) aad.now wanted)
         verdict.new.payload_at message.now }
     ensures payload { is_accepted verdict.new ≡ true → Covers message.now
         (payload_given 1024 8

@@ -126,10 +126,11 @@ pub fn verify_cwt<
         UnlessStopped (claims_seen result)
         (IsToken H D setting (E.decides ec.now) (policy_value policy.entry.now) bytes
         (claims_seen result)) }
-    // A verdict or stop that was kept is answered again.
+    // A verdict or stop that was kept is answered again, and the call doesn't stop for the intake.
     ensures again { (answer : Result Verdict Stop) → kept_answer verifier.old ≡ Some answer →
         (claims_seen result ≡ token_of D (policy_value policy.entry.now) answer [])
-        × (verifier.new ≡ verifier.old) × (intake.new ≡ intake.old) }
+        × (verifier.new ≡ verifier.old) × (intake.new ≡ intake.old)
+        × (is_for_intake (stop_in (claims_seen result)) ≡ false) }
     ensures stopped { (claims_seen result ≡ Err (CwtStop.Stopped Stop.Again))
         ↔ (is_stopped verifier.old ≡ true) }
     ensures purpose { SamePurpose verifier.old verifier.new }
@@ -144,9 +145,6 @@ pub fn verify_cwt<
     ensures intake_failure { I.has_failed intake.new
         ≡ (I.has_failed intake.old || is_for_intake (stop_in (claims_seen result))) }
     ensures store_suffices { is_for_store (stop_in (claims_seen result)) ≡ false }
-    // Where an answer was kept, the call doesn't stop for the intake.
-    ensures again_unfailed { (answer : Result Verdict Stop) → kept_answer verifier.old ≡ Some answer
-        → is_for_intake (stop_in (claims_seen result)) ≡ false }
 {
     // Laws that the proof cites: a verdict is the same when bytes follow, and the places of refusals of claims.
     settled_stays();

@@ -46,7 +46,8 @@ fn encode(x: &[u8], y: Y<'_>) -> Option<ArrayVec<u8, 133>>
 }
 
 impl<C: Curves> EcVerifier for Signatures<C> {
-    ghost decides = { λ signatures key digest signature. asks (C.accepts signatures.curves) key.material digest signature };
+    ghost decides = { λ signatures key digest signature.
+        asks (C.accepts signatures.curves) key.material digest signature };
 
     fn holds(&self, key: &Key<'_>, digest: &[u8], signature: &[u8]) -> bool {
         let Material::Ec { crv, x, y } = key.material else {

@@ -62,16 +62,16 @@ abbrev pub answered_again : {A : Type 0} → Result A Stop → Result A Stop
 answered_again (Ok answer) = Ok answer
 answered_again (Err stop) = Err stops.Again
 
--- The verifier, which was made for this task, has taken the bytes s, the payload B among them, has counted them, and
+-- The verifier, which was made for this task, has taken these bytes, with the payload so far among them, has counted them, and
 -- continues: it hasn't stopped, the end wasn't reported before they settled the message, and no signature was decided
--- on. A detached payload isn't among the bytes s: B is what has come of it, and so it is in the task; the verifier stands
+-- on. A detached payload isn't among the bytes taken: the payload so far is what has come of it, as in the task; the verifier stands
 -- for these bytes whatever comes of the payload then.
-pub record HasTaken {H D : ℕ} {S : Type 0} {K : _} (task : Task) (s B : List ℕ) (v : Verifier H D S K) : Type 0 where
+pub record HasTaken {H D : ℕ} {S : Type 0} {K : _} (task : Task) (taken payload_so_far : List ℕ) (v : Verifier H D S K) : Type 0 where
   pub made_for : task_of v ≡ given_to [] task
-  pub so_far : SoFar task s B v.reader
-  pub came : given_to B task ≡ task
-  pub whatever_comes : (more : List ℕ) → SoFar (given_to (B ++ more) task) s B v.reader
-  pub counted : v.taken ≡ length s
+  pub so_far : SoFar task taken payload_so_far v.reader
+  pub came : given_to payload_so_far task ≡ task
+  pub whatever_comes : (more : List ℕ) → SoFar (given_to (payload_so_far ++ more) task) taken payload_so_far v.reader
+  pub counted : v.taken ≡ length taken
   pub goes_on : v.stopped ≡ false
 
 -- Of a verifier: whatever task it was made for, and whatever bytes it has taken, with the payload among them.

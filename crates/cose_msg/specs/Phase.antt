@@ -66,5 +66,5 @@ ends_at _ n = n
 
 -- The payload so far, after some bytes of a phase.
 abbrev pub grown : Phase → List ℕ → List ℕ → List ℕ
-grown (phases.Payload p) B part = B ++ part
-grown _ B part = B
+grown (phases.Payload p) payload part = payload ++ part
+grown _ payload part = payload

@@ -98,24 +98,24 @@ past_nil (detached came stated) rules headers chosen at = detached_payload rules
 
 -- What is left of the definition: the phase, at the bytes that are held of it and those to come.
 abbrev pub left_in : {H D : ℕ} → Rules → Known → Findings → Reader H D → Phase → List ℕ → Reading
-left_in rules known so_far v phases.FirstHead z = first_head rules 0 (v.head.items ++ z)
-left_in rules known so_far v (phases.TagHead p) z = second_head rules p.at (v.head.items ++ z)
-left_in rules known so_far v (phases.ArrayHead p) z = array_head rules p.kind p.at (v.head.items ++ z)
-left_in rules known so_far v (phases.ProtectedHead p) z = protected_head rules p.kind p.at (v.head.items ++ z)
-left_in rules known so_far v (phases.Protected p) z = protected rules p.kind p.length p.at (v.protected.items ++ z)
-left_in rules known so_far v (phases.Unprotected p) z =
-    unprotected rules p.kind v.protected.items known.headers.protected_pairs p.at (v.unprotected.items ++ z)
-left_in rules known so_far v (phases.PayloadHead p) z = payload_head rules known.headers known.chosen p.at (v.head.items ++ z)
-left_in rules known so_far v (phases.Payload p) z = payload rules known.headers known.chosen p.length p.at (known.payload ++ z)
-left_in rules known so_far v (phases.Detached p) z = past_nil rules.source rules known.headers known.chosen p.at p.after z
-left_in rules known so_far v (phases.AuthHead p) z = auth_head rules known.headers known.chosen known.payload p.at (v.head.items ++ z)
-left_in rules known so_far v (phases.Auth p) z =
-    auth rules known.headers known.chosen known.payload p.head_at p.length p.at (known.auth ++ z)
-left_in rules known so_far v (phases.Signed p) z =
+left_in rules known so_far v phases.FirstHead more = first_head rules 0 (v.head.items ++ more)
+left_in rules known so_far v (phases.TagHead p) more = second_head rules p.at (v.head.items ++ more)
+left_in rules known so_far v (phases.ArrayHead p) more = array_head rules p.kind p.at (v.head.items ++ more)
+left_in rules known so_far v (phases.ProtectedHead p) more = protected_head rules p.kind p.at (v.head.items ++ more)
+left_in rules known so_far v (phases.Protected p) more = protected rules p.kind p.length p.at (v.protected.items ++ more)
+left_in rules known so_far v (phases.Unprotected p) more =
+    unprotected rules p.kind v.protected.items known.headers.protected_pairs p.at (v.unprotected.items ++ more)
+left_in rules known so_far v (phases.PayloadHead p) more = payload_head rules known.headers known.chosen p.at (v.head.items ++ more)
+left_in rules known so_far v (phases.Payload p) more = payload rules known.headers known.chosen p.length p.at (known.payload ++ more)
+left_in rules known so_far v (phases.Detached p) more = past_nil rules.source rules known.headers known.chosen p.at p.after more
+left_in rules known so_far v (phases.AuthHead p) more = auth_head rules known.headers known.chosen known.payload p.at (v.head.items ++ more)
+left_in rules known so_far v (phases.Auth p) more =
+    auth rules known.headers known.chosen known.payload p.head_at p.length p.at (known.auth ++ more)
+left_in rules known so_far v (phases.Signed p) more =
     settled (headers_so_far known.headers known.payload) (complete (whole_of known p.head_at p.taken))
-left_in rules known so_far v (phases.Decided verdict) z = settled so_far (decided verdict)
-left_in rules known so_far v (phases.Settled verdict) z = settled so_far (decided verdict)
-left_in rules known so_far v (phases.Shaped p) z = settled so_far (shaped p.kind p.payload p.auth p.taken)
+left_in rules known so_far v (phases.Decided verdict) more = settled so_far (decided verdict)
+left_in rules known so_far v (phases.Settled verdict) more = settled so_far (decided verdict)
+left_in rules known so_far v (phases.Shaped p) more = settled so_far (shaped p.kind p.payload p.auth p.taken)
 
 -- A head at this place, of which some bytes are held and not all; n bytes were taken in all.
 abbrev pub HoldsHead : {H D : ℕ} → ℕ → ℕ → Reader H D → Type 0
@@ -215,20 +215,20 @@ HoldsIn task known so_far n v (phases.Decided verdict) = ⊥
 HoldsIn task known so_far n v (phases.Settled verdict) = Counts verdict n × (is_authentic verdict ≡ true → task.inspects ≡ false)
 HoldsIn task known so_far n v (phases.Shaped p) = (p.taken ≡ n) × (task.inspects ≡ true)
 
--- A reader for this task, which has taken n bytes, the payload B among them, means a reading of the bytes to come.
+-- A reader for this task, which has taken n bytes, with this payload among them, means a reading of the bytes to come.
 -- (Once it has decided on a signature it means none.)
-pub record StandsFor {H D : ℕ} (task : Task) (B : List ℕ) (n : ℕ) (v : Reader H D) (reading : List ℕ → Reading) : Type 0 where
+pub record StandsFor {H D : ℕ} (task : Task) (payload : List ℕ) (n : ℕ) (v : Reader H D) (reading : List ℕ → Reading) : Type 0 where
   pub known : Known
   pub so_far : Findings
   pub shows : Shows task so_far v
-  pub payload_known : known.payload ≡ B
-  pub payload_so_far : so_far.payload ≡ B
+  pub payload_known : known.payload ≡ payload
+  pub payload_so_far : so_far.payload ≡ payload
   pub holds : HoldsIn task known so_far n v v.phase
-  pub left : (z : List ℕ) → reading z ≡ left_in (rules_of H D task) known so_far v v.phase z
+  pub left : (more : List ℕ) → reading more ≡ left_in (rules_of H D task) known so_far v v.phase more
 
--- The reader has taken the bytes s, the payload B among them.
+-- The reader has taken these bytes, with this payload among them.
 abbrev pub SoFar : {H D : ℕ} → Task → List ℕ → List ℕ → Reader H D → Type 0
-SoFar {H} {D} task s B v = StandsFor task B (length s) v (λ z. message (rules_of H D task) (s ++ z))
+SoFar {H} {D} task taken payload v = StandsFor task payload (length taken) v (λ more. message (rules_of H D task) (taken ++ more))
 
 -- The phase of a message of which nothing was taken: its first head, or, once its end was reported, that it is
 -- Truncated at 0.

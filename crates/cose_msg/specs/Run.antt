@@ -1,5 +1,5 @@
 -- What a call of `verify` or of `inspect` did with an intake and a sink.
-use Rattle.std.specs.Prelude.{◌≡◌, ℕ, ◌<◌, Bool, true, false, List, [], ◌++◌, length, take, Option, Some, None, Result, Ok, Err, ⊤}
+use Rattle.std.specs.Prelude.{◌≡◌, ℕ, ◌<◌, ◌||◌, Bool, true, false, List, [], ◌++◌, length, take, Option, Some, None, Result, Ok, Err, ⊤}
 use Rattle.std.specs.Io.KnownBytes.{Appends, Consumes, IsAtEnd}
 use Rattle.cose_msg.specs.declared.verdict.Inspected.{Inspected}
 use Rattle.cose_msg.specs.declared.verdict.Inspected.TheVariants as inspected
@@ -39,6 +39,11 @@ stops_for_intake result = is_intake_stop (stop_in result)
 
 abbrev pub stops_for_sink : {A : Type 0} → Result A Stop → Bool
 stops_for_sink result = is_sink_stop (stop_in result)
+
+-- An intake or a sink, which says by this whether it has failed, has done so exactly where it had before the call, or
+-- where the call stops for it.
+abbrev pub FailsIf : {F : Type 0} → (F → Bool) → F → F → Bool → Type 0
+FailsIf has_failed old new stops = has_failed new ≡ (has_failed old || stops)
 
 -- The intake's bytes are taken in their order, each once. The bytes to come may be unknown to the contract only after a
 -- failure of the intake.
@@ -84,31 +89,31 @@ abbrev pub Answers : {A : Type 0} → (A → Answer) → ℕ → ℕ → Result 
 Answers answer_of count taken (Ok answer) ended come_after reading = IsAnswer count taken (answer_of answer) ended come_after reading
 Answers answer_of count taken (Err stop) ended come_after reading = reading.settled ≡ false
 
--- A verifier that had taken the bytes s, the payload B among them, has taken these after them. They are read by these rules.
-pub record Run {A : Type 0} (rules : Rules) (answer_of : A → Answer) (s B : List ℕ) (come come_after : Option (List ℕ)) (ended : Bool) (contents contents_after : Option (List ℕ)) (result : Result A Stop) (taken : List ℕ) : Type 0 where
+-- A verifier that had taken bytes before, with a payload among them, has taken others after them. They are read by these rules.
+pub record Run {A : Type 0} (rules : Rules) (answer_of : A → Answer) (before payload_before : List ℕ) (come come_after : Option (List ℕ)) (ended : Bool) (contents contents_after : Option (List ℕ)) (result : Result A Stop) (taken : List ℕ) : Type 0 where
   pub bytes : TakesUntilStop come come_after (stop_in result) taken
   -- None was taken after the one that settles the message.
-  pub none_after_end : (n : ℕ) → n < length taken → (message rules (s ++ take n taken)).settled ≡ false
-  pub answer : Answers answer_of (length (s ++ taken)) (length taken) result ended come_after (message rules (s ++ taken))
+  pub none_after_end : (n : ℕ) → n < length taken → (message rules (before ++ take n taken)).settled ≡ false
+  pub answer : Answers answer_of (length (before ++ taken)) (length taken) result ended come_after (message rules (before ++ taken))
   -- The payload that is known now, less the one that was known before, went to the sink.
-  pub payload : (grown : List ℕ) × ((message rules (s ++ taken)).so_far.payload ≡ B ++ grown) × Grows contents contents_after (stop_in result) grown
+  pub payload : (grown : List ℕ) × ((message rules (before ++ taken)).so_far.payload ≡ payload_before ++ grown) × Grows contents contents_after (stop_in result) grown
 
 -- Where the taking stopped, the bytes haven't settled the message.
 abbrev pub ReadsOn : {H D : ℕ} {S : Type 0} {K : _} → Task → List ℕ → List ℕ → ℕ → Option Stop → Bool → Option (List ℕ) → Verifier H D S K → Type 0
-ReadsOn {H} {D} task s B taken None ended come_after v = HasTaken task s B v × Ends taken ended come_after (message (rules_of H D task) s)
-ReadsOn {H} {D} task s B taken (Some stop) ended come_after v = (message (rules_of H D task) s).settled ≡ false
+ReadsOn {H} {D} task bytes payload taken None ended come_after v = HasTaken task bytes payload v × Ends taken ended come_after (message (rules_of H D task) bytes)
+ReadsOn {H} {D} task bytes payload taken (Some stop) ended come_after v = (message (rules_of H D task) bytes).settled ≡ false
 
--- A verifier that had taken the bytes s, the payload B among them, has taken bytes until none was wanted or the intake
+-- A verifier that had taken bytes before, with a payload among them, has taken others until none was wanted or the intake
 -- had ended, or until the intake or the sink failed.
-pub record Drive {H D : ℕ} {S : Type 0} {K : _} (task : Task) (s B : List ℕ) (come come_after : Option (List ℕ)) (ended : Bool) (contents contents_after : Option (List ℕ)) (stop : Option Stop) (v : Verifier H D S K) : Type 0 where
+pub record Drive {H D : ℕ} {S : Type 0} {K : _} (task : Task) (before payload_before : List ℕ) (come come_after : Option (List ℕ)) (ended : Bool) (contents contents_after : Option (List ℕ)) (stop : Option Stop) (v : Verifier H D S K) : Type 0 where
   pub taken : List ℕ
   pub part : List ℕ
   pub bytes : TakesUntilStop come come_after stop taken
-  pub none_after_end : (n : ℕ) → n < length taken → (message (rules_of H D task) (s ++ take n taken)).settled ≡ false
-  pub reads_on : ReadsOn task (s ++ taken) (B ++ part) (length taken) stop ended come_after v
-  pub counted : v.taken ≡ length (s ++ taken)
-  pub shows : ShowsReading task (s ++ taken) v
-  pub payload : (message (rules_of H D task) (s ++ taken)).so_far.payload ≡ B ++ part
+  pub none_after_end : (n : ℕ) → n < length taken → (message (rules_of H D task) (before ++ take n taken)).settled ≡ false
+  pub reads_on : ReadsOn task (before ++ taken) (payload_before ++ part) (length taken) stop ended come_after v
+  pub counted : v.taken ≡ length (before ++ taken)
+  pub shows : ShowsReading task (before ++ taken) v
+  pub payload : (message (rules_of H D task) (before ++ taken)).so_far.payload ≡ payload_before ++ part
   pub grows : Grows contents contents_after stop part
   -- A detached payload isn't among the bytes of the message.
   pub beside : is_detached_from task.setting.source ≡ true → part ≡ []

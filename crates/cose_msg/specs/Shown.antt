@@ -120,7 +120,7 @@ shown_of v = shown_by v.reader
 
 -- The verifier gives what the reading of these bytes of a message gives.
 abbrev pub ShowsReading : {H D : ℕ} {S : Type 0} {K : _} → Task → List ℕ → Verifier H D S K → Type 0
-ShowsReading {H} {D} task s v = shown_of v ≡ shown_in task.setting (message (rules_of H D task) s)
+ShowsReading {H} {D} task taken v = shown_of v ≡ shown_in task.setting (message (rules_of H D task) taken)
 
 -- How many bytes of the message it holds.
 abbrev pub held : {H D : ℕ} {S : Type 0} {K : _} → Verifier H D S K → ℕ

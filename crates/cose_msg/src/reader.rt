@@ -122,10 +122,10 @@ impl<'k, const H: usize, const D: usize> Reader<'k, H, D> {
 
     /// Refuses the message.
     fn refuse(&mut self, reason: Reason, place: u64)
-        ensures { (task : Task) (B : List ℕ) (n : ℕ) (so_far : Findings)
+        ensures { (task : Task) (payload : List ℕ) (n : ℕ) (so_far : Findings)
             → Shows task so_far self.old
-            → so_far.payload ≡ B
-            → StandsFor task B n self.new (λ z. stop so_far reason place) }
+            → so_far.payload ≡ payload
+            → StandsFor task payload n self.new (λ more. stop so_far reason place) }
     {
         self.phase = Phase::Settled(Verdict::Refused(Refusal { reason, place }));
     }
@@ -157,9 +157,9 @@ impl<'k, const H: usize, const D: usize> Reader<'k, H, D> {
     #[inline(never)]
     fn take_byte(&mut self, byte: u8, stated: Option<u64>)
         requires { takes_bytes self.old.phase ≡ true }
-        ensures { (task : Task) (B : List ℕ) (n : ℕ) (reading : List ℕ → Reading)
-            → IsStated stated task.setting.source → StandsFor task B n self.old reading
-            → StandsFor task B (n + 1) self.new (λ z. reading (byte ∷ z)) }
+        ensures { (task : Task) (payload : List ℕ) (n : ℕ) (reading : List ℕ → Reading)
+            → IsStated stated task.setting.source → StandsFor task payload n self.old reading
+            → StandsFor task payload (n + 1) self.new (λ more. reading (byte ∷ more)) }
     {
         match self.phase {
             Phase::FirstHead => self.first_head(byte),
@@ -186,11 +186,11 @@ impl<'k, const H: usize, const D: usize> Reader<'k, H, D> {
         ensures fits { result ≤ length piece.now }
         ensures uses { is_settled self.old.phase ≡ false → 0 < result }
         ensures whole { length piece.now ≤ want_of self.old.phase → result ≡ length piece.now }
-        ensures reads_on { (task : Task) (B : List ℕ) (n : ℕ) (reading : List ℕ → Reading)
+        ensures reads_on { (task : Task) (payload : List ℕ) (n : ℕ) (reading : List ℕ → Reading)
             → keys_in K.usable keys.entry ≡ keys_for task → IsStated stated task.setting.source
-            → StandsFor task B n self.old reading
-            → StandsFor task (grown self.old.phase B (take result piece.now)) (n + result) self.new
-            (λ z. reading (take result piece.now ++ z)) }
+            → StandsFor task payload n self.old reading
+            → StandsFor task (grown self.old.phase payload (take result piece.now)) (n + result)
+            self.new (λ more. reading (take result piece.now ++ more)) }
     {
         match self.phase {
             Phase::Protected(protected) => {

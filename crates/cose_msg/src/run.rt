@@ -1,13 +1,13 @@
 //! The verifier over an intake and a sink.
 
-ghost use Rattle.std.specs.Prelude.{◌≡◌, ◌≢◌, ◌↔◌, ◌+◌, ◌*◌, ◌≤◌, ◌||◌, ℕ, true, false, List, ◌++◌, length, Some, None, Result, Err, IfOk, is_err};
+ghost use Rattle.std.specs.Prelude.{◌≡◌, ◌≢◌, ◌↔◌, ◌+◌, ◌*◌, ◌≤◌, ℕ, true, false, List, ◌++◌, length, Some, None, Result, Err, IfOk, is_err};
 ghost use Rattle.cose_msg.specs.declared.verdict.Inspected.{Inspected};
 ghost use Rattle.cose_msg.specs.declared.verdict.Stop.{Stop};
 ghost use Rattle.cose_msg.specs.declared.verdict.Verdict.{Verdict};
 ghost use Rattle.cose_msg.specs.Answer.{decided};
 ghost use Rattle.cose_msg.specs.Kept.{answered_again, is_inspecting, is_stopped, kept_answer, kept_inspection, WhateverInspected, WhateverTaken, WhateverVerified, HasTaken, SamePurpose};
 ghost use Rattle.cose_msg.specs.Message.{inspecting, message, verdict_of, verifying, Setting};
-ghost use Rattle.cose_msg.specs.Run.{Drive, Run, inspection, stop_in, stops_for_intake, stops_for_sink, LeftAt};
+ghost use Rattle.cose_msg.specs.Run.{Drive, FailsIf, Run, inspection, stop_in, stops_for_intake, stops_for_sink, LeftAt};
 ghost use Rattle.cose_msg.specs.Source.{is_detached_from};
 ghost use Rattle.cose_msg.specs.Task.{rules_of, to_inspect, to_verify};
 ghost use Rattle.cose_msg.specs.Verifier.{is_detached};
@@ -42,10 +42,8 @@ pub(crate) fn take_message<'k, const H: usize, const D: usize, K: Keys<'k>, I: I
     ensures once { result ≢ Err Stop.Again }
 
     // It stops only for a failure in this call.
-    ensures intake_failure { I.has_failed intake.new
-        ≡ (I.has_failed intake.old || stops_for_intake result) }
-    ensures sink_failure { S.has_failed sink.new
-        ≡ (S.has_failed sink.old || stops_for_sink result) }
+    ensures intake_failure { FailsIf I.has_failed intake.old intake.new (stops_for_intake result) }
+    ensures sink_failure { FailsIf S.has_failed sink.old sink.new (stops_for_sink result) }
     ensures sure { WhateverTaken verifier.old (λ task _ _.
         task.setting.payload_limit ≤ S.sure sink.old → stops_for_sink result ≡ false) }
     // Of a message whose payload is detached nothing goes to the sink.
@@ -134,10 +132,8 @@ pub fn verify<
     ensures purpose { SamePurpose verifier.old verifier.new }
 
     // It stops only for a failure in this call.
-    ensures intake_failure { I.has_failed intake.new
-        ≡ (I.has_failed intake.old || stops_for_intake result) }
-    ensures sink_failure { S.has_failed sink.new
-        ≡ (S.has_failed sink.old || stops_for_sink result) }
+    ensures intake_failure { FailsIf I.has_failed intake.old intake.new (stops_for_intake result) }
+    ensures sink_failure { FailsIf S.has_failed sink.old sink.new (stops_for_sink result) }
     // A sink that is sure of every payload doesn't stop it.
     ensures sure { WhateverVerified verifier.old (λ setting _ _.
         setting.payload_limit ≤ S.sure sink.old → stops_for_sink result ≡ false) }
@@ -197,10 +193,8 @@ pub fn inspect<'k, const C: usize, const H: usize, const D: usize, K: Keys<'k>, 
     ensures purpose { SamePurpose verifier.old verifier.new }
 
     // It stops only for a failure in this call.
-    ensures intake_failure { I.has_failed intake.new
-        ≡ (I.has_failed intake.old || stops_for_intake result) }
-    ensures sink_failure { S.has_failed sink.new
-        ≡ (S.has_failed sink.old || stops_for_sink result) }
+    ensures intake_failure { FailsIf I.has_failed intake.old intake.new (stops_for_intake result) }
+    ensures sink_failure { FailsIf S.has_failed sink.old sink.new (stops_for_sink result) }
     // A sink that is sure of every payload doesn't stop it.
     ensures sure { WhateverInspected verifier.old (λ setting _ _.
         setting.payload_limit ≤ S.sure sink.old → stops_for_sink result ≡ false) }

@@ -34,7 +34,8 @@ pub struct Known<'a> {
 
 /// Keeps a value, unless one was kept before.
 fn keep_first<'a>(kept: &mut Option<ItemRef<'a>>, value: ItemRef<'a>)
-    ensures { option_map placed kept.new ≡ option_or (option_map placed kept.old) (Some (placed value.entry)) }
+    ensures { option_map placed kept.new
+        ≡ option_or (option_map placed kept.old) (Some (placed value.entry)) }
 {
     if kept.is_none() {
         *kept = Some(value);
@@ -42,10 +43,9 @@ fn keep_first<'a>(kept: &mut Option<ItemRef<'a>>, value: ItemRef<'a>)
 }
 
 impl<'a> Known<'a> {
-    ghost use Rattle.std.specs.Prelude.{List, None, ◌∷◌};
-    ghost use Rattle.cose_head.specs.Placed.{Placed};
+    ghost use Rattle.std.specs.Prelude.{None};
     ghost use Rattle.cose_map.specs.Label.View.{label_value};
-    ghost use Rattle.cose_map.specs.Map.Pairs.{Pair};
+    ghost use Rattle.cose_cwt.specs.Claims.Known.{KeepsFirst};
 
     /// None of them.
     fn none() -> Known<'a>
@@ -74,62 +74,22 @@ impl<'a> Known<'a> {
     /// their place.
     #[inline(never)]
     fn keep(&mut self, name: &Label<'_>, value: ItemRef<'a>)
-        ensures iss { (item : Placed) (others : List Pair)
-            → option_or (option_map placed self.new.iss) (value_of names.iss others)
-            ≡ option_or (option_map placed self.old.iss) (value_of names.iss (record {
-              name = label_value name.now;
-              label = item;
-              value = placed value.entry;
-            } ∷ others)) }
-        ensures sub { (item : Placed) (others : List Pair)
-            → option_or (option_map placed self.new.sub) (value_of names.sub others)
-            ≡ option_or (option_map placed self.old.sub) (value_of names.sub (record {
-              name = label_value name.now;
-              label = item;
-              value = placed value.entry;
-            } ∷ others)) }
-        ensures aud { (item : Placed) (others : List Pair)
-            → option_or (option_map placed self.new.aud) (value_of names.aud others)
-            ≡ option_or (option_map placed self.old.aud) (value_of names.aud (record {
-              name = label_value name.now;
-              label = item;
-              value = placed value.entry;
-            } ∷ others)) }
-        ensures exp { (item : Placed) (others : List Pair)
-            → option_or (option_map placed self.new.exp) (value_of names.exp others)
-            ≡ option_or (option_map placed self.old.exp) (value_of names.exp (record {
-              name = label_value name.now;
-              label = item;
-              value = placed value.entry;
-            } ∷ others)) }
-        ensures nbf { (item : Placed) (others : List Pair)
-            → option_or (option_map placed self.new.nbf) (value_of names.nbf others)
-            ≡ option_or (option_map placed self.old.nbf) (value_of names.nbf (record {
-              name = label_value name.now;
-              label = item;
-              value = placed value.entry;
-            } ∷ others)) }
-        ensures iat { (item : Placed) (others : List Pair)
-            → option_or (option_map placed self.new.iat) (value_of names.iat others)
-            ≡ option_or (option_map placed self.old.iat) (value_of names.iat (record {
-              name = label_value name.now;
-              label = item;
-              value = placed value.entry;
-            } ∷ others)) }
-        ensures cti { (item : Placed) (others : List Pair)
-            → option_or (option_map placed self.new.cti) (value_of names.cti others)
-            ≡ option_or (option_map placed self.old.cti) (value_of names.cti (record {
-              name = label_value name.now;
-              label = item;
-              value = placed value.entry;
-            } ∷ others)) }
-        ensures cnf { (item : Placed) (others : List Pair)
-            → option_or (option_map placed self.new.cnf) (value_of names.cnf others)
-            ≡ option_or (option_map placed self.old.cnf) (value_of names.cnf (record {
-              name = label_value name.now;
-              label = item;
-              value = placed value.entry;
-            } ∷ others)) }
+        ensures iss { KeepsFirst names.iss (label_value name.now) (placed value.entry)
+            self.old.iss self.new.iss }
+        ensures sub { KeepsFirst names.sub (label_value name.now) (placed value.entry)
+            self.old.sub self.new.sub }
+        ensures aud { KeepsFirst names.aud (label_value name.now) (placed value.entry)
+            self.old.aud self.new.aud }
+        ensures exp { KeepsFirst names.exp (label_value name.now) (placed value.entry)
+            self.old.exp self.new.exp }
+        ensures nbf { KeepsFirst names.nbf (label_value name.now) (placed value.entry)
+            self.old.nbf self.new.nbf }
+        ensures iat { KeepsFirst names.iat (label_value name.now) (placed value.entry)
+            self.old.iat self.new.iat }
+        ensures cti { KeepsFirst names.cti (label_value name.now) (placed value.entry)
+            self.old.cti self.new.cti }
+        ensures cnf { KeepsFirst names.cnf (label_value name.now) (placed value.entry)
+            self.old.cnf self.new.cnf }
     {
         match *name {
             labels::ISS => keep_first(&mut self.iss, value),

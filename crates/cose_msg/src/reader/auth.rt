@@ -84,8 +84,8 @@ impl<'k, const H: usize, const D: usize> Reader<'k, H, D> {
             → Shows task (headers_so_far known.headers known.payload) self.old
             → HoldsKey task known self.old kind → length known.payload ≡ payload
             → IsFed self.old.hashing task.setting.aad known
-            → StandsFor task known.payload at self.new
-            (λ z. auth_head (rules_of H D task) known.headers known.chosen known.payload at z) }
+            → StandsFor task known.payload at self.new (λ more. auth_head (rules_of H D task)
+            known.headers known.chosen known.payload at more) }
     {
         self.head.clear();
         self.phase = Phase::AuthHead(AuthHead { kind, at, payload });
@@ -94,9 +94,9 @@ impl<'k, const H: usize, const D: usize> Reader<'k, H, D> {
     /// Takes the next byte of the head of the tag or signature.
     pub(crate) fn auth_head(&mut self, auth_head: AuthHead, byte: u8)
         requires phase { self.old.phase ≡ Phase.AuthHead auth_head }
-        ensures reads_on { (task : Task) (B : List ℕ) (n : ℕ) (reading : List ℕ → Reading)
-            → StandsFor task B n self.old reading
-            → StandsFor task B (n + 1) self.new (λ z. reading (byte ∷ z)) }
+        ensures reads_on { (task : Task) (payload : List ℕ) (n : ℕ) (reading : List ℕ → Reading)
+            → StandsFor task payload n self.old reading
+            → StandsFor task payload (n + 1) self.new (λ more. reading (byte ∷ more)) }
     {
         let at = auth_head.at;
         match take_bare_head_byte(&mut self.head, byte) {
@@ -114,8 +114,8 @@ impl<'k, const H: usize, const D: usize> Reader<'k, H, D> {
             → HoldsKey task known self.old auth_head.kind → length known.payload ≡ auth_head.payload
             → IsFed self.old.hashing task.setting.aad known
             → StandsFor task known.payload at self.new
-            (λ z. past_auth_head (rules_of H D task) known.headers known.chosen known.payload
-            auth_head.at head at z) }
+            (λ more. past_auth_head (rules_of H D task) known.headers known.chosen known.payload
+            auth_head.at head at more) }
     {
         match fault_of_auth(&head, self.alg()) {
             Some(reason) => self.refuse(reason, auth_head.at),
@@ -148,9 +148,10 @@ impl<'k, const H: usize, const D: usize> Reader<'k, H, D> {
     pub(crate) fn auth(&mut self, auth: Auth, piece: &[u8])
         requires phase { self.old.phase ≡ Phase.Auth auth }
         requires fits { length piece.now ≤ auth.left }
-        ensures reads_on { (task : Task) (B : List ℕ) (n : ℕ) (reading : List ℕ → Reading)
-            → StandsFor task B n self.old reading
-            → StandsFor task B (n + length piece.now) self.new (λ z. reading (piece.now ++ z)) }
+        ensures reads_on { (task : Task) (payload : List ℕ) (n : ℕ) (reading : List ℕ → Reading)
+            → StandsFor task payload n self.old reading
+            → StandsFor task payload (n + length piece.now) self.new (λ more. reading (piece.now ++
+            more)) }
     {
         let has_key = self.chosen.is_some();
         hold(&mut self.auth, has_key, piece);
@@ -180,12 +181,10 @@ impl<'k, const H: usize, const D: usize> Reader<'k, H, D> {
         ensures reads_on { (task : Task) (known : Known) (at : ℕ)
             → Shows task (headers_so_far known.headers known.payload) self.old
             → HoldsKey task known self.old whole.kind → length known.payload ≡ whole.payload
-            → length known.auth ≡ whole.auth
-            → IsFed self.old.hashing task.setting.aad known
+            → length known.auth ≡ whole.auth → IsFed self.old.hashing task.setting.aad known
             → HoldsAuth known.chosen self.old.auth.items known.auth
-            → StandsFor task known.payload whole.taken self.new
-            (λ z. finish (rules_of H D task) known.headers known.chosen known.payload whole.head_at
-            at known.auth whole.taken z) }
+            → StandsFor task known.payload whole.taken self.new (λ more. finish (rules_of H D task)
+            known.headers known.chosen known.payload whole.head_at at known.auth whole.taken more) }
     {
         match self.alg() {
             Some(alg) => self.compare(whole, alg),
@@ -205,11 +204,10 @@ impl<'k, const H: usize, const D: usize> Reader<'k, H, D> {
         ensures reads_on { (task : Task) (known : Known) (found : Found) (at : ℕ)
             → Shows task (headers_so_far known.headers known.payload) self.old
             → HoldsKey task known self.old whole.kind → known.chosen ≡ Some found → found.alg ≡ alg
-            → length known.payload ≡ whole.payload
-            → IsFed self.old.hashing task.setting.aad known → self.old.auth.items ≡ known.auth
-            → StandsFor task known.payload whole.taken self.new
-            (λ z. finish (rules_of H D task) known.headers known.chosen known.payload whole.head_at
-            at known.auth whole.taken z) }
+            → length known.payload ≡ whole.payload → IsFed self.old.hashing task.setting.aad known
+            → self.old.auth.items ≡ known.auth
+            → StandsFor task known.payload whole.taken self.new (λ more. finish (rules_of H D task)
+            known.headers known.chosen known.payload whole.head_at at known.auth whole.taken more) }
     {
         self.hashing.finish();
         if alg.is_mac() {

@@ -161,9 +161,9 @@ impl<'k, const H: usize, const D: usize> Reader<'k, H, D> {
             → bucket_of D (placed_at protected_at self.old.protected.items) ≡ Ok pairs
             → bucket_of D (placed_at at self.old.unprotected.items) ≡ Ok others
             → StandsFor task [] (at + length self.old.unprotected.items) self.new
-            (λ z. both_buckets (rules_of H D task)
+            (λ more. both_buckets (rules_of H D task)
             (headers_of kind self.old.protected.items pairs others)
-            (at + length self.old.unprotected.items) z) }
+            (at + length self.old.unprotected.items) more) }
     {
         let after = at + self.unprotected.len() as u64;
         match self.choose(keys, kind, protected_at, at) {

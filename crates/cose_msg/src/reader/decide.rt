@@ -53,48 +53,48 @@ impl<'k, const H: usize, const D: usize> Reader<'k, H, D> {
 
     /// Fewer bytes than are wanted don't settle the message. Proof only; no run-time effect.
     pub(crate) fn lemma_reading_so_far(&self)
-        ensures open { (task : Task) (B : List ℕ) (n : ℕ) (reading : List ℕ → Reading)
+        ensures open { (task : Task) (payload : List ℕ) (n : ℕ) (reading : List ℕ → Reading)
             (more : List ℕ)
-            → StandsFor task B n self.now reading
+            → StandsFor task payload n self.now reading
             → length more < want_of self.now.phase → (reading more).settled ≡ false }
-        ensures settled { (task : Task) (B : List ℕ) (n : ℕ) (reading : List ℕ → Reading)
-            → StandsFor task B n self.now reading → given_to B task ≡ task
+        ensures settled { (task : Task) (payload : List ℕ) (n : ℕ) (reading : List ℕ → Reading)
+            → StandsFor task payload n self.now reading → given_to payload task ≡ task
             → (reading []).settled ≡ is_settled self.now.phase }
-        ensures wanted { (task : Task) (B : List ℕ) (n : ℕ) (reading : List ℕ → Reading)
-            → StandsFor task B n self.now reading → given_to B task ≡ task
+        ensures wanted { (task : Task) (payload : List ℕ) (n : ℕ) (reading : List ℕ → Reading)
+            → StandsFor task payload n self.now reading → given_to payload task ≡ task
             → (reading []).wanted ≡ want_of self.now.phase }
-        ensures payload { (task : Task) (B : List ℕ) (n : ℕ) (reading : List ℕ → Reading)
-            → StandsFor task B n self.now reading → given_to B task ≡ task
-            → (reading []).so_far.payload ≡ B }
-        ensures ended { (task : Task) (B : List ℕ) (n : ℕ) (reading : List ℕ → Reading)
-            → StandsFor task B n self.now reading → given_to B task ≡ task
+        ensures payload { (task : Task) (payload : List ℕ) (n : ℕ) (reading : List ℕ → Reading)
+            → StandsFor task payload n self.now reading → given_to payload task ≡ task
+            → (reading []).so_far.payload ≡ payload }
+        ensures ended { (task : Task) (payload : List ℕ) (n : ℕ) (reading : List ℕ → Reading)
+            → StandsFor task payload n self.now reading → given_to payload task ≡ task
             → is_open (status_of_phase self.now.phase) ≡ true
             → (reading []).answer ≡ refused Reason.Truncated (ends_at self.now.phase n) }
         // What it shows so far is what the reading of these bytes shows.
-        ensures shows { (task : Task) (B : List ℕ) (n : ℕ) (reading : List ℕ → Reading)
-            → StandsFor task B n self.now reading → given_to B task ≡ task
+        ensures shows { (task : Task) (payload : List ℕ) (n : ℕ) (reading : List ℕ → Reading)
+            → StandsFor task payload n self.now reading → given_to payload task ≡ task
             → shown_by self.now ≡ shown_in task.setting (reading []) }
-        ensures payload_wanted { (task : Task) (B : List ℕ) (n : ℕ) (reading : List ℕ → Reading)
-            → StandsFor task B n self.now reading → given_to B task ≡ task
+        ensures payload_wanted { (task : Task) (payload : List ℕ) (n : ℕ)
+            (reading : List ℕ → Reading) → StandsFor task payload n self.now reading → given_to payload task ≡ task
             → (reading []).payload_wanted ≡ payload_want_of self.now.phase }
         // So the status is that of these bytes.
-        ensures status { (task : Task) (B : List ℕ) (n : ℕ) (reading : List ℕ → Reading)
-            → StandsFor task B n self.now reading → given_to B task ≡ task
+        ensures status { (task : Task) (payload : List ℕ) (n : ℕ) (reading : List ℕ → Reading)
+            → StandsFor task payload n self.now reading → given_to payload task ≡ task
             → status_of_phase self.now.phase ≡ status_of_reading (reading []) }
         // In the payload the next bytes are the payload's, as many as are left of it; after it none are.
-        ensures grows { (task : Task) (B : List ℕ) (n : ℕ) (reading : List ℕ → Reading)
+        ensures grows { (task : Task) (payload : List ℕ) (n : ℕ) (reading : List ℕ → Reading)
             (more : List ℕ)
-            → StandsFor task B n self.now reading
+            → StandsFor task payload n self.now reading
             → in_payload self.now.phase ≡ true
-            → (reading more).so_far.payload ≡ B ++ take (want_of self.now.phase) more }
-        ensures fixed { (task : Task) (B : List ℕ) (n : ℕ) (reading : List ℕ → Reading)
-            (more : List ℕ)
-            → StandsFor task B n self.now reading → given_to B task ≡ task
-            → in_payload self.now.phase ≡ false → 0 < length B → (reading more).so_far.payload ≡ B }
+            → (reading more).so_far.payload ≡ payload ++ take (want_of self.now.phase) more }
+        ensures fixed { (task : Task) (payload : List ℕ) (n : ℕ) (reading : List ℕ → Reading) (more
+            : List ℕ) → StandsFor task payload n self.now reading → given_to payload task ≡ task
+            → in_payload self.now.phase ≡ false → 0 < length payload
+            → (reading more).so_far.payload ≡ payload }
         // The last byte of a payload doesn't settle it either: a tag or signature follows.
-        ensures open_payload { (task : Task) (B : List ℕ) (n : ℕ) (reading : List ℕ → Reading)
+        ensures open_payload { (task : Task) (payload : List ℕ) (n : ℕ) (reading : List ℕ → Reading)
             (more : List ℕ)
-            → StandsFor task B n self.now reading
+            → StandsFor task payload n self.now reading
             → in_payload self.now.phase ≡ true → length more ≤ want_of self.now.phase
             → (reading more).settled ≡ false }
     {
@@ -146,8 +146,8 @@ impl<'k, const H: usize, const D: usize> Reader<'k, H, D> {
     /// The verdict on a message with a signature, all bytes of which are there.
     fn signed_verdict<E: EcVerifier>(&self, signed: Signed, ec: &E) -> Verdict
         requires phase { self.now.phase ≡ Phase.Signed signed }
-        ensures answer { (task : Task) (B : List ℕ) (n : ℕ) (reading : List ℕ → Reading)
-            → StandsFor task B n self.now reading
+        ensures answer { (task : Task) (payload : List ℕ) (n : ℕ) (reading : List ℕ → Reading)
+            → StandsFor task payload n self.now reading
             → then_verified task.setting.aad (E.decides ec.now) (reading []).answer
             ≡ decided result }
         ensures counted { Counts result signed.taken }
@@ -176,17 +176,17 @@ impl<'k, const H: usize, const D: usize> Reader<'k, H, D> {
         ensures opened { opened_by self.new ≡ opened_by self.old }
         ensures complete { awaits_decision self.old.phase ≡ true
             → status_of_phase self.new.phase ≡ Status.Complete }
-        ensures answer { (setting : Setting) (B : List ℕ) (reading : List ℕ → Reading)
-            → StandsFor (to_verify setting) B taken self.old reading
-            → given_to B (to_verify setting) ≡ to_verify setting
+        ensures answer { (setting : Setting) (payload : List ℕ) (reading : List ℕ → Reading)
+            → StandsFor (to_verify setting) payload taken self.old reading
+            → given_to payload (to_verify setting) ≡ to_verify setting
             → then_verified setting.aad (E.decides ec.now) (reading []).answer ≡ decided result }
-        ensures counted { (setting : Setting) (B : List ℕ) (reading : List ℕ → Reading)
-            → StandsFor (to_verify setting) B taken self.old reading
-            → given_to B (to_verify setting) ≡ to_verify setting
+        ensures counted { (setting : Setting) (payload : List ℕ) (reading : List ℕ → Reading)
+            → StandsFor (to_verify setting) payload taken self.old reading
+            → given_to payload (to_verify setting) ≡ to_verify setting
             → Counts result taken }
-        ensures status { (setting : Setting) (B : List ℕ) (reading : List ℕ → Reading)
-            → StandsFor (to_verify setting) B taken self.old reading
-            → given_to B (to_verify setting) ≡ to_verify setting
+        ensures status { (setting : Setting) (payload : List ℕ) (reading : List ℕ → Reading)
+            → StandsFor (to_verify setting) payload taken self.old reading
+            → given_to payload (to_verify setting) ≡ to_verify setting
             → status_of_phase self.new.phase ≡ status_of_answer (reading []).answer }
         // Where no byte was taken, the only change is that the message is Truncated at 0.
         ensures untouched { taken ≡ 0 → IsUntouched self.old → IsUntouched self.new }
@@ -213,23 +213,23 @@ impl<'k, const H: usize, const D: usize> Reader<'k, H, D> {
     pub(crate) fn conclude_inspection(&mut self, taken: u64) -> Inspected
         ensures kept { inspected_in self.new.phase ≡ Some result }
         ensures terms { self.new.terms ≡ self.old.terms }
-        ensures shown { (setting : Setting) (B : List ℕ) (reading : List ℕ → Reading)
-            → StandsFor (to_inspect setting) B taken self.old reading
-            → given_to B (to_inspect setting) ≡ to_inspect setting
+        ensures shown { (setting : Setting) (payload : List ℕ) (reading : List ℕ → Reading)
+            → StandsFor (to_inspect setting) payload taken self.old reading
+            → given_to payload (to_inspect setting) ≡ to_inspect setting
             → shown_by self.new ≡ shown_by self.old }
         ensures held { held_by self.new ≡ held_by self.old }
         ensures opened { opened_by self.new ≡ opened_by self.old }
-        ensures answer { (setting : Setting) (B : List ℕ) (reading : List ℕ → Reading)
-            → StandsFor (to_inspect setting) B taken self.old reading
-            → given_to B (to_inspect setting) ≡ to_inspect setting
+        ensures answer { (setting : Setting) (payload : List ℕ) (reading : List ℕ → Reading)
+            → StandsFor (to_inspect setting) payload taken self.old reading
+            → given_to payload (to_inspect setting) ≡ to_inspect setting
             → (reading []).answer ≡ inspection result }
-        ensures counted { (setting : Setting) (B : List ℕ) (reading : List ℕ → Reading)
-            → StandsFor (to_inspect setting) B taken self.old reading
-            → given_to B (to_inspect setting) ≡ to_inspect setting
+        ensures counted { (setting : Setting) (payload : List ℕ) (reading : List ℕ → Reading)
+            → StandsFor (to_inspect setting) payload taken self.old reading
+            → given_to payload (to_inspect setting) ≡ to_inspect setting
             → SaysCount (inspection result) taken }
-        ensures status { (setting : Setting) (B : List ℕ) (reading : List ℕ → Reading)
-            → StandsFor (to_inspect setting) B taken self.old reading
-            → given_to B (to_inspect setting) ≡ to_inspect setting
+        ensures status { (setting : Setting) (payload : List ℕ) (reading : List ℕ → Reading)
+            → StandsFor (to_inspect setting) payload taken self.old reading
+            → given_to payload (to_inspect setting) ≡ to_inspect setting
             → status_of_phase self.new.phase ≡ status_of_answer (reading []).answer }
         ensures untouched { taken ≡ 0 → IsUntouched self.old → IsUntouched self.new }
     {

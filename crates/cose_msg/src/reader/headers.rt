@@ -57,7 +57,8 @@ impl<'k, const H: usize, const D: usize> Reader<'k, H, D> {
     pub(crate) fn begin_protected_head(&mut self, kind: Kind, at: u64)
         requires early { at ≤ 27 }
         ensures reads_on { (task : Task) → Shows task nothing_so_far self.old
-            → StandsFor task [] at self.new (λ z. protected_head (rules_of H D task) kind at z) }
+            → StandsFor task [] at self.new
+            (λ more. protected_head (rules_of H D task) kind at more) }
     {
         self.head.clear();
         self.phase = Phase::ProtectedHead(ProtectedHead { kind, at });
@@ -66,9 +67,9 @@ impl<'k, const H: usize, const D: usize> Reader<'k, H, D> {
     /// Takes the next byte of the protected bucket's head.
     pub(crate) fn protected_head(&mut self, protected_head: ProtectedHead, byte: u8)
         requires phase { self.old.phase ≡ Phase.ProtectedHead protected_head }
-        ensures reads_on { (task : Task) (B : List ℕ) (n : ℕ) (reading : List ℕ → Reading)
-            → StandsFor task B n self.old reading
-            → StandsFor task B (n + 1) self.new (λ z. reading (byte ∷ z)) }
+        ensures reads_on { (task : Task) (payload : List ℕ) (n : ℕ) (reading : List ℕ → Reading)
+            → StandsFor task payload n self.old reading
+            → StandsFor task payload (n + 1) self.new (λ more. reading (byte ∷ more)) }
     {
         let ProtectedHead { kind, at } = protected_head;
         match take_bare_head_byte(&mut self.head, byte) {
@@ -96,7 +97,7 @@ impl<'k, const H: usize, const D: usize> Reader<'k, H, D> {
         requires early { at ≤ 36 }
         ensures reads_on { (task : Task) → Shows task nothing_so_far self.old
             → StandsFor task [] at self.new
-            (λ z. past_protected_head (rules_of H D task) kind head_at head at z) }
+            (λ more. past_protected_head (rules_of H D task) kind head_at head at more) }
     {
         match Self::fault_of_protected(&head) {
             Some(reason) => self.refuse(reason, head_at),
@@ -121,9 +122,10 @@ impl<'k, const H: usize, const D: usize> Reader<'k, H, D> {
     pub(crate) fn protected_piece(&mut self, protected: Protected, piece: &[u8])
         requires phase { self.old.phase ≡ Phase.Protected protected }
         requires fits { length piece.now ≤ protected.left }
-        ensures reads_on { (task : Task) (B : List ℕ) (n : ℕ) (reading : List ℕ → Reading)
-            → StandsFor task B n self.old reading
-            → StandsFor task B (n + length piece.now) self.new (λ z. reading (piece.now ++ z)) }
+        ensures reads_on { (task : Task) (payload : List ℕ) (n : ℕ) (reading : List ℕ → Reading)
+            → StandsFor task payload n self.old reading
+            → StandsFor task payload (n + length piece.now) self.new (λ more. reading (piece.now ++
+            more)) }
     {
         append(&mut self.protected, piece);
         let left = protected.left - piece.len() as u64;
@@ -144,8 +146,8 @@ impl<'k, const H: usize, const D: usize> Reader<'k, H, D> {
         requires early { at ≤ 36 }
         ensures reads_on { (task : Task) → Shows task nothing_so_far self.old
             → StandsFor task [] (at + length self.old.protected.items) self.new
-            (λ z. past_protected (rules_of H D task) kind at self.old.protected.items
-            (at + length self.old.protected.items) z) }
+            (λ more. past_protected (rules_of H D task) kind at self.old.protected.items
+            (at + length self.old.protected.items) more) }
     {
         let length = self.protected.len() as u64;
         match refusal_of(self.protected.as_slice(), at, D) {
@@ -161,7 +163,7 @@ impl<'k, const H: usize, const D: usize> Reader<'k, H, D> {
         ensures reads_on { (task : Task) (pairs : List Pair) → Shows task nothing_so_far self.old
             → bucket_of D (placed_at protected_at self.old.protected.items) ≡ Ok pairs
             → StandsFor task [] at self.new
-            (λ z. unprotected (rules_of H D task) kind self.old.protected.items pairs at z) }
+            (λ more. unprotected (rules_of H D task) kind self.old.protected.items pairs at more) }
     {
         // The law of walkers that the proof cites.
         walker_is_reading();
@@ -191,8 +193,8 @@ impl<'k, const H: usize, const D: usize> Reader<'k, H, D> {
             → Shows task (protected_so_far pairs) self.old
             → bucket_of D (placed_at protected_at self.old.protected.items) ≡ Ok pairs
             → StandsFor task [] (at + length self.old.unprotected.items) self.new
-            (λ z. past_unprotected (rules_of H D task) kind self.old.protected.items pairs at
-            self.old.unprotected.items (at + length self.old.unprotected.items) z) }
+            (λ more. past_unprotected (rules_of H D task) kind self.old.protected.items pairs at
+            self.old.unprotected.items (at + length self.old.unprotected.items) more) }
     {
         match refusal_of(self.unprotected.as_slice(), at, D) {
             Some(refusal) => self.refuse(refusal.reason, refusal.place),
@@ -214,10 +216,11 @@ impl<'k, const H: usize, const D: usize> Reader<'k, H, D> {
         requires phase { self.old.phase ≡ Phase.Unprotected unprotected }
         requires some { 0 < length piece.now }
         requires fits { length piece.now ≤ unprotected.wanted }
-        ensures reads_on { (task : Task) (B : List ℕ) (n : ℕ) (reading : List ℕ → Reading)
+        ensures reads_on { (task : Task) (payload : List ℕ) (n : ℕ) (reading : List ℕ → Reading)
             → keys_in K.usable keys.entry ≡ keys_for task
-            → StandsFor task B n self.old reading
-            → StandsFor task B (n + length piece.now) self.new (λ z. reading (piece.now ++ z)) }
+            → StandsFor task payload n self.old reading
+            → StandsFor task payload (n + length piece.now) self.new (λ more. reading (piece.now ++
+            more)) }
     {
         // Laws of reading and of walkers that the proof cites.
         read_stays();

@@ -79,7 +79,7 @@ impl<'k, const H: usize, const D: usize> Reader<'k, H, D> {
             → is_bare ≡ (length known.headers.protected_pairs == 0)
             → HashesFor self.old.hashing known.chosen []
             → StandsFor task [] at self.new
-            (λ z. payload_head (rules_of H D task) known.headers known.chosen at z) }
+            (λ more. payload_head (rules_of H D task) known.headers known.chosen at more) }
     {
         self.head.clear();
         self.phase = Phase::PayloadHead(PayloadHead { kind, is_bare, at });
@@ -88,9 +88,9 @@ impl<'k, const H: usize, const D: usize> Reader<'k, H, D> {
     /// Takes the next byte of the payload's head. A detached payload has the length that is stated.
     pub(crate) fn payload_head(&mut self, payload_head: PayloadHead, byte: u8, stated: Option<u64>)
         requires phase { self.old.phase ≡ Phase.PayloadHead payload_head }
-        ensures reads_on { (task : Task) (B : List ℕ) (n : ℕ) (reading : List ℕ → Reading)
-            → IsStated stated task.setting.source → StandsFor task B n self.old reading
-            → StandsFor task B (n + 1) self.new (λ z. reading (byte ∷ z)) }
+        ensures reads_on { (task : Task) (payload : List ℕ) (n : ℕ) (reading : List ℕ → Reading)
+            → IsStated stated task.setting.source → StandsFor task payload n self.old reading
+            → StandsFor task payload (n + 1) self.new (λ more. reading (byte ∷ more)) }
     {
         let at = payload_head.at;
         match take_bare_head_byte(&mut self.head, byte) {
@@ -120,9 +120,8 @@ impl<'k, const H: usize, const D: usize> Reader<'k, H, D> {
             → known.headers.protected ≡ self.old.protected.items
             → payload_head.is_bare ≡ (length known.headers.protected_pairs == 0)
             → HashesFor self.old.hashing known.chosen []
-            → StandsFor task [] at self.new
-            (λ z. past_payload_head (rules_of H D task) known.headers known.chosen payload_head.at
-            head at z) }
+            → StandsFor task [] at self.new (λ more. past_payload_head (rules_of H D task)
+            known.headers known.chosen payload_head.at head at more) }
     {
         let limit = self.terms.payload_limit;
         match stated {
@@ -167,7 +166,7 @@ impl<'k, const H: usize, const D: usize> Reader<'k, H, D> {
             → IsAtPayload task known self.old kind length
             → task.setting.source ≡ attached
             → StandsFor task [] at self.new
-            (λ z. payload (rules_of H D task) known.headers known.chosen length at z) }
+            (λ more. payload (rules_of H D task) known.headers known.chosen length at more) }
     {
         if length == 0 {
             self.begin_auth_head(kind, at, 0);
@@ -188,8 +187,8 @@ impl<'k, const H: usize, const D: usize> Reader<'k, H, D> {
         ensures reads_on { (task : Task) (known : Known) (came : List ℕ)
             → IsAtPayload task known self.old kind stated
             → task.setting.source ≡ detached came stated
-            → StandsFor task [] at self.new (λ z. detached_payload (rules_of H D task) known.headers
-            known.chosen came stated nil at z) }
+            → StandsFor task [] at self.new (λ more. detached_payload (rules_of H D task)
+            known.headers known.chosen came stated nil at more) }
     {
         if stated == 0 {
             self.begin_auth_head(kind, at, 0);
@@ -209,10 +208,10 @@ impl<'k, const H: usize, const D: usize> Reader<'k, H, D> {
     pub(crate) fn payload(&mut self, payload: Payload, piece: &[u8])
         requires phase { self.old.phase ≡ Phase.Payload payload }
         requires fits { length piece.now ≤ payload.left }
-        ensures reads_on { (task : Task) (B : List ℕ) (n : ℕ) (reading : List ℕ → Reading)
-            → StandsFor task B n self.old reading
-            → StandsFor task (B ++ piece.now) (n + length piece.now) self.new
-            (λ z. reading (piece.now ++ z)) }
+        ensures reads_on { (task : Task) (payload : List ℕ) (n : ℕ) (reading : List ℕ → Reading)
+            → StandsFor task payload n self.old reading
+            → StandsFor task (payload ++ piece.now) (n + length piece.now) self.new
+            (λ more. reading (piece.now ++ more)) }
     {
         self.hashing.update(piece);
         let left = payload.left - piece.len() as u64;
@@ -234,10 +233,10 @@ impl<'k, const H: usize, const D: usize> Reader<'k, H, D> {
         requires inside { in_payload self.old.phase ≡ true }
         requires fewer { length bytes.now < want_of self.old.phase }
         ensures inside { in_payload self.new.phase ≡ true }
-        ensures reads_on { (task : Task) (B : List ℕ) (n : ℕ) (reading : List ℕ → Reading)
-            → StandsFor task B n self.old reading
-            → StandsFor task (B ++ bytes.now) (n + length bytes.now) self.new
-            (λ z. reading (bytes.now ++ z)) }
+        ensures reads_on { (task : Task) (payload : List ℕ) (n : ℕ) (reading : List ℕ → Reading)
+            → StandsFor task payload n self.old reading
+            → StandsFor task (payload ++ bytes.now) (n + length bytes.now) self.new
+            (λ more. reading (bytes.now ++ more)) }
     {
         match &mut self.phase {
             Phase::Payload(payload) => payload.left -= bytes.len() as u64,
@@ -258,10 +257,10 @@ impl<'k, const H: usize, const D: usize> Reader<'k, H, D> {
         ensures held { held_by self.new ≤ 2 * H + 512 }
         ensures opened { opened_by self.new ≤ D }
         // Where it is the next one of what comes of the payload, the reading stays.
-        ensures reads_on { (task : Task) (B more : List ℕ) (n : ℕ) (reading : List ℕ → Reading)
-            → came_of task.setting.source ≡ (B ++ part.now) ++ more
-            → StandsFor task B n self.old reading
-            → StandsFor task (B ++ part.now) n self.new reading }
+        ensures reads_on { (task : Task) (payload more : List ℕ) (n : ℕ)
+            (reading : List ℕ → Reading) → came_of task.setting.source ≡ (payload ++ part.now) ++ more
+            → StandsFor task payload n self.old reading
+            → StandsFor task (payload ++ part.now) n self.new reading }
     {
         self.hashing.update(part);
         let left = detached.left - part.len() as u64;

@@ -1,13 +1,13 @@
 //! The verifier of a message whose payload is detached, over an intake of each and a sink.
 
-ghost use Rattle.std.specs.Prelude.{◌≡◌, ◌≢◌, ◌↔◌, ◌<◌, ◌+◌, ◌*◌, ◌≤◌, ◌||◌, ℕ, true, false, List, [], ◌++◌, length, Some, None, Result, Err, IfOk, is_err};
+ghost use Rattle.std.specs.Prelude.{◌≡◌, ◌≢◌, ◌↔◌, ◌<◌, ◌+◌, ◌*◌, ◌≤◌, ℕ, true, false, List, [], ◌++◌, length, Some, None, Result, Err, IfOk, is_err};
 ghost use Rattle.cose_msg.specs.declared.verdict.Stop.{Stop};
 ghost use Rattle.cose_msg.specs.declared.verdict.Verdict.{Verdict};
 ghost use Rattle.cose_msg.specs.Answer.{decided};
 ghost use Rattle.cose_msg.specs.Detached.{Brings, DetachedRun, EitherFails, TakesDetached};
 ghost use Rattle.cose_msg.specs.Kept.{answered_again, is_stopped, kept_answer, WhateverTaken, WhateverVerified, HasTaken, SamePurpose};
 ghost use Rattle.cose_msg.specs.Message.{given, message as reading, verdict_of, verifying, Setting};
-ghost use Rattle.cose_msg.specs.Run.{stop_in, stops_for_intake, stops_for_sink, LeftAt};
+ghost use Rattle.cose_msg.specs.Run.{FailsIf, stop_in, stops_for_intake, stops_for_sink, LeftAt};
 ghost use Rattle.cose_msg.specs.Status.{payload_wanted_in};
 ghost use Rattle.cose_msg.specs.Task.{rules_of, to_verify};
 ghost use Rattle.cose_msg.specs.Verifier.{is_detached};
@@ -42,10 +42,9 @@ fn take_payload<'k, const H: usize, const D: usize, K: Keys<'k>, P: Intake, S: S
     ensures once { result ≢ Err Stop.Again }
 
     // It stops only for a failure in this call.
-    ensures payload_failure { P.has_failed payload.new
-        ≡ (P.has_failed payload.old || stops_for_intake result) }
-    ensures sink_failure { S.has_failed sink.new
-        ≡ (S.has_failed sink.old || stops_for_sink result) }
+    ensures payload_failure { FailsIf P.has_failed payload.old payload.new
+        (stops_for_intake result) }
+    ensures sink_failure { FailsIf S.has_failed sink.old sink.new (stops_for_sink result) }
     ensures sure { WhateverTaken verifier.old (λ task _ payload_before.
         task.setting.payload_limit ≤ S.sure sink.old + length payload_before
         → stops_for_sink result ≡ false) }
@@ -98,11 +97,9 @@ fn take_detached<'k, const H: usize, const D: usize, K: Keys<'k>, I: Intake, P: 
     ensures once { result ≢ Err Stop.Again }
 
     // It stops only for a failure in this call.
-    ensures intake_failure { EitherFails (stops_for_intake result)
-        (I.has_failed message.old) (I.has_failed message.new)
-        (P.has_failed payload.old) (P.has_failed payload.new) }
-    ensures sink_failure { S.has_failed sink.new
-        ≡ (S.has_failed sink.old || stops_for_sink result) }
+    ensures intake_failure { EitherFails (stops_for_intake result) I.has_failed message.old
+        message.new P.has_failed payload.old payload.new }
+    ensures sink_failure { FailsIf S.has_failed sink.old sink.new (stops_for_sink result) }
     ensures sure { WhateverTaken verifier.old (λ task _ _.
         task.setting.payload_limit ≤ S.sure sink.old → stops_for_sink result ≡ false) }
 {
@@ -183,11 +180,9 @@ pub fn verify_detached<
     ensures purpose { SamePurpose verifier.old verifier.new }
 
     // It stops only for a failure in this call.
-    ensures intake_failure { EitherFails (stops_for_intake result)
-        (I.has_failed message.old) (I.has_failed message.new)
-        (P.has_failed payload.old) (P.has_failed payload.new) }
-    ensures sink_failure { S.has_failed sink.new
-        ≡ (S.has_failed sink.old || stops_for_sink result) }
+    ensures intake_failure { EitherFails (stops_for_intake result) I.has_failed message.old
+        message.new P.has_failed payload.old payload.new }
+    ensures sink_failure { FailsIf S.has_failed sink.old sink.new (stops_for_sink result) }
     // A sink that is sure of every payload doesn't stop it.
     ensures sure { WhateverVerified verifier.old (λ setting _ _.
         setting.payload_limit ≤ S.sure sink.old → stops_for_sink result ≡ false) }

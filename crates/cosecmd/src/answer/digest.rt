@@ -120,8 +120,8 @@ fn detached_reply<'j, const H: usize, const D: usize, const N: usize, I: Intake,
     ensures fault { IfErr result IsOfMemoryOrInput }
     // One of the intakes has failed in this call, where the fault is of an input, and otherwise none.
     ensures failure { EitherFails (fails_by_input result)
-        (I.has_failed intake.old) (I.has_failed intake.new)
-        (P.has_failed payload.old) (P.has_failed payload.new) }
+        I.has_failed intake.old intake.new
+        P.has_failed payload.old payload.new }
 {
     // Laws of messages that the proof cites.
     settled_stays();

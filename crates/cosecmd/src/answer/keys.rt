@@ -285,7 +285,8 @@ fn push_items(
     query: Option<&Query>,
 ) -> Result<u128, Fault>
     ensures lines { IfOk result (λ _. string_bytes text.new ≡ string_bytes text.old
-        ++ concat (map (spec.item_line (option_map question_at query.entry)) (items_left items.entry))) }
+        ++ concat (map (spec.item_line (option_map question_at query.entry))
+        (items_left items.entry))) }
     ensures count { IfOk result (λ count. count ≡ length (items_left items.entry)) }
     ensures fault { IfErr result (λ fault. fault ≡ Fault.Memory) }
 {
@@ -321,7 +322,8 @@ fn push_set(
     query: Option<&Query>,
 ) -> Result<u128, Fault>
     ensures lines { IfOk result (λ _. string_bytes text.new ≡ string_bytes text.old
-        ++ concat (map (spec.item_line (option_map question_at query.entry)) (items_in (placed set.now)))) }
+        ++ concat (map (spec.item_line (option_map question_at query.entry))
+        (items_in (placed set.now)))) }
     ensures count { IfOk result (λ count. count ≡ length (items_in (placed set.now))) }
     ensures fault { IfErr result (λ fault. fault ≡ Fault.Memory) }
 {

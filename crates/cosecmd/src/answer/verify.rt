@@ -160,8 +160,8 @@ fn detached_verdict<'j, const H: usize, const D: usize, const N: usize, I: Intak
     ensures fault { IfErr result (λ fault. fault ≡ Fault.Input) }
     // One of the intakes has failed in this call, where there is no verdict, and otherwise none.
     ensures failure { EitherFails (is_err result)
-        (I.has_failed intake.old) (I.has_failed intake.new)
-        (P.has_failed payload.old) (P.has_failed payload.new) }
+        I.has_failed intake.old intake.new
+        P.has_failed payload.old payload.new }
 {
     // The law that the proof cites: a verdict stays when bytes follow.
     settled_stays();

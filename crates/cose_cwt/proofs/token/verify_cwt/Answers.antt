@@ -39,10 +39,6 @@ returns-clause-store_suffices g c =
     store_suffices _ _ _ _ _ c.claims_or_cleared.ensures.claims (c.verify-verdict.ensures.sure setting [] [] anew (subst (λ (n : ℕ). setting.payload_limit ≤ n) (sym c.clear.ensures.sure) c.requires.payload_limit))))
     (λ answer kept. (kept_is_no_failure _ _ _ _ _ _ _ _ c.claims_or_cleared.ensures.claims kept (c.verify-verdict.ensures.again answer kept).0).1)
 
-pub returns-clause-again_unfailed : goal.returns-clause-again_unfailed
-returns-clause-again_unfailed g c = λ answer kept.
-    (kept_is_no_failure _ _ _ _ _ _ _ _ c.claims_or_cleared.ensures.claims kept (c.verify-verdict.ensures.again answer kept).0).0
-
 pub returns-clause-within : goal.returns-clause-within
 returns-clause-within g c = λ refusal e.
     let placed : refusal.place ≤ length c.lend-lender.result.0.now = token_placed _ _ _ _ _ refusal c.claims_or_cleared.ensures.claims e (c.claims_refusals_stand_inside.ensures.admission _ _ _) in
@@ -54,8 +50,12 @@ returns-clause-purpose g c = c.verify-verdict.ensures.purpose
 pub returns-clause-again : goal.returns-clause-again
 returns-clause-again g c = λ answer kept.
     let before = c.verify-verdict.ensures.again answer kept in
-    let none : c.lend-lender.result.0.now ≡ [] = nothing_held (λ (store : Store g.row.L). Some (unless_dropped store.dropped store.held.items)) _ _ _ c.clear.ensures.empty before.3 c.lend-lender.ensures.held in
-    (answers_again _ _ _ _ _ _ c.claims_or_cleared.ensures.claims before.0 none, before.1, before.2)
+    let none : c.lend-lender.result.0.now ≡ [] = nothing_held (λ (store : Store g.row.L). Some (unless_dropped store.dropped store.held.items)) _ _ _ c.clear.ensures.empty before.3 c.lend-lender.ensures.held in (
+      answers_again _ _ _ _ _ _ c.claims_or_cleared.ensures.claims before.0 none,
+      before.1,
+      before.2,
+      (kept_is_no_failure _ _ _ _ _ _ _ _ c.claims_or_cleared.ensures.claims kept before.0).0,
+    )
 
 pub returns-clause-stopped : goal.returns-clause-stopped
 returns-clause-stopped g c = stopped_before _ _ _ _ _ c.claims_or_cleared.ensures.claims c.verify-verdict.ensures.stopped
