@@ -75,7 +75,8 @@ impl<'k, const H: usize, const D: usize> Reader<'k, H, D> {
             → StandsFor task payload n self.now reading → given_to payload task ≡ task
             → shown_by self.now ≡ shown_in task.setting (reading []) }
         ensures payload_wanted { (task : Task) (payload : List ℕ) (n : ℕ)
-            (reading : List ℕ → Reading) → StandsFor task payload n self.now reading → given_to payload task ≡ task
+            (reading : List ℕ → Reading) → StandsFor task payload n self.now reading
+            → given_to payload task ≡ task
             → (reading []).payload_wanted ≡ payload_want_of self.now.phase }
         // So the status is that of these bytes.
         ensures status { (task : Task) (payload : List ℕ) (n : ℕ) (reading : List ℕ → Reading)

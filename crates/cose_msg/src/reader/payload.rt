@@ -258,7 +258,8 @@ impl<'k, const H: usize, const D: usize> Reader<'k, H, D> {
         ensures opened { opened_by self.new ≤ D }
         // Where it is the next one of what comes of the payload, the reading stays.
         ensures reads_on { (task : Task) (payload more : List ℕ) (n : ℕ)
-            (reading : List ℕ → Reading) → came_of task.setting.source ≡ (payload ++ part.now) ++ more
+            (reading : List ℕ → Reading)
+            → came_of task.setting.source ≡ (payload ++ part.now) ++ more
             → StandsFor task payload n self.old reading
             → StandsFor task (payload ++ part.now) n self.new reading }
     {
