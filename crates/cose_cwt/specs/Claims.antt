@@ -1,4 +1,5 @@
 -- The claims of a token (RFC 8392 section 3).
+pub mod Known
 pub mod Labels
 pub mod Form
 pub mod Audience
