@@ -12,7 +12,7 @@ use Rattle.cose_head.specs.Item.{Item, depth_of}
 use Rattle.cose_head.specs.declared.refusal.Refusal.{Refusal}
 use Rattle.cose_head.specs.Reading.{Left, Outcome, Reader, after, string, is_string, is_parent, read_all, read, head, span_of}
 use Rattle.cose_head.specs.Measured.{left_of, span_found, nesting, nesting_all, children_allowed}
-use Rattle.cose_head.proofs.Measured.{same_ok, after-after, deeper, onward, items_go_on, items_end, item_string, item_leaf, item_childless, item_parent}
+use Rattle.cose_head.proofs.Measured.{same_ok, after-after, deeper, onward, items_go_on, items_end, item_string, item_leaf, item_childless, item_parent, string_whole}
 
 -- what is left after some bytes, as a slice gives it
 abbrev pub cut : ℕ → List ℕ → ℕ → ℕ → Left
@@ -104,8 +104,8 @@ whole_span bytes room (Ok span) (Err refusal) e = cc
 whole_span bytes room (Err refusal) (Ok found) e = cc
 whole_span bytes room (Err refusal) (Err other) e = let r : refusal ≡ other = cc in rw r refl
 
--- an integer of one byte, which is its head
-small_head : (initial : ℕ) (rest : List ℕ) (room place : ℕ) → initial < 64 → initial % 32 < 24 →
+-- the head of one byte that begins an integer or a string
+small_head : (initial : ℕ) (rest : List ℕ) (room place : ℕ) → initial < 128 → initial % 32 < 24 →
     Ok (head_of initial [], after 1 (left_of (initial ∷ rest) (suc room) place)) ≡ head (left_of (initial ∷ rest) (suc room) place)
 unfolding head
 small_head initial rest room place low few =
@@ -117,15 +117,42 @@ small_head initial rest room place low few =
     let there : nat_lt (length rest) 0 ≡ false = grind (arith, nat_tests) in
     rw (definite, bare, plain, some, fits, there) refl
 
-pub small_integer : (bytes : List ℕ) (depth room place : ℕ) → 1 ≤ length bytes → slice_index_or bytes 0 0 < 64 →
+-- an integer of one byte, which is its head
+pub short_integer : (bytes : List ℕ) (depth room place : ℕ) → 1 ≤ length bytes → slice_index_or bytes 0 0 < 64 →
     slice_index_or bytes 0 0 % 32 < 24 → 0 < room → Ok (0, after 1 (left_of bytes room place)) ≡ nesting (read depth (left_of bytes room place))
-small_integer [] depth room place there low few some = absurd (omega arith)
-small_integer (initial ∷ rest) depth zero place there low few some = absurd (omega arith)
-small_integer (initial ∷ rest) depth (suc room) place there low few some =
+short_integer [] depth room place there low few some = absurd (omega arith)
+short_integer (initial ∷ rest) depth zero place there low few some = absurd (omega arith)
+short_integer (initial ∷ rest) depth (suc room) place there low few some =
+    let below : initial < 128 = omega (arith, low) in
     let two : initial / 32 % 8 == 2 ≡ false = grind (arith, nat_tests) in
     let three : initial / 32 % 8 == 3 ≡ false = grind (arith, nat_tests) in
     let four : initial / 32 % 8 == 4 ≡ false = grind (arith, nat_tests) in
     let five : initial / 32 % 8 == 5 ≡ false = grind (arith, nat_tests) in
     let six : initial / 32 % 8 == 6 ≡ false = grind (arith, nat_tests) in
-    item_leaf depth (left_of (initial ∷ rest) (suc room) place) (head_of initial []) (small_head initial rest room place low few)
+    item_leaf depth (left_of (initial ∷ rest) (suc room) place) (head_of initial []) (small_head initial rest room place below few)
     (rw (two, three) refl) (rw (four, five, six) refl)
+
+short_argument : (initial : ℕ) → initial % 32 < 24 → (head_of initial []).arg ≡ initial % 32
+short_argument initial few =
+    let bare : nat_lt (initial % 32) 24 ≡ true = grind (arith, nat_tests) in
+    rw bare refl
+
+is_short_string : (initial : ℕ) → 64 ≤ initial → initial < 128 → is_string (head_of initial []) ≡ true
+is_short_string initial high low = grind (arith, nat_tests)
+
+-- a string whose length is in the one byte of its head, and which is all there
+pub short_string : (bytes : List ℕ) (depth room place : ℕ) → 1 ≤ length bytes → 64 ≤ slice_index_or bytes 0 0 → slice_index_or bytes 0 0 < 128 →
+    slice_index_or bytes 0 0 % 32 < 24 → 1 + slice_index_or bytes 0 0 % 32 ≤ room → 1 + slice_index_or bytes 0 0 % 32 ≤ length bytes →
+    Ok (0, after (1 + slice_index_or bytes 0 0 % 32) (left_of bytes room place)) ≡ nesting (read depth (left_of bytes room place))
+short_string [] depth room place there high low few fits whole = absurd (omega arith)
+short_string (initial ∷ rest) depth zero place there high low few fits whole = absurd (omega arith)
+short_string (initial ∷ rest) depth (suc room) place there high low few fits whole =
+    let l : Left = left_of (initial ∷ rest) (suc room) place in
+    let h : Head = head_of initial [] in
+    let argument : h.arg ≡ initial % 32 = short_argument initial few in
+    let roomy : h.arg ≤ suc room - 1 = omega (arith, argument, fits) in
+    let enough : h.arg ≤ length rest = omega (arith, argument, whole) in
+    let content : Ok (0, after h.arg (after 1 l)) ≡ nesting (string place h (after 1 l)) = string_whole place h (after 1 l) roomy enough in
+    let all : Ok (0, after (1 + h.arg) l) ≡ nesting (read depth l) =
+    rw (← after-after 1 h.arg l) (content ∙ sym (item_string depth l h (small_head initial rest room place low few) (is_short_string initial high low))) in
+    rw (← argument) all

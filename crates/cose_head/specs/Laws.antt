@@ -71,8 +71,8 @@ ReadIsSpelled = (depth : ℕ) (l : Left) (content : Item) (rest : Left) → (rea
 
 -- So one list begins with at most one item.
 abbrev pub OneItem : Type 0
-OneItem = (a b rest others : List ℕ) (content other : Item) → Spells a content → Spells b other → a ++ rest ≡ b ++ others → (a ≡ b)
-    × (content ≡ other)
+OneItem = (first second rest others : List ℕ) (content other : Item) → Spells first content → Spells second other → first ++ rest ≡ second ++ others →
+    (first ≡ second) × (content ≡ other)
 
 -- The bytes before the rest, as many as the difference of the places.
 abbrev pub bytes_before : Left → Left → List ℕ

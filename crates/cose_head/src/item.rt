@@ -137,19 +137,34 @@ fn items_at(
     })
 }
 
-/// Whether `bytes` begin with an integer from -24 to 23, which is one byte.
-fn begins_with_small_integer(bytes: &[u8]) -> bool
-    ensures there { true ≡ result → 0 < length bytes.now }
-    ensures one_byte { (depth room place : ℕ) → true ≡ result → 0 < room →
-        let l = left_of bytes.now room place in Ok (0, after 1 l) ≡ nesting (read depth l) }
+/// How many bytes the short item has that `bytes` begin with, within `room` bytes: an integer from -24 to 23, which is one byte,
+/// or a string of fewer than 24 bytes that are all there. 0 for any other.
+#[inline(always)]
+fn short_item(bytes: &[u8], room: usize) -> usize
+    ensures there { result ≤ length bytes.now }
+    ensures fits { result ≤ room }
+    ensures exact { (depth place : ℕ) → 0 < result →
+        let l = left_of bytes.now room place in Ok (0, after result l) ≡ nesting (read depth l) }
 {
+    if room == 0 {
+        return 0;
+    }
     match bytes {
-        [initial, ..] => *initial < 64 && *initial % 32 < 24,
-        [] => false,
+        [initial, ..] if *initial % 32 < 24 => {
+            if *initial < 64 {
+                return 1;
+            }
+            let length = 1 + usize::from(*initial % 32);
+            if *initial < 128 && length <= room && length <= bytes.len() {
+                return length;
+            }
+            0
+        }
+        _ => 0,
     }
 }
 
-/// The item that `bytes` begin with. The first of `bytes` is at `place`. An integer of one byte, as most items of headers are, takes
+/// The item that `bytes` begin with. The first of `bytes` is at `place`. A short one, as most items of headers and claims are, takes
 /// no further reading.
 #[inline(always)]
 #[cycle(item)]
@@ -163,11 +178,9 @@ pub(crate) fn item_at(bytes: &[u8], room: usize, place: u64, depth: usize) -> Re
     ensures fits { IfOk result (λ span. span.length ≤ room) }
     ensures nested { IfOk result (λ span. span.depth ≤ depth) }
 {
-    if room > 0 && begins_with_small_integer(bytes) {
-        return Ok(Span {
-            length: 1,
-            depth: 0,
-        });
+    let length = short_item(bytes, room);
+    if length > 0 {
+        return Ok(Span { length, depth: 0 });
     }
     any_item_at(bytes, room, place, depth)
 }

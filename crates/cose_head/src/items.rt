@@ -25,7 +25,8 @@ pub struct Items<'a> {
     /// The place after the last byte fits in u64.
     pub ghost in_range: { place + length rest.now < 2 ^ 64 },
     /// The number of children fits in u128.
-    pub ghost few: { length (items_from left (record { bytes = rest.now; place = place })) < 2 ^ 128 },
+    pub ghost few: { length (items_from left (record { bytes = rest.now; place = place }))
+        < 2 ^ 128 },
 }
 
 /// The number of children that the head of an array or a map announces.
@@ -118,7 +119,8 @@ impl<'a> Iterator for Items<'a> {
 impl fmt::Debug for Items<'_> {
     ghost use Rattle.cose_head.specs.Hidden.{items_text};
 
-    ghost debug_output = { λ items. Some (items_text (length items.rest.now) items.place items.left) };
+    ghost debug_output = { λ items.
+        Some (items_text (length items.rest.now) items.place items.left) };
 
     fn fmt<W: fmt::Write>(&self, f: &mut fmt::Formatter<W>) -> fmt::Result {
         let Items { rest, place, left } = *self;

@@ -27,10 +27,12 @@ pub struct Bucket<'a> {
     common: Common<'a>,
     /// The common values are those of the pairs.
     pub ghost alg_found: { option_map placed common.alg ≡ value_of names.alg (pairs_left pairs) },
-    pub ghost crit_found: { option_map placed common.crit ≡ value_of names.crit (pairs_left pairs) },
+    pub ghost crit_found: { option_map placed common.crit
+        ≡ value_of names.crit (pairs_left pairs) },
     pub ghost kid_found: { option_map placed common.kid ≡ value_of names.kid (pairs_left pairs) },
     pub ghost iv_found: { option_map placed common.iv ≡ value_of names.iv (pairs_left pairs) },
-    pub ghost partial_iv_found: { option_map placed common.partial_iv ≡ value_of names.partial_iv (pairs_left pairs) },
+    pub ghost partial_iv_found: { option_map placed common.partial_iv
+        ≡ value_of names.partial_iv (pairs_left pairs) },
 }
 
 impl<'a> Bucket<'a> {
@@ -105,8 +107,8 @@ impl<'a> Bucket<'a> {
         requires in_range { at + length bytes.now < 2 ^ 64 }
         ensures exact { seen_by bucket_pairs result
             ≡ unchecked_of depth (record { bytes = bytes.now; place = at }) }
-        ensures good { (pairs : List Pair) → bucket_of depth (record { bytes = bytes.now; place = at })
-            ≡ Ok pairs
+        ensures good { (pairs : List Pair)
+            → bucket_of depth (record { bytes = bytes.now; place = at }) ≡ Ok pairs
             → seen_by bucket_pairs result ≡ Ok pairs }
         ensures within { IfErr result (λ refusal. refusal.place ≤ at + length bytes.now) }
     {

@@ -73,7 +73,6 @@ pub use key_set::KeySet;
 pub use key_table::KeyTable;
 pub use keys::{KeyMeaning, Keys};
 pub use label::Label;
-pub use map::first::first_value;
 pub use map::form::Form;
 pub use map::pairs::Pairs;
 pub use map::read::{check_map, read_map, refused};

@@ -24,7 +24,8 @@ pub(crate) struct Earlier<'a> {
     /// The greatest of their labels.
     pub(crate) greatest: Option<Label<'a>>,
     /// No earlier label follows the greatest in the order.
-    pub ghost greatest_of_them: { order.is_greatest (option_map label_value greatest) (take count (pairs_left pairs)) ≡ true },
+    pub ghost greatest_of_them: { order.is_greatest (option_map label_value greatest)
+        (take count (pairs_left pairs)) ≡ true },
 }
 
 /// Whether a label follows the greatest so far in the order.

@@ -33,7 +33,7 @@ fn is_named(label: &Label<'_>, name: &Label<'_>) -> bool
 /// ```
 #[inline(always)]
 #[tactic(auto, using(crate::proofs::lemmas::Map::First::value_found, crate::proofs::lemmas::Map::First::value_passed))]
-pub fn first_value<'a>(
+pub(crate) fn first_value<'a>(
     so_far: Option<ItemRef<'a>>,
     label: &Label<'_>,
     name: &Label<'_>,

@@ -26,7 +26,8 @@ pub(crate) struct Search<'a, 'b> {
     /// These are in increasing order, if all are.
     pub ghost rising: { (not is_rising || spec.rise_after None (pairs_left ahead)) ≡ true },
     /// No other pair has a label that follows it in the order.
-    pub ghost others_passed: { spec.IsAhead (option_map label_value last) (pairs_left ahead) (pairs_left pairs) },
+    pub ghost others_passed: { spec.IsAhead (option_map label_value last) (pairs_left ahead)
+        (pairs_left pairs) },
 }
 
 /// Whether the labels of pairs are in increasing order.

@@ -16,13 +16,14 @@ use arrayvec::ArrayVec;
 pub(crate) struct Others<'a> {
     pub(crate) labels: ArrayVec<Other<'a>, 12>,
     /// No label is in it twice.
-    pub ghost distinct: { spec.differ (map (λ other. label_value other.label) labels.items) ≡ true },
+    pub ghost distinct: { spec.differ (map (λ other. label_value other.label) labels.items)
+        ≡ true },
 }
 
 /// The place of the first that is the label.
 fn place_of(others: &[Other<'_>], name: &Label<'_>) -> Option<usize>
-    ensures { spec.IsFirst (label_value name.now) (map (λ other. label_value other.label) others.now)
-        result }
+    ensures { spec.IsFirst (label_value name.now)
+        (map (λ other. label_value other.label) others.now) result }
 {
     let mut place = 0;
     'others: for other in others {
@@ -71,7 +72,8 @@ impl<'a> Others<'a> {
     pub(crate) fn add(&mut self, name: Label<'a>)
         requires room { nat_lt (length (labels_in self.old)) 12 ≡ true }
         ensures added { (other : LabelValue) → spec.is_among other (labels_in self.new)
-            ≡ (same_label other (label_value name.entry) || spec.is_among other (labels_in self.old)) }
+            ≡ (same_label other (label_value name.entry)
+            || spec.is_among other (labels_in self.old)) }
     {
         if self.has(&name) {
             return;
@@ -83,7 +85,8 @@ impl<'a> Others<'a> {
     pub(crate) fn remove(&mut self, name: &Label<'_>) -> bool
         ensures was { result ≡ spec.is_among (label_value name.now) (labels_in self.old) }
         ensures removed { (other : LabelValue) → spec.is_among other (labels_in self.new)
-            ≡ (spec.is_among other (labels_in self.old) && not (same_label other (label_value name.now))) }
+            ≡ (spec.is_among other (labels_in self.old)
+            && not (same_label other (label_value name.now))) }
     {
         match place_of(self.labels.as_slice(), name) {
             Some(index) => {
