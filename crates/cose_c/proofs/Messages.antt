@@ -3,7 +3,7 @@ use Rattle.std.proofs.Common.{◌≡◌, inl, inr, ℕ, ◌-◌, ◌≤◌, ℤ,
 use Rattle.std.proofs.lemmas.Bool.Decides.{nat_tests}
 use Rattle.std.proofs.lemmas.List.{length-drop, length-take, take-append-drop}
 use Rattle.std.proofs.Math.Seq.{take-length}
-use Rattle.std.specs.Prelude.{IfOk, IsSomeAnd, min, nat_lt}
+use Rattle.std.specs.Prelude.{IfOk, IsSomeAnd, min, nat_lt, ◌⊎◌}
 use Rattle.cose_head.specs.declared.algorithm.Alg.{Alg}
 use Rattle.cose_head.specs.declared.kind.Kind.{Kind}
 use Rattle.cose_head.specs.declared.kind.Kind.TheVariants as kinds
@@ -19,7 +19,6 @@ use Rattle.cose_msg.specs.declared.verdict.Stop.TheVariants.{Again, Intake, Sink
 use Rattle.cose_msg.specs.declared.verdict.Verdict.{Verdict}
 use Rattle.cose_msg.specs.declared.verdict.Verdict.TheVariants.{Authentic, Refused}
 use Rattle.cose_msg.specs.Answer.{Answer, Chosen, Headers, Whole, decided, complete, shaped}
-use Rattle.cose_msg.specs.Detached.{EitherFails}
 use Rattle.cose_msg.specs.Feed.{Uses, part_of}
 use Rattle.cose_msg.specs.GrammarLaws.{AuthenticIsMessage, MessageIsRead}
 use Rattle.cose_msg.specs.Laws.{ComparingGoesLast, MessageStays, answered, then_compared}
@@ -191,6 +190,6 @@ never_stops result Intake is intake sink again = let stopped : stops_for_intake 
 never_stops result Sink is intake sink again = let stopped : stops_for_sink result ≡ true = ap stops_for_sink is in absurd cc
 never_stops result Again is intake sink again = again is
 
-pub either_fails : {F G : Type 0} (stops : Bool) (first first_after : F) (second second_after : G) → EitherFails stops (λ _. false) first first_after (λ _. false) second second_after → stops ≡ false
-either_fails stops first first_after second second_after (inl fails) = sym fails.0
-either_fails stops first first_after second second_after (inr fails) = sym fails.1
+pub either_fails : (stops : Bool) → ((false ≡ (false || stops)) × (false ≡ false)) ⊎ ((false ≡ false) × (false ≡ (false || stops))) → stops ≡ false
+either_fails stops (inl fails) = sym fails.0
+either_fails stops (inr fails) = sym fails.1

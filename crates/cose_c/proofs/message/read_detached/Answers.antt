@@ -15,5 +15,5 @@ returns g c =
 
 pub unreachable-requires : goal.unreachable-requires
 unreachable-requires g c =
-    never_stops c.verify_detached.result c.in-Err.field-0 c.in-Err.is (either_fails _ _ _ _ _ c.verify_detached.ensures.intake_failure) (sym c.verify_detached.ensures.sink_failure)
+    never_stops c.verify_detached.result c.in-Err.field-0 c.in-Err.is (either_fails _ c.verify_detached.ensures.intake_failure) (sym c.verify_detached.ensures.sink_failure)
     (λ e. let stopped : true ≡ false = sym (c.verify_detached.ensures.stopped.0 e) ∙ c.requires.fresh.goes_on in absurd cc)
