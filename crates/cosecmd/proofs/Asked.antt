@@ -1,5 +1,5 @@
 -- The job of some arguments prints what they ask for.
-use Rattle.std.proofs.Common.{◌≡◌, ◌≤◌, ℕ, ℤ, Bool, true, false, List, Option, Some, None, Bor, length, option_map, refl, ap, subst, ◌∙◌, arith}
+use Rattle.std.proofs.Common.{◌≡◌, ◌≤◌, ℕ, ℤ, Bool, true, false, List, Option, Some, None, Bor, length, option_map, refl, sym, ap, subst, ◌∙◌, arith}
 use Rattle.std.specs.Prelude.{nat_lt, option_and_then, take, unwrap_or}
 use Rattle.std.proofs.Math.Seq.{take-length}
 use Rattle.std.proofs.lemmas.Bool.{le-ltb}
@@ -20,17 +20,20 @@ use Rattle.cosecmd.specs.declared.request.Make.{Make as MakeWords}
 use Rattle.cosecmd.specs.declared.request.Request.{Request}
 use Rattle.cosecmd.specs.declared.request.Request.TheVariants as asks
 use Rattle.cosecmd.specs.declared.request.OwnedChecks.{OwnedChecks}
+use Rattle.cosecmd.specs.declared.request.Payload.{Payload}
+use Rattle.cosecmd.specs.declared.request.Payload.TheVariants.{File}
 use Rattle.cosecmd.specs.declared.job.Checks.{Checks}
 use Rattle.cosecmd.specs.declared.job.FileJob.{FileJob}
 use Rattle.cosecmd.specs.declared.job.TokenJob.{TokenJob}
 use Rattle.cosecmd.specs.Admitted.{program_policy}
 use Rattle.cosecmd.specs.Printed.{Admits, EndsWith, Fails, Output, admits_for_job, admitted_under, answered_under, digested_under, keys_said, printed, shown, verified_under}
 use Rattle.cosecmd.specs.Job.{aad_of, is_make, job_of}
-use Rattle.cosecmd.specs.Options.{stated_part}
-use Rattle.cosecmd.specs.Stated.{answered_from, digested_from, verified_from}
+use Rattle.cosecmd.specs.Options.{part_of_file, stated_part}
+use Rattle.cosecmd.specs.Payload.{detached_in}
+use Rattle.cosecmd.specs.Stated.{answered_from}
 use Rattle.cosecmd.specs.Requirements.{requirements_for}
 use Rattle.cosecmd.specs.Under.{Under, job_under, owned_under}
-use Rattle.cosecmd.specs.Arguments.{admits_for_words, admitted_for, asked_for, made_for, makes}
+use Rattle.cosecmd.specs.Arguments.{admits_for_words, admitted_for, asked_for, made_for, makes, payload_for}
 
 -- A run that ends with one output ends with an equal one.
 pub ends_with : {said asked : Output} (old new : Option (List ℕ)) (status : ℕ) → said ≡ asked → EndsWith said old new status → EndsWith asked old new status
@@ -132,7 +135,30 @@ known_part (Some bytes) stated payload is = record { bytes = bytes; known = refl
 
 pub file_words : (job : FileJob) (content payload bytes : List ℕ) → Part job.length content payload →
     answered_from job content bytes ≡ answered_under job.question (job_under job.checks) (Some payload) bytes
-file_words job content payload bytes is =
-    let verdict : verified_from job content bytes ≡ verified_under (job_under job.checks) (Some payload) bytes = rw (is.enough, is.part) refl in
-    let digest : digested_from job content bytes ≡ digested_under (job_under job.checks) (Some payload) bytes = rw (is.enough, is.part) refl in
-    rw (verdict, digest) refl
+file_words job content payload bytes is = rw (is.enough, is.part) refl
+
+-- The request of a message asks for what is asked of it.
+pub message_request_words : (request : Request) (question : Question) (checks : OwnedChecks) (from : Payload) (payload : Option (List ℕ)) (bytes : List ℕ) → request ≡ asks.Message question checks from →
+    answered_under question (owned_under checks) payload bytes ≡ asked_for request payload bytes
+message_request_words request question checks from payload bytes is = rw is refl
+
+-- Its payload, where it is in the message, in an argument or in a file.
+pub payload_of_request : (content : List ℕ → Option (List ℕ)) (request : Request) (question : Question) (checks : OwnedChecks) (from : Payload) (payload : Option (List ℕ)) → request ≡ asks.Message question checks from →
+    payload_for content request ≡ Some payload → detached_in content from ≡ Some payload
+payload_of_request content request question checks from payload is known = sym (ap (payload_for content) is) ∙ known
+
+pub same_detached : (one other : Option (List ℕ)) (detached : Option (Option (List ℕ))) → detached ≡ Some one → detached ≡ Some other → one ≡ other
+same_detached one other detached is known =
+    let both = sym is ∙ known in
+    cc
+
+pub file_detached : (content : List ℕ → Option (List ℕ)) (from : Payload) (payload : Option (List ℕ)) (name : Bor (List ℕ)) (stated : Option ℕ) → from ≡ File name stated → detached_in content from ≡ Some payload →
+    (part : List ℕ) × (part_of_file content name.now stated ≡ Some part) × (Some part ≡ payload)
+file_detached content from payload name stated is known = go (part_of_file content name.now stated) refl
+  where
+    told : option_map Some (part_of_file content name.now stated) ≡ Some payload
+    told = rw is at known
+
+    go : (part : Option (List ℕ)) → part_of_file content name.now stated ≡ part → (part : List ℕ) × (part_of_file content name.now stated ≡ Some part) × (Some part ≡ payload)
+    go None e = let none : None ≡ Some payload = rw e at told in cc
+    go (Some part) e = let some : Some (Some part) ≡ Some payload = rw e at told in let same : Some part ≡ payload = cc in (part, e, same)

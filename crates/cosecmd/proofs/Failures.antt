@@ -1,12 +1,15 @@
 -- Whether an intake has failed, and what is answered then.
-use Rattle.std.proofs.Common.{◌≡◌, Bool, true, false, Result, Ok, Err, refl, sym, ap, ◌∙◌}
+use Rattle.std.proofs.Common.{◌≡◌, ◌⊎◌, Bool, true, false, List, Result, Ok, Err, inl, inr, refl, sym, ap, ◌∙◌}
 use Rattle.std.specs.Prelude.{◌||◌, ◌↔◌, IfErr, is_some}
+use Rattle.cose_head.specs.declared.refusal.Refusal.{Refusal}
+use Rattle.cose_map.specs.Key.Value.{KeyValue}
+use Rattle.cose_map.specs.Map.Read.{Read}
 use Rattle.cose_cwt.specs.Token.{Outcome, is_for_intake, is_for_store, stop_in}
 use Rattle.cose_cwt.specs.declared.token.CwtStop.TheVariants.{Claims, Message, Stopped}
 use Rattle.cose_msg.specs.declared.verdict.Stop.TheVariants.{Again, Intake, Sink}
 use Rattle.cosecmd.specs.declared.fault.Fault.{Fault}
 use Rattle.cosecmd.specs.declared.fault.Fault.TheVariants as faults
-use Rattle.cosecmd.specs.Faults.{fails_by_input}
+use Rattle.cosecmd.specs.Faults.{FailsForKeys, fails_by_input, is_of_input}
 
 pub not_failed : (failed : Bool) → failed ≡ (failed || false)
 not_failed true = refl
@@ -42,3 +45,21 @@ pub stopped_for_intake : (before after : Bool) (outcome : Outcome) (stopped : Bo
     (outcome ≡ Err (Stopped Again) ↔ stopped ≡ true) → stopped ≡ false → after ≡ (before || is_some (stop_in outcome))
 stopped_for_intake before after outcome stopped failed store again goes_on =
     failed ∙ ap (λ (b : Bool). before || b) (only_for_intake outcome stopped store again goes_on)
+
+-- Where the second of two intakes has failed in this call, the call stopped for it.
+pub stopped_by_second : (stops first first_after second second_after : Bool) →
+    ((first_after ≡ (first || stops)) × (second_after ≡ second)) ⊎ ((first_after ≡ first) × (second_after ≡ (second || stops))) → second ≡ false → second_after ≡ true → stops ≡ true
+stopped_by_second stops first first_after second second_after (inl both) sound failed =
+    let contrary : true ≡ false = sym failed ∙ both.1 ∙ sound in
+    absurd cc
+stopped_by_second stops first first_after second second_after (inr both) sound failed =
+    let stopped : true ≡ stops = sym failed ∙ both.1 ∙ ap (λ (b : Bool). b || stops) sound in
+    sym stopped
+
+-- A fault of the input isn't one of the keys.
+pub keys_unrefused : {A : Type 0} (keys : Read (List KeyValue)) (fault : Fault) (refusal : Refusal) → FailsForKeys {A = A} keys (Err fault) → is_of_input fault ≡ true → keys ≡ Err refusal → ⊥
+keys_unrefused {A = A} keys fault refusal fails of_input refused =
+    let same = (fails refusal).0 refused in
+    let is : fault ≡ faults.Keys refusal = cc in
+    let contrary : false ≡ true = rw is at of_input in
+    absurd cc

@@ -5,13 +5,13 @@ pub mod AskedKeys
 pub mod AskedSequences
 pub mod ChecksAsked
 pub mod CommandLines
-pub mod DigestPayloads
-pub mod Digests
+pub mod DetachedReplies
 pub mod Failures
 pub mod KeptPayloads
 pub mod KeyFiles
 pub mod Listings
 pub mod Makings
+pub mod MessageReplies
 pub mod NextTokens
 pub mod Nexts
 pub mod Options
@@ -20,9 +20,9 @@ pub mod PayloadFiles
 pub mod Replies
 pub mod RequiredOptions
 pub mod Sequences
+pub mod ShortPayloads
 pub mod Shows
 pub mod Sizes
-pub mod Stated
 pub mod Trailing
 pub mod VerifiedSequences
 pub mod Vouches

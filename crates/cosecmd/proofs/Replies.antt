@@ -6,13 +6,15 @@ use Rattle.cose_map.specs.Key.Value.{KeyValue}
 use Rattle.cose_map.specs.Map.Read.{Read}
 use Rattle.cose_msg.specs.declared.verdict.Verdict.{Verdict}
 use Rattle.cose_msg.specs.Answer.{decided}
+use Rattle.cose_msg.specs.Message.{Setting}
+use Rattle.cosecmd.specs.declared.job.Question.{Question}
 use Rattle.cosecmd.specs.declared.reply.Reply.{Reply}
 use Rattle.cosecmd.specs.declared.reply.Status.{Status}
 use Rattle.cosecmd.specs.declared.reply.Status.TheVariants as statuses
 use Rattle.cosecmd.specs.declared.fault.Fault.{Fault}
 use Rattle.cosecmd.specs.declared.fault.Fault.TheVariants as faults
 use Rattle.cosecmd.specs.Faults.{WritesLine}
-use Rattle.cosecmd.specs.Printed.{EndsWith, Fails, Output, Prints, Says, WritesPart, code_of, input_answer, output_of, said_of, setting_under, verified_under, with_keys, with_payload}
+use Rattle.cosecmd.specs.Printed.{EndsWith, Fails, Output, Prints, Says, WritesPart, answered_in, answered_under, code_of, input_answer, output_of, said_of, setting_under, verified_under, with_keys, with_payload}
 use Rattle.cosecmd.specs.Under.{Under}
 use Rattle.cosecmd.specs.Vouch.{vouching}
 
@@ -26,6 +28,15 @@ pub says_verified : {F : Type 0} (under : Under) (keys : List KeyValue) (payload
 says_verified under keys payload bytes verdict reply read answered said =
     let e : verified_under under payload bytes ≡ said_of verdict = said_with_keys under.keys keys _ read ∙ ap output_of answered in
     subst (λ (o : Output). IfOk reply (Says o)) (sym e) said
+
+-- A reply to what is asked of a message under the keys of a set.
+pub says_under : {F : Type 0} (question : Question) (under : Under) (keys : List KeyValue) (payload : Option (List ℕ)) (setting : Setting) (bytes : List ℕ) (reply : Result Reply F) →
+    under.keys ≡ Ok keys → setting ≡ setting_under under keys →
+    IfOk reply (Says (answered_in question under.room.header under.room.nesting (with_payload payload setting) (vouching under.vouch) bytes)) → IfOk reply (Says (answered_under question under payload bytes))
+says_under question under keys payload setting bytes reply read program says =
+    let e : answered_under question under payload bytes ≡ answered_in question under.room.header under.room.nesting (with_payload payload setting) (vouching under.vouch) bytes =
+    said_with_keys under.keys keys _ read ∙ ap (λ (x : Setting). answered_in question under.room.header under.room.nesting (with_payload payload x) (vouching under.vouch) bytes) (sym program) in
+    subst (λ (o : Output). IfOk reply (Says o)) (sym e) says
 
 -- Unless there is a fault, a run ends with the output's status.
 pub ends_so : (old new : Option (List ℕ)) (output : Output) (status : Status) → Prints output old new status → code_of status < 2 →

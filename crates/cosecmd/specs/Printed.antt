@@ -43,7 +43,6 @@ use Rattle.cosecmd.specs.KeysListed.{set_status, set_text}
 use Rattle.cosecmd.specs.Limits.{room_of}
 use Rattle.cosecmd.specs.declared.fault.Fault.{Fault}
 use Rattle.cosecmd.specs.declared.job.Checks.{Checks}
-use Rattle.cosecmd.specs.declared.job.FileJob.{FileJob}
 use Rattle.cosecmd.specs.declared.job.Job.{Job}
 use Rattle.cosecmd.specs.declared.job.Job.TheVariants.{Show, Verify, Cwt, Digest, Keys, KeysFor, Make}
 use Rattle.cosecmd.specs.declared.job.Question.{Question}
@@ -163,10 +162,6 @@ verified_under under payload bytes =
 abbrev pub verified_for : Checks → Option (Bor (List ℕ)) → List ℕ → Output
 verified_for checks payload bytes = verified_under (job_under checks) (option_map contents payload) bytes
 
--- The same for a job whose payload comes from a file, and has these bytes.
-abbrev pub verified_with : FileJob → List ℕ → List ℕ → Output
-verified_with job payload bytes = verified_under (job_under job.checks) (Some payload) bytes
-
 -- A token is verified as a message is, with a payload of at most this many bytes.
 abbrev pub token_setting : ℕ → List KeyValue → List ℕ → Wanted → Setting
 token_setting claims keys aad wanted = record (program_setting keys aad wanted) { payload_limit = claims }
@@ -258,17 +253,24 @@ digested_under under payload bytes = with_keys under.keys (λ keys. digested_in 
 abbrev pub digested_for : Checks → Option (Bor (List ℕ)) → List ℕ → Output
 digested_for checks payload bytes = digested_under (job_under checks) (option_map contents payload) bytes
 
--- The same for a job whose payload comes from a file, and has these bytes.
-abbrev pub digested_with : FileJob → List ℕ → List ℕ → Output
-digested_with job payload bytes = digested_under (job_under job.checks) (Some payload) bytes
-
 -- What is printed by what is asked of a message.
 abbrev pub by_question : Question → Output → Output → Output
 by_question questions.Verdict verdict digest = verdict
 by_question questions.Digest verdict digest = digest
 
+abbrev pub answered_in : Question → ℕ → ℕ → Setting → Decides → List ℕ → Output
+answered_in question header nesting setting decides bytes =
+    by_question question (output_of (input_answer header nesting setting decides bytes)) (digested_in header nesting setting bytes)
+
+-- With this detached payload, where there is one.
 abbrev pub answered_under : Question → Under → Option (List ℕ) → List ℕ → Output
-answered_under question under payload bytes = by_question question (verified_under under payload bytes) (digested_under under payload bytes)
+answered_under question under payload bytes =
+    with_keys under.keys (λ keys. answered_in question under.room.header under.room.nesting (with_payload payload (setting_under under keys)) (vouching under.vouch) bytes)
+
+-- The signature that is asked for. Where the verdict is asked for there is none.
+abbrev pub signature_asked : Question → Option SignInput → Option SignInput
+signature_asked questions.Verdict input = None
+signature_asked questions.Digest input = input
 
 -- The output after a message that ends at this place, of which a signature was found, or this verdict, where these bytes
 -- are left of the input.

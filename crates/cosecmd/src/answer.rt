@@ -3,99 +3,44 @@
 ghost use Rattle.std.specs.Prelude.{◌≡◌, ◌≤◌, ◌⊎◌, ℕ, false, List, Some, IfOk, length as length_of};
 ghost use Rattle.cosecmd.specs.Faults.{WritesLine, making_fault};
 ghost use Rattle.cosecmd.specs.Job.{aad_of, is_make, reads_input};
-ghost use Rattle.cosecmd.specs.Printed.{EndsWith, Fails, Prints, Says, printed};
+ghost use Rattle.cosecmd.specs.Printed.{EndsWith, Fails, Output, Says, printed};
 ghost use Rattle.cosecmd.specs.Sequence.{FailsInSequence, admitted_each, verified_sequence};
 ghost use Rattle.cosecmd.specs.Stated.{answered_from};
 ghost use Rattle.cosecmd.specs.Under.{job_under};
 
 mod cwt;
-mod digest;
 mod keys;
 mod make;
+mod message;
 pub mod payload_to;
 mod sequence;
 mod show;
 mod unmet;
-mod verify;
+mod verdict;
 
 use crate::fault::Fault;
 use crate::job::{Checks, FileJob, Job, Question, TokenJob};
 use crate::print::{print_fault, print_reply};
-use crate::reply::{Reply, Status};
+use crate::reply::Reply;
 use cwt::{cwt_reply, policy_of};
-use digest::{digest_reply, digest_reply_with_file};
 use keys::{keys_reply, keys_reply_for};
 use make::make_message;
+use message::{message_reply, message_reply_with_file};
 use sequence::messages::print_verified;
 use sequence::tokens::print_admitted;
 use show::show_reply;
 use std::alloc::Global;
 use std::io::{Read, Write};
-use verify::{verify_reply, verify_reply_with_file};
 
-/// Does a job, and says how the run ends.
-#[tactic(auto, unfolding(crate::specs::Printed::printed))]
-fn status_of<R: Read, W: Write>(alloc: Global, job: &Job, input: &mut R, output: &mut W) -> Status
-    requires external { length_of (aad_of job.now) ≤ 65535 }
-    ensures prints { (bytes : List ℕ) → R.remaining input.old ≡ Some bytes
-        → Prints (printed job.now bytes) (W.contents output.old) (W.contents output.new) result }
-    ensures fails { (bytes : List ℕ) → R.remaining input.old ≡ Some bytes → is_make job.now ≡ false
-        → result ≡ Status.Fault
-        → Fails (printed job.now bytes) (W.contents output.old) (W.contents output.new) }
-    ensures listing { reads_input job.now ≡ false → input.new ≡ input.old }
-    ensures unread { (fault : Fault) → making_fault job.now ≡ Some fault → input.new ≡ input.old }
-    ensures line { (fault : Fault) → making_fault job.now ≡ Some fault → (result ≡ Status.Fault)
-        × (WritesLine fault (W.contents output.old) (W.contents output.new)
-        ⊎ WritesLine Fault.Memory (W.contents output.old) (W.contents output.new)) }
+/// Writes the text of a reply, or the line of a fault, and returns the exit status.
+fn end_with<W: Write>(alloc: Global, reply: Result<Reply, Fault>, output: &mut W) -> u8
+    ensures status { result ≤ 2 }
+    ensures printed { (said : Output) → IfOk reply (Says said)
+        → EndsWith said (W.contents output.old) (W.contents output.new) result }
+    ensures fails { (said : Output) → IfOk reply (Says said) → result ≡ 2
+        → Fails said (W.contents output.old) (W.contents output.new) }
 {
-    match job {
-        Job::Show {
-            limits,
-            wanted,
-            diagnostic,
-        } => {
-            let reply = show_reply(alloc, *limits, *wanted, *diagnostic, input);
-            print_reply(alloc, reply, output)
-        }
-        Job::Verify { checks, payload } => {
-            let reply = verify_reply(alloc, checks, *payload, input);
-            print_reply(alloc, reply, output)
-        }
-        Job::Cwt(job) => {
-            let policy = policy_of(job.now, job.leeway, &job.aud);
-            let reply = cwt_reply(
-                alloc,
-                &job.checks,
-                &policy,
-                &job.requirements,
-                job.readable,
-                input,
-            );
-            print_reply(alloc, reply, output)
-        }
-        Job::Digest { checks, payload } => {
-            let reply = digest_reply(alloc, checks, *payload, input);
-            print_reply(alloc, reply, output)
-        }
-        Job::Keys { keys } => {
-            let reply = keys_reply(alloc, keys);
-            print_reply(alloc, reply, output)
-        }
-        Job::KeysFor { keys, wanted } => {
-            let reply = keys_reply_for(alloc, keys, *wanted, input);
-            print_reply(alloc, reply, output)
-        }
-        Job::Make {
-            alg,
-            key,
-            length,
-            kid,
-            aad,
-        } => match make_message(*alg, key, *kid, aad, *length, input, output) {
-            Ok(status) => status,
-            Err(fault) => print_fault(alloc, fault, output),
-        },
-    }
+    print_reply(alloc, reply, output).code()
 }
 
 /// Does a job: it reads the message or the payload from `input`, and writes the lines, or the message that is made, to `output`.
@@ -108,6 +53,7 @@ fn status_of<R: Read, W: Write>(alloc: Global, job: &Job, input: &mut R, output:
 ///
 /// With status 2 it writes one line that names the fault, or a prefix of it where the output fails. `make` writes no line once the
 /// first byte of the message was written: its output is then a prefix of the message.
+#[tactic(auto, unfolding(crate::specs::Printed::printed))]
 pub fn answer<R: Read, W: Write>(alloc: Global, job: &Job, input: &mut R, output: &mut W) -> u8
     requires external { length_of (aad_of job.now) ≤ 65535 }
     ensures status { result ≤ 2 }
@@ -129,24 +75,44 @@ pub fn answer<R: Read, W: Write>(alloc: Global, job: &Job, input: &mut R, output
         × (WritesLine fault (W.contents output.old) (W.contents output.new)
         ⊎ WritesLine Fault.Memory (W.contents output.old) (W.contents output.new)) }
 {
-    status_of(alloc, job, input, output).code()
-}
-
-/// The reply to what is asked of the message on the input, with a payload that comes from a reader.
-fn reply_with_file<P: Read, R: Read>(
-    alloc: Global,
-    job: &FileJob,
-    payload: &mut P,
-    input: &mut R,
-) -> Result<Reply, Fault>
-    requires external { length_of job.now.checks.aad.now ≤ 65535 }
-    ensures says { (bytes content : List ℕ) → R.remaining input.old ≡ Some bytes →
-        P.remaining payload.old ≡ Some content →
-        IfOk result (Says (answered_from job.now content bytes)) }
-{
-    match job.question {
-        Question::Verdict => verify_reply_with_file(alloc, job, payload, input),
-        Question::Digest => digest_reply_with_file(alloc, job, payload, input),
+    match job {
+        Job::Show {
+            limits,
+            wanted,
+            diagnostic,
+        } => {
+            let reply = show_reply(alloc, *limits, *wanted, *diagnostic, input);
+            end_with(alloc, reply, output)
+        }
+        Job::Verify { checks, payload } => {
+            let reply = message_reply(alloc, Question::Verdict, checks, *payload, input);
+            end_with(alloc, reply, output)
+        }
+        Job::Cwt(job) => {
+            let policy = policy_of(job.now, job.leeway, &job.aud);
+            let (checks, requirements) = (&job.checks, &job.requirements);
+            let reply = cwt_reply(alloc, checks, &policy, requirements, job.readable, input);
+            end_with(alloc, reply, output)
+        }
+        Job::Digest { checks, payload } => {
+            let reply = message_reply(alloc, Question::Digest, checks, *payload, input);
+            end_with(alloc, reply, output)
+        }
+        Job::Keys { keys } => end_with(alloc, keys_reply(alloc, keys), output),
+        Job::KeysFor { keys, wanted } => {
+            let reply = keys_reply_for(alloc, keys, *wanted, input);
+            end_with(alloc, reply, output)
+        }
+        Job::Make {
+            alg,
+            key,
+            length,
+            kid,
+            aad,
+        } => match make_message(*alg, key, *kid, aad, *length, input, output) {
+            Ok(status) => status.code(),
+            Err(fault) => print_fault(alloc, fault, output).code(),
+        },
     }
 }
 
@@ -175,8 +141,8 @@ pub fn answer_with_payload_file<P: Read, R: Read, W: Write>(
         → Fails (answered_from job.now content bytes) (W.contents output.old)
         (W.contents output.new) }
 {
-    let reply = reply_with_file(alloc, job, payload, input);
-    print_reply(alloc, reply, output).code()
+    let reply = message_reply_with_file(alloc, job, payload, input);
+    end_with(alloc, reply, output)
 }
 
 /// Verifies each message of a CBOR sequence (RFC 8742), each of which is followed at once by the next, and writes for each the

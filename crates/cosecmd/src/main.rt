@@ -31,6 +31,7 @@ mod streams;
 mod vouch;
 mod write_sink;
 
+use hints::Form;
 use noted_files::NotedFiles;
 use run::run_with_files;
 use std::alloc::{AllocError, Global};
@@ -67,30 +68,20 @@ fn complain<W: Write>(output: &mut W, text: &str) -> ExitCode
     ExitCode::from(2)
 }
 
-/// Runs `make`. The output is meant to be a message, so a fault's line goes to standard error too.
-fn run_make(rt: &HostRuntime, words: &[&str]) -> u8 {
-    let files = NotedFiles::new(rt, words);
-    let mut output = Noted::new(rt.stdout());
-    let status = run_with_files(rt.alloc(), words, &files, &mut rt.stdin(), &mut output);
-    if let (2, Some(line)) = (status, output.fault()) {
-        let _ = rt.stderr().write_all(line);
+/// Says on standard error what a run with this status doesn't say on standard output: the line of a fault, where `make` was to
+/// write a message there; and of another command the form of the text that the input begins as, where no message is accepted.
+fn say_more(rt: &HostRuntime, words: &[&str], status: u8, form: Option<Form>, line: Option<&[u8]>) {
+    let is_make = words.get(1) == Some(&"make");
+    match (status, form, line) {
+        (2, _, Some(line)) if is_make => {
+            let _ = rt.stderr().write_all(line);
+        }
+        (1 | 2, Some(form), _) if !is_make => {
+            let (name, advice) = (form.name(), form.advice());
+            let _ = eprintln!(rt; "cosecmd: standard input begins as {name} does; {advice}");
+        }
+        _ => {}
     }
-    status
-}
-
-/// Runs a command that reads a message. Where none is accepted, standard error says what form of a text the input begins as.
-fn run_on_message(rt: &HostRuntime, words: &[&str]) -> u8 {
-    let files = NotedFiles::new(rt, words);
-    let mut input = Noted::new(rt.stdin());
-    let status = run_with_files(rt.alloc(), words, &files, &mut input, &mut rt.stdout());
-    if status == 0 {
-        return status;
-    }
-    if let Some(form) = input.form() {
-        let (name, advice) = (form.name(), form.advice());
-        let _ = eprintln!(rt; "cosecmd: standard input begins as {name} does; {advice}");
-    }
-    status
 }
 
 /// Runs the command of these arguments over the standard streams, and says on standard error that it waits for a terminal.
@@ -98,10 +89,12 @@ fn run_command(rt: &HostRuntime, words: &[&str]) -> u8 {
     if reads_input(words) && rt.stdin().is_terminal() {
         let _ = rt.eprintln("cosecmd: reading from this terminal, up to its end of file");
     }
-    if words.get(1) == Some(&"make") {
-        return run_make(rt, words);
-    }
-    run_on_message(rt, words)
+    let files = NotedFiles::new(rt, words);
+    let mut input = Noted::new(rt.stdin());
+    let mut output = Noted::new(rt.stdout());
+    let status = run_with_files(rt.alloc(), words, &files, &mut input, &mut output);
+    say_more(rt, words, status, input.form(), output.fault());
+    status
 }
 
 fn main(rt: HostRuntime) -> ExitCode {

@@ -90,42 +90,6 @@ fn answer_with_file<F: NamedFiles, R: Read, W: Write>(
     answer_with_payload_file(alloc, &job, &mut file, input, output)
 }
 
-/// What is asked of a message, wherever its payload is.
-fn answer_message<F: NamedFiles, R: Read, W: Write>(
-    alloc: Global,
-    files: &F,
-    question: Question,
-    checks: &OwnedChecks,
-    payload: &Payload,
-    input: &mut R,
-    output: &mut W,
-) -> u8
-    ensures status { result ≤ 2 }
-    ensures printed { (bytes : List ℕ) (detached : Option (List ℕ))
-        → R.remaining input.old ≡ Some bytes →
-        detached_in (F.content files.now) payload.entry.now ≡ Some detached →
-        EndsWith (answered_under question (owned_under checks.now) detached bytes)
-        (W.contents output.old) (W.contents output.new) result }
-    ensures fails { (bytes : List ℕ) (detached : Option (List ℕ))
-        → R.remaining input.old ≡ Some bytes →
-        detached_in (F.content files.now) payload.entry.now ≡ Some detached → result ≡ 2 →
-        Fails (answered_under question (owned_under checks.now) detached bytes)
-        (W.contents output.old) (W.contents output.new) }
-{
-    let checks = checks.borrowed();
-    match payload {
-        Payload::InMessage => answer(alloc, &question.job(checks, None), input, output),
-        Payload::Bytes(bytes) => {
-            let job = question.job(checks, Some(bytes.as_slice()));
-            answer(alloc, &job, input, output)
-        }
-        Payload::File {
-            name,
-            length: stated,
-        } => answer_with_file(alloc, files, question, checks, name, *stated, input, output),
-    }
-}
-
 /// The job of the command `verify`, where the payload is in the message, and is kept in a new file of this name.
 fn answer_keep<F: NewFiles, R: Read, W: Write>(
     alloc: Global,
@@ -269,45 +233,27 @@ fn answer_request<F: NamedFiles + NewFiles, R: Read, W: Write>(
             question,
             checks,
             payload,
-        } => answer_message(alloc, files, *question, checks, payload, input, output),
+        } => {
+            let checks = checks.borrowed();
+            match payload {
+                Payload::InMessage => answer(alloc, &question.job(checks, None), input, output),
+                Payload::Bytes(bytes) => {
+                    let job = question.job(checks, Some(bytes.as_slice()));
+                    answer(alloc, &job, input, output)
+                }
+                Payload::File { name, length } => {
+                    answer_with_file(
+                        alloc, files, *question, checks, name, *length, input, output,
+                    )
+                }
+            }
+        }
         Request::Keep { checks, name } => answer_keep(alloc, files, checks, name, input, output),
         Request::MessageSequence(checks) => answer_messages(alloc, checks, input, output),
         Request::Cwt(words) => answer_cwt(alloc, words, input, output),
         Request::TokenSequence(words) => answer_tokens(alloc, words, input, output),
         Request::Keys(words) => answer_keys(alloc, words, input, output),
         Request::Make(words) => answer_make(alloc, words, input, output),
-    }
-}
-
-/// Does what the options ask for that clap found, and returns how the run ends.
-fn answer_matches<F: NamedFiles + NewFiles, R: Read, W: Write>(
-    alloc: Global,
-    files: &F,
-    matches: &ArgMatches,
-    input: &mut R,
-    output: &mut W,
-) -> u8
-    ensures status { result ≤ 2 }
-    // Unless there is a fault, it prints the output for these options, for the files that they name, if any, and for all
-    // that the reader gives, and ends with its status.
-    ensures printed { (bytes : List ℕ) (said : Output) → R.remaining input.old ≡ Some bytes →
-        matches_print (F.content files.now) matches.now bytes ≡ Some said →
-        EndsWith said (W.contents output.old) (W.contents output.new) result }
-    ensures fails { (bytes : List ℕ) (said : Output) → R.remaining input.old ≡ Some bytes →
-        matches_print (F.content files.now) matches.now bytes ≡ Some said →
-        subcommand_name_of matches.now ≢ Some (codes "make") → is_of_sequence matches.now ≡ false →
-        result ≡ 2 →
-        Fails said (W.contents output.old) (W.contents output.new) }
-    ensures taken { (name : List ℕ) → new_file_of (subcommand_rows_of matches.now) ≡ Some name →
-        F.is_taken files.now name ≡ Some true → (input.new ≡ input.old) × (result ≡ 2) }
-    ensures sequence { (bytes : List ℕ) (said : List ℕ → Output) →
-        R.remaining input.old ≡ Some bytes → PrintsEach (F.content files.now) matches.now said →
-        subcommand_name_of matches.now ≢ Some (codes "make") → result ≡ 2 →
-        FailsInSequence said bytes (W.contents output.old) (W.contents output.new) }
-{
-    match request_of(alloc, files, matches) {
-        Ok(request) => answer_request(alloc, files, &request, input, output),
-        Err(fault) => print_fault(alloc, fault, output).code(),
     }
 }
 
@@ -360,7 +306,10 @@ pub fn run_with_files<'a, F: NamedFiles + NewFiles, R: Read, W: Write>(
         (map (λ word. word.now) words.entry.now) input.old input.new result }
 {
     match parse(alloc, words) {
-        Ok(Parsed::Matches(matches)) => answer_matches(alloc, files, &matches, input, output),
+        Ok(Parsed::Matches(matches)) => match request_of(alloc, files, &matches) {
+            Ok(request) => answer_request(alloc, files, &request, input, output),
+            Err(fault) => print_fault(alloc, fault, output).code(),
+        },
         Ok(Parsed::Text(reply)) => print(output, reply.text.as_str(), reply.status).code(),
         Err(fault) => print_fault(alloc, fault, output).code(),
     }

@@ -22,7 +22,7 @@ ghost use Rattle.cosecmd.specs.Under.{job_under};
 ghost use Rattle.cosecmd.specs.Vouch.{vouching};
 
 use crate::answer::unmet::unmet_reply;
-use crate::answer::verify::{CHUNK, program_context, trailing_at};
+use crate::answer::verdict::{CHUNK, program_context, trailing_at};
 use crate::fault::Fault;
 use crate::job::Checks;
 use crate::limits::{

@@ -13,7 +13,7 @@ ghost use Rattle.cosecmd.specs.Replies.{FailsFor, IsVerdictOfInput, PrintsFor, R
 ghost use Rattle.cosecmd.specs.Under.{job_under};
 ghost use Rattle.cosecmd.specs.declared.new_file.Standing.TheVariants.{Gone, Kept};
 
-use crate::answer::verify::{CHUNK, program_context, reply_of, whole_verdict};
+use crate::answer::verdict::{CHUNK, program_context, reply_of, whole_verdict};
 use crate::fault::Fault;
 use crate::job::Checks;
 use crate::limits::{

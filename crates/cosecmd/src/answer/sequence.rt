@@ -9,7 +9,7 @@ ghost use Rattle.cosecmd.specs.Sequence.{FailsAfter, FailsInSequence, Reads, is_
 pub mod messages;
 pub mod tokens;
 
-use crate::answer::verify::CHUNK;
+use crate::answer::verdict::CHUNK;
 use crate::fault::Fault;
 use crate::print::{print, print_fault};
 use crate::reply::{Reply, Status};

@@ -8,7 +8,7 @@ ghost use Rattle.cosecmd.specs.Faults.{fails_by_input};
 ghost use Rattle.cosecmd.specs.Printed.{Says, bucket_lines, item_line, shape_said, shown, shown_in};
 ghost use Rattle.cosecmd.specs.Readable.{pair_notation};
 
-use crate::answer::verify::{CHUNK, program_context, reply_of, trailing_at};
+use crate::answer::verdict::{CHUNK, program_context, reply_of, trailing_at};
 use crate::fault::Fault;
 use crate::limits::{LARGE_HEADER, LARGE_NESTING, Limits, SMALL_HEADER, SMALL_NESTING};
 use crate::line::word_of;

@@ -1,28 +1,52 @@
-use Rattle.std.proofs.Common.{◌≡◌, ◌∙◌, ap, inl, inr, rules}
-use Rattle.cosecmd.specs.CommandLine.{begins_as_answer}
+use Rattle.std.proofs.Common.{◌≡◌, ◌∙◌, ℕ, List, ap, inl, inr, rules}
+use Rattle.cosecmd.specs.CommandLine.{AsksFor, begins_as_answer}
 use Rattle.cosecmd.specs.declared.arguments.Parsed.TheVariants.{Matches, Text}
+use Rattle.cosecmd.proofs.Asked.{ends_with, fails_with, not_made}
+use Rattle.cosecmd.proofs.AskedSequences.{found_fails, not_of_sequence}
 use Rattle.cosecmd.proofs.CommandLines.{found_in, text_read}
 use Rattle.cosecmd.proofs.Replies.{ends_with_text, some_line}
 use Rattle.cosecmd.proofs.run.run_with_files.Goals as goal
 
-pub returns-in-Ok-Matches-clause-printed : goal.returns-in-Ok-Matches-clause-printed
-returns-in-Ok-Matches-clause-printed g c = λ bytes e.
+pub returns-in-Ok-clause-printed : goal.returns-in-Ok-clause-printed
+returns-in-Ok-clause-printed g c = λ bytes e.
     let met = c.in-Ok-Matches in
     let is : met.field-0 ≡ Matches met.matches = search rules in
-    inr (met.matches, found_in _ met.field-0 met.matches is met.ensures, λ said prints. c.answer_matches.ensures.printed bytes said e prints)
+    inr (
+      met.matches,
+      found_in _ met.field-0 met.matches is met.ensures,
+      λ said prints.
+          let asks = c.in-Ok.ensures.asks bytes said prints in
+          ends_with _ _ _ asks.2 (c.answer_request.ensures.printed bytes asks.0 e asks.1),
+    )
 
-pub returns-in-Ok-Matches-clause-fails : goal.returns-in-Ok-Matches-clause-fails
-returns-in-Ok-Matches-clause-fails g c = λ bytes e two.
+pub returns-in-Ok-clause-fails : goal.returns-in-Ok-clause-fails
+returns-in-Ok-clause-fails g c = λ bytes e two.
     let met = c.in-Ok-Matches in
     let is : met.field-0 ≡ Matches met.matches = search rules in
     inr (inr (
       met.matches,
       found_in _ met.field-0 met.matches is met.ensures,
       record {
-        one = λ said prints other alone. c.answer_matches.ensures.fails bytes said e prints other alone two;
-        sequence = λ said each other. c.answer_matches.ensures.sequence bytes said e each other two;
+        one = λ said prints other alone.
+            let asks = c.in-Ok.ensures.asks bytes said prints in
+            fails_with _ _ asks.2 (c.answer_request.ensures.fails bytes asks.0 e asks.1 (not_made c.in-Ok.request _ c.in-Ok.ensures.making other) (not_of_sequence c.in-Ok.request _ c.in-Ok.ensures.sequence alone) two);
+        sequence = λ said each other.
+            let asks : (input : List ℕ) → AsksFor (g.F.NamedFiles.content c.args.files.now) c.in-Ok.request input (said input) = λ input. c.in-Ok.ensures.asks input (said input) (each input) in
+            let these = asks bytes in
+            found_fails (g.F.NamedFiles.content c.args.files.now) c.in-Ok.request said bytes _ _ asks
+            (λ one. fails_with _ _ these.2 (c.answer_request.ensures.fails bytes these.0 e these.1 (not_made c.in-Ok.request _ c.in-Ok.ensures.making other) one two))
+            (λ is. c.answer_request.ensures.sequence bytes e is two);
       },
     ))
+
+pub returns-in-Ok-clause-unread : goal.returns-in-Ok-clause-unread
+returns-in-Ok-clause-unread g c =
+    let met = c.in-Ok-Matches in
+    let is : met.field-0 ≡ Matches met.matches = search rules in
+    inr (met.matches, found_in _ met.field-0 met.matches is met.ensures, λ name some taken. c.answer_request.ensures.taken name (c.in-Ok.ensures.keeping ∙ some) taken)
+
+pub returns-in-Err-clause-fails : goal.returns-in-Err-clause-fails
+returns-in-Err-clause-fails g c = λ bytes e two. inl (some_line _ _ _ c.print_fault.ensures.line)
 
 pub returns-in-Ok-Text-clause-printed : goal.returns-in-Ok-Text-clause-printed
 returns-in-Ok-Text-clause-printed g c = λ bytes e.
@@ -39,11 +63,5 @@ returns-in-Ok-Text-clause-fails g c = λ bytes e two.
     let read = text_read _ met.field-0 met.reply is met.ensures in
     inr (inl (c.as_str.result.now, ap begins_as_answer c.as_str.ensures.value ∙ read.1, c.print.ensures.front))
 
-pub returns-in-Err-clause-fails : goal.returns-in-Err-clause-fails
-returns-in-Err-clause-fails g c = λ bytes e two. inl (some_line _ _ _ c.print_fault.ensures.line)
-
-pub returns-in-Ok-Matches-clause-unread : goal.returns-in-Ok-Matches-clause-unread
-returns-in-Ok-Matches-clause-unread g c =
-    let met = c.in-Ok-Matches in
-    let is : met.field-0 ≡ Matches met.matches = search rules in
-    inr (met.matches, found_in _ met.field-0 met.matches is met.ensures, c.answer_matches.ensures.taken)
+pub returns-in-Err-2-clause-fails : goal.returns-in-Err-2-clause-fails
+returns-in-Err-2-clause-fails g c = λ bytes e two. inl (some_line _ _ _ c.print_fault-in-Err-2.ensures.line)

@@ -15,7 +15,7 @@ ghost use Rattle.cosecmd.specs.AskedKeys as spec;
 ghost use Rattle.cosecmd.specs.Printed.{Says, items_listed_for};
 
 use crate::answer::keys::set_reply;
-use crate::answer::verify::reply_of;
+use crate::answer::verdict::reply_of;
 use crate::fault::Fault;
 use crate::limits::{LARGE_HEADER, LARGE_NESTING};
 use crate::reply::Reply;

@@ -13,7 +13,7 @@ ghost use Rattle.cosecmd.specs.Under.{job_under};
 ghost use Rattle.cosecmd.specs.Vouch.{vouching};
 
 use crate::answer::sequence::{Missing, PIECE, Part, Parts, is_read_whole, missing_by, print_read};
-use crate::answer::verify::{program_context, reply_of};
+use crate::answer::verdict::{program_context, reply_of};
 use crate::fault::Fault;
 use crate::job::Checks;
 use crate::limits::{
