@@ -154,8 +154,8 @@ function has64BitMemory() {
 }
 
 /**
- * The memory of the module behind its own: the module touches it by the pointers alone that it is passed. Rooms are of
- * 64 bytes times a power of two, and what is given back is set to zero.
+ * The memory of the module after its own part, which the module touches only by the pointers that it is passed. Rooms are
+ * of 64 bytes times a power of two, and what is given back is set to zero.
  */
 class Rooms {
     /** @param {WebAssembly.Memory} memory */
