@@ -1,6 +1,6 @@
 /* How much processor time the library for callers in C takes: a long message through cose_feed, in pieces of 4,096 bytes and
  * whole, and a million tokens through cose_table_verify_cwt, each with its MAC right. `bench/edge_rate` runs it next to the
- * calls that it stands on.
+ * calls that it makes.
  *
  * usage: edge_rate feed MESSAGE
  *        edge_rate tokens TOKEN [COUNT] */

@@ -1,7 +1,7 @@
 /* Preloaded, it takes at most eight bytes in each write, and gives one byte in each read, or at most FAIL_PIECE. The
    read of the input whose number is in FAIL_INPUT fails, and so do the read of a file in FAIL_FILE and the write of the
-   output in FAIL_OUTPUT; with FAIL_TAKES_NONE this write takes none. It tells of each of these calls by a byte on the
-   descriptor FAIL_MARK: i, f or o, and of each file that is opened by n. The file FAIL_PATH, where it is there, gets
+   output in FAIL_OUTPUT; with FAIL_TAKES_NONE this write takes none. For each of these calls it writes a byte to the
+   descriptor FAIL_MARK: i, f or o, and for each file that is opened n. The file FAIL_PATH, where it is there, gets
    FAIL_OPENED bytes right before a file is opened, and FAIL_LENGTH bytes before the first read of the input, where these
    are there. Where FAIL_DIGITS is there, the last argument becomes so many digits 0, which may be more than the system
    passes. */

@@ -105,7 +105,7 @@ async function run() {
 
 function showNothing() {
     const isFaulty = [...document.querySelectorAll("#inputs .fault")].some((it) => it.textContent);
-    if (isFaulty) showVerdict("unknown", "No answer yet", ["An input can't be read: what is wrong stands next to it."]);
+    if (isFaulty) showVerdict("unknown", "No answer yet", ["An input can't be read: what is wrong is next to it."]);
     else showVerdict("none", "No message yet", ["Paste one, drop a file, or choose an example."]);
     byId("answer").dataset.number = String(state.number);
 }

@@ -2,7 +2,7 @@
 "use strict";
 
 /**
- * Bytes of a message that are one part. `value` is in diagnostic notation, and `note` says what it stands for.
+ * Bytes of a message that are one part. `value` is in diagnostic notation, and `note` says what it means.
  * @typedef {object} Part
  * @property {number} from
  * @property {number} to
@@ -106,7 +106,7 @@ const headerName = (label) => HEADER_NAMES.get(labelNumber(label));
 const claimName = (label) => CLAIM_NAMES.get(labelNumber(label));
 
 /**
- * What the value of a header parameter stands for.
+ * What the value of a header parameter means.
  * @param {Item} label
  * @param {Item} value
  * @returns {string | undefined}
@@ -129,7 +129,7 @@ function printable(bytes) {
 }
 
 /**
- * What the value of a claim stands for.
+ * What the value of a claim means.
  * @param {Item} label
  * @param {Item} value
  * @returns {string | undefined}

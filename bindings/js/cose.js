@@ -1,6 +1,7 @@
-// The calls of include/cose.h, over the WebAssembly module that ci/web_module builds. All pointers and lengths are in this file.
+// The calls of include/cose.h, over the WebAssembly module that ci/web_module builds. All pointers and lengths are in this file and
+// in rooms.js.
 //
-// It is a script without imports, so that a page reads it from `file:` too, and a module of Node (index.mjs exports it).
+// Both are scripts without imports, so that a page reads them from `file:` too, and modules of Node (index.mjs exports this one).
 "use strict";
 
 /** The statuses of include/cose.h, by their names. */
@@ -143,9 +144,6 @@ function layoutOf(type) {
 /** @type {Record<string, Layout>} */
 const LAYOUTS = Object.fromEntries(Object.keys(FIELDS).map((name) => [name, layoutOf(name)]));
 
-/** The size of a page of WebAssembly's memory. */
-const PAGE = 65536;
-
 /** Whether this engine compiles a module with a 64-bit memory. */
 function has64BitMemory() {
     // (module (memory i64 1))
@@ -153,105 +151,10 @@ function has64BitMemory() {
     return typeof WebAssembly === "object" && WebAssembly.validate(bytes);
 }
 
-/**
- * The memory of the module behind its own: the module touches it by the pointers alone that it is passed. Rooms are of
- * 64 bytes times a power of two, and what is given back is set to zero.
- */
-class Rooms {
-    /** @param {WebAssembly.Memory} memory */
-    constructor(memory) {
-        this.memory = memory;
-        this.next = this.end = memory.buffer.byteLength;
-        /** @type {Map<number, number[]>} */
-        this.free = new Map();
-    }
-
-    /**
-     * @param {number} length
-     * @returns {number}
-     */
-    sizeFor(length) {
-        return 64 * 2 ** Math.max(0, Math.ceil(Math.log2(Math.max(1, length) / 64)));
-    }
-
-    /**
-     * Room for so many bytes. Its address is never 0, and a multiple of 64.
-     * @param {number} length
-     * @returns {number}
-     */
-    take(length) {
-        const size = this.sizeFor(length);
-        const again = this.free.get(size)?.pop();
-        if (again !== undefined) return again;
-        const at = this.next;
-        if (at + size > this.end) this.grow(Math.ceil((at + size - this.end) / PAGE));
-        this.next = at + size;
-        return at;
-    }
-
-    /**
-     * @param {number} at
-     * @param {number} length
-     */
-    give(at, length) {
-        const size = this.sizeFor(length);
-        new Uint8Array(this.memory.buffer, at, length).fill(0);
-        const free = this.free.get(size) ?? [];
-        free.push(at);
-        this.free.set(size, free);
-    }
-
-    /**
-     * A 64-bit memory grows by a BigInt; in Node 20 by a number.
-     * @param {number} pages
-     */
-    grow(pages) {
-        try {
-            this.memory.grow(/** @type {any} */ (BigInt(pages)));
-        } catch (fault) {
-            if (!(fault instanceof TypeError)) throw fault;
-            this.memory.grow(pages);
-        }
-        this.end += pages * PAGE;
-    }
-}
-
-/** The rooms of one call, which are given back when it ends. */
-class Scope {
-    /** @param {Rooms} rooms */
-    constructor(rooms) {
-        this.rooms = rooms;
-        /** @type {[number, number][]} */
-        this.taken = [];
-    }
-
-    /**
-     * @param {number} length
-     * @returns {number}
-     */
-    room(length) {
-        const at = this.rooms.take(length);
-        this.taken.push([at, length]);
-        return at;
-    }
-
-    /**
-     * Bytes, as a pointer and a length.
-     * @param {Uint8Array} bytes
-     * @returns {[bigint, bigint]}
-     */
-    put(bytes) {
-        const at = this.room(bytes.length);
-        new Uint8Array(this.rooms.memory.buffer, at, bytes.length).set(bytes);
-        return [BigInt(at), BigInt(bytes.length)];
-    }
-
-    end() {
-        for (const [at, length] of this.taken) this.rooms.give(at, length);
-    }
-}
-
 const NOTHING = new Uint8Array();
+
+/** The class of rooms.js, which a page reads as a script before this one. */
+const ROOMS = typeof module === "object" ? module.require("./rooms.js").Rooms : Rooms;
 
 /**
  * @typedef {object} Options
@@ -331,7 +234,7 @@ class Cose {
     constructor(exports) {
         /** @type {Record<string, any>} */
         this.exports = exports;
-        this.rooms = new Rooms(/** @type {WebAssembly.Memory} */ (exports.memory));
+        this.rooms = new ROOMS(/** @type {WebAssembly.Memory} */ (exports.memory));
     }
 
     /**
@@ -341,7 +244,7 @@ class Cose {
      * @returns {T}
      */
     scoped(run) {
-        const scope = new Scope(this.rooms);
+        const scope = this.rooms.scope();
         try {
             return run(scope);
         } finally {

@@ -41,7 +41,7 @@ static int refuse(uint8_t reason, uint64_t place)
     return REFUSED;
 }
 
-/* All bytes of a COSE_Mac0 are there. The verdict is told that no signature is good: there is none. */
+/* All bytes of a COSE_Mac0 are there. 0 says that no signature is good: there is none. */
 static int judge(struct cose_verifier *verifier)
 {
     struct cose_verdict verdict;

@@ -97,7 +97,7 @@ test("rooms are used again, and memory grows with what is passed", () => {
     assert.equal(cose.verify(key, new Uint8Array(2 ** 24)).status, STATUS.REFUSED);
 });
 
-test("an engine without 64-bit memory is told which flag it wants", async () => {
+test("without 64-bit memory, the error names the flag of the engine", async () => {
     const { validate } = WebAssembly;
     WebAssembly.validate = () => false;
     await assert.rejects(low.Cose.load(new Uint8Array()), /--experimental-wasm-memory64/);

@@ -200,7 +200,7 @@ function plain({ iss, sub, aud, cti, exp, nbf, iat, cnf }) {
     return JSON.parse(JSON.stringify(found));
 }
 
-/** The claims of a row, as far as the interface tells them. */
+/** The claims of a row, as far as the interface gives them. */
 function wantedClaims({ cnf, ...wanted }) {
     if (cnf?.key) return { ...wanted, cnf: { ...cnf, key: { curve: cnf.key.curve, x: cnf.key.x, y: cnf.key.y } } };
     return cnf && Object.keys(cnf).length ? { ...wanted, cnf } : wanted;

@@ -278,7 +278,7 @@ def plain(claims: cose.Claims) -> Row:
 
 
 def wanted_claims(said: Row) -> Row:
-    """The claims of a row, as far as the interface tells them: of a confirmed key its point."""
+    """The claims of a row, as far as the interface gives them: of a confirmed key its point."""
     wanted = dict(said)
     for name in ("exp", "nbf", "iat"):
         if name in wanted:

@@ -1,8 +1,8 @@
+pub mod ClaimsForC
 pub mod Dates
-pub mod Given
+pub mod Imports
 pub mod Messages
 pub mod Parts
-pub mod Steps
 pub mod Streams
 pub mod Strings
 pub mod Tails

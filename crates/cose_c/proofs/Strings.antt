@@ -15,9 +15,9 @@ use Rattle.cose_map.specs.Map.Pairs.{Pair, is_named, value_of}
 use Rattle.cose_cwt.specs.Claims.{ClaimsValue, claims_of, text_before, texts_at, texts_from, texts_of}
 use Rattle.cose_cwt.specs.Claims.Labels as names
 use Rattle.cose_cwt.specs.Laws.{ClaimsAreOfTree}
-use Rattle.cose_c.specs.declared.told.CoseRange.{CoseRange}
+use Rattle.cose_c.specs.declared.cose_claims.CoseRange.{CoseRange}
 use Rattle.cose_c.specs.Message.{Covers}
-use Rattle.cose_c.specs.Told.{Ranges, StartsInside, audience_item, bytes_range, content_range, element_numbered, text_numbered, text_range}
+use Rattle.cose_c.specs.CoseClaims.{Ranges, StartsInside, audience_item, bytes_range, content_range, element_numbered, text_numbered, text_range}
 use Rattle.cose_c.proofs.Dates.{looks}
 use Rattle.cose_c.proofs.Parts.{Part, children_part, drop_taken, drop_twice, taken_all, taken_short, taken_twice, within}
 
@@ -208,15 +208,15 @@ module _ (tree : ClaimsAreOfTree) (ends : ChildrenEndInside) (depth : ℕ) (payl
       let covers = covers_part payload v content (head_of_item v).width (head_of_item v).arg range.at (value_part name v found) (value_ends name v found) (bytes_content v content is) at inside in
       (ap (λ (r : CoseRange). r.present) e, subst (Covers payload content range.at) (sym count) covers)
 
-  pub text_told : (name : LabelValue) (value : Option Placed) (range : CoseRange) → value_of name claims.pairs ≡ value → range ≡ text_range value → StartsInside value range →
+  pub text_claim_range : (name : LabelValue) (value : Option Placed) (range : CoseRange) → value_of name claims.pairs ≡ value → range ≡ text_range value → StartsInside value range →
       Ranges payload (option_and_then (λ v. text_in (look v)) value) range
-  text_told name None range found e inside = e
-  text_told name (Some v) range found e inside = text_ranges v (text_in (look v)) range (value_part name v found) (value_ends name v found) refl e inside
+  text_claim_range name None range found e inside = e
+  text_claim_range name (Some v) range found e inside = text_ranges v (text_in (look v)) range (value_part name v found) (value_ends name v found) refl e inside
 
-  pub bytes_told : (name : LabelValue) (value : Option Placed) (range : CoseRange) → value_of name claims.pairs ≡ value → range ≡ bytes_range value → StartsInside value range →
+  pub bytes_claim_range : (name : LabelValue) (value : Option Placed) (range : CoseRange) → value_of name claims.pairs ≡ value → range ≡ bytes_range value → StartsInside value range →
       Ranges payload (option_and_then (λ v. bytes_in (look v)) value) range
-  bytes_told name None range found e inside = e
-  bytes_told name (Some v) range found e inside = bytes_ranges name v (bytes_in (look v)) range found refl e inside
+  bytes_claim_range name None range found e inside = e
+  bytes_claim_range name (Some v) range found e inside = bytes_ranges name v (bytes_in (look v)) range found refl e inside
 
   of_element : (v : Placed) (found : Option Placed) (range : CoseRange) → Part whole v → end_of v ≤ length payload → ((x : Placed) → found ≡ Some x → Part v x) → ((x : Placed) → found ≡ Some x → end_of x ≤ end_of v) →
       range ≡ text_range found → StartsInside found range → Ranges payload (option_and_then (λ x. text_in (look x)) found) range
@@ -244,7 +244,7 @@ module _ (tree : ClaimsAreOfTree) (ends : ChildrenEndInside) (depth : ℕ) (payl
       let texts : text_numbered n (texts_of v) ≡ None = rw is (no_text_numbered n (text_in (look v)) zero) in
       subst (λ (t : Option (List ℕ)). Ranges payload t range) (sym texts) (e ∙ ap text_range item)
 
-  pub audience_told : (n : ℕ) (value : Option Placed) (range : CoseRange) → value_of names.aud claims.pairs ≡ value → range ≡ text_range (audience_item n value) → StartsInside (audience_item n value) range →
+  pub audience_range : (n : ℕ) (value : Option Placed) (range : CoseRange) → value_of names.aud claims.pairs ≡ value → range ≡ text_range (audience_item n value) → StartsInside (audience_item n value) range →
       Ranges payload (text_numbered n (texts_at value)) range
-  audience_told n None range found e inside = e
-  audience_told n (Some v) range found e inside = audience_of n v (is_an_array (look v)) (n == 0) range found refl refl e inside
+  audience_range n None range found e inside = e
+  audience_range n (Some v) range found e inside = audience_of n v (is_an_array (look v)) (n == 0) range found refl refl e inside

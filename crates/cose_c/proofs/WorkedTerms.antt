@@ -36,7 +36,7 @@ refused_set = refl
 refused_number : setting_given (Err (record { reason = BadKeySet; place = 0 })) [] 16 ≡ Err (plain_status 12)
 refused_number = refl
 
--- A COSE_Mac0 is authentic, and a COSE_Sign1 signed, in one call; and both are authentic where the caller has told of the signature.
+-- A COSE_Mac0 is authentic, and a COSE_Sign1 signed, in one call; and both are authentic where the caller has passed its decision.
 authentic_mac : verdict_numbers unless_signed 6 (decided (Authentic kinds.Mac0 Hmac256 4 45)) ≡ accepted_as 1 6 kinds.Mac0 Hmac256 4 45
 authentic_mac = refl
 
@@ -44,9 +44,9 @@ signed : verdict_numbers unless_signed 6 (decided (Authentic kinds.Sign1 Es256 4
     record { status = 2; reason = 0; kind = 18; alg = negsuc 6; place = 0; payload_at = 6; payload_length = 4; taken = 77 }
 signed = refl
 
-told_of_it : verdict_numbers always_authentic 0 (decided (Authentic kinds.Sign1 Es256 4 77)) ≡
+decided_by_caller : verdict_numbers always_authentic 0 (decided (Authentic kinds.Sign1 Es256 4 77)) ≡
     record { status = 1; reason = 0; kind = 18; alg = negsuc 6; place = 0; payload_at = 0; payload_length = 4; taken = 77 }
-told_of_it = refl
+decided_by_caller = refl
 
 -- A refusal has no kind, no payload and no length.
 bad_auth : verdict_numbers unless_signed 0 (refused BadAuth 10) ≡

@@ -10,11 +10,11 @@ use Rattle.cose_msg.specs.Message.{Setting}
 use Rattle.cose_c.specs.declared.claims.CosePolicy.{CosePolicy}
 use Rattle.cose_c.specs.declared.numbers.CoseStatus.{CoseStatus}
 use Rattle.cose_c.specs.declared.numbers.CoseVerdict.{CoseVerdict}
-use Rattle.cose_c.specs.declared.told.CoseClaims.{CoseClaims}
-use Rattle.cose_c.specs.declared.told.CoseRange.{CoseRange}
+use Rattle.cose_c.specs.declared.cose_claims.CoseClaims.{CoseClaims}
+use Rattle.cose_c.specs.declared.cose_claims.CoseRange.{CoseRange}
 use Rattle.cose_c.specs.Message.{Covers, payload_read, verdict_read}
 use Rattle.cose_c.specs.Numbers.{plain_status, refused_status}
-use Rattle.cose_c.specs.Told.{Ranges, confirmed_curve, confirmed_sign, date_numbers, no_claims, no_range, text_numbered}
+use Rattle.cose_c.specs.CoseClaims.{Ranges, confirmed_curve, confirmed_sign, date_numbers, no_claims, no_range, text_numbered}
 
 abbrev pub policy_for : ℤ → ℕ → Option (List ℕ) → PolicyValue
 policy_for now leeway name = record { now = now; leeway = leeway; mine = option_map (λ text. text ∷ []) name }
@@ -49,28 +49,28 @@ claims_given depth (Ok policy) payload = unless_refused (admitted_claims depth p
 claims_given depth (Err status) payload = Err status
 
 -- What a caller gets of claims that are admitted: each text string and byte string as its range in the payload, and the dates.
-pub record GivesClaims (payload : List ℕ) (value : ClaimsValue) (told : CoseClaims) : Type 0 where
-  pub status : told.status ≡ 1
-  pub no_reason : told.reason ≡ 0
-  pub no_place : told.place ≡ 0
-  pub iss : Ranges payload (iss_of value) told.iss
-  pub sub : Ranges payload (sub_of value) told.sub
-  pub aud : Ranges payload (text_numbered 0 (auds_of value)) told.aud
-  pub cti : Ranges payload (cti_of value) told.cti
-  pub aud_count : told.aud_count ≡ min (length (auds_of value)) (2 ^ 64 - 1)
-  pub exp : told.exp ≡ date_numbers (exp_of value)
-  pub nbf : told.nbf ≡ date_numbers (nbf_of value)
-  pub iat : told.iat ≡ date_numbers (iat_of value)
-  pub cnf_crv : told.cnf_crv ≡ confirmed_curve value.confirmation
-  pub cnf_y_sign : told.cnf_y_sign ≡ confirmed_sign value.confirmation
+pub record GivesClaims (payload : List ℕ) (value : ClaimsValue) (claims : CoseClaims) : Type 0 where
+  pub status : claims.status ≡ 1
+  pub no_reason : claims.reason ≡ 0
+  pub no_place : claims.place ≡ 0
+  pub iss : Ranges payload (iss_of value) claims.iss
+  pub sub : Ranges payload (sub_of value) claims.sub
+  pub aud : Ranges payload (text_numbered 0 (auds_of value)) claims.aud
+  pub cti : Ranges payload (cti_of value) claims.cti
+  pub aud_count : claims.aud_count ≡ min (length (auds_of value)) (2 ^ 64 - 1)
+  pub exp : claims.exp ≡ date_numbers (exp_of value)
+  pub nbf : claims.nbf ≡ date_numbers (nbf_of value)
+  pub iat : claims.iat ≡ date_numbers (iat_of value)
+  pub cnf_crv : claims.cnf_crv ≡ confirmed_curve value.confirmation
+  pub cnf_y_sign : claims.cnf_y_sign ≡ confirmed_sign value.confirmation
 
 -- Or why there are none. (Where the payload is in the token is said apart.)
 abbrev pub without_payload : CoseClaims → CoseClaims
-without_payload told = record told { payload_at = 0; payload_length = 0 }
+without_payload claims = record claims { payload_at = 0; payload_length = 0 }
 
 abbrev pub Gives : List ℕ → Result ClaimsValue CoseStatus → CoseClaims → Type 0
-Gives payload (Ok claims) told = GivesClaims payload claims told
-Gives payload (Err status) told = without_payload told ≡ no_claims status
+Gives payload (Ok value) claims = GivesClaims payload value claims
+Gives payload (Err status) claims = without_payload claims ≡ no_claims status
 
 -- The status of a message that isn't authentic.
 abbrev pub status_in : CoseVerdict → CoseStatus
@@ -78,15 +78,15 @@ status_in verdict = record { status = verdict.status; reason = verdict.reason; p
 
 -- What a caller gets of a token in a setting (RFC 8392 section 7.2): its claims, where its message is authentic; otherwise the status of
 -- its message, so of a COSE_Sign1 that its signature is to be verified.
-pub record GivesTokenIn (room nesting : ℕ) (setting : Setting) (policy : Result PolicyValue CoseStatus) (token : List ℕ) (told : CoseClaims) : Type 0 where
-  pub refused : (verdict_read room nesting setting 0 token).status ≢ 1 → told ≡ no_claims (status_in (verdict_read room nesting setting 0 token))
-  pub admitted : (verdict_read room nesting setting 0 token).status ≡ 1 → Gives (payload_read room nesting setting token) (claims_given nesting policy (payload_read room nesting setting token)) told
-  pub payload : (verdict_read room nesting setting 0 token).status ≡ 1 → Covers token (payload_read room nesting setting token) told.payload_at told.payload_length
+pub record GivesTokenIn (room nesting : ℕ) (setting : Setting) (policy : Result PolicyValue CoseStatus) (token : List ℕ) (claims : CoseClaims) : Type 0 where
+  pub refused : (verdict_read room nesting setting 0 token).status ≢ 1 → claims ≡ no_claims (status_in (verdict_read room nesting setting 0 token))
+  pub admitted : (verdict_read room nesting setting 0 token).status ≡ 1 → Gives (payload_read room nesting setting token) (claims_given nesting policy (payload_read room nesting setting token)) claims
+  pub payload : (verdict_read room nesting setting 0 token).status ≡ 1 → Covers token (payload_read room nesting setting token) claims.payload_at claims.payload_length
 
 -- And in the setting that the arguments say, if they say one.
 abbrev pub GivesToken : ℕ → ℕ → Result Setting CoseStatus → Result PolicyValue CoseStatus → List ℕ → CoseClaims → Type 0
-GivesToken room nesting (Ok setting) policy token told = GivesTokenIn room nesting setting policy token told
-GivesToken room nesting (Err status) policy token told = told ≡ no_claims status
+GivesToken room nesting (Ok setting) policy token claims = GivesTokenIn room nesting setting policy token claims
+GivesToken room nesting (Err status) policy token claims = claims ≡ no_claims status
 
 -- The text string of this number of the audience of a payload, if it has as many and is a claims set.
 abbrev pub GivesAudience : List ℕ → ℕ → Read ClaimsValue → CoseRange → Type 0

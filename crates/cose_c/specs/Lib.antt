@@ -7,7 +7,7 @@ pub mod Stream
 pub mod Message
 pub mod Shape
 pub mod KeySet
-pub mod Told
+pub mod CoseClaims
 pub mod Claims
 pub mod Table
 pub mod Make

@@ -57,8 +57,8 @@ verdict_numbers status at (decided (Refused refusal)) = no_message (refused_stat
 verdict_numbers status at (complete whole) = no_message (plain_status 0)
 verdict_numbers status at (shaped kind payload auth taken) = no_message (plain_status 0)
 
--- In one call over memory a COSE_Mac0 is authentic, and the signature of a COSE_Sign1 is left to the caller. A verifier that is fed
--- is told of the signature, and so either is authentic.
+-- In one call over memory a COSE_Mac0 is authentic, and the signature of a COSE_Sign1 is left to the caller. To a verifier that is
+-- fed the caller passes its decision on the signature, and so either is authentic.
 abbrev pub unless_signed : Kind → ℕ
 unless_signed Mac0 = 1
 unless_signed Sign1 = 2

@@ -18,15 +18,17 @@ ghost use Rattle.cose_cwt.specs.Claims.Audience.{text_value};
 ghost use Rattle.cose_cwt.specs.Claims.View.{claims_value};
 ghost use Rattle.cose_c.specs.Claims.{Gives, GivesAudience, GivesClaims, GivesToken, GivesTokenIn, claims_given, name_given, name_seen, policy_for, policy_given, status_in, unless_refused};
 ghost use Rattle.cose_c.specs.Terms.{setting_given};
-ghost use Rattle.cose_c.specs.Told.{Ranges, StartsInside, audience_item, confirmed_curve, confirmed_sign, curve_number, element_numbered, no_claims, sign_number, text_numbered, text_range};
+ghost use Rattle.cose_c.specs.CoseClaims.{Ranges, StartsInside, audience_item, confirmed_curve, confirmed_sign, curve_number, element_numbered, no_claims, sign_number, text_numbered, text_range};
 
+use crate::cose_claims::{
+    CoseClaims, CoseRange, bytes_range, date_in, no_claims, no_range, text_range,
+};
 use crate::input::blank_input;
 use crate::message::read_whole;
 use crate::numbers::{
     AUTHENTIC, BAD_AUDIENCE, CLAIMS_REFUSED, CoseStatus, CoseVerdict, plain_status, refused_status,
 };
 use crate::terms::{HEADER, LARGE_HEADER, LARGE_NESTING, NESTING, context};
-use crate::told::{CoseClaims, CoseRange, bytes_range, date_in, no_claims, no_range, text_range};
 use cose_cwt::laws::claims_are_of_a_tree;
 use cose_cwt::{Audience, Claims, Policy};
 use cose_head::laws::children_are_of_tree;
@@ -207,7 +209,7 @@ fn texts_of(value: Option<ItemRef<'_>>) -> Texts
 struct AnyForm;
 
 impl Form for AnyForm {
-    ghost use Rattle.cose_c.specs.Told.{any_value};
+    ghost use Rattle.cose_c.specs.CoseClaims.{any_value};
 
     ghost table = { λ form. any_value };
 
@@ -304,7 +306,7 @@ fn point_confirmed(claims: &Claims<'_>) -> Point
 }
 
 /// The claims that are admitted.
-fn told_claims(claims: &Claims<'_>, payload: &[u8]) -> CoseClaims
+fn claims_for_c(claims: &Claims<'_>, payload: &[u8]) -> CoseClaims
     ensures { (depth : ℕ) → depth ≤ 32
         → claims_of depth (record { bytes = payload.now; place = 0 }) ≡ Ok (claims_value claims.now)
         → GivesClaims payload.now (claims_value claims.now) result }
@@ -352,7 +354,7 @@ fn claims_named(payload: &[u8], depth: usize, policy: &Policy<'_>) -> CoseClaims
         result }
 {
     match admitted(payload, depth, policy) {
-        Ok(claims) => told_claims(&claims, payload),
+        Ok(claims) => claims_for_c(&claims, payload),
         Err(refusal) => no_claims(refused_status(CLAIMS_REFUSED, refusal)),
     }
 }
@@ -408,7 +410,7 @@ fn placed_claims(claims: CoseClaims, at: u64, length: u64) -> CoseClaims
 }
 
 /// The claims of a token whose verdict is known.
-#[tactic(auto, using(crate::proofs::Given::elsewhere))]
+#[tactic(auto, using(crate::proofs::ClaimsForC::gives_at_any_place))]
 fn claims_after(
     verdict: CoseVerdict,
     token: &[u8],
@@ -522,7 +524,7 @@ pub extern "C" fn cose_edge_large_claims(
 }
 
 /// The text string of this number of the audience of claims that were read.
-fn told_audience(claims: &Claims<'_>, payload: &[u8], index: u64) -> CoseRange
+fn audience_for_c(claims: &Claims<'_>, payload: &[u8], index: u64) -> CoseRange
     ensures { (depth : ℕ) → depth ≤ 32
         → claims_of depth (record { bytes = payload.now; place = 0 }) ≡ Ok (claims_value claims.now)
         → Ranges payload.now (text_numbered index (auds_of (claims_value claims.now))) result }
@@ -542,7 +544,7 @@ pub extern "C" fn cose_edge_audience(payload: &[u8], index: u64, audience: &mut 
         (claims_of 16 (record { bytes = payload.now; place = 0 })) audience.new }
 {
     *audience = match Claims::read(payload, LARGE_NESTING) {
-        Ok(claims) => told_audience(&claims, payload, index),
+        Ok(claims) => audience_for_c(&claims, payload, index),
         Err(_) => no_range(),
     };
 }

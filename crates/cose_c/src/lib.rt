@@ -6,6 +6,7 @@
 #![tactic(auto)]
 
 mod claims;
+mod cose_claims;
 mod deciding;
 mod held;
 mod input;
@@ -17,4 +18,3 @@ mod shape;
 mod stream;
 mod table;
 mod terms;
-mod told;

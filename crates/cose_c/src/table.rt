@@ -10,6 +10,7 @@ ghost use Rattle.cose_c.specs.Message.{Covers, input_given, is_accepted, payload
 ghost use Rattle.cose_c.specs.Table.{keys_in, keys_read, setting_under_table, table_settings};
 
 use crate::claims::{CosePolicy, claims_of_token};
+use crate::cose_claims::{CoseClaims, no_claims};
 use crate::held::table::{CoseTable, TABLE};
 use crate::input::CoseSignInput;
 use crate::key_set::{CoseKeySet, counted, no_key_set};
@@ -18,7 +19,6 @@ use crate::numbers::{
     CLOSED, CoseStatus, CoseVerdict, KEYS_REFUSED, no_message, plain_status, refused_status,
 };
 use crate::terms::{HEADER, NESTING, PAYLOAD, kinds_wanted};
-use crate::told::{CoseClaims, no_claims};
 use cose_msg::{Context, KeyTable, Verifier};
 
 /// What a message is verified under, by a table of keys, or why none is: a block that isn't read has no keys.

@@ -1,4 +1,4 @@
--- What a test says of every algorithm, told by the table: the test is computed over `algorithms`. So a lemma about all algorithms
+-- What a test says of every algorithm of the table: the test is computed over `algorithms`. So a lemma about all algorithms
 -- needs no case for each, and none more with a new row.
 use Rattle.std.proofs.Common.{◌≡◌, Bool, true, Some, cond, IsTrue, arith}
 use Rattle.std.proofs.lemmas.Grind.{common_steps}

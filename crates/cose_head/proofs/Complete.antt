@@ -11,7 +11,7 @@ use Rattle.cose_head.specs.Reading.{Left, Outcome, Reader, after, string, string
 use Rattle.cose_head.specs.Measured.{left_of}
 use Rattle.cose_head.specs.Laws.{Between}
 use Rattle.cose_head.proofs.Measured.{read_past_head}
-use Rattle.cose_head.proofs.Steps.{after-zero}
+use Rattle.cose_head.proofs.ReadSteps.{after-zero}
 
 -- the rest is what follows the part
 rest_is : (l rest : Left) (P : List ℕ → Type 0) (p : Between l rest P) → after (length p.part) l ≡ rest

@@ -15,7 +15,7 @@ use Rattle.cose_head.specs.Laws.{Steps}
 use Rattle.cose_head.specs.Placed.{Placed, head_or_undefined, head_of_item, past_head, span_at, first_of, items_from, has_children, children_of}
 use Rattle.cose_head.specs.PlacedLaws.{end_of, EndsBy}
 use Rattle.cose_head.proofs.BareHeads.{bare_sound}
-use Rattle.cose_head.proofs.Steps.{read_steps}
+use Rattle.cose_head.proofs.ReadSteps.{read_steps}
 
 -- an item that the bytes begin with is no longer than they are
 found_inside : (bytes : List ℕ) (found : Outcome Item) → Steps 1 (left_of bytes (length bytes) 0) found →

@@ -18,7 +18,7 @@ pub mod WalkedHeads
 pub mod WalkSteps
 pub mod WalkerSteps
 pub mod HeadCases
-pub mod Steps
+pub mod ReadSteps
 pub mod Stable
 pub mod Sound
 pub mod Complete
@@ -29,7 +29,7 @@ pub mod ShortLeast
 pub mod ReadLaws
 pub mod Spans
 pub mod Reasons
-pub mod Moves
+pub mod ReadMoves
 pub mod WalkerLaws
 pub mod PlacedTrees
 pub mod Whole

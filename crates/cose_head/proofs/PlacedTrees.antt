@@ -206,19 +206,19 @@ tag_of_head tree p s six =
     sym h.encloses ∙ ap (λ m. m == 6) (sym major ∙ six)
 
 -- what is found in a tag is after its head
-abbrev behind : Placed → Option (ℕ × Placed)
-behind p = Some ((head_of_item p).arg, past_head (head_of_item p) p)
+abbrev tag_content : Placed → Option (ℕ × Placed)
+tag_content p = Some ((head_of_item p).arg, past_head (head_of_item p) p)
 
-abbrev found_behind : Placed → Option (ℕ × Placed) → Placed
-found_behind p None = p
-found_behind p (Some found) = found.1
+abbrev content_found : Placed → Option (ℕ × Placed) → Placed
+content_found p None = p
+content_found p (Some found) = found.1
 
 pub in_tag : (p : Placed) (number : ℕ) (enclosed : Placed) → tag_in p ≡ Some (number, enclosed) → past_head (head_of_item p) p ≡ enclosed
 in_tag p number enclosed e = go ((head_of_item p).major == 6) e
   where
-    go : (b : Bool) → (if b then behind p else None) ≡ Some (number, enclosed) →
+    go : (b : Bool) → (if b then tag_content p else None) ≡ Some (number, enclosed) →
         past_head (head_of_item p) p ≡ enclosed
-    go true e = ap (found_behind p) e
+    go true e = ap (content_found p) e
     go false e = absurd cc
 
 -- items that are spelled one after another are found

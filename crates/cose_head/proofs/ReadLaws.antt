@@ -9,7 +9,7 @@ use Rattle.cose_head.specs.Reading.{Left, read}
 use Rattle.cose_head.specs.Measured.{left_of}
 use Rattle.cose_head.specs.Laws.{Between, IsSpelled, IsSettled, IsStep, IsRefusal, more, more_after}
 use Rattle.cose_head.proofs.Measured.{same_ok}
-use Rattle.cose_head.proofs.Steps.{read_steps}
+use Rattle.cose_head.proofs.ReadSteps.{read_steps}
 use Rattle.cose_head.proofs.Stable.{read_same}
 use Rattle.cose_head.proofs.Sound.{read_sound}
 use Rattle.cose_head.proofs.Complete.{complete}

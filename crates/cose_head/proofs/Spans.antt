@@ -10,7 +10,7 @@ use Rattle.cose_head.specs.Measured.{left_of, span_found, nesting, SpansItem}
 use Rattle.cose_head.specs.Laws.{Between, IsSpelled, Steps}
 use Rattle.cose_head.proofs.ItemSteps.{whole_span}
 use Rattle.cose_head.proofs.Sound.{AtOk, read_sound}
-use Rattle.cose_head.proofs.Steps.{read_steps}
+use Rattle.cose_head.proofs.ReadSteps.{read_steps}
 use Rattle.cose_head.proofs.ReadLaws.{spelled_is_read}
 
 spans_found : (depth : ℕ) (bytes : List ℕ) (room : ℕ) (found : Outcome Item) → AtOk (IsSpelled depth (left_of bytes room 0)) found →

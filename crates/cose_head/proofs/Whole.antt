@@ -21,7 +21,7 @@ use Rattle.cose_head.specs.Whole.{nothing_after, whole, is_one_item}
 use Rattle.cose_head.proofs.Measured.{same_ok}
 use Rattle.cose_head.proofs.PlacedTrees.{at, item_spelled, spelled_item, head_is_of_item, tag_has_its_content, tag_of_head, in_tag}
 use Rattle.cose_head.proofs.BareHeads.{bare_complete}
-use Rattle.cose_head.proofs.Steps.{read_steps}
+use Rattle.cose_head.proofs.ReadSteps.{read_steps}
 
 abbrev here : Placed → Left
 here p = left_of p.bytes (length p.bytes) p.place

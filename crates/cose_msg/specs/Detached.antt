@@ -67,29 +67,29 @@ abbrev pub IsAllThere : Task → List ℕ → Reading → Type 0
 IsAllThere task payload reading = (reading.settled ≡ false) × (length payload ≡ stated_of task.setting.source)
 
 -- What has come of the payload is all of it, unless its intake has ended.
-abbrev pub Brought : {H D : ℕ} {S : Type 0} {K : _} → Task → List ℕ → List ℕ → ℕ → Option Stop → Bool → Option (List ℕ) → Verifier H D S K → Type 0
-Brought {H} {D} task bytes payload came None ended beside_after v =
+abbrev pub ReadsOnWithPayload : {H D : ℕ} {S : Type 0} {K : _} → Task → List ℕ → List ℕ → ℕ → Option Stop → Bool → Option (List ℕ) → Verifier H D S K → Type 0
+ReadsOnWithPayload {H} {D} task bytes payload came None ended beside_after v =
     HasTaken task bytes payload v × PayloadEnds came ended beside_after (message (rules_of H D task) bytes)
     × ((message (rules_of H D task) bytes).payload_wanted ≡ 0 → IsAllThere task payload (message (rules_of H D task) bytes))
-Brought {H} {D} task bytes payload came (Some stop) ended beside_after v = WantsMore (message (rules_of H D task) bytes)
+ReadsOnWithPayload {H} {D} task bytes payload came (Some stop) ended beside_after v = WantsMore (message (rules_of H D task) bytes)
 
 -- A verifier that had taken these bytes of a message, and of its payload, before has taken bytes of the payload until none
 -- was wanted or their intake had ended, or until it or the sink failed.
-pub record Brings {H D : ℕ} {S : Type 0} {K : _} (task : Task) (before payload_before : List ℕ) (beside beside_after : Option (List ℕ)) (ended : Bool) (contents contents_after : Option (List ℕ)) (stop : Option Stop) (v : Verifier H D S K) : Type 0 where
+pub record TakesDetachedPayload {H D : ℕ} {S : Type 0} {K : _} (task : Task) (before payload_before : List ℕ) (beside beside_after : Option (List ℕ)) (ended : Bool) (contents contents_after : Option (List ℕ)) (stop : Option Stop) (v : Verifier H D S K) : Type 0 where
   pub came : List ℕ
   pub bytes : TakesUntilStop beside beside_after stop came
   pub within : length came ≤ stated_of task.setting.source - length payload_before
-  pub reads_on : Brought (given_to (payload_before ++ came) task) before (payload_before ++ came) (length came) stop ended beside_after v
+  pub reads_on : ReadsOnWithPayload (given_to (payload_before ++ came) task) before (payload_before ++ came) (length came) stop ended beside_after v
   pub counted : v.taken ≡ length before
   pub shows : ShowsReading (given_to (payload_before ++ came) task) before v
   pub payload : (message (rules_of H D (given_to (payload_before ++ came) task)) before).so_far.payload ≡ payload_before ++ came
   pub grows : Grows contents contents_after stop came
 
 -- Where both intakes were taken from, the message has its verdict next, unless one of them or the sink failed.
-abbrev pub BothStand : {H D : ℕ} {S : Type 0} {K : _} → Task → List ℕ → List ℕ → ℕ → ℕ → Option Stop → Bool → Option (List ℕ) → Bool → Option (List ℕ) → Verifier H D S K → Type 0
-BothStand {H} {D} task bytes payload taken came None ended come_after beside_ended beside_after v =
+abbrev pub ReadsOnWithBoth : {H D : ℕ} {S : Type 0} {K : _} → Task → List ℕ → List ℕ → ℕ → ℕ → Option Stop → Bool → Option (List ℕ) → Bool → Option (List ℕ) → Verifier H D S K → Type 0
+ReadsOnWithBoth {H} {D} task bytes payload taken came None ended come_after beside_ended beside_after v =
     HasTaken task bytes payload v × Ends taken ended come_after (message (rules_of H D task) bytes) × PayloadEnds came beside_ended beside_after (message (rules_of H D task) bytes)
-BothStand {H} {D} task bytes payload taken came (Some stop) ended come_after beside_ended beside_after v = WantsMore (message (rules_of H D task) bytes)
+ReadsOnWithBoth {H} {D} task bytes payload taken came (Some stop) ended come_after beside_ended beside_after v = WantsMore (message (rules_of H D task) bytes)
 
 -- A verifier that had taken these bytes of a message, and of its payload, before has taken bytes of both until none was wanted
 -- or an intake had ended, or until an intake or the sink failed.
@@ -99,7 +99,7 @@ pub record TakesDetached {H D : ℕ} {S : Type 0} {K : _} (task : Task) (before 
   pub bytes : TakesBoth come come_after beside beside_after stop taken came
   pub none_after_end : (n : ℕ) → n < length taken → (message (rules_of H D (given_to (payload_before ++ came) task)) (before ++ take n taken)).settled ≡ false
   pub within : length came ≤ stated_of task.setting.source - length payload_before
-  pub reads_on : BothStand (given_to (payload_before ++ came) task) (before ++ taken) (payload_before ++ came) (length taken) (length came) stop ended come_after beside_ended beside_after v
+  pub reads_on : ReadsOnWithBoth (given_to (payload_before ++ came) task) (before ++ taken) (payload_before ++ came) (length taken) (length came) stop ended come_after beside_ended beside_after v
   pub counted : v.taken ≡ length (before ++ taken)
   pub shows : ShowsReading (given_to (payload_before ++ came) task) (before ++ taken) v
   pub payload : (message (rules_of H D (given_to (payload_before ++ came) task)) (before ++ taken)).so_far.payload ≡ payload_before ++ came

@@ -64,8 +64,8 @@ answered_again (Err stop) = Err stops.Again
 
 -- The verifier, which was made for this task, has taken these bytes, with the payload so far among them, has counted them, and
 -- continues: it hasn't stopped, the end wasn't reported before they settled the message, and no signature was decided
--- on. A detached payload isn't among the bytes taken: the payload so far is what has come of it, as in the task; the verifier stands
--- for these bytes whatever comes of the payload then.
+-- on. A detached payload isn't among the bytes taken: the payload so far is what has come of it, as in the task, and the
+-- meaning of the reader is the same whatever comes of the payload then.
 pub record HasTaken {H D : ℕ} {S : Type 0} {K : _} (task : Task) (taken payload_so_far : List ℕ) (v : Verifier H D S K) : Type 0 where
   pub made_for : task_of v ≡ given_to [] task
   pub so_far : SoFar task taken payload_so_far v.reader

@@ -54,24 +54,24 @@ IsDefinite (complete whole) = ⊤
 IsDefinite (shaped kind payload auth taken) = ⊤
 
 -- A refusal's place is at most this one, and a message ends no later.
-abbrev pub StandsBy : ℕ → Answer → Type 0
-StandsBy end (decided (Refused refusal)) = refusal.place ≤ end
-StandsBy end (decided (Authentic kind alg payload taken)) = taken ≤ end
-StandsBy end (complete whole) = whole.taken ≤ end
-StandsBy end (shaped kind payload auth taken) = taken ≤ end
+abbrev pub PlacedBy : ℕ → Answer → Type 0
+PlacedBy end (decided (Refused refusal)) = refusal.place ≤ end
+PlacedBy end (decided (Authentic kind alg payload taken)) = taken ≤ end
+PlacedBy end (complete whole) = whole.taken ≤ end
+PlacedBy end (shaped kind payload auth taken) = taken ≤ end
 
 -- A refusal's place is before this one.
-abbrev pub StandsBefore : ℕ → Answer → Type 0
-StandsBefore end (decided (Refused refusal)) = refusal.place < end
-StandsBefore end (decided (Authentic kind alg payload taken)) = taken < end
-StandsBefore end (complete whole) = whole.taken < end
-StandsBefore end (shaped kind payload auth taken) = taken < end
+abbrev pub PlacedBefore : ℕ → Answer → Type 0
+PlacedBefore end (decided (Refused refusal)) = refusal.place < end
+PlacedBefore end (decided (Authentic kind alg payload taken)) = taken < end
+PlacedBefore end (complete whole) = whole.taken < end
+PlacedBefore end (shaped kind payload auth taken) = taken < end
 
 -- What the rules themselves answer is never Truncated, and its place is within the message.
 pub record AreFair (rules : Rules) : Type 0 where
   pub choice : (headers : Headers) → IfErr (rules.choice headers) (λ reason. reason ≢ Truncated)
   pub definite : (whole : Whole) → IsDefinite (rules.finish whole)
-  pub inside : (whole : Whole) → whole.auth_at ≤ whole.taken → StandsBy whole.taken (rules.finish whole)
+  pub inside : (whole : Whole) → whole.auth_at ≤ whole.taken → PlacedBy whole.taken (rules.finish whole)
 
 -- The rules of verifying and inspecting are such.
 pub record AllAreFair : Type 0 where
@@ -100,8 +100,8 @@ OpenIsTruncated = (rules : Rules) → AreFair rules → (bytes : List ℕ) →
     ((message rules bytes).settled ≡ false) ↔ ((message rules bytes).answer ≡ refused Truncated (length bytes))
 
 -- And no place of it is after the bytes.
-abbrev pub MessageStandsInside : Type 0
-MessageStandsInside = (rules : Rules) → AreFair rules → (bytes : List ℕ) → StandsBy (length bytes) (message rules bytes).answer
+abbrev pub MessageIsPlacedInside : Type 0
+MessageIsPlacedInside = (rules : Rules) → AreFair rules → (bytes : List ℕ) → PlacedBy (length bytes) (message rules bytes).answer
 
 -- The most bytes of a payload; and the most bytes of a tag or signature under the key that is chosen.
 abbrev pub payload_at_most : ℕ → ℕ

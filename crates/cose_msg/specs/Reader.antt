@@ -217,7 +217,7 @@ HoldsIn task known so_far n v (phases.Shaped p) = (p.taken ≡ n) × (task.inspe
 
 -- A reader for this task, which has taken n bytes, with this payload among them, means a reading of the bytes to come.
 -- (Once it has decided on a signature it means none.)
-pub record StandsFor {H D : ℕ} (task : Task) (payload : List ℕ) (n : ℕ) (v : Reader H D) (reading : List ℕ → Reading) : Type 0 where
+pub record ReaderMeans {H D : ℕ} (task : Task) (payload : List ℕ) (n : ℕ) (v : Reader H D) (reading : List ℕ → Reading) : Type 0 where
   pub known : Known
   pub so_far : Findings
   pub shows : Shows task so_far v
@@ -228,7 +228,7 @@ pub record StandsFor {H D : ℕ} (task : Task) (payload : List ℕ) (n : ℕ) (v
 
 -- The reader has taken these bytes, with this payload among them.
 abbrev pub SoFar : {H D : ℕ} → Task → List ℕ → List ℕ → Reader H D → Type 0
-SoFar {H} {D} task taken payload v = StandsFor task payload (length taken) v (λ more. message (rules_of H D task) (taken ++ more))
+SoFar {H} {D} task taken payload v = ReaderMeans task payload (length taken) v (λ more. message (rules_of H D task) (taken ++ more))
 
 -- The phase of a message of which nothing was taken: its first head, or, once its end was reported, that it is
 -- Truncated at 0.

@@ -10,7 +10,7 @@ use Rattle.cose_msg.specs.declared.verifier.Verifier.{Verifier}
 use Rattle.cose_msg.specs.Answer.{Answer, decided, complete, shaped}
 use Rattle.cose_msg.specs.Intake.{TakesInAll}
 use Rattle.cose_msg.specs.Kept.{HasTaken, bytes_taken}
-use Rattle.cose_msg.specs.Laws.{StandsBy}
+use Rattle.cose_msg.specs.Laws.{PlacedBy}
 use Rattle.cose_msg.specs.Message.{message}
 use Rattle.cose_msg.specs.Reading.{Reading}
 use Rattle.cose_msg.specs.Rules.{Rules}
@@ -81,7 +81,7 @@ pub record IsAnswer (count taken : ℕ) (said : Answer) (ended : Bool) (come_aft
   -- It is the answer for these bytes, and gives their number, where it gives one. A refusal's place is not after them.
   pub answer : reading.answer ≡ said
   pub counted : SaysCount said count
-  pub placed : StandsBy count reading.answer
+  pub placed : PlacedBy count reading.answer
   pub ends : Ends taken ended come_after reading
 
 -- Where there is no answer, the bytes taken haven't settled the message.
@@ -105,7 +105,7 @@ ReadsOn {H} {D} task bytes payload taken (Some stop) ended come_after v = (messa
 
 -- A verifier that had taken bytes before, with a payload among them, has taken others until none was wanted or the intake
 -- had ended, or until the intake or the sink failed.
-pub record Drive {H D : ℕ} {S : Type 0} {K : _} (task : Task) (before payload_before : List ℕ) (come come_after : Option (List ℕ)) (ended : Bool) (contents contents_after : Option (List ℕ)) (stop : Option Stop) (v : Verifier H D S K) : Type 0 where
+pub record TakesMessage {H D : ℕ} {S : Type 0} {K : _} (task : Task) (before payload_before : List ℕ) (come come_after : Option (List ℕ)) (ended : Bool) (contents contents_after : Option (List ℕ)) (stop : Option Stop) (v : Verifier H D S K) : Type 0 where
   pub taken : List ℕ
   pub part : List ℕ
   pub bytes : TakesUntilStop come come_after stop taken

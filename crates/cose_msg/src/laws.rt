@@ -5,7 +5,7 @@ ghost use Rattle.cose_msg.specs.Feed.{CutsDontMatter, PiecesJoin};
 ghost use Rattle.cose_msg.specs.GrammarLaws.{ArrayOfFourIsMessage, AuthenticIsMessage, MessageIsArrayOfFour, MessageIsRead, OneArrayOfFour};
 ghost use Rattle.cose_msg.specs.Maker.{MadeInParts};
 ghost use Rattle.cose_msg.specs.MakingLaws.{MadeIsAuthentic};
-ghost use Rattle.cose_msg.specs.Laws.{AllAreFair, AttachedAwaitsNothing, AttachedIsDefinite, ComparingGoesLast, FinishGoesLast, MessageEndsTruncated, MessageIsBounded, MessageIsDefinite, MessageIsInspectedWithin, MessageIsVerifiedWithin, MessageStandsInside, MessageStays, OpenEarlier, OpenIsTruncated, OpenStays, PayloadStays, VerdictStays, VerifyingGoesLast};
+ghost use Rattle.cose_msg.specs.Laws.{AllAreFair, AttachedAwaitsNothing, AttachedIsDefinite, ComparingGoesLast, FinishGoesLast, MessageEndsTruncated, MessageIsBounded, MessageIsDefinite, MessageIsInspectedWithin, MessageIsVerifiedWithin, MessageIsPlacedInside, MessageStays, OpenEarlier, OpenIsTruncated, OpenStays, PayloadStays, VerdictStays, VerifyingGoesLast};
 ghost use Rattle.cose_msg.specs.Shown.{SignaturesAreOfSign1};
 ghost use Rattle.cose_msg.specs.Unrefused.{OneMessage, ShapedIsMessage, UnrefusedIsMessage, WholeIsMessage};
 
@@ -44,7 +44,7 @@ pub fn nothing_stands_after_the_bytes()
     ensures fair { AllAreFair }
     ensures definite { MessageIsDefinite }
     ensures unsettled { OpenIsTruncated }
-    ensures inside { MessageStandsInside }
+    ensures inside { MessageIsPlacedInside }
 {
     bare_head_is_spelling();
     read_stays();

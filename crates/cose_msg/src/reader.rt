@@ -64,7 +64,7 @@ impl<'k, const H: usize, const D: usize> Reader<'k, H, D> {
     ghost use Rattle.std.specs.Prelude.{◌≡◌, ℕ, List, [], ◌∷◌, ◌++◌, ◌+◌, None, length, take, true, false};
     ghost use Rattle.cose_msg.specs.Message.{message};
     ghost use Rattle.cose_msg.specs.Phase.{grown, in_payload, is_settled, takes_bytes, want_of};
-    ghost use Rattle.cose_msg.specs.Reader.{IsUntouched, Shows, StandsFor, held_by, keys_in};
+    ghost use Rattle.cose_msg.specs.Reader.{IsUntouched, Shows, ReaderMeans, held_by, keys_in};
     ghost use Rattle.cose_msg.specs.Reading.{Reading, stop, Findings};
     ghost use Rattle.cose_msg.specs.Source.{IsStated};
     ghost use Rattle.cose_msg.specs.Shown.{shown_by, shown_in};
@@ -125,7 +125,7 @@ impl<'k, const H: usize, const D: usize> Reader<'k, H, D> {
         ensures { (task : Task) (payload : List ℕ) (n : ℕ) (so_far : Findings)
             → Shows task so_far self.old
             → so_far.payload ≡ payload
-            → StandsFor task payload n self.new (λ more. stop so_far reason place) }
+            → ReaderMeans task payload n self.new (λ more. stop so_far reason place) }
     {
         self.phase = Phase::Settled(Verdict::Refused(Refusal { reason, place }));
     }
@@ -158,8 +158,8 @@ impl<'k, const H: usize, const D: usize> Reader<'k, H, D> {
     fn take_byte(&mut self, byte: u8, stated: Option<u64>)
         requires { takes_bytes self.old.phase ≡ true }
         ensures { (task : Task) (payload : List ℕ) (n : ℕ) (reading : List ℕ → Reading)
-            → IsStated stated task.setting.source → StandsFor task payload n self.old reading
-            → StandsFor task payload (n + 1) self.new (λ more. reading (byte ∷ more)) }
+            → IsStated stated task.setting.source → ReaderMeans task payload n self.old reading
+            → ReaderMeans task payload (n + 1) self.new (λ more. reading (byte ∷ more)) }
     {
         match self.phase {
             Phase::FirstHead => self.first_head(byte),
@@ -188,8 +188,8 @@ impl<'k, const H: usize, const D: usize> Reader<'k, H, D> {
         ensures whole { length piece.now ≤ want_of self.old.phase → result ≡ length piece.now }
         ensures reads_on { (task : Task) (payload : List ℕ) (n : ℕ) (reading : List ℕ → Reading)
             → keys_in K.usable keys.entry ≡ keys_for task → IsStated stated task.setting.source
-            → StandsFor task payload n self.old reading
-            → StandsFor task (grown self.old.phase payload (take result piece.now)) (n + result)
+            → ReaderMeans task payload n self.old reading
+            → ReaderMeans task (grown self.old.phase payload (take result piece.now)) (n + result)
             self.new (λ more. reading (take result piece.now ++ more)) }
     {
         match self.phase {

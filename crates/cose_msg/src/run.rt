@@ -7,7 +7,7 @@ ghost use Rattle.cose_msg.specs.declared.verdict.Verdict.{Verdict};
 ghost use Rattle.cose_msg.specs.Answer.{decided};
 ghost use Rattle.cose_msg.specs.Kept.{answered_again, is_inspecting, is_stopped, kept_answer, kept_inspection, WhateverInspected, WhateverTaken, WhateverVerified, HasTaken, SamePurpose};
 ghost use Rattle.cose_msg.specs.Message.{inspecting, message, verdict_of, verifying, Setting};
-ghost use Rattle.cose_msg.specs.Run.{Drive, FailsIf, Run, inspection, stop_in, stops_for_intake, stops_for_sink, LeftAt};
+ghost use Rattle.cose_msg.specs.Run.{TakesMessage, FailsIf, Run, inspection, stop_in, stops_for_intake, stops_for_sink, LeftAt};
 ghost use Rattle.cose_msg.specs.Source.{is_detached_from};
 ghost use Rattle.cose_msg.specs.Task.{rules_of, to_inspect, to_verify};
 ghost use Rattle.cose_msg.specs.Verifier.{is_detached};
@@ -34,7 +34,7 @@ pub(crate) fn take_message<'k, const H: usize, const D: usize, K: Keys<'k>, I: I
     requires limit { length chunk.old ≤ 65536 }
     requires goes_on { is_stopped verifier.old ≡ false }
     ensures drive { WhateverTaken verifier.old (λ task before payload_before.
-        Drive task before payload_before (I.to_come intake.old) (I.to_come intake.new)
+        TakesMessage task before payload_before (I.to_come intake.old) (I.to_come intake.new)
         (I.ended intake.new) (S.contents sink.old) (S.contents sink.new)
         (stop_in result) verifier.new) }
     ensures stopped { is_stopped verifier.new ≡ is_err result }

@@ -108,7 +108,7 @@ nothing_from reads alone place = refl
 
 -- ---- what was printed so far
 
--- The messages of a front of the input were printed: this text, whose run would end so.
+-- The messages of a prefix of the input were printed: this text, whose run would end so.
 pub record SoFar (reads : Reads) (alone : List ℕ → Output) (bytes : List ℕ) (come old now : Option (List ℕ)) (place : ℕ) (status : Status) : Type 0 where
   pub first : List ℕ
   pub rest : List ℕ

@@ -132,7 +132,7 @@ abbrev pub PrintsEach : (List ℕ → Option (List ℕ)) → ArgMatches → (Lis
 PrintsEach content matches said = (input : List ℕ) → matches_print content matches input ≡ Some (said input)
 
 -- What a run has written that ends with status 2, by what clap found: a fault's line, or a part of what is printed for it. A
--- sequence may have lines before that of a fault: those of a front of the input.
+-- sequence may have lines before that of a fault: those of a prefix of the input.
 pub record FailsAsFound (content : List ℕ → Option (List ℕ)) (matches : ArgMatches) (bytes : List ℕ) (old new : Option (List ℕ)) : Type 0 where
   pub one : (said : Output) → matches_print content matches bytes ≡ Some said → subcommand_name_of matches ≢ Some (codes "make") → is_of_sequence matches ≡ false → Fails said old new
   pub sequence : (said : List ℕ → Output) → PrintsEach content matches said → subcommand_name_of matches ≢ Some (codes "make") → FailsInSequence said bytes old new

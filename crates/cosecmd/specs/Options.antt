@@ -49,7 +49,7 @@ bytes_or_none (Some text) = hex_bytes text
 abbrev pub bytes_in : Text → Options → Option (List ℕ)
 bytes_in name options = bytes_or_none (text_in name options)
 
--- The same of an option that is told apart from one without bytes where it is left out.
+-- The same of an option that, where it is left out, differs from one without bytes.
 abbrev pub bytes_where_given : Option Text → Option (Option (List ℕ))
 bytes_where_given None = Some None
 bytes_where_given (Some text) = option_map Some (hex_bytes text)

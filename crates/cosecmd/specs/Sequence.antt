@@ -119,7 +119,7 @@ abbrev pub admitted_each : TokenJob → List ℕ → Output
 admitted_each job bytes = admits_for_job admitted_sequence job bytes
 
 -- What a run over a sequence has written that ends with status Fault: the line of a fault, perhaps after all that is printed for
--- a front of the input; or a front of that, where the output fails.
+-- a prefix of the input; or a prefix of that, where the output fails.
 abbrev pub FailsAfter : (List ℕ → Output) → List ℕ → Option (List ℕ) → Option (List ℕ) → Type 0
 FailsAfter said bytes old new = (fault : Fault) × (first : List ℕ) × (rest : List ℕ) × (bytes ≡ first ++ rest)
     × AppendsFront old new ((said first).text ++ (fault_text fault ++ codes "\n"))

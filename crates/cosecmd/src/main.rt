@@ -1,6 +1,6 @@
 //! The program `cosecmd`: verifies COSE messages (RFC 9052) and CBOR Web Tokens (RFC 8392), and makes COSE_Mac0.
-//! HMAC is computed here; for ECDSA (ES256, ES384, ES512) the digest is computed, and `--vouch` decides; no curve
-//! arithmetic is included.
+//! HMAC is computed here; for ECDSA (ES256, ES384, ES512, ESP256, ESP384, ESP512) the digest is computed, and `--vouch`
+//! decides; no curve arithmetic is included.
 #![tactic(auto)]
 
 ghost use Rattle.std.specs.Prelude.{◌≡◌};

@@ -15,7 +15,7 @@ use std::{fs, io};
 /// The most bytes that are held before they are written.
 const ROOM: usize = 16_384;
 
-/// Where a new file stands.
+/// Under which of its names a new file is, if it is.
 #[derive(Clone, Copy, Debug, PartialEq, Eq)]
 pub enum Standing {
     /// Under its temporary name.
@@ -32,7 +32,7 @@ pub enum Standing {
 
 /// A file that wasn't there before. It is written under a temporary name, and has its own name only where it is kept.
 ///
-/// A contract sees where it stands.
+/// A contract sees under which of its names it is.
 pub trait NewFile: Write {
     ghost use Rattle.cosecmd.specs.declared.new_file.Standing.{Standing};
 

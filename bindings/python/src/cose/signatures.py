@@ -10,7 +10,7 @@ _NAMES = {1: "P-256", 2: "P-384", 3: "P-521"}
 
 
 def ecdsa() -> Ecdsa:
-    """What verifies ES256, ES384 and ES512: pass it as `ecdsa`.
+    """What verifies ES256, ES384, ES512, ESP256, ESP384 and ESP512: pass it as `ecdsa`.
 
     Raises `ModuleNotFoundError` where the package `cryptography` isn't installed.
     """

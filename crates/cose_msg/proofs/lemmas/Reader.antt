@@ -1,5 +1,5 @@
 pub mod ArgumentBounds
-pub mod Opened
-pub mod Standing
-pub mod Steps
-pub mod Waits
+pub mod Meanings
+pub mod PhaseSteps
+pub mod StructureHashes
+pub mod Unsettled

@@ -1,10 +1,10 @@
 pub mod Bounds
+pub mod DefiniteForms
+pub mod DefinitePhases
+pub mod FairRules
+pub mod FindingForms
 pub mod Forms
 pub mod HeadFaults
 pub mod LastAnswers
-pub mod Lawful
-pub mod OwnAnswers
 pub mod Settles
-pub mod Sound
-pub mod SoundForms
-pub mod FindingForms
+pub mod StablePhases

@@ -62,7 +62,7 @@ impl<'k, const H: usize, const D: usize> Reader<'k, H, D> {
     ghost use Rattle.cose_msg.specs.Phases.{auth_head, finish, headers_so_far, past_auth_head};
     ghost use Rattle.cose_msg.specs.Reading.{Reading};
     ghost use Rattle.cose_msg.specs.Task.{Task, rules_of};
-    ghost use Rattle.cose_msg.specs.Reader.{HoldsAuth, HoldsKey, IsFed, Known, Shows, StandsFor};
+    ghost use Rattle.cose_msg.specs.Reader.{HoldsAuth, HoldsKey, IsFed, Known, Shows, ReaderMeans};
 
     /// The algorithm that the key is used with, if one was chosen.
     fn alg(&self) -> Option<Alg>
@@ -84,7 +84,7 @@ impl<'k, const H: usize, const D: usize> Reader<'k, H, D> {
             → Shows task (headers_so_far known.headers known.payload) self.old
             → HoldsKey task known self.old kind → length known.payload ≡ payload
             → IsFed self.old.hashing task.setting.aad known
-            → StandsFor task known.payload at self.new (λ more. auth_head (rules_of H D task)
+            → ReaderMeans task known.payload at self.new (λ more. auth_head (rules_of H D task)
             known.headers known.chosen known.payload at more) }
     {
         self.head.clear();
@@ -95,8 +95,8 @@ impl<'k, const H: usize, const D: usize> Reader<'k, H, D> {
     pub(crate) fn auth_head(&mut self, auth_head: AuthHead, byte: u8)
         requires phase { self.old.phase ≡ Phase.AuthHead auth_head }
         ensures reads_on { (task : Task) (payload : List ℕ) (n : ℕ) (reading : List ℕ → Reading)
-            → StandsFor task payload n self.old reading
-            → StandsFor task payload (n + 1) self.new (λ more. reading (byte ∷ more)) }
+            → ReaderMeans task payload n self.old reading
+            → ReaderMeans task payload (n + 1) self.new (λ more. reading (byte ∷ more)) }
     {
         let at = auth_head.at;
         match take_bare_head_byte(&mut self.head, byte) {
@@ -113,7 +113,7 @@ impl<'k, const H: usize, const D: usize> Reader<'k, H, D> {
             → Shows task (headers_so_far known.headers known.payload) self.old
             → HoldsKey task known self.old auth_head.kind → length known.payload ≡ auth_head.payload
             → IsFed self.old.hashing task.setting.aad known
-            → StandsFor task known.payload at self.new
+            → ReaderMeans task known.payload at self.new
             (λ more. past_auth_head (rules_of H D task) known.headers known.chosen known.payload
             auth_head.at head at more) }
     {
@@ -149,8 +149,8 @@ impl<'k, const H: usize, const D: usize> Reader<'k, H, D> {
         requires phase { self.old.phase ≡ Phase.Auth auth }
         requires fits { length piece.now ≤ auth.left }
         ensures reads_on { (task : Task) (payload : List ℕ) (n : ℕ) (reading : List ℕ → Reading)
-            → StandsFor task payload n self.old reading
-            → StandsFor task payload (n + length piece.now) self.new (λ more. reading (piece.now ++
+            → ReaderMeans task payload n self.old reading
+            → ReaderMeans task payload (n + length piece.now) self.new (λ more. reading (piece.now ++
             more)) }
     {
         let has_key = self.chosen.is_some();
@@ -183,7 +183,7 @@ impl<'k, const H: usize, const D: usize> Reader<'k, H, D> {
             → HoldsKey task known self.old whole.kind → length known.payload ≡ whole.payload
             → length known.auth ≡ whole.auth → IsFed self.old.hashing task.setting.aad known
             → HoldsAuth known.chosen self.old.auth.items known.auth
-            → StandsFor task known.payload whole.taken self.new (λ more. finish (rules_of H D task)
+            → ReaderMeans task known.payload whole.taken self.new (λ more. finish (rules_of H D task)
             known.headers known.chosen known.payload whole.head_at at known.auth whole.taken more) }
     {
         match self.alg() {
@@ -206,7 +206,7 @@ impl<'k, const H: usize, const D: usize> Reader<'k, H, D> {
             → HoldsKey task known self.old whole.kind → known.chosen ≡ Some found → found.alg ≡ alg
             → length known.payload ≡ whole.payload → IsFed self.old.hashing task.setting.aad known
             → self.old.auth.items ≡ known.auth
-            → StandsFor task known.payload whole.taken self.new (λ more. finish (rules_of H D task)
+            → ReaderMeans task known.payload whole.taken self.new (λ more. finish (rules_of H D task)
             known.headers known.chosen known.payload whole.head_at at known.auth whole.taken more) }
     {
         self.hashing.finish();

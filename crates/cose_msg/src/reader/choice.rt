@@ -100,7 +100,7 @@ impl<'k, const H: usize, const D: usize> Reader<'k, H, D> {
     ghost use Rattle.cose_msg.specs.Hashing.{HashesFor};
     ghost use Rattle.cose_msg.specs.Phases.{both_buckets, headers_so_far, placed_at};
     ghost use Rattle.cose_msg.specs.Reading.{Reading};
-    ghost use Rattle.cose_msg.specs.Reader.{Shows, StandsFor, task_in};
+    ghost use Rattle.cose_msg.specs.Reader.{Shows, ReaderMeans, task_in};
     ghost use Rattle.cose_msg.specs.Task.{Task, keys_for, rules_of};
 
     /// The result of both buckets, whose contents are at these places and were found good.
@@ -160,7 +160,7 @@ impl<'k, const H: usize, const D: usize> Reader<'k, H, D> {
             self.old
             → bucket_of D (placed_at protected_at self.old.protected.items) ≡ Ok pairs
             → bucket_of D (placed_at at self.old.unprotected.items) ≡ Ok others
-            → StandsFor task [] (at + length self.old.unprotected.items) self.new
+            → ReaderMeans task [] (at + length self.old.unprotected.items) self.new
             (λ more. both_buckets (rules_of H D task)
             (headers_of kind self.old.protected.items pairs others)
             (at + length self.old.unprotected.items) more) }

@@ -17,7 +17,7 @@ impl<'k, const H: usize, const D: usize> Reader<'k, H, D> {
     ghost use Rattle.cose_msg.specs.Laws.{then_verified};
     ghost use Rattle.cose_msg.specs.Message.{Setting};
     ghost use Rattle.cose_msg.specs.Phase.{awaits_decision, ends_at, in_payload, is_settled, payload_want_of, want_of};
-    ghost use Rattle.cose_msg.specs.Reader.{Counts, IsUntouched, StandsFor, held_by, opened_by};
+    ghost use Rattle.cose_msg.specs.Reader.{Counts, IsUntouched, ReaderMeans, held_by, opened_by};
     ghost use Rattle.cose_msg.specs.Reading.{Reading};
     ghost use Rattle.cose_msg.specs.Run.{SaysCount, inspection};
     ghost use Rattle.cose_msg.specs.Shown.{shown_by, shown_in, sign_input_by};
@@ -55,47 +55,47 @@ impl<'k, const H: usize, const D: usize> Reader<'k, H, D> {
     pub(crate) fn lemma_reading_so_far(&self)
         ensures open { (task : Task) (payload : List ℕ) (n : ℕ) (reading : List ℕ → Reading)
             (more : List ℕ)
-            → StandsFor task payload n self.now reading
+            → ReaderMeans task payload n self.now reading
             → length more < want_of self.now.phase → (reading more).settled ≡ false }
         ensures settled { (task : Task) (payload : List ℕ) (n : ℕ) (reading : List ℕ → Reading)
-            → StandsFor task payload n self.now reading → given_to payload task ≡ task
+            → ReaderMeans task payload n self.now reading → given_to payload task ≡ task
             → (reading []).settled ≡ is_settled self.now.phase }
         ensures wanted { (task : Task) (payload : List ℕ) (n : ℕ) (reading : List ℕ → Reading)
-            → StandsFor task payload n self.now reading → given_to payload task ≡ task
+            → ReaderMeans task payload n self.now reading → given_to payload task ≡ task
             → (reading []).wanted ≡ want_of self.now.phase }
         ensures payload { (task : Task) (payload : List ℕ) (n : ℕ) (reading : List ℕ → Reading)
-            → StandsFor task payload n self.now reading → given_to payload task ≡ task
+            → ReaderMeans task payload n self.now reading → given_to payload task ≡ task
             → (reading []).so_far.payload ≡ payload }
         ensures ended { (task : Task) (payload : List ℕ) (n : ℕ) (reading : List ℕ → Reading)
-            → StandsFor task payload n self.now reading → given_to payload task ≡ task
+            → ReaderMeans task payload n self.now reading → given_to payload task ≡ task
             → is_open (status_of_phase self.now.phase) ≡ true
             → (reading []).answer ≡ refused Reason.Truncated (ends_at self.now.phase n) }
         // What it shows so far is what the reading of these bytes shows.
         ensures shows { (task : Task) (payload : List ℕ) (n : ℕ) (reading : List ℕ → Reading)
-            → StandsFor task payload n self.now reading → given_to payload task ≡ task
+            → ReaderMeans task payload n self.now reading → given_to payload task ≡ task
             → shown_by self.now ≡ shown_in task.setting (reading []) }
         ensures payload_wanted { (task : Task) (payload : List ℕ) (n : ℕ)
-            (reading : List ℕ → Reading) → StandsFor task payload n self.now reading
+            (reading : List ℕ → Reading) → ReaderMeans task payload n self.now reading
             → given_to payload task ≡ task
             → (reading []).payload_wanted ≡ payload_want_of self.now.phase }
         // So the status is that of these bytes.
         ensures status { (task : Task) (payload : List ℕ) (n : ℕ) (reading : List ℕ → Reading)
-            → StandsFor task payload n self.now reading → given_to payload task ≡ task
+            → ReaderMeans task payload n self.now reading → given_to payload task ≡ task
             → status_of_phase self.now.phase ≡ status_of_reading (reading []) }
         // In the payload the next bytes are the payload's, as many as are left of it; after it none are.
         ensures grows { (task : Task) (payload : List ℕ) (n : ℕ) (reading : List ℕ → Reading)
             (more : List ℕ)
-            → StandsFor task payload n self.now reading
+            → ReaderMeans task payload n self.now reading
             → in_payload self.now.phase ≡ true
             → (reading more).so_far.payload ≡ payload ++ take (want_of self.now.phase) more }
         ensures fixed { (task : Task) (payload : List ℕ) (n : ℕ) (reading : List ℕ → Reading) (more
-            : List ℕ) → StandsFor task payload n self.now reading → given_to payload task ≡ task
+            : List ℕ) → ReaderMeans task payload n self.now reading → given_to payload task ≡ task
             → in_payload self.now.phase ≡ false → 0 < length payload
             → (reading more).so_far.payload ≡ payload }
         // The last byte of a payload doesn't settle it either: a tag or signature follows.
         ensures open_payload { (task : Task) (payload : List ℕ) (n : ℕ) (reading : List ℕ → Reading)
             (more : List ℕ)
-            → StandsFor task payload n self.now reading
+            → ReaderMeans task payload n self.now reading
             → in_payload self.now.phase ≡ true → length more ≤ want_of self.now.phase
             → (reading more).settled ≡ false }
     {
@@ -148,7 +148,7 @@ impl<'k, const H: usize, const D: usize> Reader<'k, H, D> {
     fn signed_verdict<E: EcVerifier>(&self, signed: Signed, ec: &E) -> Verdict
         requires phase { self.now.phase ≡ Phase.Signed signed }
         ensures answer { (task : Task) (payload : List ℕ) (n : ℕ) (reading : List ℕ → Reading)
-            → StandsFor task payload n self.now reading
+            → ReaderMeans task payload n self.now reading
             → then_verified task.setting.aad (E.decides ec.now) (reading []).answer
             ≡ decided result }
         ensures counted { Counts result signed.taken }
@@ -178,15 +178,15 @@ impl<'k, const H: usize, const D: usize> Reader<'k, H, D> {
         ensures complete { awaits_decision self.old.phase ≡ true
             → status_of_phase self.new.phase ≡ Status.Complete }
         ensures answer { (setting : Setting) (payload : List ℕ) (reading : List ℕ → Reading)
-            → StandsFor (to_verify setting) payload taken self.old reading
+            → ReaderMeans (to_verify setting) payload taken self.old reading
             → given_to payload (to_verify setting) ≡ to_verify setting
             → then_verified setting.aad (E.decides ec.now) (reading []).answer ≡ decided result }
         ensures counted { (setting : Setting) (payload : List ℕ) (reading : List ℕ → Reading)
-            → StandsFor (to_verify setting) payload taken self.old reading
+            → ReaderMeans (to_verify setting) payload taken self.old reading
             → given_to payload (to_verify setting) ≡ to_verify setting
             → Counts result taken }
         ensures status { (setting : Setting) (payload : List ℕ) (reading : List ℕ → Reading)
-            → StandsFor (to_verify setting) payload taken self.old reading
+            → ReaderMeans (to_verify setting) payload taken self.old reading
             → given_to payload (to_verify setting) ≡ to_verify setting
             → status_of_phase self.new.phase ≡ status_of_answer (reading []).answer }
         // Where no byte was taken, the only change is that the message is Truncated at 0.
@@ -215,21 +215,21 @@ impl<'k, const H: usize, const D: usize> Reader<'k, H, D> {
         ensures kept { inspected_in self.new.phase ≡ Some result }
         ensures terms { self.new.terms ≡ self.old.terms }
         ensures shown { (setting : Setting) (payload : List ℕ) (reading : List ℕ → Reading)
-            → StandsFor (to_inspect setting) payload taken self.old reading
+            → ReaderMeans (to_inspect setting) payload taken self.old reading
             → given_to payload (to_inspect setting) ≡ to_inspect setting
             → shown_by self.new ≡ shown_by self.old }
         ensures held { held_by self.new ≡ held_by self.old }
         ensures opened { opened_by self.new ≡ opened_by self.old }
         ensures answer { (setting : Setting) (payload : List ℕ) (reading : List ℕ → Reading)
-            → StandsFor (to_inspect setting) payload taken self.old reading
+            → ReaderMeans (to_inspect setting) payload taken self.old reading
             → given_to payload (to_inspect setting) ≡ to_inspect setting
             → (reading []).answer ≡ inspection result }
         ensures counted { (setting : Setting) (payload : List ℕ) (reading : List ℕ → Reading)
-            → StandsFor (to_inspect setting) payload taken self.old reading
+            → ReaderMeans (to_inspect setting) payload taken self.old reading
             → given_to payload (to_inspect setting) ≡ to_inspect setting
             → SaysCount (inspection result) taken }
         ensures status { (setting : Setting) (payload : List ℕ) (reading : List ℕ → Reading)
-            → StandsFor (to_inspect setting) payload taken self.old reading
+            → ReaderMeans (to_inspect setting) payload taken self.old reading
             → given_to payload (to_inspect setting) ≡ to_inspect setting
             → status_of_phase self.new.phase ≡ status_of_answer (reading []).answer }
         ensures untouched { taken ≡ 0 → IsUntouched self.old → IsUntouched self.new }

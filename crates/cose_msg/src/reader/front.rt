@@ -85,14 +85,14 @@ impl<'k, const H: usize, const D: usize> Reader<'k, H, D> {
     ghost use Rattle.cose_msg.specs.Phases.{nothing_so_far};
     ghost use Rattle.cose_msg.specs.Reading.{Reading};
     ghost use Rattle.cose_msg.specs.Task.{Task, rules_of};
-    ghost use Rattle.cose_msg.specs.Reader.{Shows, StandsFor};
+    ghost use Rattle.cose_msg.specs.Reader.{Shows, ReaderMeans};
 
     /// Takes the next byte of the first head.
     pub(crate) fn first_head(&mut self, byte: u8)
         requires phase { self.old.phase ≡ Phase.FirstHead }
         ensures reads_on { (task : Task) (payload : List ℕ) (n : ℕ) (reading : List ℕ → Reading)
-            → StandsFor task payload n self.old reading
-            → StandsFor task payload (n + 1) self.new (λ more. reading (byte ∷ more)) }
+            → ReaderMeans task payload n self.old reading
+            → ReaderMeans task payload (n + 1) self.new (λ more. reading (byte ∷ more)) }
     {
         match take_bare_head_byte(&mut self.head, byte) {
             HeadStep::More(_) => {}
@@ -105,7 +105,7 @@ impl<'k, const H: usize, const D: usize> Reader<'k, H, D> {
     fn past_first_head(&mut self, head: Head, at: u64)
         requires early { at ≤ 9 }
         ensures reads_on { (task : Task) → Shows task nothing_so_far self.old
-            → StandsFor task [] at self.new
+            → ReaderMeans task [] at self.new
             (λ more. past_first_head (rules_of H D task) 0 head at more) }
     {
         let wanted = self.terms.wanted;
@@ -124,7 +124,7 @@ impl<'k, const H: usize, const D: usize> Reader<'k, H, D> {
     fn past_untagged(&mut self, wanted: Wanted, head: Head, at: u64)
         requires early { at ≤ 9 }
         ensures reads_on { (task : Task) → Shows task nothing_so_far self.old
-            → StandsFor task [] at self.new
+            → ReaderMeans task [] at self.new
             (λ more. past_untagged (rules_of H D task) wanted 0 head at more) }
     {
         match wanted {
@@ -138,7 +138,7 @@ impl<'k, const H: usize, const D: usize> Reader<'k, H, D> {
     fn begin_tag_head(&mut self, at: u64)
         requires early { at ≤ 9 }
         ensures reads_on { (task : Task) → Shows task nothing_so_far self.old
-            → StandsFor task [] at self.new (λ more. second_head (rules_of H D task) at more) }
+            → ReaderMeans task [] at self.new (λ more. second_head (rules_of H D task) at more) }
     {
         self.head.clear();
         self.phase = Phase::TagHead(TagHead { at });
@@ -148,8 +148,8 @@ impl<'k, const H: usize, const D: usize> Reader<'k, H, D> {
     pub(crate) fn tag_head(&mut self, tag_head: TagHead, byte: u8)
         requires phase { self.old.phase ≡ Phase.TagHead tag_head }
         ensures reads_on { (task : Task) (payload : List ℕ) (n : ℕ) (reading : List ℕ → Reading)
-            → StandsFor task payload n self.old reading
-            → StandsFor task payload (n + 1) self.new (λ more. reading (byte ∷ more)) }
+            → ReaderMeans task payload n self.old reading
+            → ReaderMeans task payload (n + 1) self.new (λ more. reading (byte ∷ more)) }
     {
         let at = tag_head.at;
         match take_bare_head_byte(&mut self.head, byte) {
@@ -166,7 +166,7 @@ impl<'k, const H: usize, const D: usize> Reader<'k, H, D> {
     fn past_tag(&mut self, kind: Result<Kind, Reason>, tag_at: u64, at: u64)
         requires early { at ≤ 18 }
         ensures reads_on { (task : Task) → Shows task nothing_so_far self.old
-            → StandsFor task [] at self.new
+            → ReaderMeans task [] at self.new
             (λ more. past_tag (rules_of H D task) tag_at kind at more) }
     {
         match kind {
@@ -179,7 +179,7 @@ impl<'k, const H: usize, const D: usize> Reader<'k, H, D> {
     fn begin_array_head(&mut self, kind: Kind, at: u64)
         requires early { at ≤ 18 }
         ensures reads_on { (task : Task) → Shows task nothing_so_far self.old
-            → StandsFor task [] at self.new (λ more. array_head (rules_of H D task) kind at more) }
+            → ReaderMeans task [] at self.new (λ more. array_head (rules_of H D task) kind at more) }
     {
         self.head.clear();
         self.phase = Phase::ArrayHead(ArrayHead { kind, at });
@@ -189,8 +189,8 @@ impl<'k, const H: usize, const D: usize> Reader<'k, H, D> {
     pub(crate) fn array_head(&mut self, array_head: ArrayHead, byte: u8)
         requires phase { self.old.phase ≡ Phase.ArrayHead array_head }
         ensures reads_on { (task : Task) (payload : List ℕ) (n : ℕ) (reading : List ℕ → Reading)
-            → StandsFor task payload n self.old reading
-            → StandsFor task payload (n + 1) self.new (λ more. reading (byte ∷ more)) }
+            → ReaderMeans task payload n self.old reading
+            → ReaderMeans task payload (n + 1) self.new (λ more. reading (byte ∷ more)) }
     {
         let ArrayHead { kind, at } = array_head;
         match take_bare_head_byte(&mut self.head, byte) {
@@ -204,7 +204,7 @@ impl<'k, const H: usize, const D: usize> Reader<'k, H, D> {
     fn past_array_head(&mut self, kind: Kind, head: Head, head_at: u64, at: u64)
         requires early { at ≤ 27 }
         ensures reads_on { (task : Task) → Shows task nothing_so_far self.old
-            → StandsFor task [] at self.new
+            → ReaderMeans task [] at self.new
             (λ more. past_array_head (rules_of H D task) kind head_at head at more) }
     {
         match fault_of_array(&head) {

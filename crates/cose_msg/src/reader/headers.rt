@@ -51,13 +51,13 @@ impl<'k, const H: usize, const D: usize> Reader<'k, H, D> {
     ghost use Rattle.cose_msg.specs.Phases.{nothing_so_far, past_protected, past_protected_head, past_unprotected, placed_at, protected_head, protected_fault_within, protected_so_far, unprotected};
     ghost use Rattle.cose_msg.specs.Reading.{Reading};
     ghost use Rattle.cose_msg.specs.Task.{Task, keys_for, rules_of};
-    ghost use Rattle.cose_msg.specs.Reader.{Shows, StandsFor, keys_in};
+    ghost use Rattle.cose_msg.specs.Reader.{Shows, ReaderMeans, keys_in};
 
     /// The head of the protected bucket begins here.
     pub(crate) fn begin_protected_head(&mut self, kind: Kind, at: u64)
         requires early { at ≤ 27 }
         ensures reads_on { (task : Task) → Shows task nothing_so_far self.old
-            → StandsFor task [] at self.new
+            → ReaderMeans task [] at self.new
             (λ more. protected_head (rules_of H D task) kind at more) }
     {
         self.head.clear();
@@ -68,8 +68,8 @@ impl<'k, const H: usize, const D: usize> Reader<'k, H, D> {
     pub(crate) fn protected_head(&mut self, protected_head: ProtectedHead, byte: u8)
         requires phase { self.old.phase ≡ Phase.ProtectedHead protected_head }
         ensures reads_on { (task : Task) (payload : List ℕ) (n : ℕ) (reading : List ℕ → Reading)
-            → StandsFor task payload n self.old reading
-            → StandsFor task payload (n + 1) self.new (λ more. reading (byte ∷ more)) }
+            → ReaderMeans task payload n self.old reading
+            → ReaderMeans task payload (n + 1) self.new (λ more. reading (byte ∷ more)) }
     {
         let ProtectedHead { kind, at } = protected_head;
         match take_bare_head_byte(&mut self.head, byte) {
@@ -96,7 +96,7 @@ impl<'k, const H: usize, const D: usize> Reader<'k, H, D> {
     fn past_protected_head(&mut self, kind: Kind, head: Head, head_at: u64, at: u64)
         requires early { at ≤ 36 }
         ensures reads_on { (task : Task) → Shows task nothing_so_far self.old
-            → StandsFor task [] at self.new
+            → ReaderMeans task [] at self.new
             (λ more. past_protected_head (rules_of H D task) kind head_at head at more) }
     {
         match Self::fault_of_protected(&head) {
@@ -123,8 +123,8 @@ impl<'k, const H: usize, const D: usize> Reader<'k, H, D> {
         requires phase { self.old.phase ≡ Phase.Protected protected }
         requires fits { length piece.now ≤ protected.left }
         ensures reads_on { (task : Task) (payload : List ℕ) (n : ℕ) (reading : List ℕ → Reading)
-            → StandsFor task payload n self.old reading
-            → StandsFor task payload (n + length piece.now) self.new (λ more. reading (piece.now ++
+            → ReaderMeans task payload n self.old reading
+            → ReaderMeans task payload (n + length piece.now) self.new (λ more. reading (piece.now ++
             more)) }
     {
         append(&mut self.protected, piece);
@@ -145,7 +145,7 @@ impl<'k, const H: usize, const D: usize> Reader<'k, H, D> {
     fn past_protected(&mut self, kind: Kind, at: u64)
         requires early { at ≤ 36 }
         ensures reads_on { (task : Task) → Shows task nothing_so_far self.old
-            → StandsFor task [] (at + length self.old.protected.items) self.new
+            → ReaderMeans task [] (at + length self.old.protected.items) self.new
             (λ more. past_protected (rules_of H D task) kind at self.old.protected.items
             (at + length self.old.protected.items) more) }
     {
@@ -162,7 +162,7 @@ impl<'k, const H: usize, const D: usize> Reader<'k, H, D> {
         requires early { at < 2 ^ 17 }
         ensures reads_on { (task : Task) (pairs : List Pair) → Shows task nothing_so_far self.old
             → bucket_of D (placed_at protected_at self.old.protected.items) ≡ Ok pairs
-            → StandsFor task [] at self.new
+            → ReaderMeans task [] at self.new
             (λ more. unprotected (rules_of H D task) kind self.old.protected.items pairs at more) }
     {
         // The law of walkers that the proof cites.
@@ -192,7 +192,7 @@ impl<'k, const H: usize, const D: usize> Reader<'k, H, D> {
             → keys_in K.usable keys.entry ≡ keys_for task
             → Shows task (protected_so_far pairs) self.old
             → bucket_of D (placed_at protected_at self.old.protected.items) ≡ Ok pairs
-            → StandsFor task [] (at + length self.old.unprotected.items) self.new
+            → ReaderMeans task [] (at + length self.old.unprotected.items) self.new
             (λ more. past_unprotected (rules_of H D task) kind self.old.protected.items pairs at
             self.old.unprotected.items (at + length self.old.unprotected.items) more) }
     {
@@ -218,8 +218,8 @@ impl<'k, const H: usize, const D: usize> Reader<'k, H, D> {
         requires fits { length piece.now ≤ unprotected.wanted }
         ensures reads_on { (task : Task) (payload : List ℕ) (n : ℕ) (reading : List ℕ → Reading)
             → keys_in K.usable keys.entry ≡ keys_for task
-            → StandsFor task payload n self.old reading
-            → StandsFor task payload (n + length piece.now) self.new (λ more. reading (piece.now ++
+            → ReaderMeans task payload n self.old reading
+            → ReaderMeans task payload (n + length piece.now) self.new (λ more. reading (piece.now ++
             more)) }
     {
         // Laws of reading and of walkers that the proof cites.

@@ -64,7 +64,7 @@ impl<'k, const H: usize, const D: usize> Reader<'k, H, D> {
     ghost use Rattle.cose_msg.specs.Phases.{detached_payload, headers_so_far, past_payload_head, payload, payload_head};
     ghost use Rattle.cose_msg.specs.Reading.{Reading};
     ghost use Rattle.cose_msg.specs.Task.{Task, rules_of};
-    ghost use Rattle.cose_msg.specs.Reader.{HoldsKey, IsAtPayload, Known, Shows, StandsFor, held_by, opened_by};
+    ghost use Rattle.cose_msg.specs.Reader.{HoldsKey, IsAtPayload, Known, Shows, ReaderMeans, held_by, opened_by};
     ghost use Rattle.cose_msg.specs.declared.status.Status.{Status};
     ghost use Rattle.cose_msg.specs.Phase.{in_payload, payload_want_of, want_of};
     ghost use Rattle.cose_msg.specs.Status.{is_open, status_of_phase};
@@ -78,7 +78,7 @@ impl<'k, const H: usize, const D: usize> Reader<'k, H, D> {
             → HoldsKey task known self.old kind → known.headers.protected ≡ self.old.protected.items
             → is_bare ≡ (length known.headers.protected_pairs == 0)
             → HashesFor self.old.hashing known.chosen []
-            → StandsFor task [] at self.new
+            → ReaderMeans task [] at self.new
             (λ more. payload_head (rules_of H D task) known.headers known.chosen at more) }
     {
         self.head.clear();
@@ -89,8 +89,8 @@ impl<'k, const H: usize, const D: usize> Reader<'k, H, D> {
     pub(crate) fn payload_head(&mut self, payload_head: PayloadHead, byte: u8, stated: Option<u64>)
         requires phase { self.old.phase ≡ Phase.PayloadHead payload_head }
         ensures reads_on { (task : Task) (payload : List ℕ) (n : ℕ) (reading : List ℕ → Reading)
-            → IsStated stated task.setting.source → StandsFor task payload n self.old reading
-            → StandsFor task payload (n + 1) self.new (λ more. reading (byte ∷ more)) }
+            → IsStated stated task.setting.source → ReaderMeans task payload n self.old reading
+            → ReaderMeans task payload (n + 1) self.new (λ more. reading (byte ∷ more)) }
     {
         let at = payload_head.at;
         match take_bare_head_byte(&mut self.head, byte) {
@@ -120,7 +120,7 @@ impl<'k, const H: usize, const D: usize> Reader<'k, H, D> {
             → known.headers.protected ≡ self.old.protected.items
             → payload_head.is_bare ≡ (length known.headers.protected_pairs == 0)
             → HashesFor self.old.hashing known.chosen []
-            → StandsFor task [] at self.new (λ more. past_payload_head (rules_of H D task)
+            → ReaderMeans task [] at self.new (λ more. past_payload_head (rules_of H D task)
             known.headers known.chosen payload_head.at head at more) }
     {
         let limit = self.terms.payload_limit;
@@ -165,7 +165,7 @@ impl<'k, const H: usize, const D: usize> Reader<'k, H, D> {
         ensures reads_on { (task : Task) (known : Known)
             → IsAtPayload task known self.old kind length
             → task.setting.source ≡ attached
-            → StandsFor task [] at self.new
+            → ReaderMeans task [] at self.new
             (λ more. payload (rules_of H D task) known.headers known.chosen length at more) }
     {
         if length == 0 {
@@ -187,7 +187,7 @@ impl<'k, const H: usize, const D: usize> Reader<'k, H, D> {
         ensures reads_on { (task : Task) (known : Known) (came : List ℕ)
             → IsAtPayload task known self.old kind stated
             → task.setting.source ≡ detached came stated
-            → StandsFor task [] at self.new (λ more. detached_payload (rules_of H D task)
+            → ReaderMeans task [] at self.new (λ more. detached_payload (rules_of H D task)
             known.headers known.chosen came stated nil at more) }
     {
         if stated == 0 {
@@ -209,8 +209,8 @@ impl<'k, const H: usize, const D: usize> Reader<'k, H, D> {
         requires phase { self.old.phase ≡ Phase.Payload payload }
         requires fits { length piece.now ≤ payload.left }
         ensures reads_on { (task : Task) (payload : List ℕ) (n : ℕ) (reading : List ℕ → Reading)
-            → StandsFor task payload n self.old reading
-            → StandsFor task (payload ++ piece.now) (n + length piece.now) self.new
+            → ReaderMeans task payload n self.old reading
+            → ReaderMeans task (payload ++ piece.now) (n + length piece.now) self.new
             (λ more. reading (piece.now ++ more)) }
     {
         self.hashing.update(piece);
@@ -234,8 +234,8 @@ impl<'k, const H: usize, const D: usize> Reader<'k, H, D> {
         requires fewer { length bytes.now < want_of self.old.phase }
         ensures inside { in_payload self.new.phase ≡ true }
         ensures reads_on { (task : Task) (payload : List ℕ) (n : ℕ) (reading : List ℕ → Reading)
-            → StandsFor task payload n self.old reading
-            → StandsFor task (payload ++ bytes.now) (n + length bytes.now) self.new
+            → ReaderMeans task payload n self.old reading
+            → ReaderMeans task (payload ++ bytes.now) (n + length bytes.now) self.new
             (λ more. reading (bytes.now ++ more)) }
     {
         match &mut self.phase {
@@ -260,8 +260,8 @@ impl<'k, const H: usize, const D: usize> Reader<'k, H, D> {
         ensures reads_on { (task : Task) (payload more : List ℕ) (n : ℕ)
             (reading : List ℕ → Reading)
             → came_of task.setting.source ≡ (payload ++ part.now) ++ more
-            → StandsFor task payload n self.old reading
-            → StandsFor task (payload ++ part.now) n self.new reading }
+            → ReaderMeans task payload n self.old reading
+            → ReaderMeans task (payload ++ part.now) n self.new reading }
     {
         self.hashing.update(part);
         let left = detached.left - part.len() as u64;

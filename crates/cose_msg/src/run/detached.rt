@@ -4,7 +4,7 @@ ghost use Rattle.std.specs.Prelude.{◌≡◌, ◌≢◌, ◌↔◌, ◌<◌, �
 ghost use Rattle.cose_msg.specs.declared.verdict.Stop.{Stop};
 ghost use Rattle.cose_msg.specs.declared.verdict.Verdict.{Verdict};
 ghost use Rattle.cose_msg.specs.Answer.{decided};
-ghost use Rattle.cose_msg.specs.Detached.{Brings, DetachedRun, EitherFails, TakesDetached};
+ghost use Rattle.cose_msg.specs.Detached.{TakesDetachedPayload, DetachedRun, EitherFails, TakesDetached};
 ghost use Rattle.cose_msg.specs.Kept.{answered_again, is_stopped, kept_answer, WhateverTaken, WhateverVerified, HasTaken, SamePurpose};
 ghost use Rattle.cose_msg.specs.Message.{given, message as reading, verdict_of, verifying, Setting};
 ghost use Rattle.cose_msg.specs.Run.{FailsIf, stop_in, stops_for_intake, stops_for_sink, LeftAt};
@@ -34,7 +34,7 @@ fn take_payload<'k, const H: usize, const D: usize, K: Keys<'k>, P: Intake, S: S
     requires some { 1 ≤ length chunk.old }
     requires wanted { 0 < payload_wanted_in verifier.old }
     ensures brings { WhateverTaken verifier.old (λ task before payload_before.
-        Brings task before payload_before (P.to_come payload.old) (P.to_come payload.new)
+        TakesDetachedPayload task before payload_before (P.to_come payload.old) (P.to_come payload.new)
         (P.ended payload.new) (S.contents sink.old) (S.contents sink.new)
         (stop_in result) verifier.new) }
     ensures stopped { is_stopped verifier.new ≡ is_err result }

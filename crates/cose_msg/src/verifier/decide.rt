@@ -42,7 +42,7 @@ impl<'k, const H: usize, const D: usize, S: Keys<'k>> Verifier<'k, H, D, S> {
     ghost use Rattle.cose_msg.specs.Laws.{then_verified};
     ghost use Rattle.cose_msg.specs.Message.{Setting};
     ghost use Rattle.cose_msg.specs.Phase.{awaits_decision, grown, in_payload, is_settled, want_of};
-    ghost use Rattle.cose_msg.specs.Reader.{Counts, StandsFor};
+    ghost use Rattle.cose_msg.specs.Reader.{Counts, ReaderMeans};
     ghost use Rattle.cose_msg.specs.Reading.{Reading};
     ghost use Rattle.cose_msg.specs.Run.{SaysCount, inspection};
     ghost use Rattle.cose_msg.specs.Shown.{shown_of};
@@ -156,15 +156,15 @@ impl<'k, const H: usize, const D: usize, S: Keys<'k>> Verifier<'k, H, D, S> {
         ensures complete { awaits_decision self.old.reader.phase ≡ true → self.old.stopped ≡ false
             → status_in self.new ≡ Status.Complete }
         ensures answer { (setting : Setting) (payload_so_far : List ℕ) (reading : List ℕ → Reading)
-            → StandsFor (to_verify setting) payload_so_far self.old.taken self.old.reader reading
+            → ReaderMeans (to_verify setting) payload_so_far self.old.taken self.old.reader reading
             → given_to payload_so_far (to_verify setting) ≡ to_verify setting
             → then_verified setting.aad (E.decides ec.now) (reading []).answer ≡ decided result }
         ensures counted { (setting : Setting) (payload_so_far : List ℕ) (reading : List ℕ → Reading)
-            → StandsFor (to_verify setting) payload_so_far self.old.taken self.old.reader reading
+            → ReaderMeans (to_verify setting) payload_so_far self.old.taken self.old.reader reading
             → given_to payload_so_far (to_verify setting) ≡ to_verify setting
             → Counts result self.old.taken }
         ensures status { (setting : Setting) (payload_so_far : List ℕ) (reading : List ℕ → Reading)
-            → StandsFor (to_verify setting) payload_so_far self.old.taken self.old.reader reading
+            → ReaderMeans (to_verify setting) payload_so_far self.old.taken self.old.reader reading
             → given_to payload_so_far (to_verify setting) ≡ to_verify setting
             → self.old.stopped ≡ false → status_in self.new ≡ status_of_answer (reading []).answer }
     {
@@ -177,19 +177,19 @@ impl<'k, const H: usize, const D: usize, S: Keys<'k>> Verifier<'k, H, D, S> {
         ensures counts { self.new.taken ≡ self.old.taken }
         ensures purpose { task_of self.new ≡ task_of self.old }
         ensures shown { (setting : Setting) (payload_so_far : List ℕ) (reading : List ℕ → Reading)
-            → StandsFor (to_inspect setting) payload_so_far self.old.taken self.old.reader reading
+            → ReaderMeans (to_inspect setting) payload_so_far self.old.taken self.old.reader reading
             → given_to payload_so_far (to_inspect setting) ≡ to_inspect setting
             → shown_of self.new ≡ shown_of self.old }
         ensures answer { (setting : Setting) (payload_so_far : List ℕ) (reading : List ℕ → Reading)
-            → StandsFor (to_inspect setting) payload_so_far self.old.taken self.old.reader reading
+            → ReaderMeans (to_inspect setting) payload_so_far self.old.taken self.old.reader reading
             → given_to payload_so_far (to_inspect setting) ≡ to_inspect setting
             → (reading []).answer ≡ inspection result }
         ensures counted { (setting : Setting) (payload_so_far : List ℕ) (reading : List ℕ → Reading)
-            → StandsFor (to_inspect setting) payload_so_far self.old.taken self.old.reader reading
+            → ReaderMeans (to_inspect setting) payload_so_far self.old.taken self.old.reader reading
             → given_to payload_so_far (to_inspect setting) ≡ to_inspect setting
             → SaysCount (inspection result) self.old.taken }
         ensures status { (setting : Setting) (payload_so_far : List ℕ) (reading : List ℕ → Reading)
-            → StandsFor (to_inspect setting) payload_so_far self.old.taken self.old.reader reading
+            → ReaderMeans (to_inspect setting) payload_so_far self.old.taken self.old.reader reading
             → given_to payload_so_far (to_inspect setting) ≡ to_inspect setting
             → self.old.stopped ≡ false → status_in self.new ≡ status_of_answer (reading []).answer }
     {

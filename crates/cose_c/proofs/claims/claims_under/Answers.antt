@@ -3,7 +3,7 @@ use Rattle.std.specs.Prelude.{option_map}
 use Rattle.cose_cwt.specs.Admission.View.{policy_value}
 use Rattle.cose_cwt.specs.Claims.Audience.{text_value}
 use Rattle.cose_c.specs.Claims.{name_given, name_seen}
-use Rattle.cose_c.proofs.Given.{gives_named, gives_no_policy}
+use Rattle.cose_c.proofs.ClaimsForC.{gives_named, gives_no_policy}
 use Rattle.cose_c.proofs.claims.claims_under.Goals as goal
 
 pub returns-in-Ok : goal.returns-in-Ok

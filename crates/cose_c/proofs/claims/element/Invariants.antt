@@ -3,7 +3,7 @@ use Rattle.std.proofs.Common.{◌≡◌}
 use Rattle.cose_head.specs.ItemRef.{placed}
 use Rattle.cose_head.specs.Items.{items_left}
 use Rattle.cose_head.specs.Placed.{children_of}
-use Rattle.cose_c.specs.Told.{element_numbered}
+use Rattle.cose_c.specs.CoseClaims.{element_numbered}
 use Rattle.cose_c.proofs.claims.element.Given as goal
 
 abbrev pub invariant-elements : goal.invariant-elements

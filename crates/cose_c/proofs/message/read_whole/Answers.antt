@@ -26,8 +26,8 @@ returns-clause-payload g c = λ accepted.
     let verdict = verdict_on_all g.row.H g.row.D setting always bytes _ c.feed-fed.result.used c.verify.result c.in-Ok.verdict c.split_at.ensures.back c.in-Ok.is (c.verify.ensures.answer setting _ _ _ fed c.new-rest.ensures.known) in
     let a = accepts (length bytes) _ c.in-Ok.verdict c.numbers_of.result c.numbers_of.ensures accepted in
     let p = parts c.authentication_decides.ensures.authentic c.spelled_is_read.ensures.read c.deciding_goes_last.ensures.comparing g.row.H g.row.D setting bytes a.kind a.alg a.payload a.taken (verdict ∙ ap decided a.is) in
-    let told = ap (λ (r : Reading). r.so_far.payload) (read_as_fed c.settled_stays.ensures.message rules bytes c.feed-fed.result.used (c.feed-fed.ensures.uses (to_verify setting) [] [] c.requires.fresh)) ∙ c.verify.ensures.before setting _ _ fed in
-    covers bytes _ c.feed-fed.result.payload_from c.feed-fed.result.payload_to _ _ c.feed-fed.ensures.ordered (omega (arith, c.feed-fed.ensures.among, c.feed-fed.ensures.fits)) told a.place (a.length ∙ p.counted)
+    let payload = ap (λ (r : Reading). r.so_far.payload) (read_as_fed c.settled_stays.ensures.message rules bytes c.feed-fed.result.used (c.feed-fed.ensures.uses (to_verify setting) [] [] c.requires.fresh)) ∙ c.verify.ensures.before setting _ _ fed in
+    covers bytes _ c.feed-fed.result.payload_from c.feed-fed.result.payload_to _ _ c.feed-fed.ensures.ordered (omega (arith, c.feed-fed.ensures.among, c.feed-fed.ensures.fits)) payload a.place (a.length ∙ p.counted)
 
 pub returns-clause-input : goal.returns-clause-input
 returns-clause-input g c = λ two.

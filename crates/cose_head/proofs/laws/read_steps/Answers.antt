@@ -1,6 +1,6 @@
 use Rattle.cose_head.proofs.Reasons.{item_reason}
-use Rattle.cose_head.proofs.Moves.{read_moves}
-use Rattle.cose_head.proofs.Steps.{read_steps}
+use Rattle.cose_head.proofs.ReadMoves.{read_moves}
+use Rattle.cose_head.proofs.ReadSteps.{read_steps}
 use Rattle.cose_head.proofs.ReadLaws.{adds_up, truncated_has_room}
 use Rattle.cose_head.proofs.laws.read_steps.Goals as goal
 

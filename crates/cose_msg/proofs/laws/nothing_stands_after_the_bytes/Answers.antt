@@ -1,7 +1,7 @@
 use Rattle.cose_msg.proofs.lemmas.Reading.HeadFaults.{head_definite}
-use Rattle.cose_msg.proofs.lemmas.Reading.OwnAnswers.{all_are_fair}
+use Rattle.cose_msg.proofs.lemmas.Reading.FairRules.{all_are_fair}
 use Rattle.cose_msg.proofs.lemmas.Reading.Forms.{HeadLaws}
-use Rattle.cose_msg.proofs.lemmas.Reading.Sound.{MapLaws, message_is_definite, open_is_truncated, message_stands_inside}
+use Rattle.cose_msg.proofs.lemmas.Reading.DefinitePhases.{MapLaws, message_is_definite, open_is_truncated, message_stands_inside}
 use Rattle.cose_msg.proofs.laws.nothing_stands_after_the_bytes.Goals as goal
 
 pub returns : goal.returns

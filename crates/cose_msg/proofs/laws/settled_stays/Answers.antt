@@ -1,6 +1,6 @@
 use Rattle.cose_msg.proofs.lemmas.Reading.HeadFaults.{head_definite}
 use Rattle.cose_msg.proofs.lemmas.Reading.Forms.{HeadLaws}
-use Rattle.cose_msg.proofs.lemmas.Reading.Lawful.{message_stays, message_ends_truncated, open_earlier, verdict_stays}
+use Rattle.cose_msg.proofs.lemmas.Reading.StablePhases.{message_stays, message_ends_truncated, open_earlier, verdict_stays}
 use Rattle.cose_msg.proofs.laws.settled_stays.Goals as goal
 
 pub returns : goal.returns

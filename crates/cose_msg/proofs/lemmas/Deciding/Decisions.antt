@@ -31,9 +31,9 @@ use Rattle.cose_msg.specs.Run.{SaysCount, inspection}
 use Rattle.cose_msg.specs.Shown.{SignInput, Shown, held_input, input_in, pairs_at, shown_in, shown_by, sign_input_in}
 use Rattle.cose_msg.specs.Status.{is_open, status_of_phase}
 use Rattle.cose_msg.specs.Task.{Task, given_to, rules_of, to_inspect, to_verify}
-use Rattle.cose_msg.specs.Reader.{Counts, HoldsBucket, HoldsIn, IsSigned, Known, StandsFor, is_authentic, left_in, whole_of}
+use Rattle.cose_msg.specs.Reader.{Counts, HoldsBucket, HoldsIn, IsSigned, Known, ReaderMeans, is_authentic, left_in, whole_of}
 use Rattle.cose_msg.proofs.lemmas.Deciding.PhaseCases.{unsettled_ends}
-use Rattle.cose_msg.proofs.lemmas.Reader.Waits.{IsNow, ItemWaits, awaiting_in, came_known, here, ends_in, truncated_in}
+use Rattle.cose_msg.proofs.lemmas.Reader.Unsettled.{IsNow, ItemWaits, awaiting_in, came_known, here, ends_in, truncated_in}
 
 -- ---- a signature
 
@@ -57,7 +57,7 @@ some_chosen : (chosen : Option code.Chosen) (found : Chosen) → option_map chos
 some_chosen (Some one) found e = (one, refl)
 some_chosen None found e = absurd cc
 
-module _ {H D : ℕ} {task : Task} {B : List ℕ} {n : ℕ} {v : Reader H D} {reading : List ℕ → Reading} (p : Signed) (e : v.phase ≡ phases.Signed p) (h : StandsFor task B n v reading) where
+module _ {H D : ℕ} {task : Task} {B : List ℕ} {n : ℕ} {v : Reader H D} {reading : List ℕ → Reading} (p : Signed) (e : v.phase ≡ phases.Signed p) (h : ReaderMeans task B n v reading) where
   pub signed_in : IsSigned task h.known v.chosen v.hashing v.auth.items p
   signed_in = (subst (λ (phase : Phase). HoldsIn task h.known h.so_far n v phase) e h.holds).2
 
@@ -141,13 +141,13 @@ module _ {H D : ℕ} (task : Task) (known : Known) (so_far : Findings) (n : ℕ)
   inspected_read (phases.Auth p) shown h e = absurd cc
   inspected_read (phases.Signed p) shown h e = absurd cc
 
-pub reads_on_with_verdict : {H D : ℕ} {task : Task} {B : List ℕ} {n : ℕ} {v : Reader H D} {reading : List ℕ → Reading} (verdict : Verdict) → StandsFor task B n v reading → verdict_in v.phase ≡ Some verdict → ((reading []).answer ≡ decided verdict) × IsDone (reading []) × Counts verdict n
+pub reads_on_with_verdict : {H D : ℕ} {task : Task} {B : List ℕ} {n : ℕ} {v : Reader H D} {reading : List ℕ → Reading} (verdict : Verdict) → ReaderMeans task B n v reading → verdict_in v.phase ≡ Some verdict → ((reading []).answer ≡ decided verdict) × IsDone (reading []) × Counts verdict n
 unfolding left
 reads_on_with_verdict {H} {D} {task} {B} {n} {v} {reading} verdict h e =
     let r = verdict_read task h.known h.so_far n v v.phase verdict h.holds e in
     (ap (λ (x : Reading). x.answer) (h.left []) ∙ r.0, (ap (λ (x : Reading). x.settled) (h.left []) ∙ r.1.0, ap (λ (x : Reading). x.payload_wanted) (h.left []) ∙ r.1.1), r.2)
 
-pub reads_on_inspected : {H D : ℕ} {task : Task} {B : List ℕ} {n : ℕ} {v : Reader H D} {reading : List ℕ → Reading} (shown : Inspected) → StandsFor task B n v reading → inspected_in v.phase ≡ Some shown → ((reading []).answer ≡ inspection shown) × IsDone (reading []) × SaysCount (inspection shown) n
+pub reads_on_inspected : {H D : ℕ} {task : Task} {B : List ℕ} {n : ℕ} {v : Reader H D} {reading : List ℕ → Reading} (shown : Inspected) → ReaderMeans task B n v reading → inspected_in v.phase ≡ Some shown → ((reading []).answer ≡ inspection shown) × IsDone (reading []) × SaysCount (inspection shown) n
 unfolding left
 reads_on_inspected {H} {D} {task} {B} {n} {v} {reading} shown h e =
     let r = inspected_read task h.known h.so_far n v v.phase shown h.holds e in
@@ -194,10 +194,10 @@ module _ {H D : ℕ} (setting : Setting) (known : Known) (so_far : Findings) (n 
   open_without_shape (phases.AuthHead p) h none = refl
   open_without_shape (phases.Auth p) h none = refl
 
-pub reads_on_without_verdict : {H D : ℕ} {setting : Setting} {B : List ℕ} {n : ℕ} {v : Reader H D} {reading : List ℕ → Reading} → StandsFor (to_verify setting) B n v reading → verdict_in v.phase ≡ None → awaits_decision v.phase ≡ false → is_open (status_of_phase v.phase) ≡ true
+pub reads_on_without_verdict : {H D : ℕ} {setting : Setting} {B : List ℕ} {n : ℕ} {v : Reader H D} {reading : List ℕ → Reading} → ReaderMeans (to_verify setting) B n v reading → verdict_in v.phase ≡ None → awaits_decision v.phase ≡ false → is_open (status_of_phase v.phase) ≡ true
 reads_on_without_verdict {H} {D} {setting} {B} {n} {v} {reading} h none e = open_without_verdict setting h.known h.so_far n v v.phase h.holds none e
 
-pub reads_on_without_shape : {H D : ℕ} {setting : Setting} {B : List ℕ} {n : ℕ} {v : Reader H D} {reading : List ℕ → Reading} → StandsFor (to_inspect setting) B n v reading → inspected_in v.phase ≡ None → is_open (status_of_phase v.phase) ≡ true
+pub reads_on_without_shape : {H D : ℕ} {setting : Setting} {B : List ℕ} {n : ℕ} {v : Reader H D} {reading : List ℕ → Reading} → ReaderMeans (to_inspect setting) B n v reading → inspected_in v.phase ≡ None → is_open (status_of_phase v.phase) ≡ true
 reads_on_without_shape {H} {D} {setting} {B} {n} {v} {reading} h none = open_without_shape setting h.known h.so_far n v v.phase h.holds none
 
 pub open_shows_no_input : (phase : Phase) (held : Option SignInput) → is_open (status_of_phase phase) ≡ true → input_in phase held ≡ None
@@ -244,7 +244,7 @@ module _ {H D : ℕ} (task : Task) (known : Known) (so_far : Findings) (n : ℕ)
   ended_in (phases.Shaped p) h now e = absurd cc
 
 -- A message of which bytes are wanted, or of whose payload, is Truncated where it ends.
-pub reads_on_ended : {H D : ℕ} {task : Task} {B : List ℕ} {n : ℕ} {v : Reader H D} {reading : List ℕ → Reading} → ItemWaits v → StandsFor task B n v reading → given_to B task ≡ task → is_open (status_of_phase v.phase) ≡ true → (reading []).answer ≡ refused Truncated (ends_at v.phase n)
+pub reads_on_ended : {H D : ℕ} {task : Task} {B : List ℕ} {n : ℕ} {v : Reader H D} {reading : List ℕ → Reading} → ItemWaits v → ReaderMeans task B n v reading → given_to B task ≡ task → is_open (status_of_phase v.phase) ≡ true → (reading []).answer ≡ refused Truncated (ends_at v.phase n)
 unfolding left
 reads_on_ended {H} {D} {task} {B} {n} {v} {reading} waits h came e = ap (λ (r : Reading). r.answer) (h.left []) ∙ ended_in task h.known h.so_far n v waits v.phase h.holds (came_known task h.known B h.payload_known came) e
 
@@ -291,7 +291,7 @@ module _ {H D : ℕ} (task : Task) (known : Known) (so_far : Findings) (n : ℕ)
   input_shown (phases.AuthHead p) h now = open_input (phases.AuthHead p) h refl refl
   input_shown (phases.Auth p) h now = open_input (phases.Auth p) h refl refl
 
-pub reads_on_shown : {H D : ℕ} {task : Task} {B : List ℕ} {n : ℕ} {v : Reader H D} {reading : List ℕ → Reading} → ItemWaits v → StandsFor task B n v reading → given_to B task ≡ task → shown_by v ≡ shown_in task.setting (reading [])
+pub reads_on_shown : {H D : ℕ} {task : Task} {B : List ℕ} {n : ℕ} {v : Reader H D} {reading : List ℕ → Reading} → ItemWaits v → ReaderMeans task B n v reading → given_to B task ≡ task → shown_by v ≡ shown_in task.setting (reading [])
 unfolding left here
 reads_on_shown {H} {D} {task} {B} {n} {v} {reading} waits h came =
     let now = came_known task h.known B h.payload_known came in

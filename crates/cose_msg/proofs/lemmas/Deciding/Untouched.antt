@@ -17,7 +17,7 @@ use Rattle.cose_msg.specs.Reader.{HoldsIn, IsUntouched, SoFar, first_phase, task
 use Rattle.cose_msg.specs.Source.{Source, source_with, with_came}
 use Rattle.cose_msg.specs.Task.{Task, given_to}
 use Rattle.cose_msg.specs.Verifier.{task_of}
-use Rattle.cose_msg.proofs.lemmas.Reader.Standing.{unknown}
+use Rattle.cose_msg.proofs.lemmas.Reader.Meanings.{unknown}
 
 -- Such a reader is at the start of every message under its terms, unless the end was reported.
 pub starts_message : {H D : ℕ} (task : Task) (v : Reader H D) → IsUntouched v → v.phase ≡ phases.FirstHead → task_in task v ≡ task → SoFar task [] [] v

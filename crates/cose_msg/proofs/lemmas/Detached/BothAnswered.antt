@@ -9,7 +9,7 @@ use Rattle.cose_msg.specs.declared.verifier.Verifier.{Verifier}
 use Rattle.cose_msg.specs.Answer.{decided}
 use Rattle.cose_msg.specs.Detached.{DetachedRun, TakesDetached}
 use Rattle.cose_msg.specs.Kept.{HasTaken, answer_kept, verdict_in}
-use Rattle.cose_msg.specs.Laws.{AllAreFair, MessageStandsInside, MessageStays, PayloadStays, VerifyingGoesLast, receiving, then_verified}
+use Rattle.cose_msg.specs.Laws.{AllAreFair, MessageIsPlacedInside, MessageStays, PayloadStays, VerifyingGoesLast, receiving, then_verified}
 use Rattle.cose_msg.specs.Message.{Decides, Setting, comparing, given, message, verdict_of, verifying}
 use Rattle.cose_msg.specs.Reading.{Reading}
 use Rattle.cose_msg.specs.Rules.{Rules}
@@ -21,7 +21,7 @@ use Rattle.cose_msg.proofs.lemmas.Run.Answered.{Alike, all_settled, verdict_so_f
 use Rattle.cose_msg.proofs.lemmas.Detached.BothTaken.{detached_whatever}
 use Rattle.cose_msg.proofs.lemmas.Detached.PayloadRuns.{stated_given}
 use Rattle.cose_msg.proofs.lemmas.Deciding.Decisions.{IsDone, reads_on_with_verdict}
-use Rattle.cose_msg.proofs.lemmas.Run.Runs.{IsKept, counted_stands, kept_by, without_more}
+use Rattle.cose_msg.proofs.lemmas.Run.Runs.{IsKept, counted_meaning, kept_by, without_more}
 use Rattle.cose_msg.proofs.lemmas.Feeding.Statuses.{open_as}
 
 -- ---- a verifier for a detached payload
@@ -40,7 +40,7 @@ done_wants_none H D task bytes done = ap (λ (r : Reading). r.payload_wanted) (s
 
 module _ {H D : ℕ} {S : Type 0} {K : _} {setting : Setting} {s B : List ℕ} {come come_after beside beside_after contents contents_after : Option (List ℕ)} {ended beside_ended : Bool} {v : Verifier H D S K} where
   -- A verdict on both lists.
-  pub verdict_on_both : VerifyingGoesLast → MessageStandsInside → AllAreFair → (decides : Decides) (verdict : Verdict) (t : TakesDetached (to_verify setting) s B come come_after ended beside beside_after beside_ended contents contents_after None v) →
+  pub verdict_on_both : VerifyingGoesLast → MessageIsPlacedInside → AllAreFair → (decides : Decides) (verdict : Verdict) (t : TakesDetached (to_verify setting) s B come come_after ended beside beside_after beside_ended contents contents_after None v) →
       then_verified setting.aad decides (message (comparing H D (given (B ++ t.came) setting)) ((s ++ t.taken) ++ [])).answer ≡ decided verdict → Counts verdict v.taken →
       DetachedRun (verifying H D (given (B ++ t.came) setting) decides) s B come come_after ended beside beside_after beside_ended contents contents_after (Ok verdict) t.taken t.came
   verdict_on_both goes_last inside fair decides verdict t is count =
@@ -67,12 +67,12 @@ module _ {H D : ℕ} {S : Type 0} {K : _} {setting : Setting} {s B : List ℕ} {
       }
 
   -- A verdict that was kept before.
-  pub kept_on_both : VerifyingGoesLast → MessageStandsInside → AllAreFair → (decides : Decides) (t : TakesDetached (to_verify setting) s B come come_after ended beside beside_after beside_ended contents contents_after None v) (result : Result Verdict Stop) →
+  pub kept_on_both : VerifyingGoesLast → MessageIsPlacedInside → AllAreFair → (decides : Decides) (t : TakesDetached (to_verify setting) s B come come_after ended beside beside_after beside_ended contents contents_after None v) (result : Result Verdict Stop) →
       answer_kept v.stopped (verdict_in v.reader.phase) ≡ Some result → DetachedRun (verifying H D (given (B ++ t.came) setting) decides) s B come come_after ended beside beside_after beside_ended contents contents_after result t.taken t.came
   kept_on_both goes_last inside fair decides t result kept =
       let going : answer_kept false (verdict_in v.reader.phase) ≡ Some result = rw t.reads_on.0.goes_on at kept in
       let k : IsKept (verdict_in v.reader.phase) result = kept_by (verdict_in v.reader.phase) result going in
-      let st = reads_on_with_verdict k.answer (counted_stands t.reads_on.0) k.kept_is in
+      let st = reads_on_with_verdict k.answer (counted_meaning t.reads_on.0) k.kept_is in
       let run : DetachedRun (verifying H D (given (B ++ t.came) setting) decides) s B come come_after ended beside beside_after beside_ended contents contents_after (Ok k.answer) t.taken t.came = verdict_on_both goes_last inside fair decides k.answer t (ap (then_verified setting.aad decides) st.0) st.2 in
       subst (λ (r : Result Verdict Stop). DetachedRun (verifying H D (given (B ++ t.came) setting) decides) s B come come_after ended beside beside_after beside_ended contents contents_after r t.taken t.came) (sym k.result_is) run
 

@@ -8,14 +8,14 @@ use Rattle.std.proofs.Math.Seq.{take-append-add}
 use Rattle.cose_msg.specs.declared.verdict.Stop.{Stop}
 use Rattle.cose_msg.specs.declared.verdict.Stop.TheVariants as stops
 use Rattle.cose_msg.specs.declared.verifier.Verifier.{Verifier}
-use Rattle.cose_msg.specs.Detached.{Brings, TakesBoth, TakesDetached, WantsMore}
+use Rattle.cose_msg.specs.Detached.{TakesDetachedPayload, TakesBoth, TakesDetached, WantsMore}
 use Rattle.cose_msg.specs.Intake.{TakesInAll}
 use Rattle.cose_msg.specs.Kept.{HasTaken}
 use Rattle.cose_msg.specs.Laws.{OpenStays, receiving}
 use Rattle.cose_msg.specs.Message.{Setting, message}
 use Rattle.cose_msg.specs.Reading.{Reading}
 use Rattle.cose_msg.specs.Rules.{Rules}
-use Rattle.cose_msg.specs.Run.{Drive, Ends, Grows, TakesUntilStop}
+use Rattle.cose_msg.specs.Run.{TakesMessage, Ends, Grows, TakesUntilStop}
 use Rattle.cose_msg.specs.Shown.{ShowsReading}
 use Rattle.cose_msg.specs.Phase.{is_settled, payload_want_of}
 use Rattle.cose_msg.specs.Source.{Source, attached, detached, is_detached_from, stated_of, with_came}
@@ -73,7 +73,7 @@ payload_last a b p q (Some stops.Again) x came first last = (first, last)
 -- ---- the message up to its nil
 
 -- A drive over a message whose payload is detached puts nothing.
-module _ {H D : ℕ} {S : Type 0} {K : _} {task : Task} {s B : List ℕ} {come come_after contents contents_after : Option (List ℕ)} {ended : Bool} {stop : Option Stop} {v : Verifier H D S K} (d : Drive task s B come come_after ended contents contents_after stop v) (detached : is_detached_from task.setting.source ≡ true) where
+module _ {H D : ℕ} {S : Type 0} {K : _} {task : Task} {s B : List ℕ} {come come_after contents contents_after : Option (List ℕ)} {ended : Bool} {stop : Option Stop} {v : Verifier H D S K} (d : TakesMessage task s B come come_after ended contents contents_after stop v) (detached : is_detached_from task.setting.source ≡ true) where
   pub so_far_alone : (message (rules_of H D task) (s ++ d.taken)).so_far.payload ≡ B
   so_far_alone = d.payload ∙ ap (λ (t : List ℕ). B ++ t) (d.beside detached) ∙ append-nil B
 
@@ -89,7 +89,7 @@ as_known task B known = ap (λ (t : List ℕ). given_to t task) (append-nil B) �
 
 module _ {H D : ℕ} {S : Type 0} {K : _} {task : Task} {s B : List ℕ} {come come_after contents contents_after : Option (List ℕ)} {ended : Bool} {v : Verifier H D S K} (known : given_to B task ≡ task) (detached : is_detached_from task.setting.source ≡ true) (beside : Option (List ℕ)) (beside_ended : Bool) where
   -- The message's intake has failed before its nil.
-  pub stopped_before_nil : (stop : Stop) → Drive task s B come come_after ended contents contents_after (Some stop) v → TakesDetached task s B come come_after ended beside beside beside_ended contents contents_after (Some stop) v
+  pub stopped_before_nil : (stop : Stop) → TakesMessage task s B come come_after ended contents contents_after (Some stop) v → TakesDetached task s B come come_after ended beside beside beside_ended contents contents_after (Some stop) v
   stopped_before_nil stop d =
       let same : given_to (B ++ []) task ≡ task = as_known task B known in
       record {
@@ -106,7 +106,7 @@ module _ {H D : ℕ} {S : Type 0} {K : _} {task : Task} {s B : List ℕ} {come c
       }
 
   -- No byte of the payload is wanted.
-  pub none_awaited : (d : Drive task s B come come_after ended contents contents_after None v) → (message (rules_of H D task) (s ++ d.taken)).payload_wanted ≡ 0 → TakesDetached task s B come come_after ended beside beside beside_ended contents contents_after None v
+  pub none_awaited : (d : TakesMessage task s B come come_after ended contents contents_after None v) → (message (rules_of H D task) (s ++ d.taken)).payload_wanted ≡ 0 → TakesDetached task s B come come_after ended beside beside beside_ended contents contents_after None v
   none_awaited d none =
       let same : given_to (B ++ []) task ≡ task = as_known task B known in
       let now : HasTaken task (s ++ d.taken) (B ++ []) v = subst (λ (t : List ℕ). HasTaken task (s ++ d.taken) (B ++ t) v) (d.beside detached) d.reads_on.0 in
@@ -133,13 +133,13 @@ module _ {H D : ℕ} {S : Type 0} {K : _} {task : Task} {s B : List ℕ} {come c
 -- ---- the payload
 
 -- What didn't settle the message doesn't settle it, whatever comes of the payload.
-still_open : {H D : ℕ} {S : Type 0} {K : _} → OpenStays → {task : Task} {s B : List ℕ} {come come_now contents contents_now : Option (List ℕ)} {ended : Bool} {v : Verifier H D S K} → given_to B task ≡ task → (d : Drive task s B come come_now ended contents contents_now None v) → (came : List ℕ) (n : ℕ) → n < length d.taken
+still_open : {H D : ℕ} {S : Type 0} {K : _} → OpenStays → {task : Task} {s B : List ℕ} {come come_now contents contents_now : Option (List ℕ)} {ended : Bool} {v : Verifier H D S K} → given_to B task ≡ task → (d : TakesMessage task s B come come_now ended contents contents_now None v) → (came : List ℕ) (n : ℕ) → n < length d.taken
     → (message (rules_of H D (given_to (B ++ came) task)) (s ++ take n d.taken)).settled ≡ false
 still_open {H} {D} {S} {K} stays {task} {s} {B} known d came n lt = ap (λ (r : Reading). r.settled) (open_whatever stays H D task B came (s ++ take n d.taken) known (d.none_after_end n lt)) ∙ d.none_after_end n lt
 
 module _ {H D : ℕ} {S : Type 0} {K : _} (stays : OpenStays) {task : Task} {s B : List ℕ} {come come_now beside beside_after contents contents_now contents_after : Option (List ℕ)} {ended beside_ended : Bool} {v next : Verifier H D S K} (known : given_to B task ≡ task) (detached : is_detached_from task.setting.source ≡ true)
-    (d : Drive task s B come come_now ended contents contents_now None v) where
-  pub stopped_in_payload : (stop : Stop) → Brings task (s ++ d.taken) B beside beside_after beside_ended contents_now contents_after (Some stop) next → TakesDetached task s B come come_now ended beside beside_after beside_ended contents contents_after (Some stop) next
+    (d : TakesMessage task s B come come_now ended contents contents_now None v) where
+  pub stopped_in_payload : (stop : Stop) → TakesDetachedPayload task (s ++ d.taken) B beside beside_after beside_ended contents_now contents_after (Some stop) next → TakesDetached task s B come come_now ended beside beside_after beside_ended contents contents_after (Some stop) next
   stopped_in_payload stop b = record {
     taken = d.taken;
     came = b.came;
@@ -154,7 +154,7 @@ module _ {H D : ℕ} {S : Type 0} {K : _} (stays : OpenStays) {task : Task} {s B
   }
 
   -- The payload's intake has ended before all of it had come. The message is settled then, and so it was before.
-  pub ended_in_payload : (b : Brings task (s ++ d.taken) B beside beside_after beside_ended contents_now contents_after None next) → (message (rules_of H D task) (s ++ d.taken)).settled ≡ true
+  pub ended_in_payload : (b : TakesDetachedPayload task (s ++ d.taken) B beside beside_after beside_ended contents_now contents_after None next) → (message (rules_of H D task) (s ++ d.taken)).settled ≡ true
       → (message (rules_of H D (given_to (B ++ b.came) task)) (s ++ d.taken)).settled ≡ true → TakesDetached task s B come come_now ended beside beside_after beside_ended contents contents_after None next
   ended_in_payload b before now = record {
     taken = d.taken;
@@ -197,9 +197,9 @@ ends_later rules s first last {ended} {come_after} unsettled e = elim last as (�
 ] e
 
 module _ {H D : ℕ} {S : Type 0} {K : _} (stays : OpenStays) {task : Task} {s B : List ℕ} {come come_now come_after beside beside_after contents contents_now contents_then contents_after : Option (List ℕ)} {ended ended_after beside_ended : Bool} {v then_v next : Verifier H D S K} (known : given_to B task ≡ task) (detached : is_detached_from task.setting.source ≡ true)
-    (d : Drive task s B come come_now ended contents contents_now None v) (b : Brings task (s ++ d.taken) B beside beside_after beside_ended contents_now contents_then None then_v) (unsettled : (message (rules_of H D (given_to (B ++ b.came) task)) (s ++ d.taken)).settled ≡ false)
+    (d : TakesMessage task s B come come_now ended contents contents_now None v) (b : TakesDetachedPayload task (s ++ d.taken) B beside beside_after beside_ended contents_now contents_then None then_v) (unsettled : (message (rules_of H D (given_to (B ++ b.came) task)) (s ++ d.taken)).settled ≡ false)
     (given_is_detached : is_detached_from (given_to (B ++ b.came) task).setting.source ≡ true) where
-  pub stopped_in_rest : (stop : Stop) → Drive (given_to (B ++ b.came) task) (s ++ d.taken) (B ++ b.came) come_now come_after ended_after contents_then contents_after (Some stop) next → TakesDetached task s B come come_after ended_after beside beside_after beside_ended contents contents_after (Some stop) next
+  pub stopped_in_rest : (stop : Stop) → TakesMessage (given_to (B ++ b.came) task) (s ++ d.taken) (B ++ b.came) come_now come_after ended_after contents_then contents_after (Some stop) next → TakesDetached task s B come come_after ended_after beside beside_after beside_ended contents contents_after (Some stop) next
   stopped_in_rest stop r =
       let regrouped : (s ++ d.taken) ++ r.taken ≡ s ++ (d.taken ++ r.taken) = append_assoc s d.taken r.taken in
       record {
@@ -215,7 +215,7 @@ module _ {H D : ℕ} {S : Type 0} {K : _} (stays : OpenStays) {task : Task} {s B
         grows = subst (λ (t : List ℕ). Grows contents contents_after (Some stop) t) (append-nil b.came) (Grows-then contents contents_then contents_after (Some stop) b.came [] (Appends-trans contents contents_now contents_then [] b.came (grows_nothing d detached) b.grows) (grows_nothing r given_is_detached));
       }
 
-  pub took_rest : (r : Drive (given_to (B ++ b.came) task) (s ++ d.taken) (B ++ b.came) come_now come_after ended_after contents_then contents_after None next) → (message (rules_of H D (given_to (B ++ b.came) task)) ((s ++ d.taken) ++ r.taken)).payload_wanted ≡ 0
+  pub took_rest : (r : TakesMessage (given_to (B ++ b.came) task) (s ++ d.taken) (B ++ b.came) come_now come_after ended_after contents_then contents_after None next) → (message (rules_of H D (given_to (B ++ b.came) task)) ((s ++ d.taken) ++ r.taken)).payload_wanted ≡ 0
       → (message (rules_of H D (given_to (B ++ b.came) task)) (s ++ d.taken)).payload_wanted ≡ 0 → TakesDetached task s B come come_after ended_after beside beside_after beside_ended contents contents_after None next
   took_rest r none none_before =
       let regrouped : (s ++ d.taken) ++ r.taken ≡ s ++ (d.taken ++ r.taken) = append_assoc s d.taken r.taken in
@@ -239,8 +239,8 @@ module _ {H D : ℕ} {S : Type 0} {K : _} (stays : OpenStays) {task : Task} {s B
         grows = subst (λ (t : List ℕ). Grows contents contents_after None t) (append-nil b.came) (Grows-then contents contents_then contents_after None b.came [] (Appends-trans contents contents_now contents_then [] b.came (grows_nothing d detached) b.grows) (grows_nothing r given_is_detached));
       }
 
-  pub took_or_stopped : (stop : Option Stop) → ((r : Drive (given_to (B ++ b.came) task) (s ++ d.taken) (B ++ b.came) come_now come_after ended_after contents_then contents_after None next) → (message (rules_of H D (given_to (B ++ b.came) task)) ((s ++ d.taken) ++ r.taken)).payload_wanted ≡ 0)
-      → (message (rules_of H D (given_to (B ++ b.came) task)) (s ++ d.taken)).payload_wanted ≡ 0 → Drive (given_to (B ++ b.came) task) (s ++ d.taken) (B ++ b.came) come_now come_after ended_after contents_then contents_after stop next
+  pub took_or_stopped : (stop : Option Stop) → ((r : TakesMessage (given_to (B ++ b.came) task) (s ++ d.taken) (B ++ b.came) come_now come_after ended_after contents_then contents_after None next) → (message (rules_of H D (given_to (B ++ b.came) task)) ((s ++ d.taken) ++ r.taken)).payload_wanted ≡ 0)
+      → (message (rules_of H D (given_to (B ++ b.came) task)) (s ++ d.taken)).payload_wanted ≡ 0 → TakesMessage (given_to (B ++ b.came) task) (s ++ d.taken) (B ++ b.came) come_now come_after ended_after contents_then contents_after stop next
       → TakesDetached task s B come come_after ended_after beside beside_after beside_ended contents contents_after stop next
   took_or_stopped None none before r = took_rest r (none r) before
   took_or_stopped (Some stop) none before r = stopped_in_rest stop r

@@ -9,7 +9,7 @@ use Rattle.cose_msg.specs.declared.phase.Phase.TheVariants as phases
 use Rattle.cose_msg.specs.declared.reader.Reader.{Reader}
 use Rattle.cose_msg.specs.declared.verdict.Stop.{Stop}
 use Rattle.cose_msg.specs.declared.verifier.Verifier.{Verifier}
-use Rattle.cose_msg.specs.Detached.{Brings}
+use Rattle.cose_msg.specs.Detached.{TakesDetachedPayload}
 use Rattle.cose_msg.specs.Kept.{HasTaken}
 use Rattle.cose_msg.specs.Message.{message}
 use Rattle.cose_msg.specs.Phase.{payload_want_of}
@@ -19,7 +19,7 @@ use Rattle.cose_msg.specs.Shown.{ShowsReading, shown_in, shown_of}
 use Rattle.cose_msg.specs.Source.{Source, attached, detached, stated_of, with_came}
 use Rattle.cose_msg.specs.Status.{is_open, payload_wanted_in, status_of_phase, status_in, status_of_reading}
 use Rattle.cose_msg.specs.Task.{Task, given_to, rules_of}
-use Rattle.cose_msg.specs.Reader.{HoldsIn, StandsFor}
+use Rattle.cose_msg.specs.Reader.{HoldsIn, ReaderMeans}
 use Rattle.cose_msg.specs.Verifier.{setting_in}
 use Rattle.cose_msg.proofs.lemmas.Detached.PayloadTaken.{given_again}
 use Rattle.cose_msg.proofs.lemmas.Deciding.PhaseCases.{awaits_or_not}
@@ -29,7 +29,7 @@ use Rattle.cose_msg.proofs.lemmas.Feeding.Statuses.{none_wanted, open_unsettled}
 -- ---- how much is wanted
 
 -- What is wanted of a detached payload is what is stated and hasn't come.
-pub wanted_is_stated : {H D : ℕ} {task : Task} {B : List ℕ} {n : ℕ} {v : Reader H D} {reading : List ℕ → Reading} → StandsFor task B n v reading → 0 < payload_want_of v.phase → length B + payload_want_of v.phase ≡ stated_of task.setting.source
+pub wanted_is_stated : {H D : ℕ} {task : Task} {B : List ℕ} {n : ℕ} {v : Reader H D} {reading : List ℕ → Reading} → ReaderMeans task B n v reading → 0 < payload_want_of v.phase → length B + payload_want_of v.phase ≡ stated_of task.setting.source
 wanted_is_stated {H} {D} {task} {B} {n} {v} {reading} h some = elim (awaits_or_not v.phase) [
   | inl none ↦ absurd (omega (arith, some, none))
   | inr w ↦ (
@@ -116,7 +116,7 @@ module _ {H D : ℕ} {S : Type 0} {K : _} {task : Task} {s B : List ℕ} {beside
 
 -- ---- exits
 
--- What a reader gives, without a further byte, is what the reading gives of the bytes that it stands for.
+-- What a reader gives, without a further byte, is what the reading gives of the bytes taken.
 pub record IsAsRead {H D : ℕ} {S : Type 0} {K : _} (task : Task) (s B : List ℕ) (v : Verifier H D S K) : Type 0 where
   pub so_far : (message (rules_of H D task) (s ++ [])).so_far.payload ≡ B
   pub shown : shown_of v ≡ shown_in task.setting (message (rules_of H D task) (s ++ []))
@@ -140,7 +140,7 @@ module _ {H D : ℕ} {S : Type 0} {K : _} {task : Task} {s B : List ℕ} {v : Ve
 pub brought : {H D : ℕ} {S : Type 0} {K : _} {task : Task} {s B : List ℕ} {beside beside_now beside_after contents contents_now : Option (List ℕ)} {ended ended_after : Bool} {sure sure_now : ℕ} {v : Verifier H D S K} → (a : Bringing task s B beside beside_now ended contents contents_now sure sure_now v)
     → Consumes beside_now beside_after [] → IsAsRead (given_to (B ++ a.came) task) s (B ++ a.came) v → is_open (status_in v) ≡ true
     → (0 < payload_wanted_in v → (ended_after ≡ true) × IsAtEnd beside_after) → (payload_wanted_in v ≡ 0 → 0 < length a.came → ended_after ≡ false)
-    → Brings task s B beside beside_after ended_after contents contents_now None v
+    → TakesDetachedPayload task s B beside beside_after ended_after contents contents_now None v
 brought {H} {D} {S} {K} {task} {s} {B} {beside} {beside_now} {beside_after} {contents} {contents_now} {ended} {ended_after} {sure} {sure_now} {v} a took r wants missing whole =
     let wanted : (message (rules_of H D (given_to (B ++ a.came) task)) s).payload_wanted ≡ payload_wanted_in v = read_wanted a.reads_on r in
     record {
@@ -165,7 +165,7 @@ brought {H} {D} {S} {K} {task} {s} {B} {beside} {beside_now} {beside_after} {con
 pub brings_until : {H D : ℕ} {S : Type 0} {K : _} {task : Task} {s B : List ℕ} {beside beside_after contents contents_after : Option (List ℕ)} {ended : Bool} {stepped next : Verifier H D S K} (stop : Stop) (came : List ℕ)
     → TakesUntilStop beside beside_after (Some stop) came → length came ≤ stated_of task.setting.source - length B
     → HasTaken (given_to (B ++ came) task) s (B ++ came) stepped → IsAsRead (given_to (B ++ came) task) s (B ++ came) stepped → is_open (status_in stepped) ≡ true
-    → Grows contents contents_after (Some stop) came → next.taken ≡ stepped.taken → shown_of next ≡ shown_of stepped → Brings task s B beside beside_after ended contents contents_after (Some stop) next
+    → Grows contents contents_after (Some stop) came → next.taken ≡ stepped.taken → shown_of next ≡ shown_of stepped → TakesDetachedPayload task s B beside beside_after ended contents contents_after (Some stop) next
 brings_until stop came bytes within reads_on r wants grows counted shown = record {
   came = came;
   bytes = bytes;

@@ -5,7 +5,7 @@ use Rattle.cose_msg.specs.declared.phase.Phase.{Phase}
 use Rattle.cose_msg.specs.declared.phase.Phase.TheVariants as phases
 use Rattle.cose_msg.specs.declared.reader.Reader.{Reader}
 use Rattle.cose_msg.specs.Phase.{grown, in_payload}
-use Rattle.cose_msg.specs.Reader.{HoldsIn, SoFar, StandsFor}
+use Rattle.cose_msg.specs.Reader.{HoldsIn, SoFar, ReaderMeans}
 use Rattle.cose_msg.specs.Reading.{Reading}
 use Rattle.cose_msg.specs.Source.{Source, IsStated, attached, detached, came_of, source_with, with_came}
 use Rattle.cose_msg.specs.Task.{Task, given_to}
@@ -55,7 +55,7 @@ whatever_then task phase s B piece next false is source now later more = subst (
 
 module _ {H D : ℕ} {task : Task} {B : List ℕ} {n : ℕ} {v : Reader H D} {reading : List ℕ → Reading} where
   -- Where it is awaited, it is detached.
-  pub reads_on_beside : StandsFor task B n v reading → (p : Detached) → v.phase ≡ phases.Detached p → (came : List ℕ) × (task.setting.source ≡ detached came p.length)
+  pub reads_on_beside : ReaderMeans task B n v reading → (p : Detached) → v.phase ≡ phases.Detached p → (came : List ℕ) × (task.setting.source ≡ detached came p.length)
   reads_on_beside h p is =
       let held : HoldsIn task h.known h.so_far n v (phases.Detached p) = subst (λ (phase : Phase). HoldsIn task h.known h.so_far n v phase) is h.holds in
       (h.known.payload ++ held.5.0, held.5.1)
@@ -63,6 +63,6 @@ module _ {H D : ℕ} {task : Task} {B : List ℕ} {n : ℕ} {v : Reader H D} {re
 pub came_more : (task : Task) (came : List ℕ) {n : ℕ} → (before : List ℕ) × (task.setting.source ≡ detached before n) → came_of (given_to came task).setting.source ≡ came
 came_more task came h = ap (λ (source : Source). came_of (with_came came source)) h.1
 
--- A reader that stands for what has come, whatever comes then, stands for it now.
+-- A reader that has a meaning whatever comes of the payload then has it for what has come.
 pub now_given : {H D : ℕ} (task : Task) (s B : List ℕ) (v : Reader H D) → ((more : List ℕ) → SoFar (given_to (B ++ more) task) s B v) → SoFar (given_to B task) s B v
 now_given task s B v later = subst (λ (t : List ℕ). SoFar (given_to t task) s B v) (append-nil B) (later [])

@@ -13,10 +13,10 @@ use Rattle.cose_msg.specs.Reading.{Reading, Findings}
 use Rattle.cose_msg.specs.Rules.{Rules}
 use Rattle.cose_msg.specs.Source.{with_came}
 use Rattle.cose_msg.specs.Task.{Task, given_to, rules_of}
-use Rattle.cose_msg.specs.Reader.{HoldsIn, Known, StandsFor, left_in}
-use Rattle.cose_msg.proofs.lemmas.Reader.Steps.{string_whole}
+use Rattle.cose_msg.specs.Reader.{HoldsIn, Known, ReaderMeans, left_in}
+use Rattle.cose_msg.proofs.lemmas.Reader.PhaseSteps.{string_whole}
 use Rattle.cose_msg.proofs.lemmas.Reading.FindingForms.{HoldsThroughout, unless_fault-holds, with_head-holds, with_string-holds}
-use Rattle.cose_msg.proofs.lemmas.Reader.Waits.{came_known, fewer, nil_awaits, string_waits}
+use Rattle.cose_msg.proofs.lemmas.Reader.Unsettled.{came_known, fewer, nil_awaits, string_waits}
 
 -- ---- after the payload
 
@@ -93,11 +93,11 @@ module _ {H D : ℕ} (task : Task) (known : Known) (so_far : Findings) (n : ℕ)
 
 -- ---- a verifier
 
-pub reads_on_fixed : {H D : ℕ} {task : Task} {B : List ℕ} {n : ℕ} {v : Reader H D} {reading : List ℕ → Reading} → (more : List ℕ) → StandsFor task B n v reading → given_to B task ≡ task → in_payload v.phase ≡ false → 0 < length B → (reading more).so_far.payload ≡ B
+pub reads_on_fixed : {H D : ℕ} {task : Task} {B : List ℕ} {n : ℕ} {v : Reader H D} {reading : List ℕ → Reading} → (more : List ℕ) → ReaderMeans task B n v reading → given_to B task ≡ task → in_payload v.phase ≡ false → 0 < length B → (reading more).so_far.payload ≡ B
 reads_on_fixed {H} {D} {task} {B} {n} {v} {reading} more h came e some =
     let there : 0 < length h.so_far.payload = omega (arith, some, ap length h.payload_so_far) in
     ap (λ (r : Reading). r.so_far.payload) (h.left more) ∙ fixed_in task h.known h.so_far n v v.phase h.holds e (h.payload_known ∙ sym h.payload_so_far) (came_known task h.known B h.payload_known came) there more ∙ h.payload_so_far
 
-pub reads_on_grows : {H D : ℕ} {task : Task} {B : List ℕ} {n : ℕ} {v : Reader H D} {reading : List ℕ → Reading} → (more : List ℕ) → StandsFor task B n v reading → in_payload v.phase ≡ true → (reading more).so_far.payload ≡ B ++ take (want_of v.phase) more
+pub reads_on_grows : {H D : ℕ} {task : Task} {B : List ℕ} {n : ℕ} {v : Reader H D} {reading : List ℕ → Reading} → (more : List ℕ) → ReaderMeans task B n v reading → in_payload v.phase ≡ true → (reading more).so_far.payload ≡ B ++ take (want_of v.phase) more
 reads_on_grows {H} {D} {task} {B} {n} {v} {reading} more h e =
     ap (λ (r : Reading). r.so_far.payload) (h.left more) ∙ grows_in task h.known h.so_far n v v.phase h.holds e more ∙ ap (λ (t : List ℕ). t ++ take (want_of v.phase) more) h.payload_known

@@ -18,7 +18,7 @@ use Rattle.cose_msg.specs.Phase.{is_settled, payload_want_of}
 use Rattle.cose_msg.specs.Reading.{Reading, Findings}
 use Rattle.cose_msg.specs.Status.{is_complete, is_open, status_of_phase, status_in, status_left, status_of_reading, status_of_answer}
 use Rattle.cose_msg.specs.Task.{Task, rules_of}
-use Rattle.cose_msg.specs.Reader.{HoldsIn, Known, StandsFor, left_in}
+use Rattle.cose_msg.specs.Reader.{HoldsIn, Known, ReaderMeans, left_in}
 use Rattle.cose_msg.proofs.lemmas.Deciding.Decisions.{IsDone}
 use Rattle.cose_msg.proofs.lemmas.Run.Runs.{IsKept, kept_by, without_more}
 
@@ -47,7 +47,7 @@ module _ {H D : ℕ} (task : Task) (known : Known) (so_far : Findings) (n : ℕ)
   status_here (phases.Settled verdict) reading h e same none = sym (ap status_of_reading e)
   status_here (phases.Shaped p) reading h e same none = sym (ap status_of_reading e)
 
-pub reads_on_status : {H D : ℕ} {task : Task} {B : List ℕ} {n : ℕ} {v : Reader H D} {reading : List ℕ → Reading} → StandsFor task B n v reading → (reading []).settled ≡ is_settled v.phase → (reading []).payload_wanted ≡ payload_want_of v.phase → status_of_phase v.phase ≡ status_of_reading (reading [])
+pub reads_on_status : {H D : ℕ} {task : Task} {B : List ℕ} {n : ℕ} {v : Reader H D} {reading : List ℕ → Reading} → ReaderMeans task B n v reading → (reading []).settled ≡ is_settled v.phase → (reading []).payload_wanted ≡ payload_want_of v.phase → status_of_phase v.phase ≡ status_of_reading (reading [])
 reads_on_status {H} {D} {task} {B} {n} {v} {reading} h same none = status_here task h.known h.so_far n v v.phase (reading []) h.holds (h.left []) same none
 
 -- The status of the phase is that of all bytes that were taken.

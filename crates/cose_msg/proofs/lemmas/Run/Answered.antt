@@ -9,16 +9,16 @@ use Rattle.cose_msg.specs.declared.verdict.Verdict.{Verdict}
 use Rattle.cose_msg.specs.declared.verifier.Verifier.{Verifier}
 use Rattle.cose_msg.specs.Answer.{Answer, decided}
 use Rattle.cose_msg.specs.Kept.{HasTaken, answer_kept, inspected_in, verdict_in}
-use Rattle.cose_msg.specs.Laws.{AllAreFair, MessageStandsInside, StandsBy, VerifyingGoesLast, then_verified}
+use Rattle.cose_msg.specs.Laws.{AllAreFair, MessageIsPlacedInside, PlacedBy, VerifyingGoesLast, then_verified}
 use Rattle.cose_msg.specs.Message.{Decides, Setting, comparing, inspecting, message, verifying}
 use Rattle.cose_msg.specs.Reading.{Reading}
 use Rattle.cose_msg.specs.Rules.{Rules}
-use Rattle.cose_msg.specs.Run.{Drive, Run, SaysCount, inspection}
+use Rattle.cose_msg.specs.Run.{TakesMessage, Run, SaysCount, inspection}
 use Rattle.cose_msg.specs.Shown.{shown_in, shown_of}
 use Rattle.cose_msg.specs.Task.{Task, rules_of, to_inspect, to_verify}
 use Rattle.cose_msg.specs.Reader.{Counts}
 use Rattle.cose_msg.proofs.lemmas.Deciding.Decisions.{IsDone, reads_on_inspected, reads_on_with_verdict}
-use Rattle.cose_msg.proofs.lemmas.Run.Runs.{Along, IsKept, at_start, concluded, counted_stands, kept_by, without_more}
+use Rattle.cose_msg.proofs.lemmas.Run.Runs.{Along, IsKept, at_start, concluded, counted_meaning, kept_by, without_more}
 
 -- Readings of the same bytes that differ only in their answers.
 pub record Alike (rules other : Rules) : Type 0 where
@@ -35,8 +35,8 @@ verifying_alike goes_last H D setting decides = record {
 }
 
 -- An answer of all bytes that were taken.
-pub answered : {A : Type 0} (answer_of : A → Answer) {H D : ℕ} {S : Type 0} {K : _} {task : Task} (rules : Rules) → Alike rules (rules_of H D task) → ((bytes : List ℕ) → StandsBy (length bytes) (message rules bytes).answer) →
-    {s B : List ℕ} {come come_after contents contents_after : Option (List ℕ)} {ended : Bool} {v : Verifier H D S K} (d : Drive task s B come come_after ended contents contents_after None v) (answer : A) →
+pub answered : {A : Type 0} (answer_of : A → Answer) {H D : ℕ} {S : Type 0} {K : _} {task : Task} (rules : Rules) → Alike rules (rules_of H D task) → ((bytes : List ℕ) → PlacedBy (length bytes) (message rules bytes).answer) →
+    {s B : List ℕ} {come come_after contents contents_after : Option (List ℕ)} {ended : Bool} {v : Verifier H D S K} (d : TakesMessage task s B come come_after ended contents contents_after None v) (answer : A) →
     (message rules (s ++ d.taken)).answer ≡ answer_of answer → SaysCount (answer_of answer) v.taken → Run rules answer_of s B come come_after ended contents contents_after (Ok answer) d.taken
 answered answer_of {H} {D} {S} {K} {task} rules same inside {s} {B} {come} {come_after} {contents} {contents_after} {ended} {v} d answer is count = record {
   bytes = d.bytes;
@@ -52,7 +52,7 @@ answered answer_of {H} {D} {S} {K} {task} rules same inside {s} {B} {come} {come
 
 -- A stop.
 pub stopped : {A : Type 0} (answer_of : A → Answer) {H D : ℕ} {S : Type 0} {K : _} {task : Task} (rules : Rules) → Alike rules (rules_of H D task) →
-    {s B : List ℕ} {come come_after contents contents_after : Option (List ℕ)} {ended : Bool} {v : Verifier H D S K} (stop : Stop) (d : Drive task s B come come_after ended contents contents_after (Some stop) v) →
+    {s B : List ℕ} {come come_after contents contents_after : Option (List ℕ)} {ended : Bool} {v : Verifier H D S K} (stop : Stop) (d : TakesMessage task s B come come_after ended contents contents_after (Some stop) v) →
     Run rules answer_of s B come come_after ended contents contents_after (Err stop) d.taken
 stopped answer_of {H} {D} {S} {K} {task} rules same {s} {B} {come} {come_after} {contents} {contents_after} {ended} {v} stop d = record {
   bytes = d.bytes;
@@ -64,7 +64,7 @@ stopped answer_of {H} {D} {S} {K} {task} rules same {s} {B} {come} {come_after} 
 -- Nothing is taken where the message is settled already.
 pub still : {H D : ℕ} {S : Type 0} {K : _} {task : Task} {s B : List ℕ} {v : Verifier H D S K} (come contents : Option (List ℕ)) (ended : Bool) → HasTaken task s B v →
     (message (rules_of H D task) (s ++ [])).so_far.payload ≡ B → shown_of v ≡ shown_in task.setting (message (rules_of H D task) (s ++ [])) → (message (rules_of H D task) (s ++ [])).settled ≡ true →
-    Drive task s B come come ended contents contents None v
+    TakesMessage task s B come come ended contents contents None v
 still {H} {D} {S} {K} {task} {s} {B} {v} come contents ended h so_far shown done =
     let reads : message (rules_of H D task) ((s ++ []) ++ []) ≡ message (rules_of H D task) (s ++ []) = without_more H D task (s ++ []) in
     let settled_now : (message (rules_of H D task) ((s ++ []) ++ [])).settled ≡ true = ap (λ (r : Reading). r.settled) reads ∙ done in
@@ -80,7 +80,7 @@ verdict_so_far goes_last H D setting decides bytes verdict is =
     ap (λ (r : Reading). r.answer) (goes_last H D setting decides bytes) ∙ ap (λ (r : Reading). then_verified setting.aad decides r.answer) (sym (without_more H D (to_verify setting) bytes)) ∙ is
 
 module _ {H D : ℕ} {S : Type 0} {K : _} {setting : Setting} {s B : List ℕ} {come come_after contents contents_after : Option (List ℕ)} {ended : Bool} {v : Verifier H D S K} where
-  pub verdict_run : VerifyingGoesLast → MessageStandsInside → AllAreFair → (decides : Decides) (verdict : Verdict) (d : Drive (to_verify setting) s B come come_after ended contents contents_after None v) →
+  pub verdict_run : VerifyingGoesLast → MessageIsPlacedInside → AllAreFair → (decides : Decides) (verdict : Verdict) (d : TakesMessage (to_verify setting) s B come come_after ended contents contents_after None v) →
       then_verified setting.aad decides (message (comparing H D setting) ((s ++ d.taken) ++ [])).answer ≡ decided verdict → Counts verdict v.taken →
       Run (verifying H D setting decides) decided s B come come_after ended contents contents_after (Ok verdict) d.taken
   verdict_run goes_last inside fair decides verdict d is count =
@@ -88,18 +88,18 @@ module _ {H D : ℕ} {S : Type 0} {K : _} {setting : Setting} {s B : List ℕ} {
       let answer : (message (verifying H D setting decides) bytes).answer ≡ decided verdict = verdict_so_far goes_last H D setting decides bytes verdict is in
       answered decided (verifying H D setting decides) (verifying_alike goes_last H D setting decides) (inside (verifying H D setting decides) (fair.verifying H D setting decides)) d verdict answer count
 
-  pub kept_verdict_run : VerifyingGoesLast → MessageStandsInside → AllAreFair → (decides : Decides) (d : Drive (to_verify setting) s B come come_after ended contents contents_after None v) (result : Result Verdict Stop) → answer_kept v.stopped (verdict_in v.reader.phase) ≡ Some result →
+  pub kept_verdict_run : VerifyingGoesLast → MessageIsPlacedInside → AllAreFair → (decides : Decides) (d : TakesMessage (to_verify setting) s B come come_after ended contents contents_after None v) (result : Result Verdict Stop) → answer_kept v.stopped (verdict_in v.reader.phase) ≡ Some result →
       Run (verifying H D setting decides) decided s B come come_after ended contents contents_after result d.taken
   kept_verdict_run goes_last inside fair decides d result kept =
       let going : answer_kept false (verdict_in v.reader.phase) ≡ Some result = rw d.reads_on.0.goes_on at kept in
       let k : IsKept (verdict_in v.reader.phase) result = kept_by (verdict_in v.reader.phase) result going in
-      let st = reads_on_with_verdict k.answer (counted_stands d.reads_on.0) k.kept_is in
+      let st = reads_on_with_verdict k.answer (counted_meaning d.reads_on.0) k.kept_is in
       let run : Run (verifying H D setting decides) decided s B come come_after ended contents contents_after (Ok k.answer) d.taken = verdict_run goes_last inside fair decides k.answer d (ap (then_verified setting.aad decides) st.0) st.2 in
       subst (λ (r : Result Verdict Stop). Run (verifying H D setting decides) decided s B come come_after ended contents contents_after r d.taken) (sym k.result_is) run
 
   -- ---- an inspection
 
-  pub inspection_run : MessageStandsInside → AllAreFair → (shown : Inspected) (d : Drive (to_inspect setting) s B come come_after ended contents contents_after None v) →
+  pub inspection_run : MessageIsPlacedInside → AllAreFair → (shown : Inspected) (d : TakesMessage (to_inspect setting) s B come come_after ended contents contents_after None v) →
       (message (inspecting H D setting) ((s ++ d.taken) ++ [])).answer ≡ inspection shown → SaysCount (inspection shown) v.taken →
       Run (inspecting H D setting) inspection s B come come_after ended contents contents_after (Ok shown) d.taken
   inspection_run inside fair shown d is count =
@@ -107,12 +107,12 @@ module _ {H D : ℕ} {S : Type 0} {K : _} {setting : Setting} {s B : List ℕ} {
       let answer : (message (inspecting H D setting) bytes).answer ≡ inspection shown = ap (λ (r : Reading). r.answer) (sym (without_more H D (to_inspect setting) bytes)) ∙ is in
       answered inspection (inspecting H D setting) (alike (inspecting H D setting)) (inside (inspecting H D setting) (fair.inspecting H D setting)) d shown answer count
 
-  pub kept_inspection_run : MessageStandsInside → AllAreFair → (d : Drive (to_inspect setting) s B come come_after ended contents contents_after None v) (result : Result Inspected Stop) → answer_kept v.stopped (inspected_in v.reader.phase) ≡ Some result →
+  pub kept_inspection_run : MessageIsPlacedInside → AllAreFair → (d : TakesMessage (to_inspect setting) s B come come_after ended contents contents_after None v) (result : Result Inspected Stop) → answer_kept v.stopped (inspected_in v.reader.phase) ≡ Some result →
       Run (inspecting H D setting) inspection s B come come_after ended contents contents_after result d.taken
   kept_inspection_run inside fair d result kept =
       let going : answer_kept false (inspected_in v.reader.phase) ≡ Some result = rw d.reads_on.0.goes_on at kept in
       let k : IsKept (inspected_in v.reader.phase) result = kept_by (inspected_in v.reader.phase) result going in
-      let st = reads_on_inspected k.answer (counted_stands d.reads_on.0) k.kept_is in
+      let st = reads_on_inspected k.answer (counted_meaning d.reads_on.0) k.kept_is in
       let run : Run (inspecting H D setting) inspection s B come come_after ended contents contents_after (Ok k.answer) d.taken = inspection_run inside fair k.answer d st.0 st.2 in
       subst (λ (r : Result Inspected Stop). Run (inspecting H D setting) inspection s B come come_after ended contents contents_after r d.taken) (sym k.result_is) run
 
@@ -121,13 +121,13 @@ pub kept_verdict_settles : {H D : ℕ} {S : Type 0} {K : _} {setting : Setting} 
 kept_verdict_settles {H} {D} {S} {K} {setting} {s} {B} {v} result h kept =
     let going : answer_kept false (verdict_in v.reader.phase) ≡ Some result = rw h.goes_on at kept in
     let k : IsKept (verdict_in v.reader.phase) result = kept_by (verdict_in v.reader.phase) result going in
-    (reads_on_with_verdict k.answer (counted_stands h) k.kept_is).1
+    (reads_on_with_verdict k.answer (counted_meaning h) k.kept_is).1
 
 pub kept_inspection_settles : {H D : ℕ} {S : Type 0} {K : _} {setting : Setting} {s B : List ℕ} {v : Verifier H D S K} (result : Result Inspected Stop) → HasTaken (to_inspect setting) s B v → answer_kept v.stopped (inspected_in v.reader.phase) ≡ Some result → IsDone (message (rules_of H D (to_inspect setting)) (s ++ []))
 kept_inspection_settles {H} {D} {S} {K} {setting} {s} {B} {v} result h kept =
     let going : answer_kept false (inspected_in v.reader.phase) ≡ Some result = rw h.goes_on at kept in
     let k : IsKept (inspected_in v.reader.phase) result = kept_by (inspected_in v.reader.phase) result going in
-    (reads_on_inspected k.answer (counted_stands h) k.kept_is).1
+    (reads_on_inspected k.answer (counted_meaning h) k.kept_is).1
 
 -- ---- all bytes of an intake whose bytes to come are known to the contract
 

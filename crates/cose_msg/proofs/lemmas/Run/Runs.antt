@@ -21,12 +21,12 @@ use Rattle.cose_msg.specs.Laws.{MessageIsInspectedWithin, VerifiedWithin, payloa
 use Rattle.cose_msg.specs.Message.{Setting, comparing, message}
 use Rattle.cose_msg.specs.Phase.{grown, in_payload, is_settled, want_of}
 use Rattle.cose_msg.specs.Reading.{Reading, Findings}
-use Rattle.cose_msg.specs.Run.{Drive}
+use Rattle.cose_msg.specs.Run.{TakesMessage}
 use Rattle.cose_msg.specs.Shown.{ShowsReading, shown_in, shown_of}
 use Rattle.cose_msg.specs.Sink.{AppendsFront, Puts}
 use Rattle.cose_msg.specs.Source.{Source, attached, detached as apart, is_detached_from}
 use Rattle.cose_msg.specs.Task.{Task, rules_of}
-use Rattle.cose_msg.specs.Reader.{HoldsIn, Known, StandsFor}
+use Rattle.cose_msg.specs.Reader.{HoldsIn, Known, ReaderMeans}
 
 pub or_false : (b other : Bool) → other ≡ false → (b || other) ≡ b
 or_false true other e = refl
@@ -95,8 +95,8 @@ kept_by (Some answer) result e = let same : result ≡ Ok answer = cc in record 
 kept_by None result e = absurd cc
 
 -- The number of bytes is the one that is counted.
-pub counted_stands : {H D : ℕ} {S : Type 0} {K : _} {task : Task} {s B : List ℕ} {v : Verifier H D S K} → HasTaken task s B v → StandsFor task B v.taken v.reader (λ z. message (rules_of H D task) (s ++ z))
-counted_stands {H} {D} {S} {K} {task} {s} {B} {v} h = subst (λ (n : ℕ). StandsFor task B n v.reader (λ z. message (rules_of H D task) (s ++ z))) (sym h.counted) h.so_far
+pub counted_meaning : {H D : ℕ} {S : Type 0} {K : _} {task : Task} {s B : List ℕ} {v : Verifier H D S K} → HasTaken task s B v → ReaderMeans task B v.taken v.reader (λ z. message (rules_of H D task) (s ++ z))
+counted_meaning {H} {D} {S} {K} {task} {s} {B} {v} h = subst (λ (n : ℕ). ReaderMeans task B n v.reader (λ z. message (rules_of H D task) (s ++ z))) (sym h.counted) h.so_far
 
 pub without_more : (H D : ℕ) (task : Task) (bytes : List ℕ) → message (rules_of H D task) (bytes ++ []) ≡ message (rules_of H D task) bytes
 without_more H D task bytes = ap (message (rules_of H D task)) (append-nil bytes)
@@ -142,7 +142,7 @@ module _ {H D : ℕ} (task : Task) (known : Known) (so_far : Findings) (n : ℕ)
   attached_in (phases.Settled verdict) h is = absurd cc
   attached_in (phases.Shaped p) h is = absurd cc
 
-pub reads_on_attached : {H D : ℕ} {task : Task} {B : List ℕ} {n : ℕ} {v : Reader H D} {reading : List ℕ → Reading} → StandsFor task B n v reading → in_payload v.phase ≡ true → task.setting.source ≡ attached
+pub reads_on_attached : {H D : ℕ} {task : Task} {B : List ℕ} {n : ℕ} {v : Reader H D} {reading : List ℕ → Reading} → ReaderMeans task B n v reading → in_payload v.phase ≡ true → task.setting.source ≡ attached
 reads_on_attached {H} {D} {task} {B} {n} {v} {reading} h is = attached_in task h.known h.so_far n v v.phase h.holds is
 
 -- A payload that is in the message isn't detached.
@@ -175,7 +175,7 @@ none_inside : (inside : Bool) (part piece : List ℕ) → (inside ≡ true → �
 none_inside true part piece none e = absurd (none refl)
 none_inside false part piece none e = append-nil part ∙ e
 
-pub none_apart : {H D : ℕ} {task : Task} {B : List ℕ} {n : ℕ} {v : Reader H D} {reading : List ℕ → Reading} → StandsFor task B n v reading → is_detached_from task.setting.source ≡ true → in_payload v.phase ≡ true → ⊥
+pub none_apart : {H D : ℕ} {task : Task} {B : List ℕ} {n : ℕ} {v : Reader H D} {reading : List ℕ → Reading} → ReaderMeans task B n v reading → is_detached_from task.setting.source ≡ true → in_payload v.phase ≡ true → ⊥
 none_apart {H} {D} {task} h detached inside = not_both task.setting.source (reads_on_attached h inside) detached
 
 -- ---- a piece more
@@ -222,7 +222,7 @@ shown_of_all {H} {D} task v bytes all same h = subst (λ (b : List ℕ). ShowsRe
 pub concluded : {H D : ℕ} {S : Type 0} {K : _} {task : Task} {s B : List ℕ} {come come_now come_after contents contents_now : Option (List ℕ)} {ended ended_after : Bool} {sure sure_now : ℕ} {v : Verifier H D S K} → (a : Along task s B come come_now ended contents contents_now sure sure_now v) →
     Consumes come_now come_after [] → (message (rules_of H D task) ((s ++ a.taken) ++ [])).so_far.payload ≡ B ++ a.part → shown_of v ≡ shown_in task.setting (message (rules_of H D task) ((s ++ a.taken) ++ [])) →
     ((message (rules_of H D task) ((s ++ a.taken) ++ [])).settled ≡ false → (ended_after ≡ true) × IsAtEnd come_after) → ((message (rules_of H D task) ((s ++ a.taken) ++ [])).settled ≡ true → 0 < length a.taken → ended_after ≡ false) →
-    Drive task s B come come_after ended_after contents contents_now None v
+    TakesMessage task s B come come_after ended_after contents contents_now None v
 concluded {H} {D} {S} {K} {task} {s} {B} {come} {come_now} {come_after} {contents} {contents_now} {ended} {ended_after} {sure} {sure_now} {v} a took so_far shown not_yet once =
     let bytes : List ℕ = s ++ a.taken in
     let here : message (rules_of H D task) (bytes ++ []) ≡ message (rules_of H D task) bytes = without_more H D task bytes in
@@ -243,7 +243,7 @@ concluded {H} {D} {S} {K} {task} {s} {B} {come} {come_now} {come_after} {content
 -- A failed intake.
 pub stopped_by_intake : {H D : ℕ} {S : Type 0} {K : _} {task : Task} {s B : List ℕ} {come come_now come_after contents contents_now : Option (List ℕ)} {ended ended_after : Bool} {sure sure_now : ℕ} {v next : Verifier H D S K} → (a : Along task s B come come_now ended contents contents_now sure sure_now v) →
     KeepsOrForgets come_now come_after → (message (rules_of H D task) ((s ++ a.taken) ++ [])).so_far.payload ≡ B ++ a.part → shown_of v ≡ shown_in task.setting (message (rules_of H D task) ((s ++ a.taken) ++ [])) → (message (rules_of H D task) ((s ++ a.taken) ++ [])).settled ≡ false →
-    next.taken ≡ v.taken → shown_of next ≡ shown_of v → Drive task s B come come_after ended_after contents contents_now (Some stops.Intake) next
+    next.taken ≡ v.taken → shown_of next ≡ shown_of v → TakesMessage task s B come come_after ended_after contents contents_now (Some stops.Intake) next
 stopped_by_intake {H} {D} {S} {K} {task} {s} {B} {come} {come_now} {come_after} {contents} {contents_now} {ended} {ended_after} {sure} {sure_now} {v} {next} a keeps so_far shown unsettled_yet count same =
     let bytes : List ℕ = s ++ a.taken in
     let here : message (rules_of H D task) (bytes ++ []) ≡ message (rules_of H D task) bytes = without_more H D task bytes in
@@ -264,7 +264,7 @@ stopped_by_intake {H} {D} {S} {K} {task} {s} {B} {come} {come_now} {come_after} 
 pub stopped_by_sink : {H D : ℕ} {S : Type 0} {K : _} {task : Task} {s B : List ℕ} {come come_now come_after contents contents_now contents_after : Option (List ℕ)} {ended ended_after : Bool} {sure sure_now : ℕ} {v next : Verifier H D S K} (stepped : Verifier H D S K) (piece : List ℕ) → (a : Along task s B come come_now ended contents contents_now sure sure_now v) →
     Consumes come_now come_after piece → ((more : List ℕ) → length more < length piece → (message (rules_of H D task) ((s ++ a.taken) ++ more)).settled ≡ false) → (message (rules_of H D task) ((s ++ a.taken) ++ piece)).settled ≡ false → in_payload v.reader.phase ≡ true →
     (message (rules_of H D task) (((s ++ a.taken) ++ piece) ++ [])).so_far.payload ≡ grown v.reader.phase (B ++ a.part) piece → shown_of stepped ≡ shown_in task.setting (message (rules_of H D task) (((s ++ a.taken) ++ piece) ++ [])) → AppendsFront contents_now contents_after piece →
-    stepped.taken ≡ length ((s ++ a.taken) ++ piece) → next.taken ≡ stepped.taken → shown_of next ≡ shown_of stepped → Drive task s B come come_after ended_after contents contents_after (Some stops.Sink) next
+    stepped.taken ≡ length ((s ++ a.taken) ++ piece) → next.taken ≡ stepped.taken → shown_of next ≡ shown_of stepped → TakesMessage task s B come come_after ended_after contents contents_after (Some stops.Sink) next
 stopped_by_sink {H} {D} {S} {K} {task} {s} {B} {come} {come_now} {come_after} {contents} {contents_now} {contents_after} {ended} {ended_after} {sure} {sure_now} {v} {next} stepped piece a took within unsettled_yet in_it so_far shown front counted count same =
     let bytes : List ℕ = (s ++ a.taken) ++ piece in
     let regrouped : bytes ≡ s ++ (a.taken ++ piece) = append_assoc s a.taken piece in

@@ -7,7 +7,7 @@ use Rattle.cose_msg.specs.Task.{to_verify}
 use Rattle.cose_msg.specs.Kept.{verdict_in}
 use Rattle.cose_msg.proofs.lemmas.Deciding.KeptAnswers.{kept_again, kept_intake, kept_sink, kept_stop, unfailed}
 use Rattle.cose_msg.proofs.lemmas.Run.Answered.{kept_verdict_run, kept_verdict_settles, of_any, still, stopped, verdict_run, verifying_alike}
-use Rattle.cose_msg.proofs.lemmas.Run.Runs.{counted_stands, so_far_before}
+use Rattle.cose_msg.proofs.lemmas.Run.Runs.{counted_meaning, so_far_before}
 use Rattle.cose_msg.proofs.lemmas.Feeding.Statuses.{left_by_answer, left_by_kept, left_by_stop}
 use Rattle.cose_msg.proofs.lemmas.Run.Purposes.{then_same_task, unchanged}
 use Rattle.cose_msg.proofs.run.verify.Goals as goal
@@ -29,7 +29,7 @@ returns-in-Some-clause-answer g c = λ setting s B bytes h come.
 pub returns-in-Ok-clause-run : goal.returns-in-Ok-clause-run
 returns-in-Ok-clause-run g c = λ setting s B h.
     let d = rw c.in-Ok.is at (c.take_message.ensures.drive (to_verify setting) s B h) in
-    let reads_on = counted_stands d.reads_on.0 in (
+    let reads_on = counted_meaning d.reads_on.0 in (
       d.taken,
       verdict_run c.deciding_goes_last.ensures.verifying c.nothing_stands_after_the_bytes.ensures.inside c.nothing_stands_after_the_bytes.ensures.fair (g.E.EcVerifier.decides c.args.ec.now) c.conclude.result d (c.conclude.ensures.answer setting _ _ reads_on d.reads_on.0.came) (c.conclude.ensures.counted setting _ _ reads_on d.reads_on.0.came),
       (c.conclude.ensures.counts ∙ d.counted, c.conclude.ensures.shown ∙ d.shows, left_by_answer (to_verify setting) (s ++ d.taken) c.conclude.new.self (c.conclude.ensures.status setting _ _ reads_on d.reads_on.0.came d.reads_on.0.goes_on)),

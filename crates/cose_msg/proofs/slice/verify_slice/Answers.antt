@@ -8,7 +8,7 @@ use Rattle.cose_msg.specs.Status.{status_of_answer}
 use Rattle.cose_msg.specs.Task.{rules_of, to_verify}
 use Rattle.cose_msg.specs.Verifier.{setting_in}
 use Rattle.cose_msg.proofs.lemmas.Run.Purposes.{same_task}
-use Rattle.cose_msg.proofs.lemmas.Run.Runs.{counted_stands}
+use Rattle.cose_msg.proofs.lemmas.Run.Runs.{counted_meaning}
 use Rattle.cose_msg.proofs.lemmas.Run.Slices.{begun, counted_fed, payload_is, payload_of_fed, reads_all, verdict_of_fed}
 use Rattle.cose_msg.proofs.lemmas.Feeding.Statuses.{left_by_answer}
 use Rattle.cose_msg.proofs.slice.verify_slice.Goals as goal
@@ -18,7 +18,7 @@ returns-clause-outcome g c =
     let setting = setting_in c.args.verifier.now in
     let fresh = begun c.requires.verifies c.reset.ensures.none_taken in
     let fed = c.feed-fed.ensures.taken (to_verify setting) [] [] fresh in
-    let verdict = verdict_of_fed c.settled_stays.ensures.message c.deciding_goes_last.ensures.verifying g.row.H g.row.D setting (g.E.EcVerifier.decides c.args.ec.now) c.args.message.now c.feed-fed.result.used c.conclude-verdict.result (c.feed-fed.ensures.uses (to_verify setting) [] [] fresh) (c.conclude-verdict.ensures.answer setting _ _ (counted_stands fed) fed.came) in
+    let verdict = verdict_of_fed c.settled_stays.ensures.message c.deciding_goes_last.ensures.verifying g.row.H g.row.D setting (g.E.EcVerifier.decides c.args.ec.now) c.args.message.now c.feed-fed.result.used c.conclude-verdict.result (c.feed-fed.ensures.uses (to_verify setting) [] [] fresh) (c.conclude-verdict.ensures.answer setting _ _ (counted_meaning fed) fed.came) in
     ap (outcome_of (length c.args.message.now)) verdict ∙ c.result_of.ensures.outcome
 
 pub returns-clause-payload : goal.returns-clause-payload
@@ -49,7 +49,7 @@ returns-clause-status g c =
     let fresh = begun c.requires.verifies c.reset.ensures.none_taken in
     let fed = c.feed-fed.ensures.taken (to_verify setting) [] [] fresh in
     let reads = reads_all c.settled_stays.ensures.message (rules_of g.row.H g.row.D (to_verify setting)) c.args.message.now c.feed-fed.result.used (c.feed-fed.ensures.uses (to_verify setting) [] [] fresh) in
-    left_by_answer (to_verify setting) (take c.feed-fed.result.used c.args.message.now) c.conclude-verdict.new.self (c.conclude-verdict.ensures.status setting _ _ (counted_stands fed) fed.came fed.goes_on)
+    left_by_answer (to_verify setting) (take c.feed-fed.result.used c.args.message.now) c.conclude-verdict.new.self (c.conclude-verdict.ensures.status setting _ _ (counted_meaning fed) fed.came fed.goes_on)
     ∙ ap (λ (r : Reading). status_of_answer r.answer) (sym reads)
 
 pub returns-clause-kept : goal.returns-clause-kept
@@ -57,7 +57,7 @@ returns-clause-kept g c =
     let setting = setting_in c.args.verifier.now in
     let fresh = begun c.requires.verifies c.reset.ensures.none_taken in
     let fed = c.feed-fed.ensures.taken (to_verify setting) [] [] fresh in
-    let verdict = verdict_of_fed c.settled_stays.ensures.message c.deciding_goes_last.ensures.verifying g.row.H g.row.D setting (g.E.EcVerifier.decides c.args.ec.now) c.args.message.now c.feed-fed.result.used c.conclude-verdict.result (c.feed-fed.ensures.uses (to_verify setting) [] [] fresh) (c.conclude-verdict.ensures.answer setting _ _ (counted_stands fed) fed.came) in
+    let verdict = verdict_of_fed c.settled_stays.ensures.message c.deciding_goes_last.ensures.verifying g.row.H g.row.D setting (g.E.EcVerifier.decides c.args.ec.now) c.args.message.now c.feed-fed.result.used c.conclude-verdict.result (c.feed-fed.ensures.uses (to_verify setting) [] [] fresh) (c.conclude-verdict.ensures.answer setting _ _ (counted_meaning fed) fed.came) in
     (c.conclude-verdict.result, verdict, c.conclude-verdict.ensures.kept ∙ ap (λ (stopped : Bool). answer_kept stopped (Some c.conclude-verdict.result)) fed.goes_on)
 
 pub returns-clause-purpose : goal.returns-clause-purpose

@@ -1,5 +1,5 @@
 -- `cose_begin` meets its contract: a walk of its MIR by hand. The value that `closed` gives is written to the caller's room.
-use Rattle.cose_c.proofs.Steps.{◌≡◌, List, [], ◌∷◌, None, refl, proved, full_share, ftrue, froom, ex_e, id⊢, sep, snd∗, part_in_at, reroom, wt_as, fact, tables, yes, Is, shows, lone, part_at, Ptr, RawPtr, block_ptr, in_a_block, rawptr_Tells, rawptr_vals, room_at, plain, heard, nothing, peeks, calls_at, ensured, lasts, on_entry, triple_of, framed, Goes-dropped, Stays, ends_at, says, stay_dropped, walk_of, Local, Ty, local, ty_ptr, Val, vunit, WpFn, alloc_all, free_all, get, lands_as, look_at, pass_all, sets, through, !, await, done, drop, feq_i, frame, group, join, later, move, pick, prop, qed, raw, regoal, show, some, split, suffices, use1, use2, ◌$◌, ◌∵◌, ◌⊛◌, ‵, sem, assigns, enter, init, no_more, of_opd, returns, stop, unit_lit}
+use Rattle.cose_c.proofs.Imports.{◌≡◌, List, [], ◌∷◌, None, refl, proved, full_share, ftrue, froom, ex_e, id⊢, sep, snd∗, part_in_at, reroom, wt_as, fact, tables, yes, Is, shows, lone, part_at, Ptr, RawPtr, block_ptr, in_a_block, rawptr_Tells, rawptr_vals, room_at, plain, heard, nothing, peeks, calls_at, ensured, lasts, on_entry, triple_of, framed, Goes-dropped, Stays, ends_at, says, stay_dropped, walk_of, Local, Ty, local, ty_ptr, Val, vunit, WpFn, alloc_all, free_all, get, lands_as, look_at, pass_all, sets, through, !, await, done, drop, feq_i, frame, group, join, later, move, pick, prop, qed, raw, regoal, show, some, split, suffices, use1, use2, ◌$◌, ◌∵◌, ◌⊛◌, ‵, sem, assigns, enter, init, no_more, of_opd, returns, stop, unit_lit}
 use Rattle.cose_c.specs.declared.held.verifier.HeldVerifier.{HeldVerifier}
 use Rattle.cose_c.specs.contracts.held.verifier.HeldVerifier.{the_row as R}
 use Rattle.cose_c.proofs.held.verifier.HeldVerifier.TheLaws.{the_row_laws}

@@ -3,7 +3,7 @@ use Rattle.std.proofs.lemmas.Grind.{common_steps}
 use Rattle.cose_msg.specs.declared.phase.Phase.{Phase}
 use Rattle.cose_msg.specs.Phase.{takes_bytes, want_of}
 use Rattle.cose_msg.proofs.lemmas.Deciding.PhaseCases.{takes_byte}
-use Rattle.cose_msg.proofs.lemmas.Reader.Steps.{first_byte, grown_by_byte}
+use Rattle.cose_msg.proofs.lemmas.Reader.PhaseSteps.{first_byte, grown_by_byte}
 use Rattle.cose_msg.proofs.reader.Reader.advance.Goals as goal
 
 pub returns-in-Protected-clause-reads_on : goal.returns-in-Protected-clause-reads_on

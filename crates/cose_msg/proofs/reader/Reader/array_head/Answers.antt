@@ -4,8 +4,8 @@ use Rattle.cose_head.specs.Head.{IsMore, bare_head}
 use Rattle.cose_msg.specs.Task.{rules_of}
 use Rattle.cose_msg.specs.Front.{past_array_head}
 use Rattle.cose_msg.specs.Phases.{nothing_so_far}
-use Rattle.cose_msg.proofs.lemmas.Reader.Standing.{holds_more, moved, shows_as, so_far_payload}
-use Rattle.cose_msg.proofs.lemmas.Reader.Steps.{head_refused, head_completed, regrouped}
+use Rattle.cose_msg.proofs.lemmas.Reader.Meanings.{holds_more, moved, shows_as, so_far_payload}
+use Rattle.cose_msg.proofs.lemmas.Reader.PhaseSteps.{head_refused, head_completed, regrouped}
 use Rattle.cose_msg.proofs.reader.Reader.array_head.Goals as goal
 
 pub returns-in-More : goal.returns-in-More

@@ -3,9 +3,9 @@ use Rattle.std.proofs.lemmas.Grind.{common_steps}
 use Rattle.cose_msg.specs.Phases.{finish, headers_so_far}
 use Rattle.cose_msg.specs.Task.{rules_of}
 use Rattle.cose_msg.proofs.lemmas.Choosing.ChosenKeys.{auth_room, has_key, more_held}
-use Rattle.cose_msg.proofs.lemmas.Reader.Opened.{with_auth}
-use Rattle.cose_msg.proofs.lemmas.Reader.Standing.{moved, shows_as}
-use Rattle.cose_msg.proofs.lemmas.Reader.Steps.{string_whole}
+use Rattle.cose_msg.proofs.lemmas.Reader.StructureHashes.{with_auth}
+use Rattle.cose_msg.proofs.lemmas.Reader.Meanings.{moved, shows_as}
+use Rattle.cose_msg.proofs.lemmas.Reader.PhaseSteps.{string_whole}
 use Rattle.cose_msg.proofs.reader.Reader.auth.Goals as goal
 
 pub returns-then-left-eq0 : goal.returns-then-left-eq0

@@ -2,8 +2,8 @@ use Rattle.std.proofs.Common.{◌≡◌, length, refl, sym, ap, ◌∙◌, zero-
 use Rattle.cose_msg.specs.Phases.{headers_so_far}
 use Rattle.cose_msg.specs.Task.{rules_of}
 use Rattle.cose_msg.proofs.lemmas.Detached.AfterNil.{nil_empty}
-use Rattle.cose_msg.proofs.lemmas.Reader.Opened.{opened_whole}
-use Rattle.cose_msg.proofs.lemmas.Reader.Standing.{moved}
+use Rattle.cose_msg.proofs.lemmas.Reader.StructureHashes.{opened_whole}
+use Rattle.cose_msg.proofs.lemmas.Reader.Meanings.{moved}
 use Rattle.cose_msg.proofs.reader.Reader.await_payload.Goals as goal
 
 pub returns-then-stated-eq0 : goal.returns-then-stated-eq0

@@ -1,9 +1,9 @@
 use Rattle.std.proofs.Common.{◌≡◌, length, refl, sym, ap, ◌∙◌, zero-add, add-zero}
 use Rattle.cose_msg.specs.Phases.{headers_so_far, past_payload}
 use Rattle.cose_msg.specs.Task.{rules_of}
-use Rattle.cose_msg.proofs.lemmas.Reader.Opened.{opened_whole}
-use Rattle.cose_msg.proofs.lemmas.Reader.Standing.{moved}
-use Rattle.cose_msg.proofs.lemmas.Reader.Steps.{string_none}
+use Rattle.cose_msg.proofs.lemmas.Reader.StructureHashes.{opened_whole}
+use Rattle.cose_msg.proofs.lemmas.Reader.Meanings.{moved}
+use Rattle.cose_msg.proofs.lemmas.Reader.PhaseSteps.{string_none}
 use Rattle.cose_msg.proofs.reader.Reader.begin_payload.Goals as goal
 
 pub returns-then-length-eq0 : goal.returns-then-length-eq0

@@ -1,7 +1,7 @@
 use Rattle.std.proofs.Common.{[], refl, sym, add-zero}
 use Rattle.cose_head.specs.Head.{bare_head}
 use Rattle.cose_msg.specs.Phases.{nothing_so_far}
-use Rattle.cose_msg.proofs.lemmas.Reader.Standing.{unknown}
+use Rattle.cose_msg.proofs.lemmas.Reader.Meanings.{unknown}
 use Rattle.cose_msg.proofs.reader.Reader.begin_tag_head.Goals as goal
 
 pub returns : goal.returns

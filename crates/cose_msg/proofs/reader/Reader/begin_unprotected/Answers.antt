@@ -2,7 +2,7 @@ use Rattle.std.proofs.Common.{[], refl, sym, add-zero, arith}
 use Rattle.std.proofs.lemmas.Grind.{common_steps}
 use Rattle.cose_msg.specs.Phases.{unprotected_so_far}
 use Rattle.cose_msg.specs.Reading.{open_items_after}
-use Rattle.cose_msg.proofs.lemmas.Reader.Standing.{under_pairs}
+use Rattle.cose_msg.proofs.lemmas.Reader.Meanings.{under_pairs}
 use Rattle.cose_msg.proofs.reader.Reader.begin_unprotected.Goals as goal
 
 pub returns : goal.returns

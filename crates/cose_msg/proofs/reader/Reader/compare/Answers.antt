@@ -8,8 +8,8 @@ use Rattle.cose_msg.specs.Phases.{headers_so_far}
 use Rattle.cose_msg.specs.Reading.{settled}
 use Rattle.cose_msg.specs.Reader.{whole_of}
 use Rattle.cose_msg.proofs.lemmas.Choosing.ChosenKeys.{is_verified}
-use Rattle.cose_msg.proofs.lemmas.Reader.Opened.{finished, tag_compared}
-use Rattle.cose_msg.proofs.lemmas.Reader.Standing.{moved}
+use Rattle.cose_msg.proofs.lemmas.Reader.StructureHashes.{finished, tag_compared}
+use Rattle.cose_msg.proofs.lemmas.Reader.Meanings.{moved}
 use Rattle.cose_msg.proofs.reader.Reader.compare.Goals as goal
 
 pub returns-then-same_bytes : goal.returns-then-same_bytes

@@ -3,8 +3,8 @@ use Rattle.cose_msg.specs.Phases.{headers_so_far}
 use Rattle.cose_msg.specs.Source.{detached}
 use Rattle.cose_msg.specs.Task.{rules_of}
 use Rattle.cose_msg.proofs.lemmas.Detached.AfterNil.{nil_whole, source_is}
-use Rattle.cose_msg.proofs.lemmas.Reader.Opened.{opened_more, opened_whole, with_payload}
-use Rattle.cose_msg.proofs.lemmas.Reader.Standing.{moved, shows_as}
+use Rattle.cose_msg.proofs.lemmas.Reader.StructureHashes.{opened_more, opened_whole, with_payload}
+use Rattle.cose_msg.proofs.lemmas.Reader.Meanings.{moved, shows_as}
 use Rattle.cose_msg.proofs.reader.Reader.detached_piece.Goals as goal
 
 pub returns-then-left-eq0-clause-reads_on : goal.returns-then-left-eq0-clause-reads_on

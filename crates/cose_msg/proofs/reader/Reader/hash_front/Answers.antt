@@ -2,7 +2,7 @@ use Rattle.std.proofs.Common.{◌≡◌, ℕ, List, [], cond, sym, ap, subst, �
 use Rattle.cose_msg.specs.Message.{protected_content}
 use Rattle.cose_msg.specs.Reader.{IsOpened}
 use Rattle.cose_msg.specs.Task.{Task}
-use Rattle.cose_msg.proofs.lemmas.Reader.Opened.{opened_first}
+use Rattle.cose_msg.proofs.lemmas.Reader.StructureHashes.{opened_first}
 use Rattle.cose_msg.proofs.reader.Reader.hash_front.Goals as goal
 
 pub returns : goal.returns

@@ -2,7 +2,7 @@ use Rattle.std.proofs.Common.{◌<◌, arith}
 use Rattle.cose_msg.proofs.lemmas.Deciding.Decisions.{reads_on_ended, reads_on_shown}
 use Rattle.cose_msg.proofs.lemmas.Feeding.PayloadsKnown.{reads_on_fixed, reads_on_grows}
 use Rattle.cose_msg.proofs.lemmas.Feeding.Statuses.{reads_on_status}
-use Rattle.cose_msg.proofs.lemmas.Reader.Waits.{ItemWaits, reads_on_open, reads_on_settled, reads_on_so_far, reads_on_payload, reads_on_payload_wanted, reads_on_wanted}
+use Rattle.cose_msg.proofs.lemmas.Reader.Unsettled.{ItemWaits, reads_on_open, reads_on_settled, reads_on_so_far, reads_on_payload, reads_on_payload_wanted, reads_on_wanted}
 use Rattle.cose_msg.proofs.reader.Reader.lemma_reading_so_far.Goals as goal
 
 -- Fewer bytes than the walker wants don't end its item.

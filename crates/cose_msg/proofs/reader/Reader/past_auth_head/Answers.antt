@@ -6,9 +6,9 @@ use Rattle.cose_msg.specs.Phases.{auth_fault_where, finish, headers_so_far}
 use Rattle.cose_msg.specs.Task.{rules_of}
 use Rattle.cose_msg.proofs.lemmas.Reader.ArgumentBounds.{auth_fault_same, auth_fits}
 use Rattle.cose_msg.proofs.lemmas.Choosing.ChosenKeys.{length_by_alg, nothing_held}
-use Rattle.cose_msg.proofs.lemmas.Reader.Opened.{with_auth}
-use Rattle.cose_msg.proofs.lemmas.Reader.Standing.{moved}
-use Rattle.cose_msg.proofs.lemmas.Reader.Steps.{string_none}
+use Rattle.cose_msg.proofs.lemmas.Reader.StructureHashes.{with_auth}
+use Rattle.cose_msg.proofs.lemmas.Reader.Meanings.{moved}
+use Rattle.cose_msg.proofs.lemmas.Reader.PhaseSteps.{string_none}
 use Rattle.cose_msg.proofs.reader.Reader.past_auth_head.Goals as goal
 
 pub returns-in-Some : goal.returns-in-Some

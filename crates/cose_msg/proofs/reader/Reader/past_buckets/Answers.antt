@@ -6,7 +6,7 @@ use Rattle.cose_msg.specs.Choosing.{choice_of}
 use Rattle.cose_msg.specs.Phases.{headers_of, headers_so_far}
 use Rattle.cose_msg.specs.Reader.{Known}
 use Rattle.cose_msg.proofs.lemmas.Choosing.ChoiceReadings.{choice_finds, choice_is_found, choice_is_refused, choice_refuses, chooses_if_verified}
-use Rattle.cose_msg.proofs.lemmas.Reader.Standing.{moved}
+use Rattle.cose_msg.proofs.lemmas.Reader.Meanings.{moved}
 use Rattle.cose_msg.proofs.reader.Reader.past_buckets.Goals as goal
 
 pub returns-in-Ok : goal.returns-in-Ok

@@ -3,7 +3,7 @@ use Rattle.cose_msg.specs.declared.context.Wanted.{Wanted}
 use Rattle.cose_msg.specs.Front.{is_array, is_cwt_tag, is_tag, kind_of_tag, past_untagged}
 use Rattle.cose_msg.specs.Task.{Task, rules_of}
 use Rattle.cose_msg.specs.Phases.{nothing_so_far}
-use Rattle.cose_msg.proofs.lemmas.Reader.Standing.{moved}
+use Rattle.cose_msg.proofs.lemmas.Reader.Meanings.{moved}
 use Rattle.cose_msg.proofs.reader.Reader.past_first_head.Goals as goal
 
 pub returns-then-is_cwt_tag : goal.returns-then-is_cwt_tag

@@ -3,7 +3,7 @@ use Rattle.cose_msg.specs.Phases.{headers_so_far, nil_fault_within, payload_faul
 use Rattle.cose_msg.specs.Reader.{IsAtPayload}
 use Rattle.cose_msg.specs.Source.{attached, came_of, detached, source_with}
 use Rattle.cose_msg.specs.Task.{Task}
-use Rattle.cose_msg.proofs.lemmas.Reader.Standing.{along}
+use Rattle.cose_msg.proofs.lemmas.Reader.Meanings.{along}
 use Rattle.cose_msg.proofs.reader.Reader.past_payload_head.Goals as goal
 
 pub returns-in-Some-fault_of_nil : goal.returns-in-Some-fault_of_nil

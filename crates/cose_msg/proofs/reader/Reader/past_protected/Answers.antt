@@ -3,8 +3,8 @@ use Rattle.std.proofs.lemmas.Grind.{common_steps}
 use Rattle.cose_map.specs.Bucket.{bucket_of}
 use Rattle.cose_msg.specs.Task.{rules_of}
 use Rattle.cose_msg.specs.Phases.{nothing_so_far, placed_at, unprotected}
-use Rattle.cose_msg.proofs.lemmas.Reader.Standing.{moved}
-use Rattle.cose_msg.proofs.lemmas.Reader.Steps.{value_refused, value_there}
+use Rattle.cose_msg.proofs.lemmas.Reader.Meanings.{moved}
+use Rattle.cose_msg.proofs.lemmas.Reader.PhaseSteps.{value_refused, value_there}
 use Rattle.cose_msg.proofs.reader.Reader.past_protected.Goals as goal
 
 pub returns-in-Some : goal.returns-in-Some

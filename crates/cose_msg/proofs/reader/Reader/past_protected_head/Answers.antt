@@ -3,8 +3,8 @@ use Rattle.std.proofs.lemmas.Grind.{common_steps}
 use Rattle.cose_msg.specs.Task.{rules_of}
 use Rattle.cose_msg.specs.Phases.{nothing_so_far, past_protected}
 use Rattle.cose_msg.proofs.lemmas.Reader.ArgumentBounds.{protected_fits}
-use Rattle.cose_msg.proofs.lemmas.Reader.Standing.{moved, unknown}
-use Rattle.cose_msg.proofs.lemmas.Reader.Steps.{string_none}
+use Rattle.cose_msg.proofs.lemmas.Reader.Meanings.{moved, unknown}
+use Rattle.cose_msg.proofs.lemmas.Reader.PhaseSteps.{string_none}
 use Rattle.cose_msg.proofs.reader.Reader.past_protected_head.Goals as goal
 
 pub returns-in-Some : goal.returns-in-Some

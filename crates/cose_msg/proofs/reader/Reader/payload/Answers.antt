@@ -2,9 +2,9 @@ use Rattle.std.proofs.Common.{◌≡◌, ℕ, ◌+◌, ◌-◌, List, ◌++◌, 
 use Rattle.std.proofs.lemmas.Grind.{common_steps}
 use Rattle.cose_msg.specs.Phases.{headers_so_far, past_payload}
 use Rattle.cose_msg.specs.Task.{rules_of}
-use Rattle.cose_msg.proofs.lemmas.Reader.Opened.{opened_more, opened_whole, with_payload}
-use Rattle.cose_msg.proofs.lemmas.Reader.Standing.{moved, shows_as}
-use Rattle.cose_msg.proofs.lemmas.Reader.Steps.{string_whole}
+use Rattle.cose_msg.proofs.lemmas.Reader.StructureHashes.{opened_more, opened_whole, with_payload}
+use Rattle.cose_msg.proofs.lemmas.Reader.Meanings.{moved, shows_as}
+use Rattle.cose_msg.proofs.lemmas.Reader.PhaseSteps.{string_whole}
 use Rattle.cose_msg.proofs.reader.Reader.payload.Goals as goal
 
 pub returns-then-left-eq0 : goal.returns-then-left-eq0

@@ -3,8 +3,8 @@ use Rattle.cose_msg.specs.declared.phase.Phase.{Phase}
 use Rattle.cose_msg.specs.Phase.{want_of}
 use Rattle.cose_msg.specs.Phases.{headers_so_far}
 use Rattle.cose_msg.proofs.lemmas.Deciding.PhaseCases.{not_in_payload}
-use Rattle.cose_msg.proofs.lemmas.Reader.Opened.{opened_more, with_payload}
-use Rattle.cose_msg.proofs.lemmas.Reader.Standing.{shows_as}
+use Rattle.cose_msg.proofs.lemmas.Reader.StructureHashes.{opened_more, with_payload}
+use Rattle.cose_msg.proofs.lemmas.Reader.Meanings.{shows_as}
 use Rattle.cose_msg.proofs.reader.Reader.payload_part.Goals.{in-Payload, in_default}
 use Rattle.cose_msg.proofs.reader.Reader.payload_part.Goals as goal
 

@@ -3,8 +3,8 @@ use Rattle.std.proofs.lemmas.Grind.{common_steps}
 use Rattle.cose_head.specs.Head.{IsMore, bare_head}
 use Rattle.cose_msg.specs.Task.{rules_of}
 use Rattle.cose_msg.specs.Phases.{past_protected_head, nothing_so_far}
-use Rattle.cose_msg.proofs.lemmas.Reader.Standing.{holds_more, moved, shows_as, so_far_payload}
-use Rattle.cose_msg.proofs.lemmas.Reader.Steps.{head_refused, head_completed, regrouped}
+use Rattle.cose_msg.proofs.lemmas.Reader.Meanings.{holds_more, moved, shows_as, so_far_payload}
+use Rattle.cose_msg.proofs.lemmas.Reader.PhaseSteps.{head_refused, head_completed, regrouped}
 use Rattle.cose_msg.proofs.reader.Reader.protected_head.Goals as goal
 
 pub returns-in-More : goal.returns-in-More

@@ -2,8 +2,8 @@ use Rattle.std.proofs.Common.{◌≡◌, ◌+◌, ◌-◌, ◌++◌, length, ref
 use Rattle.std.proofs.lemmas.Grind.{common_steps}
 use Rattle.cose_msg.specs.Task.{rules_of}
 use Rattle.cose_msg.specs.Phases.{nothing_so_far, past_protected}
-use Rattle.cose_msg.proofs.lemmas.Reader.Standing.{moved, shows_as, so_far_payload}
-use Rattle.cose_msg.proofs.lemmas.Reader.Steps.{string_whole}
+use Rattle.cose_msg.proofs.lemmas.Reader.Meanings.{moved, shows_as, so_far_payload}
+use Rattle.cose_msg.proofs.lemmas.Reader.PhaseSteps.{string_whole}
 use Rattle.cose_msg.proofs.reader.Reader.protected_piece.Goals as goal
 
 pub returns-then-left-eq0 : goal.returns-then-left-eq0

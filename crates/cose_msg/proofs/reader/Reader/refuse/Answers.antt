@@ -1,5 +1,5 @@
 use Rattle.std.proofs.Common.{refl}
-use Rattle.cose_msg.proofs.lemmas.Reader.Standing.{unknown}
+use Rattle.cose_msg.proofs.lemmas.Reader.Meanings.{unknown}
 use Rattle.cose_msg.proofs.reader.Reader.refuse.Goals as goal
 
 pub returns : goal.returns

@@ -7,8 +7,8 @@ use Rattle.cose_head.specs.Walker.{open_now, open_while}
 use Rattle.cose_msg.specs.Task.{rules_of}
 use Rattle.cose_msg.specs.Phases.{past_unprotected, protected_so_far, unprotected_so_far}
 use Rattle.cose_msg.specs.Reading.{open_items_after, wanted_after}
-use Rattle.cose_msg.proofs.lemmas.Reader.Standing.{moved, shows_as, so_far_payload}
-use Rattle.cose_msg.proofs.lemmas.Reader.Steps.{item_completed, item_refused}
+use Rattle.cose_msg.proofs.lemmas.Reader.Meanings.{moved, shows_as, so_far_payload}
+use Rattle.cose_msg.proofs.lemmas.Reader.PhaseSteps.{item_completed, item_refused}
 use Rattle.cose_msg.proofs.reader.Reader.unprotected_piece.Goals as goal
 
 pub returns-in-Going : goal.returns-in-Going

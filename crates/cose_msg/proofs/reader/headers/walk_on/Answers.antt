@@ -2,7 +2,7 @@ use Rattle.std.proofs.Common.{◌≡◌, ◌≤◌, ℕ, List, length, take, sym
 use Rattle.std.proofs.Math.Seq.{take-length}
 use Rattle.cose_head.specs.Walker.{HasPut}
 use Rattle.cose_msg.specs.Reading.{wanted_after}
-use Rattle.cose_msg.proofs.lemmas.Reader.Steps.{one_wanted, piece_of_string, single}
+use Rattle.cose_msg.proofs.lemmas.Reader.PhaseSteps.{one_wanted, piece_of_string, single}
 use Rattle.cose_msg.proofs.reader.headers.walk_on.Goals as goal
 
 pub returns-then-pass-eq0-clause-put : goal.returns-then-pass-eq0-clause-put

@@ -9,7 +9,7 @@ use Rattle.cose_msg.proofs.lemmas.Detached.BothAnswered.{done_wants_none, is_of_
 use Rattle.cose_msg.proofs.lemmas.Detached.BothTaken.{none_awaited}
 use Rattle.cose_msg.proofs.lemmas.Deciding.KeptAnswers.{kept_again, kept_stop}
 use Rattle.cose_msg.proofs.lemmas.Run.Purposes.{then_same_task, unchanged}
-use Rattle.cose_msg.proofs.lemmas.Run.Runs.{counted_stands, so_far_before}
+use Rattle.cose_msg.proofs.lemmas.Run.Runs.{counted_meaning, so_far_before}
 use Rattle.cose_msg.proofs.lemmas.Feeding.Statuses.{left_by_answer, left_by_kept, left_by_stop}
 use Rattle.cose_msg.proofs.run.detached.verify_detached.Goals as goal
 
@@ -46,7 +46,7 @@ returns-in-Some-clause-purpose g c = unchanged c.args.verifier.now
 pub returns-in-Ok-clause-run : goal.returns-in-Ok-clause-run
 returns-in-Ok-clause-run g c = λ setting s B h.
     let t = rw c.in-Ok.is at (c.take_detached.ensures.takes (to_verify setting) s B h) in
-    let reads_on = counted_stands t.reads_on.0 in (
+    let reads_on = counted_meaning t.reads_on.0 in (
       t.taken,
       t.came,
       verdict_on_both c.deciding_goes_last.ensures.verifying c.nothing_stands_after_the_bytes.ensures.inside c.nothing_stands_after_the_bytes.ensures.fair (g.E.EcVerifier.decides c.args.ec.now) c.conclude.result t (c.conclude.ensures.answer _ _ _ reads_on t.reads_on.0.came) (c.conclude.ensures.counted _ _ _ reads_on t.reads_on.0.came),

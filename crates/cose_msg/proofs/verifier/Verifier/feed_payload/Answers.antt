@@ -9,7 +9,7 @@ use Rattle.cose_msg.specs.Task.{Task, given_to}
 use Rattle.cose_msg.proofs.lemmas.Detached.PayloadRuns.{keeps_setting}
 use Rattle.cose_msg.proofs.lemmas.Detached.PayloadTaken.{came_more, given_again, now_given, reads_on_beside}
 use Rattle.cose_msg.proofs.lemmas.Run.Runs.{without_more}
-use Rattle.cose_msg.proofs.lemmas.Reader.Standing.{whole_task}
+use Rattle.cose_msg.proofs.lemmas.Reader.Meanings.{whole_task}
 use Rattle.cose_msg.proofs.lemmas.Deciding.PhaseCases.{not_awaiting}
 use Rattle.cose_msg.proofs.lemmas.Feeding.Statuses.{none_wanted, some_wanted}
 use Rattle.cose_msg.proofs.lemmas.Deciding.Untouched.{untouched_awaits_none}

@@ -4,7 +4,7 @@ use Rattle.cose_msg.specs.Reader.{SoFar}
 use Rattle.cose_msg.specs.Source.{attached}
 use Rattle.cose_msg.specs.Task.{Task, rules_of}
 use Rattle.cose_msg.proofs.lemmas.Detached.PayloadTaken.{given_attached}
-use Rattle.cose_msg.proofs.lemmas.Reader.Standing.{moved, whole_task}
+use Rattle.cose_msg.proofs.lemmas.Reader.Meanings.{moved, whole_task}
 use Rattle.cose_msg.proofs.lemmas.Run.Purposes.{same_setting_of}
 use Rattle.cose_msg.proofs.lemmas.Run.Runs.{reads_on_attached}
 use Rattle.cose_msg.proofs.verifier.Verifier.take_payload_part.Goals as goal

@@ -7,7 +7,7 @@ use Rattle.cose_msg.specs.Task.{Task, given_to, keys_for, rules_of}
 use Rattle.cose_msg.proofs.lemmas.Detached.PayloadTaken.{given_again, stated_for, still_comes, whatever_then}
 use Rattle.cose_msg.proofs.lemmas.Run.Purposes.{same_setting_of}
 use Rattle.cose_msg.proofs.lemmas.Run.Runs.{reads_on_attached}
-use Rattle.cose_msg.proofs.lemmas.Reader.Standing.{took_piece, whole_task}
+use Rattle.cose_msg.proofs.lemmas.Reader.Meanings.{took_piece, whole_task}
 use Rattle.cose_msg.proofs.verifier.Verifier.take_piece.Goals as goal
 
 pub returns-clause-taken : goal.returns-clause-taken

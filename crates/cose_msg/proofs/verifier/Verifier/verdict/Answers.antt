@@ -3,7 +3,7 @@ use Rattle.std.proofs.lemmas.Grind.{common_steps}
 use Rattle.cose_msg.specs.Laws.{then_verified}
 use Rattle.cose_msg.proofs.lemmas.Run.Answered.{verdict_so_far}
 use Rattle.cose_msg.proofs.lemmas.Deciding.Decisions.{reads_on_with_verdict}
-use Rattle.cose_msg.proofs.lemmas.Run.Runs.{counted_stands}
+use Rattle.cose_msg.proofs.lemmas.Run.Runs.{counted_meaning}
 use Rattle.cose_msg.proofs.lemmas.Feeding.Statuses.{complete_stays}
 use Rattle.cose_msg.proofs.verifier.Verifier.verdict.Goals as goal
 
@@ -14,7 +14,7 @@ returns-in-Some-clause-answer g c = λ setting s B h.
 
 pub returns-in-None-clause-answer : goal.returns-in-None-clause-answer
 returns-in-None-clause-answer g c = λ setting s B h.
-    verdict_so_far c.deciding_goes_last.ensures.verifying g.row.H g.row.D setting (g.E.EcVerifier.decides c.args.ec.now) s c.conclude.result (c.conclude.ensures.answer setting _ _ (counted_stands h) h.came)
+    verdict_so_far c.deciding_goes_last.ensures.verifying g.row.H g.row.D setting (g.E.EcVerifier.decides c.args.ec.now) s c.conclude.result (c.conclude.ensures.answer setting _ _ (counted_meaning h) h.came)
 
 pub returns-in-Some-clause-status : goal.returns-in-Some-clause-status
 returns-in-Some-clause-status g c = λ setting s B h. rw h.goes_on (complete_stays c.args.self.now.stopped _ h.goes_on c.requires.complete)

@@ -1,5 +1,5 @@
 -- `lend` meets its contract: a walk of its MIR by hand. The value in the block is lent, and the handle has its last value then.
-use Rattle.cose_c.proofs.Steps.{◌≡◌, ℕ, List, [], ◌∷◌, MutBor, refl, sym, ap, ◌∙◌, proved, after, Ura, full_share, GName, Fml, ftrue, flft, fsep, ent, id⊢, sep, tables, no, follows, Part, lends_Part, shows, cell_at, mem, part_at, part_of, Ptr, block_ptr, in_a_block, lies_at, MutRef, mut_Tells, mut_vals, mut_ref_to, plain, nothing, opens, peeks, shape, Struct, Goes-spent_ref, Stays, ends_at, says, stay_dropped, walk_of, named, Val, vptr, alloc_all, env, free_all, get, look_at, pass_all, sets, sets_last, through, !, at_ret, await, done, fjoin, fpack, frame, fsplit, fsplit3, group, join, keep, later, move, pick, qed, raw, rewrite, some, split, suffices, use1, ◌$◌, ◌∵◌, ◌⊛◌, ‵, Logic, sem, look_in, sub, whole, addr, blocks, enter, exec, first, fld, load, of_opd, returns, stop}
+use Rattle.cose_c.proofs.Imports.{◌≡◌, ℕ, List, [], ◌∷◌, MutBor, refl, sym, ap, ◌∙◌, proved, after, Ura, full_share, GName, Fml, ftrue, flft, fsep, ent, id⊢, sep, tables, no, follows, Part, lends_Part, shows, cell_at, mem, part_at, part_of, Ptr, block_ptr, in_a_block, lies_at, MutRef, mut_Tells, mut_vals, mut_ref_to, plain, nothing, opens, peeks, shape, Struct, Goes-spent_ref, Stays, ends_at, says, stay_dropped, walk_of, named, Val, vptr, alloc_all, env, free_all, get, look_at, pass_all, sets, sets_last, through, !, at_ret, await, done, fjoin, fpack, frame, fsplit, fsplit3, group, join, keep, later, move, pick, qed, raw, rewrite, some, split, suffices, use1, ◌$◌, ◌∵◌, ◌⊛◌, ‵, Logic, sem, look_in, sub, whole, addr, blocks, enter, exec, first, fld, load, of_opd, returns, stop}
 use Rattle.cose_c.specs.declared.held.verifier.HeldVerifier.{HeldVerifier}
 use Rattle.cose_c.specs.declared.held.verifier.CoseVerifier.{CoseVerifier}
 use Rattle.cose_c.specs.Held.{with_verifier}

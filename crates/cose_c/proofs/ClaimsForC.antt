@@ -1,4 +1,5 @@
--- The claims of a payload, by what the policy is and whether they are admitted.
+-- The claims of a payload or of a token in the form of the C interface: under a policy that is refused, one that is good, and wherever
+-- the payload is.
 use Rattle.std.proofs.Common.{◌≡◌, ◌≢◌, ℕ, ℤ, true, List, length, take, drop, Option, Result, Ok, Err, refl, sym, ap, subst, ◌∙◌}
 use Rattle.cose_head.specs.declared.kind.Kind.{Kind}
 use Rattle.cose_map.specs.Map.Read.{Read, ◌>>=◌}
@@ -9,12 +10,12 @@ use Rattle.cose_cwt.specs.Admission.{PolicyValue, admitted, admitted_claims}
 use Rattle.cose_cwt.specs.Claims.{ClaimsValue, claims_of}
 use Rattle.cose_c.specs.declared.numbers.CoseStatus.{CoseStatus}
 use Rattle.cose_c.specs.declared.numbers.CoseVerdict.{CoseVerdict}
-use Rattle.cose_c.specs.declared.told.CoseClaims.{CoseClaims}
+use Rattle.cose_c.specs.declared.cose_claims.CoseClaims.{CoseClaims}
 use Rattle.cose_c.specs.Claims.{Gives, GivesTokenIn, claims_given, policy_for, policy_named, status_in, unless_refused, without_payload}
 use Rattle.cose_c.specs.Deciding.{always}
 use Rattle.cose_c.specs.Message.{Covers, is_accepted, payload_read, verdict_read}
 use Rattle.cose_c.specs.Numbers.{one_message, unless_signed, verdict_numbers}
-use Rattle.cose_c.specs.Told.{no_claims}
+use Rattle.cose_c.specs.CoseClaims.{no_claims}
 
 abbrev got : ClaimsValue → Read ClaimsValue
 got claims = Ok claims
@@ -32,19 +33,19 @@ module _ (policy : PolicyValue) (claims : ClaimsValue) where
   pub was_read : (depth : ℕ) (payload : List ℕ) → admitted_claims depth policy payload ≡ Ok claims → claims_of depth (record { bytes = payload; place = 0 }) ≡ Ok claims
   was_read depth payload e = reading (claims_of depth (record { bytes = payload; place = 0 })) e
 
-module _ (depth : ℕ) (payload : List ℕ) (told : CoseClaims) (now : ℤ) (leeway : ℕ) (given : Result (Option (List ℕ)) CoseStatus) where
-  pub gives_no_policy : (status : CoseStatus) → given ≡ Err status → told ≡ no_claims status → Gives payload (claims_given depth (policy_named now leeway given) payload) told
-  gives_no_policy status e is = subst (λ (g : Result (Option (List ℕ)) CoseStatus). Gives payload (claims_given depth (policy_named now leeway g) payload) told) (sym e) (ap without_payload is)
+module _ (depth : ℕ) (payload : List ℕ) (claims : CoseClaims) (now : ℤ) (leeway : ℕ) (given : Result (Option (List ℕ)) CoseStatus) where
+  pub gives_no_policy : (status : CoseStatus) → given ≡ Err status → claims ≡ no_claims status → Gives payload (claims_given depth (policy_named now leeway given) payload) claims
+  gives_no_policy status e is = subst (λ (g : Result (Option (List ℕ)) CoseStatus). Gives payload (claims_given depth (policy_named now leeway g) payload) claims) (sym e) (ap without_payload is)
 
   pub gives_named : (name : Option (List ℕ)) (policy : PolicyValue) → given ≡ Ok name → policy ≡ policy_for now leeway name →
-      Gives payload (unless_refused (admitted_claims depth policy payload)) told → Gives payload (claims_given depth (policy_named now leeway given) payload) told
+      Gives payload (unless_refused (admitted_claims depth policy payload)) claims → Gives payload (claims_given depth (policy_named now leeway given) payload) claims
   gives_named name policy e same h =
-      subst (λ (g : Result (Option (List ℕ)) CoseStatus). Gives payload (claims_given depth (policy_named now leeway g) payload) told) (sym e)
-      (subst (λ (p : PolicyValue). Gives payload (unless_refused (admitted_claims depth p payload)) told) same h)
+      subst (λ (g : Result (Option (List ℕ)) CoseStatus). Gives payload (claims_given depth (policy_named now leeway g) payload) claims) (sym e)
+      (subst (λ (p : PolicyValue). Gives payload (unless_refused (admitted_claims depth p payload)) claims) same h)
 
 -- The same where the payload is at another place.
-pub elsewhere : (payload : List ℕ) (given : Result ClaimsValue CoseStatus) (told : CoseClaims) (at count : ℕ) → Gives payload given told → Gives payload given (record told { payload_at = at; payload_length = count })
-elsewhere payload (Ok claims) told at count g = record {
+pub gives_at_any_place : (payload : List ℕ) (given : Result ClaimsValue CoseStatus) (claims : CoseClaims) (at count : ℕ) → Gives payload given claims → Gives payload given (record claims { payload_at = at; payload_length = count })
+gives_at_any_place payload (Ok value) claims at count g = record {
   status = g.status;
   no_reason = g.no_reason;
   no_place = g.no_place;
@@ -59,11 +60,11 @@ elsewhere payload (Ok claims) told at count g = record {
   cnf_crv = g.cnf_crv;
   cnf_y_sign = g.cnf_y_sign;
 }
-elsewhere payload (Err status) told at count g = g
+gives_at_any_place payload (Err status) claims at count g = g
 
 -- ---- a token
 
--- The status of an answer is the same wherever the payload is.
+-- The status of an answer does not depend on where the payload is.
 any_place : (status : Kind → ℕ) (at : ℕ) (answer : Answer) → status_in (verdict_numbers status at answer) ≡ status_in (verdict_numbers status 0 answer)
 any_place status at (decided (Authentic kind alg payload taken)) = refl
 any_place status at (decided (Refused refusal)) = refl
@@ -73,13 +74,13 @@ any_place status at (shaped kind payload auth taken) = refl
 authentic_is_accepted : (v : CoseVerdict) → v.status ≡ 1 → is_accepted v ≡ true
 authentic_is_accepted v one = rw one refl
 
-pub token_told : (room nesting : ℕ) (setting : Setting) (policy : Result PolicyValue CoseStatus) (token : List ℕ) (v : CoseVerdict) (told : CoseClaims) →
+pub gives_token : (room nesting : ℕ) (setting : Setting) (policy : Result PolicyValue CoseStatus) (token : List ℕ) (v : CoseVerdict) (claims : CoseClaims) →
     v ≡ verdict_read room nesting setting v.payload_at token →
     (is_accepted v ≡ true → Covers token (payload_read room nesting setting token) v.payload_at v.payload_length) →
-    (v.status ≢ 1 → told ≡ no_claims (status_in v)) →
-    (v.status ≡ 1 → Gives (take v.payload_length (drop v.payload_at token)) (claims_given nesting policy (take v.payload_length (drop v.payload_at token))) told) →
-    (v.status ≡ 1 → told.payload_at ≡ v.payload_at) → (v.status ≡ 1 → told.payload_length ≡ v.payload_length) → GivesTokenIn room nesting setting policy token told
-token_told room nesting setting policy token v told is covers other gives place count =
+    (v.status ≢ 1 → claims ≡ no_claims (status_in v)) →
+    (v.status ≡ 1 → Gives (take v.payload_length (drop v.payload_at token)) (claims_given nesting policy (take v.payload_length (drop v.payload_at token))) claims) →
+    (v.status ≡ 1 → claims.payload_at ≡ v.payload_at) → (v.status ≡ 1 → claims.payload_length ≡ v.payload_length) → GivesTokenIn room nesting setting policy token claims
+gives_token room nesting setting policy token v claims is covers other gives place count =
     let same : status_in v ≡ status_in (verdict_read room nesting setting 0 token) =
     ap status_in is ∙ any_place unless_signed v.payload_at (one_message (length token) (verdict_of room nesting setting always token)) in
     let one_of : v.status ≡ (verdict_read room nesting setting 0 token).status = ap (λ (s : CoseStatus). s.status) same in
@@ -87,9 +88,9 @@ token_told room nesting setting policy token v told is covers other gives place 
       refused = λ no. other (λ one. no (sym one_of ∙ one)) ∙ ap no_claims same;
       admitted = λ one.
           let covered = covers (authentic_is_accepted v (one_of ∙ one)) in
-          subst (λ (payload : List ℕ). Gives payload (claims_given nesting policy payload) told) covered.has (gives (one_of ∙ one));
+          subst (λ (payload : List ℕ). Gives payload (claims_given nesting policy payload) claims) covered.has (gives (one_of ∙ one));
       payload = λ one.
           let covered = covers (authentic_is_accepted v (one_of ∙ one)) in
-          subst (λ (at : ℕ). Covers token (payload_read room nesting setting token) at told.payload_length) (sym (place (one_of ∙ one)))
+          subst (λ (at : ℕ). Covers token (payload_read room nesting setting token) at claims.payload_length) (sym (place (one_of ∙ one)))
           (subst (λ (n : ℕ). Covers token (payload_read room nesting setting token) v.payload_at n) (sym (count (one_of ∙ one))) covered);
     }

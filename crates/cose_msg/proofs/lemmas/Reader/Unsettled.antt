@@ -24,9 +24,9 @@ use Rattle.cose_msg.specs.Reading.{Next, Reading, Findings, awaits, cut, settled
 use Rattle.cose_msg.specs.Rules.{Rules}
 use Rattle.cose_msg.specs.Source.{Source, detached, with_came}
 use Rattle.cose_msg.specs.Task.{Task, given_to, rules_of}
-use Rattle.cose_msg.specs.Reader.{HoldsHead, HoldsIn, Known, StandsFor, left_in, past_nil}
+use Rattle.cose_msg.specs.Reader.{HoldsHead, HoldsIn, Known, ReaderMeans, left_in, past_nil}
 use Rattle.cose_msg.proofs.lemmas.Deciding.PhaseCases.{unsettled_wants_none}
-use Rattle.cose_msg.proofs.lemmas.Reader.Steps.{string_whole}
+use Rattle.cose_msg.proofs.lemmas.Reader.PhaseSteps.{string_whole}
 
 -- ---- the forms
 
@@ -240,26 +240,26 @@ module _ {H D : ℕ} (task : Task) (known : Known) (so_far : Findings) (n : ℕ)
 pub came_known : (task : Task) (known : Known) (B : List ℕ) → known.payload ≡ B → given_to B task ≡ task → with_came known.payload task.setting.source ≡ task.setting.source
 came_known task known B is came = ap (λ (t : List ℕ). with_came t task.setting.source) is ∙ ap (λ (t : Task). t.setting.source) came
 
-pub reads_on_open : {H D : ℕ} {task : Task} {B : List ℕ} {n : ℕ} {v : Reader H D} {reading : List ℕ → Reading} → ItemWaits v → (more : List ℕ) → StandsFor task B n v reading → length more < want_of v.phase → (reading more).settled ≡ false
+pub reads_on_open : {H D : ℕ} {task : Task} {B : List ℕ} {n : ℕ} {v : Reader H D} {reading : List ℕ → Reading} → ItemWaits v → (more : List ℕ) → ReaderMeans task B n v reading → length more < want_of v.phase → (reading more).settled ≡ false
 unfolding here
 reads_on_open {H} {D} {task} {B} {n} {v} {reading} waits more h lt = ap (λ (r : Reading). r.settled) (h.left more) ∙ open_in task h.known h.so_far n v waits v.phase h.holds more lt
 
-pub reads_on_settled : {H D : ℕ} {task : Task} {B : List ℕ} {n : ℕ} {v : Reader H D} {reading : List ℕ → Reading} → ItemWaits v → StandsFor task B n v reading → given_to B task ≡ task → (reading []).settled ≡ is_settled v.phase
+pub reads_on_settled : {H D : ℕ} {task : Task} {B : List ℕ} {n : ℕ} {v : Reader H D} {reading : List ℕ → Reading} → ItemWaits v → ReaderMeans task B n v reading → given_to B task ≡ task → (reading []).settled ≡ is_settled v.phase
 unfolding here
 reads_on_settled {H} {D} {task} {B} {n} {v} {reading} waits h came = ap (λ (r : Reading). r.settled) (h.left [] ∙ ends_in task h.known h.so_far n v waits v.phase h.holds (came_known task h.known B h.payload_known came))
 
-pub reads_on_wanted : {H D : ℕ} {task : Task} {B : List ℕ} {n : ℕ} {v : Reader H D} {reading : List ℕ → Reading} → ItemWaits v → StandsFor task B n v reading → given_to B task ≡ task → (reading []).wanted ≡ want_of v.phase
+pub reads_on_wanted : {H D : ℕ} {task : Task} {B : List ℕ} {n : ℕ} {v : Reader H D} {reading : List ℕ → Reading} → ItemWaits v → ReaderMeans task B n v reading → given_to B task ≡ task → (reading []).wanted ≡ want_of v.phase
 unfolding here
 reads_on_wanted {H} {D} {task} {B} {n} {v} {reading} waits h came = ap (λ (r : Reading). r.wanted) (h.left [] ∙ ends_in task h.known h.so_far n v waits v.phase h.holds (came_known task h.known B h.payload_known came))
 
-pub reads_on_payload_wanted : {H D : ℕ} {task : Task} {B : List ℕ} {n : ℕ} {v : Reader H D} {reading : List ℕ → Reading} → ItemWaits v → StandsFor task B n v reading → given_to B task ≡ task → (reading []).payload_wanted ≡ payload_want_of v.phase
+pub reads_on_payload_wanted : {H D : ℕ} {task : Task} {B : List ℕ} {n : ℕ} {v : Reader H D} {reading : List ℕ → Reading} → ItemWaits v → ReaderMeans task B n v reading → given_to B task ≡ task → (reading []).payload_wanted ≡ payload_want_of v.phase
 unfolding here
 reads_on_payload_wanted {H} {D} {task} {B} {n} {v} {reading} waits h came = ap (λ (r : Reading). r.payload_wanted) (h.left [] ∙ ends_in task h.known h.so_far n v waits v.phase h.holds (came_known task h.known B h.payload_known came))
 
-pub reads_on_so_far : {H D : ℕ} {task : Task} {B : List ℕ} {n : ℕ} {v : Reader H D} {reading : List ℕ → Reading} → ItemWaits v → StandsFor task B n v reading → given_to B task ≡ task → (reading []).so_far.payload ≡ B
+pub reads_on_so_far : {H D : ℕ} {task : Task} {B : List ℕ} {n : ℕ} {v : Reader H D} {reading : List ℕ → Reading} → ItemWaits v → ReaderMeans task B n v reading → given_to B task ≡ task → (reading []).so_far.payload ≡ B
 unfolding here
 reads_on_so_far {H} {D} {task} {B} {n} {v} {reading} waits h came = ap (λ (r : Reading). r.so_far.payload) (h.left [] ∙ ends_in task h.known h.so_far n v waits v.phase h.holds (came_known task h.known B h.payload_known came)) ∙ h.payload_so_far
 
-pub reads_on_payload : {H D : ℕ} {task : Task} {B : List ℕ} {n : ℕ} {v : Reader H D} {reading : List ℕ → Reading} → ItemWaits v → (more : List ℕ) → StandsFor task B n v reading → in_payload v.phase ≡ true → length more ≤ want_of v.phase → (reading more).settled ≡ false
+pub reads_on_payload : {H D : ℕ} {task : Task} {B : List ℕ} {n : ℕ} {v : Reader H D} {reading : List ℕ → Reading} → ItemWaits v → (more : List ℕ) → ReaderMeans task B n v reading → in_payload v.phase ≡ true → length more ≤ want_of v.phase → (reading more).settled ≡ false
 unfolding here
 reads_on_payload {H} {D} {task} {B} {n} {v} {reading} waits more h is le = ap (λ (r : Reading). r.settled) (h.left more) ∙ payload_open task h.known h.so_far n v waits v.phase h.holds is more le

@@ -6,9 +6,9 @@ use Rattle.cose_map.specs.Key.Value.{KeyValue, MaterialValue, YValue, coordinate
 use Rattle.cose_map.specs.Map.Form.{Table}
 use Rattle.cose_cwt.specs.Confirmation.{ConfirmationValue}
 use Rattle.cose_c.specs.declared.numbers.CoseStatus.{CoseStatus}
-use Rattle.cose_c.specs.declared.told.CoseClaims.{CoseClaims}
-use Rattle.cose_c.specs.declared.told.CoseDate.{CoseDate}
-use Rattle.cose_c.specs.declared.told.CoseRange.{CoseRange}
+use Rattle.cose_c.specs.declared.cose_claims.CoseClaims.{CoseClaims}
+use Rattle.cose_c.specs.declared.cose_claims.CoseDate.{CoseDate}
+use Rattle.cose_c.specs.declared.cose_claims.CoseRange.{CoseRange}
 use Rattle.cose_c.specs.Message.{Covers}
 
 abbrev pub no_range : CoseRange

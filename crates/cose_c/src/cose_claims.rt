@@ -4,7 +4,7 @@ ghost use Rattle.std.specs.Prelude.{◌≡◌, ◌≤◌, option_map};
 ghost use Rattle.cose_head.specs.ItemRef.{placed};
 ghost use Rattle.cose_head.specs.Placed.{integer_in, look};
 ghost use Rattle.cose_head.specs.PlacedLaws.{end_of};
-ghost use Rattle.cose_c.specs.Told.{StartsInside, bytes_range, date_numbers, date_value, no_claims, no_date, no_range, range_of, text_range};
+ghost use Rattle.cose_c.specs.CoseClaims.{StartsInside, bytes_range, date_numbers, date_value, no_claims, no_date, no_range, range_of, text_range};
 
 use crate::numbers::CoseStatus;
 use cose_map::ItemRef;

@@ -11,13 +11,13 @@ use Rattle.cose_map.specs.Choice.{chosen}
 use Rattle.cose_map.specs.Key.Value.{KeyValue}
 use Rattle.cose_map.specs.Laws.Reasons.{ChoiceIsNotTruncated}
 use Rattle.cose_msg.specs.Answer.{Answer, complete, Chosen, Headers, Whole}
-use Rattle.cose_msg.specs.Laws.{IsDefinite, StandsBy, AreFair, AllAreFair}
+use Rattle.cose_msg.specs.Laws.{IsDefinite, PlacedBy, AreFair, AllAreFair}
 use Rattle.cose_msg.specs.Message.{Setting, Decides, rules_with, question_of, with_algorithm, past_chosen, found_key, as_choice, key_choice_of, tag_of, digest_signed, judged, compare_tag, compared, verified, shape_of}
 
 -- The result for a whole message.
 pub record IsFairOf (whole : Whole) (answer : Answer) : Type 0 where
   pub definite : IsDefinite answer
-  pub inside : whole.auth_at ≤ whole.taken → StandsBy whole.taken answer
+  pub inside : whole.auth_at ≤ whole.taken → PlacedBy whole.taken answer
 
 complete-fair : (whole : Whole) → IsFairOf whole (complete whole)
 complete-fair whole = record { definite = tt; inside = λ le. omega arith }

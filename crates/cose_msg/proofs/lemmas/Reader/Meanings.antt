@@ -10,7 +10,7 @@ use Rattle.cose_msg.specs.Reading.{Reading, Findings}
 use Rattle.cose_head.specs.Head.{IsMore, bare_head}
 use Rattle.cose_msg.specs.Source.{source_with, with_came}
 use Rattle.cose_msg.specs.Task.{Task, given_to}
-use Rattle.cose_msg.specs.Reader.{HoldsIn, Known, Shows, StandsFor, setting_with}
+use Rattle.cose_msg.specs.Reader.{HoldsIn, Known, Shows, ReaderMeans, setting_with}
 
 -- Where nothing is known yet, any value will do.
 abbrev pub unknown : List ℕ → Known
@@ -30,7 +30,7 @@ under_pairs pairs = record {
   auth = [];
 }
 
-pub along : {H D : ℕ} {task : Task} {B : List ℕ} {n : ℕ} (v : Reader H D) (new old : List ℕ → Reading) → ((z : List ℕ) → new z ≡ old z) → StandsFor task B n v old → StandsFor task B n v new
+pub along : {H D : ℕ} {task : Task} {B : List ℕ} {n : ℕ} (v : Reader H D) (new old : List ℕ → Reading) → ((z : List ℕ) → new z ≡ old z) → ReaderMeans task B n v old → ReaderMeans task B n v new
 along v new old same h = record {
   known = h.known;
   so_far = h.so_far;
@@ -42,7 +42,7 @@ along v new old same h = record {
 }
 
 -- The same with other numbers and lists that are equal.
-pub moved : {H D : ℕ} {task : Task} {B B' : List ℕ} {n n' : ℕ} (v : Reader H D) (new old : List ℕ → Reading) → B' ≡ B → n' ≡ n → ((z : List ℕ) → new z ≡ old z) → StandsFor task B' n' v old → StandsFor task B n v new
+pub moved : {H D : ℕ} {task : Task} {B B' : List ℕ} {n n' : ℕ} (v : Reader H D) (new old : List ℕ → Reading) → B' ≡ B → n' ≡ n → ((z : List ℕ) → new z ≡ old z) → ReaderMeans task B' n' v old → ReaderMeans task B n v new
 moved {H} {D} {task} {B} {B'} {n} {n'} v new old same_payload same_count same h = record {
   known = h.known;
   so_far = h.so_far;
@@ -75,7 +75,7 @@ whole_task task keys terms inspects stated same purpose source e = rw (same, pur
 
 -- A piece was taken whole.
 pub took_piece : {H D : ℕ} {task : Task} (v : Reader H D) (s piece : List ℕ) (grows : List ℕ → List ℕ) (used : ℕ) (reading : List ℕ → Reading) → used ≡ length piece
-    → StandsFor task (grows (take used piece)) (length s + used) v (λ z. reading (s ++ (take used piece ++ z))) → StandsFor task (grows piece) (length (s ++ piece)) v (λ z. reading ((s ++ piece) ++ z))
+    → ReaderMeans task (grows (take used piece)) (length s + used) v (λ z. reading (s ++ (take used piece ++ z))) → ReaderMeans task (grows piece) (length (s ++ piece)) v (λ z. reading ((s ++ piece) ++ z))
 took_piece v s piece grows used reading e h =
     let all : take used piece ≡ piece = ap (λ (n : ℕ). take n piece) e ∙ take-length piece in
     let count : length s + used ≡ length (s ++ piece) = omega (arith, e, length-append s piece) in

@@ -1,4 +1,4 @@
--- What the walks by hand cite.
+-- The imports of the proofs under held/.
 pub use Rattle.std.proofs.Common.{◌≡◌, ℕ, List, [], ◌∷◌, None, MutBor, refl, sym, ap, ◌∙◌}
 pub use Rattle.std.proofs.raw_atomic.Walks.{proved}
 pub use Rattle.std.proofs.VecSteps.Shapes.{after}
