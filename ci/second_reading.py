@@ -633,7 +633,7 @@ def admit(claims, now, leeway, audience):
         demand(is_named, Reason.WrongAudience, claims["aud"].place)
 
 
-REQUIRABLE = ("iss", "sub", "aud", "exp", "nbf", "iat", "cti")
+REQUIRABLE = tuple(name for name, _ in CLAIMS.values() if name != "cnf")
 
 
 @dataclass(frozen=True)

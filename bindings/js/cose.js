@@ -445,9 +445,11 @@ class Cose {
         /** @param {{at: number, length: number, present: number}} range */
         const bytes = (range) => (range.present ? copyOf(payload, range.at, range.length) : undefined);
         const text = new TextDecoder("utf-8", { ignoreBOM: true });
-        const [iss, sub, cti] = [all.iss, all.sub, all.cti].map(bytes);
-        if (iss) claims.iss = text.decode(iss);
-        if (sub) claims.sub = text.decode(sub);
+        for (const name of /** @type {const} */ (["iss", "sub"])) {
+            const content = bytes(all[name]);
+            if (content) claims[name] = text.decode(content);
+        }
+        const cti = bytes(all.cti);
         if (cti) claims.cti = cti;
         for (const name of /** @type {const} */ (["exp", "nbf", "iat"])) {
             const { number, present, negative } = all[name];

@@ -7,25 +7,11 @@ use cose_cwt::{Claim, Claims, Requirement, Requirements, Unmet};
 use serde_json::Value;
 use std::alloc::Global;
 
-/// The claim of a name.
-fn claim_named(name: &str) -> Option<Claim> {
-    match name {
-        "iss" => Some(Claim::Iss),
-        "sub" => Some(Claim::Sub),
-        "aud" => Some(Claim::Aud),
-        "exp" => Some(Claim::Exp),
-        "nbf" => Some(Claim::Nbf),
-        "iat" => Some(Claim::Iat),
-        "cti" => Some(Claim::Cti),
-        _ => None,
-    }
-}
-
 /// The claims of an array, by their names, as far as there is memory.
 fn claims_of(alloc: Global, group: &Value) -> Vec<Claim> {
     let mut claims = Vec::new(alloc);
     for name in array(group, "present") {
-        if let Some(claim) = name.as_str().and_then(claim_named) {
+        if let Some(claim) = name.as_str().and_then(Claim::from_name) {
             let _ = claims.push(claim);
         }
     }
@@ -61,7 +47,7 @@ fn requirements<'v>(group: &'v Value, present: &'v [Claim]) -> Requirements<'v> 
 /// The requirement of a result.
 fn requirement(expected: &Value) -> Option<Requirement> {
     match text(expected, "requirement") {
-        "Present" => Some(Requirement::Present(claim_named(text(expected, "claim"))?)),
+        "Present" => Some(Requirement::Present(Claim::from_name(text(expected, "claim"))?)),
         "Issuer" => Some(Requirement::Issuer),
         "Subject" => Some(Requirement::Subject),
         "Audience" => Some(Requirement::Audience),

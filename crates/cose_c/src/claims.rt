@@ -36,9 +36,6 @@ use cose_map::{Form, ItemRef, Items, Key, Label, Material, Reason, Y, check_map}
 use cose_msg::{Keys, Refusal, Verifier};
 use std::slice;
 
-/// The label of the audience (RFC 8392 section 3.1.3).
-const AUD: Label<'static> = Label::Int(3);
-
 /// The labels of the members of a confirmation (RFC 8747 section 7.2).
 const COSE_KEY: Label<'static> = Label::Int(1);
 
@@ -150,7 +147,7 @@ fn audience_at(claims: &Claims<'_>, index: u64) -> CoseRange
     ensures inside { StartsInside
         (audience_item index (value_of names.aud (claims_value claims.now).pairs)) result }
 {
-    text_range(audience_item(claims.value(&AUD), index))
+    text_range(audience_item(claims.known().aud, index))
 }
 
 /// How many text strings an array has before an element that isn't one.

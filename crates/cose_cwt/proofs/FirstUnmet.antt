@@ -1,5 +1,5 @@
 -- The first of what several requirements leave unmet.
-use Rattle.std.proofs.Common.{◌≡◌, List, [], ◌∷◌, ◌++◌, Option, Ok, Err, refl, ◌∙◌, ap}
+use Rattle.std.proofs.Common.{◌≡◌, List, [], ◌∷◌, ◌++◌, Option, Ok, Err, ◌∙◌, ap}
 use Rattle.std.specs.Prelude.{Result}
 use Rattle.cose_head.specs.Placed.{Placed}
 use Rattle.cose_cwt.specs.declared.requirements.Unmet.{Unmet}

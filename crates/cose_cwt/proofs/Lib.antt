@@ -3,6 +3,8 @@ pub mod RequiredTokens
 pub mod Inside
 pub mod Trees
 pub mod FirstUnmet
+pub mod KnownClaims
+pub mod ClaimNames
 pub mod WorkedClaims
 pub mod WorkedAdmission
 pub mod WorkedRequirements

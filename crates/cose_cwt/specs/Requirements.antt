@@ -1,7 +1,7 @@
 -- What a caller requires of claims beyond their admission: claims that are present, an issuer, a subject, an audience, and limits
 -- of the dates over whole numbers (RFC 8392 section 3.1).
 pub mod View
-use Rattle.std.specs.Prelude.{ℕ, ℤ, pos, ◌+ℤ◌, ◌-ℤ◌, int_le, Bool, true, false, ◌&&◌, List, [], ◌∷◌, ◌++◌, Option, Some, None, Result, Ok, Err, if◌then◌else◌, bytes_eq, filter_map}
+use Rattle.std.specs.Prelude.{ℕ, ℤ, pos, ◌+ℤ◌, ◌-ℤ◌, int_le, Bool, true, false, ◌&&◌, List, [], ◌∷◌, ◌++◌, Option, Some, None, Result, Ok, Err, if◌then◌else◌, bytes_eq, codes, filter_map, find}
 use Rattle.std.specs.List.{list_any}
 use Rattle.cose_head.specs.Placed.{Placed, look, integer_in, text_in}
 use Rattle.cose_map.specs.Label.{LabelValue}
@@ -25,6 +25,23 @@ pub record RequirementsValue : Type 0 where
   pub lifetime : Option ℕ
   pub age : Option ℕ
   pub issued : Bool
+
+-- The registered claims, with their names and labels (RFC 8392 sections 3.1 and 4).
+abbrev pub registered : List Claim
+registered = Iss ∷ Sub ∷ Aud ∷ Exp ∷ Nbf ∷ Iat ∷ Cti ∷ []
+
+abbrev pub name_of : Claim → List ℕ
+name_of Iss = codes "iss"
+name_of Sub = codes "sub"
+name_of Aud = codes "aud"
+name_of Exp = codes "exp"
+name_of Nbf = codes "nbf"
+name_of Iat = codes "iat"
+name_of Cti = codes "cti"
+
+-- The claim of a name, if there is one.
+abbrev pub claim_named : List ℕ → Option Claim
+claim_named name = find (λ claim. bytes_eq (name_of claim) name) registered
 
 abbrev pub label_of : Claim → LabelValue
 label_of Iss = labels.iss

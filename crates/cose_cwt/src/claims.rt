@@ -5,7 +5,8 @@ ghost use Rattle.cose_head.specs.ItemRef.{placed};
 ghost use Rattle.cose_map.specs.Map.Pairs.{value_of};
 ghost use Rattle.cose_map.specs.Map.View.{pairs_left, seen_by};
 ghost use Rattle.cose_cwt.specs.Claims as spec;
-ghost use Rattle.cose_cwt.specs.Claims.Labels as names;
+ghost use Rattle.cose_cwt.specs.Claims.Known.{first_values};
+ghost use Rattle.cose_cwt.specs.Claims.Known.View.{known_value};
 ghost use Rattle.cose_cwt.specs.Confirmation.View.{confirmation_value};
 
 pub mod audience;
@@ -29,14 +30,7 @@ pub struct Claims<'a> {
     confirmation: Option<Confirmation<'a>>,
     pub(crate) known: Known<'a>,
     /// The known claims are those of the pairs.
-    pub ghost iss_found: { option_map placed known.iss ≡ value_of names.iss (pairs_left pairs) },
-    pub ghost sub_found: { option_map placed known.sub ≡ value_of names.sub (pairs_left pairs) },
-    pub ghost aud_found: { option_map placed known.aud ≡ value_of names.aud (pairs_left pairs) },
-    pub ghost exp_found: { option_map placed known.exp ≡ value_of names.exp (pairs_left pairs) },
-    pub ghost nbf_found: { option_map placed known.nbf ≡ value_of names.nbf (pairs_left pairs) },
-    pub ghost iat_found: { option_map placed known.iat ≡ value_of names.iat (pairs_left pairs) },
-    pub ghost cti_found: { option_map placed known.cti ≡ value_of names.cti (pairs_left pairs) },
-    pub ghost cnf_found: { option_map placed known.cnf ≡ value_of names.cnf (pairs_left pairs) },
+    pub ghost found: { known_value known ≡ first_values (pairs_left pairs) },
 }
 
 /// Whether the tag is one of COSE (RFC 9052 section 2) or that of CWT (RFC 8392 section 6).
@@ -125,22 +119,7 @@ impl<'a> Claims<'a> {
 
     /// The known claims, each as its item (RFC 8392 section 3.1, RFC 8747 section 3.1).
     pub fn known(&self) -> &Known<'a>
-        ensures iss { option_map placed result.now.iss
-            ≡ value_of names.iss (claims_value self.now).pairs }
-        ensures sub { option_map placed result.now.sub
-            ≡ value_of names.sub (claims_value self.now).pairs }
-        ensures aud { option_map placed result.now.aud
-            ≡ value_of names.aud (claims_value self.now).pairs }
-        ensures exp { option_map placed result.now.exp
-            ≡ value_of names.exp (claims_value self.now).pairs }
-        ensures nbf { option_map placed result.now.nbf
-            ≡ value_of names.nbf (claims_value self.now).pairs }
-        ensures iat { option_map placed result.now.iat
-            ≡ value_of names.iat (claims_value self.now).pairs }
-        ensures cti { option_map placed result.now.cti
-            ≡ value_of names.cti (claims_value self.now).pairs }
-        ensures cnf { option_map placed result.now.cnf
-            ≡ value_of names.cnf (claims_value self.now).pairs }
+        ensures { known_value result.now ≡ first_values (claims_value self.now).pairs }
     {
         &self.known
     }
@@ -149,21 +128,21 @@ impl<'a> Claims<'a> {
     pub fn iss(&self) -> Option<&'a str>
         ensures { option_map text_value result ≡ spec.iss_of (claims_value self.now) }
     {
-        self.pairs.get(&labels::ISS)?.as_text()
+        self.known.iss?.as_text()
     }
 
     /// The subject of the token (sub, RFC 8392 section 3.1.2).
     pub fn sub(&self) -> Option<&'a str>
         ensures { option_map text_value result ≡ spec.sub_of (claims_value self.now) }
     {
-        self.pairs.get(&labels::SUB)?.as_text()
+        self.known.sub?.as_text()
     }
 
     /// The audience of the token (aud, RFC 8392 section 3.1.3): one text string or several, none where aud is absent.
     pub fn auds(&self) -> Auds<'a>
         ensures { texts_left result ≡ spec.auds_of (claims_value self.now) }
     {
-        match self.pairs.get(&labels::AUD) {
+        match self.known.aud {
             Some(value) => Auds::of(&value),
             None => Auds::none(),
         }
@@ -185,28 +164,28 @@ impl<'a> Claims<'a> {
     pub fn exp(&self) -> Option<i128>
         ensures { result ≡ spec.exp_of (claims_value self.now) }
     {
-        self.pairs.get(&labels::EXP)?.as_int()
+        self.known.exp?.as_int()
     }
 
     /// The time, in seconds since 1970, from which on the token is valid (nbf, RFC 8392 section 3.1.5).
     pub fn nbf(&self) -> Option<i128>
         ensures { result ≡ spec.nbf_of (claims_value self.now) }
     {
-        self.pairs.get(&labels::NBF)?.as_int()
+        self.known.nbf?.as_int()
     }
 
     /// The time, in seconds since 1970, at which the token was issued (iat, RFC 8392 section 3.1.6).
     pub fn iat(&self) -> Option<i128>
         ensures { result ≡ spec.iat_of (claims_value self.now) }
     {
-        self.pairs.get(&labels::IAT)?.as_int()
+        self.known.iat?.as_int()
     }
 
     /// The identifier of the token (cti, RFC 8392 section 3.1.7).
     pub fn cti(&self) -> Option<&'a [u8]>
         ensures { option_map contents result ≡ spec.cti_of (claims_value self.now) }
     {
-        self.pairs.get(&labels::CTI)?.as_bytes()
+        self.known.cti?.as_bytes()
     }
 
     /// The confirmation: the key that the presenter of the token holds (cnf, RFC 8747 section 3.1).

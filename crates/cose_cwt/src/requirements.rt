@@ -1,6 +1,6 @@
 //! What a caller requires of claims beyond their admission (RFC 8392 section 3.1).
 
-ghost use Rattle.std.specs.Prelude.{◌≡◌, option_map};
+ghost use Rattle.std.specs.Prelude.{◌≡◌, Some, option_map};
 ghost use Rattle.cose_head.specs.ItemRef.{placed};
 ghost use Rattle.cose_map.specs.Label.View.{label_value};
 ghost use Rattle.cose_map.specs.Map.Pairs.{value_of};
@@ -86,6 +86,44 @@ pub struct Requirements<'r> {
 }
 
 impl Claim {
+    /// The registered claims, in the order of their labels.
+    pub const ALL: &'static [Claim] = &[
+        Claim::Iss,
+        Claim::Sub,
+        Claim::Aud,
+        Claim::Exp,
+        Claim::Nbf,
+        Claim::Iat,
+        Claim::Cti,
+    ];
+
+    /// The claim of this name, if it is one of these (RFC 8392 section 3.1).
+    pub fn from_name(name: &str) -> Option<Claim>
+        ensures { result ≡ spec.claim_named name.now }
+    {
+        Claim::ALL
+            .iter()
+            .find(|claim| claim.name() == name)
+            .copied()
+    }
+
+    /// The name of the claim, in lower case, as `iss` (RFC 8392 section 3.1).
+    #[tactic(auto, using(crate::proofs::ClaimNames::named))]
+    pub fn name(self) -> &'static str
+        ensures value { result.now ≡ spec.name_of self }
+        ensures found { spec.claim_named result.now ≡ Some self }
+    {
+        match self {
+            Claim::Iss => "iss",
+            Claim::Sub => "sub",
+            Claim::Aud => "aud",
+            Claim::Exp => "exp",
+            Claim::Nbf => "nbf",
+            Claim::Iat => "iat",
+            Claim::Cti => "cti",
+        }
+    }
+
     /// The label of the claim.
     fn label(self) -> Label<'static>
         ensures { label_value result ≡ spec.label_of self }

@@ -1,31 +1,19 @@
 -- What the options of `cwt` require of the claims of a token, and the line of a requirement that isn't met.
-use Rattle.std.specs.Prelude.{◌≡◌, ℕ, ℤ, Bool, true, false, List, [], ◌∷◌, ◌++◌, Option, Some, None, option_and_then, option_map, unwrap_or, is_some, ◌&&◌, not, codes, if◌then◌else◌}
+use Rattle.std.specs.Prelude.{◌≡◌, ℕ, ℤ, Bool, true, false, List, [], ◌∷◌, ◌++◌, Option, Some, None, option_and_then, option_map, unwrap_or, is_some, ◌&&◌, not, codes, drop, map, take}
 use Rattle.std.specs.Fmt.{decimal}
-use Rattle.std.specs.Str.{bytes_eq}
+use Rattle.std.specs.Char.{to_ascii_uppercase}
 use Rattle.clap.specs.Walk.{Text, all_of}
 use Rattle.cose_cwt.specs.declared.requirements.Claim.{Claim}
-use Rattle.cose_cwt.specs.declared.requirements.Claim.TheVariants.{Iss, Sub, Aud, Exp, Nbf, Iat, Cti}
+use Rattle.cose_cwt.specs.declared.requirements.Claim.TheVariants.{Aud}
 use Rattle.cose_cwt.specs.declared.requirements.Requirement.{Requirement}
 use Rattle.cose_cwt.specs.declared.requirements.Requirement.TheVariants.{Present, Issuer, Subject, Audience, Lifetime, Age, Issued}
 use Rattle.cose_cwt.specs.declared.requirements.Unmet.{Unmet}
 use Rattle.cose_cwt.specs.Claims.Audience.{text_value}
-use Rattle.cose_cwt.specs.Requirements.{RequirementsValue}
+use Rattle.cose_cwt.specs.Requirements.{RequirementsValue, claim_named, name_of}
 use Rattle.cosecmd.specs.declared.requirements.Required.{Required}
 use Rattle.cosecmd.specs.Options.{Options, flag_in, number_in, text_in}
 
 -- ---- the options
-
--- The claim of a name (RFC 8392 section 3.1).
-abbrev pub claim_named : Text → Option Claim
-claim_named name =
-    if bytes_eq name (codes "iss") then Some Iss
-    else if bytes_eq name (codes "sub") then Some Sub
-    else if bytes_eq name (codes "aud") then Some Aud
-    else if bytes_eq name (codes "exp") then Some Exp
-    else if bytes_eq name (codes "nbf") then Some Nbf
-    else if bytes_eq name (codes "iat") then Some Iat
-    else if bytes_eq name (codes "cti") then Some Cti
-    else None
 
 -- The claims of all these names, unless one of them is the name of no claim.
 abbrev pub and_named : Option Claim → Option (List Claim) → Option (List Claim)
@@ -95,14 +83,9 @@ requirements_for now leeway required =
 
 -- ---- the line
 
+-- `Present`, and the claim's name with its first letter in upper case.
 abbrev pub presence_word : Claim → List ℕ
-presence_word Iss = codes "PresentIss"
-presence_word Sub = codes "PresentSub"
-presence_word Aud = codes "PresentAud"
-presence_word Exp = codes "PresentExp"
-presence_word Nbf = codes "PresentNbf"
-presence_word Iat = codes "PresentIat"
-presence_word Cti = codes "PresentCti"
+presence_word claim = codes "Present" ++ map to_ascii_uppercase (take 1 (name_of claim)) ++ drop 1 (name_of claim)
 
 abbrev pub requirement_word : Requirement → List ℕ
 requirement_word (Present claim) = presence_word claim

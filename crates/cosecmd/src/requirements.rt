@@ -29,22 +29,6 @@ pub struct Required<'w> {
     pub age: Option<u64>,
 }
 
-/// The claim of a name.
-fn claim_of(name: &str) -> Option<Claim>
-    ensures { result ≡ spec.claim_named name.now }
-{
-    match name {
-        "iss" => Some(Claim::Iss),
-        "sub" => Some(Claim::Sub),
-        "aud" => Some(Claim::Aud),
-        "exp" => Some(Claim::Exp),
-        "nbf" => Some(Claim::Nbf),
-        "iat" => Some(Claim::Iat),
-        "cti" => Some(Claim::Cti),
-        _ => None,
-    }
-}
-
 /// The claims of names, where each is the name of a claim.
 fn claims_of(alloc: Global, names: &[&str]) -> Result<Option<Vec<Claim>>, AllocError>
     ensures { IfOk result (λ claims. option_map (λ claims. claims.items) claims
@@ -52,7 +36,7 @@ fn claims_of(alloc: Global, names: &[&str]) -> Result<Option<Vec<Claim>>, AllocE
 {
     let mut claims = Vec::new(alloc);
     'names: for name in names {
-        match claim_of(name) {
+        match Claim::from_name(name) {
             Some(claim) => claims.push(claim)?,
             None => return Ok(None),
         }

@@ -1,17 +1,49 @@
--- The first value of each claim, found in one pass over the pairs.
-use Rattle.std.specs.Prelude.{◌≡◌, List, ◌∷◌, Option, option_map}
+-- The values of the known claims, and the first of each among the pairs of a map.
+pub mod View
+use Rattle.std.specs.Prelude.{List, Option}
 use Rattle.std.specs.Option.{option_or}
-use Rattle.cose_head.specs.declared.item_ref.ItemRef.{ItemRef}
-use Rattle.cose_head.specs.ItemRef.{placed}
 use Rattle.cose_head.specs.Placed.{Placed}
 use Rattle.cose_map.specs.Label.{LabelValue}
 use Rattle.cose_map.specs.Map.Pairs.{Pair, value_of}
+use Rattle.cose_cwt.specs.Claims.Labels as labels
 
--- The first value of a label: the one that was kept before these pairs, or else theirs.
-abbrev pub kept_or_found : LabelValue → Option ItemRef → List Pair → Option Placed
-kept_or_found label kept pairs = option_or (option_map placed kept) (value_of label pairs)
+-- The values of the registered claims (RFC 8392 section 3.1) and of the confirmation (RFC 8747 section 3.1), where a token has them.
+pub record KnownValue : Type 0 where
+  pub iss : Option Placed
+  pub sub : Option Placed
+  pub aud : Option Placed
+  pub exp : Option Placed
+  pub nbf : Option Placed
+  pub iat : Option Placed
+  pub cti : Option Placed
+  pub cnf : Option Placed
 
--- Past a pair of this name and value, whatever pairs follow, the first value of a label is still found.
-abbrev pub KeepsFirst : LabelValue → LabelValue → Placed → Option ItemRef → Option ItemRef → Type 0
-KeepsFirst label name value old new = (item : Placed) (others : List Pair) →
-    kept_or_found label new others ≡ kept_or_found label old (record { name = name; label = item; value = value } ∷ others)
+-- The first value of each label among the pairs.
+abbrev pub first_values : List Pair → KnownValue
+first_values pairs = record {
+  iss = value_of labels.iss pairs;
+  sub = value_of labels.sub pairs;
+  aud = value_of labels.aud pairs;
+  exp = value_of labels.exp pairs;
+  nbf = value_of labels.nbf pairs;
+  iat = value_of labels.iat pairs;
+  cti = value_of labels.cti pairs;
+  cnf = value_of labels.cnf pairs;
+}
+
+-- Each value made anew, of its label and of itself.
+abbrev pub each : (LabelValue → Option Placed → Option Placed) → KnownValue → KnownValue
+each anew known = record {
+  iss = anew labels.iss known.iss;
+  sub = anew labels.sub known.sub;
+  aud = anew labels.aud known.aud;
+  exp = anew labels.exp known.exp;
+  nbf = anew labels.nbf known.nbf;
+  iat = anew labels.iat known.iat;
+  cti = anew labels.cti known.cti;
+  cnf = anew labels.cnf known.cnf;
+}
+
+-- The values that are kept, and where none is, the first among the pairs.
+abbrev pub kept_or_first : KnownValue → List Pair → KnownValue
+kept_or_first kept pairs = each (λ label value. option_or value (value_of label pairs)) kept

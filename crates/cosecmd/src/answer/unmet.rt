@@ -6,36 +6,32 @@ ghost use Rattle.cosecmd.specs.Requirements as spec;
 use crate::fault::Fault;
 use crate::reply::{Reply, Status};
 use cose_cwt::{Claim, Requirement, Unmet};
-use std::alloc::Global;
+use std::alloc::{AllocError, Global};
 
-/// The word that is printed where a claim is absent.
-fn presence_word(claim: Claim) -> &'static str
-    ensures { result.now ≡ spec.presence_word claim }
+/// The word that is printed where a claim is absent: `Present`, and the claim's name with its first letter in upper case.
+#[tactic(auto, using(crate::proofs::RequiredOptions::first_letter))]
+fn presence_word(alloc: Global, claim: Claim) -> Result<String, AllocError>
+    ensures { IfOk result (λ word. string_bytes word ≡ spec.presence_word claim) }
 {
-    match claim {
-        Claim::Iss => "PresentIss",
-        Claim::Sub => "PresentSub",
-        Claim::Aud => "PresentAud",
-        Claim::Exp => "PresentExp",
-        Claim::Nbf => "PresentNbf",
-        Claim::Iat => "PresentIat",
-        Claim::Cti => "PresentCti",
-    }
+    let (first, others) = claim.name().split_at(1);
+    let first = first.to_ascii_uppercase(alloc)?;
+    format!(in alloc; "Present{first}{others}")
 }
 
 /// The word that is printed for a requirement.
-fn requirement_word(requirement: Requirement) -> &'static str
-    ensures { result.now ≡ spec.requirement_word requirement }
+fn requirement_word(alloc: Global, requirement: Requirement) -> Result<String, AllocError>
+    ensures { IfOk result (λ word. string_bytes word ≡ spec.requirement_word requirement) }
 {
-    match requirement {
-        Requirement::Present(claim) => presence_word(claim),
+    let word = match requirement {
+        Requirement::Present(claim) => return presence_word(alloc, claim),
         Requirement::Issuer => "Issuer",
         Requirement::Subject => "Subject",
         Requirement::Audience => "Audience",
         Requirement::Lifetime => "Lifetime",
         Requirement::Age => "Age",
         Requirement::Issued => "Issued",
-    }
+    };
+    String::from_str(alloc, word)
 }
 
 /// The line of a requirement that isn't met.
@@ -45,7 +41,7 @@ pub fn unmet_reply(alloc: Global, unmet: Unmet) -> Result<Reply, Fault>
     ensures fault { IfErr result (λ fault. fault ≡ Fault.Memory) }
 {
     let Unmet { requirement, place } = unmet;
-    let word = requirement_word(requirement);
+    let word = requirement_word(alloc, requirement)?;
     let status = Status::Refused;
     let text = format!(in alloc; "refused policy {word} at {place}\n")?;
     Ok(Reply { status, text })

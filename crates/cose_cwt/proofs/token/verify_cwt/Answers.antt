@@ -1,4 +1,4 @@
-use Rattle.std.proofs.Common.{◌≡◌, ◌∙◌, ◌≤◌, ℕ, Bool, [], None, Some, length, subst, sym, arith}
+use Rattle.std.proofs.Common.{◌≡◌, ◌∙◌, ◌≤◌, ℕ, Bool, [], Some, length, subst, sym, arith}
 use Rattle.cose_msg.specs.declared.store.Store.{Store}
 use Rattle.cose_msg.specs.Kept.{HasTaken, kept_answer}
 use Rattle.cose_msg.specs.Store.{unless_dropped}

@@ -1,4 +1,4 @@
-use Rattle.std.proofs.Common.{◌≡◌, ◌∙◌, Err, ap}
+use Rattle.std.proofs.Common.{◌∙◌, Err, ap}
 use Rattle.std.proofs.lemmas.Result.{err_from_is_err_and}
 use Rattle.cose_cwt.specs.declared.requirements.Requirement.TheVariants.{Issuer, Subject}
 use Rattle.cose_cwt.specs.Requirements.{age_unmet, issued_unmet, lifetime_unmet, text_unmet, unmet}

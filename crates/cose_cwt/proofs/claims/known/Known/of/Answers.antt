@@ -1,0 +1,16 @@
+use Rattle.std.proofs.Common.{◌∙◌, List, ap, sym}
+use Rattle.cose_map.specs.Map.Pairs.{Pair}
+use Rattle.cose_map.specs.Map.View.{pair_value, pairs_left}
+use Rattle.cose_cwt.specs.Claims.Known.{KnownValue, kept_or_first}
+use Rattle.cose_cwt.specs.Claims.Known.View.{known_value}
+use Rattle.cose_cwt.proofs.KnownClaims.{past_pair}
+use Rattle.cose_cwt.proofs.claims.known.Known.of.Goals as goal
+
+pub pairs-preserved : goal.pairs-preserved
+pairs-preserved c =
+    let kept = known_value c.pairs.known in
+    let others = pairs_left c.next.new.self in
+    ap (λ (now : KnownValue). kept_or_first now others) c.keep.ensures
+    ∙ past_pair kept (pair_value c.in-Some.pair) others
+    ∙ ap (λ (left : List Pair). kept_or_first kept left) (sym c.in-Some.ensures.steps)
+    ∙ c.pairs.invariant
