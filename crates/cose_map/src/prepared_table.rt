@@ -117,7 +117,7 @@ impl<'t, 'a, const N: usize> KeyMeaning for &'t PreparedTable<'a, N> {
 
 impl<'t, 'a, const N: usize> Keys<'a> for &'t PreparedTable<'a, N> {
     fn find(&self, query: &Query) -> Result<(Key<'a>, i128), Reason> {
-        PreparedTable::find(*self, query)
+        self.table.find(query)
     }
 }
 

@@ -8,7 +8,6 @@ use Rattle.cose_map.specs.Key.View.{key_value}
 use Rattle.cose_map.specs.Map.Pairs.{Pair}
 use Rattle.cose_map.specs.Map.Read.{Read}
 use Rattle.cose_msg.specs.declared.reader.Chosen as code
-use Rattle.cose_msg.specs.declared.reader.choice.Choice as code_choice
 use Rattle.cose_msg.specs.Answer.{Chosen}
 
 abbrev pub chosen_value : code.Chosen → Chosen
@@ -19,16 +18,13 @@ abbrev pub has_length_of : Option Alg → ℕ → Bool
 has_length_of (Some alg) n = n == auth_length_of alg
 has_length_of None n = nat_le n 65535
 
-abbrev pub found_seen : Result code.Chosen Reason → Result Chosen Reason
-found_seen (Ok chosen) = Ok (chosen_value chosen)
-found_seen (Err reason) = Err reason
+-- What is in the place of the chosen key, unless there is a reason why none is chosen.
+abbrev pub choice_seen : Result (Unit {0}) Reason → Option code.Chosen → Result (Option Chosen) Reason
+choice_seen (Ok _) place = Ok (option_map chosen_value place)
+choice_seen (Err reason) place = Err reason
 
-abbrev pub choice_seen : Result (Option code.Chosen) Reason → Result (Option Chosen) Reason
-choice_seen (Ok chosen) = Ok (option_map chosen_value chosen)
-choice_seen (Err reason) = Err reason
-
--- The code's choice is that of the definition; it also says whether the protected bucket has no pair.
-abbrev pub ChoiceIs : List Pair → Result code_choice.Choice Refusal → Read (Option Chosen) → Type 0
-ChoiceIs pairs (Ok choice) (Ok chosen) = (option_map chosen_value choice.chosen ≡ chosen) × (choice.is_bare ≡ (length pairs == 0))
-ChoiceIs pairs (Err refusal) (Err fault) = refusal ≡ fault
-ChoiceIs pairs _ _ = ⊥
+-- The code's choice, in its place, is that of the definition; it also says whether the protected bucket has no pair.
+abbrev pub ChoiceIs : List Pair → Result Bool Refusal → Option code.Chosen → Read (Option Chosen) → Type 0
+ChoiceIs pairs (Ok is_bare) place (Ok chosen) = (option_map chosen_value place ≡ chosen) × (is_bare ≡ (length pairs == 0))
+ChoiceIs pairs (Err refusal) place (Err fault) = refusal ≡ fault
+ChoiceIs pairs _ place _ = ⊥

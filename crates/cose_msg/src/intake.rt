@@ -1,6 +1,6 @@
 //! Where the bytes of a message come from.
 
-ghost use Rattle.std.specs.Prelude.{◌≡◌, ◌≤◌, ◌<◌, ℕ, Bool, false, List, Option, Some, IfOk, IsOk, length};
+ghost use Rattle.std.specs.Prelude.{◌≡◌, ◌≤◌, ◌<◌, ℕ, Bool, false, List, Option, Some, IfOk, IsOk, length, take};
 ghost use Rattle.cose_msg.specs.Intake.{Takes, marks, is_end};
 
 use std::io::Read;
@@ -57,6 +57,20 @@ impl<'a> SliceIntake<'a> {
     }
 }
 
+/// Copies a piece to the front of `into`. The bytes of a head come one by one: one byte takes no call of `memcpy`.
+#[inline]
+fn copy_to_front(into: &mut [u8], piece: &[u8])
+    requires { length piece.now ≤ length into.old }
+    ensures front { take (length piece.now) into.new ≡ piece.now }
+    ensures length { length into.new ≡ length into.old }
+{
+    if piece.len() == 1 {
+        into[0] = piece[0];
+    } else {
+        into[..piece.len()].copy_from_slice(piece);
+    }
+}
+
 impl<'a> Intake for SliceIntake<'a> {
     ghost use Rattle.cose_msg.specs.SliceIntake.{cut_of};
 
@@ -81,7 +95,7 @@ impl<'a> Intake for SliceIntake<'a> {
     {
         let count = self.bytes.len().min(self.cut).min(into.len());
         let (piece, rest) = self.bytes.split_at(count);
-        into[..count].copy_from_slice(piece);
+        copy_to_front(into, piece);
         self.bytes = rest;
         self.ended = count == 0;
         Ok(count)

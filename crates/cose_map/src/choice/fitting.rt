@@ -39,19 +39,21 @@ impl<'k> Fitting<'k> {
         ensures { (q : Question) (rest : List (KeyValue × ℤ)) → with_rest q self.new rest
             ≡ with_rest q self.old ((key_value key.now, algorithm) ∷ rest) }
     {
-        *self = match self {
-            Fitting::Nothing => Fitting::One(*key, algorithm),
-            _ => Fitting::Several,
-        };
+        match self {
+            Fitting::Nothing => *self = Fitting::One(*key, algorithm),
+            _ => *self = Fitting::Several,
+        }
     }
 
-    /// The one key that fits, once all keys were checked.
-    pub(crate) fn answer(self, query: &Query) -> Result<(Key<'k>, i128), Reason>
-        ensures { found_value result ≡ with_rest (question query.now) self.entry [] }
+    /// The one key that fits, once all keys were checked. It is passed by reference, so that the key is copied into the
+    /// result alone.
+    #[inline]
+    pub(crate) fn answer(&self, query: &Query) -> Result<(Key<'k>, i128), Reason>
+        ensures { found_value result ≡ with_rest (question query.now) self.now [] }
     {
         match self {
             Fitting::Nothing => Err(query.no_key()),
-            Fitting::One(key, algorithm) => Ok((key, algorithm)),
+            Fitting::One(key, algorithm) => Ok((*key, *algorithm)),
             Fitting::Several => Err(Reason::AmbiguousKey),
         }
     }

@@ -2,10 +2,10 @@
 
 ghost use Rattle.std.specs.Prelude.{◌≡◌, ◌<◌, ◌≤◌, ◌+◌, ◌^◌, ℕ, ℤ, List, Ok, []};
 ghost use Rattle.cose_map.specs.Bucket.View.{bucket_pairs};
-ghost use Rattle.cose_map.specs.Choice.View.{found_value, question};
+ghost use Rattle.cose_map.specs.Choice.View.{question};
 ghost use Rattle.cose_map.specs.Key.View.{material_value};
-ghost use Rattle.cose_msg.specs.Chosen.{choice_seen, found_seen};
-ghost use Rattle.cose_msg.specs.Message.{operation_of as operation_value, question_of, secret_of as secret_bytes, past_chosen};
+ghost use Rattle.cose_msg.specs.Chosen.{choice_seen};
+ghost use Rattle.cose_msg.specs.Message.{operation_of as operation_value, question_of, secret_of as secret_bytes};
 ghost use Rattle.cose_msg.specs.Phases.{headers_of};
 ghost use Rattle.cose_msg.specs.Reader.{keys_in};
 ghost use Rattle.cose_msg.specs.Task.{choice_among};
@@ -14,16 +14,7 @@ use crate::hashing::Hashing;
 use crate::reader::{Chosen, Reader};
 use cose_head::{Kind, Reason, Refusal};
 use cose_mac::Alg;
-use cose_map::{Bucket, Key, Keys, Material, Query, check_pair};
-
-/// The result of both buckets.
-#[derive(Clone, Copy)]
-pub(crate) struct Choice<'k> {
-    /// The key, and its algorithm, if one is to be chosen.
-    pub(crate) chosen: Option<Chosen<'k>>,
-    /// Whether the protected bucket has no pair.
-    pub(crate) is_bare: bool,
-}
+use cose_map::{Bucket, Keys, Material, Query, check_pair};
 
 /// The operation that verifies messages of a kind (RFC 9052 section 7.1, table 5).
 fn operation_of(kind: Kind) -> i128
@@ -60,33 +51,31 @@ fn query_of<'q>(kind: Kind, protected: &Bucket<'q>, unprotected: &Bucket<'q>) ->
     }
 }
 
-/// The key that was found, with its algorithm.
-fn chosen_of<'k>(found: Result<(Key<'k>, i128), Reason>) -> Result<Chosen<'k>, Reason>
-    ensures { found_seen result ≡ past_chosen (found_value found.entry) }
-{
-    let (key, number) = found?;
-    match Alg::from_number(number) {
-        Some(alg) => Ok(Chosen { key, alg }),
-        None => Err(Reason::UnknownAlg),
-    }
-}
-
-/// The one key of these that fits what the buckets say, if one is to be chosen.
+/// Puts the one key of these that fits what the buckets say into its place, if one is to be chosen. (A key is large, so that
+/// it isn't returned: it is copied no more often than it has to be.)
 fn key_for<'k, K: Keys<'k>>(
     keys: Option<&K>,
     kind: Kind,
     protected: &Bucket<'_>,
     unprotected: &Bucket<'_>,
-) -> Result<Option<Chosen<'k>>, Reason>
-    ensures { (content : List ℕ) → choice_seen result
+    into: &mut Option<Chosen<'k>>,
+) -> Result<(), Reason>
+    ensures { (content : List ℕ) → choice_seen result into.new
         ≡ choice_among (keys_in K.usable keys.entry)
         (headers_of kind content (bucket_pairs protected.now) (bucket_pairs unprotected.now)) }
 {
     let Some(keys) = keys else {
-        return Ok(None);
+        *into = None;
+        return Ok(());
     };
-    match chosen_of(keys.find(&query_of(kind, protected, unprotected))) {
-        Ok(chosen) => Ok(Some(chosen)),
+    match keys.find(&query_of(kind, protected, unprotected)) {
+        Ok((key, number)) => match Alg::from_number(number) {
+            Some(alg) => {
+                *into = Some(Chosen { key, alg });
+                Ok(())
+            }
+            None => Err(Reason::UnknownAlg),
+        },
         Err(reason) => Err(reason),
     }
 }
@@ -103,21 +92,23 @@ impl<'k, const H: usize, const D: usize> Reader<'k, H, D> {
     ghost use Rattle.cose_msg.specs.Reader.{Shows, ReaderMeans, task_in};
     ghost use Rattle.cose_msg.specs.Task.{Task, keys_for, rules_of};
 
-    /// The result of both buckets, whose contents are at these places and were found good.
+    /// Puts the key that the buckets choose into its place, if one is to be chosen, and returns whether the protected bucket
+    /// has no pair. The contents of both are at these places, and were found good.
     fn choose<K: Keys<'k>>(
         &self,
         keys: Option<&K>,
         kind: Kind,
         protected_at: u64,
         at: u64,
-    ) -> Result<Choice<'k>, Refusal>
+        into: &mut Option<Chosen<'k>>,
+    ) -> Result<bool, Refusal>
         requires protected_early { protected_at ≤ 36 }
         requires early { at < 2 ^ 17 }
         ensures { (task : Task) (pairs others : List Pair) → task_in task self.now ≡ task
             → keys_in K.usable keys.entry ≡ keys_for task
             → bucket_of D (placed_at protected_at self.now.protected.items) ≡ Ok pairs
             → bucket_of D (placed_at at self.now.unprotected.items) ≡ Ok others
-            → ChoiceIs pairs result
+            → ChoiceIs pairs result into.new
             (choice_of task (headers_of kind self.now.protected.items pairs others)
             (at + length self.now.unprotected.items)) }
     {
@@ -125,11 +116,8 @@ impl<'k, const H: usize, const D: usize> Reader<'k, H, D> {
         let unprotected = Bucket::again(self.unprotected.as_slice(), at, D)?;
         let place = at + self.unprotected.len() as u64;
         check_pair(&protected, &unprotected, self.terms.understood, place)?;
-        match key_for(keys, kind, &protected, &unprotected) {
-            Ok(chosen) => Ok(Choice {
-                chosen,
-                is_bare: protected.is_empty(),
-            }),
+        match key_for(keys, kind, &protected, &unprotected, into) {
+            Ok(()) => Ok(protected.is_empty()),
             Err(reason) => Err(Refusal { reason, place }),
         }
     }
@@ -166,11 +154,12 @@ impl<'k, const H: usize, const D: usize> Reader<'k, H, D> {
             (at + length self.old.unprotected.items) more) }
     {
         let after = at + self.unprotected.len() as u64;
-        match self.choose(keys, kind, protected_at, at) {
-            Ok(choice) => {
-                self.hashing = Self::begin_hashing(keys, &choice.chosen);
-                self.chosen = choice.chosen;
-                self.begin_payload_head(kind, choice.is_bare, after);
+        let mut chosen = None;
+        match self.choose(keys, kind, protected_at, at, &mut chosen) {
+            Ok(is_bare) => {
+                self.hashing = Self::begin_hashing(keys, &chosen);
+                self.chosen = chosen;
+                self.begin_payload_head(kind, is_bare, after);
             }
             Err(refusal) => self.refuse(refusal.reason, refusal.place),
         }

@@ -36,7 +36,7 @@ impl Part {
 impl<'k, const H: usize, const D: usize, S: Keys<'k>> Verifier<'k, H, D, S> {
     ghost use Rattle.cose_head.specs.declared.reason.Reason.{Reason};
     ghost use Rattle.cose_msg.specs.Answer.{decided};
-    ghost use Rattle.cose_msg.specs.Feed.{Uses, nothing_used, payload_in};
+    ghost use Rattle.cose_msg.specs.Feed.{TakesPiece, Uses, nothing_used, payload_in};
     ghost use Rattle.cose_msg.specs.Kept.{HasTaken, bytes_taken, is_inspecting, kept_answer, WhateverTaken, WhateverVerified, SamePurpose};
     ghost use Rattle.cose_msg.specs.Message.{message, verdict_of};
     ghost use Rattle.cose_msg.specs.Phase.{is_settled, want_of};
@@ -108,31 +108,7 @@ impl<'k, const H: usize, const D: usize, S: Keys<'k>> Verifier<'k, H, D, S> {
     /// [`Verifier::feed`] of any piece, step by step. Not inlined, so that a piece that is all within the payload takes few steps.
     #[inline(never)]
     fn feed_across(&mut self, piece: &[u8]) -> Fed
-        ensures uses { WhateverTaken self.old (λ task taken _.
-            Uses (rules_of H D task) taken piece.now result.used) }
-        ensures taken { WhateverTaken self.old (λ task taken payload_so_far.
-            HasTaken task (taken ++ take result.used piece.now)
-            (payload_so_far ++ payload_in result piece.now) self.new) }
-        ensures status { WhateverTaken self.old (λ task taken _.
-            result.status
-            ≡ status_of_reading
-            (message (rules_of H D task) (taken ++ take result.used piece.now))) }
-        ensures attached { WhateverTaken self.old (λ _ _ _.
-            is_detached self.old ≡ false → result.status ≢ Status.PayloadNext) }
-        ensures payload { WhateverTaken self.old (λ task taken _.
-            (message (rules_of H D task) (taken ++ take result.used piece.now)).so_far.payload
-            ≡ (message (rules_of H D task) taken).so_far.payload ++ payload_in result piece.now) }
-        ensures shows { WhateverTaken self.old (λ task taken _.
-            ShowsReading task (taken ++ take result.used piece.now) self.new) }
-        ensures fits { result.used ≤ length piece.now }
-        ensures ordered { result.payload_from ≤ result.payload_to }
-        ensures among { result.payload_to ≤ result.used }
-        ensures none { result.payload_from ≡ result.payload_to → result.payload_to ≡ 0 }
-        ensures current { result.status ≡ status_in self.new }
-        ensures counted { bytes_taken self.new ≡ bytes_taken self.old + result.used }
-        ensures again { is_more (status_in self.old) ≡ false
-            → (result ≡ nothing_used (status_in self.old)) × (self.new ≡ self.old) }
-        ensures purpose { SamePurpose self.old self.new }
+        ensures { TakesPiece self.old piece.now result self.new }
     {
         // The law of messages that the proof cites.
         messages_are_bounded();

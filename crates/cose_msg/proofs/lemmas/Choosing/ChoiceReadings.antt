@@ -7,7 +7,7 @@ use Rattle.cose_map.specs.Key.Value.{KeyValue}
 use Rattle.cose_map.specs.Map.Pairs.{Pair}
 use Rattle.cose_map.specs.Map.Read.{Read}
 use Rattle.cose_map.specs.Bucket.Both.{pair_fault}
-use Rattle.cose_msg.specs.declared.reader.choice.Choice as code
+use Rattle.cose_msg.specs.declared.reader.Chosen as code
 use Rattle.cose_msg.specs.Answer.{Chosen, Headers}
 use Rattle.cose_msg.specs.Chosen.{ChoiceIs, chosen_value}
 use Rattle.cose_msg.specs.Choosing.{choice_of, refused_at}
@@ -90,14 +90,14 @@ pub chooses_if_verified : (task : Task) (headers : Headers) (place : ℕ) (chose
 chooses_if_verified task headers place chosen is = key_among task headers place (pair_fault headers.protected_pairs headers.unprotected_pairs task.setting.understood place) chosen refl is
 
 -- What the code's choice ensures of the definition's.
-pub record IsFound (pairs : List Pair) (choice : code.Choice) (answer : Read (Option Chosen)) : Type 0 where
-  pub is : answer ≡ Ok (option_map chosen_value choice.chosen)
-  pub bare_is : choice.is_bare ≡ (length pairs == 0)
+pub record IsFound (pairs : List Pair) (is_bare : Bool) (place : Option code.Chosen) (answer : Read (Option Chosen)) : Type 0 where
+  pub is : answer ≡ Ok (option_map chosen_value place)
+  pub bare_is : is_bare ≡ (length pairs == 0)
 
-pub choice_is_found : (pairs : List Pair) (choice : code.Choice) (answer : Read (Option Chosen)) → ChoiceIs pairs (Ok choice) answer → IsFound pairs choice answer
-choice_is_found pairs choice (Ok chosen) h = record { is = ap (λ (c : Option Chosen). Ok c) (sym h.0); bare_is = h.1 }
-choice_is_found pairs choice (Err refusal) h = absurd h
+pub choice_is_found : (pairs : List Pair) (is_bare : Bool) (place : Option code.Chosen) (answer : Read (Option Chosen)) → ChoiceIs pairs (Ok is_bare) place answer → IsFound pairs is_bare place answer
+choice_is_found pairs is_bare place (Ok chosen) h = record { is = ap (λ (c : Option Chosen). Ok c) (sym h.0); bare_is = h.1 }
+choice_is_found pairs is_bare place (Err refusal) h = absurd h
 
-pub choice_is_refused : (pairs : List Pair) (refusal : Refusal) (answer : Read (Option Chosen)) → ChoiceIs pairs (Err refusal) answer → answer ≡ Err refusal
-choice_is_refused pairs refusal (Ok found) h = absurd h
-choice_is_refused pairs refusal (Err other) h = ap (λ (r : Refusal). Err r) (sym h)
+pub choice_is_refused : (pairs : List Pair) (refusal : Refusal) (place : Option code.Chosen) (answer : Read (Option Chosen)) → ChoiceIs pairs (Err refusal) place answer → answer ≡ Err refusal
+choice_is_refused pairs refusal place (Ok found) h = absurd h
+choice_is_refused pairs refusal place (Err other) h = ap (λ (r : Refusal). Err r) (sym h)

@@ -1,4 +1,4 @@
-use Rattle.std.proofs.Common.{Bool, ℕ, [], length, take, Some, sym, subst, ap, ◌∙◌, arith}
+use Rattle.std.proofs.Common.{Bool, ℕ, [], length, take, Some, sym, subst, ap, ◌∙◌}
 use Rattle.cose_msg.specs.Feed.{Uses}
 use Rattle.cose_msg.specs.Kept.{answer_kept}
 use Rattle.cose_msg.specs.Reading.{Reading}

@@ -32,8 +32,8 @@ returns-in-Ok g c = λ task pairs others e among good found_good.
     let same : pairs ≡ bucket_pairs c.in_ok-protected.protected = sym (same_pairs (bucket_pairs c.in_ok-protected.protected) pairs ((rw c.as_slice.ensures.value at c.in_ok-protected.ensures.good) pairs good)) in
     let same_others : others ≡ bucket_pairs c.in_ok-unprotected.unprotected = sym (same_pairs (bucket_pairs c.in_ok-unprotected.unprotected) others ((rw c.as_slice-2.ensures.value at c.in_ok-unprotected.ensures.good) others found_good)) in
     let fault : pair_fault (bucket_pairs c.in_ok-protected.protected) (bucket_pairs c.in_ok-unprotected.unprotected) task.setting.understood (c.args.at + length c.args.self.now.unprotected.items) ≡ None = ap (λ (t : Task). pair_fault (bucket_pairs c.in_ok-protected.protected) (bucket_pairs c.in_ok-unprotected.unprotected) t.setting.understood (c.args.at + length c.args.self.now.unprotected.items)) (sym e) ∙ sym (rw c.len.ensures.value at c.in_ok-check_pair.ensures) in
-    let found : choice_for task.inspects task.setting (headers_of c.args.kind c.args.self.now.protected.items (bucket_pairs c.in_ok-protected.protected) (bucket_pairs c.in_ok-unprotected.unprotected)) ≡ Ok (option_map chosen_value c.in-Ok.chosen) = chosen_among task _ (headers_of c.args.kind c.args.self.now.protected.items (bucket_pairs c.in_ok-protected.protected) (bucket_pairs c.in_ok-unprotected.unprotected)) among ∙ sym (c.in-Ok.ensures c.args.self.now.protected.items) in
-    rw (same, same_others, key_found task (headers_of c.args.kind c.args.self.now.protected.items (bucket_pairs c.in_ok-protected.protected) (bucket_pairs c.in_ok-unprotected.unprotected)) (c.args.at + length c.args.self.now.unprotected.items) (option_map chosen_value c.in-Ok.chosen) fault found) (refl, c.is_empty.ensures)
+    let found : choice_for task.inspects task.setting (headers_of c.args.kind c.args.self.now.protected.items (bucket_pairs c.in_ok-protected.protected) (bucket_pairs c.in_ok-unprotected.unprotected)) ≡ Ok (option_map chosen_value c.key_for.new.into) = chosen_among task _ (headers_of c.args.kind c.args.self.now.protected.items (bucket_pairs c.in_ok-protected.protected) (bucket_pairs c.in_ok-unprotected.unprotected)) among ∙ sym (c.in-Ok.ensures c.args.self.now.protected.items) in
+    rw (same, same_others, key_found task (headers_of c.args.kind c.args.self.now.protected.items (bucket_pairs c.in_ok-protected.protected) (bucket_pairs c.in_ok-unprotected.unprotected)) (c.args.at + length c.args.self.now.unprotected.items) (option_map chosen_value c.key_for.new.into) fault found) (refl, c.is_empty.ensures)
 
 pub returns-in-Err : goal.returns-in-Err
 returns-in-Err g c = λ task pairs others e among good found_good.

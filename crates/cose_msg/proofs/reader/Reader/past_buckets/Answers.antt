@@ -14,12 +14,12 @@ returns-in-Ok g c = record {
   reads_on = λ task pairs others among e good found_good.
       let headers = headers_of c.args.kind c.args.self.now.protected.items pairs others in
       let place = c.args.at + length c.args.self.now.unprotected.items in
-      let is = choice_is_found pairs c.in-Ok.choice (choice_of task (headers_of c.args.kind c.args.self.now.protected.items pairs others) (c.args.at + length c.args.self.now.unprotected.items)) (rw c.in-Ok.is at (c.choose.ensures task pairs others e.0 among good found_good)) in
-      let chooses : choice_of task (headers_of c.args.kind c.args.self.now.protected.items pairs others) (c.args.at + length c.args.self.now.unprotected.items) ≡ Ok (option_map chosen_value c.in-Ok.choice.chosen) = is.is in
-      let known : Known = record { headers = headers_of c.args.kind c.args.self.now.protected.items pairs others; chosen = option_map chosen_value c.in-Ok.choice.chosen; payload = []; auth = [] } in
+      let is = choice_is_found pairs c.in-Ok.is_bare c.choose.new.into (choice_of task (headers_of c.args.kind c.args.self.now.protected.items pairs others) (c.args.at + length c.args.self.now.unprotected.items)) (rw c.in-Ok.is at (c.choose.ensures task pairs others e.0 among good found_good)) in
+      let chooses : choice_of task (headers_of c.args.kind c.args.self.now.protected.items pairs others) (c.args.at + length c.args.self.now.unprotected.items) ≡ Ok (option_map chosen_value c.choose.new.into) = is.is in
+      let known : Known = record { headers = headers_of c.args.kind c.args.self.now.protected.items pairs others; chosen = option_map chosen_value c.choose.new.into; payload = []; auth = [] } in
       moved c.begin_payload_head.new.self _ _ refl (ap (λ (n : ℕ). c.args.at + n) c.len.ensures.value)
-      (λ z. choice_finds g.row.H g.row.D task headers place (option_map chosen_value c.in-Ok.choice.chosen) chooses z ∙ rw c.len.ensures.value refl)
-      (c.begin_payload_head.ensures.reads_on task known e refl (refl, refl, chooses_if_verified task headers place (option_map chosen_value c.in-Ok.choice.chosen) chooses) refl is.bare_is c.begin_hashing-self.ensures);
+      (λ z. choice_finds g.row.H g.row.D task headers place (option_map chosen_value c.choose.new.into) chooses z ∙ rw c.len.ensures.value refl)
+      (c.begin_payload_head.ensures.reads_on task known e refl (refl, refl, chooses_if_verified task headers place (option_map chosen_value c.choose.new.into) chooses) refl is.bare_is c.begin_hashing-self.ensures);
 }
 
 pub returns-in-Err : goal.returns-in-Err
@@ -27,7 +27,7 @@ returns-in-Err g c = record {
   reads_on = λ task pairs others among e good found_good.
       let headers = headers_of c.args.kind c.args.self.now.protected.items pairs others in
       let place = c.args.at + length c.args.self.now.unprotected.items in
-      let is = choice_is_refused pairs c.in-Err.refusal (choice_of task (headers_of c.args.kind c.args.self.now.protected.items pairs others) (c.args.at + length c.args.self.now.unprotected.items)) (rw c.in-Err.is at (c.choose.ensures task pairs others e.0 among good found_good)) in
+      let is = choice_is_refused pairs c.in-Err.refusal c.choose.new.into (choice_of task (headers_of c.args.kind c.args.self.now.protected.items pairs others) (c.args.at + length c.args.self.now.unprotected.items)) (rw c.in-Err.is at (c.choose.ensures task pairs others e.0 among good found_good)) in
       let refuses : choice_of task (headers_of c.args.kind c.args.self.now.protected.items pairs others) (c.args.at + length c.args.self.now.unprotected.items) ≡ Err c.in-Err.refusal = is in
       moved c.refuse.new.self _ _ refl refl (choice_refuses g.row.H g.row.D task headers place c.in-Err.refusal refuses)
       (c.refuse.ensures task [] (c.args.at + length c.args.self.now.unprotected.items) (headers_so_far (headers_of c.args.kind c.args.self.now.protected.items pairs others) []) e refl);

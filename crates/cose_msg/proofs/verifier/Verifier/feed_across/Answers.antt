@@ -12,22 +12,54 @@ use Rattle.cose_msg.proofs.lemmas.Feeding.Statuses.{status_going, wants_and_goes
 use Rattle.cose_msg.proofs.verifier.Verifier.feed_across.Goals.{then-is_in_payload, else-is_in_payload}
 use Rattle.cose_msg.proofs.verifier.Verifier.feed_across.Goals as goal
 
-pub returns-then-want-eq0-clause-uses : goal.returns-then-want-eq0-clause-uses
-returns-then-want-eq0-clause-uses g c = λ task s B h.
-    uses_none task s c.args.piece.now (λ unsettled. (
-    let open_yet = unsettled_is_more c.args.self.now.reader.phase (sym (c.lemma_reading_so_far.ensures.settled task B _ _ h.so_far h.came) ∙ ap (λ (r : Reading). r.settled) (without_more g.row.H g.row.D task s) ∙ unsettled) in
-    let wants : 0 < c.want.result = c.want.ensures.some (status_going c.args.self.now _ h.goes_on open_yet) in
-    omega (arith, wants, c.if-want-eq0.true)))
+pub returns-then-want-eq0 : goal.returns-then-want-eq0
+returns-then-want-eq0 g c = record {
+  uses = λ task s B h.
+      uses_none task s c.args.piece.now (λ unsettled. (
+      let open_yet = unsettled_is_more c.args.self.now.reader.phase (sym (c.lemma_reading_so_far.ensures.settled task B _ _ h.so_far h.came) ∙ ap (λ (r : Reading). r.settled) (without_more g.row.H g.row.D task s) ∙ unsettled) in
+      let wants : 0 < c.want.result = c.want.ensures.some (status_going c.args.self.now _ h.goes_on open_yet) in
+      omega (arith, wants, c.if-want-eq0.true)));
+  taken = grind (arith, common_steps);
+  status = λ task s B h.
+      c.status.ensures.reads task s B h ∙ ap status_of_reading (sym (without_more g.row.H g.row.D task s));
+  attached = λ task s B h is. c.status.ensures.attached task s B h is;
+  payload = grind (arith, common_steps);
+  shows = λ task s B h. c.lemma_reading_so_far.ensures.shows task B _ _ h.so_far h.came;
+  fits = omega arith;
+  ordered = omega arith;
+  among = omega arith;
+  none = λ _. refl;
+  current = c.status.ensures.value;
+  counted = omega arith;
+  again = grind (arith, common_steps);
+  purpose = unchanged c.args.self.now;
+}
 
-pub returns-then-want-eq0-clause-status : goal.returns-then-want-eq0-clause-status
-returns-then-want-eq0-clause-status g c = λ task s B h.
-    c.status.ensures.reads task s B h ∙ ap status_of_reading (sym (without_more g.row.H g.row.D task s))
-
-pub returns-then-want-eq0-clause-attached : goal.returns-then-want-eq0-clause-attached
-returns-then-want-eq0-clause-attached g c = λ task s B h is. c.status.ensures.attached task s B h is
-
-pub returns-then-want-eq0-clause-shows : goal.returns-then-want-eq0-clause-shows
-returns-then-want-eq0-clause-shows g c = λ task s B h. c.lemma_reading_so_far.ensures.shows task B _ _ h.so_far h.came
+pub returns-then-count-eq0 : goal.returns-then-count-eq0
+returns-then-count-eq0 g c = record {
+  uses = λ task s B h.
+      let a = c.pieces.invariant.0 task s B h in
+      let limit : g.row.H ≤ 65535 = c.pieces.self.reader.limit in
+      uses_all a (record { compared = c.messages_are_bounded.ensures.verified.1; inspected = c.messages_are_bounded.ensures.inspected }) limit c.step-count.result (c.lemma_reading_so_far-in-pieces.ensures.settled task _ _ _ a.reads_on.so_far a.reads_on.came) c.step-count.ensures.some c.if-count-eq0.true c.pieces.invariant.4;
+  taken = λ task s B h. let a = c.pieces.invariant.0 task s B h in a.reads_on;
+  status = λ task s B h. let a = c.pieces.invariant.0 task s B h in c.status-then-count-eq0.ensures.reads task _ _ a.reads_on;
+  attached = λ task s B h is.
+      let a = c.pieces.invariant.0 task s B h in c.status-then-count-eq0.ensures.attached task _ _ a.reads_on (c.pieces.invariant.8 ∙ is);
+  payload = λ task s B h.
+      let a = c.pieces.invariant.0 task s B h in
+      knows_payload a (c.lemma_reading_so_far-in-pieces.ensures.payload task _ _ _ a.reads_on.so_far a.reads_on.came) (c.lemma_reading_so_far.ensures.payload task B _ _ h.so_far h.came);
+  shows = λ task s B h.
+      let a = c.pieces.invariant.0 task s B h in
+      shows_now task _ c.pieces.self (c.lemma_reading_so_far-in-pieces.ensures.shows task _ _ _ a.reads_on.so_far a.reads_on.came);
+  fits = c.pieces.invariant.4;
+  ordered = c.pieces.invariant.5;
+  among = c.pieces.invariant.6;
+  none = c.pieces.invariant.7;
+  current = c.status-then-count-eq0.ensures.value;
+  counted = c.pieces.invariant.3;
+  again = λ settled. absurd (c.if-want-eq0.false (c.want.ensures.none settled));
+  purpose = record { inspects = c.pieces.invariant.2; detached = c.pieces.invariant.8; context = λ h. same_setting_of h (c.pieces.invariant.0 _ _ _ h).reads_on };
+}
 
 pub pieces-init : goal.pieces-init
 pieces-init g c = (
@@ -91,39 +123,6 @@ pieces-preserved g c =
           ))
     ]
 
-pub returns-then-count-eq0-clause-uses : goal.returns-then-count-eq0-clause-uses
-returns-then-count-eq0-clause-uses g c = λ task s B h.
-    let a = c.pieces.invariant.0 task s B h in
-    let limit : g.row.H ≤ 65535 = c.pieces.self.reader.limit in
-    uses_all a (record { compared = c.messages_are_bounded.ensures.verified.1; inspected = c.messages_are_bounded.ensures.inspected }) limit c.step-count.result (c.lemma_reading_so_far-in-pieces.ensures.settled task _ _ _ a.reads_on.so_far a.reads_on.came) c.step-count.ensures.some c.if-count-eq0.true c.pieces.invariant.4
-
-pub returns-then-count-eq0-clause-taken : goal.returns-then-count-eq0-clause-taken
-returns-then-count-eq0-clause-taken g c = λ task s B h. let a = c.pieces.invariant.0 task s B h in a.reads_on
-
-pub returns-then-count-eq0-clause-status : goal.returns-then-count-eq0-clause-status
-returns-then-count-eq0-clause-status g c = λ task s B h. let a = c.pieces.invariant.0 task s B h in c.status-then-count-eq0.ensures.reads task _ _ a.reads_on
-
-pub returns-then-count-eq0-clause-attached : goal.returns-then-count-eq0-clause-attached
-returns-then-count-eq0-clause-attached g c = λ task s B h is.
-    let a = c.pieces.invariant.0 task s B h in c.status-then-count-eq0.ensures.attached task _ _ a.reads_on (c.pieces.invariant.8 ∙ is)
-
-pub returns-then-count-eq0-clause-payload : goal.returns-then-count-eq0-clause-payload
-returns-then-count-eq0-clause-payload g c = λ task s B h.
-    let a = c.pieces.invariant.0 task s B h in
-    knows_payload a (c.lemma_reading_so_far-in-pieces.ensures.payload task _ _ _ a.reads_on.so_far a.reads_on.came) (c.lemma_reading_so_far.ensures.payload task B _ _ h.so_far h.came)
-
-pub returns-then-count-eq0-clause-shows : goal.returns-then-count-eq0-clause-shows
-returns-then-count-eq0-clause-shows g c = λ task s B h.
-    let a = c.pieces.invariant.0 task s B h in
-    shows_now task _ c.pieces.self (c.lemma_reading_so_far-in-pieces.ensures.shows task _ _ _ a.reads_on.so_far a.reads_on.came)
-
-pub returns-then-count-eq0-clause-purpose : goal.returns-then-count-eq0-clause-purpose
-returns-then-count-eq0-clause-purpose g c =
-    record { inspects = c.pieces.invariant.2; detached = c.pieces.invariant.8; context = λ h. same_setting_of h (c.pieces.invariant.0 _ _ _ h).reads_on }
-
-pub returns-then-count-eq0-clause-again : goal.returns-then-count-eq0-clause-again
-returns-then-count-eq0-clause-again g c = λ settled. absurd (c.if-want-eq0.false (c.want.ensures.none settled))
-
 pub take_piece-requires : goal.take_piece-requires
 take_piece-requires g c κs =
     let fits = fits_in c.args.piece.now c.pieces.used c.step-count.result c.pieces.invariant.4 c.step-count.ensures.rest in
@@ -138,36 +137,6 @@ take_piece-requires g c κs =
       ),
     )
 
-pub returns-then-want-eq0-clause-taken : goal.returns-then-want-eq0-clause-taken
-returns-then-want-eq0-clause-taken g c = grind (arith, common_steps)
-
-pub returns-then-want-eq0-clause-payload : goal.returns-then-want-eq0-clause-payload
-returns-then-want-eq0-clause-payload g c = grind (arith, common_steps)
-
-pub returns-then-want-eq0-clause-fits : goal.returns-then-want-eq0-clause-fits
-returns-then-want-eq0-clause-fits g c = grind (arith, common_steps)
-
-pub returns-then-want-eq0-clause-ordered : goal.returns-then-want-eq0-clause-ordered
-returns-then-want-eq0-clause-ordered g c = grind (arith, common_steps)
-
-pub returns-then-want-eq0-clause-among : goal.returns-then-want-eq0-clause-among
-returns-then-want-eq0-clause-among g c = grind (arith, common_steps)
-
-pub returns-then-want-eq0-clause-none : goal.returns-then-want-eq0-clause-none
-returns-then-want-eq0-clause-none g c = grind (arith, common_steps)
-
-pub returns-then-want-eq0-clause-current : goal.returns-then-want-eq0-clause-current
-returns-then-want-eq0-clause-current g c = grind (arith, common_steps)
-
-pub returns-then-want-eq0-clause-counted : goal.returns-then-want-eq0-clause-counted
-returns-then-want-eq0-clause-counted g c = grind (arith, common_steps)
-
-pub returns-then-want-eq0-clause-again : goal.returns-then-want-eq0-clause-again
-returns-then-want-eq0-clause-again g c = grind (arith, common_steps)
-
-pub returns-then-want-eq0-clause-purpose : goal.returns-then-want-eq0-clause-purpose
-returns-then-want-eq0-clause-purpose g c = unchanged c.args.self.now
-
 pub slice_bounds-rest-count : goal.slice_bounds-rest-count
 slice_bounds-rest-count g c = grind (arith, common_steps)
 
@@ -176,21 +145,6 @@ slice_bounds-rest-start g c = grind (arith, common_steps)
 
 pub slice_bounds-rest-end : goal.slice_bounds-rest-end
 slice_bounds-rest-end g c = grind (arith, common_steps)
-
-pub returns-then-count-eq0-clause-fits : goal.returns-then-count-eq0-clause-fits
-returns-then-count-eq0-clause-fits g c = grind (arith, common_steps)
-
-pub returns-then-count-eq0-clause-ordered : goal.returns-then-count-eq0-clause-ordered
-returns-then-count-eq0-clause-ordered g c = grind (arith, common_steps)
-
-pub returns-then-count-eq0-clause-among : goal.returns-then-count-eq0-clause-among
-returns-then-count-eq0-clause-among g c = grind (arith, common_steps)
-
-pub returns-then-count-eq0-clause-current : goal.returns-then-count-eq0-clause-current
-returns-then-count-eq0-clause-current g c = grind (arith, common_steps)
-
-pub returns-then-count-eq0-clause-counted : goal.returns-then-count-eq0-clause-counted
-returns-then-count-eq0-clause-counted g c = grind (arith, common_steps)
 
 pub slice_bounds-take_piece-end : goal.slice_bounds-take_piece-end
 slice_bounds-take_piece-end g c = grind (arith, common_steps)
