@@ -67,7 +67,6 @@ impl<'a> Known<'a> {
     }
 
     /// Those of the pairs of a token's claims.
-    #[tactic(auto, using(crate::proofs::KnownClaims::past_pair, crate::proofs::KnownClaims::no_pair_left))]
     pub(crate) fn of(pairs: Pairs<'a>) -> Known<'a>
         ensures { known_value result ≡ first_values (pairs_left pairs.entry) }
     {

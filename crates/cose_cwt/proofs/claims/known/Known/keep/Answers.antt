@@ -1,4 +1,4 @@
--- A label below the known ones, and one above them.
+-- A label below the known ones, one above them, and a text string.
 use Rattle.std.proofs.Common.{arith}
 use Rattle.cose_map.specs.Map.View.{pair_value}
 use Rattle.cose_cwt.proofs.KnownClaims.{other_pair}
@@ -10,4 +10,8 @@ returns-then-name-lt1 c =
 
 pub returns-else-name-lt9 : goal.returns-else-name-lt9
 returns-else-name-lt9 c =
+    other_pair _ (pair_value c.args.pair.now) (grind (arith)) (grind (arith)) (grind (arith)) (grind (arith)) (grind (arith)) (grind (arith)) (grind (arith)) (grind (arith))
+
+pub returns : goal.returns
+returns c =
     other_pair _ (pair_value c.args.pair.now) (grind (arith)) (grind (arith)) (grind (arith)) (grind (arith)) (grind (arith)) (grind (arith)) (grind (arith)) (grind (arith))
