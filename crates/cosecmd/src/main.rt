@@ -71,16 +71,18 @@ fn complain<W: Write>(output: &mut W, text: &str) -> ExitCode
 /// Says on standard error what a run with this status doesn't say on standard output: the line of a fault, where `make` was to
 /// write a message there; and of another command the form of the text that the input begins as, where no message is accepted.
 fn say_more(rt: &HostRuntime, words: &[&str], status: u8, form: Option<Form>, line: Option<&[u8]>) {
-    let is_make = words.get(1) == Some(&"make");
-    match (status, form, line) {
-        (2, _, Some(line)) if is_make => {
+    if words.get(1) == Some(&"make") {
+        if let (2, Some(line)) = (status, line) {
             let _ = rt.stderr().write_all(line);
         }
-        (1 | 2, Some(form), _) if !is_make => {
-            let (name, advice) = (form.name(), form.advice());
-            let _ = eprintln!(rt; "cosecmd: standard input begins as {name} does; {advice}");
-        }
-        _ => {}
+        return;
+    }
+    if status == 0 {
+        return;
+    }
+    if let Some(form) = form {
+        let (name, advice) = (form.name(), form.advice());
+        let _ = eprintln!(rt; "cosecmd: standard input begins as {name} does; {advice}");
     }
 }
 
