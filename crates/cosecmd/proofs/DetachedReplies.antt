@@ -22,7 +22,6 @@ use Rattle.cosecmd.specs.declared.job.Question.{Question}
 use Rattle.cosecmd.specs.declared.job.Question.TheVariants as questions
 use Rattle.cosecmd.specs.declared.reply.Reply.{Reply}
 use Rattle.cosecmd.specs.Faults.{FailsForKeys}
-use Rattle.cosecmd.specs.Limits.{Room}
 use Rattle.cosecmd.specs.PayloadFile.{counted, never}
 use Rattle.cosecmd.specs.Printed.{Output, Says, answered_in, answered_under, digested_as, digested_before, output_of, setting_under, signature_asked, trailed, with_payload}
 use Rattle.cosecmd.specs.Stated.{AnsweredOf, RepliesWith, answered_from, answered_of_short, answered_short, payload_wanted_of, stating, unless_missing}

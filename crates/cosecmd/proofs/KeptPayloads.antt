@@ -20,7 +20,7 @@ use Rattle.cosecmd.specs.Printed.{Output, Prints, Says, code_of, setting_under}
 use Rattle.cosecmd.specs.Under.{Under}
 use Rattle.cosecmd.specs.Vouch.{vouching}
 use Rattle.cosecmd.specs.WriteSink.{held_through}
-use Rattle.cosecmd.proofs.Digests.{all_come_to}
+use Rattle.cosecmd.proofs.MessageReplies.{all_come_to}
 use Rattle.cosecmd.proofs.Trailing.{left_of_input}
 use Rattle.cosecmd.proofs.Writes.{lent}
 

@@ -1,4 +1,4 @@
-use Rattle.std.proofs.Common.{None, Option, Some, List, ℕ, ap, sym, ◌∙◌}
+use Rattle.std.proofs.Common.{None, Option, Some, List, ℕ, ap, ◌∙◌}
 use Rattle.cosecmd.specs.Payload.{detached_in}
 use Rattle.cosecmd.specs.Printed.{answered_under}
 use Rattle.cosecmd.specs.Under.{Under, owned_under}

@@ -45,16 +45,13 @@ returns-in-Ok-clause-unread g c =
     let is : met.field-0 ≡ Matches met.matches = search rules in
     inr (met.matches, found_in _ met.field-0 met.matches is met.ensures, λ name some taken. c.answer_request.ensures.taken name (c.in-Ok.ensures.keeping ∙ some) taken)
 
-pub returns-in-Err-clause-fails : goal.returns-in-Err-clause-fails
-returns-in-Err-clause-fails g c = λ bytes e two. inl (some_line _ _ _ c.print_fault.ensures.line)
-
 pub returns-in-Ok-Text-clause-printed : goal.returns-in-Ok-Text-clause-printed
 returns-in-Ok-Text-clause-printed g c = λ bytes e.
     let met = c.in-Ok-Text in
     let is : met.field-0 ≡ Text met.reply = search rules in
     let read = text_read _ met.field-0 met.reply is met.ensures in
     let unlike = ap begins_as_answer c.as_str.ensures.value ∙ read.1 in
-    rw c.code.ensures (inl (c.as_str.result.now, unlike, ends_with_text _ _ c.as_str.result.now met.reply.status c.print.result read.0 c.print.ensures.status c.print.ensures.written))
+    rw c.code-in-Ok-Text.ensures (inl (c.as_str.result.now, unlike, ends_with_text _ _ c.as_str.result.now met.reply.status c.print.result read.0 c.print.ensures.status c.print.ensures.written))
 
 pub returns-in-Ok-Text-clause-fails : goal.returns-in-Ok-Text-clause-fails
 returns-in-Ok-Text-clause-fails g c = λ bytes e two.
@@ -63,5 +60,5 @@ returns-in-Ok-Text-clause-fails g c = λ bytes e two.
     let read = text_read _ met.field-0 met.reply is met.ensures in
     inr (inl (c.as_str.result.now, ap begins_as_answer c.as_str.ensures.value ∙ read.1, c.print.ensures.front))
 
-pub returns-in-Err-2-clause-fails : goal.returns-in-Err-2-clause-fails
-returns-in-Err-2-clause-fails g c = λ bytes e two. inl (some_line _ _ _ c.print_fault-in-Err-2.ensures.line)
+pub returns-in-Ok-Matches-clause-fails : goal.returns-in-Ok-Matches-clause-fails
+returns-in-Ok-Matches-clause-fails g c = λ bytes e two. inl (some_line _ _ _ c.print_fault.ensures.line)

@@ -1,4 +1,4 @@
-use Rattle.std.proofs.Common.{ap, refl, rules, subst}
+use Rattle.std.proofs.Common.{rules}
 use Rattle.cosecmd.specs.Under.{job_under}
 use Rattle.cosecmd.proofs.DetachedReplies.{says_with_bytes}
 use Rattle.cosecmd.proofs.answer.message.reply_with_bytes.Goals as goal
