@@ -550,7 +550,8 @@ fn digest_request<'a, F: NamedFiles>(
     })
 }
 
-/// What the arguments, the first of which is the program's name, say to clap.
+/// What the arguments, the first of which is the program's name, say to clap. Not inlined, so that a job has the stack that it takes.
+#[inline(never)]
 pub fn parse<'a>(alloc: Global, words: &'a [&'a str]) -> Result<Parsed<'a>, Fault>
     ensures { IfOk result (IsReadFrom (map (λ word. word.now) words.entry.now)) }
 {
@@ -560,7 +561,8 @@ pub fn parse<'a>(alloc: Global, words: &'a [&'a str]) -> Result<Parsed<'a>, Faul
     }
 }
 
-/// What the arguments ask for. It reads the file of keys that they name.
+/// What the arguments ask for. It reads the file of keys that they name. Not inlined, as `parse`.
+#[inline(never)]
 pub fn request_of<'a, F: NamedFiles>(
     alloc: Global,
     files: &F,

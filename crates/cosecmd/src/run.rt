@@ -54,7 +54,9 @@ fn answer_show<R: Read, W: Write>(
     answer(alloc, &job, input, output)
 }
 
-/// What is asked of a message, where the payload is in the file of this name.
+/// What is asked of a message, where the payload is in the file of this name. Not inlined: no other job is to take the stack that
+/// files take.
+#[inline(never)]
 fn answer_with_file<F: NamedFiles, R: Read, W: Write>(
     alloc: Global,
     files: &F,
@@ -90,7 +92,9 @@ fn answer_with_file<F: NamedFiles, R: Read, W: Write>(
     answer_with_payload_file(alloc, &job, &mut file, input, output)
 }
 
-/// The job of the command `verify`, where the payload is in the message, and is kept in a new file of this name.
+/// The job of the command `verify`, where the payload is in the message, and is kept in a new file of this name. Not inlined, as
+/// `answer_with_file`.
+#[inline(never)]
 fn answer_keep<F: NewFiles, R: Read, W: Write>(
     alloc: Global,
     files: &F,

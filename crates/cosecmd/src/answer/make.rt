@@ -19,7 +19,9 @@ const CHUNK: usize = 4_096;
 /// Makes a message of the first `length` bytes of the input, and writes it. What follows them is left unread.
 ///
 /// A fault is found before anything is read or written, and its line is still to be printed. Where the input or the
-/// output fails later, or the input is too short, the run ends with a fault, and no line follows what was written.
+/// output fails later, or the input is too short, the run ends with a fault, and no line follows what was written. Not inlined:
+/// no other job is to take the stack for its chunk.
+#[inline(never)]
 pub fn make_message<R: Read, W: Write>(
     alg: Alg,
     key: &[u8],
