@@ -31,7 +31,7 @@ fn known(number: i128) -> Option<i128>
 }
 
 /// The number of an algorithm that a text writes in decimal.
-fn number_of(word: &str) -> Option<i128>
+pub fn number_of(word: &str) -> Option<i128>
     ensures { result ≡ spec.algorithm_written word.now }
 {
     match word.parse::<i64>() {

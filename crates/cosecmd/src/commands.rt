@@ -8,15 +8,15 @@ const VERSION: &str = "0.2.0";
 
 /// What help says below the commands.
 const NOTES: &str =
-    "HMAC is computed here; for ECDSA (ES256, ES384, ES512, ESP256, ESP384, ESP512) the digest is computed, and \
---vouch decides; no curve arithmetic is included.
+    "HMAC is computed here; for ECDSA (ES256, ES384, ES512, ESP256, ESP384, ESP512) the digest is computed, and --vouch \
+decides: without it no signature is good, and cosecmd-sign1 has openssl decide. No curve arithmetic is included.
 Arguments in hexadecimal have an even number of digits, no prefix and no spaces.
 Exit status: 0 accepted, shown, printed or made, 1 refused, 2 no answer; the help of each command has its own, and an example.";
 
 /// What help says below the options of `verify`.
 const VERIFY_NOTES: &str =
-    "HMAC is computed here; for ECDSA (ES256, ES384, ES512, ESP256, ESP384, ESP512) the digest is computed, and \
---vouch decides; no curve arithmetic is included.
+    "HMAC is computed here; for ECDSA (ES256, ES384, ES512, ESP256, ESP384, ESP512) the digest is computed, and --vouch \
+decides: without it no signature is good, and cosecmd-sign1 has openssl decide. No curve arithmetic is included.
 Arguments in hexadecimal have an even number of digits, no prefix and no spaces.
 Exit status: 0 authentic, 1 refused, 2 no verdict (command line, keys, memory, input or output).
 Example: cosecmd verify --keys-file keys < message";
@@ -57,8 +57,8 @@ Example: cosecmd show --diagnostic < message";
 
 /// What help says below the options of `cwt`.
 const CWT_NOTES: &str =
-    "HMAC is computed here; for ECDSA (ES256, ES384, ES512, ESP256, ESP384, ESP512) the digest is computed, and \
---vouch decides; no curve arithmetic is included.
+    "HMAC is computed here; for ECDSA (ES256, ES384, ES512, ESP256, ESP384, ESP512) the digest is computed, and --vouch \
+decides: without it no signature is good, and cosecmd-sign1 has openssl decide. No curve arithmetic is included.
 Arguments in hexadecimal have an even number of digits, no prefix and no spaces.
 It prints `admitted`, and then a line for each registered claim and for each text of the audience: texts and bytes in \
 hexadecimal, dates in seconds since 1970; of a confirmation the key (curve, x, y) and its identifier.

@@ -1,8 +1,8 @@
 //! What standard error says of bytes that begin as a text does, where CBOR is expected, and of a file of a secret key that others
 //! may read. None of it changes what standard output says, or how the run ends.
 
-/// How many first bytes are remembered. No line of a fault is longer.
-const ROOM: usize = 64;
+/// How many first bytes are remembered. No line of a fault is longer, and hardly a text of clap's.
+const ROOM: usize = 512;
 
 /// How many bytes of an alphabet make a text of it. The shortest key of a MAC has so many in base64url.
 const ENOUGH: usize = 12;
@@ -40,11 +40,6 @@ impl First {
             Some(known) => known,
             None => &self.bytes,
         }
-    }
-
-    /// Whether these are all the bytes that there were.
-    pub fn is_whole(&self) -> bool {
-        self.length <= ROOM
     }
 
     /// Whether there are enough of them to tell what they begin as.
@@ -138,8 +133,27 @@ impl Form {
         match self {
             Form::Pem | Form::Json =>
                 "examples/cose_key (installed: cosecmd-key) makes keys in CBOR of it",
-            _ => self.advice(),
+            Form::JsonWebToken => self.advice(),
+            Form::Hexadecimal | Form::Base64url | Form::Letters =>
+                "it has to be CBOR: decode it first; of a secret examples/cose_key (installed: cosecmd-key) makes a key",
         }
+    }
+}
+
+/// The key of the examples, a test case of RFC 4231 (section 4.3): no secret of anybody's.
+const PUBLISHED: &[u8] = &[0xa2, 1, 4, 0x20, 0x44, b'J', b'e', b'f', b'e'];
+
+/// Whether these bytes are a key that everybody knows.
+pub fn is_published(first: &[u8]) -> bool {
+    first == PUBLISHED
+}
+
+/// Whether these bytes begin as no key and no key set does, and are none of the forms either: a secret, perhaps.
+pub fn is_no_key(first: &[u8]) -> bool {
+    match first.first() {
+        // arrays and maps (RFC 8949 section 3.1)
+        Some(&head) => !matches!(head, 0x80..=0xbf) && form_of(first).is_none(),
+        None => false,
     }
 }
 

@@ -6,6 +6,7 @@
 ghost use Rattle.std.specs.Prelude.{◌≡◌};
 ghost use Rattle.std.specs.Process.{exit_status};
 
+mod advice;
 mod allowed;
 mod answer;
 mod arguments;
@@ -31,6 +32,7 @@ mod streams;
 mod vouch;
 mod write_sink;
 
+use advice::Ended;
 use hints::Form;
 use noted_files::NotedFiles;
 use run::run_with_files;
@@ -68,21 +70,25 @@ fn complain<W: Write>(output: &mut W, text: &str) -> ExitCode
     ExitCode::from(2)
 }
 
-/// Says on standard error what a run with this status doesn't say on standard output: the line of a fault, where `make` was to
-/// write a message there; and of another command the form of the text that the input begins as, where no message is accepted.
-fn say_more(rt: &HostRuntime, words: &[&str], status: u8, form: Option<Form>, line: Option<&[u8]>) {
-    if words.get(1) == Some(&"make") {
-        if let (2, Some(line)) = (status, line) {
-            let _ = rt.stderr().write_all(line);
+/// Says on standard error what the text on standard output doesn't say after this run: of another command than `make` the form
+/// of the text that the input begins as, where no message is accepted, and advice; of `make`, whose output was to be a message,
+/// what it printed in its place too.
+fn say_more(rt: &HostRuntime, ended: &Ended, form: Option<Form>, complaint: Option<&[u8]>) {
+    if ended.is_of("make") {
+        if let (2, Some(complaint)) = (ended.status, complaint) {
+            let _ = rt.stderr().write_all(complaint);
         }
-        return;
-    }
-    if status == 0 {
-        return;
-    }
-    if let Some(form) = form {
+    } else if let (1 | 2, Some(form)) = (ended.status, form) {
         let (name, advice) = (form.name(), form.advice());
         let _ = eprintln!(rt; "cosecmd: standard input begins as {name} does; {advice}");
+    }
+    if let Some(part) = ended.wrong_algorithm() {
+        let _ = eprintln!(rt;
+            "cosecmd: --algs takes numbers of algorithms, joined by commas, and {part:?} is none"
+        );
+    }
+    if let Some(advice) = ended.advice() {
+        let _ = eprintln!(rt; "cosecmd: {advice}");
     }
 }
 
@@ -95,7 +101,13 @@ fn run_command(rt: &HostRuntime, words: &[&str]) -> u8 {
     let mut input = Noted::new(rt.stdin());
     let mut output = Noted::new(rt.stdout());
     let status = run_with_files(rt.alloc(), words, &files, &mut input, &mut output);
-    say_more(rt, words, status, input.form(), output.fault());
+    let ended = Ended {
+        words,
+        status,
+        input: input.known(),
+        printed: output.known(),
+    };
+    say_more(rt, &ended, input.form(), output.complaint());
     status
 }
 

@@ -3,12 +3,12 @@
 ghost use Rattle.std.specs.Prelude.{None};
 
 use crate::files::NamedFiles;
-use crate::hints::{First, form_of, is_secret};
+use crate::hints::{First, form_of, is_no_key, is_published, is_secret};
 use crate::new_file::{HostFile, NewFiles};
 use std::alloc::Global;
 use std::fs::File;
 use std::io;
-use std::io::Read;
+use std::io::{Error, ErrorKind, Read};
 use std::os::unix::fs::PermissionsExt;
 
 /// The bits of a mode that let others than the owner read or write.
@@ -54,13 +54,40 @@ fn is_open_to_others(file: &File) -> bool {
     }
 }
 
+/// What an error of a file is, in words.
+fn cause(kind: ErrorKind) -> &'static str {
+    match kind {
+        ErrorKind::NotFound => "there is no such file or folder",
+        ErrorKind::PermissionDenied => "there is no right to it",
+        ErrorKind::AlreadyExists => "it exists already, and no file is overwritten",
+        ErrorKind::IsADirectory => "it is a folder",
+        ErrorKind::InvalidFilename => "its name is too long",
+        ErrorKind::InvalidInput =>
+            "the number of its bytes is unknown (--payload-length states it)",
+        ErrorKind::UnexpectedEof => "it ends early",
+        _ => "the system refuses it",
+    }
+}
+
+/// Says why the file of an option can't be used.
+fn say_cause(rt: &HostRuntime, option: &str, error: &Error) {
+    let cause = cause(error.kind());
+    let _ = eprintln!(rt; "cosecmd: the file of --{option} can't be used: {cause}");
+}
+
 impl<'r> NamedFiles for NotedFiles<'r> {
     type File = NotedFile<'r>;
 
     ghost content = { λ _ _. None };
 
     fn open(&self, name: &str) -> io::Result<Self::File> {
-        let file = self.rt.open(name)?;
+        let file = match self.rt.open(name) {
+            Ok(file) => file,
+            Err(error) => {
+                say_cause(self.rt, self.option, &error);
+                return Err(error);
+            },
+        };
         Ok(NotedFile {
             rt: self.rt,
             option: self.option,
@@ -72,10 +99,16 @@ impl<'r> NamedFiles for NotedFiles<'r> {
     }
 
     fn open_with_length(&self, name: &str, stated: Option<u64>) -> io::Result<(Self::File, u64)> {
-        let (file, length) = self.rt.open_with_length(name, stated)?;
+        let (file, length) = match self.rt.open_with_length(name, stated) {
+            Ok(opened) => opened,
+            Err(error) => {
+                say_cause(self.rt, "payload-file", &error);
+                return Err(error);
+            },
+        };
         let noted = NotedFile {
             rt: self.rt,
-            option: self.option,
+            option: "payload-file",
             file,
             first: First::new(),
             is_open_to_others: false,
@@ -92,11 +125,25 @@ impl NewFiles for NotedFiles<'_> {
     ghost is_taken = { λ _ _. None };
 
     fn exists(&self, name: &str) -> io::Result<bool> {
-        self.rt.exists(name)
+        let found = self.rt.exists(name);
+        match &found {
+            Ok(true) => say_cause(
+                self.rt,
+                "payload-to",
+                &Error::from(ErrorKind::AlreadyExists),
+            ),
+            Ok(false) => {},
+            Err(error) => say_cause(self.rt, "payload-to", error),
+        }
+        found
     }
 
     fn create(&self, alloc: Global, name: &str) -> io::Result<HostFile> {
-        self.rt.create(alloc, name)
+        let made = self.rt.create(alloc, name);
+        if let Err(error) = &made {
+            say_cause(self.rt, "payload-to", error);
+        }
+        made
     }
 }
 
@@ -111,7 +158,14 @@ impl NotedFile<'_> {
                 "cosecmd: the file of --{option} begins as {name} does; {advice}"
             );
         }
-        if self.is_open_to_others && (option == "key-file" || is_secret(first)) {
+        if is_no_key(first) {
+            let _ = eprintln!(self.rt;
+                "cosecmd: the file of --{option} begins as no key in CBOR does; of a secret examples/cose_key \
+                (installed: cosecmd-key) --secret-file makes one"
+            );
+        }
+        let may_be_secret = option == "key-file" || is_secret(first);
+        if self.is_open_to_others && may_be_secret && !is_published(first) {
             let _ = eprintln!(self.rt;
                 "cosecmd: others may read or change the file of --{option}, which has a secret key"
             );
@@ -121,7 +175,13 @@ impl NotedFile<'_> {
 
 impl Read for NotedFile<'_> {
     fn read(&mut self, into: &mut [u8]) -> io::Result<usize> {
-        let count = self.file.read(into)?;
+        let count = match self.file.read(into) {
+            Ok(count) => count,
+            Err(error) => {
+                say_cause(self.rt, self.option, &error);
+                return Err(error);
+            },
+        };
         if !self.is_said {
             if let Some(bytes) = into.get(..count) {
                 self.first.note(bytes);

@@ -1,4 +1,4 @@
-//! The standard streams of the process: those that are closed, a terminal that the input comes from, a fault's line that goes to
+//! The standard streams of the process: those that are closed, a terminal that the input comes from, a complaint that goes to
 //! standard error too, and an input that begins as a text does.
 
 use crate::hints::{First, Form, form_of_first};
@@ -41,11 +41,16 @@ impl<S> Noted<S> {
         }
     }
 
-    /// All that was written, where it begins as the line of a fault does and is no longer than one.
-    pub fn fault(&self) -> Option<&[u8]> {
-        let line = self.first.known();
-        if self.first.is_whole() && line.starts_with("fault ".as_bytes()) {
-            return Some(line);
+    /// The first bytes that went through it, as many as are remembered.
+    pub fn known(&self) -> &[u8] {
+        self.first.known()
+    }
+
+    /// What was written, as far as it is remembered, where it begins as the line of a fault or as a text of clap's does.
+    pub fn complaint(&self) -> Option<&[u8]> {
+        let text = self.first.known();
+        if text.starts_with("fault ".as_bytes()) || text.starts_with("error: ".as_bytes()) {
+            return Some(text);
         }
         None
     }

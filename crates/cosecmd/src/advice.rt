@@ -1,0 +1,152 @@
+//! What standard error advises after a run, by its arguments and by the beginnings of what it read and printed. None of it changes
+//! what standard output says, or how the run ends.
+
+use crate::allowed::number_of;
+
+/// A run that has ended.
+#[derive(Clone, Copy)]
+pub struct Ended<'a> {
+    /// Its arguments, the program's name first.
+    pub words: &'a [&'a str],
+    /// Its exit status.
+    pub status: u8,
+    /// The first bytes that it read from standard input.
+    pub input: &'a [u8],
+    /// The first bytes that it printed.
+    pub printed: &'a [u8],
+}
+
+/// What is said of a signed message that was refused, since no signature was passed as good.
+const UNVOUCHED: &str =
+    "no signature is verified without --vouch; cosecmd-sign1 (examples/verify_sign1) has openssl verify it";
+
+/// What is said of what `digest` prints.
+const NO_VERDICT: &str =
+    "not a verdict: whether the signature is good has to be decided by another program";
+
+/// What is said of a refusal for want of room.
+const LARGE: &str = "`--limits large` has more room";
+
+/// What is said of a path that is a dash.
+const DASH: &str = "a path of `-` names no stream here; /dev/stdin names standard input";
+
+/// What is said of an option of `make` in another command.
+const KEYS_FILE: &str =
+    "this command takes --keys or --keys-file; --key and --key-file are options of `make`";
+
+/// What is said of an option of other commands in `make`.
+const KEY_FILE: &str =
+    "`make` takes --key or --key-file, which has one key; --keys and --keys-file are options of other commands";
+
+/// Whether some bytes are among these.
+fn contains(bytes: &[u8], wanted: &[u8]) -> bool {
+    bytes.windows(wanted.len()).any(|window| window == wanted)
+}
+
+/// The first part of a list that is no number of an algorithm.
+fn wrong_part(list: &str) -> Option<&str> {
+    list.split(',').find(|part| number_of(part).is_none())
+}
+
+impl<'a> Ended<'a> {
+    /// Whether the run was that of this command.
+    pub fn is_of(&self, command: &str) -> bool {
+        match self.words.get(1) {
+            Some(&word) => word == command,
+            None => false,
+        }
+    }
+
+    /// Whether this option is there, with its argument in the same word or in the next.
+    fn has(&self, option: &str) -> bool {
+        self.words.iter().any(|&word| match word.strip_prefix(option) {
+            Some(rest) => rest.is_empty() || rest.starts_with('='),
+            None => false,
+        })
+    }
+
+    /// Whether this is an argument, in a word of its own or after an option's name.
+    fn has_argument(&self, argument: &str) -> bool {
+        self.words.iter().any(|&word| match word.strip_suffix(argument) {
+            Some(rest) => rest.is_empty() || rest.ends_with('='),
+            None => false,
+        })
+    }
+
+    /// Whether the input begins as a COSE_Sign1, by its tag after that of a CWT or none, or by the kind that is asked for.
+    fn is_signed(&self) -> bool {
+        let message = match self.input.strip_prefix(&[0xd8, 0x3d]) {
+            Some(message) => message,
+            None => self.input,
+        };
+        message.first() == Some(&0xd2) || self.has_argument("sign1")
+    }
+
+    /// What to say of a message that isn't accepted.
+    fn of_refusal(&self) -> Option<&'static str> {
+        let is_bad = contains(self.printed, "BadAuth at ".as_bytes());
+        if is_bad && self.is_signed() && !self.has("--vouch") {
+            return Some(UNVOUCHED);
+        }
+        let is_past_room = contains(self.printed, "PastRoom at ".as_bytes())
+            && !contains(self.printed, "PastRoom at 0\n".as_bytes());
+        let is_past_limits = is_past_room || contains(self.printed, "TooDeep at ".as_bytes());
+        if is_past_limits && !self.has_argument("large") {
+            return Some(LARGE);
+        }
+        None
+    }
+
+    /// What to say of arguments that are refused.
+    fn of_arguments(&self) -> Option<&'static str> {
+        if self.printed.starts_with("fault file ".as_bytes()) && self.has_argument("-") {
+            return Some(DASH);
+        }
+        if !self.printed.starts_with("error: ".as_bytes()) {
+            return None;
+        }
+        if self.is_of("make") {
+            return if self.has("--keys") || self.has("--keys-file") {
+                Some(KEY_FILE)
+            } else {
+                None
+            };
+        }
+        if self.has("--key") || self.has("--key-file") {
+            return Some(KEYS_FILE);
+        }
+        None
+    }
+
+    /// What to say after this run, where there is something that its answer doesn't say.
+    pub fn advice(&self) -> Option<&'static str> {
+        match self.status {
+            0 if self.is_of("digest") && self.printed.starts_with("vouch ".as_bytes()) => Some(
+                NO_VERDICT,
+            ),
+            0 => None,
+            _ => match self.of_arguments() {
+                Some(advice) => Some(advice),
+                None => self.of_refusal(),
+            },
+        }
+    }
+
+    /// The part of the list of algorithms that is no number of one, where the list was refused.
+    pub fn wrong_algorithm(&self) -> Option<&'a str> {
+        if !self.printed.starts_with("fault line algs".as_bytes()) {
+            return None;
+        }
+        let mut follows = false;
+        for &word in self.words {
+            if follows {
+                return wrong_part(word);
+            }
+            if let Some(list) = word.strip_prefix("--algs=") {
+                return wrong_part(list);
+            }
+            follows = word == "--algs";
+        }
+        None
+    }
+}
