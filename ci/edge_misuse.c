@@ -137,6 +137,53 @@ static void blocks(void)
     is("feed: after the end", fed.used, 0);
 }
 
+/* A call with NULL for keys or for external data closes a block that was open: the old keys may be gone. */
+static void reopened(void)
+{
+    struct cose_verifier verifier = {block};
+    struct cose_status status;
+    cose_begin(block);
+    for (int turn = 0; turn < 4; turn++) {
+        const uint8_t *set = turn % 2 ? keys : NULL;
+        const size_t aad_length = turn % 2;
+        is("open", opened(&verifier, keys, sizeof keys, COSE_TAGGED), COSE_MORE);
+        if (turn < 2)
+            cose_open(&verifier, set, sizeof keys, NULL, aad_length, COSE_TAGGED, &status);
+        else
+            cose_open_detached(&verifier, set, sizeof keys, NULL, aad_length, COSE_TAGGED, 2, &status);
+        is("reopened: NULL", status.status, COSE_BAD_ARGUMENT);
+        is("reopened: NULL, its reason and place", status.reason + status.place, 0);
+        closed(&verifier);
+    }
+}
+
+static uint8_t large_fed(struct cose_large_verifier *verifier)
+{
+    struct cose_fed fed;
+    cose_large_feed(verifier, mac0, sizeof mac0, &fed);
+    return fed.status.status;
+}
+
+/* The same of the large size. */
+static void large_reopened(void)
+{
+    static _Alignas(64) uint8_t large_block[135168];
+    struct cose_large_verifier verifier = {large_block};
+    struct cose_status status;
+    is("the size of a large verifier", cose_large_verifier_size() <= sizeof large_block, 1);
+    cose_large_begin(large_block);
+    for (int turn = 0; turn < 2; turn++) {
+        cose_large_open(&verifier, keys, sizeof keys, NULL, 0, COSE_TAGGED, &status);
+        is("a large verifier", large_fed(&verifier), COSE_COMPLETE);
+        if (turn == 0)
+            cose_large_open(&verifier, NULL, 1, NULL, 0, COSE_TAGGED, &status);
+        else
+            cose_large_open_detached(&verifier, NULL, 1, NULL, 0, COSE_TAGGED, 2, &status);
+        is("large, reopened: NULL", status.status, COSE_BAD_ARGUMENT);
+        is("large, reopened: feed", large_fed(&verifier), COSE_CLOSED);
+    }
+}
+
 /* Of all numbers 1 alone says that a signature is good. */
 static void signatures(void)
 {
@@ -176,6 +223,13 @@ static void tables(void)
     is("a table: no keys", key_set.status, COSE_KEYS_REFUSED);
     cose_table_verify(&table, NULL, 0, COSE_TAGGED, mac0, sizeof mac0, &verdict, &input);
     is("a table after refused keys", verdict.status, COSE_CLOSED);
+    cose_table_read(&table, keys, sizeof keys, &key_set);
+    is("a table, read again", key_set.status, COSE_COMPLETE);
+    cose_table_read(&table, NULL, 1, &key_set);
+    is("a table: NULL", key_set.status, COSE_BAD_ARGUMENT);
+    is("a table: NULL, its reason and place", key_set.reason + key_set.place + key_set.usable, 0);
+    cose_table_verify(&table, NULL, 0, COSE_TAGGED, mac0, sizeof mac0, &verdict, &input);
+    is("a table after NULL", verdict.status, COSE_CLOSED);
 }
 
 static struct cose_made made(struct cose_maker *maker, int32_t alg, const uint8_t *key, size_t key_length,
@@ -216,6 +270,11 @@ static void makers(void)
     is("the end", found.status == COSE_COMPLETE && memcmp(tail, mac0 + 10, found.length) == 0, 1);
     cose_make_end(&maker, tail, sizeof tail, &found);
     is("the end again", found.status, COSE_CLOSED);
+    is("made again", made(&maker, 5, keys, n, 0, 384).length, 8);
+    is("made again: NULL", made(&maker, 5, NULL, 1, 0, 384).status, COSE_BAD_ARGUMENT);
+    is("a piece after NULL", cose_make_piece(&maker, mac0 + 8, 2), 0);
+    cose_make_end(&maker, tail, sizeof tail, &found);
+    is("the end after NULL", found.status, COSE_CLOSED);
 }
 
 int main(void)
@@ -223,6 +282,8 @@ int main(void)
     one_call();
     claims();
     blocks();
+    reopened();
+    large_reopened();
     signatures();
     tables();
     makers();

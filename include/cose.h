@@ -222,6 +222,9 @@ struct cose_made {
  * with length 0.
  */
 
+/* A kind and an algorithm that no function knows: what is opened or made with them is COSE_BAD_ARGUMENT, and the block has nothing then. */
+enum { COSE_NO_KIND_ = 1, COSE_NO_ALG_ = 0 };
+
 static inline int cose_is_null_(const uint8_t *at, size_t length)
 {
     return at == NULL && length != 0;
@@ -455,8 +458,7 @@ static inline void cose_open(struct cose_verifier *verifier, const uint8_t *keys
     size_t aad_length, uint8_t wanted, struct cose_status *status)
 {
     if (cose_is_null_(keys, keys_length) || cose_is_null_(aad, aad_length)) {
-        memset(status, 0, sizeof *status);
-        status->status = COSE_BAD_ARGUMENT;
+        cose_edge_open(verifier, cose_slice_(NULL), 0, cose_slice_(NULL), 0, COSE_NO_KIND_, status);
         return;
     }
     cose_edge_open(verifier, cose_slice_(keys), keys_length, cose_slice_(aad), aad_length, wanted, status);
@@ -470,8 +472,7 @@ static inline void cose_open_detached(struct cose_verifier *verifier, const uint
     size_t aad_length, uint8_t wanted, uint64_t payload_length, struct cose_status *status)
 {
     if (cose_is_null_(keys, keys_length) || cose_is_null_(aad, aad_length)) {
-        memset(status, 0, sizeof *status);
-        status->status = COSE_BAD_ARGUMENT;
+        cose_edge_open_detached(verifier, cose_slice_(NULL), 0, cose_slice_(NULL), 0, COSE_NO_KIND_, 0, status);
         return;
     }
     cose_edge_open_detached(verifier, cose_slice_(keys), keys_length, cose_slice_(aad), aad_length, wanted, payload_length, status);
@@ -545,8 +546,7 @@ static inline void cose_large_open(struct cose_large_verifier *verifier, const u
     const uint8_t *aad, size_t aad_length, uint8_t wanted, struct cose_status *status)
 {
     if (cose_is_null_(keys, keys_length) || cose_is_null_(aad, aad_length)) {
-        memset(status, 0, sizeof *status);
-        status->status = COSE_BAD_ARGUMENT;
+        cose_edge_large_open(verifier, cose_slice_(NULL), 0, cose_slice_(NULL), 0, COSE_NO_KIND_, status);
         return;
     }
     cose_edge_large_open(verifier, cose_slice_(keys), keys_length, cose_slice_(aad), aad_length, wanted, status);
@@ -560,8 +560,7 @@ static inline void cose_large_open_detached(struct cose_large_verifier *verifier
     const uint8_t *aad, size_t aad_length, uint8_t wanted, uint64_t payload_length, struct cose_status *status)
 {
     if (cose_is_null_(keys, keys_length) || cose_is_null_(aad, aad_length)) {
-        memset(status, 0, sizeof *status);
-        status->status = COSE_BAD_ARGUMENT;
+        cose_edge_large_open_detached(verifier, cose_slice_(NULL), 0, cose_slice_(NULL), 0, COSE_NO_KIND_, 0, status);
         return;
     }
     cose_edge_large_open_detached(verifier, cose_slice_(keys), keys_length, cose_slice_(aad), aad_length, wanted, payload_length,
@@ -635,6 +634,7 @@ void cose_edge_table_read(struct cose_table *table, const uint8_t *keys, size_t 
 static inline void cose_table_read(struct cose_table *table, const uint8_t *keys, size_t keys_length, struct cose_key_set *key_set)
 {
     if (cose_is_null_(keys, keys_length)) {
+        cose_edge_table_read(table, cose_slice_(NULL), 0, key_set); /* no key set: the table has no keys then */
         memset(key_set, 0, sizeof *key_set);
         key_set->status = COSE_BAD_ARGUMENT;
         return;
@@ -700,8 +700,8 @@ static inline void cose_make(struct cose_maker *maker, int32_t alg, const uint8_
         cose_is_null_(kid, kid_length) ||
         cose_is_null_(aad, aad_length) ||
         cose_is_null_(head, head_room)) {
-        memset(made, 0, sizeof *made);
-        made->status = COSE_BAD_ARGUMENT;
+        cose_edge_make(maker, COSE_NO_ALG_, cose_slice_(NULL), 0, cose_slice_(NULL), 0, cose_slice_(NULL), 0, 0, cose_room_(NULL), 0,
+            made);
         return;
     }
     cose_edge_make(maker, alg, cose_slice_(key), key_length, cose_slice_(kid), kid_length, cose_slice_(aad), aad_length,

@@ -455,7 +455,7 @@ class Cose {
             const { number, present, negative } = all[name];
             if (present) claims[name] = negative ? -1n - BigInt(number) : BigInt(number);
         }
-        claims.aud = Array.from({ length: all.aud_count }, (_, index) => text.decode(this.audience(payload, index)));
+        if (all.aud_count > 0) putAudience(claims, payload, all.aud, all.aud_count);
         const [kid, x, y] = [all.cnf_kid, all.cnf_x, all.cnf_y].map(bytes);
         if (kid || all.cnf_crv) claims.cnf = {};
         if (claims.cnf && kid) claims.cnf.kid = kid;
@@ -487,6 +487,40 @@ class Cose {
 function exact(number) {
     return number <= BigInt(Number.MAX_SAFE_INTEGER) ? Number(number) : number;
 }
+
+/**
+ * Gives claims their audience: text strings that follow one another, of which the first is the range. They are decoded when they
+ * are read first, from a copy. The library has read them: each has a head with its length (RFC 8949 section 3), and is UTF-8.
+ * @param {Claims} claims
+ * @param {Uint8Array} payload
+ * @param {{at: number, length: number}} first
+ * @param {number} count
+ */
+function putAudience(claims, payload, first, count) {
+    const rest = copyOf(payload, first.at, payload.length - first.at);
+    const decoder = new TextDecoder("utf-8", { ignoreBOM: true });
+    const decode = () => {
+        const found = [];
+        for (let at = 0, length = first.length; found.length < count; ) {
+            found.push(decoder.decode(rest.subarray(at, at + length)));
+            at += length;
+            const width = widthOf(rest[at]);
+            length = width === 0 ? rest[at] & 31 : 0;
+            for (const byte of rest.subarray(at + 1, at + 1 + width)) length = length * 256 + byte;
+            at += 1 + width;
+        }
+        return found;
+    };
+    /** @type {string[] | undefined} */
+    let aud;
+    Object.defineProperty(claims, "aud", { enumerable: true, configurable: true, get: () => (aud ??= decode()) });
+}
+
+/**
+ * How many bytes of a length follow the first byte of a text string's head.
+ * @param {number} first
+ */
+const widthOf = (first) => ((first & 31) < 24 ? 0 : 2 ** ((first & 31) - 24));
 
 /**
  * A copy of a range. (`slice` of a Buffer of Node copies nothing.)
@@ -575,6 +609,11 @@ class Verifier extends Block {
     constructor(cose, { large = false } = {}) {
         super(cose, `${large ? "large_" : ""}verifier`, `cose_${large ? "large_" : ""}begin`);
         this.prefix = large ? "large_" : "";
+        /**
+         * What `signInput` returned of the message: no other message has the same object.
+         * @type {SignInput | undefined}
+         */
+        this.asked = undefined;
     }
 
     /**
@@ -592,6 +631,7 @@ class Verifier extends Block {
      * @param {Options & {payloadLength?: number | bigint}} options
      */
     open(keys, { aad = NOTHING, wanted = WANTED.TAGGED, payloadLength } = {}) {
+        this.asked = undefined;
         const old = this.kept.splice(0);
         const given = [...this.keep(keys), ...this.keep(aad)];
         const status = this.cose.scoped((scope) => {
@@ -635,22 +675,26 @@ class Verifier extends Block {
     }
 
     /**
-     * What the signature of a complete message is verified with, if it has one.
+     * What the signature of a complete message is verified with, if it has one: the same object until the next message.
      * @returns {SignInput | undefined}
      */
     signInput() {
-        return this.cose.scoped((scope) => {
+        this.asked ??= this.cose.scoped((scope) => {
             const at = scope.room(LAYOUTS.cose_sign_input.size);
             return this.call("sign_input")(this.handle, BigInt(at)) === 1 ? this.cose.readInput(at) : undefined;
         });
+        return this.asked;
     }
 
     /**
-     * The verdict on a complete message. `signatureIsGood` is about what `signInput` returned; for a COSE_Mac0 it doesn't count.
+     * The verdict on a complete message. `signatureIsGood` is about `input`, which `signInput` returned for this message: a good
+     * signature of another one throws. For a COSE_Mac0 neither counts.
      * @param {boolean} signatureIsGood
+     * @param {SignInput} [input]
      * @returns {Verdict}
      */
-    verdict(signatureIsGood) {
+    verdict(signatureIsGood, input) {
+        if (signatureIsGood === true && input !== this.signInput()) throw new Error("the signature is of another message");
         return this.cose.scoped((scope) => {
             const at = scope.room(LAYOUTS.cose_verdict.size);
             this.call("verdict")(this.handle, signatureIsGood === true ? 1 : 0, BigInt(at));
@@ -660,6 +704,7 @@ class Verifier extends Block {
 
     /** Begins the next message, under the same keys. */
     reset() {
+        this.asked = undefined;
         this.call("reset")(this.handle);
     }
 
