@@ -27,7 +27,7 @@ const WANTED = Object.freeze({ TAGGED: 0, MAC0: 17, SIGN1: 18 });
 /** The structs of include/cose.h: each field with its type in C, in their order. */
 const FIELDS = Object.freeze({
     cose_status: ["uint8_t status", "uint8_t reason", "uint64_t place"],
-    cose_verdict: [
+    cose_message_verdict: [
         "uint8_t status",
         "uint8_t reason",
         "uint8_t kind",
@@ -37,7 +37,7 @@ const FIELDS = Object.freeze({
         "uint64_t payload_length",
         "uint64_t taken",
     ],
-    cose_sign_input: [
+    cose_signature_input: [
         "uint8_t crv",
         "uint8_t y_sign",
         "uint64_t x_length",
@@ -49,7 +49,7 @@ const FIELDS = Object.freeze({
         "uint8_t[64] digest",
         "uint8_t[132] signature",
     ],
-    cose_shape: [
+    cose_message_shape: [
         "uint8_t status",
         "uint8_t reason",
         "uint8_t kind",
@@ -68,7 +68,7 @@ const FIELDS = Object.freeze({
     ],
     cose_range: ["uint64_t at", "uint64_t length", "uint8_t present"],
     cose_date: ["uint64_t number", "uint8_t present", "uint8_t negative"],
-    cose_claims: [
+    cose_claims_set: [
         "uint8_t status",
         "uint8_t reason",
         "uint64_t place",
@@ -171,7 +171,7 @@ const ROOMS = typeof module === "object" ? module.require("./rooms.js").Rooms : 
  */
 
 /**
- * What a signature is verified with: the numbers of struct cose_sign_input.
+ * What a signature is verified with: the numbers of struct cose_signature_input.
  * @typedef {object} SignInput
  * @property {number} crv
  * @property {number} ySign
@@ -286,7 +286,7 @@ class Cose {
      * @returns {SignInput}
      */
     readInput(at) {
-        const all = this.read(at, "cose_sign_input");
+        const all = this.read(at, "cose_signature_input");
         /** @param {string} name */
         const part = (name) => all[name].slice(0, all[`${name}_length`]);
         const [x, y, digest, signature] = ["x", "y", "digest", "signature"].map(part);
@@ -299,7 +299,7 @@ class Cose {
      * @returns {Verdict}
      */
     readVerdict(at, input) {
-        const all = this.read(at, "cose_verdict");
+        const all = this.read(at, "cose_message_verdict");
         const { status, reason, place, kind, alg, taken } = all;
         /** @type {Verdict} */
         const verdict = {
@@ -327,8 +327,8 @@ class Cose {
      */
     verify(keys, message, { aad = NOTHING, wanted = WANTED.TAGGED, large = false, payload } = {}) {
         return this.scoped((scope) => {
-            const at = scope.room(LAYOUTS.cose_verdict.size);
-            const input = scope.room(LAYOUTS.cose_sign_input.size);
+            const at = scope.room(LAYOUTS.cose_message_verdict.size);
+            const input = scope.room(LAYOUTS.cose_signature_input.size);
             const under = keys instanceof KeyTable ? [keys.handle] : scope.put(keys);
             const detached = payload === undefined ? [] : scope.put(payload);
             if (keys instanceof KeyTable && payload !== undefined) throw new Error("a table has no call for detached payloads");
@@ -353,9 +353,9 @@ class Cose {
      */
     shape(message, { wanted = WANTED.TAGGED } = {}) {
         return this.scoped((scope) => {
-            const at = scope.room(LAYOUTS.cose_shape.size);
+            const at = scope.room(LAYOUTS.cose_message_shape.size);
             this.exports.cose_edge_shape(wanted, ...scope.put(message), BigInt(at));
-            const all = this.read(at, "cose_shape");
+            const all = this.read(at, "cose_message_shape");
             const { status, reason, place, kind, taken } = all;
             const [payloadLength, authLength] = [all.payload_length, all.auth_length];
             return { status, reason, place, kind, payloadLength, authLength, taken };
@@ -404,7 +404,7 @@ class Cose {
      */
     verifyCwt(keys, token, { aad = NOTHING, large = false, ...policy }) {
         return this.scoped((scope) => {
-            const at = scope.room(LAYOUTS.cose_claims.size);
+            const at = scope.room(LAYOUTS.cose_claims_set.size);
             const under = keys instanceof KeyTable ? [keys.handle] : scope.put(keys);
             const name = keys instanceof KeyTable ? "table_" : large ? "large_" : "";
             const external = scope.put(aad);
@@ -422,7 +422,7 @@ class Cose {
      */
     claims(payload, { large = false, ...policy }) {
         return this.scoped((scope) => {
-            const at = scope.room(LAYOUTS.cose_claims.size);
+            const at = scope.room(LAYOUTS.cose_claims_set.size);
             const conditions = this.putPolicy(scope, policy);
             this.exports[`cose_edge_${large ? "large_" : ""}claims`](...scope.put(payload), conditions, BigInt(at));
             return this.readClaims(at, payload);
@@ -435,7 +435,7 @@ class Cose {
      * @returns {Claims}
      */
     readClaims(at, whole) {
-        const all = this.read(at, "cose_claims");
+        const all = this.read(at, "cose_claims_set");
         const { status, reason, place } = all;
         const [payloadAt, payloadLength] = [all.payload_at, all.payload_length];
         /** @type {Claims} */
@@ -680,7 +680,7 @@ class Verifier extends Block {
      */
     signInput() {
         this.asked ??= this.cose.scoped((scope) => {
-            const at = scope.room(LAYOUTS.cose_sign_input.size);
+            const at = scope.room(LAYOUTS.cose_signature_input.size);
             return this.call("sign_input")(this.handle, BigInt(at)) === 1 ? this.cose.readInput(at) : undefined;
         });
         return this.asked;
@@ -696,7 +696,7 @@ class Verifier extends Block {
     verdict(signatureIsGood, input) {
         if (signatureIsGood === true && input !== this.signInput()) throw new Error("the signature is of another message");
         return this.cose.scoped((scope) => {
-            const at = scope.room(LAYOUTS.cose_verdict.size);
+            const at = scope.room(LAYOUTS.cose_message_verdict.size);
             this.call("verdict")(this.handle, signatureIsGood === true ? 1 : 0, BigInt(at));
             return this.cose.readVerdict(at);
         });

@@ -58,7 +58,7 @@ class StatusStruct(ctypes.Structure):
 
 
 class VerdictStruct(ctypes.Structure):
-    """`struct cose_verdict`"""
+    """`struct cose_message_verdict`"""
 
     _fields_ = [
         *_fields(c_uint8, "status reason kind"),
@@ -68,7 +68,7 @@ class VerdictStruct(ctypes.Structure):
 
 
 class SignInputStruct(ctypes.Structure):
-    """`struct cose_sign_input`"""
+    """`struct cose_signature_input`"""
 
     _fields_ = [
         *_fields(c_uint8, "crv y_sign"),
@@ -81,7 +81,7 @@ class SignInputStruct(ctypes.Structure):
 
 
 class ShapeStruct(ctypes.Structure):
-    """`struct cose_shape`"""
+    """`struct cose_message_shape`"""
 
     _fields_ = [
         *_fields(c_uint8, "status reason kind"),
@@ -120,7 +120,7 @@ class DateStruct(ctypes.Structure):
 
 
 class ClaimsStruct(ctypes.Structure):
-    """`struct cose_claims`"""
+    """`struct cose_claims_set`"""
 
     _fields_ = [
         *_fields(c_uint8, "status reason"),
