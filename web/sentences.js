@@ -134,7 +134,7 @@ const isUntagged = ({ tags, parts }) => tags.length === 0 && parts[0]?.group ===
 
 /** @param {Refusal} it */
 function badAuthWords({ picture }) {
-    return [`the ${picture.kind === 18 ? "signature" : "MAC"} isn't good`, "The message was changed on its way, or another key made it."];
+    return [`the ${picture.kind === 18 ? "signature" : "MAC"} isn't good`, "The message was changed, or made with another key or other external data."];
 }
 
 /** @param {Refusal} it */
@@ -145,7 +145,8 @@ function noKeyWords({ picture }) {
 /** @param {Refusal} it */
 function unknownAlgorithmWords({ picture }) {
     const alg = headerOf(picture, 1);
-    return [`this page doesn't verify ${alg ? algorithmText(alg) : "its algorithm"}`, "A MAC by HMAC with SHA-2 and a signature by ECDSA are verified."];
+    const kind = picture.kind === 18 ? "COSE_Sign1" : "COSE_Mac0";
+    return [`${alg ? algorithmText(alg) : "its algorithm"} isn't verified in a ${kind}`, "A MAC by HMAC with SHA-2 and a signature by ECDSA are verified."];
 }
 
 /** @type {Readonly<Record<string, string[] | ((it: Refusal) => string[])>>} */

@@ -72,7 +72,7 @@ test("each reason has a sentence of its own, in plain words", () => {
 });
 
 test("times are said as a person says them", () => {
-    const rows = [[1n, "1 second"], [119n, "119 seconds"], [120n, "2 minutes"], [7199n, "119 minutes"], [7200n, "2 hours"], [172800n, "2 days"], [347124132n, "11 years"]];
+    const rows = [[1n, "1 second"], [119n, "119 seconds"], [120n, "2 minutes"], [7199n, "119 minutes"], [7200n, "2 hours"], [172800n, "2 days"], [347126472n, "11 years"]];
     for (const [seconds, text] of rows) assert.equal(page.spanText(seconds), text);
     // NOW is noon
     assert.equal(page.momentText(NOW + 720n, NOW), "12:12:00 UTC, in 12 minutes");
