@@ -1,5 +1,6 @@
 """Makes of include/cose.h the header for all targets: what the library calls a `usize` has 64 bits in each declaration, and a pointer
-in a struct has a slot of 8 bytes. For a 64-bit target nothing changes. The inline functions, which callers use, keep their size_t.
+in a struct has a slot of 8 bytes. For a 64-bit target nothing changes. The inline functions that callers use keep their size_t; those
+whose names end with _ are the header's own.
 """
 import re
 
@@ -14,7 +15,7 @@ SLOT = """
 #endif
 """
 BEFORE = '\n#ifdef __cplusplus\nextern "C" {'
-DECLARATION = re.compile(r"^(?:void|size_t|u?int\d+_t) cose_\w+\([^;{}]*\);", re.M)
+DECLARATION = re.compile(r"^(?:void|size_t|u?int\d+_t) cose_\w+\([^;{}]*\);|^static inline [^();]*\bcose_\w+_\([^;{}]*\)$", re.M)
 STRUCT = re.compile(r"^struct cose_\w+ \{\n.*?^\};", re.M | re.S)
 FIELD = re.compile(r"^    ((?:const )?\w+ \*\w+);", re.M)
 

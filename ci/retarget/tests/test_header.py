@@ -23,6 +23,8 @@ class Header(unittest.TestCase):
     def test_inline_functions_stay(self):
         text = "static inline void cose_f(size_t length)\n{\n    cose_edge_f(length);\n}\n"
         self.gives(text, text)
+        own = "static inline int cose_is_null_(const uint8_t *at, {} length)\n{{\n    return 0;\n}}\n"
+        self.gives(own.format("size_t"), own.format("uint64_t"))
 
     def test_structs(self):
         self.gives("struct cose_a {\n    uint8_t *at; /**< a block */\n    size_t length;\n};\n",
