@@ -1,6 +1,6 @@
 /*
  * What the start-up code of a board gives to a program: semihosting, by which it speaks through an emulator or a
- * debugger, and a stack that is painted.
+ * debugger, a stack that is painted, and a counter.
  */
 #ifndef BOARD_H
 #define BOARD_H
@@ -14,6 +14,13 @@ uintptr_t host_call(uintptr_t operation, const void *given);
 /** The lowest address of the stack, and the stack pointer. */
 uintptr_t stack_limit(void);
 uintptr_t stack_now(void);
+
+/** Begins to count. In an emulator that gives each instruction the same time, what is counted is instructions, some at
+ * a time. */
+void count_begin(void);
+
+/** What was counted since. */
+uint32_t counted(void);
 
 enum {
     HOST_WRITE_TEXT = 0x04,

@@ -25,6 +25,22 @@ uintptr_t stack_now(void)
     return sp;
 }
 
+/* SysTick counts down, by the clock of the processor. */
+#define SYSTICK ((volatile uint32_t *)0xe000e010)
+#define SYSTICK_MOST 0xffffffu
+
+void count_begin(void)
+{
+    SYSTICK[1] = SYSTICK_MOST;
+    SYSTICK[2] = 0;
+    SYSTICK[0] = 5;
+}
+
+uint32_t counted(void)
+{
+    return SYSTICK_MOST - SYSTICK[2];
+}
+
 static void reset(void)
 {
 #ifdef TRAP_UNALIGNED /* a Cortex-M3 then stops where a Cortex-M0 would */

@@ -1,11 +1,13 @@
 /*
  * Verifies the example message on a board, at once (unless FED_ONLY is defined) and a byte at a time, and a changed
- * one. It ends with status 0 where each answer is the one that it has to be, and no call took more than STACK_PROMISED
- * bytes of stack.
+ * one. It ends with status 0 where each answer is the one that it has to be, no call took more than STACK_PROMISED
+ * bytes of stack, and comparing tags counts the same whether they differ in the first byte or in the last.
  */
 #include "board.h"
 #include "cose.h"
 #include "messages.h"
+
+enum { TURNS = 64 };
 
 static _Alignas(64) uint8_t block[4096];
 static uintptr_t from;
@@ -46,6 +48,29 @@ static uint8_t in_pieces(struct cose_verifier *verifier, const uint8_t *message,
     return fed.status.status == COSE_COMPLETE ? verdict.status : COSE_BAD_ARGUMENT;
 }
 
+/* What TURNS verdicts of a message count. */
+static uint32_t count(struct cose_verifier *verifier, const uint8_t *message)
+{
+    count_begin();
+    for (int turn = 0; turn < TURNS; turn++)
+        wrong |= in_pieces(verifier, message, sizeof good_message) != COSE_REFUSED;
+    return counted();
+}
+
+/* A comparison that ends early would take some instructions less for each byte. A step of the counter is fewer than one
+ * byte of each turn. */
+static void compare_counts(struct cose_verifier *verifier)
+{
+    uint32_t first = count(verifier, changed_first), last = count(verifier, changed_message);
+    uint32_t difference = first < last ? last - first : first - last;
+    host_print("tags that differ in the first byte, in the last: ");
+    host_print_number(first);
+    host_print(" and ");
+    host_print_number(last);
+    host_print(" counted\n");
+    judge("both the same", difference <= 1);
+}
+
 int main(void)
 {
     struct cose_verifier verifier = {.at = block};
@@ -66,5 +91,6 @@ int main(void)
     judge("at once: the example", at_once(good_message) == COSE_AUTHENTIC);
     judge("at once: the changed one", at_once(changed_message) == COSE_REFUSED);
 #endif
+    compare_counts(&verifier);
     return wrong;
 }

@@ -45,6 +45,25 @@ uintptr_t stack_now(void)
     return sp;
 }
 
+static uint32_t count_from;
+
+static uint32_t instructions(void)
+{
+    uint32_t count;
+    __asm__ volatile(".option push\n.option arch, +zicsr\ncsrr %0, minstret\n.option pop" : "=r"(count));
+    return count;
+}
+
+void count_begin(void)
+{
+    count_from = instructions();
+}
+
+uint32_t counted(void)
+{
+    return instructions() - count_from;
+}
+
 void reset_(void)
 {
     memcpy(data_begin_, data_from_, (size_t)(data_end_ - data_begin_));
