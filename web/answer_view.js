@@ -7,14 +7,10 @@
  * @property {"good" | "bad" | "unknown"} tone
  * @property {string} title
  * @property {string[]} sentences
+ * @property {string} [technical] the library's reason, the place and the phase
+ * @property {boolean} [asksKind] whether the kind of the message is to be chosen
  * @property {{place: number, what: string}} [fault] the place that is marked in the message
  */
-
-/**
- * The sentence of docs/REASONS.md.
- * @param {{reason: number}} refusal
- */
-const sentenceOf = ({ reason }) => `${reasonOf(reason).meaning}.`;
 
 /**
  * @param {Inquiry} request
@@ -26,15 +22,16 @@ function wordsOf(request, answer) {
     const kind = picture.kind === 17 ? "COSE_Mac0" : picture.kind === 18 ? "COSE_Sign1" : "message";
     if (answer.state === "fault") return { tone: "unknown", title: "No answer", sentences: [answer.fault ?? ""] };
     if (answer.state === "keys refused" && refusal) {
-        const title = `The keys are refused: ${reasonOf(refusal.reason).name} at byte ${refusal.place} of the key set`;
-        return { tone: "unknown", title, sentences: [sentenceOf(refusal), "Nothing is known of the message."] };
+        const [clause, ...sentences] = refusalWords({ where: "keys", request, picture, refusal });
+        const technical = `${reasonOf(refusal.reason).name} at byte ${refusal.place} of the keys`;
+        return { tone: "unknown", title: `The keys are refused: ${clause}`, sentences: [...sentences, "Nothing is known of the message."], technical };
     }
     if (answer.state === "refused" && refusal) return refusedWords(request, answer, refusal);
     if (answer.state === "no keys") {
         const sentence = picture.isDetached ? `The payload of this ${kind} is detached.` : `This is a ${kind} with a payload of ${bytesCount(answer.payloadLength)}.`;
         return { tone: "unknown", title: "Not verified: there is no key", sentences: [sentence, "Anybody may have made it."] };
     }
-    return authenticWords(answer, kind);
+    return authenticWords(request, answer, kind);
 }
 
 /**
@@ -44,50 +41,54 @@ function wordsOf(request, answer) {
  * @returns {Words}
  */
 function refusedWords(request, answer, refusal) {
-    const { name } = reasonOf(refusal.reason);
-    const what = sentenceOf(refusal);
-    const phase = phaseOf(refusal, answer.picture);
-    const sentences = [what];
-    if (answer.isSignatureGood === false) sentences.push("WebCrypto says that the signature isn't good.");
-    if (answer.isSignatureGood) sentences.push("WebCrypto finds the signature good.");
-    if (name === "Detached") sentences.push("Open the file that it authenticates as the detached payload.");
+    const { picture } = answer;
+    const [clause, ...sentences] = refusalWords({ where: "message", request, picture, refusal });
     if (!request.keys) sentences.push("No key was looked at.");
-    sentences.push(refusal.reason === TRAILING ? "Phases 1 to 13 are passed." : `Phase ${phase} of 13: ${PHASES[phase - 1]}.`);
-    return { tone: "bad", title: `Refused: ${name} at byte ${refusal.place}`, sentences, fault: { place: refusal.place, what } };
+    const phase = phaseOf(refusal, picture);
+    const where = refusal.reason === TRAILING ? "after phase 13" : `phase ${phase} of 13: ${PHASES[phase - 1]}`;
+    return {
+        tone: "bad",
+        title: `Refused: ${clause}`,
+        sentences,
+        technical: `${reasonOf(refusal.reason).name} at byte ${refusal.place}, ${where}`,
+        asksKind: refusal.reason === WRONG_TAG && isUntagged(picture),
+        fault: { place: refusal.place, what: `${clause}.` },
+    };
 }
 
+const WRONG_TAG = 7;
+
 /**
+ * @param {Inquiry} request
  * @param {Answer} answer
  * @param {string} kind
  * @returns {Words}
  */
-function authenticWords(answer, kind) {
+function authenticWords(request, answer, kind) {
     const algorithm = ALGORITHM_NAMES.get(answer.alg) ?? `algorithm ${answer.alg}`;
     const how =
         answer.isSignatureGood === undefined
             ? `The MAC of this ${kind} (${algorithm}) is that of the chosen key.`
-            : `WebCrypto finds the signature of this ${kind} (${algorithm}) good, of the digest that the library computed.`;
+            : `WebCrypto finds the signature of this ${kind} (${algorithm}) good.`;
     const payload = `Its payload has ${bytesCount(answer.payloadLength)}.`;
     const { claims, picture } = answer;
     if (!claims) return { tone: "good", title: "Authentic", sentences: [how, payload] };
-    if (claims.status === STATUS.AUTHENTIC) return { tone: "good", title: "Authentic, and admitted as a token", sentences: [how, admittedText(claims)] };
-    const refusal = claims;
-    const place = (picture.payload?.from ?? 0) + refusal.place;
-    const title = `Authentic, but refused as a token: ${reasonOf(refusal.reason).name} at byte ${place}`;
-    const what = sentenceOf(refusal);
-    return { tone: "bad", title, sentences: [what, `That is byte ${refusal.place} of the payload.`, how], fault: { place, what } };
+    if (claims.status === STATUS.AUTHENTIC) {
+        return { tone: "good", title: "Authentic, and admitted as a token", sentences: [admittedText(claims, request.policy.now), how] };
+    }
+    const [clause, ...sentences] = refusalWords({ where: "claims", request, picture, refusal: claims });
+    const place = (picture.payload?.from ?? 0) + claims.place;
+    const technical = `${reasonOf(claims.reason).name} at byte ${place}, which is byte ${claims.place} of the payload`;
+    return { tone: "bad", title: `Authentic, but refused: ${clause}`, sentences: [...sentences, how], technical, fault: { place, what: `${clause}.` } };
 }
 
-/** @param {Claims} claims */
-function admittedText({ exp, aud }) {
-    const until = exp === undefined ? "It never expires." : `It expires at ${dateText(exp)}.`;
+/**
+ * @param {Claims} claims
+ * @param {bigint} now
+ */
+function admittedText({ exp, aud }, now) {
+    const until = exp === undefined ? "It never expires." : `It expires at ${momentText(exp, now)}.`;
     return aud.length ? until : `${until} It names no audience.`;
-}
-
-/** @param {bigint} seconds */
-function dateText(seconds) {
-    const date = new Date(Number(seconds) * 1000);
-    return Number.isNaN(date.getTime()) ? `${seconds} seconds since 1970` : `${date.toISOString().slice(0, 19).replace("T", " ")} UTC`;
 }
 
 /**
@@ -157,10 +158,10 @@ function showNotation(host, message, picture) {
 function showHeaders(host, picture) {
     const buckets = /** @type {const} */ ([["protected", picture.protectedMap], ["unprotected", picture.unprotectedMap]]);
     const rows = buckets.flatMap(([bucket, map]) =>
-        (map ? pairsOf(map) : []).map(({ label, value }) => [headerName(label) ?? "not registered here", diagnostic(label), code(diagnostic(value)), headerNote(label, value) ?? "", bucket]),
+        (map ? pairsOf(map) : []).map(({ label, value }) => () => [headerName(label) ?? "not registered here", diagnostic(label), code(diagnostic(value)), headerNote(label, value) ?? "", bucket]),
     );
     if (!rows.length) return host.replaceChildren(element("p", {}, "There are none that could be read."));
-    host.replaceChildren(table("Header parameters", ["Name", "Label", "Value", "Meaning", "Bucket"], rows));
+    host.replaceChildren(...shortTable("Header parameters", ["Name", "Label", "Value", "Meaning", "Bucket"], rows));
     return undefined;
 }
 
@@ -178,15 +179,55 @@ function showPayload(host, request, answer) {
         return host.replaceChildren(...(isAuthentic ? [] : caution), element("p", {}, `The payload is detached. ${file}`));
     }
     if (!picture.payload) return host.replaceChildren(element("p", {}, "There is none that could be read."));
-    if (picture.claims) return host.replaceChildren(...caution, claimsTable(picture.claims));
+    if (picture.claims) return host.replaceChildren(...caution, ...claimsTable(picture.claims, request.policy.now));
     const bytes = request.message.subarray(picture.payload.from, picture.payload.to);
     return host.replaceChildren(...caution, ...payloadTexts(bytes));
 }
 
-/** @param {Item} claims */
-function claimsTable(claims) {
-    const rows = pairsOf(claims).map(({ label, value }) => [claimName(label) ?? "not registered here", diagnostic(label), code(diagnostic(value)), claimNote(label, value) ?? ""]);
-    return table("Claims", ["Name", "Label", "Value", "Meaning"], rows);
+/**
+ * @param {Item} claims
+ * @param {bigint} now
+ */
+function claimsTable(claims, now) {
+    const rows = pairsOf(claims).map(({ label, value }) => () => [claimTitle(label), diagnostic(label), code(diagnostic(value)), claimMeaning(label, value, now)]);
+    return shortTable("Claims", ["Name", "Label", "Value", "Meaning"], rows);
+}
+
+/** @param {Item} label */
+function claimTitle(label) {
+    const [name, title] = [claimName(label), CLAIM_TITLES.get(labelNumber(label))];
+    return title ? `${title} (${name})` : (name ?? "not registered here");
+}
+
+/**
+ * What the value of a claim means, with how far a date is from the time of admission.
+ * @param {Item} label
+ * @param {Item} value
+ * @param {bigint} now
+ */
+function claimMeaning(label, value, now) {
+    const note = claimNote(label, value) ?? "";
+    return DATE_MEANINGS.has(labelNumber(label)) && value.type === "integer" ? `${note}, ${relativeText(value.number, now)}` : note;
+}
+
+/** So many rows of a table are shown at first. */
+const MOST_ROWS = 100;
+
+/**
+ * A table of the first rows, and a button for the others.
+ * @param {string} caption
+ * @param {string[]} columns
+ * @param {(() => (Node | string)[])[]} rows
+ */
+function shortTable(caption, columns, rows) {
+    const first = table(caption, columns, rows.slice(0, MOST_ROWS).map((row) => row()));
+    if (rows.length <= MOST_ROWS) return [first];
+    const button = element("button", { type: "button" }, `Show all ${rows.length.toLocaleString("en")}`);
+    button.addEventListener("click", () => {
+        button.remove();
+        first.replaceWith(table(caption, columns, rows.map((row) => row())));
+    });
+    return [first, element("p", { class: "more" }, button)];
 }
 
 /** @param {Uint8Array} bytes */
@@ -219,9 +260,9 @@ function showKeys(host, keys) {
         const mark = element("span", { class: "key_state", "data-state": state }, KEY_STATES.get(state) ?? "");
         const kid = item.type === "map" ? valueOf(item, 2) : undefined;
         const alg = item.type === "map" ? valueOf(item, 3) : undefined;
-        return [String(index + 1), mark, keyTitle(item), kid ? kidText(kid) : "", alg ? algorithmText(alg) : "", why ?? ""];
+        return () => [String(index + 1), mark, keyTitle(item), kid ? kidText(kid) : "", alg ? algorithmText(alg) : "", why ?? ""];
     });
-    host.replaceChildren(table("Keys", ["Key", "State", "Type", "kid", "alg", "Why"], rows));
+    host.replaceChildren(...shortTable("Keys", ["Key", "State", "Type", "kid", "alg", "Why"], rows));
     return undefined;
 }
 

@@ -89,6 +89,21 @@ const EXAMPLES = [
         now: "2015-10-05 12:00:00",
     },
     {
+        name: "No key fits",
+        about: "The message of RFC 9052 appendix C.2.1 under two keys of somebody else.",
+        message: [
+            "d28443a10126a10442313154546869732069732074686520636f6e74656e742e58408eb33e4ca31d1c465ab05aac34cc6b23",
+            "d58fef5c083106c4d25a91aef0b0117e2af9a291aa32e14ab834dc56ed2a223444547e01f11d3b0916e5a4c345cacb36",
+        ].join(""),
+        keys: [
+            "82a50102024569616b2d3020012158202f5dfdf03955168c113b612835a3e2151cead1f9466531fa08c827e406de9d7f2258",
+            "20f43ab1bb8239651112be97e0f5dc7900f41bb6f2220ee074f982549d835eaa12a60102024569616b2d3103262001215820",
+            "f43ab1bb8239651112be97e0f5dc7900f41bb6f2220ee074f982549d835eaa122258202f5dfdf03955168c113b612835a3e2",
+            "151cead1f9466531fa08c827e406de9d7f",
+        ].join(""),
+        now: "",
+    },
+    {
         name: "Firmware, detached",
         about: "A signature by ECDSA on P-384 over a file of 65,536 bytes, and the public key in PEM.",
         message: [

@@ -1,5 +1,5 @@
 // Keys as they are pasted: a COSE_Key or a COSE_KeySet in hexadecimal or base64url, a JWK or a JWK set, or PEM. And of each key of a set
-// whether it fits a message: that says the library, of a set of this key alone; why it doesn't is explained here.
+// whether it fits a message: that says the library, of a set of this key alone, and why not.
 "use strict";
 
 /** What is wrong with an input, in a sentence. */
@@ -27,9 +27,25 @@ function base64url(text) {
  * @returns {Uint8Array}
  */
 function bytesFrom(text, what) {
-    const bytes = hexadecimal(text) ?? base64url(text);
+    const other = otherForm(text.trim(), what);
+    if (other) throw new BadInput(other);
+    const content = /^h'([^']*)'$/i.exec(text.trim())?.[1] ?? text;
+    const bytes = hexadecimal(content) ?? base64url(content);
     if (bytes) return bytes;
     throw new BadInput(`The ${what} is neither hexadecimal nor base64url.`);
+}
+
+/**
+ * What a text is that is written for something else than this field, in a sentence.
+ * @param {string} text
+ * @param {string} what
+ */
+function otherForm(text, what) {
+    if (/^(Bearer +)?ey[\w-]*\.[\w-]*\.[\w.-]*$/i.test(text)) return "This is a JSON Web Token (JWT), and no COSE: here a CBOR Web Token is verified, whose text has no dots.";
+    const isKey = text.includes("-----BEGIN ") || text.startsWith("{");
+    if (isKey && what === "message") return `This is ${text.startsWith("{") ? "JSON" : "PEM"}: a key goes into the field of the keys.`;
+    if (/^(\d+ *\(|\[|<<)/.test(text)) return `This is diagnostic notation: paste the ${what} that it describes, in hexadecimal.`;
+    return undefined;
 }
 
 // ---- DER
@@ -200,7 +216,7 @@ function keysFrom(text) {
  * @typedef {object} KeyFound
  * @property {Uint8Array} bytes the COSE_Key
  * @property {Item} item
- * @property {boolean} isUsable
+ * @property {{status: number, reason: number, usable: number}} keySet what the library says of it alone
  */
 
 /**
@@ -214,8 +230,7 @@ function keysIn(cose, keys) {
     const items = whole?.type === "array" ? whole.children : whole ? [whole] : [];
     return items.map((item) => {
         const bytes = keys.slice(item.at, item.end);
-        const isUsable = item.type === "map" && cose.readKeys(bytes).usable === 1;
-        return { bytes, item, isUsable };
+        return { bytes, item, keySet: cose.readKeys(bytes) };
     });
 }
 
@@ -234,63 +249,6 @@ function keyTitle(key) {
 
 /** The reasons that say that no key fits, or that several do. */
 const NO_KEY_FITS = [21, 23, 24];
-
-/**
- * Why a key can't be used at all.
- * @param {Item} key
- */
-function whyUnusable(key) {
-    if (key.type !== "map") return "it isn't a map";
-    const type = valueOf(key, 1);
-    if (!type) return "it has no type (kty)";
-    const number = labelNumber(type);
-    if (number !== 2 && number !== 4) return `its type is ${KEY_TYPES.get(number) ?? diagnostic(type)}, and only EC2 and Symmetric are known here`;
-    if (number === 4) return valueOf(key, -1)?.bytes.length ? "a member has another form than it should" : "it has no secret (k)";
-    const missing = [-1, -2, -3].find((label) => !valueOf(key, label));
-    if (missing) return `it has no ${EC2_NAMES.get(missing)}`;
-    const curve = labelNumber(/** @type {Item} */ (valueOf(key, -1)));
-    if (![1, 2, 3].includes(curve)) return "its curve isn't P-256, P-384 or P-521";
-    return "a member has another form than it should, as a coordinate of the wrong length";
-}
-
-const MAC_ALGORITHMS = [4, 5, 6, 7];
-/** The curve that an algorithm wants, if it wants one (RFC 9864). */
-const CURVE_OF_ALGORITHM = new Map([[-9, 1], [-51, 2], [-52, 3]]);
-
-/**
- * Why a usable key doesn't fit a message (RFC 9052 section 7.1), or nothing where no cause is seen.
- * @param {Item} key
- * @param {Picture} picture
- */
-function whyNot(key, picture) {
-    const isMac = picture.kind === 17;
-    const type = labelNumber(/** @type {Item} */ (valueOf(key, 1)));
-    if (isMac && type !== 4) return "a MAC is verified with a symmetric key";
-    if (!isMac && type !== 2) return "a signature is verified with a key on an elliptic curve (EC2)";
-    const asked = headerOf(picture, 4);
-    const kid = valueOf(key, 2);
-    if (kid && asked && !sameBytes(kid.bytes, asked.bytes)) return `its identifier is ${diagnostic(kid)}, and the message names ${diagnostic(asked)}`;
-    const operations = valueOf(key, 4)?.children.map(labelNumber);
-    if (operations && !operations.includes(isMac ? 10 : 2)) return `its operations don't contain ${isMac ? "MAC verify" : "verify"}`;
-    return whyNotAlgorithm(key, picture);
-}
-
-/**
- * @param {Item} key
- * @param {Picture} picture
- */
-function whyNotAlgorithm(key, picture) {
-    const own = valueOf(key, 3);
-    const inProtected = picture.protectedMap && valueOf(picture.protectedMap, 1);
-    const inUnprotected = picture.unprotectedMap && valueOf(picture.unprotectedMap, 1);
-    const named = inProtected ?? inUnprotected ?? own;
-    if (!named) return "neither the message nor the key names an algorithm";
-    if (own && diagnostic(own) !== diagnostic(named)) return `it is for ${algorithmText(own)}, and the message names ${algorithmText(named)}`;
-    if (!own && !inProtected) return "the algorithm isn't protected, so the key would have to name it";
-    const curve = CURVE_OF_ALGORITHM.get(labelNumber(named));
-    if (curve && labelNumber(/** @type {Item} */ (valueOf(key, -1))) !== curve) return `${algorithmText(named)} is on ${CURVE_NAMES.get(curve)}`;
-    return undefined;
-}
 
 /** @param {Item} alg */
 const algorithmText = (alg) => ALGORITHM_NAMES.get(labelNumber(alg)) ?? diagnostic(alg);

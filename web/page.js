@@ -75,9 +75,12 @@ function badHexadecimal() {
  * @param {Words["tone"] | "none"} tone
  * @param {string} title
  * @param {string[]} sentences
+ * @param {{technical?: string, asksKind?: boolean}} more
  */
-function showVerdict(tone, title, sentences) {
+function showVerdict(tone, title, sentences, { technical = "", asksKind = false } = {}) {
     byId("verdict").dataset.tone = tone;
+    byId("verdict_reason").textContent = technical;
+    byId("kinds").hidden = !asksKind;
     byId("verdict_title").textContent = title;
     byId("verdict_text").textContent = sentences.join(" ");
 }
@@ -88,7 +91,7 @@ async function run() {
     const number = state.number;
     const request = requestOf();
     if (!state.cose) return;
-    byId("details").hidden = true;
+    hideDetails();
     if (!request) return showNothing();
     try {
         const answer = await answerTo(state.cose, request, (done, total) => showProgress(number, done, total));
@@ -103,9 +106,17 @@ async function run() {
     }
 }
 
+/** Nothing of an earlier answer stays, in closed details neither. */
+function hideDetails() {
+    byId("details").hidden = byId("to_details").hidden = true;
+    for (const id of ["payload", "key_list", "bytes", "notation", "phases", "headers"]) byId(id).replaceChildren();
+}
+
 function showNothing() {
-    const isFaulty = [...document.querySelectorAll("#inputs .fault")].some((it) => it.textContent);
-    if (isFaulty) showVerdict("unknown", "No answer yet", ["An input can't be read: what is wrong is next to it."]);
+    const faults = [...document.querySelectorAll("#inputs .fault")].filter((it) => it.textContent);
+    const more = /** @type {HTMLDetailsElement} */ (byId("more"));
+    more.open ||= faults.some((it) => more.contains(it));
+    if (faults.length) showVerdict("unknown", "No answer yet", faults.map((it) => it.textContent ?? ""));
     else showVerdict("none", "No message yet", ["Paste one, drop a file, or choose an example."]);
     byId("answer").dataset.number = String(state.number);
 }
@@ -120,6 +131,7 @@ function showProgress(number, done, total) {
     const progress = /** @type {HTMLProgressElement} */ (byId("progress"));
     [progress.max, progress.value] = [Math.max(1, total), done];
     byId("progress_line").hidden = total <= CHUNK;
+    if (done === 0 && total > CHUNK) showVerdict("none", "Not known yet", ["The detached payload is being read."]);
     byId("progress_text").textContent = `${done.toLocaleString("en")} of ${bytesCount(total)}`;
     return true;
 }
@@ -130,8 +142,8 @@ function showProgress(number, done, total) {
  */
 function show(request, answer) {
     const words = wordsOf(request, answer);
-    showVerdict(words.tone, words.title, words.sentences);
-    byId("details").hidden = false;
+    showVerdict(words.tone, words.title, words.sentences, words);
+    byId("details").hidden = byId("to_details").hidden = false;
     new BytesView(byId("bytes"), request.message, answer.picture, words.fault);
     showNotation(byId("notation"), request.message, answer.picture);
     showPhases(byId("phases"), answer);
@@ -226,6 +238,13 @@ function listen() {
         byId("payload_file").focus();
         run();
     });
+    byId("kinds").addEventListener("click", ({ target }) => {
+        const kind = target instanceof HTMLElement ? target.dataset.kind : undefined;
+        if (!kind) return;
+        /** @type {HTMLSelectElement} */ (byId("wanted")).value = kind;
+        byId("verdict").focus();
+        run();
+    });
     listenToDrops();
 }
 
@@ -251,6 +270,13 @@ function listenToDrops() {
     });
 }
 
+/** What this copy of the page, or its address, lacks: a title and a sentence. */
+function whatIsMissing() {
+    if (typeof COSE_WASM === "undefined") return ["This copy of the page isn't whole", "Its file cose_wasm.js, with the library, is missing: ci/web_module builds it."];
+    if (!crypto.subtle) return ["This address can't verify", "A browser has WebCrypto only for a page from a file, from https or from localhost."];
+    return undefined;
+}
+
 async function start() {
     byId("example_buttons").append(
         ...EXAMPLES.map((example) => {
@@ -261,15 +287,16 @@ async function start() {
     );
     listen();
     showNames();
+    const lack = whatIsMissing();
+    if (lack) return showVerdict("unknown", lack[0], [lack[1]]);
     try {
-        if (!crypto.subtle) throw new Error("this page is neither from a file nor from https, so the browser has no WebCrypto");
-        if (typeof COSE_WASM === "undefined") throw new Error("cose_wasm.js is missing: ci/web_module builds it");
         state.cose = await Cose.load(Uint8Array.from(atob(COSE_WASM), (one) => one.charCodeAt(0)));
         await run();
     } catch (fault) {
         const message = fault instanceof Error ? fault.message : String(fault);
         showVerdict("unknown", "This browser can't verify", [`${message}.`]);
     }
+    return undefined;
 }
 
 start();

@@ -21,6 +21,7 @@
  * @property {number[]} tags
  * @property {number} [kind] the number of its tag
  * @property {boolean} isCwt whether the tag of a CWT comes first
+ * @property {number[]} headerLengths of the headers' bytes, as far as the message says or has them
  * @property {Item} [protectedMap]
  * @property {Item} [unprotectedMap]
  * @property {{from: number, to: number}} [payload]
@@ -166,7 +167,7 @@ class Painter {
         this.message = message;
         this.at = 0;
         /** @type {Picture} */
-        this.picture = { parts: [], tags: [], kind: wanted || undefined, isCwt: false, isDetached: false, stopped: 1 };
+        this.picture = { parts: [], tags: [], kind: wanted || undefined, isCwt: false, isDetached: false, headerLengths: [], stopped: 1 };
     }
 
     /**
@@ -238,6 +239,7 @@ class Painter {
     buckets() {
         const head = this.stringHead(2);
         const { length } = head;
+        this.picture.headerLengths.push(length);
         this.add(head.end, "protected", 2, "protected header", `A byte string of ${bytesCount(length)}. What it holds is authenticated.`);
         const end = Math.min(this.at + length, this.message.length);
         const content = wholeItem(this.message.subarray(this.at, end));
@@ -245,7 +247,9 @@ class Painter {
         this.add(end, "protected", 4, "protected header, content", "The bytes of the protected header aren't a map.");
         this.goOn(head.end + length, 3);
         this.picture.stopped = 5;
+        this.picture.headerLengths.push(this.message.length - this.at);
         const item = itemAt(this.message, this.at);
+        this.picture.headerLengths[1] = item.end - item.at;
         if (item.type === "map") this.picture.unprotectedMap = this.map(relative(item, item.at), "unprotected", 6);
         this.add(item.end, "unprotected", 5, "unprotected header", "It isn't a map.");
     }
@@ -265,12 +269,17 @@ class Painter {
         const one = isClaims ? "claim" : "header parameter";
         const what = `A map of ${pairs.length} ${one}${pairs.length === 1 ? "" : "s"}.`;
         this.add(start + map.content, group, phase, isClaims ? "payload: claims" : `${group} header: map`, what);
-        for (const { label, value } of pairs) {
+        for (const { label, value } of pairs.slice(0, MOST_PARTS)) {
             const name = nameOf(label);
             const meaning = meanings.get(labelNumber(label)) ?? (name ? `A registered ${one}.` : `A ${one} that this page has no name for.`);
             const title = name ? `${name} (${diagnostic(label)})` : `label ${diagnostic(label)}`;
             const note = noteOf(label, value);
             this.add(start + value.end, group, phase, isClaims ? `claim ${title}` : title, meaning, { value: diagnostic(value), note });
+        }
+        const last = pairs.at(-1);
+        if (last && pairs.length > MOST_PARTS) {
+            const more = `${(pairs.length - MOST_PARTS).toLocaleString("en")} more ${one}s`;
+            this.add(start + last.value.end, group, phase, more, `What follows the first ${MOST_PARTS} is one part here.`);
         }
         this.add(start + map.end, group, phase, "end of the map", "A break.");
         return map;
@@ -309,6 +318,8 @@ class Painter {
 }
 
 const NOT_READ = "not read";
+/** So many pairs of a map are parts of their own. */
+const MOST_PARTS = 200;
 /** The simple value null, in the place of a payload. */
 const NIL = 0xf6;
 

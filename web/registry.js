@@ -78,6 +78,18 @@ const CLAIM_NAMES = new Map(
     ]),
 );
 
+/** What the claims that admission reads are called in plain words. */
+const CLAIM_TITLES = new Map([
+    [1, "Issuer"],
+    [2, "Subject"],
+    [3, "Audience"],
+    [4, "Expires"],
+    [5, "Valid from"],
+    [6, "Issued"],
+    [7, "Token's identifier"],
+    [8, "Holder's key"],
+]);
+
 /** What the claims of a date say. */
 const DATE_MEANINGS = new Map([
     [4, "Expiration time: the token isn't accepted at this time or later."],

@@ -146,7 +146,7 @@ async function decided(verifier, request, used, answer) {
         const structure = sigStructure(protectedOf(request.message), request.aad, await payloadOf(request, answer.picture));
         isSignatureGood = await isGoodSignature(input, structure);
     }
-    const verdict = verifier.verdict(isSignatureGood === true);
+    const verdict = verifier.verdict(isSignatureGood === true, input);
     const found = { ...answer, isSignatureGood, alg: verdict.alg, payloadLength: verdict.payloadLength, taken: verdict.taken };
     if (verdict.status !== STATUS.AUTHENTIC) return { ...found, state: "refused", refusal: verdict };
     const isTrailed = used < request.message.length;
@@ -178,7 +178,7 @@ function faultOf(status) {
  */
 function keyAnswers(cose, request, picture) {
     const found = keysIn(cose, /** @type {Uint8Array} */ (request.keys));
-    const answers = found.map(({ bytes, item, isUsable }) => keyAnswer(cose, request, picture, { bytes, item, isUsable }));
+    const answers = found.map((key) => keyAnswer(cose, request, picture, key));
     const fitting = answers.filter((it) => it.state === "fits");
     if (fitting.length === 1) fitting[0].state = "chosen";
     for (const it of fitting.length > 1 ? fitting : []) it.why = "it fits, and so does another: none is chosen";
@@ -192,15 +192,24 @@ function keyAnswers(cose, request, picture) {
  * @param {KeyFound} key
  * @returns {KeyAnswer}
  */
-function keyAnswer(cose, { message, aad, wanted, payload }, picture, { bytes, item, isUsable }) {
-    if (!isUsable) return { item, state: "unusable", why: whyUnusable(item) };
+function keyAnswer(cose, { message, aad, wanted, payload }, picture, { bytes, item, keySet }) {
+    if (keySet.usable !== 1 || item.type !== "map") return { item, state: "unusable", why: libraryWords(keySet.reason) };
     const verifier = new Verifier(cose, { large: true });
     verifier.open(bytes, { aad, wanted, payloadLength: payload?.size });
     const { status, reason } = verifier.feed(message.subarray(0, picture.payload?.from ?? message.length));
     verifier.close();
     if (status !== STATUS.REFUSED || PAST_KEY_CHOICE.includes(reason)) return { item, state: "fits" };
     if (!NO_KEY_FITS.includes(reason)) return { item, state: "unasked", why: "the message is refused before a key is chosen" };
-    return { item, state: "other", why: whyNot(item, picture) ?? "it isn't a key for this message" };
+    return { item, state: "other", why: `${libraryWords(reason)}. The message asks for ${askedOf(picture)}.` };
+}
+
+/**
+ * The library's reason, by its name and its meaning.
+ * @param {number} reason
+ */
+function libraryWords(reason) {
+    const { name, meaning } = reasonOf(reason);
+    return reason ? `${name}: ${meaning}` : "the library ignores it";
 }
 
 /** What is refused only once a key is chosen: Detached, PayloadTooLong, Attached, and what follows. */

@@ -41,13 +41,14 @@ export class Cose extends low.Cose {
     }
 
     /**
-     * The claims of a token that is authentic and admitted. Else it rejects with `Refused`.
+     * The claims of a token that is authentic and admitted at a time: `now`, in seconds since 1970, or else that of the machine's
+     * clock. Else it rejects with `Refused`.
      * @param {Uint8Array | KeyTable} keys
      * @param {Uint8Array} token
-     * @param {{now: number | bigint, leeway?: number, audience?: string, aad?: Uint8Array, large?: boolean}} options
+     * @param {{now?: number | bigint, leeway?: number, audience?: string, aad?: Uint8Array, large?: boolean}} [options]
      */
-    async token(keys, token, options) {
-        const { now, leeway, audience, ...others } = options;
+    async token(keys, token, options = {}) {
+        const { now = Math.floor(Date.now() / 1000), leeway, audience, ...others } = options;
         const payload = await this.payload(keys, token, others);
         const claims = this.claims(payload, { now, leeway, audience, large: options.large });
         if (claims.status !== STATUS.AUTHENTIC) throw new Refused(claims);

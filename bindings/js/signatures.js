@@ -63,9 +63,31 @@ const byteString = (bytes) => joined(headOf(2, bytes.length), bytes);
  */
 function sigStructure(protectedBytes, aad, payload) {
     const context = new TextEncoder().encode("Signature1");
-    const isEmpty = protectedBytes.length === 1 && protectedBytes[0] === 0xa0;
     const head = joined(headOf(4, 4), headOf(3, context.length), context);
-    return joined(head, byteString(isEmpty ? new Uint8Array() : protectedBytes), byteString(aad), byteString(payload));
+    const authenticated = isEmptyMap(protectedBytes) ? new Uint8Array() : protectedBytes;
+    return joined(head, byteString(authenticated), byteString(aad), byteString(payload));
+}
+
+/**
+ * The head at a place: its major type, its argument, and the place after it.
+ * @param {Uint8Array} bytes
+ * @param {number} at
+ */
+function headFrom(bytes, at) {
+    const [major, low] = [bytes[at] >> 5, bytes[at] & 31];
+    const end = at + 1 + (low < 24 ? 0 : 2 ** (low - 24));
+    const argument = low < 24 ? low : bytes.subarray(at + 1, end).reduce((sum, byte) => sum * 256 + byte, 0);
+    return { major, argument, end };
+}
+
+/**
+ * Whether bytes are a map without pairs, whatever the width of its count: it is authenticated as no bytes (RFC 9052 section 3).
+ * @param {Uint8Array} bytes
+ */
+function isEmptyMap(bytes) {
+    if (bytes.length === 0) return false;
+    const { major, argument, end } = headFrom(bytes, 0);
+    return major === 5 && argument === 0 && end === bytes.length;
 }
 
 /**
@@ -73,19 +95,10 @@ function sigStructure(protectedBytes, aad, payload) {
  * @param {Uint8Array} message
  */
 function protectedOf(message) {
-    let at = 0;
-    const head = () => {
-        const [major, low] = [message[at] >> 5, message[at] & 31];
-        at += 1;
-        if (low < 24) return [major, low];
-        let argument = 0;
-        for (let width = 2 ** (low - 24); width > 0; width -= 1) argument = argument * 256 + message[at++];
-        return [major, argument];
-    };
-    let [major, length] = head();
-    while (major === 6) [major, length] = head();
-    [major, length] = head();
-    return new Uint8Array(message.subarray(at, at + length));
+    let head = headFrom(message, 0);
+    while (head.major === 6) head = headFrom(message, head.end);
+    const { argument, end } = headFrom(message, head.end);
+    return new Uint8Array(message.subarray(end, end + argument));
 }
 
 /**

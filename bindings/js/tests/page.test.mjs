@@ -8,7 +8,7 @@ const TOP = new URL("../../../", import.meta.url);
 const html = readFileSync(new URL("web/index.html", TOP), "utf8");
 const OF_ELEMENTS = ["cose_wasm.js", "elements.js", "bytes_view.js", "answer_view.js", "page.js"];
 const scripts = [...html.matchAll(/<script defer src="([^"]+)"/g)].map((it) => it[1]).filter((it) => !OF_ELEMENTS.includes(it));
-const names = "Cose, answerTo, bytesFrom, keysFrom, phaseOf, pictureOf, reasonOf, diagnostic, wholeItem, EXAMPLES";
+const names = "Cose, answerTo, bytesFrom, keysFrom, phaseOf, pictureOf, reasonOf, diagnostic, wholeItem, EXAMPLES, REASONS, SENTENCES, spanText, momentText";
 const text = scripts.map((it) => readFileSync(new URL(`web/${it}`, TOP), "utf8")).join("\n");
 const page = runInThisContext(`(() => { ${text}\nreturn { ${names} }; })()`, { filename: "web" });
 
@@ -37,6 +37,7 @@ test("each example has its verdict", async () => {
         Token: "authentic, admitted",
         "Expired token": "authentic, Expired at 59",
         "Changed token": "refused, BadAuth at 105",
+        "No key fits": "refused, NoKey at 11",
         "Firmware, detached": "authentic",
         "Health certificate": "authentic, admitted",
         Attestation: "authentic",
@@ -61,6 +62,23 @@ test("each row of messages that needs no signature is answered as it says, and i
         }
     }
     assert.ok(count > 250, `${count} rows`);
+});
+
+test("each reason has a sentence of its own, in plain words", () => {
+    assert.deepEqual(Object.keys(page.SENTENCES), page.REASONS.map((it) => it.name));
+    const words = Object.values(page.SENTENCES).flatMap((it) => (typeof it === "function" ? [] : it));
+    assert.ok(words.length > 50);
+    for (const it of words) assert.doesNotMatch(it, /EcVerifier|\bH\b|undefined/);
+});
+
+test("times are said as a person says them", () => {
+    const rows = [[1n, "1 second"], [119n, "119 seconds"], [120n, "2 minutes"], [7199n, "119 minutes"], [7200n, "2 hours"], [172800n, "2 days"], [347126472n, "11 years"]];
+    for (const [seconds, text] of rows) assert.equal(page.spanText(seconds), text);
+    // NOW is noon
+    assert.equal(page.momentText(NOW + 720n, NOW), "12:12:00 UTC, in 12 minutes");
+    assert.equal(page.momentText(NOW - 60n, NOW), "11:59:00 UTC, 60 seconds ago");
+    assert.equal(page.momentText(NOW - 43260n, NOW), "2026-11-26 23:59:00 UTC, 12 hours ago");
+    assert.equal(page.momentText(NOW, NOW), "12:00:00 UTC, now");
 });
 
 test("items in diagnostic notation, as in RFC 8949 appendix A", () => {
