@@ -1,5 +1,9 @@
-"""Looks for a function that calls itself, by whatever path: the stack of such a one can't be computed."""
+"""Looks for a function that calls itself, by whatever path: the stack of such a one can't be computed. The reader of items alone may,
+since it does so at most as often as items nest.
+"""
 from . import forms
+
+NESTING = "cose_head::item::"
 
 
 def calls_of(text):
@@ -20,8 +24,9 @@ def calls_of(text):
 
 
 def check_calls(text):
-    """Refused is raised where a function calls itself."""
+    """Refused is raised where a function that isn't of the reader of items calls itself."""
     calls = calls_of(text)
+    calls = {name: its for name, its in calls.items() if not name.startswith(f'@"{NESTING}')}
     waiting = {name: {it for it in its if it in calls} for name, its in calls.items()}
     while True:
         ready = [name for name, its in waiting.items() if not its]

@@ -3,15 +3,20 @@ path.
 
 The object file is one of ELF with 32 bits, little-endian, compiled with -ffunction-sections and -fstack-size-section. A function
 calls those that its section refers to: what is called by a register has its address from there, since the rewriting refuses a module
-in which the address of a function is stored or passed on, and one in which a function calls itself.
+in which the address of a function is stored or passed on, and one in which a function calls itself. The functions of the reader of
+items may: what each of them takes is counted as often as items may nest, and once more.
 """
 import struct
 import sys
 from typing import NamedTuple
 
+from .calls import NESTING
+
 # what a call of a function of the compiler's library or of the C library may take
 OUTSIDE = 128
 KIB = 1024
+# how deep items nest: in calls of the large size, and in others
+LARGE_DEPTH, DEPTH = 16, 8
 # what docs/C.md promises: calls over memory of the large size, cose_table_read, and all others
 PROMISED = {"speed": (160 * KIB, 56 * KIB, 16 * KIB), "size": (160 * KIB, 56 * KIB, 20 * KIB)}
 LARGE_OVER_MEMORY = ("cose_edge_large_verify", "cose_edge_large_verify_detached", "cose_edge_large_verify_cwt", "cose_edge_large_claims")
@@ -108,7 +113,7 @@ class Graph:
                     self.calls[name].add(symbol.name)
                 elif symbol.section in functions and symbol.section != section:
                     self.calls[name].add(functions[symbol.section])
-                elif symbol.kind == FUNCTION and symbol.section == section:
+                elif symbol.kind == FUNCTION and symbol.section == section and not name.startswith(NESTING):
                     raise StackError(f"{name} calls itself")
         for index, section in enumerate(sections):
             if section.name == ".stack_sizes":
@@ -124,9 +129,16 @@ class Graph:
         if at != len(content):
             raise StackError("sizes of frames that can't be read")
 
-    def deepest(self):
+    def reader(self, depth):
+        """What the reader of items takes itself, and what it calls."""
+        its = {name for name in self.frames if name.startswith(NESTING)}
+        called = set().union(*(self.calls[name] for name in its)) - its
+        return its, (depth + 1) * sum(self.frames[name] for name in its), called
+
+    def deepest(self, depth=DEPTH):
         """The most that each function takes, with what it calls, and the path on which it does."""
         done, doing = {}, []
+        nesting, taken, called = self.reader(depth)
 
         def visit(name):
             if name in doing:
@@ -135,10 +147,11 @@ class Graph:
                 if name in self.outside:
                     done[name] = OUTSIDE, (name,)
                 else:
+                    frame, below = (taken, called) if name in nesting else (self.frames[name], self.calls[name])
                     doing.append(name)
-                    most, path = max((visit(it) for it in self.calls[name]), default=(0, ()))
+                    most, path = max((visit(it) for it in below), default=(0, ()))
                     doing.pop()
-                    done[name] = self.frames[name] + most, (name, *path)
+                    done[name] = frame + most, (name, *path)
             return done[name]
 
         for name in self.frames:
@@ -161,6 +174,8 @@ def report(path, way):
         with open(path, "rb") as file:
             graph = Graph(file.read())
         most = graph.deepest()
+        large = graph.deepest(LARGE_DEPTH)
+        most.update({name: large[name] for name in graph.exported if "_large_" in name})
     except StackError as error:
         print(f"retarget: {path}: {error}", file=sys.stderr)
         return 1

@@ -120,6 +120,8 @@ class Refusals(unittest.TestCase):
     def test_recursion(self):
         check_calls(module("call void @g(ptr %a)"))
         other = "define internal void @g(ptr %a) #0 {\nstart:\n  call void @f(ptr %a)\n  ret void\n}\n"
+        start = 'define internal void @"cose_head::item::f"(ptr %a) #0 {\nstart:\n'
+        check_calls(module('call void @"cose_head::item::f"(ptr %a)', start=start))
         for text in module("call void @f(ptr %a)"), module("call void @g(ptr %a)", tail=other + TAIL):
             with self.assertRaises(Refused):
                 check_calls(text)
