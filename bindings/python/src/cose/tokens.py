@@ -6,7 +6,7 @@ import time
 from ctypes import byref
 from dataclasses import dataclass
 from functools import partial
-from typing import Any, List, Optional, Tuple, Union, cast
+from typing import Any, Optional, Tuple, Union, cast
 
 from . import _library, cbor
 from ._answers import Ecdsa, fail
@@ -99,15 +99,17 @@ def _texts(payload: bytes, at: int, length: int, count: int) -> Tuple[str, ...]:
 
     The library has read them: each has a head with its length (RFC 8949 section 3), and is UTF-8.
     """
-    found: List[str] = []
-    while len(found) < count:
+    if count == 0:
+        return ()
+    end = at + length
+    found = [payload[at:end].decode()]
+    for _ in range(count - 1):
+        at, length = end + 1, payload[end] & 31
+        if length >= 24:
+            at += 1 << (length - 24)
+            length = int.from_bytes(payload[end + 1 : at], "big")
         end = at + length
         found.append(payload[at:end].decode())
-        if len(found) < count:
-            at, length = end + 1, payload[end] & 31
-            if length >= 24:
-                at += 1 << (length - 24)
-                length = int.from_bytes(payload[end + 1 : at], "big")
     return tuple(found)
 
 

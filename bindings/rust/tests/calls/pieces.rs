@@ -314,7 +314,7 @@ fn threads_share_a_maker_and_a_table() {
             });
         }
     });
-    assert_eq!(used.into_inner(), Ok(400));
+    assert_eq!(used.into_inner().expect("no panic"), 400);
     let maker = maker.into_inner().expect("no panic");
     let tail = maker.end(&mut tail).expect("the payload is whole");
     let made = [head, &[0; 400], tail].concat();
