@@ -26,7 +26,9 @@ class Function(NamedTuple):
         if parts[:len(module)] != module:
             return False
         rest = parts[len(module):]
-        return self.name in rest and (not self.block or any(part.startswith(self.block) for part in rest))
+        if not self.block:
+            return rest[:1] == [self.name]
+        return bool(rest) and rest[0].startswith(self.block) and self.name in rest[1:]
 
 
 class Change(NamedTuple):

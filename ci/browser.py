@@ -100,12 +100,13 @@ class Tab:
             raise RuntimeError(details.get("exception", {}).get("description") or details["text"])
         return answer["result"].get("value")
 
-    def wait(self, condition, seconds=30):
-        end = time.monotonic() + seconds
-        while not self.value(condition):
-            if time.monotonic() > end:
-                raise RuntimeError(f"after {seconds} s it isn't so: {condition}")
+    def wait(self, condition):
+        """Asks the page until it is so. The page answers after its other work, so a slow machine is asked less often."""
+        for _ in range(10_000):
+            if self.value(condition):
+                return
             time.sleep(0.02)
+        raise RuntimeError(f"it isn't so: {condition}")
 
     def key(self, name, code=0, text="", modifiers=0):
         """Presses a key."""

@@ -1,11 +1,20 @@
-"""Processes as /proc shows them, with their processor time."""
+"""Processes as /proc shows them, with their processor time, and a bound of it."""
 import collections
 import os
 import pathlib
+import resource
 
 TICKS = os.sysconf("SC_CLK_TCK")
 # a process as /proc shows it: its parent, its start in ticks, and its processor time with that of ended children
 Process = collections.namedtuple("Process", "parent start seconds")
+
+
+def bound_time(seconds=600):
+    """Ends this process, and each that it starts, after so many seconds of its own processor time: one that would not end by
+    itself is seen, and one that only has to wait for the machine is left alone."""
+    _, most = resource.getrlimit(resource.RLIMIT_CPU)
+    if most == resource.RLIM_INFINITY or most > seconds:
+        resource.setrlimit(resource.RLIMIT_CPU, (seconds, most))
 
 
 def running():

@@ -70,6 +70,11 @@ class Functions(unittest.TestCase):
         for path in "a::b::Reader::other", "a::c::Reader::take", "a::b::Writer::take", "b::Reader::take":
             self.assertFalse(take.has(path), path)
 
+    def test_a_module_of_that_name_below_is_another(self):
+        self.assertFalse(Function("a", "Reader", "b").has("a::b::Reader::take"))
+        self.assertFalse(Function("a", "", "take").has("a::Reader::take"))
+        self.assertTrue(Function("a", "", "take").has("a::take::bytes"))
+
 
 class Batches(unittest.TestCase):
     def made(self, *edits):
