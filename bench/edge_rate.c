@@ -47,7 +47,7 @@ static void feed(const uint8_t *message, size_t length, size_t piece)
 {
     struct cose_verifier verifier = {aligned_alloc(cose_verifier_align(), cose_verifier_size())};
     struct cose_status status;
-    struct cose_verdict verdict;
+    struct cose_message_verdict verdict;
     double start = milliseconds();
 
     cose_begin(verifier.at);
@@ -69,7 +69,7 @@ static void tokens(const uint8_t *token, size_t length, long count)
     struct cose_table table = {aligned_alloc(cose_table_align(), cose_table_size())};
     struct cose_key_set key_set;
     struct cose_policy policy = {1444064943, 60, 1, audience, sizeof audience - 1};
-    struct cose_claims claims;
+    struct cose_claims_set claims;
     long admitted = 0;
     double start;
 

@@ -25,13 +25,13 @@ static void is(const char *what, uint64_t found, uint64_t wanted)
     failures++;
 }
 
-static struct cose_verdict verify(const uint8_t *set, size_t set_length, const uint8_t *aad, size_t aad_length,
-                                  uint8_t wanted, const uint8_t *message, size_t length)
+static struct cose_message_verdict verify(const uint8_t *set, size_t set_length, const uint8_t *aad, size_t aad_length,
+                                          enum cose_kind_number kind, const uint8_t *message, size_t length)
 {
-    struct cose_verdict verdict;
-    struct cose_sign_input input;
+    struct cose_message_verdict verdict;
+    struct cose_signature_input input;
     memset(&verdict, 0xee, sizeof verdict);
-    cose_verify(set, set_length, aad, aad_length, wanted, message, length, &verdict, &input);
+    cose_verify(set, set_length, aad, aad_length, kind, message, length, &verdict, &input);
     return verdict;
 }
 
@@ -46,11 +46,11 @@ static void one_call(void)
     is("NULL for a message", verify(keys, n, NULL, 0, COSE_TAGGED, NULL, 1).status, COSE_BAD_ARGUMENT);
     is("much data", verify(keys, n, much, 65535, COSE_TAGGED, mac0, m).reason, COSE_REASON_BAD_AUTH);
     is("too much data", verify(keys, n, much, 65536, COSE_TAGGED, mac0, m).status, COSE_AAD_TOO_LONG);
-    for (unsigned wanted = 1; wanted < 256; wanted++)
-        if (wanted != COSE_MAC0 && wanted != COSE_SIGN1)
-            is("wanted", verify(keys, n, NULL, 0, (uint8_t)wanted, mac0, m).status, COSE_BAD_ARGUMENT);
-    struct cose_shape shape;
-    cose_shape(1, mac0, m, &shape);
+    for (int kind = -600; kind < 600; kind++)
+        if (kind != COSE_TAGGED && kind != COSE_MAC0 && kind != COSE_SIGN1)
+            is("kind", verify(keys, n, NULL, 0, (enum cose_kind_number)kind, mac0, m).status, COSE_BAD_ARGUMENT);
+    struct cose_message_shape shape;
+    cose_shape((enum cose_kind_number)273, mac0, m, &shape);
     is("the shape of a kind that isn't", shape.status, COSE_BAD_ARGUMENT);
     cose_shape(COSE_TAGGED, NULL, 0, &shape);
     is("the shape of no bytes", shape.reason, COSE_REASON_TRUNCATED);
@@ -63,7 +63,7 @@ static void claims(void)
 {
     static const uint8_t aud[] = {0xa1, 0x03, 0x61, 'a'};
     struct cose_policy policy = {0, 0, 0, NULL, 0};
-    struct cose_claims found;
+    struct cose_claims_set found;
     struct cose_range audience;
     cose_claims(aud, sizeof aud, &policy, &found);
     is("any audience", found.status, COSE_AUTHENTIC);
@@ -91,8 +91,8 @@ static void closed(struct cose_verifier *verifier)
 {
     struct cose_fed fed;
     struct cose_status status;
-    struct cose_verdict verdict;
-    struct cose_sign_input input;
+    struct cose_message_verdict verdict;
+    struct cose_signature_input input;
     cose_feed(verifier, mac0, sizeof mac0, &fed);
     is("closed: feed", fed.status.status, COSE_CLOSED);
     is("closed: used", fed.used, 0);
@@ -106,10 +106,10 @@ static void closed(struct cose_verifier *verifier)
     cose_reset(verifier);
 }
 
-static uint8_t opened(struct cose_verifier *verifier, const uint8_t *set, size_t length, uint8_t wanted)
+static uint8_t opened(struct cose_verifier *verifier, const uint8_t *set, size_t length, enum cose_kind_number kind)
 {
     struct cose_status status;
-    cose_open(verifier, set, length, NULL, 0, wanted, &status);
+    cose_open(verifier, set, length, NULL, 0, kind, &status);
     return status.status;
 }
 
@@ -125,7 +125,7 @@ static void blocks(void)
     is("open: no keys", opened(&verifier, NULL, 0, COSE_TAGGED), COSE_KEYS_REFUSED);
     closed(&verifier);
     is("open", opened(&verifier, keys, sizeof keys, COSE_TAGGED), COSE_MORE);
-    is("open: wanted", opened(&verifier, keys, sizeof keys, 1), COSE_BAD_ARGUMENT);
+    is("open: kind", opened(&verifier, keys, sizeof keys, (enum cose_kind_number)1), COSE_BAD_ARGUMENT);
     closed(&verifier);
     is("open", opened(&verifier, keys, sizeof keys, COSE_TAGGED), COSE_MORE);
     cose_feed(&verifier, NULL, 0, &fed);
@@ -137,12 +137,59 @@ static void blocks(void)
     is("feed: after the end", fed.used, 0);
 }
 
+/* A call with NULL for keys or for external data closes a block that was open: the old keys may be gone. */
+static void reopened(void)
+{
+    struct cose_verifier verifier = {block};
+    struct cose_status status;
+    cose_begin(block);
+    for (int turn = 0; turn < 4; turn++) {
+        const uint8_t *set = turn % 2 ? keys : NULL;
+        const size_t aad_length = turn % 2;
+        is("open", opened(&verifier, keys, sizeof keys, COSE_TAGGED), COSE_MORE);
+        if (turn < 2)
+            cose_open(&verifier, set, sizeof keys, NULL, aad_length, COSE_TAGGED, &status);
+        else
+            cose_open_detached(&verifier, set, sizeof keys, NULL, aad_length, COSE_TAGGED, 2, &status);
+        is("reopened: NULL", status.status, COSE_BAD_ARGUMENT);
+        is("reopened: NULL, its reason and place", status.reason + status.place, 0);
+        closed(&verifier);
+    }
+}
+
+static uint8_t large_fed(struct cose_large_verifier *verifier)
+{
+    struct cose_fed fed;
+    cose_large_feed(verifier, mac0, sizeof mac0, &fed);
+    return fed.status.status;
+}
+
+/* The same of the large size. */
+static void large_reopened(void)
+{
+    static _Alignas(64) uint8_t large_block[135168];
+    struct cose_large_verifier verifier = {large_block};
+    struct cose_status status;
+    is("the size of a large verifier", cose_large_verifier_size() <= sizeof large_block, 1);
+    cose_large_begin(large_block);
+    for (int turn = 0; turn < 2; turn++) {
+        cose_large_open(&verifier, keys, sizeof keys, NULL, 0, COSE_TAGGED, &status);
+        is("a large verifier", large_fed(&verifier), COSE_COMPLETE);
+        if (turn == 0)
+            cose_large_open(&verifier, NULL, 1, NULL, 0, COSE_TAGGED, &status);
+        else
+            cose_large_open_detached(&verifier, NULL, 1, NULL, 0, COSE_TAGGED, 2, &status);
+        is("large, reopened: NULL", status.status, COSE_BAD_ARGUMENT);
+        is("large, reopened: feed", large_fed(&verifier), COSE_CLOSED);
+    }
+}
+
 /* Of all numbers 1 alone says that a signature is good. */
 static void signatures(void)
 {
     static const int32_t numbers[] = {0, -1, 2, 255, 256, 257, INT32_MIN, INT32_MAX, 1};
     struct cose_verifier verifier = {block};
-    struct cose_verdict verdict;
+    struct cose_message_verdict verdict;
     struct cose_fed fed;
     cose_begin(block);
     memcpy(point + 40, "\x22\x58\x20", 3);
@@ -161,8 +208,8 @@ static void tables(void)
 {
     struct cose_table table = {block};
     struct cose_key_set key_set;
-    struct cose_verdict verdict;
-    struct cose_sign_input input;
+    struct cose_message_verdict verdict;
+    struct cose_signature_input input;
     is("the size of a table", cose_table_size() <= sizeof block && cose_table_align() <= 64, 1);
     cose_table_begin(block);
     cose_table_verify(&table, NULL, 0, COSE_TAGGED, mac0, sizeof mac0, &verdict, &input);
@@ -170,12 +217,19 @@ static void tables(void)
     cose_table_read(&table, keys, sizeof keys, &key_set);
     cose_table_verify(&table, NULL, 0, COSE_TAGGED, mac0, sizeof mac0, &verdict, &input);
     is("a table", verdict.status, COSE_AUTHENTIC);
-    cose_table_verify(&table, NULL, 0, 1, mac0, sizeof mac0, &verdict, &input);
-    is("a table: wanted", verdict.status, COSE_BAD_ARGUMENT);
+    cose_table_verify(&table, NULL, 0, (enum cose_kind_number)273, mac0, sizeof mac0, &verdict, &input);
+    is("a table: kind", verdict.status, COSE_BAD_ARGUMENT);
     cose_table_read(&table, NULL, 0, &key_set);
     is("a table: no keys", key_set.status, COSE_KEYS_REFUSED);
     cose_table_verify(&table, NULL, 0, COSE_TAGGED, mac0, sizeof mac0, &verdict, &input);
     is("a table after refused keys", verdict.status, COSE_CLOSED);
+    cose_table_read(&table, keys, sizeof keys, &key_set);
+    is("a table, read again", key_set.status, COSE_COMPLETE);
+    cose_table_read(&table, NULL, 1, &key_set);
+    is("a table: NULL", key_set.status, COSE_BAD_ARGUMENT);
+    is("a table: NULL, its reason and place", key_set.reason + key_set.place + key_set.usable, 0);
+    cose_table_verify(&table, NULL, 0, COSE_TAGGED, mac0, sizeof mac0, &verdict, &input);
+    is("a table after NULL", verdict.status, COSE_CLOSED);
 }
 
 static struct cose_made made(struct cose_maker *maker, int32_t alg, const uint8_t *key, size_t key_length,
@@ -216,6 +270,11 @@ static void makers(void)
     is("the end", found.status == COSE_COMPLETE && memcmp(tail, mac0 + 10, found.length) == 0, 1);
     cose_make_end(&maker, tail, sizeof tail, &found);
     is("the end again", found.status, COSE_CLOSED);
+    is("made again", made(&maker, 5, keys, n, 0, 384).length, 8);
+    is("made again: NULL", made(&maker, 5, NULL, 1, 0, 384).status, COSE_BAD_ARGUMENT);
+    is("a piece after NULL", cose_make_piece(&maker, mac0 + 8, 2), 0);
+    cose_make_end(&maker, tail, sizeof tail, &found);
+    is("the end after NULL", found.status, COSE_CLOSED);
 }
 
 int main(void)
@@ -223,6 +282,8 @@ int main(void)
     one_call();
     claims();
     blocks();
+    reopened();
+    large_reopened();
     signatures();
     tables();
     makers();

@@ -9,8 +9,8 @@
 int main(int count, char **arguments)
 {
     static uint8_t message[1024], keys[512];
-    struct cose_verdict verdict;
-    struct cose_sign_input input;
+    struct cose_message_verdict verdict;
+    struct cose_signature_input input;
     FILE *file = count == 4 ? fopen(arguments[1], "rb") : NULL;
     if (file == NULL) {
         return 2;

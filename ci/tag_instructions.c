@@ -21,10 +21,10 @@ static size_t read_file(const char *name, uint8_t *bytes, size_t room)
 }
 
 /* One verification, whose cost goes into a file of its own, under this name. */
-static struct cose_verdict measured(size_t key_length, size_t length, const char *name)
+static struct cose_message_verdict measured(size_t key_length, size_t length, const char *name)
 {
-    struct cose_verdict verdict;
-    struct cose_sign_input input;
+    struct cose_message_verdict verdict;
+    struct cose_signature_input input;
     CALLGRIND_ZERO_STATS;
     cose_verify(keys, key_length, NULL, 0, COSE_MAC0, message, length, &verdict, &input);
     CALLGRIND_DUMP_STATS_AT(name);
@@ -48,7 +48,7 @@ int main(int count, char **arguments)
     for (size_t at = 0; at < tag; at++) {
         message[length - tag + at] ^= 1;
         snprintf(name, sizeof name, "byte%zu", at);
-        struct cose_verdict verdict = measured(key_length, length, name);
+        struct cose_message_verdict verdict = measured(key_length, length, name);
         message[length - tag + at] ^= 1;
         if (verdict.status != COSE_REFUSED || verdict.reason != 28) {
             return 3;

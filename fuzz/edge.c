@@ -47,10 +47,10 @@ static void check_range(uint64_t at, uint64_t length, size_t whole)
     must(at <= whole && length <= whole - at, "a range is within what was passed");
 }
 
-static struct cose_verdict in_one_call(const struct input *input)
+static struct cose_message_verdict in_one_call(const struct input *input)
 {
-    struct cose_verdict verdict;
-    struct cose_sign_input sign;
+    struct cose_message_verdict verdict;
+    struct cose_signature_input sign;
     cose_verify(input->keys, input->keys_length, NULL, 0, input->wanted, input->message, input->message_length,
                 &verdict, &sign);
     if (verdict.status == COSE_AUTHENTIC || verdict.status == COSE_SIGNED) {
@@ -65,13 +65,13 @@ static struct cose_verdict in_one_call(const struct input *input)
 }
 
 /* The same message in pieces of at most `cut` bytes gives the same verdict, with each signature taken for good. */
-static void in_pieces(const struct input *input, struct cose_verdict wanted)
+static void in_pieces(const struct input *input, struct cose_message_verdict wanted)
 {
     uint8_t *block = aligned_alloc(cose_verifier_align(), cose_verifier_size());
     must(block != NULL, "there is no memory");
     struct cose_verifier verifier = {block};
     struct cose_status status;
-    struct cose_verdict verdict;
+    struct cose_message_verdict verdict;
     size_t at = 0;
 
     cose_begin(block);
@@ -120,7 +120,7 @@ static void read_claims(const struct input *input)
                                  .has_audience = input->wanted & 1,
                                  .audience = (const uint8_t *)"a",
                                  .audience_length = 1};
-    struct cose_claims claims;
+    struct cose_claims_set claims;
     struct cose_range audience;
     cose_claims(input->message, input->message_length, &policy, &claims);
     if (claims.status == COSE_AUTHENTIC) {
@@ -144,7 +144,7 @@ int LLVMFuzzerTestOneInput(const uint8_t *data, size_t size)
 {
     static const uint8_t kinds[] = {COSE_TAGGED, COSE_MAC0, COSE_SIGN1, 3};
     struct input input;
-    struct cose_shape shape;
+    struct cose_message_shape shape;
     struct cose_key_set key_set;
 
     if (size < 3) {

@@ -98,8 +98,8 @@ enum cose_reason {
     COSE_REASON_ATTACHED = 43
 };
 
-/** The messages that are wanted: by their tag, or those of one kind, with its tag or without (RFC 9052 section 2). */
-enum cose_wanted_number {
+/** The kind of the messages that are wanted: that of their tag, or one kind, with its tag or without (RFC 9052 section 2). */
+enum cose_kind_number {
     COSE_TAGGED = 0,
     COSE_MAC0 = 17,
     COSE_SIGN1 = 18
@@ -112,7 +112,7 @@ struct cose_status {
 };
 
 /** The verdict on a message. */
-struct cose_verdict {
+struct cose_message_verdict {
     uint8_t status, reason;
     uint8_t kind;            /**< the number of its tag, 17 or 18, of COSE_AUTHENTIC and COSE_SIGNED; otherwise 0 */
     int32_t alg;             /**< the number of its algorithm (RFC 9053 sections 2.1 and 3.1), of these two; otherwise 0 */
@@ -123,7 +123,7 @@ struct cose_verdict {
 };
 
 /** What an ECDSA signature is verified with (RFC 9052 section 4.4): a point, a digest and the signature. */
-struct cose_sign_input {
+struct cose_signature_input {
     uint8_t crv;             /**< the curve (RFC 9053 section 7.1): 1 P-256, 2 P-384, 3 P-521 */
     uint8_t y_sign;          /**< 0: y has its bytes. 1, 2: y is even, odd, and y_length is 0 */
     uint64_t x_length, y_length, digest_length, signature_length;
@@ -133,7 +133,7 @@ struct cose_sign_input {
 };
 
 /** The shape of a message: of COSE_COMPLETE its kind and the numbers of bytes; of COSE_REFUSED the reason and the place. */
-struct cose_shape {
+struct cose_message_shape {
     uint8_t status, reason, kind;
     uint64_t place;
     uint64_t payload_length;
@@ -170,7 +170,7 @@ struct cose_date {
 };
 
 /** The claims of a token (RFC 8392 section 3.1). */
-struct cose_claims {
+struct cose_claims_set {
     uint8_t status, reason;
     uint64_t place;          /**< of COSE_CLAIMS_REFUSED in the payload, of COSE_REFUSED in the token */
     uint64_t payload_at, payload_length; /**< the payload in the token; of cose_claims 0 and its length */
@@ -180,8 +180,8 @@ struct cose_claims {
     uint64_t aud_count;      /**< how many text strings the audience has */
     struct cose_date exp, nbf, iat;
     struct cose_range cnf_kid, cnf_x, cnf_y; /**< the confirmed key (RFC 8747 section 3) */
-    uint8_t cnf_crv;         /**< its curve, as in cose_sign_input; 0 where there is no key */
-    uint8_t cnf_y_sign;      /**< as in cose_sign_input */
+    uint8_t cnf_crv;         /**< its curve, as in struct cose_signature_input; 0 where there is no key */
+    uint8_t cnf_y_sign;      /**< as in struct cose_signature_input */
 };
 
 /** A verifier in a block of the caller's memory, which is fed. */
@@ -222,6 +222,9 @@ struct cose_made {
  * with length 0.
  */
 
+/* A kind and an algorithm that no function knows: what is opened or made with them is COSE_BAD_ARGUMENT, and the block has nothing then. */
+enum { COSE_NO_KIND_ = 1, COSE_NO_ALG_ = 0 };
+
 static inline int cose_is_null_(const uint8_t *at, size_t length)
 {
     return at == NULL && length != 0;
@@ -233,6 +236,12 @@ static inline const uint8_t *cose_slice_(const uint8_t *at)
     return at != NULL ? at : &nothing;
 }
 
+/* A kind in 8 bits, of which each number that is no kind stays none. */
+static inline uint8_t cose_kind_(enum cose_kind_number kind)
+{
+    return kind == COSE_TAGGED || kind == COSE_MAC0 || kind == COSE_SIGN1 ? (uint8_t)kind : (uint8_t)COSE_NO_KIND_;
+}
+
 static inline uint8_t *cose_room_(uint8_t *at)
 {
     static uint8_t nothing;
@@ -241,50 +250,51 @@ static inline uint8_t *cose_room_(uint8_t *at)
 
 /* ---- One call over memory. */
 
-void cose_edge_verify(const uint8_t *keys, size_t keys_length, const uint8_t *aad, size_t aad_length, uint8_t wanted,
-    const uint8_t *message, size_t message_length, struct cose_verdict *verdict, struct cose_sign_input *input);
+void cose_edge_verify(const uint8_t *keys, size_t keys_length, const uint8_t *aad, size_t aad_length, uint8_t kind,
+    const uint8_t *message, size_t message_length, struct cose_message_verdict *verdict, struct cose_signature_input *input);
 
 /** Verifies a message (RFC 9052 sections 4.4 and 6.3) under a COSE_Key or a COSE_KeySet, with externally supplied data (section 4.3).
  * The bytes are the message: a byte after it is refused (COSE_REASON_TRAILING). *
  * A COSE_Mac0 is COSE_AUTHENTIC. A COSE_Sign1 is COSE_SIGNED, and input is what its signature is verified with: the message is authentic
  * only if that signature is good. No argument says that it is. With any other status input has no meaning. */
-static inline void cose_verify(const uint8_t *keys, size_t keys_length, const uint8_t *aad, size_t aad_length, uint8_t wanted,
-    const uint8_t *message, size_t message_length, struct cose_verdict *verdict, struct cose_sign_input *input)
+static inline void cose_verify(const uint8_t *keys, size_t keys_length, const uint8_t *aad, size_t aad_length, enum cose_kind_number kind,
+    const uint8_t *message, size_t message_length, struct cose_message_verdict *verdict, struct cose_signature_input *input)
 {
     if (cose_is_null_(keys, keys_length) || cose_is_null_(aad, aad_length) || cose_is_null_(message, message_length)) {
         memset(verdict, 0, sizeof *verdict);
         verdict->status = COSE_BAD_ARGUMENT;
         return;
     }
-    cose_edge_verify(cose_slice_(keys), keys_length, cose_slice_(aad), aad_length, wanted, cose_slice_(message), message_length,
+    cose_edge_verify(cose_slice_(keys), keys_length, cose_slice_(aad), aad_length, cose_kind_(kind), cose_slice_(message), message_length,
         verdict, input);
 }
 
-void cose_edge_large_verify(const uint8_t *keys, size_t keys_length, const uint8_t *aad, size_t aad_length, uint8_t wanted,
-    const uint8_t *message, size_t message_length, struct cose_verdict *verdict, struct cose_sign_input *input);
+void cose_edge_large_verify(const uint8_t *keys, size_t keys_length, const uint8_t *aad, size_t aad_length, uint8_t kind,
+    const uint8_t *message, size_t message_length, struct cose_message_verdict *verdict, struct cose_signature_input *input);
 
 /** The same for headers of 65,535 bytes, where headers and claims nest 16 deep: a call needs some 140 KB of stack. */
 static inline void cose_large_verify(const uint8_t *keys, size_t keys_length, const uint8_t *aad, size_t aad_length,
-    uint8_t wanted, const uint8_t *message, size_t message_length, struct cose_verdict *verdict, struct cose_sign_input *input)
+    enum cose_kind_number kind, const uint8_t *message, size_t message_length, struct cose_message_verdict *verdict,
+    struct cose_signature_input *input)
 {
     if (cose_is_null_(keys, keys_length) || cose_is_null_(aad, aad_length) || cose_is_null_(message, message_length)) {
         memset(verdict, 0, sizeof *verdict);
         verdict->status = COSE_BAD_ARGUMENT;
         return;
     }
-    cose_edge_large_verify(cose_slice_(keys), keys_length, cose_slice_(aad), aad_length, wanted, cose_slice_(message),
+    cose_edge_large_verify(cose_slice_(keys), keys_length, cose_slice_(aad), aad_length, cose_kind_(kind), cose_slice_(message),
         message_length, verdict, input);
 }
 
-void cose_edge_verify_detached(const uint8_t *keys, size_t keys_length, const uint8_t *aad, size_t aad_length, uint8_t wanted,
-    const uint8_t *message, size_t message_length, const uint8_t *payload, size_t payload_length, struct cose_verdict *verdict,
-    struct cose_sign_input *input);
+void cose_edge_verify_detached(const uint8_t *keys, size_t keys_length, const uint8_t *aad, size_t aad_length, uint8_t kind,
+    const uint8_t *message, size_t message_length, const uint8_t *payload, size_t payload_length, struct cose_message_verdict *verdict,
+    struct cose_signature_input *input);
 
 /** The same for a message whose payload is detached (RFC 9052 section 4.1): it has nil in its place, and all of the payload is in memory.
  * payload_at is 0. */
 static inline void cose_verify_detached(const uint8_t *keys, size_t keys_length, const uint8_t *aad, size_t aad_length,
-    uint8_t wanted, const uint8_t *message, size_t message_length, const uint8_t *payload, size_t payload_length,
-    struct cose_verdict *verdict, struct cose_sign_input *input)
+    enum cose_kind_number kind, const uint8_t *message, size_t message_length, const uint8_t *payload, size_t payload_length,
+    struct cose_message_verdict *verdict, struct cose_signature_input *input)
 {
     if (cose_is_null_(keys, keys_length) ||
         cose_is_null_(aad, aad_length) ||
@@ -294,18 +304,18 @@ static inline void cose_verify_detached(const uint8_t *keys, size_t keys_length,
         verdict->status = COSE_BAD_ARGUMENT;
         return;
     }
-    cose_edge_verify_detached(cose_slice_(keys), keys_length, cose_slice_(aad), aad_length, wanted, cose_slice_(message),
+    cose_edge_verify_detached(cose_slice_(keys), keys_length, cose_slice_(aad), aad_length, cose_kind_(kind), cose_slice_(message),
         message_length, cose_slice_(payload), payload_length, verdict, input);
 }
 
 void cose_edge_large_verify_detached(const uint8_t *keys, size_t keys_length, const uint8_t *aad, size_t aad_length,
-    uint8_t wanted, const uint8_t *message, size_t message_length, const uint8_t *payload, size_t payload_length,
-    struct cose_verdict *verdict, struct cose_sign_input *input);
+    uint8_t kind, const uint8_t *message, size_t message_length, const uint8_t *payload, size_t payload_length,
+    struct cose_message_verdict *verdict, struct cose_signature_input *input);
 
 /** The same for headers of 65,535 bytes, where headers and claims nest 16 deep: a call needs some 140 KB of stack. */
 static inline void cose_large_verify_detached(const uint8_t *keys, size_t keys_length, const uint8_t *aad, size_t aad_length,
-    uint8_t wanted, const uint8_t *message, size_t message_length, const uint8_t *payload, size_t payload_length,
-    struct cose_verdict *verdict, struct cose_sign_input *input)
+    enum cose_kind_number kind, const uint8_t *message, size_t message_length, const uint8_t *payload, size_t payload_length,
+    struct cose_message_verdict *verdict, struct cose_signature_input *input)
 {
     if (cose_is_null_(keys, keys_length) ||
         cose_is_null_(aad, aad_length) ||
@@ -315,21 +325,21 @@ static inline void cose_large_verify_detached(const uint8_t *keys, size_t keys_l
         verdict->status = COSE_BAD_ARGUMENT;
         return;
     }
-    cose_edge_large_verify_detached(cose_slice_(keys), keys_length, cose_slice_(aad), aad_length, wanted, cose_slice_(message),
+    cose_edge_large_verify_detached(cose_slice_(keys), keys_length, cose_slice_(aad), aad_length, cose_kind_(kind), cose_slice_(message),
         message_length, cose_slice_(payload), payload_length, verdict, input);
 }
 
-void cose_edge_shape(uint8_t wanted, const uint8_t *message, size_t message_length, struct cose_shape *shape);
+void cose_edge_shape(uint8_t kind, const uint8_t *message, size_t message_length, struct cose_message_shape *shape);
 
 /** The shape of a message. Nothing of it is authenticated. */
-static inline void cose_shape(uint8_t wanted, const uint8_t *message, size_t message_length, struct cose_shape *shape)
+static inline void cose_shape(enum cose_kind_number kind, const uint8_t *message, size_t message_length, struct cose_message_shape *shape)
 {
     if (cose_is_null_(message, message_length)) {
         memset(shape, 0, sizeof *shape);
         shape->status = COSE_BAD_ARGUMENT;
         return;
     }
-    cose_edge_shape(wanted, cose_slice_(message), message_length, shape);
+    cose_edge_shape(cose_kind_(kind), cose_slice_(message), message_length, shape);
 }
 
 void cose_edge_read_keys(const uint8_t *keys, size_t keys_length, struct cose_key_set *key_set);
@@ -348,12 +358,12 @@ static inline void cose_read_keys(const uint8_t *keys, size_t keys_length, struc
 /* ---- Tokens. */
 
 void cose_edge_verify_cwt(const uint8_t *keys, size_t keys_length, const uint8_t *aad, size_t aad_length,
-    const struct cose_policy *policy, const uint8_t *token, size_t token_length, struct cose_claims *claims);
+    const struct cose_policy *policy, const uint8_t *token, size_t token_length, struct cose_claims_set *claims);
 
 /** Verifies a token and reads its claims (RFC 8392 section 7.2): the bytes are the token. A COSE_Mac0 alone: of a COSE_Sign1 the status is
  * COSE_SIGNED, and there are no claims. Call cose_verify, verify the signature, and then call cose_claims over the payload. */
 static inline void cose_verify_cwt(const uint8_t *keys, size_t keys_length, const uint8_t *aad, size_t aad_length,
-    const struct cose_policy *policy, const uint8_t *token, size_t token_length, struct cose_claims *claims)
+    const struct cose_policy *policy, const uint8_t *token, size_t token_length, struct cose_claims_set *claims)
 {
     struct cose_policy cose_policy_ = *policy;
     if (cose_is_null_(keys, keys_length) ||
@@ -370,11 +380,11 @@ static inline void cose_verify_cwt(const uint8_t *keys, size_t keys_length, cons
 }
 
 void cose_edge_large_verify_cwt(const uint8_t *keys, size_t keys_length, const uint8_t *aad, size_t aad_length,
-    const struct cose_policy *policy, const uint8_t *token, size_t token_length, struct cose_claims *claims);
+    const struct cose_policy *policy, const uint8_t *token, size_t token_length, struct cose_claims_set *claims);
 
 /** The same for headers of 65,535 bytes, where headers and claims nest 16 deep: a call needs some 140 KB of stack. */
 static inline void cose_large_verify_cwt(const uint8_t *keys, size_t keys_length, const uint8_t *aad, size_t aad_length,
-    const struct cose_policy *policy, const uint8_t *token, size_t token_length, struct cose_claims *claims)
+    const struct cose_policy *policy, const uint8_t *token, size_t token_length, struct cose_claims_set *claims)
 {
     struct cose_policy cose_policy_ = *policy;
     if (cose_is_null_(keys, keys_length) ||
@@ -390,11 +400,11 @@ static inline void cose_large_verify_cwt(const uint8_t *keys, size_t keys_length
         token_length, claims);
 }
 
-void cose_edge_claims(const uint8_t *payload, size_t payload_length, const struct cose_policy *policy, struct cose_claims *claims);
+void cose_edge_claims(const uint8_t *payload, size_t payload_length, const struct cose_policy *policy, struct cose_claims_set *claims);
 
 /** Reads the claims of a payload that is known to be authentic. */
 static inline void cose_claims(const uint8_t *payload, size_t payload_length, const struct cose_policy *policy,
-    struct cose_claims *claims)
+    struct cose_claims_set *claims)
 {
     struct cose_policy cose_policy_ = *policy;
     if (cose_is_null_(payload, payload_length) || cose_is_null_(policy->audience, policy->audience_length)) {
@@ -407,11 +417,11 @@ static inline void cose_claims(const uint8_t *payload, size_t payload_length, co
 }
 
 void cose_edge_large_claims(const uint8_t *payload, size_t payload_length, const struct cose_policy *policy,
-    struct cose_claims *claims);
+    struct cose_claims_set *claims);
 
 /** The same for claims that nest 16 deep. */
 static inline void cose_large_claims(const uint8_t *payload, size_t payload_length, const struct cose_policy *policy,
-    struct cose_claims *claims)
+    struct cose_claims_set *claims)
 {
     struct cose_policy cose_policy_ = *policy;
     if (cose_is_null_(payload, payload_length) || cose_is_null_(policy->audience, policy->audience_length)) {
@@ -448,33 +458,32 @@ size_t cose_verifier_align(void);
 void cose_begin(uint8_t *block);
 
 void cose_edge_open(struct cose_verifier *verifier, const uint8_t *keys, size_t keys_length, const uint8_t *aad,
-    size_t aad_length, uint8_t wanted, struct cose_status *status);
+    size_t aad_length, uint8_t kind, struct cose_status *status);
 
 /** Gives it the keys and the externally supplied data of the next messages: COSE_MORE, or why there are none. */
 static inline void cose_open(struct cose_verifier *verifier, const uint8_t *keys, size_t keys_length, const uint8_t *aad,
-    size_t aad_length, uint8_t wanted, struct cose_status *status)
+    size_t aad_length, enum cose_kind_number kind, struct cose_status *status)
 {
     if (cose_is_null_(keys, keys_length) || cose_is_null_(aad, aad_length)) {
-        memset(status, 0, sizeof *status);
-        status->status = COSE_BAD_ARGUMENT;
+        cose_edge_open(verifier, cose_slice_(NULL), 0, cose_slice_(NULL), 0, COSE_NO_KIND_, status);
         return;
     }
-    cose_edge_open(verifier, cose_slice_(keys), keys_length, cose_slice_(aad), aad_length, wanted, status);
+    cose_edge_open(verifier, cose_slice_(keys), keys_length, cose_slice_(aad), aad_length, cose_kind_(kind), status);
 }
 
 void cose_edge_open_detached(struct cose_verifier *verifier, const uint8_t *keys, size_t keys_length, const uint8_t *aad,
-    size_t aad_length, uint8_t wanted, uint64_t payload_length, struct cose_status *status);
+    size_t aad_length, uint8_t kind, uint64_t payload_length, struct cose_status *status);
 
 /** The same for messages whose payload is detached, and has so many bytes. */
 static inline void cose_open_detached(struct cose_verifier *verifier, const uint8_t *keys, size_t keys_length, const uint8_t *aad,
-    size_t aad_length, uint8_t wanted, uint64_t payload_length, struct cose_status *status)
+    size_t aad_length, enum cose_kind_number kind, uint64_t payload_length, struct cose_status *status)
 {
     if (cose_is_null_(keys, keys_length) || cose_is_null_(aad, aad_length)) {
-        memset(status, 0, sizeof *status);
-        status->status = COSE_BAD_ARGUMENT;
+        cose_edge_open_detached(verifier, cose_slice_(NULL), 0, cose_slice_(NULL), 0, COSE_NO_KIND_, 0, status);
         return;
     }
-    cose_edge_open_detached(verifier, cose_slice_(keys), keys_length, cose_slice_(aad), aad_length, wanted, payload_length, status);
+    cose_edge_open_detached(verifier, cose_slice_(keys), keys_length, cose_slice_(aad), aad_length, cose_kind_(kind),
+        payload_length, status);
 }
 
 void cose_edge_feed(struct cose_verifier *verifier, const uint8_t *piece, size_t piece_length, struct cose_fed *fed);
@@ -511,11 +520,11 @@ static inline uint64_t cose_feed_payload(struct cose_verifier *verifier, const u
 void cose_end(struct cose_verifier *verifier, struct cose_status *status);
 
 /** What the signature of a message that is complete is verified with: 1 where it has one, and otherwise 0. */
-uint8_t cose_sign_input(struct cose_verifier *verifier, struct cose_sign_input *input);
+uint8_t cose_sign_input(struct cose_verifier *verifier, struct cose_signature_input *input);
 
 /** The verdict on a message that is complete. 1 says that the signature of cose_sign_input is good, as EVP_PKEY_verify returns; any other
  * number that it isn't. For a COSE_Mac0 the number doesn't count. */
-void cose_verdict(struct cose_verifier *verifier, int32_t signature_is_good, struct cose_verdict *verdict);
+void cose_verdict(struct cose_verifier *verifier, int32_t signature_is_good, struct cose_message_verdict *verdict);
 
 /** Begins the next message, under the same keys. */
 void cose_reset(struct cose_verifier *verifier);
@@ -538,33 +547,31 @@ size_t cose_large_verifier_align(void);
 void cose_large_begin(uint8_t *block);
 
 void cose_edge_large_open(struct cose_large_verifier *verifier, const uint8_t *keys, size_t keys_length, const uint8_t *aad,
-    size_t aad_length, uint8_t wanted, struct cose_status *status);
+    size_t aad_length, uint8_t kind, struct cose_status *status);
 
 /** Gives it the keys and the externally supplied data of the next messages: COSE_MORE, or why there are none. */
 static inline void cose_large_open(struct cose_large_verifier *verifier, const uint8_t *keys, size_t keys_length,
-    const uint8_t *aad, size_t aad_length, uint8_t wanted, struct cose_status *status)
+    const uint8_t *aad, size_t aad_length, enum cose_kind_number kind, struct cose_status *status)
 {
     if (cose_is_null_(keys, keys_length) || cose_is_null_(aad, aad_length)) {
-        memset(status, 0, sizeof *status);
-        status->status = COSE_BAD_ARGUMENT;
+        cose_edge_large_open(verifier, cose_slice_(NULL), 0, cose_slice_(NULL), 0, COSE_NO_KIND_, status);
         return;
     }
-    cose_edge_large_open(verifier, cose_slice_(keys), keys_length, cose_slice_(aad), aad_length, wanted, status);
+    cose_edge_large_open(verifier, cose_slice_(keys), keys_length, cose_slice_(aad), aad_length, cose_kind_(kind), status);
 }
 
 void cose_edge_large_open_detached(struct cose_large_verifier *verifier, const uint8_t *keys, size_t keys_length,
-    const uint8_t *aad, size_t aad_length, uint8_t wanted, uint64_t payload_length, struct cose_status *status);
+    const uint8_t *aad, size_t aad_length, uint8_t kind, uint64_t payload_length, struct cose_status *status);
 
 /** The same for messages whose payload is detached, and has so many bytes. */
 static inline void cose_large_open_detached(struct cose_large_verifier *verifier, const uint8_t *keys, size_t keys_length,
-    const uint8_t *aad, size_t aad_length, uint8_t wanted, uint64_t payload_length, struct cose_status *status)
+    const uint8_t *aad, size_t aad_length, enum cose_kind_number kind, uint64_t payload_length, struct cose_status *status)
 {
     if (cose_is_null_(keys, keys_length) || cose_is_null_(aad, aad_length)) {
-        memset(status, 0, sizeof *status);
-        status->status = COSE_BAD_ARGUMENT;
+        cose_edge_large_open_detached(verifier, cose_slice_(NULL), 0, cose_slice_(NULL), 0, COSE_NO_KIND_, 0, status);
         return;
     }
-    cose_edge_large_open_detached(verifier, cose_slice_(keys), keys_length, cose_slice_(aad), aad_length, wanted, payload_length,
+    cose_edge_large_open_detached(verifier, cose_slice_(keys), keys_length, cose_slice_(aad), aad_length, cose_kind_(kind), payload_length,
         status);
 }
 
@@ -603,11 +610,11 @@ static inline uint64_t cose_large_feed_payload(struct cose_large_verifier *verif
 void cose_large_end(struct cose_large_verifier *verifier, struct cose_status *status);
 
 /** What the signature of a message that is complete is verified with: 1 where it has one, and otherwise 0. */
-uint8_t cose_large_sign_input(struct cose_large_verifier *verifier, struct cose_sign_input *input);
+uint8_t cose_large_sign_input(struct cose_large_verifier *verifier, struct cose_signature_input *input);
 
 /** The verdict on a message that is complete. 1 says that the signature of cose_sign_input is good, as EVP_PKEY_verify returns; any other
  * number that it isn't. For a COSE_Mac0 the number doesn't count. */
-void cose_large_verdict(struct cose_large_verifier *verifier, int32_t signature_is_good, struct cose_verdict *verdict);
+void cose_large_verdict(struct cose_large_verifier *verifier, int32_t signature_is_good, struct cose_message_verdict *verdict);
 
 /** Begins the next message, under the same keys. */
 void cose_large_reset(struct cose_large_verifier *verifier);
@@ -635,6 +642,7 @@ void cose_edge_table_read(struct cose_table *table, const uint8_t *keys, size_t 
 static inline void cose_table_read(struct cose_table *table, const uint8_t *keys, size_t keys_length, struct cose_key_set *key_set)
 {
     if (cose_is_null_(keys, keys_length)) {
+        cose_edge_table_read(table, cose_slice_(NULL), 0, key_set); /* no key set: the table has no keys then */
         memset(key_set, 0, sizeof *key_set);
         key_set->status = COSE_BAD_ARGUMENT;
         return;
@@ -642,27 +650,27 @@ static inline void cose_table_read(struct cose_table *table, const uint8_t *keys
     cose_edge_table_read(table, cose_slice_(keys), keys_length, key_set);
 }
 
-void cose_edge_table_verify(struct cose_table *table, const uint8_t *aad, size_t aad_length, uint8_t wanted,
-    const uint8_t *message, size_t message_length, struct cose_verdict *verdict, struct cose_sign_input *input);
+void cose_edge_table_verify(struct cose_table *table, const uint8_t *aad, size_t aad_length, uint8_t kind,
+    const uint8_t *message, size_t message_length, struct cose_message_verdict *verdict, struct cose_signature_input *input);
 
 /** As cose_verify, under the keys of the table. */
-static inline void cose_table_verify(struct cose_table *table, const uint8_t *aad, size_t aad_length, uint8_t wanted,
-    const uint8_t *message, size_t message_length, struct cose_verdict *verdict, struct cose_sign_input *input)
+static inline void cose_table_verify(struct cose_table *table, const uint8_t *aad, size_t aad_length, enum cose_kind_number kind,
+    const uint8_t *message, size_t message_length, struct cose_message_verdict *verdict, struct cose_signature_input *input)
 {
     if (cose_is_null_(aad, aad_length) || cose_is_null_(message, message_length)) {
         memset(verdict, 0, sizeof *verdict);
         verdict->status = COSE_BAD_ARGUMENT;
         return;
     }
-    cose_edge_table_verify(table, cose_slice_(aad), aad_length, wanted, cose_slice_(message), message_length, verdict, input);
+    cose_edge_table_verify(table, cose_slice_(aad), aad_length, cose_kind_(kind), cose_slice_(message), message_length, verdict, input);
 }
 
 void cose_edge_table_verify_cwt(struct cose_table *table, const uint8_t *aad, size_t aad_length,
-    const struct cose_policy *policy, const uint8_t *token, size_t token_length, struct cose_claims *claims);
+    const struct cose_policy *policy, const uint8_t *token, size_t token_length, struct cose_claims_set *claims);
 
 /** As cose_verify_cwt, under the keys of the table. */
 static inline void cose_table_verify_cwt(struct cose_table *table, const uint8_t *aad, size_t aad_length,
-    const struct cose_policy *policy, const uint8_t *token, size_t token_length, struct cose_claims *claims)
+    const struct cose_policy *policy, const uint8_t *token, size_t token_length, struct cose_claims_set *claims)
 {
     struct cose_policy cose_policy_ = *policy;
     if (cose_is_null_(aad, aad_length) ||
@@ -700,8 +708,8 @@ static inline void cose_make(struct cose_maker *maker, int32_t alg, const uint8_
         cose_is_null_(kid, kid_length) ||
         cose_is_null_(aad, aad_length) ||
         cose_is_null_(head, head_room)) {
-        memset(made, 0, sizeof *made);
-        made->status = COSE_BAD_ARGUMENT;
+        cose_edge_make(maker, COSE_NO_ALG_, cose_slice_(NULL), 0, cose_slice_(NULL), 0, cose_slice_(NULL), 0, 0, cose_room_(NULL), 0,
+            made);
         return;
     }
     cose_edge_make(maker, alg, cose_slice_(key), key_length, cose_slice_(kid), kid_length, cose_slice_(aad), aad_length,

@@ -146,7 +146,7 @@ async function decided(verifier, request, used, answer) {
         const structure = sigStructure(protectedOf(request.message), request.aad, await payloadOf(request, answer.picture));
         isSignatureGood = await isGoodSignature(input, structure);
     }
-    const verdict = verifier.verdict(isSignatureGood === true);
+    const verdict = verifier.verdict(isSignatureGood === true, input);
     const found = { ...answer, isSignatureGood, alg: verdict.alg, payloadLength: verdict.payloadLength, taken: verdict.taken };
     if (verdict.status !== STATUS.AUTHENTIC) return { ...found, state: "refused", refusal: verdict };
     const isTrailed = used < request.message.length;

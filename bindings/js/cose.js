@@ -27,7 +27,7 @@ const WANTED = Object.freeze({ TAGGED: 0, MAC0: 17, SIGN1: 18 });
 /** The structs of include/cose.h: each field with its type in C, in their order. */
 const FIELDS = Object.freeze({
     cose_status: ["uint8_t status", "uint8_t reason", "uint64_t place"],
-    cose_verdict: [
+    cose_message_verdict: [
         "uint8_t status",
         "uint8_t reason",
         "uint8_t kind",
@@ -37,7 +37,7 @@ const FIELDS = Object.freeze({
         "uint64_t payload_length",
         "uint64_t taken",
     ],
-    cose_sign_input: [
+    cose_signature_input: [
         "uint8_t crv",
         "uint8_t y_sign",
         "uint64_t x_length",
@@ -49,7 +49,7 @@ const FIELDS = Object.freeze({
         "uint8_t[64] digest",
         "uint8_t[132] signature",
     ],
-    cose_shape: [
+    cose_message_shape: [
         "uint8_t status",
         "uint8_t reason",
         "uint8_t kind",
@@ -68,7 +68,7 @@ const FIELDS = Object.freeze({
     ],
     cose_range: ["uint64_t at", "uint64_t length", "uint8_t present"],
     cose_date: ["uint64_t number", "uint8_t present", "uint8_t negative"],
-    cose_claims: [
+    cose_claims_set: [
         "uint8_t status",
         "uint8_t reason",
         "uint64_t place",
@@ -171,7 +171,7 @@ const ROOMS = typeof module === "object" ? module.require("./rooms.js").Rooms : 
  */
 
 /**
- * What a signature is verified with: the numbers of struct cose_sign_input.
+ * What a signature is verified with: the numbers of struct cose_signature_input.
  * @typedef {object} SignInput
  * @property {number} crv
  * @property {number} ySign
@@ -286,7 +286,7 @@ class Cose {
      * @returns {SignInput}
      */
     readInput(at) {
-        const all = this.read(at, "cose_sign_input");
+        const all = this.read(at, "cose_signature_input");
         /** @param {string} name */
         const part = (name) => all[name].slice(0, all[`${name}_length`]);
         const [x, y, digest, signature] = ["x", "y", "digest", "signature"].map(part);
@@ -299,7 +299,7 @@ class Cose {
      * @returns {Verdict}
      */
     readVerdict(at, input) {
-        const all = this.read(at, "cose_verdict");
+        const all = this.read(at, "cose_message_verdict");
         const { status, reason, place, kind, alg, taken } = all;
         /** @type {Verdict} */
         const verdict = {
@@ -327,8 +327,8 @@ class Cose {
      */
     verify(keys, message, { aad = NOTHING, wanted = WANTED.TAGGED, large = false, payload } = {}) {
         return this.scoped((scope) => {
-            const at = scope.room(LAYOUTS.cose_verdict.size);
-            const input = scope.room(LAYOUTS.cose_sign_input.size);
+            const at = scope.room(LAYOUTS.cose_message_verdict.size);
+            const input = scope.room(LAYOUTS.cose_signature_input.size);
             const under = keys instanceof KeyTable ? [keys.handle] : scope.put(keys);
             const detached = payload === undefined ? [] : scope.put(payload);
             if (keys instanceof KeyTable && payload !== undefined) throw new Error("a table has no call for detached payloads");
@@ -353,9 +353,9 @@ class Cose {
      */
     shape(message, { wanted = WANTED.TAGGED } = {}) {
         return this.scoped((scope) => {
-            const at = scope.room(LAYOUTS.cose_shape.size);
+            const at = scope.room(LAYOUTS.cose_message_shape.size);
             this.exports.cose_edge_shape(wanted, ...scope.put(message), BigInt(at));
-            const all = this.read(at, "cose_shape");
+            const all = this.read(at, "cose_message_shape");
             const { status, reason, place, kind, taken } = all;
             const [payloadLength, authLength] = [all.payload_length, all.auth_length];
             return { status, reason, place, kind, payloadLength, authLength, taken };
@@ -404,7 +404,7 @@ class Cose {
      */
     verifyCwt(keys, token, { aad = NOTHING, large = false, ...policy }) {
         return this.scoped((scope) => {
-            const at = scope.room(LAYOUTS.cose_claims.size);
+            const at = scope.room(LAYOUTS.cose_claims_set.size);
             const under = keys instanceof KeyTable ? [keys.handle] : scope.put(keys);
             const name = keys instanceof KeyTable ? "table_" : large ? "large_" : "";
             const external = scope.put(aad);
@@ -422,7 +422,7 @@ class Cose {
      */
     claims(payload, { large = false, ...policy }) {
         return this.scoped((scope) => {
-            const at = scope.room(LAYOUTS.cose_claims.size);
+            const at = scope.room(LAYOUTS.cose_claims_set.size);
             const conditions = this.putPolicy(scope, policy);
             this.exports[`cose_edge_${large ? "large_" : ""}claims`](...scope.put(payload), conditions, BigInt(at));
             return this.readClaims(at, payload);
@@ -435,7 +435,7 @@ class Cose {
      * @returns {Claims}
      */
     readClaims(at, whole) {
-        const all = this.read(at, "cose_claims");
+        const all = this.read(at, "cose_claims_set");
         const { status, reason, place } = all;
         const [payloadAt, payloadLength] = [all.payload_at, all.payload_length];
         /** @type {Claims} */
@@ -455,7 +455,7 @@ class Cose {
             const { number, present, negative } = all[name];
             if (present) claims[name] = negative ? -1n - BigInt(number) : BigInt(number);
         }
-        claims.aud = Array.from({ length: all.aud_count }, (_, index) => text.decode(this.audience(payload, index)));
+        if (all.aud_count > 0) putAudience(claims, payload, all.aud, all.aud_count);
         const [kid, x, y] = [all.cnf_kid, all.cnf_x, all.cnf_y].map(bytes);
         if (kid || all.cnf_crv) claims.cnf = {};
         if (claims.cnf && kid) claims.cnf.kid = kid;
@@ -487,6 +487,40 @@ class Cose {
 function exact(number) {
     return number <= BigInt(Number.MAX_SAFE_INTEGER) ? Number(number) : number;
 }
+
+/**
+ * Gives claims their audience: text strings that follow one another, of which the first is the range. They are decoded when they
+ * are read first, from a copy. The library has read them: each has a head with its length (RFC 8949 section 3), and is UTF-8.
+ * @param {Claims} claims
+ * @param {Uint8Array} payload
+ * @param {{at: number, length: number}} first
+ * @param {number} count
+ */
+function putAudience(claims, payload, first, count) {
+    const rest = copyOf(payload, first.at, payload.length - first.at);
+    const decoder = new TextDecoder("utf-8", { ignoreBOM: true });
+    const decode = () => {
+        const found = [];
+        for (let at = 0, length = first.length; found.length < count; ) {
+            found.push(decoder.decode(rest.subarray(at, at + length)));
+            at += length;
+            const width = widthOf(rest[at]);
+            length = width === 0 ? rest[at] & 31 : 0;
+            for (const byte of rest.subarray(at + 1, at + 1 + width)) length = length * 256 + byte;
+            at += 1 + width;
+        }
+        return found;
+    };
+    /** @type {string[] | undefined} */
+    let aud;
+    Object.defineProperty(claims, "aud", { enumerable: true, configurable: true, get: () => (aud ??= decode()) });
+}
+
+/**
+ * How many bytes of a length follow the first byte of a text string's head.
+ * @param {number} first
+ */
+const widthOf = (first) => ((first & 31) < 24 ? 0 : 2 ** ((first & 31) - 24));
 
 /**
  * A copy of a range. (`slice` of a Buffer of Node copies nothing.)
@@ -575,6 +609,11 @@ class Verifier extends Block {
     constructor(cose, { large = false } = {}) {
         super(cose, `${large ? "large_" : ""}verifier`, `cose_${large ? "large_" : ""}begin`);
         this.prefix = large ? "large_" : "";
+        /**
+         * What `signInput` returned of the message: no other message has the same object.
+         * @type {SignInput | undefined}
+         */
+        this.asked = undefined;
     }
 
     /**
@@ -592,6 +631,7 @@ class Verifier extends Block {
      * @param {Options & {payloadLength?: number | bigint}} options
      */
     open(keys, { aad = NOTHING, wanted = WANTED.TAGGED, payloadLength } = {}) {
+        this.asked = undefined;
         const old = this.kept.splice(0);
         const given = [...this.keep(keys), ...this.keep(aad)];
         const status = this.cose.scoped((scope) => {
@@ -635,24 +675,28 @@ class Verifier extends Block {
     }
 
     /**
-     * What the signature of a complete message is verified with, if it has one.
+     * What the signature of a complete message is verified with, if it has one: the same object until the next message.
      * @returns {SignInput | undefined}
      */
     signInput() {
-        return this.cose.scoped((scope) => {
-            const at = scope.room(LAYOUTS.cose_sign_input.size);
+        this.asked ??= this.cose.scoped((scope) => {
+            const at = scope.room(LAYOUTS.cose_signature_input.size);
             return this.call("sign_input")(this.handle, BigInt(at)) === 1 ? this.cose.readInput(at) : undefined;
         });
+        return this.asked;
     }
 
     /**
-     * The verdict on a complete message. `signatureIsGood` is about what `signInput` returned; for a COSE_Mac0 it doesn't count.
+     * The verdict on a complete message. `signatureIsGood` is about `input`, which `signInput` returned for this message: a good
+     * signature of another one throws. For a COSE_Mac0 neither counts.
      * @param {boolean} signatureIsGood
+     * @param {SignInput} [input]
      * @returns {Verdict}
      */
-    verdict(signatureIsGood) {
+    verdict(signatureIsGood, input) {
+        if (signatureIsGood === true && input !== this.signInput()) throw new Error("the signature is of another message");
         return this.cose.scoped((scope) => {
-            const at = scope.room(LAYOUTS.cose_verdict.size);
+            const at = scope.room(LAYOUTS.cose_message_verdict.size);
             this.call("verdict")(this.handle, signatureIsGood === true ? 1 : 0, BigInt(at));
             return this.cose.readVerdict(at);
         });
@@ -660,6 +704,7 @@ class Verifier extends Block {
 
     /** Begins the next message, under the same keys. */
     reset() {
+        this.asked = undefined;
         this.call("reset")(this.handle);
     }
 

@@ -1,11 +1,22 @@
-//! Finds the static library: in the folder of the variable `COSE_LIB_DIR`, or where `pkg-config` says that `cose` is.
+//! Finds the static library: in the folder of the variable `COSE_LIB_DIR`, or where `pkg-config` says that `cose` is. One without the
+//! mark of a proof is refused.
 
 use std::env;
 use std::path::{Path, PathBuf};
 use std::process::{exit, Command};
+use std::{fs, io};
 
 /// The names that the archive has: as `./install` writes it, and as it is built.
 const NAMES: [&str; 2] = ["cose", "cose_c"];
+
+/// What the compiler writes into what it makes of a proved crate, and into nothing else.
+const MARK: &[u8] = b"rattle logic=";
+
+/// Whether an archive has the mark of a proof.
+fn is_proved(archive: &Path) -> io::Result<bool> {
+    let content = fs::read(archive)?;
+    Ok(content.windows(MARK.len()).any(|bytes| bytes == MARK))
+}
 
 /// The folder of libraries of an installed `cose`, by `pkg-config`.
 fn installed() -> Option<PathBuf> {
@@ -43,10 +54,22 @@ fn main() {
         );
         exit(1);
     };
-    println!(
-        "cargo:rerun-if-changed={}",
-        folder.join(format!("lib{name}.a")).display()
-    );
+    let archive = folder.join(format!("lib{name}.a"));
+    println!("cargo:rerun-if-changed={}", archive.display());
+    match is_proved(&archive) {
+        Ok(true) => {}
+        Ok(false) => {
+            eprintln!(
+                "{} isn't what the compiler makes of a proved crate",
+                archive.display()
+            );
+            exit(1);
+        }
+        Err(fault) => {
+            eprintln!("{}: {fault}", archive.display());
+            exit(1);
+        }
+    }
     println!("cargo:rustc-link-search=native={}", folder.display());
     println!("cargo:rustc-link-lib=static={name}");
 }

@@ -46,7 +46,7 @@ static int refuse(uint8_t reason, uint64_t place)
 
 /* The key of a point, which is compressed where the COSE_Key has the sign of y alone (SEC 1 section 2.3.3). OpenSSL
  * takes no point that isn't on the curve. */
-static EVP_PKEY *key_of(const struct cose_sign_input *input)
+static EVP_PKEY *key_of(const struct cose_signature_input *input)
 {
     static char curves[][6] = {"", "P-256", "P-384", "P-521"};
     uint8_t point[1 + sizeof input->x + sizeof input->y];
@@ -70,7 +70,7 @@ static EVP_PKEY *key_of(const struct cose_sign_input *input)
 
 /* The ECDSA-Sig-Value (RFC 3279 section 2.2.3) of r and s, which COSE joins. It returns its length, below 1 if there is
  * none. */
-static int der_of(const struct cose_sign_input *input, uint8_t **der)
+static int der_of(const struct cose_signature_input *input, uint8_t **der)
 {
     int half = (int)(input->signature_length / 2), length = 0;
     ECDSA_SIG *signature = ECDSA_SIG_new();
@@ -87,7 +87,7 @@ static int der_of(const struct cose_sign_input *input, uint8_t **der)
 }
 
 /* 1 where the signature is good, and only then. */
-static int verify_signature(const struct cose_sign_input *input)
+static int verify_signature(const struct cose_signature_input *input)
 {
     uint8_t *der = NULL;
     int is_good = 0, length = der_of(input, &der);
@@ -182,8 +182,8 @@ static int copy_image(struct cose_verifier *verifier, int image, int slot)
 /* The verdict on a complete message. */
 static int judge(struct cose_verifier *verifier)
 {
-    struct cose_sign_input input;
-    struct cose_verdict verdict;
+    struct cose_signature_input input;
+    struct cose_message_verdict verdict;
     int is_good = cose_sign_input(verifier, &input) == 1 && verify_signature(&input) == 1;
     cose_verdict(verifier, is_good, &verdict);
     if (verdict.status != COSE_AUTHENTIC)

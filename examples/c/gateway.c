@@ -51,7 +51,7 @@ static void print_date(const char *name, struct cose_date date)
         printf("%s -18446744073709551616\n", name);
 }
 
-static void print_claims(const struct cose_claims *claims)
+static void print_claims(const struct cose_claims_set *claims)
 {
     const uint8_t *payload = token + claims->payload_at;
     print_text("iss", payload, claims->iss);
@@ -83,7 +83,7 @@ static int read_time(const char *text, int64_t *now)
 }
 
 /* Says what came of the token. */
-static int answer(const struct cose_claims *claims)
+static int answer(const struct cose_claims_set *claims)
 {
     switch (claims->status) {
     case COSE_AUTHENTIC:
@@ -136,7 +136,7 @@ int main(int count, char **arguments)
         fputs("the current time isn't known\n", stderr);
         return NO_ANSWER;
     }
-    struct cose_claims claims;
+    struct cose_claims_set claims;
     cose_verify_cwt(keys, keys_length, NULL, 0, &policy, token, token_length, &claims);
     int status = answer(&claims);
     return fflush(stdout) == 0 ? status : NO_ANSWER;

@@ -44,7 +44,7 @@ static int refuse(uint8_t reason, uint64_t place)
 /* All bytes of a COSE_Mac0 are there. 0 says that no signature is good: there is none. */
 static int judge(struct cose_verifier *verifier)
 {
-    struct cose_verdict verdict;
+    struct cose_message_verdict verdict;
     cose_verdict(verifier, 0, &verdict);
     if (verdict.status != COSE_AUTHENTIC)
         return refuse(verdict.reason, verdict.place);

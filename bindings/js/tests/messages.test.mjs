@@ -9,6 +9,7 @@ import { KeyTable, load, protectedOf, Refused, STATUS, Verifier } from "../index
 
 const cose = await load();
 const example = (name) => new Uint8Array(readFileSync(new URL(`../../../examples/${name}.cbor`, import.meta.url)));
+const { headOf } = signatures;
 const [mac0, key, sign1, sign1Key] = ["mac0", "key", "sign1", "sign1_key"].map(example);
 const text = (bytes) => new TextDecoder().decode(bytes);
 const flipped = (bytes, at) => bytes.map((byte, i) => (i === at ? byte ^ 1 : byte));
@@ -82,6 +83,40 @@ test("a token, its claims, and when it isn't admitted", async () => {
     assert.deepEqual(claims.cti, new Uint8Array([0x0b, 0x71]));
     await assert.rejects(cose.token(keys, token, { now: 1444064944 }), isRefusal("Expired", 59));
     await assert.rejects(cose.token(keys, token, { now: 1444064943, audience: "another" }), isRefusal("WrongAudience", 32));
+});
+
+test("an audience of thousands, whose texts have heads of one, two and three bytes", async () => {
+    const names = Array.from({ length: 3_000 }, (_, i) => `${i}\u00e9`.repeat(i % 100 === 0 ? 1 + (i % 90) : 1));
+    const strings = names.map((name) => [...headOf(3, Buffer.byteLength(name)), ...Buffer.from(name)]);
+    const payload = new Uint8Array([0xa2, 3, ...headOf(4, names.length), ...strings.flat(), 2, 0x61, 0x73]);
+    const claims = cose.claims(payload, { now: 0 });
+    // the caller's bytes may change: those of the claims are theirs
+    payload.fill(0);
+    assert.deepEqual([claims.aud, claims.sub], [names, "s"]);
+    assert.equal(claims.aud, claims.aud);
+    assert.deepEqual(cose.claims(new Uint8Array([0xa0]), { now: 0 }).aud, []);
+});
+
+test("what is said of one message's signature doesn't count for another", async () => {
+    const forged = flipped(sign1, sign1.length - 1);
+    const verifier = new Verifier(cose);
+    verifier.open(sign1Key);
+    verifier.feed(sign1);
+    const input = verifier.signInput();
+    assert.equal(verifier.signInput(), input);
+    const answer = Promise.resolve(true);
+    // another task takes the verifier meanwhile
+    verifier.reset();
+    verifier.feed(forged);
+    const isGood = await answer;
+    assert.throws(() => verifier.verdict(isGood, input), /another message/);
+    assert.throws(() => verifier.verdict(isGood), /another message/);
+    assert.equal(verifier.verdict(false, input).status, STATUS.REFUSED);
+    verifier.open(sign1Key);
+    verifier.feed(sign1);
+    assert.throws(() => verifier.verdict(true, input), /another message/);
+    assert.equal(verifier.verdict(true, verifier.signInput()).status, STATUS.AUTHENTIC);
+    verifier.close();
 });
 
 test("rooms are used again, and memory grows with what is passed", () => {

@@ -111,7 +111,7 @@ function decided(verifier, status, test) {
     const last = status && status.status !== STATUS.MORE && status.status !== STATUS.PAYLOAD_NEXT ? status : verifier.end();
     if (last.status !== STATUS.COMPLETE) return refused(last);
     const input = verifier.signInput();
-    const verdict = verifier.verdict(input ? holds(test, input) : false);
+    const verdict = verifier.verdict(input ? holds(test, input) : false, input);
     if (verdict.status !== STATUS.AUTHENTIC) return refused(verdict);
     return ["authentic", KINDS[verdict.kind], verdict.alg, verdict.payloadLength, verdict.taken];
 }

@@ -3,8 +3,9 @@
 setuptools would have to be fetched into the environment that pip builds in; this fetches nothing.
 
 The archive is libcose_c.a, as it is built, or libcose.a, as it is installed: that of the folder
-COSE_LIB_DIR, or that which pkg-config knows as `cose`. It becomes cose/_libcose.so. Where there is no archive, but an installed libcose.so, the package
-loads that one.
+COSE_LIB_DIR, or that which pkg-config knows as `cose`. It becomes cose/_libcose.so, and the record of
+its proof is in the wheel too. An archive without the mark of a proof is refused. Where there is no
+archive, but an installed libcose.so, the package loads that one.
 """
 
 from __future__ import annotations
@@ -26,12 +27,19 @@ from typing import Any, Dict, Optional
 TOP = pathlib.Path(__file__).resolve().parent.parent
 SOURCE = TOP / "src" / "cose"
 ARCHIVES = ("libcose_c.a", "libcose.a")
+LICENSES = ("LICENSE-APACHE", "LICENSE-MIT")
+PAGE = "PYTHON.md"
+# what the compiler writes into what it makes of a proved crate, and into nothing else
+MARK = re.compile(rb"rattle logic=([0-9a-f]+)")
 METADATA = """\
 Metadata-Version: 2.1
 Name: cose
 Version: {version}
 Summary: Verifies COSE messages (RFC 9052) and CBOR Web Tokens (RFC 8392) by a proved library
 License: MIT OR Apache-2.0
+License-File: LICENSE-APACHE
+License-File: LICENSE-MIT
+Description-Content-Type: text/markdown
 Requires-Python: >=3.9
 Provides-Extra: ecdsa
 Requires-Dist: cryptography>=38; extra == "ecdsa"
@@ -80,12 +88,35 @@ def _link(archive: pathlib.Path, library: pathlib.Path) -> None:
         raise SystemExit(f"cose: {shlex.join(command)}\n{ended.stderr}")
 
 
-def _files() -> Dict[str, bytes]:
+def _proof_of(archive: pathlib.Path) -> bytes:
+    """The record of an archive's proof: the one beside it or installed, or what it says itself."""
+    content = archive.read_bytes()
+    found = MARK.search(content)
+    if not found:
+        raise SystemExit(f"cose: {archive} isn't what the compiler makes of a proved crate")
+    line = f"sha256 {hashlib.sha256(content).hexdigest()}"
+    installed = archive.parent.parent / "share" / "doc" / "cose" / "libcose.proof"
+    for record in (archive.with_name(archive.name + ".proof"), installed):
+        if record.exists() and line in record.read_text().splitlines():
+            return record.read_bytes()
+    return f"proved each function\nlogic {found[1].decode()}\n{line}\n".encode()
+
+
+def _shared(name: str) -> pathlib.Path:
+    """A file of the repository, or its copy in what build_sdist packs."""
+    repository = TOP.parent.parent
+    places = (TOP / name, repository / name, repository / "docs" / name)
+    return next(place for place in places if place.exists())
+
+
+def _files(info: str) -> Dict[str, bytes]:
     """The files of the wheel, by their names."""
     files = {f"cose/{it.name}": it.read_bytes() for it in sorted(SOURCE.glob("*.py"))}
     files["cose/py.typed"] = b""
+    files.update({f"{info}/licenses/{name}": _shared(name).read_bytes() for name in LICENSES})
     archive = _archive()
     if archive:
+        files[f"{info}/libcose.proof"] = _proof_of(archive)
         with tempfile.TemporaryDirectory() as folder:
             library = pathlib.Path(folder, "_libcose.so")
             _link(archive, library)
@@ -112,12 +143,15 @@ def build_wheel(
     metadata_directory: Optional[str] = None,
 ) -> str:
     """Builds the wheel, and returns its name (PEP 517)."""
-    files, version = _files(), _version()
+    version = _version()
+    info = f"cose-{version}.dist-info"
+    files = _files(info)
     platform = "any"
     if "cose/_libcose.so" in files:
         platform = re.sub(r"[-.]", "_", sysconfig.get_platform())
-    info, tag = f"cose-{version}.dist-info", f"py3-none-{platform}"
-    files[f"{info}/METADATA"] = METADATA.format(version=version).encode()
+    tag = f"py3-none-{platform}"
+    page = _shared(PAGE).read_text()
+    files[f"{info}/METADATA"] = f"{METADATA.format(version=version)}\n{page}".encode()
     pure = str(platform == "any").lower()
     files[f"{info}/WHEEL"] = (
         f"Wheel-Version: 1.0\nGenerator: cose_build\nRoot-Is-Purelib: {pure}\nTag: {tag}\n"
@@ -140,4 +174,6 @@ def build_sdist(sdist_directory: str, config_settings: Optional[Dict[str, Any]] 
         for path in [TOP / "pyproject.toml", *TOP.glob("backend/*.py"), *SOURCE.glob("*.py")]:
             packed.add(path, f"{base}/{path.relative_to(TOP)}")
         packed.add(SOURCE / "py.typed", f"{base}/src/cose/py.typed")
+        for name in (*LICENSES, PAGE):
+            packed.add(_shared(name), f"{base}/{name}")
     return f"{base}.tar.gz"

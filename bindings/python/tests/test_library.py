@@ -15,14 +15,14 @@ from support import REPOSITORY
 HEADER = REPOSITORY / "include" / "cose.h"
 STRUCTS: Dict[str, Type[ctypes.Structure]] = {
     "cose_status": _library.StatusStruct,
-    "cose_verdict": _library.VerdictStruct,
-    "cose_sign_input": _library.SignInputStruct,
-    "cose_shape": _library.ShapeStruct,
+    "cose_message_verdict": _library.VerdictStruct,
+    "cose_signature_input": _library.SignInputStruct,
+    "cose_message_shape": _library.ShapeStruct,
     "cose_key_set": _library.KeySetStruct,
     "cose_policy": _library.PolicyStruct,
     "cose_range": _library.RangeStruct,
     "cose_date": _library.DateStruct,
-    "cose_claims": _library.ClaimsStruct,
+    "cose_claims_set": _library.ClaimsStruct,
     "cose_fed": _library.FedStruct,
     "cose_made": _library.MadeStruct,
     "cose_verifier": _library.HandleStruct,

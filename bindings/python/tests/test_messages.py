@@ -1,5 +1,6 @@
 """Messages in memory."""
 
+import mmap
 import pickle
 import re
 import unittest
@@ -22,7 +23,10 @@ class Messages(unittest.TestCase):
         message = mac0(b"")
         for kind in (bytes, bytearray, memoryview):
             self.assertEqual(cose.verify(kind(KEYS), kind(message)).payload, b"")
-        with self.assertRaises(TypeError):
+        with mmap.mmap(-1, len(message)) as mapped:
+            mapped[:] = message
+            self.assertEqual(cose.verify(KEYS, mapped).taken, len(message))
+        with self.assertRaisesRegex(TypeError, "^message should be bytes, and is str$"):
             cose.verify(KEYS, message.hex())  # type: ignore[arg-type]
 
     def test_refused(self) -> None:

@@ -1,5 +1,6 @@
 """CBOR Web Tokens."""
 
+import pickle
 import threading
 import time
 import unittest
@@ -52,6 +53,17 @@ class Tokens(unittest.TestCase):
         self.assertEqual(found.aud, ("a", "b", "\u00e9"))
         self.assertEqual((found.exp, found.nbf), (-1, -(2**64)))
 
+    def test_many_audiences(self) -> None:
+        """Texts of every length up to 300 bytes, and one of 65,536, are read in one pass."""
+        names = [("\u00e9" * it + "a" * (it % 2)) for it in range(150)] * 2 + ["b" * 65_536]
+        payload = cbor.encode({2: "s", 3: names, 4: 1})
+        found = cose.claims(payload, now=0)
+        self.assertEqual(found, cose.Claims(payload, sub="s", aud=tuple(names), exp=1))
+        self.assertIs(found.aud, found.aud)
+        again = pickle.loads(pickle.dumps(cose.claims(payload, now=0)))
+        self.assertEqual((again, hash(again)), (found, hash(found)))
+        self.assertEqual(cose.verify_cwt(KEYS, token({3: names})).aud, tuple(names))
+
     def test_admission(self) -> None:
         cases = (
             ({"now": NOW + 1}, "Expired"),
@@ -80,8 +92,24 @@ class Tokens(unittest.TestCase):
         for policy in ({"now": 2**63}, {"now": 0, "leeway": 2**32}, {"now": 0, "leeway": -1}):
             with self.assertRaises(ValueError):
                 cose.verify_cwt(KEYS, token({}), **policy)
-        with self.assertRaises(TypeError):
-            cose.verify_cwt(KEYS, token({}), now=0.5)  # type: ignore[arg-type]
+
+    def test_types(self) -> None:
+        """An error names the argument."""
+        cases = (
+            ({"now": 1.5}, TypeError, "now should be an integer, and is float"),
+            ({"now": 0, "leeway": "1"}, TypeError, "leeway should be an integer, and is str"),
+            ({"now": 0, "audience": ["a"]}, TypeError, "audience should be a str, and is list"),
+            ({"now": 0, "audience": []}, TypeError, "audience should be a str, and is list"),
+            ({"now": 0, "audience": b"a"}, TypeError, "audience should be a str, and is bytes"),
+            ({"now": 0, "audience": "\ud800"}, ValueError, "audience isn't a text"),
+        )
+        for policy, kind, text in cases:
+            for call in (
+                lambda: cose.verify_cwt(KEYS, token({}), **policy),
+                lambda: cose.claims(b"\xa0", **policy),
+            ):
+                with self.subTest(policy), self.assertRaisesRegex(kind, text):
+                    call()
 
     def test_message_refused(self) -> None:
         with self.assertRaises(cose.Refused) as raised:

@@ -106,6 +106,18 @@ pub struct Accepted {
 /// let moved = block;
 /// verifier.reset();
 /// ```
+///
+/// The function that [`verdict`](Self::verdict) asks can't put another message into the place of the one that it is asked about:
+///
+/// ```compile_fail,E0499
+/// # use cose::{Block, Options, Verifier};
+/// let mut block = Block::new();
+/// let mut verifier = Verifier::new(&mut block, b"\xa0", &Options::default()).unwrap();
+/// let verdict = verifier.verdict(|_| {
+///     verifier.reset();
+///     true
+/// });
+/// ```
 #[derive(Debug)]
 pub struct Verifier<'k, S: Size = Small> {
     // what is in it leads to the keys and to the externally supplied data, which stay for `'k` too

@@ -3,10 +3,11 @@
 from __future__ import annotations
 
 import enum
+import mmap
 import operator
 from typing import Optional, Union
 
-Buffer = Union[bytes, bytearray, memoryview]
+Buffer = Union[bytes, bytearray, memoryview, mmap.mmap]
 
 
 class Kind(enum.IntEnum):
@@ -35,17 +36,31 @@ def bytes_of(value: Buffer, name: str) -> bytes:
     """The bytes of an argument, which don't change while they are read."""
     if isinstance(value, bytes):
         return value
-    if isinstance(value, (bytearray, memoryview)):
+    if isinstance(value, (bytearray, memoryview, mmap.mmap)):
         return bytes(value)
     raise TypeError(f"{name} should be bytes, and is {type(value).__name__}")
 
 
 def number_of(value: int, name: str, least: int, most: int) -> int:
     """The number of an argument, which is in a range."""
-    number = operator.index(value)
+    try:
+        number = operator.index(value)
+    except TypeError:
+        kind = type(value).__name__
+        raise TypeError(f"{name} should be an integer, and is {kind}") from None
     if not least <= number <= most:
         raise ValueError(f"{name} should be from {least} to {most}, and is {number}")
     return number
+
+
+def text_of(value: str, name: str) -> bytes:
+    """The text of an argument in UTF-8."""
+    if not isinstance(value, str):
+        raise TypeError(f"{name} should be a str, and is {type(value).__name__}")
+    try:
+        return value.encode()
+    except UnicodeEncodeError as error:
+        raise ValueError(f"{name} isn't a text that UTF-8 can say: {error.reason}") from None
 
 
 def wanted_of(value: Optional[Kind]) -> int:

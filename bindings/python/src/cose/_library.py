@@ -10,8 +10,10 @@ import ctypes
 import enum
 import os
 import pathlib
+import threading
 from ctypes import (
     POINTER,
+    byref,
     c_char_p,
     c_int32,
     c_int64,
@@ -56,7 +58,7 @@ class StatusStruct(ctypes.Structure):
 
 
 class VerdictStruct(ctypes.Structure):
-    """`struct cose_verdict`"""
+    """`struct cose_message_verdict`"""
 
     _fields_ = [
         *_fields(c_uint8, "status reason kind"),
@@ -66,7 +68,7 @@ class VerdictStruct(ctypes.Structure):
 
 
 class SignInputStruct(ctypes.Structure):
-    """`struct cose_sign_input`"""
+    """`struct cose_signature_input`"""
 
     _fields_ = [
         *_fields(c_uint8, "crv y_sign"),
@@ -79,7 +81,7 @@ class SignInputStruct(ctypes.Structure):
 
 
 class ShapeStruct(ctypes.Structure):
-    """`struct cose_shape`"""
+    """`struct cose_message_shape`"""
 
     _fields_ = [
         *_fields(c_uint8, "status reason kind"),
@@ -118,7 +120,7 @@ class DateStruct(ctypes.Structure):
 
 
 class ClaimsStruct(ctypes.Structure):
-    """`struct cose_claims`"""
+    """`struct cose_claims_set`"""
 
     _fields_ = [
         *_fields(c_uint8, "status reason"),
@@ -252,9 +254,39 @@ large = SimpleNamespace(
 
 
 class Block:
-    """Memory at a multiple of an alignment, which doesn't move, and its handle."""
+    """Memory at a multiple of an alignment, which doesn't move, that one call at a time uses.
 
-    def __init__(self, size: int, align: int) -> None:
-        self._memory = ctypes.create_string_buffer(size + align)
+    `with block as handle:` is one use. Another thread waits until it ends. A use within a use, as by
+    a function that `verdict` asks, raises `RuntimeError`, and a use after `close` `ValueError`.
+    """
+
+    def __init__(self, kind: str, size: int, align: int) -> None:
+        self._kind = kind
+        self._memory: Any = ctypes.create_string_buffer(size + align)
         start = ctypes.addressof(self._memory)
-        self.handle = HandleStruct(start + -start % align)
+        self.at = start + -start % align
+        self._handle = byref(HandleStruct(self.at))
+        # the thread that uses the block passes it again, and is seen by what it says of itself
+        self._lock, self._is_used = threading.RLock(), False
+
+    def __enter__(self) -> Any:
+        self._lock.acquire()
+        if self._is_used:
+            self._lock.release()
+            raise RuntimeError(f"the {self._kind} is in use")
+        if self._memory is None:
+            self._lock.release()
+            raise ValueError(f"the {self._kind} is closed")
+        self._is_used = True
+        return self._handle
+
+    def __exit__(self, *_: object) -> None:
+        self._is_used = False
+        self._lock.release()
+
+    def close(self) -> None:
+        """Frees the memory, once no call uses it."""
+        with self._lock:
+            if self._is_used:
+                raise RuntimeError(f"the {self._kind} is in use")
+            self._memory = None

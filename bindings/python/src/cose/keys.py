@@ -2,7 +2,6 @@
 
 from __future__ import annotations
 
-import threading
 from ctypes import byref
 from typing import Union
 
@@ -19,11 +18,11 @@ class KeyTable:
 
     def __init__(self, keys: Buffer) -> None:
         self._data = bytes_of(keys, "keys")
-        self._lock = threading.Lock()
-        self._block = Block(small.table_size(), small.table_align())
-        small.table_begin(self._block.handle.at)
+        self._block = Block("table", small.table_size(), small.table_align())
         read = KeySetStruct()
-        small.edge_table_read(byref(self._block.handle), self._data, len(self._data), byref(read))
+        with self._block as handle:
+            small.table_begin(self._block.at)
+            small.edge_table_read(handle, self._data, len(self._data), byref(read))
         if read.status != Status.COMPLETE:
             fail(read)
         self._usable: int = read.usable
@@ -46,8 +45,8 @@ def data_of(keys: Keys) -> bytes:
 
 def call_table(table: KeyTable, name: str, *arguments: object) -> None:
     """One of the library's calls on a table, of which one at a time may run."""
-    with table._lock:
-        getattr(small, name)(byref(table._block.handle), *arguments)
+    with table._block as handle:
+        getattr(small, name)(handle, *arguments)
 
 
 def count_keys(keys: Buffer) -> int:

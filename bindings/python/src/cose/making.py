@@ -34,6 +34,7 @@ class Maker:
     """Makes a COSE_Mac0 over pieces of its payload: `head`, the pieces and `end()` are the message.
 
     The arguments are those of `cose.make`; `payload_length` is the length of all pieces together.
+    Threads may pass pieces at once: each is hashed whole, in the order in which they come.
     """
 
     def __init__(
@@ -48,23 +49,12 @@ class Maker:
         secret, name, external = bytes_of(key, "key"), bytes_of(kid, "kid"), bytes_of(aad, "aad")
         length = number_of(payload_length, "payload_length", 0, 2**64 - 1)
         number = number_of(alg, "alg", 4, 7)
-        self._block = Block(small.maker_size(), small.maker_align())
-        small.maker_begin(self._block.handle.at)
+        self._block = Block("maker", small.maker_size(), small.maker_align())
         room, made = ctypes.create_string_buffer(_HEAD), MadeStruct()
-        small.edge_make(
-            byref(self._block.handle),
-            number,
-            secret,
-            len(secret),
-            name,
-            len(name),
-            external,
-            len(external),
-            length,
-            room,
-            _HEAD,
-            byref(made),
-        )
+        given = (secret, len(secret), name, len(name), external, len(external))
+        with self._block as handle:
+            small.maker_begin(self._block.at)
+            small.edge_make(handle, number, *given, length, room, _HEAD, byref(made))
         if made.status != Status.MORE:
             _fail(made)
         # what precedes the payload
@@ -73,13 +63,15 @@ class Maker:
     def piece(self, piece: Buffer) -> int:
         """Takes bytes of the payload, and returns how many: none after its last one."""
         data = bytes_of(piece, "piece")
-        used: int = small.edge_make_piece(byref(self._block.handle), data, len(data))
+        with self._block as handle:
+            used: int = small.edge_make_piece(handle, data, len(data))
         return used
 
     def end(self) -> bytes:
         """What follows the payload. Raises `ValueError` where the payload isn't whole."""
         room, made = ctypes.create_string_buffer(_TAIL), MadeStruct()
-        small.edge_make_end(byref(self._block.handle), room, _TAIL, byref(made))
+        with self._block as handle:
+            small.edge_make_end(handle, room, _TAIL, byref(made))
         if made.status != Status.COMPLETE:
             _fail(made)
         return room.raw[: made.length]

@@ -5,11 +5,12 @@ from __future__ import annotations
 import time
 from ctypes import byref
 from dataclasses import dataclass
-from typing import Iterator, Optional, Tuple, Union
+from functools import partial
+from typing import Any, Optional, Tuple, Union, cast
 
 from . import _library, cbor
 from ._answers import Ecdsa, fail
-from ._arguments import Buffer, Kind, bytes_of, number_of
+from ._arguments import Buffer, Kind, bytes_of, number_of, text_of
 from ._library import ClaimsStruct, DateStruct, PolicyStruct, RangeStruct, Status, small
 from .keys import Keys, KeyTable, call_table, data_of
 from .messages import verify
@@ -36,17 +37,33 @@ class Confirmation:
     key: Optional[ConfirmationKey] = None
 
 
+class _Audience:
+    """The field `aud`: where it is a function, that is called when the field is read first."""
+
+    def __get__(self, claims: Optional[Claims], owner: object = None) -> Tuple[str, ...]:
+        if claims is None:
+            return ()
+        given = claims.__dict__["aud"]
+        if callable(given):
+            given = claims.__dict__["aud"] = given()
+        return cast(Tuple[str, ...], given)
+
+    def __set__(self, claims: Claims, value: object) -> None:
+        claims.__dict__["aud"] = value
+
+
 @dataclass(frozen=True)
 class Claims:
     """The claims of an admitted token; those that aren't there are None, or no audience.
 
-    `payload` has all claims, those too that have no name here, as CBOR.
+    `payload` has all claims, those too that have no name here, as CBOR. `aud` is decoded when it is
+    read first.
     """
 
     payload: bytes
     iss: Optional[str] = None
     sub: Optional[str] = None
-    aud: Tuple[str, ...] = ()
+    aud: Tuple[str, ...] = cast(Any, _Audience())
     exp: Optional[int] = None
     nbf: Optional[int] = None
     iat: Optional[int] = None
@@ -56,7 +73,7 @@ class Claims:
 
 def _policy(now: Optional[int], leeway: int, audience: Optional[str]) -> PolicyStruct:
     moment = int(time.time()) if now is None else number_of(now, "now", -(2**63), 2**63 - 1)
-    name = (audience or "").encode()
+    name = b"" if audience is None else text_of(audience, "audience")
     seconds = number_of(leeway, "leeway", 0, 2**32 - 1)
     return PolicyStruct(moment, seconds, audience is not None, name, len(name))
 
@@ -77,15 +94,23 @@ def _date(date: DateStruct) -> Optional[int]:
     return -1 - number if date.negative else number
 
 
-def _audiences(payload: bytes, claims: ClaimsStruct) -> Iterator[str]:
-    for index in range(claims.aud_count):
-        place = claims.aud
-        if index > 0:
-            place = RangeStruct()
-            small.edge_audience(payload, len(payload), index, byref(place))
-        name = _text(payload, place)
-        if name is not None:
-            yield name
+def _texts(payload: bytes, at: int, length: int, count: int) -> Tuple[str, ...]:
+    """So many text strings, one after the other, of which the first has its bytes at this place.
+
+    The library has read them: each has a head with its length (RFC 8949 section 3), and is UTF-8.
+    """
+    if count == 0:
+        return ()
+    end = at + length
+    found = [payload[at:end].decode()]
+    for _ in range(count - 1):
+        at, length = end + 1, payload[end] & 31
+        if length >= 24:
+            at += 1 << (length - 24)
+            length = int.from_bytes(payload[end + 1 : at], "big")
+        end = at + length
+        found.append(payload[at:end].decode())
+    return tuple(found)
 
 
 def _confirmation(payload: bytes, claims: ClaimsStruct) -> Optional[Confirmation]:
@@ -102,7 +127,7 @@ def _claims_of(payload: bytes, claims: ClaimsStruct) -> Claims:
         payload=payload,
         iss=_text(payload, claims.iss),
         sub=_text(payload, claims.sub),
-        aud=tuple(_audiences(payload, claims)),
+        aud=cast(Any, partial(_texts, payload, claims.aud.at, claims.aud.length, claims.aud_count)),
         exp=_date(claims.exp),
         nbf=_date(claims.nbf),
         iat=_date(claims.iat),

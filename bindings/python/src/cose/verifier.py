@@ -2,7 +2,6 @@
 
 from __future__ import annotations
 
-import threading
 from ctypes import byref
 from dataclasses import dataclass
 from types import TracebackType
@@ -45,7 +44,9 @@ class Verifier:
     `feed` the pieces and keep the payload that each gives, then ask for the `verdict`, and drop
     the payload where that raises. `reset` begins the next message. With `payload_length` the
     payload is detached: once `feed` says `PAYLOAD_NEXT`, `feed_payload` takes it. The arguments
-    are those of `cose.verify`. `ecdsa` is asked once a message, by `verdict`.
+    are those of `cose.verify`. `ecdsa` is asked once a message, by `verdict`. Until it has answered,
+    other threads wait, and a call of this verifier from it raises `RuntimeError`: its answer counts
+    for the message that it was asked about, and for no other.
 
     >>> with cose.Verifier(keys) as verifier:           # doctest: +SKIP
     ...     payload = b"".join(verifier.feed(piece).payload for piece in pieces)
@@ -64,13 +65,11 @@ class Verifier:
     ) -> None:
         self._calls = _library.large if large else small
         self._ecdsa = ecdsa
-        self._lock = threading.Lock()
         # the library reads both until the verifier is closed
         self._keys, self._aad = data_of(keys), bytes_of(aad, "aad")
-        self._block: Optional[Block] = Block(
-            self._calls.verifier_size(), self._calls.verifier_align()
-        )
-        self._calls.begin(self._block.handle.at)
+        size, align = self._calls.verifier_size(), self._calls.verifier_align()
+        self._block = Block("verifier", size, align)
+        self._calls.begin(self._block.at)
         self._open(wanted_of(wanted), payload_length)
 
     def _open(self, wanted: int, payload_length: Optional[int]) -> None:
@@ -87,10 +86,8 @@ class Verifier:
 
     def _call(self, name: str, *arguments: object) -> Any:
         """One of the library's calls, of which one at a time may run."""
-        with self._lock:
-            if self._block is None:
-                raise ValueError("the verifier is closed")
-            return getattr(self._calls, name)(byref(self._block.handle), *arguments)
+        with self._block as handle:
+            return getattr(self._calls, name)(handle, *arguments)
 
     def __enter__(self) -> Verifier:
         return self
@@ -105,8 +102,7 @@ class Verifier:
 
     def close(self) -> None:
         """Frees the memory. Every other call but this raises `ValueError` then."""
-        with self._lock:
-            self._block = None
+        self._block.close()
 
     def feed(self, piece: Buffer) -> Fed:
         """Takes bytes of the message. Raises `Refused` once no further byte can change that."""
@@ -132,11 +128,15 @@ class Verifier:
 
     def verdict(self) -> Verdict:
         """The verdict, after `end`. Raises `Refused`, and `SignatureUnverified` without `ecdsa`."""
-        self.end()
-        sign_input, verdict = SignInputStruct(), VerdictStruct()
-        has_signature = self._call("sign_input", byref(sign_input)) == 1
-        good = has_signature and is_good(sign_input, self._ecdsa)
-        self._call("verdict", int(good), byref(verdict))
+        status, sign_input, verdict = StatusStruct(), SignInputStruct(), VerdictStruct()
+        # one use of the block: what is asked is about the message that the verdict is on
+        with self._block as handle:
+            self._calls.end(handle, byref(status))
+            if status.status != Status.COMPLETE:
+                fail(status)
+            has_signature = self._calls.sign_input(handle, byref(sign_input)) == 1
+            good = has_signature and is_good(sign_input, self._ecdsa)
+            self._calls.verdict(handle, int(good), byref(verdict))
         if verdict.status != Status.AUTHENTIC:
             fail(verdict)
         return Verdict(

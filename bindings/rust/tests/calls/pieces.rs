@@ -1,5 +1,8 @@
 //! Messages that are fed, messages under a table of keys, and messages that are made.
 
+use std::sync::{Mutex, RwLock};
+use std::thread;
+
 use crate::{hex, HI, JEFE};
 use cose::{
     Block, Error, KeyTable, Kind, MacAlg, Maker, Making, Options, Policy, Reason, Refusal, Status,
@@ -282,4 +285,38 @@ fn other_threads() {
         thread.join().expect("it doesn't panic")
     });
     assert_eq!(found.map(|found| found.taken), Ok(44));
+}
+
+/// A maker and a table go to other threads, and each call has them alone: `RwLock` wants both to be `Sync` too.
+#[test]
+fn threads_share_a_maker_and_a_table() {
+    let (keys, message) = (hex(JEFE), hex(HI));
+    let making = Making {
+        alg: MacAlg::Hmac256,
+        kid: b"",
+        aad: b"",
+    };
+    let (mut block, mut table_block) = (Block::new(), Block::new());
+    let (mut head, mut tail) = ([0; HEAD_ROOM], [0; TAIL_ROOM]);
+    let (maker, head) =
+        Maker::begin(&mut block, &keys, &making, 400, &mut head).expect("the key is good");
+    let maker = RwLock::new(maker);
+    let table = RwLock::new(KeyTable::read(&mut table_block, &keys).expect("the keys are good"));
+    let used = Mutex::new(0);
+    thread::scope(|scope| {
+        for _ in 0..4 {
+            scope.spawn(|| {
+                for _ in 0..100 {
+                    *used.lock().expect("no panic") += maker.write().expect("no panic").piece(&[0]);
+                    let mut table = table.write().expect("no panic");
+                    assert!(table.verify(&Options::default(), &message).is_ok());
+                }
+            });
+        }
+    });
+    assert_eq!(used.into_inner().expect("no panic"), 400);
+    let maker = maker.into_inner().expect("no panic");
+    let tail = maker.end(&mut tail).expect("the payload is whole");
+    let made = [head, &[0; 400], tail].concat();
+    assert!(cose::verify(&keys, &made).is_ok());
 }

@@ -1,0 +1,174 @@
+"""A device in an emulator in the place of the shared library: the program for the device, and what stands for ctypes.CDLL.
+
+The calls are those of the table of the package for Python. A request is a length (u32), the call's number (u16) and its arguments: a
+number as u64; bytes as a length (u32) and the bytes; the length of a room (u32); a block as the number of its slot (u32); a policy as
+now (i64), leeway (u32), whether there is an audience (u8), and the audience as bytes. An answer is a length (u32), what the call
+returned (u64), and then each room and each struct that it filled, at multiples of 8.
+"""
+import collections
+import ctypes
+import struct
+
+SLOTS, LARGE_SLOTS = 8, 2
+KEEPING = ("open", "open_detached", "table_read")
+DECLARED = {ctypes.c_uint8: "(uint8_t)", ctypes.c_int32: "(int32_t)"}
+
+
+def calls_of(library):
+    """The calls of the package's table: each name with the types of its arguments and of its result."""
+    found = {f"cose_{name}": it for name, it in {**library._BOTH_SIZES, **library._ONE_SIZE}.items()}
+    return {**found, **{f"cose_{library._large(name)}": it for name, it in library._BOTH_SIZES.items()}}
+
+
+def kinds_of(library, arguments):
+    """What each argument is: a pair of a word and a type. Bytes and rooms are two arguments of C."""
+    left, found = list(arguments), []
+    while left:
+        kind = left.pop(0)
+        if kind is ctypes.c_char_p or kind is ctypes.c_void_p and left[:1] == [ctypes.c_size_t]:
+            left.pop(0)
+            word = "bytes" if kind is ctypes.c_char_p else "room"
+        elif kind is ctypes.c_void_p:
+            word = "memory"
+        elif kind is library._HANDLE:
+            word = "block"
+        elif kind is ctypes.POINTER(library.PolicyStruct):
+            word = "policy"
+        else:
+            word = "filled" if hasattr(kind, "contents") else "number"
+        found.append((word, kind))
+    return found
+
+
+def struct_of(name):
+    """The struct of C that has the block of a call."""
+    kind = "table" if "_table_" in name else "maker" if "_make" in name else "verifier"
+    return f"struct cose_{'large_' if '_large_' in name else ''}{kind}"
+
+
+def argument(name, at, word, kind):
+    """The lines of C that read an argument, and what is passed."""
+    it = f"a{at}"
+    if word == "number":
+        return [f"uint64_t {it} = number(8);"], DECLARED.get(kind, "") + it
+    if word == "bytes":
+        kept = [f"{it} = keep(a0_slot, {it}, {it}_length, &used);"] if name.endswith(KEEPING) else []
+        return [f"uint64_t {it}_length;", f"const uint8_t *{it} = bytes(&{it}_length);", *kept], f"{it}, {it}_length"
+    if word == "room":
+        return [f"uint64_t {it}_length = number(4);", f"uint8_t *{it} = filled({it}_length);"], f"{it}, {it}_length"
+    if word == "memory":
+        return [f"uint8_t *{it} = block_at(number(4));"], it
+    if word == "block":
+        return [f"uint64_t {it}_slot = number(4);", f"{struct_of(name)} {it} = {{.at = block_at({it}_slot)}};"], f"&{it}"
+    if word == "filled":
+        return [f"void *{it} = filled({ctypes.sizeof(kind._type_)});"], it
+    return [
+        f"struct cose_policy {it} = {{0}};",
+        f"{it}.now = (int64_t)number(8);",
+        f"{it}.leeway = (uint32_t)number(4);",
+        f"{it}.has_audience = (uint8_t)number(1);",
+        f"{it}.audience = bytes(&{it}.audience_length);",
+    ], f"&{it}"
+
+
+def cases(library):
+    """The text of the cases of a switch, one for each call."""
+    lines = []
+    for number, (name, (arguments, result)) in enumerate(calls_of(library).items()):
+        lines.append(f"case {number}: {{")
+        if name.endswith(KEEPING):
+            lines.append("size_t used = 0;")
+        passed = []
+        for at, (word, kind) in enumerate(kinds_of(library, arguments)):
+            before, text = argument(name, at, word, kind)
+            lines += before
+            passed.append(text)
+        call = f"{name}({', '.join(passed)});"
+        lines += [f"return {call}" if result else f"{call}\nreturn 0;", "}"]
+    return "\n".join(lines) + "\n"
+
+
+class Device:
+    """The library, as ctypes.CDLL would give it."""
+
+    def __init__(self, requests, answers):
+        self.requests, self.answers = requests, answers
+        self.library, self.numbers, self.calls = None, {}, 0
+        self.slots = {False: collections.OrderedDict(), True: collections.OrderedDict()}
+
+    def __getattr__(self, name):
+        if not name.startswith("cose_"):
+            raise AttributeError(name)
+        return Call(self, name)
+
+    def use(self, library):
+        """Takes the package's table, once it is imported."""
+        self.library = library
+        self.numbers = {name: number for number, name in enumerate(calls_of(library))}
+
+    def ask(self, number, body):
+        """Sends a request, and returns what the call returned and what it filled."""
+        data = struct.pack("<IH", len(body) + 2, number) + body
+        self.requests.write(data)
+        self.requests.flush()
+        (size,) = struct.unpack("<I", self.read(4))
+        answer = self.read(size)
+        return struct.unpack_from("<Q", answer)[0], answer[8:]
+
+    def read(self, size):
+        data = self.answers.read(size)
+        if len(data) < size:
+            raise SystemExit("device_rows: the device ended")
+        return data
+
+    def slot(self, address, large, begins):
+        """The slot of a block. The one that was used longest ago is given to a new one."""
+        table, count = self.slots[large], LARGE_SLOTS if large else SLOTS
+        if address not in table:
+            if not begins:
+                raise SystemExit("device_rows: a block that wasn't begun, or too many at once")
+            free = set(range(count)) - set(table.values())
+            table[address] = min(free) if free else table.popitem(last=False)[1]
+        table.move_to_end(address)
+        return table[address] + (SLOTS if large else 0)
+
+
+class Call:
+    """A call of the library."""
+
+    def __init__(self, device, name):
+        self.device, self.name = device, name
+        self.argtypes, self.restype = (), None
+
+    def __call__(self, *given):
+        device, left, body, filled, end = self.device, list(given), b"", [], 0
+        large = "_large_" in self.name
+        for word, kind in kinds_of(device.library, self.argtypes):
+            value = left.pop(0)
+            if word in ("room", "filled"):
+                size = left.pop(0) if word == "room" else ctypes.sizeof(kind._type_)
+                body += struct.pack("<I", size) if word == "room" else b""
+                end = -(-end // 8) * 8
+                filled.append((end, size, value if word == "room" else ctypes.addressof(value._obj)))
+                end += size
+            elif word == "bytes":
+                body += struct.pack("<I", left.pop(0)) + (value or b"")
+            elif word == "memory":
+                body += struct.pack("<I", device.slot(value, large, True))
+            elif word == "block":
+                body += struct.pack("<I", device.slot(value._obj.at, large, False))
+            elif word == "policy":
+                body += packed_policy(value._obj)
+            else:
+                body += struct.pack("<Q", int(value) % 2**64)
+        device.calls += 1
+        result, answer = device.ask(device.numbers[self.name], body)
+        for at, size, to in filled:
+            ctypes.memmove(to, answer[at : at + size], size)
+        return None if self.restype is None else self.restype(result).value
+
+
+def packed_policy(policy):
+    """A policy as a request has it."""
+    audience = ctypes.string_at(policy.audience, policy.audience_length) if policy.audience_length else b""
+    return struct.pack("<qIBI", policy.now, policy.leeway, policy.has_audience, len(audience)) + audience

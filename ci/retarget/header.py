@@ -1,0 +1,38 @@
+"""Makes of include/cose.h the header for all targets: what the library calls a `usize` has 64 bits in each declaration, and a pointer
+in a struct has a slot of 8 bytes. For a 64-bit target nothing changes. The inline functions that callers use keep their size_t; those
+whose names end with _ are the header's own.
+"""
+import re
+
+from .forms import Refused
+
+SLOT = """
+/* The layouts are those of 64 bits: a pointer in a struct has 8 bytes, of which a 32-bit target uses the first 4. */
+#if UINTPTR_MAX > 0xffffffff
+#define COSE_SLOT(pointer) pointer
+#else
+#define COSE_SLOT(pointer) union { pointer; uint64_t slot_; }
+#endif
+"""
+BEFORE = '\n#ifdef __cplusplus\nextern "C" {'
+DECLARATION = re.compile(r"^(?:void|size_t|u?int\d+_t) cose_\w+\([^;{}]*\);|^static inline [^();]*\bcose_\w+_\([^;{}]*\)$", re.M)
+STRUCT = re.compile(r"^struct cose_\w+ \{\n.*?^\};", re.M | re.S)
+FIELD = re.compile(r"^    ((?:const )?\w+ \*\w+);", re.M)
+
+
+def for_all_targets(text):
+    """The text of the header for all targets."""
+    if text.count(BEFORE) != 1 or "COSE_SLOT" in text:
+        raise Refused("a header without the one place for its definitions", BEFORE)
+    text = text.replace(BEFORE, SLOT + BEFORE)
+    text = DECLARATION.sub(lambda found: re.sub(r"\bsize_t\b", "uint64_t", found[0]), text)
+    return STRUCT.sub(lambda found: struct(found[0]), text)
+
+
+def struct(text):
+    """A struct whose pointers have slots, one at most, since each slot has the same name."""
+    text, count = FIELD.subn(r"    COSE_SLOT(\1);", text)
+    plain = re.sub(r"/\*.*?\*/", "", text, flags=re.S)
+    if plain.count("*") != count or count > 1:
+        raise Refused("a struct with a pointer of a form that isn't known, or with two", text)
+    return re.sub(r"\bsize_t\b", "uint64_t", text)

@@ -1,0 +1,35 @@
+"""The targets with 32-bit pointers, and how clang compiles for them."""
+from typing import NamedTuple
+
+ARM_LAYOUT = "e-m:e-p:32:32-Fi8-i64:64-v128:64:128-a:0:32-n32-S64"
+RISCV_LAYOUT = "e-m:e-p:32:32-i64:64-n32-S128"
+
+
+class Target(NamedTuple):
+    """What LLVM calls a target, its data layout, and the options that name the processor to clang."""
+
+    triple: str
+    layout: str
+    options: tuple
+
+
+TARGETS = {
+    "thumbv6m": Target("thumbv6m-none-unknown-eabi", ARM_LAYOUT, ("-mcpu=cortex-m0",)),
+    "thumbv7m": Target("thumbv7m-none-unknown-eabi", ARM_LAYOUT, ("-mcpu=cortex-m3",)),
+    "thumbv7em": Target("thumbv7em-none-unknown-eabi", ARM_LAYOUT, ("-mcpu=cortex-m4", "-mfloat-abi=soft")),
+    "riscv32imac": Target("riscv32-unknown-unknown-elf", RISCV_LAYOUT, ("-march=rv32imac", "-mabi=ilp32")),
+}
+LEVELS = {"speed": "-O3", "size": "-Os"}
+# what rattle passes for each of its targets; the stack sizes are for stack.py
+OPTIONS = (
+    *("-ffreestanding", "-ffunction-sections", "-fdata-sections", "-fstack-size-section", "-Wno-override-module"),
+    *("-mllvm", "-trap-unreachable", "-mllvm", "-no-trap-after-noreturn"),
+    *("-mllvm", "-disable-machine-licm", "-mllvm", "-disable-postra-machine-licm"),
+    *("-mllvm", "-sink-common-insts=false"),
+)
+
+
+def clang_options(target, way):
+    """The options with which clang compiles a rewritten module."""
+    it = TARGETS[target]
+    return [f"--target={it.triple}", *it.options, LEVELS[way], *OPTIONS]

@@ -1,0 +1,110 @@
+#!/usr/bin/env python3
+"""Tests of ci/batches.py, with the runner of Python's library."""
+import sys
+import unittest
+
+sys.dont_write_bytecode = True
+from batches import Batch, Change, Function, batches, changes_of, function_at  # noqa: E402 (beside this file)
+
+SOURCE = """//! A module.
+
+const MOST: u8 = 1;
+
+pub fn first(a: u8) -> u8
+    ensures { result ≡ a }
+{
+    a + 0
+}
+
+impl<const H: usize> Take for Reader<'_, H> {
+    fn take(&mut self) -> u8 {
+        self.a + 1
+    }
+
+    fn other(&self) -> u8 {
+        self.a + 2
+    }
+}
+
+pub(crate) trait Give {
+    fn give(&self) -> u8 {
+        3
+    }
+}
+
+const LAST: u8 = 4;
+"""
+FILES = {"src/a/b.rt": SOURCE, "specs/A.antt": "a"}
+
+
+def at(text):
+    return function_at("src/a/b.rt", SOURCE, SOURCE.index(text))
+
+
+def edit(old, new, file="src/a/b.rt"):
+    return [Change(file, old, new)]
+
+
+class Functions(unittest.TestCase):
+    def test_a_function_of_the_module(self):
+        self.assertEqual(at("a + 0"), Function("a::b", "", "first"))
+
+    def test_a_method_has_its_type(self):
+        self.assertEqual(at("self.a + 1"), Function("a::b", "Reader", "take"))
+        self.assertEqual(at("self.a + 2"), Function("a::b", "Reader", "other"))
+
+    def test_a_method_of_a_trait(self):
+        self.assertEqual(at("        3"), Function("a::b", "Give", "give"))
+
+    def test_what_is_in_no_function(self):
+        self.assertIsNone(at("MOST"))
+        self.assertIsNone(at("LAST"))
+
+    def test_the_root_file_has_no_module(self):
+        self.assertEqual(function_at("src/lib.rt", SOURCE, SOURCE.index("a + 0")), Function("", "", "first"))
+
+    def test_whose_goal_it_is(self):
+        take = Function("a::b", "Reader", "take")
+        for path in "a::b::ReaderTake::take", "a::b::<Reader as Take>::take", "a::b::Reader::take::bytes":
+            self.assertTrue(take.has(path), path)
+        for path in "a::b::Reader::other", "a::c::Reader::take", "a::b::Writer::take", "b::Reader::take":
+            self.assertFalse(take.has(path), path)
+
+
+class Batches(unittest.TestCase):
+    def made(self, *edits):
+        made, alone = batches([(str(number), changes) for number, changes in enumerate(edits)], FILES.get)
+        return [sorted(batch.functions) for batch in made], alone
+
+    def test_different_functions_share_a_batch(self):
+        self.assertEqual(self.made(edit("a + 0", "a"), edit("self.a + 1", "1")), ([["0", "1"]], []))
+
+    def test_two_edits_of_one_function_never_do(self):
+        self.assertEqual(self.made(edit("a + 0", "a"), edit("a + 0", "1"), edit("a + 0", "2")), ([["0"], ["1"], ["2"]], []))
+        self.assertEqual(self.made(edit("a + 0", "a + 9"), edit("+ 9", "1")), ([["0"]], ["1"]))
+
+    def test_a_text_has_to_stand_once_after_the_others(self):
+        self.assertEqual(self.made(edit("self.a + 1", "a + 0"), edit("a + 0", "1")), ([["0"], ["1"]], []))
+
+    def test_definitions_constants_and_unknown_texts_are_alone(self):
+        self.assertEqual(self.made(edit("a", "b", "specs/A.antt"), edit("MOST", "LEAST"), edit("none", "")), ([], ["0", "1", "2"]))
+
+    def test_all_are_tried(self):
+        edits = [edit("a + 0", str(number)) for number in range(9)] + [edit("MOST", "LEAST")]
+        made, alone = self.made(*edits)
+        self.assertEqual(sum(map(len, made)) + len(alone), len(edits))
+
+    def test_a_body_that_is_not_wrong_is_found(self):
+        batch = Batch(FILES.get)
+        self.assertTrue(batch.take("wrong", edit("a + 0", "a + 9")))
+        self.assertTrue(batch.take("right", edit("self.a + 1", "1 + self.a")))
+        goals = [("a::b::first", "returns"), ("a::b::Reader::other", "returns")]
+        self.assertEqual(batch.refused(goals), {"wrong": goals[:1], "right": []})
+
+    def test_the_text_of_an_edit(self):
+        text = "a comment\nfile: src/a.rt\nold:  a\nnew: b\nold: c\nnew:\n"
+        self.assertEqual(changes_of(text), [Change("src/a.rt", " a", "b"), Change("src/a.rt", "c", "")])
+
+
+if __name__ == "__main__":
+    unittest.main(verbosity=0)
