@@ -28,8 +28,8 @@ static void judge(const char *what, int good)
 #ifndef FED_ONLY
 static uint8_t at_once(const uint8_t *message)
 {
-    struct cose_verdict verdict;
-    struct cose_sign_input input;
+    struct cose_message_verdict verdict;
+    struct cose_signature_input input;
     cose_verify(key, sizeof key, NULL, 0, COSE_TAGGED, message, sizeof good_message, &verdict, &input);
     return verdict.status;
 }
@@ -38,14 +38,14 @@ static uint8_t at_once(const uint8_t *message)
 static uint8_t in_pieces(struct cose_verifier *verifier, const uint8_t *message, size_t piece)
 {
     struct cose_fed fed = {0};
-    struct cose_verdict verdict;
+    struct cose_message_verdict verdict;
     for (size_t at = 0; at < sizeof good_message; at += piece) {
         size_t left = sizeof good_message - at;
         cose_feed(verifier, message + at, left < piece ? left : piece, &fed);
     }
     cose_verdict(verifier, 0, &verdict);
     cose_reset(verifier);
-    return fed.status.status == COSE_COMPLETE ? verdict.status : COSE_BAD_ARGUMENT;
+    return fed.status.status == COSE_COMPLETE || verdict.status == COSE_REFUSED ? verdict.status : COSE_BAD_ARGUMENT;
 }
 
 /* What TURNS verdicts of a message count. */
