@@ -45,7 +45,7 @@ static uint8_t in_pieces(struct cose_verifier *verifier, const uint8_t *message,
     }
     cose_verdict(verifier, 0, &verdict);
     cose_reset(verifier);
-    return fed.status.status == COSE_COMPLETE ? verdict.status : COSE_BAD_ARGUMENT;
+    return fed.status.status == COSE_COMPLETE || verdict.status == COSE_REFUSED ? verdict.status : COSE_BAD_ARGUMENT;
 }
 
 /* What TURNS verdicts of a message count. */

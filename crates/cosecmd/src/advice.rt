@@ -40,7 +40,14 @@ const KEY_FILE: &str =
 
 /// Whether some bytes are among these.
 fn contains(bytes: &[u8], wanted: &[u8]) -> bool {
-    bytes.windows(wanted.len()).any(|window| window == wanted)
+    for start in 0..bytes.len() {
+        if let Some(rest) = bytes.get(start..) {
+            if rest.starts_with(wanted) {
+                return true;
+            }
+        }
+    }
+    false
 }
 
 /// The first part of a list that is no number of an algorithm.
