@@ -50,9 +50,16 @@ fn contains(bytes: &[u8], wanted: &[u8]) -> bool {
     false
 }
 
-/// The first part of a list that is no number of an algorithm.
-fn wrong_part(list: &str) -> Option<&str> {
-    list.split(',').find(|part| number_of(part).is_none())
+/// Which part of a list is the first that is no number of an algorithm, the first being 1.
+fn wrong_part(list: &str) -> Option<usize> {
+    let mut number: usize = 0;
+    for part in list.split(',') {
+        number = number.saturating_add(1);
+        if number_of(part).is_none() {
+            return Some(number);
+        }
+    }
+    None
 }
 
 impl<'a> Ended<'a> {
@@ -139,8 +146,9 @@ impl<'a> Ended<'a> {
         }
     }
 
-    /// The part of the list of algorithms that is no number of one, where the list was refused.
-    pub fn wrong_algorithm(&self) -> Option<&'a str> {
+    /// Which part of the list of algorithms is no number of one, where the list was refused. Its text isn't repeated: it may be a
+    /// key that lacks its option.
+    pub fn wrong_algorithm(&self) -> Option<usize> {
         if !self.printed.starts_with("fault line algs".as_bytes()) {
             return None;
         }

@@ -84,7 +84,7 @@ fn say_more(rt: &HostRuntime, ended: &Ended, form: Option<Form>, complaint: Opti
     }
     if let Some(part) = ended.wrong_algorithm() {
         let _ = eprintln!(rt;
-            "cosecmd: --algs takes numbers of algorithms, joined by commas, and {part:?} is none"
+            "cosecmd: --algs takes numbers of algorithms, joined by commas; its part {part} is none"
         );
     }
     if let Some(advice) = ended.advice() {
