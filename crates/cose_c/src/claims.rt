@@ -1,6 +1,6 @@
 //! A token in memory, by one call, and the claims of a payload.
 
-ghost use Rattle.std.specs.Prelude.{◌≡◌, ◌≢◌, ◌≤◌, ◌-◌, ◌^◌, min, length, ℕ, false, [], drop, take, Ok, option_map};
+ghost use Rattle.std.specs.Prelude.{◌≡◌, ◌≢◌, ◌≤◌, ◌<◌, ◌+◌, ◌-◌, ◌^◌, min, length, ℕ, false, [], drop, take, Ok, option_map};
 ghost use Rattle.cose_head.specs.ItemRef.{placed};
 ghost use Rattle.cose_head.specs.Placed.{children_of, if_utf8};
 ghost use Rattle.cose_map.specs.Key.View.{key_value};
