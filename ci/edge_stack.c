@@ -309,7 +309,7 @@ static void large_cwt(void)
     cose_large_verify_cwt(OF(one_key), NULL, 0, &policy, OF(token), &claims);
 }
 
-enum { KIB = 1024, SMALL = 16 * KIB, LARGE = 160 * KIB };
+enum { KIB = 1024, SMALL = 16 * KIB, TABLE = 24 * KIB, LARGE = 160 * KIB };
 
 /* The calls in their order, the stack that each is promised, and what its answer is. */
 static const struct {
@@ -355,9 +355,9 @@ static const struct {
     {"large_feed, to the payload", large_feed_head, SMALL, &fed.status.status, COSE_PAYLOAD_NEXT},
     {"large_feed_payload", large_feed_payload, SMALL, NULL, 0},
     {"table_begin", table_begin, SMALL, NULL, 0},
-    {"table_read", table_read, SMALL, &key_set.status, COSE_COMPLETE},
+    {"table_read", table_read, TABLE, &key_set.status, COSE_COMPLETE},
     {"table_verify", table_verify, SMALL, &verdict.reason, COSE_REASON_AMBIGUOUS_KEY},
-    {"table_read, again", table_read_one, SMALL, &key_set.status, COSE_COMPLETE},
+    {"table_read, again", table_read_one, TABLE, &key_set.status, COSE_COMPLETE},
     {"table_verify_cwt", table_verify_cwt, SMALL, &claims.status, COSE_AUTHENTIC},
     {"maker_begin", maker_begin, SMALL, NULL, 0},
     {"make", make, SMALL, &made.status, COSE_MORE},
