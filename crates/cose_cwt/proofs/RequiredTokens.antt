@@ -1,6 +1,6 @@
 -- From a run of the verifier to the result for a token of which something is required, and that where an answer was kept.
 use Rattle.std.proofs.Common.{◌≡◌, ◌∙◌, ℕ, ◌≤◌, Bool, false, List, [], length, Option, Some, None, Ok, Err, refl, sym, ap, subst}
-use Rattle.std.specs.Prelude.{Result, ◌↔◌, ⊥}
+use Rattle.std.specs.Prelude.{Result, ◌↔◌}
 use Rattle.cose_head.specs.declared.algorithm.Alg.{Alg}
 use Rattle.cose_head.specs.declared.kind.Kind.{Kind}
 use Rattle.cose_head.specs.declared.refusal.Refusal.{Refusal}

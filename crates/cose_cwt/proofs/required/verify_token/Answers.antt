@@ -68,4 +68,4 @@ returns-clause-stopped g c = required_stopped _ _ _ _ _ _ c.token_or_cleared.ens
 
 pub returns-clause-intake_failure : goal.returns-clause-intake_failure
 returns-clause-intake_failure g c =
-    c.verify-verdict.ensures.intake_failure ∙ ap (λ (stops : Bool). _ || stops) (required_intake_failure _ _ _ _ _ _ c.token_or_cleared.ensures.token)
+    rw (required_intake_failure _ _ _ _ _ _ c.token_or_cleared.ensures.token) at c.verify-verdict.ensures.intake_failure
