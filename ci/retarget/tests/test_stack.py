@@ -6,7 +6,7 @@ import tempfile
 import unittest
 
 from retarget import stack
-from retarget.targets import TARGETS, clang_options
+from retarget.targets import PROCESSORS, clang_options
 
 RT = shutil.which("rt")
 CLANG = RT and pathlib.Path(RT).resolve().parent.parent / "toolchain" / "bin" / "clang"
@@ -32,7 +32,7 @@ class Stack(unittest.TestCase):
     def test_deepest_path(self):
         source = function("low", 2000) + function("other", 300)
         source += function("high", 1000, "low(n); other(n); other(n);", "") + function("alone", 100, linkage="")
-        for target in TARGETS:
+        for target in PROCESSORS:
             with self.subTest(target):
                 graph = self.graph(source, target)
                 most = graph.deepest()
@@ -43,14 +43,14 @@ class Stack(unittest.TestCase):
 
     def test_outside(self):
         source = "void outside(int n);\n" + function("high", 1000, "outside(n);", "")
-        for target in TARGETS:
+        for target in PROCESSORS:
             with self.subTest(target):
                 most = self.graph(source, target).deepest()
                 self.assertTrue(1000 + stack.OUTSIDE <= most["high"][0] < 1100 + stack.OUTSIDE, most)
 
     def test_recursion(self):
         source = "int high(int n);\n" + function("low", 10, "high(n);") + function("high", 10, "low(n);", "")
-        for target in TARGETS:
+        for target in PROCESSORS:
             with self.subTest(target), self.assertRaises(stack.StackError):
                 self.graph(source, target).deepest()
 
