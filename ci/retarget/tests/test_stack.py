@@ -6,6 +6,7 @@ import tempfile
 import unittest
 
 from retarget import stack
+from retarget.calls import NESTING
 from retarget.targets import PROCESSORS, clang_options
 
 RT = shutil.which("rt")
@@ -53,6 +54,16 @@ class Stack(unittest.TestCase):
         for target in PROCESSORS:
             with self.subTest(target), self.assertRaises(stack.StackError):
                 self.graph(source, target).deepest()
+
+    def test_nesting(self):
+        source = f'static int item(int n) __asm__("{NESTING}read");\n'
+        source += "static __attribute__((noinline)) int item(int n) { volatile char room[1000]; room[n] = 1;"
+        source += "return n ? item(n - 1) + room[0] : room[0]; }\n" + function("high", 500, "item(n);", "")
+        for target in PROCESSORS:
+            for depth in 3, 8:
+                with self.subTest(target, depth=depth):
+                    most = self.graph(source, target).deepest(depth)["high"][0]
+                    self.assertTrue(1000 * (depth + 1) + 500 <= most < 1050 * (depth + 1) + 600, most)
 
     def test_not_an_object_file(self):
         for data in b"", b"\x7fELF\x02\x01" + bytes(100), b"\x7fELF\x01\x02" + bytes(100):
