@@ -95,7 +95,7 @@ static int answer(const struct cose_claims_set *claims)
         puts("admitted");
         print_claims(claims);
         return ADMITTED;
-    case COSE_SIGNED: /* firmware_update.c shows how a signature is verified */
+    case COSE_SIGNED: /* adapters/ has what verifies a signature */
         puts("refused: the token is signed, and this gateway knows no curve");
         return REFUSED;
     case COSE_REFUSED:
