@@ -1,6 +1,7 @@
 //! Calls the library through the crate.
 
 mod messages;
+mod parameters;
 mod pieces;
 mod reasons;
 mod sizes;
