@@ -1,5 +1,6 @@
 //! Calls the library through the crate.
 
+mod adapter;
 mod messages;
 mod parameters;
 mod pieces;
