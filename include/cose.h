@@ -53,6 +53,7 @@ enum cose_status_number {
 /** The reason of a refusal: docs/REASONS.md says where each comes from. */
 enum cose_reason {
     COSE_REASON_NONE = 0,
+    /* made by ci/edge_tables: reasons */
     COSE_REASON_TRUNCATED = 1,
     COSE_REASON_RESERVED = 2,
     COSE_REASON_INDEFINITE = 3,
@@ -96,6 +97,7 @@ enum cose_reason {
     COSE_REASON_NESTED_CWT = 41,
     COSE_REASON_TRAILING = 42,
     COSE_REASON_ATTACHED = 43
+    /* end of what ci/edge_tables makes */
 };
 
 /** The kind of the messages that are wanted: that of their tag, or one kind, with its tag or without (RFC 9052 section 2). */
