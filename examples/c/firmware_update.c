@@ -206,7 +206,7 @@ int main(int count, char **arguments)
     int image = open_image(arguments[3], &image_length);
     if (image < 0)
         return NO_ANSWER;
-    struct cose_verifier verifier = {block};
+    struct cose_verifier verifier = {.at = block};
     struct cose_status status;
     int answer = NO_ANSWER;
     cose_begin(block);

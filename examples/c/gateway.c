@@ -58,7 +58,7 @@ static void print_claims(const struct cose_claims_set *claims)
     print_text("sub", payload, claims->sub);
     for (uint64_t index = 0; index < claims->aud_count; index++) {
         struct cose_range audience;
-        cose_audience(payload, claims->payload_length, index, &audience);
+        cose_audience(payload, (size_t)claims->payload_length, index, &audience);
         print_text("aud", payload, audience);
     }
     print_date("exp", claims->exp);
