@@ -45,10 +45,11 @@ class Struct(NamedTuple):
 
 
 class Export(NamedTuple):
-    """An exported function: pairs of a name and a type, and the result, or None."""
+    """An exported function: pairs of a name and a type, the result, or None, and what is said of it."""
     name: str
     parameters: list
     result: str
+    text: str
 
     @property
     def short(self):
@@ -138,11 +139,11 @@ def structs():
 
 def exports():
     """The exported functions, in the order of their files; those of the large size have their struct's kind, `CoseLargeVerifier`."""
-    pattern = r"#\[unsafe\(no_mangle\)\]\s*pub (?:unsafe )?extern \"C\" fn (\w+)(?:<[^>]*>)?\((.*?)\)(?: -> (\w+))?\s*(?=[\{\n]|requires|ensures)"
+    pattern = r"((?:^///[^\n]*\n)+)#\[unsafe\(no_mangle\)\]\npub (?:unsafe )?extern \"C\" fn (\w+)(?:<[^>]*>)?\(([^)]*)\)(?: -> (\w+))?"
     found = []
-    for source in sources():
-        for name, listed, result in re.findall(pattern, re.sub(r"//.*", "", source), re.S):
+    for text in sources():
+        for comment, name, listed, result in re.findall(pattern, text, re.M):
             pairs = [tuple(map(str.strip, each.split(":", 1))) for each in listed.split(",") if each.strip()]
             parameters = [(its, re.sub(r"<[^>]*>", "", re.sub(r"&'\w+ ", "&", kind))) for its, kind in pairs]
-            found.append(Export(name, parameters, result or None))
+            found.append(Export(name, parameters, result or None, words(comment)))
     return found
