@@ -189,8 +189,12 @@ static inline void sized_reset(bool large, uint8_t *block)
 }
 
 /* The numbers of a verifier. */
+/* made by ci/edge_tables: counts */
 struct sized_counts {
-    uint64_t wanted, payload_wanted, taken, held;
+    uint64_t wanted;
+    uint64_t payload_wanted;
+    uint64_t taken;
+    uint64_t held;
 };
 
 static inline struct sized_counts sized_counts_of(bool large, uint8_t *block)
@@ -204,6 +208,7 @@ static inline struct sized_counts sized_counts_of(bool large, uint8_t *block)
     counts.held = large ? cose_large_held(&large_it) : cose_held(&it);
     return counts;
 }
+/* end of what ci/edge_tables makes */
 
 static inline struct cose_key_set sized_table_read(uint8_t *block, struct sized_bytes keys)
 {
