@@ -43,7 +43,7 @@ pub(crate) struct Policy {
 
 /// A range of bytes, relative to the payload.
 #[repr(C)]
-#[derive(Clone, Copy, Default)]
+#[derive(Clone, Copy, Debug, Default, PartialEq, Eq)]
 pub(crate) struct Range {
     pub(crate) at: u64,
     pub(crate) length: u64,
@@ -52,7 +52,7 @@ pub(crate) struct Range {
 
 /// A date, in seconds since 1970.
 #[repr(C)]
-#[derive(Clone, Copy, Default)]
+#[derive(Clone, Copy, Debug, Default, PartialEq, Eq)]
 pub(crate) struct Date {
     pub(crate) number: u64,
     pub(crate) present: u8,
@@ -61,7 +61,7 @@ pub(crate) struct Date {
 
 /// The claims of a token (RFC 8392 section 3.1).
 #[repr(C)]
-#[derive(Clone, Copy, Default)]
+#[derive(Clone, Copy, Debug, Default, PartialEq, Eq)]
 pub(crate) struct Claims {
     pub(crate) status: u8,
     pub(crate) reason: u8,
@@ -125,7 +125,7 @@ pub(crate) struct SignInput {
 
 /// What is known of a key set (RFC 9052 section 7).
 #[repr(C)]
-#[derive(Clone, Copy, Default)]
+#[derive(Clone, Copy, Debug, Default, PartialEq, Eq)]
 pub(crate) struct KeySet {
     pub(crate) status: u8,
     pub(crate) reason: u8,
@@ -135,7 +135,7 @@ pub(crate) struct KeySet {
 
 /// What was made of a message.
 #[repr(C)]
-#[derive(Clone, Copy, Default)]
+#[derive(Clone, Copy, Debug, Default, PartialEq, Eq)]
 pub(crate) struct Made {
     pub(crate) status: u8,
     pub(crate) reason: u8,
@@ -144,7 +144,7 @@ pub(crate) struct Made {
 
 /// A status. Of a refusal it has the number of its reason and its place, and of any other status zeros.
 #[repr(C)]
-#[derive(Clone, Copy, Default)]
+#[derive(Clone, Copy, Debug, Default, PartialEq, Eq)]
 pub(crate) struct Status {
     pub(crate) number: u8,
     pub(crate) reason: u8,
@@ -153,7 +153,7 @@ pub(crate) struct Status {
 
 /// The verdict on a message.
 #[repr(C)]
-#[derive(Clone, Copy, Default)]
+#[derive(Clone, Copy, Debug, Default, PartialEq, Eq)]
 pub(crate) struct Verdict {
     pub(crate) status: u8,
     pub(crate) reason: u8,
@@ -167,7 +167,7 @@ pub(crate) struct Verdict {
 
 /// The shape of a message (RFC 9052 sections 4.2 and 6.2).
 #[repr(C)]
-#[derive(Clone, Copy, Default)]
+#[derive(Clone, Copy, Debug, Default, PartialEq, Eq)]
 pub(crate) struct Shape {
     pub(crate) status: u8,
     pub(crate) reason: u8,
@@ -180,7 +180,7 @@ pub(crate) struct Shape {
 
 /// What was used of a piece.
 #[repr(C)]
-#[derive(Clone, Copy, Default)]
+#[derive(Clone, Copy, Debug, Default, PartialEq, Eq)]
 pub(crate) struct Fed {
     pub(crate) status: Status,
     pub(crate) used: u64,
@@ -207,6 +207,7 @@ unsafe extern "C" {
         payload: *const u8, payload_length: usize, policy: &Policy, claims: &mut Claims,
     );
     pub(crate) fn cose_edge_audience(payload: *const u8, payload_length: usize, index: u64, audience: &mut Range);
+    pub(crate) fn cose_edge_next_audience(payload: *const u8, payload_length: usize, place: u64, audience: &mut Range);
     pub(crate) safe fn cose_large_verifier_size() -> usize;
     pub(crate) safe fn cose_large_verifier_align() -> usize;
     pub(crate) fn cose_large_begin(at: *mut u8);
@@ -242,6 +243,7 @@ unsafe extern "C" {
         keys: *const u8, keys_length: usize, aad: *const u8, aad_length: usize, wanted: u8, message: *const u8,
         message_length: usize, payload: *const u8, payload_length: usize, verdict: &mut Verdict, input: &mut SignInput,
     );
+    pub(crate) safe fn cose_version() -> u32;
     pub(crate) fn cose_edge_shape(wanted: u8, message: *const u8, message_length: usize, shape: &mut Shape);
     pub(crate) fn cose_edge_large_open(
         verifier: &mut LargeVerifier, keys: *const u8, keys_length: usize, aad: *const u8, aad_length: usize,
@@ -262,6 +264,10 @@ unsafe extern "C" {
     pub(crate) fn cose_large_end(verifier: &mut LargeVerifier, status: &mut Status);
     pub(crate) fn cose_large_sign_input(verifier: &mut LargeVerifier, input: &mut SignInput) -> u8;
     pub(crate) fn cose_large_verdict(verifier: &mut LargeVerifier, signature_is_good: i32, verdict: &mut Verdict);
+    pub(crate) fn cose_large_message_number(verifier: &mut LargeVerifier) -> u64;
+    pub(crate) fn cose_large_verdict_for(
+        verifier: &mut LargeVerifier, message: u64, signature_is_good: i32, verdict: &mut Verdict,
+    );
     pub(crate) fn cose_large_reset(verifier: &mut LargeVerifier);
     pub(crate) fn cose_large_taken(verifier: &mut LargeVerifier) -> u64;
     pub(crate) fn cose_large_held(verifier: &mut LargeVerifier) -> u64;
@@ -280,6 +286,10 @@ unsafe extern "C" {
     pub(crate) fn cose_end(verifier: &mut Verifier, status: &mut Status);
     pub(crate) fn cose_sign_input(verifier: &mut Verifier, input: &mut SignInput) -> u8;
     pub(crate) fn cose_verdict(verifier: &mut Verifier, signature_is_good: i32, verdict: &mut Verdict);
+    pub(crate) fn cose_message_number(verifier: &mut Verifier) -> u64;
+    pub(crate) fn cose_verdict_for(
+        verifier: &mut Verifier, message: u64, signature_is_good: i32, verdict: &mut Verdict,
+    );
     pub(crate) fn cose_reset(verifier: &mut Verifier);
     pub(crate) fn cose_taken(verifier: &mut Verifier) -> u64;
     pub(crate) fn cose_held(verifier: &mut Verifier) -> u64;

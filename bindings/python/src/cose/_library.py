@@ -114,6 +114,7 @@ edge_large_verify_cwt bytes bytes &cose_policy bytes &cose_claims_set
 edge_claims bytes &cose_policy &cose_claims_set
 edge_large_claims bytes &cose_policy &cose_claims_set
 edge_audience bytes u64 &cose_range
+edge_next_audience bytes u64 &cose_range
 large_verifier_size -> usize
 large_verifier_align -> usize
 large_begin address
@@ -134,6 +135,7 @@ edge_verify bytes bytes u8 bytes &cose_message_verdict &cose_signature_input
 edge_large_verify bytes bytes u8 bytes &cose_message_verdict &cose_signature_input
 edge_verify_detached bytes bytes u8 bytes bytes &cose_message_verdict &cose_signature_input
 edge_large_verify_detached bytes bytes u8 bytes bytes &cose_message_verdict &cose_signature_input
+version -> u32
 edge_shape u8 bytes &cose_message_shape
 edge_large_open &cose_large_verifier bytes bytes u8 &cose_status
 edge_large_open_detached &cose_large_verifier bytes bytes u8 u64 &cose_status
@@ -144,6 +146,8 @@ edge_large_feed_payload &cose_large_verifier bytes -> u64
 large_end &cose_large_verifier &cose_status
 large_sign_input &cose_large_verifier &cose_signature_input -> u8
 large_verdict &cose_large_verifier i32 &cose_message_verdict
+large_message_number &cose_large_verifier -> u64
+large_verdict_for &cose_large_verifier u64 i32 &cose_message_verdict
 large_reset &cose_large_verifier
 large_taken &cose_large_verifier -> u64
 large_held &cose_large_verifier -> u64
@@ -156,6 +160,8 @@ edge_feed_payload &cose_verifier bytes -> u64
 end &cose_verifier &cose_status
 sign_input &cose_verifier &cose_signature_input -> u8
 verdict &cose_verifier i32 &cose_message_verdict
+message_number &cose_verifier -> u64
+verdict_for &cose_verifier u64 i32 &cose_message_verdict
 reset &cose_verifier
 taken &cose_verifier -> u64
 held &cose_verifier -> u64
