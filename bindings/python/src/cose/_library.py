@@ -195,10 +195,11 @@ def _type_of(name: str) -> Any:
 
 def _fields(struct: str) -> Iterator[Tuple[str, Any]]:
     """The fields of a struct, by the lines after its own."""
-    lines = _STRUCTS.splitlines()
-    for line in itertools.takewhile(
-        lambda it: it.startswith(" "), lines[lines.index(struct) + 1 :]
-    ):
+    lines = iter(_STRUCTS.splitlines())
+    for line in lines:
+        if line == struct:
+            break
+    for line in itertools.takewhile(lambda it: it.startswith(" "), lines):
         kind, *names = line.split()
         for name in names:
             if kind == "bytes":
@@ -337,16 +338,13 @@ def _bind(library: ctypes.CDLL, name: str, prototype: Prototype) -> Any:
 
 
 _loaded = _load()
+# by the name of a call in the usual size: its name in the large size
+_SIZES = {name: _large(name) for name in _PROTOTYPES if _large(name) in _PROTOTYPES}
+_bound = {name: _bind(_loaded, name, it) for name, it in _PROTOTYPES.items()}
 # the calls of the usual size, and those that have no other
-small = SimpleNamespace(**{name: _bind(_loaded, name, it) for name, it in _PROTOTYPES.items()})
+small = SimpleNamespace(**{name: _bound[name] for name in {*_bound} - {*_SIZES.values()}})
 # headers of up to 65,535 bytes, nested up to 16 deep
-large = SimpleNamespace(
-    **{
-        name: _bind(_loaded, _large(name), _PROTOTYPES[_large(name)])
-        for name in _PROTOTYPES
-        if _large(name) in _PROTOTYPES
-    }
-)
+large = SimpleNamespace(**{name: _bound[it] for name, it in _SIZES.items()})
 
 
 class Block:
