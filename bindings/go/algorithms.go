@@ -7,6 +7,7 @@ type Algorithm int32
 
 // The algorithms.
 const (
+	// made by ci/edge_tables: algorithms
 	HMAC256_64 Algorithm = 4
 	HMAC256    Algorithm = 5
 	HMAC384    Algorithm = 6
@@ -17,4 +18,5 @@ const (
 	ESP256     Algorithm = -9
 	ESP384     Algorithm = -51
 	ESP512     Algorithm = -52
+	// end of what ci/edge_tables makes
 )

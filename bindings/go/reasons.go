@@ -7,93 +7,96 @@ import "strconv"
 // Reason is why bytes are refused. Numbers and names never change.
 type Reason uint8
 
+// made by ci/edge_tables: reasons
+
 // The reasons.
 const (
-	// The bytes end before the message or the item is whole.
+	// The bytes end before the message or the item is complete.
 	ReasonTruncated Reason = 1
-	// The low five bits of an initial byte are reserved.
+	// The low five bits of an initial byte are 28 to 30, or 31 in the major types 0, 1 and 6 (RFC 8949 section 3).
 	ReasonReserved Reason = 2
-	// A head has an indefinite length or is a break.
+	// An indefinite length or a break, which this profile refuses (RFC 8949 section 3.2).
 	ReasonIndefinite Reason = 3
-	// A simple value below 32 is spelled in two bytes.
+	// A simple value below 32 in two bytes (RFC 8949 section 3.3).
 	ReasonBadSimple Reason = 4
-	// An item nests too deep.
+	// An array, map or CBOR tag where no nesting is left.
 	ReasonTooDeep Reason = 5
-	// An item doesn't fit into its room.
+	// A head, a string or the children don't fit into the room.
 	ReasonPastRoom Reason = 6
-	// A tag isn't that of a wanted message, or there is none.
+	// A CBOR tag that isn't wanted here (RFC 9052 section 2).
 	ReasonWrongTag Reason = 7
-	// The tag is that of an encrypted message.
+	// COSE_Encrypt0 or COSE_Encrypt (RFC 9052 section 5), which this profile leaves out.
 	ReasonEncrypted Reason = 8
-	// The tag is that of a message for several parties: `COSE_Mac` or `COSE_Sign`.
+	// COSE_Mac or COSE_Sign (RFC 9052 sections 6.1 and 4.1), which this profile leaves out.
 	ReasonSeveralParties Reason = 9
-	// The array of the message doesn't have four elements.
+	// The array of the message doesn't have four elements (RFC 9052 sections 4.2 and 6.2).
 	ReasonNotFour Reason = 10
 	// A head has another major type than the one required.
 	ReasonWrongType Reason = 11
-	// A header bucket, a key or a claims set isn't a map.
+	// A header bucket, key or claims set that isn't a map.
 	ReasonNotMap Reason = 12
-	// A label is neither an integer nor a text in UTF-8.
+	// A label that is neither an integer nor a text string (RFC 9052 section 1.5).
 	ReasonBadLabel Reason = 13
-	// A label equals an earlier one of its map.
+	// A label that equals an earlier one of its map (RFC 9052 section 3).
 	ReasonDuplicateLabel Reason = 14
-	// A label is in both header buckets.
+	// A label that is in both header buckets (RFC 9052 section 3).
 	ReasonBothBuckets Reason = 15
-	// A value doesn't have the form of its label, or a key lacks a member.
+	// A value that doesn't have the form that its label requires.
 	ReasonBadValue Reason = 16
-	// The unprotected bucket has crit.
+	// A crit parameter in the unprotected bucket (RFC 9052 section 3.1).
 	ReasonCritUnprotected Reason = 17
-	// crit lists a label that isn't in the protected bucket.
+	// A label of crit that isn't in the protected bucket (RFC 9052 section 3.1).
 	ReasonCritAbsent Reason = 18
-	// crit lists a label that isn't understood.
+	// A label of crit that isn't understood (RFC 9052 section 3.1).
 	ReasonCritUnknown Reason = 19
-	// IV and Partial IV are both present.
+	// IV and Partial IV are both present (RFC 9052 section 3.1).
 	ReasonBothIvs Reason = 20
-	// Neither bucket names an algorithm, and no key fits.
+	// The message names no algorithm, and no key fits it.
 	ReasonNoAlg Reason = 21
-	// The algorithm that the message names is none of its kind.
+	// The message names an algorithm that isn't one of its kind.
 	ReasonUnknownAlg Reason = 22
-	// Only the unprotected bucket names an algorithm, and no key with this algorithm fits.
+	// Only the unprotected bucket names an algorithm, and no key with that algorithm as its own fits.
 	ReasonAlgUnprotected Reason = 23
 	// The protected bucket names an algorithm, and no key fits.
 	ReasonNoKey Reason = 24
-	// Two or more keys fit.
+	// Two or more keys fit the message.
 	ReasonAmbiguousKey Reason = 25
-	// The payload is nil.
+	// The payload is nil (RFC 9052 sections 4.2 and 6.2).
 	ReasonDetached Reason = 26
-	// The tag or signature doesn't have the length of its algorithm.
+	// The authentication tag or the signature doesn't have the length of its algorithm.
 	ReasonBadAuthLength Reason = 27
-	// The tag isn't the MAC of the message, or the signature isn't good.
+	// The authentication tag or the signature isn't valid.
 	ReasonBadAuth Reason = 28
-	// The payload is longer than allowed.
+	// The payload is longer than its limit.
 	ReasonPayloadTooLong Reason = 29
-	// No tag follows the tag of a CWT.
+	// The CBOR tag of a CWT without that of a COSE message (RFC 8392 section 6).
 	ReasonCwtTagAlone Reason = 30
-	// A key set is neither a map nor an array of items, or is too long.
+	// A key set that is neither a map nor an array of one or more items (RFC 9052 section 7), that has more than 65,535 bytes, or
+	// that has more usable keys than its table holds.
 	ReasonBadKeySet Reason = 31
-	// A key is of an unknown type or on an unknown curve.
+	// A key of a type or curve that isn't known.
 	ReasonUnknownKey Reason = 32
-	// A date is a float.
+	// A date that is a float, which this profile refuses.
 	ReasonFloatDate Reason = 33
-	// A date has tag 1.
+	// A date with CBOR tag 1 (RFC 8392 section 2).
 	ReasonTaggedDate Reason = 34
-	// The token has expired.
+	// The token has expired (RFC 8392 section 3.1.4).
 	ReasonExpired Reason = 35
-	// The token isn't valid yet.
+	// The token isn't valid yet (RFC 8392 section 3.1.5).
 	ReasonNotYet Reason = 36
-	// The token is for another audience.
+	// The token is for another audience (RFC 8392 section 3.1.3).
 	ReasonWrongAudience Reason = 37
-	// The confirmation has an `Encrypted_COSE_Key`.
+	// A confirmation key that is encrypted (RFC 8747 section 3.3).
 	ReasonEncryptedKey Reason = 38
-	// The confirmation key is symmetric, in a token that isn't encrypted.
+	// A symmetric confirmation key that isn't encrypted (RFC 8747 section 3.2).
 	ReasonPlainKey Reason = 39
-	// The confirmation has both a key and an encrypted one, or its key is refused.
+	// A confirmation whose key is refused, or that has both a key and an encrypted one (RFC 8747 section 3).
 	ReasonBadConfirmation Reason = 40
-	// The payload is itself a COSE message or a CWT in its tag.
+	// Claims that are themselves a COSE message or a CWT (RFC 8392 section 7).
 	ReasonNestedCwt Reason = 41
-	// A byte follows the message.
+	// A byte after the end.
 	ReasonTrailing Reason = 42
-	// A detached payload is wanted, and the message has its payload.
+	// The payload is in the message, where a detached one is wanted (RFC 9052 sections 4.2 and 6.2).
 	ReasonAttached Reason = 43
 )
 
@@ -143,6 +146,8 @@ var reasonNames = [...]string{
 	42: "Trailing",
 	43: "Attached",
 }
+
+// end of what ci/edge_tables makes
 
 // String is the name.
 func (r Reason) String() string {

@@ -189,8 +189,13 @@ static inline void sized_reset(bool large, uint8_t *block)
 }
 
 /* The numbers of a verifier. */
+/* made by ci/edge_tables: counts */
 struct sized_counts {
-    uint64_t wanted, payload_wanted, taken, held;
+    uint64_t wanted;
+    uint64_t payload_wanted;
+    uint64_t message_number;
+    uint64_t taken;
+    uint64_t held;
 };
 
 static inline struct sized_counts sized_counts_of(bool large, uint8_t *block)
@@ -200,10 +205,12 @@ static inline struct sized_counts sized_counts_of(bool large, uint8_t *block)
     struct sized_counts counts;
     counts.wanted = large ? cose_large_wanted(&large_it) : cose_wanted(&it);
     counts.payload_wanted = large ? cose_large_payload_wanted(&large_it) : cose_payload_wanted(&it);
+    counts.message_number = large ? cose_large_message_number(&large_it) : cose_message_number(&it);
     counts.taken = large ? cose_large_taken(&large_it) : cose_taken(&it);
     counts.held = large ? cose_large_held(&large_it) : cose_held(&it);
     return counts;
 }
+/* end of what ci/edge_tables makes */
 
 static inline struct cose_key_set sized_table_read(uint8_t *block, struct sized_bytes keys)
 {
