@@ -128,7 +128,7 @@ JAVASCRIPT = losses_of(
             ("Maker: alg", "this.handle,\n                alg,", "this.handle,\n                5,"),
             ("Maker: kid", "...scope.put(kid)", "...scope.put(NOTHING)"),
             ("Maker: aad", "...scope.put(kid),\n                ...scope.put(aad)", "...scope.put(kid),\n                ...scope.put(NOTHING)"),
-            ("Maker: payloadLength", "BigInt(payloadLength),\n                BigInt(at)", "2n,\n                BigInt(at)"),
+            ("Maker: payloadLength", "                BigInt(payloadLength),\n", "                2n,\n"),
             ("Maker: used, 1 for 0", f"{PIECE},", f"{PIECE} || 1,"),
         ],
     },
