@@ -80,6 +80,7 @@ PYTHON = losses_of(
     },
 )
 
+MADE = "constructor(cose,"
 FED_DETACHED = '"open_detached", true)(this.handle, ...given,'
 FED_PAYLOAD = '"feed_payload", true)(this.handle, ...scope.put(piece)))'
 PIECE = "cose_edge_make_piece(this.handle, ...scope.put(piece)))"
@@ -119,7 +120,7 @@ JAVASCRIPT = losses_of(
             ("Verifier: wanted", '"open", true)(this.handle, ...given, wanted,', '"open", true)(this.handle, ...given, 0,'),
             ("Verifier, detached: wanted", f"{FED_DETACHED} wanted,", f"{FED_DETACHED} 0,"),
             ("Verifier: payloadLength", "wanted, BigInt(payloadLength),", "wanted, 2n,"),
-            ("Verifier: large", "constructor(cose, { large = false } = {}) {\n        super", "constructor(cose) {\n        const large = false;\n        super"),
+            ("Verifier: large", f"{MADE} {{ large = false }} = {{}}) {{\n        super", f"{MADE.rstrip(',')}) {{\n        const large = false;\n        super"),
             ("Verifier: a promise of a signature", "(this.handle, signatureIsGood === true ? 1 : 0", "(this.handle, signatureIsGood ? 1 : 0"),
             ("Verifier: the input of a signature", "if (signatureIsGood === true && input !== this.signInput())", "if (false)"),
             ("feed: used", "return { ...status, used,", "return { ...status, used: piece.length,"),
@@ -127,7 +128,7 @@ JAVASCRIPT = losses_of(
             ("Maker: alg", "this.handle,\n                alg,", "this.handle,\n                5,"),
             ("Maker: kid", "...scope.put(kid)", "...scope.put(NOTHING)"),
             ("Maker: aad", "...scope.put(kid),\n                ...scope.put(aad)", "...scope.put(kid),\n                ...scope.put(NOTHING)"),
-            ("Maker: payloadLength", "BigInt(payloadLength),\n                BigInt(at)", "2n,\n                BigInt(at)"),
+            ("Maker: payloadLength", "                BigInt(payloadLength),\n", "                2n,\n"),
             ("Maker: used, 1 for 0", f"{PIECE},", f"{PIECE} || 1,"),
         ],
     },
