@@ -1,10 +1,12 @@
 /* A board on a serial line: takes a COSE_Mac0 a byte at a time, and answers each with a line. Whoever sends waits for that line
  * before the next message: after a refusal nothing else says where one begins. */
 #include "board.h"
+/* The key names HMAC 256/256, so no other hash function is needed. */
+#define COSE_NO_SHA512
 #include "cose.h"
 
 /* A COSE_Key. A device has one of its own. */
-static const uint8_t key[] = {0xa2, 0x01, 0x04, 0x20, 0x44, 'J', 'e', 'f', 'e'};
+static const uint8_t key[] = {0xa3, 0x01, 0x04, 0x03, 0x05, 0x20, 0x44, 'J', 'e', 'f', 'e'};
 
 static _Alignas(16) uint8_t block[3328];
 

@@ -4,10 +4,12 @@
  *
  * The image goes to the slot as it comes, and the slot says that it has one only once the message is authentic. */
 #include "board.h"
+/* The key names HMAC 256/256, so no other hash function is needed. */
+#define COSE_NO_SHA512
 #include "cose.h"
 
 /* A COSE_Key. A device has one of its own. */
-static const uint8_t key[] = {0xa2, 0x01, 0x04, 0x20, 0x44, 'J', 'e', 'f', 'e'};
+static const uint8_t key[] = {0xa3, 0x01, 0x04, 0x03, 0x05, 0x20, 0x44, 'J', 'e', 'f', 'e'};
 
 static _Alignas(16) uint8_t block[3328];
 
