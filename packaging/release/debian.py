@@ -12,9 +12,8 @@ import library
 import source
 from archives import Entry, Files, of_file, write_all
 from program import tree
-from source import LICENSES, TOP, Refusal, Source
+from source import TOP, Refusal, Source
 
-HOMEPAGE = "https://www.rfc-editor.org/rfc/rfc9052"
 CONTROL = """\
 Package: {package}
 Version: {version}

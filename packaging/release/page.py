@@ -16,17 +16,20 @@ def single() -> Entry:
     def style(found: "re.Match[str]") -> str:
         return "<style>\n" + (web / found[1]).read_text() + "</style>"
 
-    def script(found: "re.Match[str]") -> str:
-        content = (web / found[1]).read_text()
+    def script(name: str) -> str:
+        content = (web / name).read_text()
         if "</script" in content:
-            raise Refusal(f"web/{found[1]} has the end of a script in it")
-        return "<script>\n" + content + "</script>"
+            raise Refusal(f"web/{name} has the end of a script in it")
+        return f"<script>\n{content}</script>\n"
 
     icon = base64.b64encode((web / "icon.svg").read_bytes()).decode()
     text = text.replace('href="icon.svg"', f'href="data:image/svg+xml;base64,{icon}"')
     text = re.sub(r'<link rel="stylesheet" href="([\w.]+)" ?/?>', style, text)
-    text = re.sub(r'<script src="([\w.]+)"[^>]*></script>', script, text)
-    left = re.findall(r'(?:src|href)="(?!data:|https:|#)([^"]+)"', text)
+    # They are deferred, and one without a file can't be: so they come last.
+    deferred = r'\s*<script defer src="([\w.]+)"></script>'
+    scripts = "".join(script(name) for name in re.findall(deferred, text))
+    text = re.sub(deferred, "", text).replace("</body>", scripts + "</body>")
+    left = re.findall(r'<(?:script|link)[^>]* (?:src|href)="(?!data:)([^"]+)"', text)
     if left:
         raise Refusal(f"the page still names {', '.join(left)}")
     return Entry(text.encode())
