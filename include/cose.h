@@ -28,6 +28,8 @@
 #define COSE_VERSION_MAJOR 0
 #define COSE_VERSION_MINOR 2
 #define COSE_VERSION_PATCH 0
+/** What cose_version returns of the library that this header is for. */
+#define COSE_VERSION (COSE_VERSION_MAJOR * 65536 + COSE_VERSION_MINOR * 256 + COSE_VERSION_PATCH)
 
 #ifdef __cplusplus
 extern "C" {
@@ -175,7 +177,7 @@ struct cose_claims_set {
     uint64_t place;          /**< of COSE_CLAIMS_REFUSED in the payload, of COSE_REFUSED in the token */
     uint64_t payload_at, payload_length; /**< the payload in the token; of cose_claims 0 and its length */
     struct cose_range iss, sub;
-    struct cose_range aud;   /**< the first text string of the audience: cose_audience returns the others */
+    struct cose_range aud;   /**< the first text string of the audience: cose_next_audience returns the others */
     struct cose_range cti;
     uint64_t aud_count;      /**< how many text strings the audience has */
     struct cose_date exp, nbf, iat;
@@ -247,6 +249,43 @@ static inline uint8_t *cose_room_(uint8_t *at)
     static uint8_t nothing;
     return at != NULL ? at : &nothing;
 }
+
+/* ---- Names, and what is compared once. */
+
+/** The version of the library: compare it with COSE_VERSION. */
+uint32_t cose_version(void);
+
+/** The name of a reason in docs/REASONS.md; that of 0 is empty, and a number that is none has NULL. */
+static inline const char *cose_reason_name(uint8_t reason)
+{
+    static const char *const names[] = {
+        "", "Truncated", "Reserved", "Indefinite", "BadSimple", "TooDeep", "PastRoom", "WrongTag", "Encrypted", "SeveralParties",
+        "NotFour", "WrongType", "NotMap", "BadLabel", "DuplicateLabel", "BothBuckets", "BadValue", "CritUnprotected", "CritAbsent",
+        "CritUnknown", "BothIvs", "NoAlg", "UnknownAlg", "AlgUnprotected", "NoKey", "AmbiguousKey", "Detached", "BadAuthLength",
+        "BadAuth", "PayloadTooLong", "CwtTagAlone", "BadKeySet", "UnknownKey", "FloatDate", "TaggedDate", "Expired", "NotYet",
+        "WrongAudience", "EncryptedKey", "PlainKey", "BadConfirmation", "NestedCwt", "Trailing", "Attached"
+    };
+    return reason < sizeof names / sizeof *names ? names[reason] : NULL;
+}
+
+/** The name of a status, as KeysRefused of COSE_KEYS_REFUSED; a number that is none has NULL. */
+static inline const char *cose_status_name(uint8_t status)
+{
+    static const char *const names[] = {
+        "More", "Authentic", "Signed", "Refused", "KeysRefused", "AadTooLong", "PayloadNext", "Complete", "ClaimsRefused", "BadAudience",
+        "Closed", "Stopped", "BadArgument"
+    };
+    return status < sizeof names / sizeof *names ? names[status] : NULL;
+}
+
+/** Bytes that do for a block in static memory, and what its address is a multiple of: cose_fits compares them with the library. */
+enum {
+    COSE_BLOCK_ALIGN = 16,
+    COSE_VERIFIER_BLOCK = 4096,
+    COSE_LARGE_VERIFIER_BLOCK = 135168,
+    COSE_TABLE_BLOCK = 16384,
+    COSE_MAKER_BLOCK = 1024
+};
 
 /* ---- One call over memory. */
 
@@ -436,7 +475,7 @@ static inline void cose_large_claims(const uint8_t *payload, size_t payload_leng
 void cose_edge_audience(const uint8_t *payload, size_t payload_length, uint64_t index, struct cose_range *audience);
 
 /** The text string of this number, from 0, of the audience that a payload names (RFC 8392 section 3.1.3). present is 0 where it has
- * fewer, and where the payload isn't a claims set. */
+ * fewer, and where the payload isn't a claims set. Each call reads all claims: cose_next_audience doesn't. */
 static inline void cose_audience(const uint8_t *payload, size_t payload_length, uint64_t index, struct cose_range *audience)
 {
     if (cose_is_null_(payload, payload_length)) {
@@ -444,6 +483,19 @@ static inline void cose_audience(const uint8_t *payload, size_t payload_length, 
         return;
     }
     cose_edge_audience(cose_slice_(payload), payload_length, index, audience);
+}
+
+void cose_edge_next_audience(const uint8_t *payload, size_t payload_length, uint64_t place, struct cose_range *audience);
+
+/** The text string of an audience that follows another one, by the place after the bytes of that one: in time that doesn't depend on the
+ * other claims. Begin with aud of the claims, and count to aud_count: after the last one anything may follow. */
+static inline void cose_next_audience(const uint8_t *payload, size_t payload_length, uint64_t place, struct cose_range *audience)
+{
+    if (cose_is_null_(payload, payload_length)) {
+        memset(audience, 0, sizeof *audience);
+        return;
+    }
+    cose_edge_next_audience(cose_slice_(payload), payload_length, place, audience);
 }
 
 /* ---- A verifier in the caller's memory, which is fed. */
@@ -525,6 +577,14 @@ uint8_t cose_sign_input(struct cose_verifier *verifier, struct cose_signature_in
 /** The verdict on a message that is complete. 1 says that the signature of cose_sign_input is good, as EVP_PKEY_verify returns; any other
  * number that it isn't. For a COSE_Mac0 the number doesn't count. */
 void cose_verdict(struct cose_verifier *verifier, int32_t signature_is_good, struct cose_message_verdict *verdict);
+
+/** The number of the message: opening and resetting begin another one. */
+uint64_t cose_message_number(struct cose_verifier *verifier);
+
+/** The verdict on the message of this number, as cose_verdict gives it: 1 is of the signature of this message alone. Where the verifier has
+ * gone on to another message, as a callback or another thread may make it, the answer is COSE_BAD_ARGUMENT, and nothing changes. */
+void cose_verdict_for(struct cose_verifier *verifier, uint64_t message, int32_t signature_is_good,
+    struct cose_message_verdict *verdict);
 
 /** Begins the next message, under the same keys. */
 void cose_reset(struct cose_verifier *verifier);
@@ -615,6 +675,14 @@ uint8_t cose_large_sign_input(struct cose_large_verifier *verifier, struct cose_
 /** The verdict on a message that is complete. 1 says that the signature of cose_sign_input is good, as EVP_PKEY_verify returns; any other
  * number that it isn't. For a COSE_Mac0 the number doesn't count. */
 void cose_large_verdict(struct cose_large_verifier *verifier, int32_t signature_is_good, struct cose_message_verdict *verdict);
+
+/** The number of the message: opening and resetting begin another one. */
+uint64_t cose_large_message_number(struct cose_large_verifier *verifier);
+
+/** The verdict on the message of this number, as cose_large_verdict gives it: 1 is of the signature of this message alone. Where the verifier has
+ * gone on to another message, as a callback or another thread may make it, the answer is COSE_BAD_ARGUMENT, and nothing changes. */
+void cose_large_verdict_for(struct cose_large_verifier *verifier, uint64_t message, int32_t signature_is_good,
+    struct cose_message_verdict *verdict);
 
 /** Begins the next message, under the same keys. */
 void cose_large_reset(struct cose_large_verifier *verifier);
@@ -738,6 +806,54 @@ static inline void cose_make_end(struct cose_maker *maker, uint8_t *tail, size_t
         return;
     }
     cose_edge_make_end(maker, cose_room_(tail), tail_room, made);
+}
+
+/* ---- Blocks of all kinds. */
+
+/** 1 where the library has this header's version, and its blocks fit into the bytes and the alignment above; otherwise 0. */
+static inline int cose_fits(void)
+{
+    return cose_version() == COSE_VERSION &&
+        cose_verifier_size() <= COSE_VERIFIER_BLOCK && cose_verifier_align() <= COSE_BLOCK_ALIGN &&
+        cose_large_verifier_size() <= COSE_LARGE_VERIFIER_BLOCK && cose_large_verifier_align() <= COSE_BLOCK_ALIGN &&
+        cose_table_size() <= COSE_TABLE_BLOCK && cose_table_align() <= COSE_BLOCK_ALIGN &&
+        cose_maker_size() <= COSE_MAKER_BLOCK && cose_maker_align() <= COSE_BLOCK_ALIGN;
+}
+
+static inline void cose_overwrite_(uint8_t *block, size_t size)
+{
+    volatile uint8_t *at = block;
+    while (size > 0)
+        at[--size] = 0;
+}
+
+/** Overwrites the block, with all that was derived from keys, and begins it again: it has no keys then. What calls left on the stack
+ * isn't overwritten. */
+static inline void cose_wipe(struct cose_verifier *verifier)
+{
+    cose_overwrite_(verifier->at, cose_verifier_size());
+    cose_begin(verifier->at);
+}
+
+/** The same of a large one, */
+static inline void cose_large_wipe(struct cose_large_verifier *verifier)
+{
+    cose_overwrite_(verifier->at, cose_large_verifier_size());
+    cose_large_begin(verifier->at);
+}
+
+/** of a table, */
+static inline void cose_table_wipe(struct cose_table *table)
+{
+    cose_overwrite_(table->at, cose_table_size());
+    cose_table_begin(table->at);
+}
+
+/** and of a maker. */
+static inline void cose_maker_wipe(struct cose_maker *maker)
+{
+    cose_overwrite_(maker->at, cose_maker_size());
+    cose_maker_begin(maker->at);
 }
 
 #ifdef __cplusplus

@@ -114,7 +114,8 @@ const SIZES = Object.freeze({
  */
 
 /**
- * The layout of a type by the rules of C on a target of 64 bits.
+ * The layout of a type by the rules of C on a target of 64 bits. The module's pointers have 32 bits, and lie in the first half of
+ * their 8 bytes.
  * @param {string} type
  * @returns {Layout}
  */
@@ -143,13 +144,6 @@ function layoutOf(type) {
 
 /** @type {Record<string, Layout>} */
 const LAYOUTS = Object.fromEntries(Object.keys(FIELDS).map((name) => [name, layoutOf(name)]));
-
-/** Whether this engine compiles a module with a 64-bit memory. */
-function has64BitMemory() {
-    // (module (memory i64 1))
-    const bytes = new Uint8Array([0, 97, 115, 109, 1, 0, 0, 0, 5, 3, 1, 4, 1]);
-    return typeof WebAssembly === "object" && WebAssembly.validate(bytes);
-}
 
 const NOTHING = new Uint8Array();
 
@@ -220,12 +214,7 @@ class Cose {
      * @returns {Promise<Cose>}
      */
     static async load(bytes) {
-        if (!has64BitMemory()) {
-            throw new Error(
-                "this engine has no 64-bit memory (memory64) for WebAssembly: Node 20 to 23 want the flag " +
-                    "--experimental-wasm-memory64, and browsers Chromium 133, Firefox 134 or later",
-            );
-        }
+        if (typeof WebAssembly !== "object") throw new Error("this engine has no WebAssembly");
         const { instance } = await WebAssembly.instantiate(bytes, {});
         return new this(instance.exports);
     }
@@ -339,8 +328,8 @@ class Cose {
                 wanted,
                 ...scope.put(message),
                 ...detached,
-                BigInt(at),
-                BigInt(input),
+                at,
+                input,
             );
             return this.readVerdict(at, input);
         });
@@ -354,7 +343,7 @@ class Cose {
     shape(message, { wanted = WANTED.TAGGED } = {}) {
         return this.scoped((scope) => {
             const at = scope.room(LAYOUTS.cose_message_shape.size);
-            this.exports.cose_edge_shape(wanted, ...scope.put(message), BigInt(at));
+            this.exports.cose_edge_shape(wanted, ...scope.put(message), at);
             const all = this.read(at, "cose_message_shape");
             const { status, reason, place, kind, taken } = all;
             const [payloadLength, authLength] = [all.payload_length, all.auth_length];
@@ -369,7 +358,7 @@ class Cose {
     readKeys(keys) {
         return this.scoped((scope) => {
             const at = scope.room(LAYOUTS.cose_key_set.size);
-            this.exports.cose_edge_read_keys(...scope.put(keys), BigInt(at));
+            this.exports.cose_edge_read_keys(...scope.put(keys), at);
             const { status, reason, place, usable } = this.read(at, "cose_key_set");
             return { status, reason, place, usable };
         });
@@ -390,9 +379,9 @@ class Cose {
         view.setBigInt64(place("now"), BigInt(now), true);
         view.setUint32(place("leeway"), leeway, true);
         view.setUint8(place("has_audience"), audience === undefined ? 0 : 1);
-        view.setBigUint64(place("audience"), text, true);
+        view.setUint32(place("audience"), text, true);
         view.setBigUint64(place("audience_length"), length, true);
-        return BigInt(at);
+        return at;
     }
 
     /**
@@ -409,7 +398,7 @@ class Cose {
             const name = keys instanceof KeyTable ? "table_" : large ? "large_" : "";
             const external = scope.put(aad);
             const conditions = this.putPolicy(scope, policy);
-            this.exports[`cose_edge_${name}verify_cwt`](...under, ...external, conditions, ...scope.put(token), BigInt(at));
+            this.exports[`cose_edge_${name}verify_cwt`](...under, ...external, conditions, ...scope.put(token), at);
             return this.readClaims(at, token);
         });
     }
@@ -424,7 +413,7 @@ class Cose {
         return this.scoped((scope) => {
             const at = scope.room(LAYOUTS.cose_claims_set.size);
             const conditions = this.putPolicy(scope, policy);
-            this.exports[`cose_edge_${large ? "large_" : ""}claims`](...scope.put(payload), conditions, BigInt(at));
+            this.exports[`cose_edge_${large ? "large_" : ""}claims`](...scope.put(payload), conditions, at);
             return this.readClaims(at, payload);
         });
     }
@@ -472,7 +461,7 @@ class Cose {
     audience(payload, index) {
         return this.scoped((scope) => {
             const at = scope.room(LAYOUTS.cose_range.size);
-            this.exports.cose_edge_audience(...scope.put(payload), BigInt(index), BigInt(at));
+            this.exports.cose_edge_audience(...scope.put(payload), BigInt(index), at);
             const range = this.read(at, "cose_range");
             return range.present ? copyOf(payload, range.at, range.length) : undefined;
         });
@@ -545,26 +534,26 @@ class Block {
         this.struct = cose.rooms.take(8);
         /** @type {[number, number][]} */
         this.kept = [];
-        cose.exports[begin](BigInt(this.at));
-        new DataView(cose.rooms.memory.buffer).setBigUint64(this.struct, BigInt(this.at), true);
+        cose.exports[begin](this.at);
+        new DataView(cose.rooms.memory.buffer).setUint32(this.struct, this.at, true);
         this.isOpen = true;
     }
 
     get handle() {
         if (!this.isOpen) throw new Error("it is closed");
-        return BigInt(this.struct);
+        return this.struct;
     }
 
     /**
      * Keeps bytes until the next call of `release`, as a pointer and a length.
      * @param {Uint8Array} bytes
-     * @returns {[bigint, bigint]}
+     * @returns {[number, bigint]}
      */
     keep(bytes) {
         const at = this.cose.rooms.take(bytes.length);
         this.kept.push([at, bytes.length]);
         new Uint8Array(this.cose.rooms.memory.buffer, at, bytes.length).set(bytes);
-        return [BigInt(at), BigInt(bytes.length)];
+        return [at, BigInt(bytes.length)];
     }
 
     release() {
@@ -593,7 +582,7 @@ class KeyTable extends Block {
         /** The status, and the reason and place of a refusal; or the number of usable keys. */
         this.keySet = cose.scoped((scope) => {
             const at = scope.room(LAYOUTS.cose_key_set.size);
-            cose.exports.cose_edge_table_read(this.handle, ...given, BigInt(at));
+            cose.exports.cose_edge_table_read(this.handle, ...given, at);
             const { status, reason, place, usable } = cose.read(at, "cose_key_set");
             return { status, reason, place, usable };
         });
@@ -636,8 +625,8 @@ class Verifier extends Block {
         const given = [...this.keep(keys), ...this.keep(aad)];
         const status = this.cose.scoped((scope) => {
             const at = scope.room(LAYOUTS.cose_status.size);
-            if (payloadLength === undefined) this.call("open", true)(this.handle, ...given, wanted, BigInt(at));
-            else this.call("open_detached", true)(this.handle, ...given, wanted, BigInt(payloadLength), BigInt(at));
+            if (payloadLength === undefined) this.call("open", true)(this.handle, ...given, wanted, at);
+            else this.call("open_detached", true)(this.handle, ...given, wanted, BigInt(payloadLength), at);
             return this.cose.read(at, "cose_status");
         });
         for (const [at, length] of old) this.cose.rooms.give(at, length);
@@ -651,7 +640,7 @@ class Verifier extends Block {
     feed(piece) {
         return this.cose.scoped((scope) => {
             const at = scope.room(LAYOUTS.cose_fed.size);
-            this.call("feed", true)(this.handle, ...scope.put(piece), BigInt(at));
+            this.call("feed", true)(this.handle, ...scope.put(piece), at);
             const { status, used, payload_at: from, payload_length: length } = this.cose.read(at, "cose_fed");
             return { ...status, used, payload: piece.subarray(from, from + length) };
         });
@@ -669,7 +658,7 @@ class Verifier extends Block {
     end() {
         return this.cose.scoped((scope) => {
             const at = scope.room(LAYOUTS.cose_status.size);
-            this.call("end")(this.handle, BigInt(at));
+            this.call("end")(this.handle, at);
             return this.cose.read(at, "cose_status");
         });
     }
@@ -681,7 +670,7 @@ class Verifier extends Block {
     signInput() {
         this.asked ??= this.cose.scoped((scope) => {
             const at = scope.room(LAYOUTS.cose_signature_input.size);
-            return this.call("sign_input")(this.handle, BigInt(at)) === 1 ? this.cose.readInput(at) : undefined;
+            return this.call("sign_input")(this.handle, at) === 1 ? this.cose.readInput(at) : undefined;
         });
         return this.asked;
     }
@@ -697,7 +686,7 @@ class Verifier extends Block {
         if (signatureIsGood === true && input !== this.signInput()) throw new Error("the signature is of another message");
         return this.cose.scoped((scope) => {
             const at = scope.room(LAYOUTS.cose_message_verdict.size);
-            this.call("verdict")(this.handle, signatureIsGood === true ? 1 : 0, BigInt(at));
+            this.call("verdict")(this.handle, signatureIsGood === true ? 1 : 0, at);
             return this.cose.readVerdict(at);
         });
     }
@@ -751,9 +740,9 @@ class Maker extends Block {
                 ...scope.put(kid),
                 ...scope.put(aad),
                 BigInt(payloadLength),
-                BigInt(at),
+                at,
                 384n,
-                BigInt(made),
+                made,
             ),
         );
     }
@@ -771,7 +760,7 @@ class Maker extends Block {
     /** What follows the payload. */
     end() {
         return this.written(70, (_, at, made) =>
-            this.cose.exports.cose_edge_make_end(this.handle, BigInt(at), 70n, BigInt(made)),
+            this.cose.exports.cose_edge_make_end(this.handle, at, 70n, made),
         );
     }
 
@@ -790,5 +779,5 @@ class Maker extends Block {
 }
 
 if (typeof module === "object") {
-    Object.assign(module.exports, { Cose, KeyTable, Verifier, Maker, STATUS, WANTED, FIELDS, LAYOUTS, has64BitMemory, copyOf });
+    Object.assign(module.exports, { Cose, KeyTable, Verifier, Maker, STATUS, WANTED, FIELDS, LAYOUTS, copyOf });
 }

@@ -1,3 +1,7 @@
 // What a script finds: in Node `module`, and in the page the bytes of cose_wasm.js.
-declare var module: { exports: object; require(path: "./rooms.js"): { Rooms: typeof Rooms } } | undefined;
+interface Required {
+    "./rooms.js": { Rooms: typeof Rooms };
+    "node:crypto": { webcrypto: Crypto };
+}
+declare var module: { exports: object; require<Path extends keyof Required>(path: Path): Required[Path] } | undefined;
 declare const COSE_WASM: string;

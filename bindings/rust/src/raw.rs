@@ -86,7 +86,7 @@ pub(crate) struct Policy {
 }
 
 #[repr(C)]
-#[derive(Clone, Copy, Default)]
+#[derive(Clone, Copy, Debug, Default, PartialEq, Eq)]
 pub(crate) struct Range {
     pub(crate) at: u64,
     pub(crate) length: u64,
@@ -230,6 +230,12 @@ unsafe extern "C" {
         payload: *const u8,
         payload_length: usize,
         index: u64,
+        audience: &mut Range,
+    );
+    pub(crate) fn cose_edge_next_audience(
+        payload: *const u8,
+        payload_length: usize,
+        place: u64,
         audience: &mut Range,
     );
 

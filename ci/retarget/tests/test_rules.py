@@ -130,6 +130,12 @@ class Rules(unittest.TestCase):
         text = rewritten(module(*lines))
         self.assertEqual(text[text.index("start:") + 1 :][:3], lines)
 
+    def test_symbol_of_the_header(self):
+        for name, target in TARGETS.items():
+            text = "\n".join(rewritten(module(), name))
+            self.assertEqual(text.count("@cose_lengths_have_64_bits"), 2 * target.is_processor)
+            self.assertEqual(text.count("@llvm.used = appending global [1 x ptr] [ptr @cose_layout]"), target.is_processor)
+
 
 if __name__ == "__main__":
     unittest.main()
