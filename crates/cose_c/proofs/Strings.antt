@@ -10,6 +10,7 @@ use Rattle.cose_head.specs.declared.item.Span.{Span}
 use Rattle.cose_head.specs.declared.refusal.Refusal.{Refusal}
 use Rattle.cose_head.specs.Placed.{Placed, bytes_in, children_of, head_of_item, if_utf8, is_an_array, look, look_with, span_at, text_in}
 use Rattle.cose_head.specs.PlacedLaws.{ChildrenEndInside, EndsBy, end_of}
+use Rattle.cose_head.specs.Reading.{read, head}
 use Rattle.cose_head.proofs.Placed.{bytes_found, no_bytes, no_text, text_found}
 use Rattle.cose_map.specs.Label.{LabelValue}
 use Rattle.cose_map.specs.Laws.Tree.{items_of}
@@ -289,4 +290,12 @@ ranges_at payload place found range here is e inside =
 
 -- No item is where no byte is.
 pub none_at : (payload : List ℕ) (place : ℕ) → drop place payload ≡ [] → text_at payload place ≡ None
+unfolding read head
 none_at payload place none = rw none refl
+
+pub nothing_left : (xs : List ℕ) → (length xs == 0) ≡ true → xs ≡ []
+nothing_left [] none = refl
+nothing_left (x ∷ xs) none = let zero : length (x ∷ xs) ≡ 0 = grind (arith, nat_tests) in absurd (omega (arith, zero))
+
+pub not_past : (n p k : ℕ) → k ≡ n - p → (k == 0) ≡ false → p ≤ n
+not_past n p k left some = grind (arith, nat_tests)
