@@ -279,7 +279,8 @@ pub fn run<'a, R: Read, W: Write>(
         FailsOn (λ _. None) (map (λ word. word.now) words.entry.now) bytes
         (W.contents output.old) (W.contents output.new) }
 {
-    run_with_files(alloc, words, &NoFiles, &mut TextInput::new(input), output)
+    let mut text = TextInput::new(input);
+    run_with_files(alloc, words, &NoFiles, &mut text, output)
 }
 
 /// Runs the program: `words` are the arguments of the command line, the first of them the program's name. The message,

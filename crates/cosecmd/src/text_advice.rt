@@ -52,10 +52,10 @@ pub fn first_bytes<'a>(form: InputForm, first: &'a [u8], into: &'a mut [u8]) -> 
     }
 }
 
-/// What an input begins as that is a text of no form that is decoded, by as much of it as is read: no message begins as `--`
+/// What an input begins as that is a text of no form that is decoded, by as much of it as is read: no message begins as `-`
 /// or `ey` do in base64url.
 pub fn other_form(first: &[u8]) -> Option<Form> {
-    if first.starts_with(b"--") {
+    if first.starts_with(b"-") {
         return Some(Form::Pem);
     }
     if first.starts_with(b"ey") {
