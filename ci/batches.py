@@ -9,10 +9,11 @@ import dataclasses
 import re
 from typing import NamedTuple
 
-# a function, an impl block, a trait and a constant, in the layout that `rt fmt` writes
+# a function, an impl block, a trait, a type and a constant, in the layout that `rt fmt` writes
 FUNCTION = re.compile(r'( *)(?:pub(?:\([^)]*\))? )?(?:const )?(?:unsafe )?(?:extern "C" )?fn (\w+)')
 IMPL = re.compile(r"impl(?:<.*?>)? (?:([\w:]+)(?:<.*>)? for )?&?(?:'\w+ )?(?:mut )?(\w+)")
 TRAIT = re.compile(r"(?:pub(?:\([^)]*\))? )?trait (\w+)")
+TYPE = re.compile(r"^(?:pub(?:\([^)]*\))? )?(?:struct|enum) (\w+)", re.M)
 CONSTANT = re.compile(r"^ *(?:pub(?:\([^)]*\))? )?(?:const|static) (\w+): [^;]*;", re.M)
 # what names a constant and doesn't use it
 IMPORTS = re.compile(r"^ *(?:pub(?:\([^)]*\))? )?(?:ghost )?use [^;]*;|//.*", re.M)
@@ -20,7 +21,8 @@ IMPORTS = re.compile(r"^ *(?:pub(?:\([^)]*\))? )?(?:ghost )?use [^;]*;|//.*", re
 
 @dataclasses.dataclass(frozen=True)
 class Function:
-    """A function's module, the type or the trait whose block it is in, if any, and its name; then the trait that the type meets there."""
+    """A function's module, the type or the trait whose block it is in, if any, and its name; then the trait that the type meets
+    there. A method's module is that of its type, wherever its block stands."""
     module: str
     block: str
     name: str
@@ -63,7 +65,20 @@ def changes_of(text):
     return found
 
 
-def function_at(file, text, place):
+def module_of(file):
+    return re.sub(r"(^|/)(lib|main)$", "", file.removeprefix("src/").removesuffix(".rt")).replace("/", "::")
+
+
+def types_in(read, files):
+    """The modules that declare a type, by its name."""
+    found = {}
+    for file in files:
+        for it in TYPE.finditer(read(file)):
+            found.setdefault(it[1], []).append(module_of(file))
+    return found
+
+
+def function_at(file, text, place, types=()):
     """The function of a source around this place of its text, or None, where there is none."""
     lines = text.split("\n")
     at = text.count("\n", 0, place)
@@ -79,7 +94,10 @@ def function_at(file, text, place):
     block, trait = block_at(lines, number) if indent else ("", "")
     if block is None:
         return None
-    module = re.sub(r"(^|/)(lib|main)$", "", file.removeprefix("src/").removesuffix(".rt")).replace("/", "::")
+    module = module_of(file)
+    declared = dict(types).get(block, [])
+    if not trait and module not in declared and len(declared) == 1:
+        module = declared[0]
     return Function(module, block, found[2], trait)
 
 
@@ -109,7 +127,7 @@ def constant_at(text, place):
     return next((it[1] for it in CONSTANT.finditer(text) if it.start() <= place < it.end()), None)
 
 
-def users_of(name, text_of, files):
+def users_of(name, text_of, files, types=()):
     """The functions whose bodies name a constant, or None where something else does."""
     users = set()
     for file in files:
@@ -123,7 +141,7 @@ def users_of(name, text_of, files):
             named = [renames for (start, end), renames in imports if start <= place < end]
             if named and not any(named):
                 continue
-            function = None if named else function_at(file, text, place)
+            function = None if named else function_at(file, text, place, types)
             if function is None or not is_in_body(text, place):
                 return None
             users.add(function)
@@ -134,7 +152,7 @@ class Batch:
     """Edits that are tried in one check: the texts of the files that they change, and each edit's functions."""
 
     def __init__(self, read, files=()):
-        self.read, self.files = read, files
+        self.read, self.files, self.types = read, files, types_in(read, files)
         self.texts, self.functions, self.constants = {}, {}, set()
 
     def text(self, file):
@@ -148,10 +166,10 @@ class Batch:
             if not file.startswith("src/") or text.count(old) != 1:
                 return False
             place = text.index(old)
-            function, constant = function_at(file, text, place), constant_at(text, place)
+            function, constant = function_at(file, text, place, self.types), constant_at(text, place)
             if function is None and constant:
                 constants.add(constant)
-                changed = users_of(constant, self.text, self.files)
+                changed = users_of(constant, self.text, self.files, self.types)
             else:
                 changed = function and {function}
             if not changed or any(own & changed for own in self.functions.values()):

@@ -75,6 +75,13 @@ class Functions(unittest.TestCase):
         self.assertEqual(at("a + 0").path(), "a::b::first")
         self.assertEqual(function_at("src/main.rt", SOURCE, SOURCE.index("        3")).path(), "Give::give")
 
+    def test_a_method_is_of_the_module_of_its_type(self):
+        types = {"Reader": ["a"], "Twice": ["a", "c"]}
+        text = "impl Reader {\n    fn read() {\n        7\n    }\n}\n"
+        self.assertEqual(function_at("src/a/b.rt", text, text.index("7"), types), Function("a", "Reader", "read"))
+        text = text.replace("Reader", "Twice")
+        self.assertEqual(function_at("src/a/b.rt", text, text.index("7"), types), Function("a::b", "Twice", "read"))
+
     def test_a_function_for_callers_in_c(self):
         text = '#[unsafe(no_mangle)]\npub extern "C" fn lent(a: u8) {\n    a + 5\n}\n'
         self.assertEqual(function_at("src/c.rt", text, text.index("a + 5")), Function("c", "", "lent"))

@@ -2,7 +2,8 @@
 in a struct has a slot of 8 bytes. For a 64-bit target nothing changes. The inline functions that callers use keep their size_t; those
 whose names end with _ are the header's own.
 
-With another header a program would pass wrong arguments. So for a 32-bit target this one defines a symbol, which the archive wants.
+With another header a program would pass wrong arguments. So for a 32-bit target this one defines a symbol, which the archive wants. A
+program that says so also gets a function that takes the place of one in the archive.
 """
 import re
 
@@ -21,6 +22,17 @@ SYMBOL = """
 /* The library wants this symbol, so that no program links that takes its lengths for 32 bits. */
 __attribute__((weak)) extern const uint8_t cose_lengths_have_64_bits;
 const uint8_t cose_lengths_have_64_bits = 1;
+
+/* One file of a program may define COSE_NO_SHA512 before this header. The function that SHA-384 and SHA-512 need is left out then, and
+ * where a message gets to it nothing goes on: each key has to name an algorithm with SHA-256. */
+#ifdef COSE_NO_SHA512
+extern void cose_sha512_compress(void);
+void cose_sha512_compress(void)
+{
+    for (;;)
+        ;
+}
+#endif
 #endif
 """
 AFTER = '\nextern "C" {\n#endif\n'

@@ -8,7 +8,8 @@
 - a function that is exported returns a number of less than 32 bits with zeros above it
 - an alignment of more than 8 is one of 8, since a Cortex-M's stack has no other
 
-For a processor the module also gets a constant with the address of a symbol that the header for all targets defines, and no other.
+For a processor the module also gets a constant with the address of a symbol that the header for all targets defines, and no other; and
+a function that not every program needs gets a name and is weak, so that a program may define its own, which isn't that large.
 """
 import collections
 import re
@@ -28,6 +29,8 @@ WANTING = f"""\
 @cose_layout = internal constant ptr {WANTED}, align 4
 @llvm.used = appending global [1 x ptr] [ptr @cose_layout], section "llvm.metadata"
 """
+# functions that a program may replace, and their names there
+WEAK = {'@"sha2::block512::compress"': "@cose_sha512_compress"}
 
 
 def lowered(align):
@@ -55,9 +58,12 @@ class Rewriter:
 
     def rewrite(self, text):
         """The text of the module for the target. Refused is raised where a line has no rule."""
-        for name in "%retarget.", WANTED, "@cose_layout ":
+        for name in "%retarget.", WANTED, "@cose_layout ", *WEAK.values():
             if name in text:
                 raise Refused("a name of the rewriting", name)
+        if self.target.is_processor:
+            for name, its in WEAK.items():
+                text = text.replace(f"{name}(", f"{its}(")
         lines = text.splitlines()
         self.constants = {found["name"] for found in map(forms.CONSTANT.fullmatch, lines) if found}
         self.groups = {found["group"] for found in map(forms.DEFINITION.fullmatch, lines) if found}
@@ -117,6 +123,9 @@ class Rewriter:
         found = forms.DEFINITION.fullmatch(line)
         if not found:
             raise Refused("a definition of a form that isn't known", line)
+        if found["name"] in WEAK.values():
+            self.counts["functions that a program may replace"] += 1
+            return line.replace("define internal ", "define weak hidden ", 1)
         if found["linkage"]:
             return line
         if found["result"].startswith("{") or "{" in found["parameters"] or "<" in found["parameters"]:

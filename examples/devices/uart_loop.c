@@ -1,12 +1,14 @@
 /* A board on a serial line: takes a COSE_Mac0 a byte at a time, and answers each with a line. Whoever sends waits for that line
  * before the next message: after a refusal nothing else says where one begins. */
 #include "board.h"
+/* The key names HMAC 256/256, so no other hash function is needed. */
+#define COSE_NO_SHA512
 #include "cose.h"
 
 /* A COSE_Key. A device has one of its own. */
-static const uint8_t key[] = {0xa2, 0x01, 0x04, 0x20, 0x44, 'J', 'e', 'f', 'e'};
+static const uint8_t key[] = {0xa3, 0x01, 0x04, 0x03, 0x05, 0x20, 0x44, 'J', 'e', 'f', 'e'};
 
-static _Alignas(8) uint8_t block[3328];
+static _Alignas(16) uint8_t block[3328];
 
 /* The payload of the message that is read, which nobody acts on before the message is authentic. */
 static uint8_t payload[128];
@@ -88,7 +90,7 @@ int main(void)
 {
     struct cose_verifier verifier = {.at = block};
     struct cose_status status;
-    if (cose_verifier_size() > sizeof block || cose_verifier_align() > 8) {
+    if (cose_verifier_size() > sizeof block || cose_verifier_align() > 16) {
         print("no room for a verifier\n");
         return 1;
     }

@@ -4,12 +4,14 @@
  *
  * The image goes to the slot as it comes, and the slot says that it has one only once the message is authentic. */
 #include "board.h"
+/* The key names HMAC 256/256, so no other hash function is needed. */
+#define COSE_NO_SHA512
 #include "cose.h"
 
 /* A COSE_Key. A device has one of its own. */
-static const uint8_t key[] = {0xa2, 0x01, 0x04, 0x20, 0x44, 'J', 'e', 'f', 'e'};
+static const uint8_t key[] = {0xa3, 0x01, 0x04, 0x03, 0x05, 0x20, 0x44, 'J', 'e', 'f', 'e'};
 
-static _Alignas(8) uint8_t block[3328];
+static _Alignas(16) uint8_t block[3328];
 
 enum { BLOCK = 64 };
 
@@ -65,7 +67,9 @@ static int take_image(struct cose_verifier *verifier)
     struct cose_fed fed = {0};
     uint8_t bytes[BLOCK];
     int good = 1;
-    for (size_t count = read_block(bytes); count != 0; count = read_block(bytes)) {
+    size_t count = read_block(bytes);
+    slot_erase(); /* not before a block comes: until then the slot has the last image */
+    for (; count != 0; count = read_block(bytes)) {
         good = good && count <= BLOCK;
         if (good) {
             cose_feed(verifier, bytes, count, &fed);
@@ -83,7 +87,7 @@ int main(void)
 {
     struct cose_verifier verifier = {.at = block};
     struct cose_status status;
-    if (cose_verifier_size() > sizeof block || cose_verifier_align() > 8)
+    if (cose_verifier_size() > sizeof block || cose_verifier_align() > 16)
         return 1;
     cose_begin(block);
     cose_open(&verifier, key, sizeof key, NULL, 0, COSE_MAC0, &status);
@@ -92,7 +96,6 @@ int main(void)
     for (;;) {
         length = 0;
         word = 0;
-        slot_erase();
         if (take_image(&verifier)) {
             accept();
             answer('A');

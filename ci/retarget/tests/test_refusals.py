@@ -121,6 +121,7 @@ class Refusals(unittest.TestCase):
     def test_names_of_the_rewriting(self):
         self.refused("a name of the rewriting", module("%retarget.1 = add i64 %n, 1"))
         self.refused("a name of the rewriting", module(before=CONSTANT.replace("@bytes", "@cose_lengths_have_64_bits")))
+        self.refused("a name of the rewriting", module("call void @cose_sha512_compress(ptr %a)"))
 
     def test_recursion(self):
         check_calls(module("call void @g(ptr %a)"))

@@ -2,6 +2,7 @@
 
 mod adapter;
 mod messages;
+mod parameters;
 mod pieces;
 mod reasons;
 mod sizes;
