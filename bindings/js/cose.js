@@ -6,6 +6,7 @@
 
 /** The statuses of include/cose.h, by their names. */
 const STATUS = Object.freeze({
+    // made by ci/edge_tables: statuses
     MORE: 0,
     AUTHENTIC: 1,
     SIGNED: 2,
@@ -19,6 +20,7 @@ const STATUS = Object.freeze({
     CLOSED: 10,
     STOPPED: 11,
     BAD_ARGUMENT: 12,
+    // end of what ci/edge_tables makes
 });
 
 /** The messages that are wanted: by their tag, or of one kind with its tag or without. */
@@ -26,74 +28,39 @@ const WANTED = Object.freeze({ TAGGED: 0, MAC0: 17, SIGN1: 18 });
 
 /** The structs of include/cose.h: each field with its type in C, in their order. */
 const FIELDS = Object.freeze({
-    cose_status: ["uint8_t status", "uint8_t reason", "uint64_t place"],
-    cose_message_verdict: [
-        "uint8_t status",
-        "uint8_t reason",
-        "uint8_t kind",
-        "int32_t alg",
-        "uint64_t place",
-        "uint64_t payload_at",
-        "uint64_t payload_length",
-        "uint64_t taken",
-    ],
-    cose_signature_input: [
-        "uint8_t crv",
-        "uint8_t y_sign",
-        "uint64_t x_length",
-        "uint64_t y_length",
-        "uint64_t digest_length",
-        "uint64_t signature_length",
-        "uint8_t[66] x",
-        "uint8_t[66] y",
-        "uint8_t[64] digest",
-        "uint8_t[132] signature",
-    ],
-    cose_message_shape: [
-        "uint8_t status",
-        "uint8_t reason",
-        "uint8_t kind",
-        "uint64_t place",
-        "uint64_t payload_length",
-        "uint64_t auth_length",
-        "uint64_t taken",
-    ],
-    cose_key_set: ["uint8_t status", "uint8_t reason", "uint64_t place", "uint64_t usable"],
+    // made by ci/edge_tables: structs
     cose_policy: [
-        "int64_t now",
-        "uint32_t leeway",
-        "uint8_t has_audience",
-        "pointer audience",
-        "size_t audience_length",
+        "int64_t now", "uint32_t leeway", "uint8_t has_audience", "pointer audience", "size_t audience_length",
     ],
     cose_range: ["uint64_t at", "uint64_t length", "uint8_t present"],
     cose_date: ["uint64_t number", "uint8_t present", "uint8_t negative"],
     cose_claims_set: [
-        "uint8_t status",
-        "uint8_t reason",
-        "uint64_t place",
-        "uint64_t payload_at",
-        "uint64_t payload_length",
-        "cose_range iss",
-        "cose_range sub",
-        "cose_range aud",
-        "cose_range cti",
-        "uint64_t aud_count",
-        "cose_date exp",
-        "cose_date nbf",
-        "cose_date iat",
-        "cose_range cnf_kid",
-        "cose_range cnf_x",
-        "cose_range cnf_y",
-        "uint8_t cnf_crv",
-        "uint8_t cnf_y_sign",
+        "uint8_t status", "uint8_t reason", "uint64_t place", "uint64_t payload_at", "uint64_t payload_length",
+        "cose_range iss", "cose_range sub", "cose_range aud", "cose_range cti", "uint64_t aud_count", "cose_date exp",
+        "cose_date nbf", "cose_date iat", "cose_range cnf_kid", "cose_range cnf_x", "cose_range cnf_y",
+        "uint8_t cnf_crv", "uint8_t cnf_y_sign",
     ],
-    cose_verifier: ["pointer at"],
     cose_large_verifier: ["pointer at"],
-    cose_fed: ["cose_status status", "uint64_t used", "uint64_t payload_at", "uint64_t payload_length"],
-    cose_table: ["pointer at"],
     cose_maker: ["pointer at"],
+    cose_table: ["pointer at"],
+    cose_verifier: ["pointer at"],
+    cose_signature_input: [
+        "uint8_t crv", "uint8_t y_sign", "uint64_t x_length", "uint64_t y_length", "uint64_t digest_length",
+        "uint64_t signature_length", "uint8_t[66] x", "uint8_t[66] y", "uint8_t[64] digest", "uint8_t[132] signature",
+    ],
+    cose_key_set: ["uint8_t status", "uint8_t reason", "uint64_t place", "uint64_t usable"],
     cose_made: ["uint8_t status", "uint8_t reason", "uint64_t length"],
+    cose_status: ["uint8_t status", "uint8_t reason", "uint64_t place"],
+    cose_message_verdict: [
+        "uint8_t status", "uint8_t reason", "uint8_t kind", "int32_t alg", "uint64_t place", "uint64_t payload_at",
+        "uint64_t payload_length", "uint64_t taken",
+    ],
+    cose_message_shape: [
+        "uint8_t status", "uint8_t reason", "uint8_t kind", "uint64_t place", "uint64_t payload_length",
+        "uint64_t auth_length", "uint64_t taken",
+    ],
+    cose_fed: ["cose_status status", "uint64_t used", "uint64_t payload_at", "uint64_t payload_length"],
+    // end of what ci/edge_tables makes
 });
 
 const SIZES = Object.freeze({
