@@ -55,6 +55,7 @@ enum cose_status_number {
 /** The reason of a refusal: docs/REASONS.md says where each comes from. */
 enum cose_reason {
     COSE_REASON_NONE = 0,
+    /* made by ci/edge_tables: reasons */
     COSE_REASON_TRUNCATED = 1,
     COSE_REASON_RESERVED = 2,
     COSE_REASON_INDEFINITE = 3,
@@ -98,6 +99,7 @@ enum cose_reason {
     COSE_REASON_NESTED_CWT = 41,
     COSE_REASON_TRAILING = 42,
     COSE_REASON_ATTACHED = 43
+    /* end of what ci/edge_tables makes */
 };
 
 /** The kind of the messages that are wanted: that of their tag, or one kind, with its tag or without (RFC 9052 section 2). */
@@ -347,9 +349,9 @@ static inline void cose_verify_detached(const uint8_t *keys, size_t keys_length,
         message_length, cose_slice_(payload), payload_length, verdict, input);
 }
 
-void cose_edge_large_verify_detached(const uint8_t *keys, size_t keys_length, const uint8_t *aad, size_t aad_length,
-    uint8_t kind, const uint8_t *message, size_t message_length, const uint8_t *payload, size_t payload_length,
-    struct cose_message_verdict *verdict, struct cose_signature_input *input);
+void cose_edge_large_verify_detached(const uint8_t *keys, size_t keys_length, const uint8_t *aad, size_t aad_length, uint8_t kind,
+    const uint8_t *message, size_t message_length, const uint8_t *payload, size_t payload_length, struct cose_message_verdict *verdict,
+    struct cose_signature_input *input);
 
 /** The same for headers of 65,535 bytes, where headers and claims nest 16 deep: a call needs some 140 KB of stack. */
 static inline void cose_large_verify_detached(const uint8_t *keys, size_t keys_length, const uint8_t *aad, size_t aad_length,
@@ -407,15 +409,15 @@ static inline void cose_verify_cwt(const uint8_t *keys, size_t keys_length, cons
     struct cose_policy cose_policy_ = *policy;
     if (cose_is_null_(keys, keys_length) ||
         cose_is_null_(aad, aad_length) ||
-        cose_is_null_(token, token_length) ||
-        cose_is_null_(policy->audience, policy->audience_length)) {
+        cose_is_null_(policy->audience, policy->audience_length) ||
+        cose_is_null_(token, token_length)) {
         memset(claims, 0, sizeof *claims);
         claims->status = COSE_BAD_ARGUMENT;
         return;
     }
     cose_policy_.audience = cose_slice_(policy->audience);
-    cose_edge_verify_cwt(cose_slice_(keys), keys_length, cose_slice_(aad), aad_length, &cose_policy_, cose_slice_(token),
-        token_length, claims);
+    cose_edge_verify_cwt(cose_slice_(keys), keys_length, cose_slice_(aad), aad_length, &cose_policy_, cose_slice_(token), token_length,
+        claims);
 }
 
 void cose_edge_large_verify_cwt(const uint8_t *keys, size_t keys_length, const uint8_t *aad, size_t aad_length,
@@ -428,8 +430,8 @@ static inline void cose_large_verify_cwt(const uint8_t *keys, size_t keys_length
     struct cose_policy cose_policy_ = *policy;
     if (cose_is_null_(keys, keys_length) ||
         cose_is_null_(aad, aad_length) ||
-        cose_is_null_(token, token_length) ||
-        cose_is_null_(policy->audience, policy->audience_length)) {
+        cose_is_null_(policy->audience, policy->audience_length) ||
+        cose_is_null_(token, token_length)) {
         memset(claims, 0, sizeof *claims);
         claims->status = COSE_BAD_ARGUMENT;
         return;
@@ -509,8 +511,8 @@ size_t cose_verifier_align(void);
 /** Makes the block a verifier without keys. Once, before anything else. */
 void cose_begin(uint8_t *block);
 
-void cose_edge_open(struct cose_verifier *verifier, const uint8_t *keys, size_t keys_length, const uint8_t *aad,
-    size_t aad_length, uint8_t kind, struct cose_status *status);
+void cose_edge_open(struct cose_verifier *verifier, const uint8_t *keys, size_t keys_length, const uint8_t *aad, size_t aad_length,
+    uint8_t kind, struct cose_status *status);
 
 /** Gives it the keys and the externally supplied data of the next messages: COSE_MORE, or why there are none. */
 static inline void cose_open(struct cose_verifier *verifier, const uint8_t *keys, size_t keys_length, const uint8_t *aad,
@@ -534,8 +536,8 @@ static inline void cose_open_detached(struct cose_verifier *verifier, const uint
         cose_edge_open_detached(verifier, cose_slice_(NULL), 0, cose_slice_(NULL), 0, COSE_NO_KIND_, 0, status);
         return;
     }
-    cose_edge_open_detached(verifier, cose_slice_(keys), keys_length, cose_slice_(aad), aad_length, cose_kind_(kind),
-        payload_length, status);
+    cose_edge_open_detached(verifier, cose_slice_(keys), keys_length, cose_slice_(aad), aad_length, cose_kind_(kind), payload_length,
+        status);
 }
 
 void cose_edge_feed(struct cose_verifier *verifier, const uint8_t *piece, size_t piece_length, struct cose_fed *fed);
@@ -583,8 +585,7 @@ uint64_t cose_message_number(struct cose_verifier *verifier);
 
 /** The verdict on the message of this number, as cose_verdict gives it: 1 is of the signature of this message alone. Where the verifier has
  * gone on to another message, as a callback or another thread may make it, the answer is COSE_BAD_ARGUMENT, and nothing changes. */
-void cose_verdict_for(struct cose_verifier *verifier, uint64_t message, int32_t signature_is_good,
-    struct cose_message_verdict *verdict);
+void cose_verdict_for(struct cose_verifier *verifier, uint64_t message, int32_t signature_is_good, struct cose_message_verdict *verdict);
 
 /** Begins the next message, under the same keys. */
 void cose_reset(struct cose_verifier *verifier);
@@ -610,8 +611,8 @@ void cose_edge_large_open(struct cose_large_verifier *verifier, const uint8_t *k
     size_t aad_length, uint8_t kind, struct cose_status *status);
 
 /** Gives it the keys and the externally supplied data of the next messages: COSE_MORE, or why there are none. */
-static inline void cose_large_open(struct cose_large_verifier *verifier, const uint8_t *keys, size_t keys_length,
-    const uint8_t *aad, size_t aad_length, enum cose_kind_number kind, struct cose_status *status)
+static inline void cose_large_open(struct cose_large_verifier *verifier, const uint8_t *keys, size_t keys_length, const uint8_t *aad,
+    size_t aad_length, enum cose_kind_number kind, struct cose_status *status)
 {
     if (cose_is_null_(keys, keys_length) || cose_is_null_(aad, aad_length)) {
         cose_edge_large_open(verifier, cose_slice_(NULL), 0, cose_slice_(NULL), 0, COSE_NO_KIND_, status);
@@ -620,8 +621,8 @@ static inline void cose_large_open(struct cose_large_verifier *verifier, const u
     cose_edge_large_open(verifier, cose_slice_(keys), keys_length, cose_slice_(aad), aad_length, cose_kind_(kind), status);
 }
 
-void cose_edge_large_open_detached(struct cose_large_verifier *verifier, const uint8_t *keys, size_t keys_length,
-    const uint8_t *aad, size_t aad_length, uint8_t kind, uint64_t payload_length, struct cose_status *status);
+void cose_edge_large_open_detached(struct cose_large_verifier *verifier, const uint8_t *keys, size_t keys_length, const uint8_t *aad,
+    size_t aad_length, uint8_t kind, uint64_t payload_length, struct cose_status *status);
 
 /** The same for messages whose payload is detached, and has so many bytes. */
 static inline void cose_large_open_detached(struct cose_large_verifier *verifier, const uint8_t *keys, size_t keys_length,
@@ -631,15 +632,14 @@ static inline void cose_large_open_detached(struct cose_large_verifier *verifier
         cose_edge_large_open_detached(verifier, cose_slice_(NULL), 0, cose_slice_(NULL), 0, COSE_NO_KIND_, 0, status);
         return;
     }
-    cose_edge_large_open_detached(verifier, cose_slice_(keys), keys_length, cose_slice_(aad), aad_length, cose_kind_(kind), payload_length,
-        status);
+    cose_edge_large_open_detached(verifier, cose_slice_(keys), keys_length, cose_slice_(aad), aad_length, cose_kind_(kind),
+        payload_length, status);
 }
 
 void cose_edge_large_feed(struct cose_large_verifier *verifier, const uint8_t *piece, size_t piece_length, struct cose_fed *fed);
 
 /** Takes the next bytes of the message: the fewest that settle it, or all of the piece. */
-static inline void cose_large_feed(struct cose_large_verifier *verifier, const uint8_t *piece, size_t piece_length,
-    struct cose_fed *fed)
+static inline void cose_large_feed(struct cose_large_verifier *verifier, const uint8_t *piece, size_t piece_length, struct cose_fed *fed)
 {
     if (cose_is_null_(piece, piece_length)) {
         memset(fed, 0, sizeof *fed);
@@ -710,7 +710,7 @@ void cose_edge_table_read(struct cose_table *table, const uint8_t *keys, size_t 
 static inline void cose_table_read(struct cose_table *table, const uint8_t *keys, size_t keys_length, struct cose_key_set *key_set)
 {
     if (cose_is_null_(keys, keys_length)) {
-        cose_edge_table_read(table, cose_slice_(NULL), 0, key_set); /* no key set: the table has no keys then */
+        cose_edge_table_read(table, cose_slice_(NULL), 0, key_set); /* the block has nothing then */
         memset(key_set, 0, sizeof *key_set);
         key_set->status = COSE_BAD_ARGUMENT;
         return;
@@ -718,8 +718,8 @@ static inline void cose_table_read(struct cose_table *table, const uint8_t *keys
     cose_edge_table_read(table, cose_slice_(keys), keys_length, key_set);
 }
 
-void cose_edge_table_verify(struct cose_table *table, const uint8_t *aad, size_t aad_length, uint8_t kind,
-    const uint8_t *message, size_t message_length, struct cose_message_verdict *verdict, struct cose_signature_input *input);
+void cose_edge_table_verify(struct cose_table *table, const uint8_t *aad, size_t aad_length, uint8_t kind, const uint8_t *message,
+    size_t message_length, struct cose_message_verdict *verdict, struct cose_signature_input *input);
 
 /** As cose_verify, under the keys of the table. */
 static inline void cose_table_verify(struct cose_table *table, const uint8_t *aad, size_t aad_length, enum cose_kind_number kind,
@@ -733,8 +733,8 @@ static inline void cose_table_verify(struct cose_table *table, const uint8_t *aa
     cose_edge_table_verify(table, cose_slice_(aad), aad_length, cose_kind_(kind), cose_slice_(message), message_length, verdict, input);
 }
 
-void cose_edge_table_verify_cwt(struct cose_table *table, const uint8_t *aad, size_t aad_length,
-    const struct cose_policy *policy, const uint8_t *token, size_t token_length, struct cose_claims_set *claims);
+void cose_edge_table_verify_cwt(struct cose_table *table, const uint8_t *aad, size_t aad_length, const struct cose_policy *policy,
+    const uint8_t *token, size_t token_length, struct cose_claims_set *claims);
 
 /** As cose_verify_cwt, under the keys of the table. */
 static inline void cose_table_verify_cwt(struct cose_table *table, const uint8_t *aad, size_t aad_length,
@@ -742,8 +742,8 @@ static inline void cose_table_verify_cwt(struct cose_table *table, const uint8_t
 {
     struct cose_policy cose_policy_ = *policy;
     if (cose_is_null_(aad, aad_length) ||
-        cose_is_null_(token, token_length) ||
-        cose_is_null_(policy->audience, policy->audience_length)) {
+        cose_is_null_(policy->audience, policy->audience_length) ||
+        cose_is_null_(token, token_length)) {
         memset(claims, 0, sizeof *claims);
         claims->status = COSE_BAD_ARGUMENT;
         return;
@@ -763,9 +763,8 @@ size_t cose_maker_align(void);
 /** Makes the block a maker of nothing. Once, before anything else. */
 void cose_maker_begin(uint8_t *block);
 
-void cose_edge_make(struct cose_maker *maker, int32_t alg, const uint8_t *key, size_t key_length, const uint8_t *kid,
-    size_t kid_length, const uint8_t *aad, size_t aad_length, uint64_t payload_length, uint8_t *head, size_t head_room,
-    struct cose_made *made);
+void cose_edge_make(struct cose_maker *maker, int32_t alg, const uint8_t *key, size_t key_length, const uint8_t *kid, size_t kid_length,
+    const uint8_t *aad, size_t aad_length, uint64_t payload_length, uint8_t *head, size_t head_room, struct cose_made *made);
 
 /** Writes what precedes the payload into head, at most 384 bytes. alg is 4, 5, 6 or 7 (RFC 9053 section 3.1). */
 static inline void cose_make(struct cose_maker *maker, int32_t alg, const uint8_t *key, size_t key_length, const uint8_t *kid,
@@ -780,8 +779,8 @@ static inline void cose_make(struct cose_maker *maker, int32_t alg, const uint8_
             made);
         return;
     }
-    cose_edge_make(maker, alg, cose_slice_(key), key_length, cose_slice_(kid), kid_length, cose_slice_(aad), aad_length,
-        payload_length, cose_room_(head), head_room, made);
+    cose_edge_make(maker, alg, cose_slice_(key), key_length, cose_slice_(kid), kid_length, cose_slice_(aad), aad_length, payload_length,
+        cose_room_(head), head_room, made);
 }
 
 uint64_t cose_edge_make_piece(struct cose_maker *maker, const uint8_t *piece, size_t piece_length);
