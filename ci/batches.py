@@ -2,22 +2,35 @@
 
 A check goes on after a function that isn't proved, and a caller stands on contracts. So edits of different functions can be
 tried at once: each is refused where a goal of its own function is. In one batch are at most one edit of a function, and only
-edits whose texts still stand once in their files after those before them.
+edits whose texts still stand once in their files after those before them. An edit of a constant that stands in no signature and
+in no type is one of the functions whose bodies name it.
 """
+import dataclasses
 import re
 from typing import NamedTuple
 
-# a function, an impl block and a trait, in the layout that `rt fmt` writes
-FUNCTION = re.compile(r"( *)(?:pub(?:\([^)]*\))? )?(?:const )?(?:unsafe )?fn (\w+)")
+# a function, an impl block, a trait, a type and a constant, in the layout that `rt fmt` writes
+FUNCTION = re.compile(r'( *)(?:pub(?:\([^)]*\))? )?(?:const )?(?:unsafe )?(?:extern "C" )?fn (\w+)')
 IMPL = re.compile(r"impl(?:<.*?>)? (?:([\w:]+)(?:<.*>)? for )?&?(?:'\w+ )?(?:mut )?(\w+)")
 TRAIT = re.compile(r"(?:pub(?:\([^)]*\))? )?trait (\w+)")
+TYPE = re.compile(r"^(?:pub(?:\([^)]*\))? )?(?:struct|enum) (\w+)", re.M)
+CONSTANT = re.compile(r"^ *(?:pub(?:\([^)]*\))? )?(?:const|static) (\w+): [^;]*;", re.M)
+# what names a constant and doesn't use it
+IMPORTS = re.compile(r"^ *(?:pub(?:\([^)]*\))? )?(?:ghost )?use [^;]*;|//.*", re.M)
 
 
-class Function(NamedTuple):
-    """A function's module, the type or the trait whose block it is in, if any, and its name."""
+@dataclasses.dataclass(frozen=True)
+class Function:
+    """A function's module, the type or the trait whose block it is in, if any, and its name; then the trait that the type meets
+    there. A method's module is that of its type, wherever its block stands."""
     module: str
     block: str
     name: str
+    trait: str = dataclasses.field(default="", compare=False)
+
+    def path(self):
+        """The path that a check has for it, without the crate's name."""
+        return "::".join(it for it in (self.module, self.block + self.trait, self.name) if it)
 
     def has(self, path):
         """Whether a goal at this path is a goal of the function: the path of a check, without the crate's name."""
@@ -28,7 +41,8 @@ class Function(NamedTuple):
         rest = parts[len(module):]
         if not self.block:
             return rest[:1] == [self.name]
-        return bool(rest) and rest[0].startswith(self.block) and self.name in rest[1:]
+        met = rest[:1] == [self.block] or self.trait and "".join(rest[:1]).startswith(self.block + self.trait)
+        return bool(met) and self.name in rest[1:]
 
 
 class Change(NamedTuple):
@@ -51,7 +65,20 @@ def changes_of(text):
     return found
 
 
-def function_at(file, text, place):
+def module_of(file):
+    return re.sub(r"(^|/)(lib|main)$", "", file.removeprefix("src/").removesuffix(".rt")).replace("/", "::")
+
+
+def types_in(read, files):
+    """The modules that declare a type, by its name."""
+    found = {}
+    for file in files:
+        for it in TYPE.finditer(read(file)):
+            found.setdefault(it[1], []).append(module_of(file))
+    return found
+
+
+def function_at(file, text, place, types=()):
     """The function of a source around this place of its text, or None, where there is none."""
     lines = text.split("\n")
     at = text.count("\n", 0, place)
@@ -64,53 +91,103 @@ def function_at(file, text, place):
     indent = found[1]
     if any(line == indent + "}" for line in lines[number:at]):
         return None  # it ended before
-    block = block_at(lines, number) if indent else ""
+    block, trait = block_at(lines, number) if indent else ("", "")
     if block is None:
         return None
-    module = re.sub(r"(^|/)(lib|main)$", "", file.removeprefix("src/").removesuffix(".rt")).replace("/", "::")
-    return Function(module, block, found[2])
+    module = module_of(file)
+    declared = dict(types).get(block, [])
+    if not trait and module not in declared and len(declared) == 1:
+        module = declared[0]
+    return Function(module, block, found[2], trait)
 
 
 def block_at(lines, number):
-    """The type or the trait whose block has this line, or None."""
+    """The type or the trait whose block has this line, and the trait that the type meets there, or None."""
     for line in reversed(lines[:number]):
         found = IMPL.match(line)
         if found:
-            return found[2]
+            return found[2], (found[1] or "").rpartition("::")[2]
         found = TRAIT.match(line)
         if found:
-            return found[1]
+            return found[1], ""
         if line == "}":
-            return None
-    return None
+            break
+    return None, ""
+
+
+def is_in_body(text, place):
+    """Whether a place that is in a function is in its body, and not in its signature or its clauses."""
+    lines = text[:place].split("\n")
+    number = max(at for at, line in enumerate(lines) if FUNCTION.match(line))
+    return any(re.search(r"^ *\{$|^ *(?!ensures|requires)\S.* \{$", line) for line in lines[number:-1])
+
+
+def constant_at(text, place):
+    """The name of the constant whose declaration is around this place, or None."""
+    return next((it[1] for it in CONSTANT.finditer(text) if it.start() <= place < it.end()), None)
+
+
+def users_of(name, text_of, files, types=()):
+    """The functions whose bodies name a constant, or None where something else does."""
+    users = set()
+    for file in files:
+        text = text_of(file)
+        own = [it.span() for it in CONSTANT.finditer(text) if it[1] == name]
+        imports = [(it.span(), " as " in it[0]) for it in IMPORTS.finditer(text)]
+        for found in re.finditer(rf"\b{name}\b", text):
+            place = found.start()
+            if any(start <= place < end for start, end in own):
+                continue
+            named = [renames for (start, end), renames in imports if start <= place < end]
+            if named and not any(named):
+                continue
+            function = None if named else function_at(file, text, place, types)
+            if function is None or not is_in_body(text, place):
+                return None
+            users.add(function)
+    return users or None
 
 
 class Batch:
     """Edits that are tried in one check: the texts of the files that they change, and each edit's functions."""
 
-    def __init__(self, read):
-        self.read, self.texts, self.functions = read, {}, {}
+    def __init__(self, read, files=()):
+        self.read, self.files, self.types = read, files, types_in(read, files)
+        self.texts, self.functions, self.constants = {}, {}, set()
 
     def text(self, file):
         return self.texts[file] if file in self.texts else self.read(file)
 
     def take(self, edit, changes):
         """Adds an edit, and says whether it could be: each text is there once, in a function that no other edit changes."""
-        texts, functions = {}, set()
+        texts, functions, constants = {}, set(), set()
         for file, old, new in changes:
             text = texts.get(file) or self.text(file)
             if not file.startswith("src/") or text.count(old) != 1:
                 return False
-            function = function_at(file, text, text.index(old))
-            if function is None or any(function in own for own in self.functions.values()):
+            place = text.index(old)
+            function, constant = function_at(file, text, place, self.types), constant_at(text, place)
+            if function is None and constant:
+                constants.add(constant)
+                changed = users_of(constant, self.text, self.files, self.types)
+            else:
+                changed = function and {function}
+            if not changed or any(own & changed for own in self.functions.values()):
                 return False
-            functions.add(function)
+            if any(re.search(rf"\b{it}\b", new) for it in self.constants):
+                return False
+            functions |= changed
             texts[file] = text.replace(old, new)
         if not functions:
             return False
         self.texts.update(texts)
         self.functions[edit] = functions
+        self.constants |= constants
         return True
+
+    def paths(self):
+        """The paths of all functions that the edits change."""
+        return sorted({it.path() for functions in self.functions.values() for it in functions})
 
     def refused(self, goals):
         """By edit, those of the goals that are of its functions."""
@@ -120,13 +197,13 @@ class Batch:
         }
 
 
-def batches(edits, read):
-    """Batches of the edits, a list of each edit and its changes, and those that can be in none."""
+def batches(edits, read, files=()):
+    """Batches of the edits, a list of each edit and its changes, and those that can be in none. The files are all sources."""
     made, alone = [], []
     for edit, changes in edits:
         if any(batch.take(edit, changes) for batch in made):
             continue
-        batch = Batch(read)
+        batch = Batch(read, files)
         if batch.take(edit, changes):
             made.append(batch)
         else:

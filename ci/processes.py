@@ -1,8 +1,10 @@
 """Processes as /proc shows them, with their processor time, and a bound of it."""
 import collections
+import contextlib
 import os
 import pathlib
 import resource
+import threading
 
 TICKS = os.sysconf("SC_CLK_TCK")
 # a process as /proc shows it: its parent, its start in ticks, and its processor time with that of ended children
@@ -38,3 +40,69 @@ def below(number, found):
     for it in all_of_them:
         all_of_them += children[it]
     return all_of_them
+
+
+def words_of(number):
+    """The words of a process of the checker and its folder, or None."""
+    try:
+        words = pathlib.Path("/proc", str(number), "cmdline").read_text(errors="replace").split("\0")
+        folder = os.readlink(f"/proc/{number}/cwd")
+    except OSError:
+        return None
+    at = next((at for at, it in enumerate(words) if it.endswith("/rattle")), None)
+    return None if at is None or words[at + 1] not in ("build", "check") else (words, folder)
+
+
+class Checks:
+    """The checks below a process, and the processor time of each. `part` gives what a check works for, by its words and folder."""
+
+    def __init__(self, part):
+        self.part = part
+        # by a check's number and start: its part, and its processor time so far
+        self.checks = {}
+
+    def sample(self, root):
+        """Adds what the processes have used, and returns the parts that checks are running for."""
+        found, parts = running(), set()
+        for number in below(root, found):
+            key = number, found[number].start
+            if key in self.checks:
+                part = self.checks[key][0]
+            else:
+                given = words_of(number)
+                part = given and self.part(*given)
+            parent = found[number].parent
+            # (a check works in copies of itself, too)
+            is_copy = parent in found and (parent, found[parent].start) in self.checks
+            if part and not is_copy:
+                self.checks[key] = part, sum(found[it].seconds for it in below(number, found))
+                parts.add(part)
+        return parts
+
+    def seconds(self):
+        """The processor time by part."""
+        sums = collections.Counter()
+        for part, spent in self.checks.values():
+            sums[part] += spent
+        return sums
+
+    def count(self, part):
+        """How many checks were seen for a part."""
+        return sum(it == part for it, _ in self.checks.values())
+
+    @contextlib.contextmanager
+    def seen(self, pause=0.5):
+        """Samples what is below this process, until the block ends."""
+        ended = threading.Event()
+
+        def watch():
+            while not ended.wait(pause):
+                self.sample(os.getpid())
+
+        thread = threading.Thread(target=watch, daemon=True)
+        thread.start()
+        try:
+            yield
+        finally:
+            ended.set()
+            thread.join()

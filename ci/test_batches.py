@@ -64,11 +64,27 @@ class Functions(unittest.TestCase):
         self.assertEqual(function_at("src/lib.rt", SOURCE, SOURCE.index("a + 0")), Function("", "", "first"))
 
     def test_whose_goal_it_is(self):
-        take = Function("a::b", "Reader", "take")
+        take = Function("a::b", "Reader", "take", "Take")
         for path in "a::b::ReaderTake::take", "a::b::<Reader as Take>::take", "a::b::Reader::take::bytes":
             self.assertTrue(take.has(path), path)
-        for path in "a::b::Reader::other", "a::c::Reader::take", "a::b::Writer::take", "b::Reader::take":
+        for path in "a::b::Reader::other", "a::c::Reader::take", "a::b::Writer::take", "b::Reader::take", "a::b::Readers::take":
             self.assertFalse(take.has(path), path)
+
+    def test_the_path_of_a_check(self):
+        self.assertEqual(at("self.a + 1").path(), "a::b::ReaderTake::take")
+        self.assertEqual(at("a + 0").path(), "a::b::first")
+        self.assertEqual(function_at("src/main.rt", SOURCE, SOURCE.index("        3")).path(), "Give::give")
+
+    def test_a_method_is_of_the_module_of_its_type(self):
+        types = {"Reader": ["a"], "Twice": ["a", "c"]}
+        text = "impl Reader {\n    fn read() {\n        7\n    }\n}\n"
+        self.assertEqual(function_at("src/a/b.rt", text, text.index("7"), types), Function("a", "Reader", "read"))
+        text = text.replace("Reader", "Twice")
+        self.assertEqual(function_at("src/a/b.rt", text, text.index("7"), types), Function("a::b", "Twice", "read"))
+
+    def test_a_function_for_callers_in_c(self):
+        text = '#[unsafe(no_mangle)]\npub extern "C" fn lent(a: u8) {\n    a + 5\n}\n'
+        self.assertEqual(function_at("src/c.rt", text, text.index("a + 5")), Function("c", "", "lent"))
 
     def test_a_module_of_that_name_below_is_another(self):
         self.assertFalse(Function("a", "Reader", "b").has("a::b::Reader::take"))
@@ -93,6 +109,22 @@ class Batches(unittest.TestCase):
 
     def test_definitions_constants_and_unknown_texts_are_alone(self):
         self.assertEqual(self.made(edit("a", "b", "specs/A.antt"), edit("MOST", "LEAST"), edit("none", "")), ([], ["0", "1", "2"]))
+
+    def test_a_constant_is_of_the_bodies_that_name_it(self):
+        users = {
+            "src/limits.rt": "pub const ROOM: usize = 8; // ROOM\npub const WIDTH: usize = 2;\n",
+            "src/c.rt": "use crate::limits::{ROOM,\n    WIDTH};\n\nfn one() -> u8 {\n    ROOM\n}\n\nfn two() -> u8\n    ensures { true }\n"
+            "{\n    ROOM + 1\n}\n\nfn three() -> [u8; WIDTH] {\n    four()\n}\n",
+        }
+        room = [Change("src/limits.rt", "ROOM: usize = 8", "ROOM: usize = 9")]
+        width = [Change("src/limits.rt", "= 2;", "= 3;")]
+        one, three = [Change("src/c.rt", "    ROOM\n", "    0\n")], [Change("src/c.rt", "four()", "five()")]
+        named = [Change("src/c.rt", "four()", "ROOM")]
+        files = [("room", room), ("width", width), ("one", one), ("three", three), ("named", named)]
+        made, alone = batches(files, users.get, list(users))
+        self.assertEqual([sorted(it.functions) for it in made], [["room", "three"], ["named", "one"]])
+        self.assertEqual(made[0].functions["room"], {Function("c", "", "one"), Function("c", "", "two")})
+        self.assertEqual(alone, ["width"])
 
     def test_all_are_tried(self):
         edits = [edit("a + 0", str(number)) for number in range(9)] + [edit("MOST", "LEAST")]

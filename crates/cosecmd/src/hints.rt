@@ -42,6 +42,11 @@ impl First {
         }
     }
 
+    /// How many bytes there were.
+    pub fn length(&self) -> usize {
+        self.length
+    }
+
     /// Whether there are enough of them to tell what they begin as.
     pub fn is_enough(&self) -> bool {
         self.length >= ENOUGH

@@ -9,15 +9,19 @@ ghost use Rattle.std.specs.Process.{exit_status};
 mod advice;
 mod allowed;
 mod answer;
+mod argument_advice;
 mod arguments;
+mod cause;
 mod checks;
 mod commands;
 mod fault;
 mod files;
 mod hints;
+mod host_file;
 mod input;
 mod input_form;
 mod job;
+mod key_hints;
 mod limits;
 mod line;
 mod mistake;
@@ -35,6 +39,7 @@ mod vouch;
 mod write_sink;
 
 use advice::Ended;
+use argument_advice::say_of_arguments;
 use cose_text::{InputForm, TextFault, TextInput};
 use hints::Form;
 use noted_files::NotedFiles;
@@ -94,8 +99,20 @@ fn say_more(rt: &HostRuntime, ended: &Ended, form: Option<Form>, complaint: Opti
             "cosecmd: --algs takes numbers of algorithms, joined by commas; its part {part} is none"
         );
     }
+    say_of_arguments(rt, ended);
     if let Some(advice) = ended.advice() {
         let _ = eprintln!(rt; "cosecmd: {advice}");
+    }
+}
+
+/// Says on standard error why standard input couldn't be read, where the run has ended for that.
+fn say_why_unread(rt: &HostRuntime, ended: &Ended, cause: Option<&str>, is_closed: bool) {
+    if !ended.has_printed("fault ", "input") {
+        return;
+    }
+    if let Some(cause) = cause {
+        let cause = if is_closed { "it is closed" } else { cause };
+        let _ = eprintln!(rt; "cosecmd: standard input can't be read: {cause}");
     }
 }
 
@@ -114,7 +131,7 @@ fn say_of_text(rt: &HostRuntime, form: InputForm, fault: TextFault, first: &[u8]
 }
 
 /// Runs the command of these arguments over the standard streams, and says on standard error that it waits for a terminal.
-fn run_command(rt: &HostRuntime, words: &[&str]) -> u8 {
+fn run_command(rt: &HostRuntime, words: &[&str], is_closed: bool) -> u8 {
     if reads_input(words) && rt.stdin().is_terminal() {
         let _ = rt.eprintln("cosecmd: reading from this terminal, up to its end of file");
     }
@@ -141,11 +158,12 @@ fn run_command(rt: &HostRuntime, words: &[&str]) -> u8 {
         noted.form()
     };
     say_more(rt, &ended, begins, output.complaint());
+    say_why_unread(rt, &ended, noted.cause(), is_closed);
     status
 }
 
 fn main(rt: HostRuntime) -> ExitCode {
-    let _input = hold_closed(&rt, "/dev/fd/0");
+    let input = hold_closed(&rt, "/dev/fd/0");
     let _output = hold_closed(&rt, "/dev/fd/1");
     let _error = hold_closed(&rt, "/dev/fd/2");
     let owned = match owned_words(&rt) {
@@ -157,7 +175,7 @@ fn main(rt: HostRuntime) -> ExitCode {
         Err(_) => return complain(&mut rt.stdout(), "fault memory\n"),
     };
     match borrowed_words(rt.alloc(), owned.as_slice()) {
-        Ok(words) => ExitCode::from(run_command(&rt, words.as_slice())),
+        Ok(words) => ExitCode::from(run_command(&rt, words.as_slice(), input.is_some())),
         Err(_) => complain(&mut rt.stdout(), "fault memory\n"),
     }
 }
