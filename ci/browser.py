@@ -78,6 +78,7 @@ class Tab:
         self.target = target
         for domain in WATCHED:
             self.call(f"{domain}.enable")
+        self.call("Performance.enable", timeDomain="threadTicks")
         self.resize(width, height, dark)
         if before:
             self.call("Page.addScriptToEvaluateOnNewDocument", source=before)
@@ -99,6 +100,11 @@ class Tab:
             details = answer["exceptionDetails"]
             raise RuntimeError(details.get("exception", {}).get("description") or details["text"])
         return answer["result"].get("value")
+
+    def processor_seconds(self):
+        """The time of the processor that the page's own work took."""
+        metrics = {it["name"]: it["value"] for it in self.call("Performance.getMetrics")["metrics"]}
+        return metrics["TaskDuration"]
 
     def wait(self, condition):
         """Asks the page until it is so. The page answers after its other work, so a slow machine is asked less often."""

@@ -8,10 +8,31 @@ returned (u64), and then each room and each struct that it filled, at multiples 
 import collections
 import ctypes
 import struct
+from typing import NamedTuple
 
-SLOTS, LARGE_SLOTS = 8, 2
 KEEPING = ("open", "open_detached", "table_read")
 DECLARED = {ctypes.c_uint8: "(uint8_t)", ctypes.c_int32: "(int32_t)"}
+
+
+class Rooms(NamedTuple):
+    """What boards/rows.c has of each: the slots for blocks of the small and of the large size, the bytes of such a block, the bytes that
+    stay until the next opening, and those of a request and of an answer."""
+
+    slots: int = 8
+    block: int = 16384
+    large_slots: int = 2
+    large_block: int = 140032
+    kept: int = 140000
+    request: int = 1500000
+    answer: int = 16384
+
+    def defined(self):
+        """The options of the compiler."""
+        return [f"-D{name.upper()}={value}" for name, value in self._asdict().items()]
+
+
+class LeftOut(Exception):
+    """A call that the board has no room for. rows.py has one of its own, which takes the place of this."""
 
 
 def calls_of(library):
@@ -91,8 +112,8 @@ def cases(library):
 class Device:
     """The library, as ctypes.CDLL would give it."""
 
-    def __init__(self, requests, answers):
-        self.requests, self.answers = requests, answers
+    def __init__(self, rooms):
+        self.requests, self.answers, self.rooms, self.left_out = None, None, rooms, LeftOut
         self.library, self.numbers, self.calls = None, {}, 0
         self.slots = {False: collections.OrderedDict(), True: collections.OrderedDict()}
 
@@ -109,6 +130,8 @@ class Device:
     def ask(self, number, body):
         """Sends a request, and returns what the call returned and what it filled."""
         data = struct.pack("<IH", len(body) + 2, number) + body
+        if len(data) > self.rooms.request:
+            raise self.left_out("longer than the board has room for")
         self.requests.write(data)
         self.requests.flush()
         (size,) = struct.unpack("<I", self.read(4))
@@ -123,14 +146,14 @@ class Device:
 
     def slot(self, address, large, begins):
         """The slot of a block. The one that was used longest ago is given to a new one."""
-        table, count = self.slots[large], LARGE_SLOTS if large else SLOTS
+        table, count = self.slots[large], self.rooms.large_slots if large else self.rooms.slots
         if address not in table:
             if not begins:
                 raise SystemExit("device_rows: a block that wasn't begun, or too many at once")
             free = set(range(count)) - set(table.values())
             table[address] = min(free) if free else table.popitem(last=False)[1]
         table.move_to_end(address)
-        return table[address] + (SLOTS if large else 0)
+        return table[address] + (self.rooms.slots if large else 0)
 
 
 class Call:

@@ -84,6 +84,14 @@ static void claims(void)
     }
     cose_audience(NULL, 0, 0, &audience);
     is("the audience of no bytes", audience.present, 0);
+    for (uint64_t place = 1; place != 0; place <<= 1) {
+        cose_next_audience(aud, sizeof aud, place, &audience);
+        is("a text string at a place", audience.present, place == 2);
+    }
+    cose_next_audience(aud, sizeof aud, UINT64_MAX, &audience);
+    is("a text string at the last place", audience.present, 0);
+    cose_next_audience(NULL, 1, 0, &audience);
+    is("a text string of no bytes", audience.present, 0);
 }
 
 /* A block without keys. */
@@ -204,6 +212,68 @@ static void signatures(void)
     }
 }
 
+/* An answer that was asked for one message isn't taken for another one. */
+static void numbers_of_messages(void)
+{
+    struct cose_verifier verifier = {block};
+    struct cose_message_verdict verdict;
+    struct cose_fed fed;
+    cose_begin(block);
+    is("open: a point", opened(&verifier, point, 75, COSE_TAGGED), COSE_MORE);
+    const uint64_t first = cose_message_number(&verifier);
+    cose_feed(&verifier, sign1, sizeof sign1, &fed);
+    is("the number of a message that was fed", cose_message_number(&verifier), first);
+    cose_reset(&verifier);
+    cose_feed(&verifier, sign1, sizeof sign1, &fed);
+    const uint64_t second = cose_message_number(&verifier);
+    is("another number", second != first, 1);
+    cose_verdict_for(&verifier, first, 1, &verdict);
+    is("an answer for another message", verdict.status, COSE_BAD_ARGUMENT);
+    cose_verdict_for(&verifier, second, 1, &verdict);
+    is("an answer for the message", verdict.status, COSE_AUTHENTIC);
+    cose_verdict_for(&verifier, first, 0, &verdict);
+    is("an answer for another message, once more", verdict.status, COSE_BAD_ARGUMENT);
+    is("open again", opened(&verifier, point, 75, COSE_TAGGED), COSE_MORE);
+    is("a third number", cose_message_number(&verifier) != second, 1);
+}
+
+/* A block that is wiped is as one that was begun, and has no byte of a key. */
+static void wiped(void)
+{
+    struct cose_verifier verifier = {block};
+    struct cose_table table = {block};
+    struct cose_maker maker = {block};
+    struct cose_key_set key_set;
+    struct cose_message_verdict verdict;
+    struct cose_signature_input input;
+    struct cose_made found;
+    static uint8_t room[384];
+    is("the library of this header", cose_fits(), 1);
+    cose_begin(block);
+    is("open", opened(&verifier, keys, sizeof keys, COSE_TAGGED), COSE_MORE);
+    cose_wipe(&verifier);
+    closed(&verifier);
+    cose_table_begin(block);
+    cose_table_read(&table, keys, sizeof keys, &key_set);
+    cose_table_wipe(&table);
+    cose_table_verify(&table, NULL, 0, COSE_TAGGED, mac0, sizeof mac0, &verdict, &input);
+    is("a table that was wiped", verdict.status, COSE_CLOSED);
+    cose_maker_begin(block);
+    cose_make(&maker, 5, keys, sizeof keys, NULL, 0, NULL, 0, 2, room, sizeof room, &found);
+    is("a maker", found.status, COSE_MORE);
+    cose_maker_wipe(&maker);
+    cose_make_end(&maker, room, sizeof room, &found);
+    is("a maker that was wiped", found.status, COSE_CLOSED);
+}
+
+static void names(void)
+{
+    is("a reason's name", strcmp(cose_reason_name(COSE_REASON_ATTACHED), "Attached"), 0);
+    is("a status's name", strcmp(cose_status_name(COSE_BAD_ARGUMENT), "BadArgument"), 0);
+    is("no reason", cose_reason_name(COSE_REASON_ATTACHED + 1) == NULL && cose_reason_name(255) == NULL, 1);
+    is("no status", cose_status_name(COSE_BAD_ARGUMENT + 1) == NULL && cose_status_name(255) == NULL, 1);
+}
+
 static void tables(void)
 {
     struct cose_table table = {block};
@@ -285,6 +355,9 @@ int main(void)
     reopened();
     large_reopened();
     signatures();
+    numbers_of_messages();
+    wiped();
+    names();
     tables();
     makers();
     printf("%d failed\n", failures);

@@ -5,6 +5,7 @@ argument True. The lines, the exit statuses and the order in which the arguments
 are judged are those of README.md and of the section on the program in docs/DECISIONS.md.
 """
 import contextlib
+import datetime
 import re
 from dataclasses import dataclass
 
@@ -14,6 +15,23 @@ from second_reading import Refused
 AAD_LIMIT = 65_535
 KID_LIMIT = 255
 CLAIMS_LIMIT = 4_096
+
+
+@dataclass(frozen=True)
+class Limits:
+    """The room of --limits."""
+
+    header: int = reading.HEADER_LIMIT
+    nesting: int = reading.NESTING
+    usable_keys: int = reading.USABLE_KEYS
+    claims: int = CLAIMS_LIMIT
+
+
+LIMITS = {"small": Limits(), "large": Limits(65_535, 16, 256, 65_535)}
+
+
+def limits_of(options):
+    return LIMITS[options.get("limits", "small")]
 
 
 @dataclass(frozen=True)
@@ -31,6 +49,10 @@ class Answer:
 
 class Unmet(Exception):
     """The first requirement that admitted claims don't meet."""
+
+    def __init__(self, text, taken):
+        super().__init__(text)
+        self.taken = taken
 
 
 class Fault(Exception):
@@ -77,16 +99,20 @@ def context_of(command, options):
     keys, algorithms, aad = hexadecimal(options, "keys"), algorithms_of(options), external_data(options)
     least_secret = int(options.get("least-secret", "0"))
     vouch, payload = hexadecimal(options, "vouch"), hexadecimal(options, "payload")
+    limits = limits_of(options)
     try:
-        usable = reading.read_key_set(keys, algorithms, least_secret)
+        usable = reading.read_key_set(keys, algorithms, least_secret, limits.usable_keys)
     except Refused as refusal:
         raise Fault(f"keys {refusal}") from None
     wanted = "sign1" if command == "digest" else options.get("kind", "tagged")
-    payload_limit = CLAIMS_LIMIT if command == "cwt" else reading.PAYLOAD_LIMIT
-    return reading.Context(wanted, usable, aad, payload_limit, vouch, payload)
+    payload_limit = limits.claims if command == "cwt" else reading.PAYLOAD_LIMIT
+    context = reading.Context(wanted, usable, aad, payload_limit, vouch, payload)
+    context.header_limit, context.nesting = limits.header, limits.nesting
+    return context
 
 
 def demand_end(data, message):
+    """Nothing follows the message, but for another one of a sequence."""
     reading.demand(len(data) == message.taken, reading.Reason.Trailing, message.taken)
 
 
@@ -95,26 +121,86 @@ def printed(lines):
 
 
 def show(options, data):
-    message = reading.read_message(data, reading.Context(options.get("kind", "tagged")))
+    limits = limits_of(options)
+    context = reading.Context(options.get("kind", "tagged"), header_limit=limits.header, nesting=limits.nesting)
+    message = reading.read_message(data, context)
     demand_end(data, message)
-    return printed(lines_of_shape(message))
+    return printed(lines_of_shape(message, "diagnostic" in options))
 
 
-def lines_of_shape(message):
+def lines_of_shape(message, in_diagnostic_notation=False):
     payload, auth = len(message.payload), len(message.auth)
     yield f"shape {message.kind} payload {payload} auth {auth} taken {message.taken}"
     for name, bucket in ("protected", message.protected), ("unprotected", message.unprotected):
         for label, value in bucket.values():
-            yield f"{name} {label.spelling().hex()} {value.spelling().hex()}"
+            notation = f" {diagnostic(label)}: {diagnostic(value)}" if in_diagnostic_notation else ""
+            yield f"{name} {label.spelling().hex()} {value.spelling().hex()}{notation}"
+
+
+def diagnostic(item):
+    """An item in diagnostic notation (RFC 8949 section 8); floats and texts that aren't UTF-8 have forms of their own."""
+    if item.integer() is not None:
+        return str(item.integer())
+    if item.major == reading.BYTES:
+        return f"h'{item.content().hex()}'"
+    if item.major == reading.TEXT:
+        return f"text'{item.content().hex()}'" if item.text() is None else quoted(item.text())
+    inner = [diagnostic(it) for it in item.children]
+    if item.major == reading.ARRAY:
+        return f"[{', '.join(inner)}]"
+    if item.major == reading.MAP:
+        return "{" + ", ".join(f"{label}: {value}" for label, value in zip(inner[::2], inner[1::2])) + "}"
+    if item.major == reading.TAG:
+        return f"{item.argument}({inner[0]})"
+    if item.is_float():
+        return f"float'{item.content().hex() or item.spelling()[1:].hex()}'"
+    return SIMPLE_VALUES.get(item.argument, f"simple({item.argument})")
+
+
+SIMPLE_VALUES = {20: "false", 21: "true", 22: "null", 23: "undefined"}
 
 
 def verify(options, data):
     context = context_of("verify", options)
+    if "sequence" in options:
+        return sequence(data, lambda rest: verified(context, rest))
+    message, lines = verified(context, data)
+    demand_end(data, message)
+    return printed(lines)
+
+
+def verified(context, data):
+    """The authentic message that bytes begin with, and its line."""
     message = reading.read_message(data, context)
     reading.authenticate(message, context)
-    demand_end(data, message)
     length = len(message.payload)
-    return printed([f"authentic {message.kind} alg {message.alg} payload {length} taken {message.taken}"])
+    return message, [f"authentic {message.kind} alg {message.alg} payload {length} taken {message.taken}"]
+
+
+class Listed(Exception):
+    """What is printed of a sequence one of whose messages isn't accepted."""
+
+
+def sequence(data, answered):
+    """The answers to a sequence of messages, each after its place; one that has no known end is the last."""
+    lines, place, is_refused = [], 0, False
+    while place < len(data):
+        lines.append(f"at {place}")
+        try:
+            message, accepted = answered(data[place:])
+            taken = message.taken
+            lines += accepted
+        except (Refused, Unmet) as refusal:
+            is_refused = True
+            lines.append(f"refused {refusal}")
+            taken = refusal.taken if isinstance(refusal, Unmet) or refusal.taken else None
+        if taken is None:
+            lines.append(f"ended at {place}: the next message can't be found")
+            break
+        place += taken
+    if is_refused:
+        raise Listed(printed(lines))
+    return printed(lines)
 
 
 def digest(options, data):
@@ -125,28 +211,38 @@ def digest(options, data):
 
 
 @contextlib.contextmanager
-def refusals_of(part):
-    """Names what is refused: the message or the claims."""
+def refusals_of(part, taken=None):
+    """Names what is refused: the message, or the claims of one that has this many bytes."""
     try:
         yield
     except Refused as refusal:
         refusal.part = f"{part} "
+        refusal.taken = refusal.taken if taken is None else taken
         raise
 
 
 def cwt(options, data):
     context = context_of("cwt", options)
+    if "sequence" in options:
+        return sequence(data, lambda rest: admitted(options, context, rest))
+    message, lines = admitted(options, context, data)
+    with refusals_of("message"):
+        demand_end(data, message)
+    return printed(lines)
+
+
+def admitted(options, context, data):
+    """The admitted token that bytes begin with, and the lines of its claims."""
     with refusals_of("message"):
         message = reading.read_message(data, context)
         reading.authenticate(message, context)
-    with refusals_of("claims"):
-        claims = reading.read_claims(message.payload)
-        reading.admit(claims, int(options["now"]), int(options.get("leeway", "0")), options.get("aud"))
+    with refusals_of("claims", message.taken):
+        claims = reading.read_claims(message.payload, context.nesting)
+        audience = [options["aud"]] if "aud" in options else None
+        reading.admit(claims, int(options["now"]), int(options.get("leeway", "0")), audience)
     for name, place in reading.unmet_requirements(claims, requirements_of(options)):
-        raise Unmet(f"policy {name} at {place}")
-    with refusals_of("message"):
-        demand_end(data, message)
-    return printed(lines_of_claims(claims))
+        raise Unmet(f"policy {name} at {place}", message.taken)
+    return message, list(lines_of_claims(claims, "text" in options))
 
 
 def requirements_of(options):
@@ -156,21 +252,21 @@ def requirements_of(options):
         aud = options.get("aud")
         present += ["aud"] if aud is None else []
     limits = {it: int(options[name]) for it, name in (("lifetime", "max-lifetime"), ("age", "max-age")) if name in options}
+    limits["issued"] = "age" in limits
     return reading.Requirements(
         int(options["now"]), int(options.get("leeway", "0")), tuple(present), options.get("iss"), options.get("sub"), aud, **limits
     )
 
 
-def lines_of_claims(claims):
+def lines_of_claims(claims, with_text=False):
     yield "admitted"
-    for name in "iss", "sub":
-        if name in claims:
-            yield f"{name} {claims[name].content().hex()}"
-    for it in reading.audience_of(claims):
-        yield f"aud {it.content().hex()}"
+    texts = [(name, claims[name]) for name in ("iss", "sub") if name in claims]
+    for name, it in texts + [("aud", it) for it in reading.audience_of(claims)]:
+        yield f"{name} {it.content().hex()}" + (f" {quoted(it.text())}" if with_text else "")
     for name in "exp", "nbf", "iat":
         if name in claims:
-            yield f"{name} {claims[name].integer()}"
+            seconds = claims[name].integer()
+            yield f"{name} {seconds}" + (date_of(seconds) if with_text else "")
     if "cti" in claims:
         yield f"cti {claims['cti'].content().hex()}"
     if "cnf key" in claims:
@@ -181,6 +277,19 @@ def lines_of_claims(claims):
         yield f"cnf kid {claims['cnf kid'].content().hex()}"
 
 
+def date_of(seconds):
+    """A space and the date, where the year has four digits. Python's dates begin in the year 1: the year 0 is as long as 2000."""
+    days, second = divmod(seconds, 86_400)
+    clock = f"T{second // 3600:02}:{second // 60 % 60:02}:{second % 60:02}Z"
+    ordinal = days + datetime.date(1970, 1, 1).toordinal()
+    if -366 < ordinal <= 0:
+        day = datetime.date.fromordinal(ordinal + 366 + datetime.date(1999, 12, 31).toordinal())
+        return f" 0000-{day.month:02}-{day.day:02}{clock}"
+    if 0 < ordinal <= datetime.date.max.toordinal():
+        return f" {datetime.date.fromordinal(ordinal).isoformat()}{clock}"
+    return ""
+
+
 def make(options, data):
     alg, length = int(options["alg"]), int(options["length"])
     key_bytes, kid, aad = hexadecimal(options, "key"), hexadecimal(options, "kid"), external_data(options)
@@ -189,9 +298,9 @@ def make(options, data):
     except Refused as refusal:
         raise Fault(f"key {refusal}") from None
     may_make = key.operations is None or reading.MAC_CREATE in key.operations
-    if key.type != reading.SYMMETRIC or key.alg not in (None, alg) or not may_make:
+    if key.type != reading.SYMMETRIC or key.alg not in (None, alg) or not may_make or not reading.is_of_kind(alg, "mac0"):
         raise Fault("make WrongKey")
-    if kid is not None and len(kid) > KID_LIMIT:
+    if kid is not None and len(kid) > KID_LIMIT or length > reading.PAYLOAD_LIMIT:
         raise Fault("make TooLong")
     protected = bytes([0xA1, reading.ALG, alg])
     unprotected = b"\xa0" if kid is None else bytes([0xA1, reading.KID]) + reading.string(kid)
@@ -211,7 +320,8 @@ def keys(options, data):
     asked = None
     if "for-message" in options:
         # the headers have the large limits
-        asked = reading.read_headers(data, options.get("kind", "tagged"), 65_535, 16)
+        context = reading.Context(options.get("kind", "tagged"), header_limit=65_535, nesting=16)
+        asked = reading.read_headers(data, context)
     lines = [f"key at {place} {words_of(it, asked)}" for place, it in items]
     count = f"usable {usable} of {len(items)}"
     if usable > reading.USABLE_KEYS:
@@ -231,7 +341,7 @@ def words_of(key, asked):
     if key.alg is not None:
         words.append(f"alg {quoted(key.alg) if isinstance(key.alg, str) else key.alg}")
     if key.operations is not None:
-        listed = ",".join(str(it) for it in range(1, 11) if it in key.operations)
+        listed = ",".join(map(str, reading.known_operations(key)))
         words.append(f"ops {listed}".strip())
     words.append("usable")
     if asked is not None:
@@ -258,7 +368,7 @@ def answer(command, options, data):
         return Answer(1, printed([f"refused {refusal}"]))
     except Unmet as unmet:
         return Answer(1, printed([f"refused {unmet}"]))
-    except TooMany as listed:
+    except (TooMany, Listed) as listed:
         return Answer(1, listed.args[0])
     except Fault as fault:
         return Answer(2, printed([f"fault {fault}"]))

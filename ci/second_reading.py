@@ -38,6 +38,8 @@ class Refused(Exception):
         super().__init__(reason, place)
         # `cwt` prints which bytes the place is relative to
         self.reason, self.place, self.part = reason, place, ""
+        # the bytes of the message, where its end is known
+        self.taken = None
 
     def __str__(self):
         return f"{self.part}{self.reason.name} at {self.place}"
@@ -228,14 +230,13 @@ HEADER_FORMS = {
 }
 
 
-def check_buckets(protected, unprotected, after):
+def check_buckets(protected, unprotected, after, understood=()):
     """Refuses both buckets together for the fault at the least place, and there for the least reason."""
     faults = []
     for element in protected[CRIT][1].children if CRIT in protected else ():
         if element.name() not in protected:
             faults.append((element.place, Reason.CritAbsent))
-        # the program understands no further label
-        if element.name() not in KNOWN_HEADERS:
+        if element.name() not in KNOWN_HEADERS and element.name() not in understood:
             faults.append((element.place, Reason.CritUnknown))
     faults += [(label.place, Reason.BothBuckets) for name, (label, _) in unprotected.items() if name in protected]
     if CRIT in unprotected:
@@ -329,12 +330,17 @@ def read_key_items(data):
 
 
 @functools.lru_cache(maxsize=8)
-def read_key_set(data, algorithms=None, least_secret=0):
+def read_key_set(data, algorithms=None, least_secret=0, most=USABLE_KEYS):
     """The usable keys of a key set that are allowed. A key that is refused, or isn't allowed, is ignored."""
     keys = [it for _place, it in read_key_items(data) if isinstance(it, Key)]
     keys = [it for it in keys if is_allowed(it, algorithms, least_secret)]
-    demand(len(keys) <= USABLE_KEYS, Reason.BadKeySet, 0)
+    demand(len(keys) <= most, Reason.BadKeySet, 0)
     return keys
+
+
+def known_operations(key):
+    """The registered operations that a key lists (RFC 9052 section 7.1), in their order."""
+    return [it for it in range(1, 11) if it in key.operations]
 
 
 def is_allowed(key, algorithms, least_secret):
@@ -419,6 +425,14 @@ class Context:
     vouch: bytes | None = None
     # the bytes of a detached payload; without them the message has its payload
     payload: bytes | None = None
+    # the stated number of these bytes; without it that of those that are there
+    payload_length: int | None = None
+    # whether the tag of a CWT may come first
+    cwt: bool = True
+    # further labels that may be critical: the program understands none
+    understood: tuple = ()
+    header_limit: int = HEADER_LIMIT
+    nesting: int = NESTING
 
 
 @dataclass
@@ -438,11 +452,11 @@ class Message:
     alg: int | None
 
 
-def read_front(data, wanted):
+def read_front(data, wanted, cwt=True):
     """The kind of a message, and the place after its tags and its array's head."""
     place, kind = 0, None
     major, argument, width = read_head(data, place)
-    if (major, argument) == (TAG, CWT_TAG):
+    if cwt and (major, argument) == (TAG, CWT_TAG):
         place += width
         major, argument, width = read_head(data, place)
         demand(major == TAG, Reason.CwtTagAlone, place)
@@ -487,16 +501,20 @@ def read_payload(data, place, context):
         return read_string(data, place, lambda it: it <= context.payload_limit, Reason.PayloadTooLong)
     demand(major != BYTES, Reason.Attached, place)
     demand(is_nil, Reason.WrongType, place)
+    length = len(context.payload) if context.payload_length is None else context.payload_length
+    demand(length <= min(context.payload_limit, PAYLOAD_LIMIT), Reason.PayloadTooLong, place)
+    demand(length <= len(context.payload), Reason.Truncated, place)
     return context.payload, place + width
 
 
-def read_headers(data, wanted, limit=HEADER_LIMIT, nesting=NESTING):
+def read_headers(data, context):
     """The kind of a message, its buckets, the bytes of the protected one, and the place after them."""
-    kind, place = read_front(data, wanted)
+    limit, nesting = context.header_limit, context.nesting
+    kind, place = read_front(data, context.wanted, context.cwt)
     protected, protected_bytes, place = read_protected(data, place, limit, nesting)
     item = read_item(data, place, place + limit, nesting)
     unprotected = read_map(item, HEADER_FORMS)
-    check_buckets(protected, unprotected, item.end)
+    check_buckets(protected, unprotected, item.end, context.understood)
     return kind, protected, unprotected, protected_bytes, item.end
 
 
@@ -519,7 +537,7 @@ def failed_condition(key, headers):
 
 def read_message(data, context):
     """The message that some bytes begin with, up to its last byte, which is before the comparison."""
-    kind, protected, unprotected, protected_bytes, place = read_headers(data, context.wanted)
+    kind, protected, unprotected, protected_bytes, place = read_headers(data, context)
     key, alg = None, None
     if context.keys is not None:
         key, alg = choose_key(context.keys, kind, protected, unprotected, place)
@@ -529,10 +547,15 @@ def read_message(data, context):
     return Message(kind, protected, unprotected, protected_bytes, payload, auth, auth_place, taken, key, alg)
 
 
-def structure(kind, protected_bytes, aad, payload):
-    """What is authenticated, with shortest heads (RFC 9052 sections 4.4, 6.3 and 9)."""
+def structure_front(kind, protected_bytes, aad, length):
+    """What is authenticated, up to a payload of this length, with shortest heads (RFC 9052 sections 4.4, 6.3 and 9)."""
     context = {"mac0": b"MAC0", "sign1": b"Signature1"}[kind]
-    return head(ARRAY, 4) + string(context, TEXT) + string(protected_bytes) + string(aad) + string(payload)
+    return head(ARRAY, 4) + string(context, TEXT) + string(protected_bytes) + string(aad) + head(BYTES, length)
+
+
+def structure(kind, protected_bytes, aad, payload):
+    """What is authenticated."""
+    return structure_front(kind, protected_bytes, aad, len(payload)) + payload
 
 
 def mac(alg, key, content):
@@ -540,10 +563,18 @@ def mac(alg, key, content):
     return hmac.digest(key.secret, content, algorithm.hash)[: algorithm.auth_length]
 
 
+def digest_of(alg, content):
+    return hashlib.new(ALGORITHMS[alg].hash, content).digest()
+
+
+def signed_digest(message, aad):
+    """The digest of a message's Sig_structure."""
+    return digest_of(message.alg, structure(message.kind, message.protected_bytes, aad, message.payload))
+
+
 def vouch_word(message, aad):
     """The bytes that vouch for a signature: the curve, the digest, the signature, x, and y or its sign."""
-    content = structure(message.kind, message.protected_bytes, aad, message.payload)
-    digest = hashlib.new(ALGORITHMS[message.alg].hash, content).digest()
+    digest = signed_digest(message, aad)
     y = bytes([message.key.y]) if isinstance(message.key.y, bool) else message.key.y
     return bytes([message.key.curve]) + digest + message.auth + message.key.x + y
 
@@ -554,7 +585,11 @@ def authenticate(message, context):
         is_good = mac(message.alg, message.key, content) == message.auth
     else:
         is_good = vouch_word(message, context.aad) == context.vouch
-    demand(is_good, Reason.BadAuth, message.auth_place)
+    try:
+        demand(is_good, Reason.BadAuth, message.auth_place)
+    except Refused as refusal:
+        refusal.taken = message.taken
+        raise
 
 
 # Claims (RFC 8392 section 3, RFC 8747 section 3)
@@ -585,9 +620,9 @@ CLAIMS = {
 CLAIM_FORMS = {label: it for label, (_, it) in CLAIMS.items()}
 
 
-def read_claims(payload):
+def read_claims(payload, nesting=NESTING):
     """The values of the claims by their names, with `cnf key`, which is a `Key`, and `cnf kid`."""
-    item = read_whole(payload, 0, len(payload), NESTING)
+    item = read_whole(payload, 0, len(payload), nesting)
     is_nested = item.major == TAG and item.argument in (*ENCRYPTED, *TAGS, *SEVERAL_PARTIES, CWT_TAG)
     demand(not is_nested, Reason.NestedCwt, 0)
     pairs = read_map(item, CLAIM_FORMS)
@@ -623,13 +658,13 @@ def audience_of(claims):
 
 
 def admit(claims, now, leeway, audience):
-    """Refuses claims for their dates, or for an audience that lacks this text."""
+    """Refuses claims for their dates, or for an audience that lacks each of these texts; without any none is compared."""
     if "exp" in claims:
         demand(now < claims["exp"].integer() + leeway, Reason.Expired, claims["exp"].place)
     if "nbf" in claims:
         demand(now + leeway >= claims["nbf"].integer(), Reason.NotYet, claims["nbf"].place)
     if "aud" in claims and audience is not None:
-        is_named = audience in [it.text() for it in audience_of(claims)]
+        is_named = any(it.text() in audience for it in audience_of(claims))
         demand(is_named, Reason.WrongAudience, claims["aud"].place)
 
 
@@ -648,6 +683,8 @@ class Requirements:
     aud: str | None = None
     lifetime: int | None = None
     age: int | None = None
+    # whether iat must not be in the future
+    issued: bool = False
 
 
 def unmet_requirements(claims, required):
@@ -669,5 +706,6 @@ def unmet_requirements(claims, required):
     if required.age is not None:
         if iat is None or iat < required.now - required.leeway - required.age:
             yield "Age", place["iat"]
+    if required.issued:
         if iat is not None and iat > required.now + required.leeway:
             yield "Issued", place["iat"]

@@ -131,6 +131,14 @@ static void read_claims(const struct input *input)
                 check_range(ranges[i]->at, ranges[i]->length, input->message_length);
             }
         }
+        struct cose_range next = claims.aud;
+        for (uint64_t index = 0; index < claims.aud_count && index < 100; index++) {
+            cose_audience(input->message, input->message_length, index, &audience);
+            must(audience.present && audience.at == next.at && audience.length == next.length,
+                 "the next audience is that of the next number");
+            check_range(next.at, next.length, input->message_length);
+            cose_next_audience(input->message, input->message_length, next.at + next.length, &next);
+        }
         cose_audience(input->message, input->message_length, claims.aud_count, &audience);
         must(!audience.present, "there is no audience after the last");
     }

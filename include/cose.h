@@ -28,6 +28,8 @@
 #define COSE_VERSION_MAJOR 0
 #define COSE_VERSION_MINOR 2
 #define COSE_VERSION_PATCH 0
+/** What cose_version returns of the library that this header is for. */
+#define COSE_VERSION (COSE_VERSION_MAJOR * 65536 + COSE_VERSION_MINOR * 256 + COSE_VERSION_PATCH)
 
 #ifdef __cplusplus
 extern "C" {
@@ -53,6 +55,7 @@ enum cose_status_number {
 /** The reason of a refusal: docs/REASONS.md says where each comes from. */
 enum cose_reason {
     COSE_REASON_NONE = 0,
+    /* made by ci/edge_tables: reasons */
     COSE_REASON_TRUNCATED = 1,
     COSE_REASON_RESERVED = 2,
     COSE_REASON_INDEFINITE = 3,
@@ -96,6 +99,7 @@ enum cose_reason {
     COSE_REASON_NESTED_CWT = 41,
     COSE_REASON_TRAILING = 42,
     COSE_REASON_ATTACHED = 43
+    /* end of what ci/edge_tables makes */
 };
 
 /** The kind of the messages that are wanted: that of their tag, or one kind, with its tag or without (RFC 9052 section 2). */
@@ -175,7 +179,7 @@ struct cose_claims_set {
     uint64_t place;          /**< of COSE_CLAIMS_REFUSED in the payload, of COSE_REFUSED in the token */
     uint64_t payload_at, payload_length; /**< the payload in the token; of cose_claims 0 and its length */
     struct cose_range iss, sub;
-    struct cose_range aud;   /**< the first text string of the audience: cose_audience returns the others */
+    struct cose_range aud;   /**< the first text string of the audience: cose_next_audience returns the others */
     struct cose_range cti;
     uint64_t aud_count;      /**< how many text strings the audience has */
     struct cose_date exp, nbf, iat;
@@ -248,6 +252,43 @@ static inline uint8_t *cose_room_(uint8_t *at)
     return at != NULL ? at : &nothing;
 }
 
+/* ---- Names, and what is compared once. */
+
+/** The version of the library: compare it with COSE_VERSION. */
+uint32_t cose_version(void);
+
+/** The name of a reason in docs/REASONS.md; that of 0 is empty, and a number that is none has NULL. */
+static inline const char *cose_reason_name(uint8_t reason)
+{
+    static const char *const names[] = {
+        "", "Truncated", "Reserved", "Indefinite", "BadSimple", "TooDeep", "PastRoom", "WrongTag", "Encrypted", "SeveralParties",
+        "NotFour", "WrongType", "NotMap", "BadLabel", "DuplicateLabel", "BothBuckets", "BadValue", "CritUnprotected", "CritAbsent",
+        "CritUnknown", "BothIvs", "NoAlg", "UnknownAlg", "AlgUnprotected", "NoKey", "AmbiguousKey", "Detached", "BadAuthLength",
+        "BadAuth", "PayloadTooLong", "CwtTagAlone", "BadKeySet", "UnknownKey", "FloatDate", "TaggedDate", "Expired", "NotYet",
+        "WrongAudience", "EncryptedKey", "PlainKey", "BadConfirmation", "NestedCwt", "Trailing", "Attached"
+    };
+    return reason < sizeof names / sizeof *names ? names[reason] : NULL;
+}
+
+/** The name of a status, as KeysRefused of COSE_KEYS_REFUSED; a number that is none has NULL. */
+static inline const char *cose_status_name(uint8_t status)
+{
+    static const char *const names[] = {
+        "More", "Authentic", "Signed", "Refused", "KeysRefused", "AadTooLong", "PayloadNext", "Complete", "ClaimsRefused", "BadAudience",
+        "Closed", "Stopped", "BadArgument"
+    };
+    return status < sizeof names / sizeof *names ? names[status] : NULL;
+}
+
+/** Bytes that do for a block in static memory, and what its address is a multiple of: cose_fits compares them with the library. */
+enum {
+    COSE_BLOCK_ALIGN = 16,
+    COSE_VERIFIER_BLOCK = 4096,
+    COSE_LARGE_VERIFIER_BLOCK = 135168,
+    COSE_TABLE_BLOCK = 16384,
+    COSE_MAKER_BLOCK = 1024
+};
+
 /* ---- One call over memory. */
 
 void cose_edge_verify(const uint8_t *keys, size_t keys_length, const uint8_t *aad, size_t aad_length, uint8_t kind,
@@ -308,9 +349,9 @@ static inline void cose_verify_detached(const uint8_t *keys, size_t keys_length,
         message_length, cose_slice_(payload), payload_length, verdict, input);
 }
 
-void cose_edge_large_verify_detached(const uint8_t *keys, size_t keys_length, const uint8_t *aad, size_t aad_length,
-    uint8_t kind, const uint8_t *message, size_t message_length, const uint8_t *payload, size_t payload_length,
-    struct cose_message_verdict *verdict, struct cose_signature_input *input);
+void cose_edge_large_verify_detached(const uint8_t *keys, size_t keys_length, const uint8_t *aad, size_t aad_length, uint8_t kind,
+    const uint8_t *message, size_t message_length, const uint8_t *payload, size_t payload_length, struct cose_message_verdict *verdict,
+    struct cose_signature_input *input);
 
 /** The same for headers of 65,535 bytes, where headers and claims nest 16 deep: a call needs some 140 KB of stack. */
 static inline void cose_large_verify_detached(const uint8_t *keys, size_t keys_length, const uint8_t *aad, size_t aad_length,
@@ -368,15 +409,15 @@ static inline void cose_verify_cwt(const uint8_t *keys, size_t keys_length, cons
     struct cose_policy cose_policy_ = *policy;
     if (cose_is_null_(keys, keys_length) ||
         cose_is_null_(aad, aad_length) ||
-        cose_is_null_(token, token_length) ||
-        cose_is_null_(policy->audience, policy->audience_length)) {
+        cose_is_null_(policy->audience, policy->audience_length) ||
+        cose_is_null_(token, token_length)) {
         memset(claims, 0, sizeof *claims);
         claims->status = COSE_BAD_ARGUMENT;
         return;
     }
     cose_policy_.audience = cose_slice_(policy->audience);
-    cose_edge_verify_cwt(cose_slice_(keys), keys_length, cose_slice_(aad), aad_length, &cose_policy_, cose_slice_(token),
-        token_length, claims);
+    cose_edge_verify_cwt(cose_slice_(keys), keys_length, cose_slice_(aad), aad_length, &cose_policy_, cose_slice_(token), token_length,
+        claims);
 }
 
 void cose_edge_large_verify_cwt(const uint8_t *keys, size_t keys_length, const uint8_t *aad, size_t aad_length,
@@ -389,8 +430,8 @@ static inline void cose_large_verify_cwt(const uint8_t *keys, size_t keys_length
     struct cose_policy cose_policy_ = *policy;
     if (cose_is_null_(keys, keys_length) ||
         cose_is_null_(aad, aad_length) ||
-        cose_is_null_(token, token_length) ||
-        cose_is_null_(policy->audience, policy->audience_length)) {
+        cose_is_null_(policy->audience, policy->audience_length) ||
+        cose_is_null_(token, token_length)) {
         memset(claims, 0, sizeof *claims);
         claims->status = COSE_BAD_ARGUMENT;
         return;
@@ -436,7 +477,7 @@ static inline void cose_large_claims(const uint8_t *payload, size_t payload_leng
 void cose_edge_audience(const uint8_t *payload, size_t payload_length, uint64_t index, struct cose_range *audience);
 
 /** The text string of this number, from 0, of the audience that a payload names (RFC 8392 section 3.1.3). present is 0 where it has
- * fewer, and where the payload isn't a claims set. */
+ * fewer, and where the payload isn't a claims set. Each call reads all claims: cose_next_audience doesn't. */
 static inline void cose_audience(const uint8_t *payload, size_t payload_length, uint64_t index, struct cose_range *audience)
 {
     if (cose_is_null_(payload, payload_length)) {
@@ -444,6 +485,19 @@ static inline void cose_audience(const uint8_t *payload, size_t payload_length, 
         return;
     }
     cose_edge_audience(cose_slice_(payload), payload_length, index, audience);
+}
+
+void cose_edge_next_audience(const uint8_t *payload, size_t payload_length, uint64_t place, struct cose_range *audience);
+
+/** The text string of an audience that follows another one, by the place after the bytes of that one: in time that doesn't depend on the
+ * other claims. Begin with aud of the claims, and count to aud_count: after the last one anything may follow. */
+static inline void cose_next_audience(const uint8_t *payload, size_t payload_length, uint64_t place, struct cose_range *audience)
+{
+    if (cose_is_null_(payload, payload_length)) {
+        memset(audience, 0, sizeof *audience);
+        return;
+    }
+    cose_edge_next_audience(cose_slice_(payload), payload_length, place, audience);
 }
 
 /* ---- A verifier in the caller's memory, which is fed. */
@@ -457,8 +511,8 @@ size_t cose_verifier_align(void);
 /** Makes the block a verifier without keys. Once, before anything else. */
 void cose_begin(uint8_t *block);
 
-void cose_edge_open(struct cose_verifier *verifier, const uint8_t *keys, size_t keys_length, const uint8_t *aad,
-    size_t aad_length, uint8_t kind, struct cose_status *status);
+void cose_edge_open(struct cose_verifier *verifier, const uint8_t *keys, size_t keys_length, const uint8_t *aad, size_t aad_length,
+    uint8_t kind, struct cose_status *status);
 
 /** Gives it the keys and the externally supplied data of the next messages: COSE_MORE, or why there are none. */
 static inline void cose_open(struct cose_verifier *verifier, const uint8_t *keys, size_t keys_length, const uint8_t *aad,
@@ -482,8 +536,8 @@ static inline void cose_open_detached(struct cose_verifier *verifier, const uint
         cose_edge_open_detached(verifier, cose_slice_(NULL), 0, cose_slice_(NULL), 0, COSE_NO_KIND_, 0, status);
         return;
     }
-    cose_edge_open_detached(verifier, cose_slice_(keys), keys_length, cose_slice_(aad), aad_length, cose_kind_(kind),
-        payload_length, status);
+    cose_edge_open_detached(verifier, cose_slice_(keys), keys_length, cose_slice_(aad), aad_length, cose_kind_(kind), payload_length,
+        status);
 }
 
 void cose_edge_feed(struct cose_verifier *verifier, const uint8_t *piece, size_t piece_length, struct cose_fed *fed);
@@ -526,6 +580,13 @@ uint8_t cose_sign_input(struct cose_verifier *verifier, struct cose_signature_in
  * number that it isn't. For a COSE_Mac0 the number doesn't count. */
 void cose_verdict(struct cose_verifier *verifier, int32_t signature_is_good, struct cose_message_verdict *verdict);
 
+/** The number of the message: opening and resetting begin another one. */
+uint64_t cose_message_number(struct cose_verifier *verifier);
+
+/** The verdict on the message of this number, as cose_verdict gives it: 1 is of the signature of this message alone. Where the verifier has
+ * gone on to another message, as a callback or another thread may make it, the answer is COSE_BAD_ARGUMENT, and nothing changes. */
+void cose_verdict_for(struct cose_verifier *verifier, uint64_t message, int32_t signature_is_good, struct cose_message_verdict *verdict);
+
 /** Begins the next message, under the same keys. */
 void cose_reset(struct cose_verifier *verifier);
 
@@ -550,8 +611,8 @@ void cose_edge_large_open(struct cose_large_verifier *verifier, const uint8_t *k
     size_t aad_length, uint8_t kind, struct cose_status *status);
 
 /** Gives it the keys and the externally supplied data of the next messages: COSE_MORE, or why there are none. */
-static inline void cose_large_open(struct cose_large_verifier *verifier, const uint8_t *keys, size_t keys_length,
-    const uint8_t *aad, size_t aad_length, enum cose_kind_number kind, struct cose_status *status)
+static inline void cose_large_open(struct cose_large_verifier *verifier, const uint8_t *keys, size_t keys_length, const uint8_t *aad,
+    size_t aad_length, enum cose_kind_number kind, struct cose_status *status)
 {
     if (cose_is_null_(keys, keys_length) || cose_is_null_(aad, aad_length)) {
         cose_edge_large_open(verifier, cose_slice_(NULL), 0, cose_slice_(NULL), 0, COSE_NO_KIND_, status);
@@ -560,8 +621,8 @@ static inline void cose_large_open(struct cose_large_verifier *verifier, const u
     cose_edge_large_open(verifier, cose_slice_(keys), keys_length, cose_slice_(aad), aad_length, cose_kind_(kind), status);
 }
 
-void cose_edge_large_open_detached(struct cose_large_verifier *verifier, const uint8_t *keys, size_t keys_length,
-    const uint8_t *aad, size_t aad_length, uint8_t kind, uint64_t payload_length, struct cose_status *status);
+void cose_edge_large_open_detached(struct cose_large_verifier *verifier, const uint8_t *keys, size_t keys_length, const uint8_t *aad,
+    size_t aad_length, uint8_t kind, uint64_t payload_length, struct cose_status *status);
 
 /** The same for messages whose payload is detached, and has so many bytes. */
 static inline void cose_large_open_detached(struct cose_large_verifier *verifier, const uint8_t *keys, size_t keys_length,
@@ -571,15 +632,14 @@ static inline void cose_large_open_detached(struct cose_large_verifier *verifier
         cose_edge_large_open_detached(verifier, cose_slice_(NULL), 0, cose_slice_(NULL), 0, COSE_NO_KIND_, 0, status);
         return;
     }
-    cose_edge_large_open_detached(verifier, cose_slice_(keys), keys_length, cose_slice_(aad), aad_length, cose_kind_(kind), payload_length,
-        status);
+    cose_edge_large_open_detached(verifier, cose_slice_(keys), keys_length, cose_slice_(aad), aad_length, cose_kind_(kind),
+        payload_length, status);
 }
 
 void cose_edge_large_feed(struct cose_large_verifier *verifier, const uint8_t *piece, size_t piece_length, struct cose_fed *fed);
 
 /** Takes the next bytes of the message: the fewest that settle it, or all of the piece. */
-static inline void cose_large_feed(struct cose_large_verifier *verifier, const uint8_t *piece, size_t piece_length,
-    struct cose_fed *fed)
+static inline void cose_large_feed(struct cose_large_verifier *verifier, const uint8_t *piece, size_t piece_length, struct cose_fed *fed)
 {
     if (cose_is_null_(piece, piece_length)) {
         memset(fed, 0, sizeof *fed);
@@ -616,6 +676,14 @@ uint8_t cose_large_sign_input(struct cose_large_verifier *verifier, struct cose_
  * number that it isn't. For a COSE_Mac0 the number doesn't count. */
 void cose_large_verdict(struct cose_large_verifier *verifier, int32_t signature_is_good, struct cose_message_verdict *verdict);
 
+/** The number of the message: opening and resetting begin another one. */
+uint64_t cose_large_message_number(struct cose_large_verifier *verifier);
+
+/** The verdict on the message of this number, as cose_large_verdict gives it: 1 is of the signature of this message alone. Where the verifier has
+ * gone on to another message, as a callback or another thread may make it, the answer is COSE_BAD_ARGUMENT, and nothing changes. */
+void cose_large_verdict_for(struct cose_large_verifier *verifier, uint64_t message, int32_t signature_is_good,
+    struct cose_message_verdict *verdict);
+
 /** Begins the next message, under the same keys. */
 void cose_large_reset(struct cose_large_verifier *verifier);
 
@@ -642,7 +710,7 @@ void cose_edge_table_read(struct cose_table *table, const uint8_t *keys, size_t 
 static inline void cose_table_read(struct cose_table *table, const uint8_t *keys, size_t keys_length, struct cose_key_set *key_set)
 {
     if (cose_is_null_(keys, keys_length)) {
-        cose_edge_table_read(table, cose_slice_(NULL), 0, key_set); /* no key set: the table has no keys then */
+        cose_edge_table_read(table, cose_slice_(NULL), 0, key_set); /* the block has nothing then */
         memset(key_set, 0, sizeof *key_set);
         key_set->status = COSE_BAD_ARGUMENT;
         return;
@@ -650,8 +718,8 @@ static inline void cose_table_read(struct cose_table *table, const uint8_t *keys
     cose_edge_table_read(table, cose_slice_(keys), keys_length, key_set);
 }
 
-void cose_edge_table_verify(struct cose_table *table, const uint8_t *aad, size_t aad_length, uint8_t kind,
-    const uint8_t *message, size_t message_length, struct cose_message_verdict *verdict, struct cose_signature_input *input);
+void cose_edge_table_verify(struct cose_table *table, const uint8_t *aad, size_t aad_length, uint8_t kind, const uint8_t *message,
+    size_t message_length, struct cose_message_verdict *verdict, struct cose_signature_input *input);
 
 /** As cose_verify, under the keys of the table. */
 static inline void cose_table_verify(struct cose_table *table, const uint8_t *aad, size_t aad_length, enum cose_kind_number kind,
@@ -665,8 +733,8 @@ static inline void cose_table_verify(struct cose_table *table, const uint8_t *aa
     cose_edge_table_verify(table, cose_slice_(aad), aad_length, cose_kind_(kind), cose_slice_(message), message_length, verdict, input);
 }
 
-void cose_edge_table_verify_cwt(struct cose_table *table, const uint8_t *aad, size_t aad_length,
-    const struct cose_policy *policy, const uint8_t *token, size_t token_length, struct cose_claims_set *claims);
+void cose_edge_table_verify_cwt(struct cose_table *table, const uint8_t *aad, size_t aad_length, const struct cose_policy *policy,
+    const uint8_t *token, size_t token_length, struct cose_claims_set *claims);
 
 /** As cose_verify_cwt, under the keys of the table. */
 static inline void cose_table_verify_cwt(struct cose_table *table, const uint8_t *aad, size_t aad_length,
@@ -674,8 +742,8 @@ static inline void cose_table_verify_cwt(struct cose_table *table, const uint8_t
 {
     struct cose_policy cose_policy_ = *policy;
     if (cose_is_null_(aad, aad_length) ||
-        cose_is_null_(token, token_length) ||
-        cose_is_null_(policy->audience, policy->audience_length)) {
+        cose_is_null_(policy->audience, policy->audience_length) ||
+        cose_is_null_(token, token_length)) {
         memset(claims, 0, sizeof *claims);
         claims->status = COSE_BAD_ARGUMENT;
         return;
@@ -695,9 +763,8 @@ size_t cose_maker_align(void);
 /** Makes the block a maker of nothing. Once, before anything else. */
 void cose_maker_begin(uint8_t *block);
 
-void cose_edge_make(struct cose_maker *maker, int32_t alg, const uint8_t *key, size_t key_length, const uint8_t *kid,
-    size_t kid_length, const uint8_t *aad, size_t aad_length, uint64_t payload_length, uint8_t *head, size_t head_room,
-    struct cose_made *made);
+void cose_edge_make(struct cose_maker *maker, int32_t alg, const uint8_t *key, size_t key_length, const uint8_t *kid, size_t kid_length,
+    const uint8_t *aad, size_t aad_length, uint64_t payload_length, uint8_t *head, size_t head_room, struct cose_made *made);
 
 /** Writes what precedes the payload into head, at most 384 bytes. alg is 4, 5, 6 or 7 (RFC 9053 section 3.1). */
 static inline void cose_make(struct cose_maker *maker, int32_t alg, const uint8_t *key, size_t key_length, const uint8_t *kid,
@@ -712,8 +779,8 @@ static inline void cose_make(struct cose_maker *maker, int32_t alg, const uint8_
             made);
         return;
     }
-    cose_edge_make(maker, alg, cose_slice_(key), key_length, cose_slice_(kid), kid_length, cose_slice_(aad), aad_length,
-        payload_length, cose_room_(head), head_room, made);
+    cose_edge_make(maker, alg, cose_slice_(key), key_length, cose_slice_(kid), kid_length, cose_slice_(aad), aad_length, payload_length,
+        cose_room_(head), head_room, made);
 }
 
 uint64_t cose_edge_make_piece(struct cose_maker *maker, const uint8_t *piece, size_t piece_length);
@@ -738,6 +805,54 @@ static inline void cose_make_end(struct cose_maker *maker, uint8_t *tail, size_t
         return;
     }
     cose_edge_make_end(maker, cose_room_(tail), tail_room, made);
+}
+
+/* ---- Blocks of all kinds. */
+
+/** 1 where the library has this header's version, and its blocks fit into the bytes and the alignment above; otherwise 0. */
+static inline int cose_fits(void)
+{
+    return cose_version() == COSE_VERSION &&
+        cose_verifier_size() <= COSE_VERIFIER_BLOCK && cose_verifier_align() <= COSE_BLOCK_ALIGN &&
+        cose_large_verifier_size() <= COSE_LARGE_VERIFIER_BLOCK && cose_large_verifier_align() <= COSE_BLOCK_ALIGN &&
+        cose_table_size() <= COSE_TABLE_BLOCK && cose_table_align() <= COSE_BLOCK_ALIGN &&
+        cose_maker_size() <= COSE_MAKER_BLOCK && cose_maker_align() <= COSE_BLOCK_ALIGN;
+}
+
+static inline void cose_overwrite_(uint8_t *block, size_t size)
+{
+    volatile uint8_t *at = block;
+    while (size > 0)
+        at[--size] = 0;
+}
+
+/** Overwrites the block, with all that was derived from keys, and begins it again: it has no keys then. What calls left on the stack
+ * isn't overwritten. */
+static inline void cose_wipe(struct cose_verifier *verifier)
+{
+    cose_overwrite_(verifier->at, cose_verifier_size());
+    cose_begin(verifier->at);
+}
+
+/** The same of a large one, */
+static inline void cose_large_wipe(struct cose_large_verifier *verifier)
+{
+    cose_overwrite_(verifier->at, cose_large_verifier_size());
+    cose_large_begin(verifier->at);
+}
+
+/** of a table, */
+static inline void cose_table_wipe(struct cose_table *table)
+{
+    cose_overwrite_(table->at, cose_table_size());
+    cose_table_begin(table->at);
+}
+
+/** and of a maker. */
+static inline void cose_maker_wipe(struct cose_maker *maker)
+{
+    cose_overwrite_(maker->at, cose_maker_size());
+    cose_maker_begin(maker->at);
 }
 
 #ifdef __cplusplus

@@ -106,9 +106,12 @@ async function run() {
     }
 }
 
+/** What is there while an answer is shown, besides the verdict. */
+const SHOWN_PARTS = ["content", "details", "to_details"];
+
 /** Nothing of an earlier answer stays, in closed details neither. */
 function hideDetails() {
-    byId("details").hidden = byId("to_details").hidden = true;
+    for (const id of SHOWN_PARTS) byId(id).hidden = true;
     for (const id of ["payload", "key_list", "bytes", "notation", "phases", "headers"]) byId(id).replaceChildren();
 }
 
@@ -143,7 +146,7 @@ function showProgress(number, done, total) {
 function show(request, answer) {
     const words = wordsOf(request, answer);
     showVerdict(words.tone, words.title, words.sentences, words);
-    byId("details").hidden = byId("to_details").hidden = false;
+    for (const id of SHOWN_PARTS) byId(id).hidden = false;
     new BytesView(byId("bytes"), request.message, answer.picture, words.fault);
     showNotation(byId("notation"), request.message, answer.picture);
     showPhases(byId("phases"), answer);

@@ -6,6 +6,7 @@
 
 /** The statuses of include/cose.h, by their names. */
 const STATUS = Object.freeze({
+    // made by ci/edge_tables: statuses
     MORE: 0,
     AUTHENTIC: 1,
     SIGNED: 2,
@@ -19,6 +20,7 @@ const STATUS = Object.freeze({
     CLOSED: 10,
     STOPPED: 11,
     BAD_ARGUMENT: 12,
+    // end of what ci/edge_tables makes
 });
 
 /** The messages that are wanted: by their tag, or of one kind with its tag or without. */
@@ -26,74 +28,39 @@ const WANTED = Object.freeze({ TAGGED: 0, MAC0: 17, SIGN1: 18 });
 
 /** The structs of include/cose.h: each field with its type in C, in their order. */
 const FIELDS = Object.freeze({
-    cose_status: ["uint8_t status", "uint8_t reason", "uint64_t place"],
-    cose_message_verdict: [
-        "uint8_t status",
-        "uint8_t reason",
-        "uint8_t kind",
-        "int32_t alg",
-        "uint64_t place",
-        "uint64_t payload_at",
-        "uint64_t payload_length",
-        "uint64_t taken",
-    ],
-    cose_signature_input: [
-        "uint8_t crv",
-        "uint8_t y_sign",
-        "uint64_t x_length",
-        "uint64_t y_length",
-        "uint64_t digest_length",
-        "uint64_t signature_length",
-        "uint8_t[66] x",
-        "uint8_t[66] y",
-        "uint8_t[64] digest",
-        "uint8_t[132] signature",
-    ],
-    cose_message_shape: [
-        "uint8_t status",
-        "uint8_t reason",
-        "uint8_t kind",
-        "uint64_t place",
-        "uint64_t payload_length",
-        "uint64_t auth_length",
-        "uint64_t taken",
-    ],
-    cose_key_set: ["uint8_t status", "uint8_t reason", "uint64_t place", "uint64_t usable"],
+    // made by ci/edge_tables: structs
     cose_policy: [
-        "int64_t now",
-        "uint32_t leeway",
-        "uint8_t has_audience",
-        "pointer audience",
-        "size_t audience_length",
+        "int64_t now", "uint32_t leeway", "uint8_t has_audience", "pointer audience", "size_t audience_length",
     ],
     cose_range: ["uint64_t at", "uint64_t length", "uint8_t present"],
     cose_date: ["uint64_t number", "uint8_t present", "uint8_t negative"],
     cose_claims_set: [
-        "uint8_t status",
-        "uint8_t reason",
-        "uint64_t place",
-        "uint64_t payload_at",
-        "uint64_t payload_length",
-        "cose_range iss",
-        "cose_range sub",
-        "cose_range aud",
-        "cose_range cti",
-        "uint64_t aud_count",
-        "cose_date exp",
-        "cose_date nbf",
-        "cose_date iat",
-        "cose_range cnf_kid",
-        "cose_range cnf_x",
-        "cose_range cnf_y",
-        "uint8_t cnf_crv",
-        "uint8_t cnf_y_sign",
+        "uint8_t status", "uint8_t reason", "uint64_t place", "uint64_t payload_at", "uint64_t payload_length",
+        "cose_range iss", "cose_range sub", "cose_range aud", "cose_range cti", "uint64_t aud_count", "cose_date exp",
+        "cose_date nbf", "cose_date iat", "cose_range cnf_kid", "cose_range cnf_x", "cose_range cnf_y",
+        "uint8_t cnf_crv", "uint8_t cnf_y_sign",
     ],
-    cose_verifier: ["pointer at"],
     cose_large_verifier: ["pointer at"],
-    cose_fed: ["cose_status status", "uint64_t used", "uint64_t payload_at", "uint64_t payload_length"],
-    cose_table: ["pointer at"],
     cose_maker: ["pointer at"],
+    cose_table: ["pointer at"],
+    cose_verifier: ["pointer at"],
+    cose_signature_input: [
+        "uint8_t crv", "uint8_t y_sign", "uint64_t x_length", "uint64_t y_length", "uint64_t digest_length",
+        "uint64_t signature_length", "uint8_t[66] x", "uint8_t[66] y", "uint8_t[64] digest", "uint8_t[132] signature",
+    ],
+    cose_key_set: ["uint8_t status", "uint8_t reason", "uint64_t place", "uint64_t usable"],
     cose_made: ["uint8_t status", "uint8_t reason", "uint64_t length"],
+    cose_status: ["uint8_t status", "uint8_t reason", "uint64_t place"],
+    cose_message_verdict: [
+        "uint8_t status", "uint8_t reason", "uint8_t kind", "int32_t alg", "uint64_t place", "uint64_t payload_at",
+        "uint64_t payload_length", "uint64_t taken",
+    ],
+    cose_message_shape: [
+        "uint8_t status", "uint8_t reason", "uint8_t kind", "uint64_t place", "uint64_t payload_length",
+        "uint64_t auth_length", "uint64_t taken",
+    ],
+    cose_fed: ["cose_status status", "uint64_t used", "uint64_t payload_at", "uint64_t payload_length"],
+    // end of what ci/edge_tables makes
 });
 
 const SIZES = Object.freeze({
@@ -114,7 +81,8 @@ const SIZES = Object.freeze({
  */
 
 /**
- * The layout of a type by the rules of C on a target of 64 bits.
+ * The layout of a type by the rules of C on a target of 64 bits. The module's pointers have 32 bits, and lie in the first half of
+ * their 8 bytes.
  * @param {string} type
  * @returns {Layout}
  */
@@ -143,13 +111,6 @@ function layoutOf(type) {
 
 /** @type {Record<string, Layout>} */
 const LAYOUTS = Object.fromEntries(Object.keys(FIELDS).map((name) => [name, layoutOf(name)]));
-
-/** Whether this engine compiles a module with a 64-bit memory. */
-function has64BitMemory() {
-    // (module (memory i64 1))
-    const bytes = new Uint8Array([0, 97, 115, 109, 1, 0, 0, 0, 5, 3, 1, 4, 1]);
-    return typeof WebAssembly === "object" && WebAssembly.validate(bytes);
-}
 
 const NOTHING = new Uint8Array();
 
@@ -220,12 +181,7 @@ class Cose {
      * @returns {Promise<Cose>}
      */
     static async load(bytes) {
-        if (!has64BitMemory()) {
-            throw new Error(
-                "this engine has no 64-bit memory (memory64) for WebAssembly: Node 20 to 23 want the flag " +
-                    "--experimental-wasm-memory64, and browsers Chromium 133, Firefox 134 or later",
-            );
-        }
+        if (typeof WebAssembly !== "object") throw new Error("this engine has no WebAssembly");
         const { instance } = await WebAssembly.instantiate(bytes, {});
         return new this(instance.exports);
     }
@@ -339,8 +295,8 @@ class Cose {
                 wanted,
                 ...scope.put(message),
                 ...detached,
-                BigInt(at),
-                BigInt(input),
+                at,
+                input,
             );
             return this.readVerdict(at, input);
         });
@@ -354,7 +310,7 @@ class Cose {
     shape(message, { wanted = WANTED.TAGGED } = {}) {
         return this.scoped((scope) => {
             const at = scope.room(LAYOUTS.cose_message_shape.size);
-            this.exports.cose_edge_shape(wanted, ...scope.put(message), BigInt(at));
+            this.exports.cose_edge_shape(wanted, ...scope.put(message), at);
             const all = this.read(at, "cose_message_shape");
             const { status, reason, place, kind, taken } = all;
             const [payloadLength, authLength] = [all.payload_length, all.auth_length];
@@ -369,7 +325,7 @@ class Cose {
     readKeys(keys) {
         return this.scoped((scope) => {
             const at = scope.room(LAYOUTS.cose_key_set.size);
-            this.exports.cose_edge_read_keys(...scope.put(keys), BigInt(at));
+            this.exports.cose_edge_read_keys(...scope.put(keys), at);
             const { status, reason, place, usable } = this.read(at, "cose_key_set");
             return { status, reason, place, usable };
         });
@@ -390,9 +346,9 @@ class Cose {
         view.setBigInt64(place("now"), BigInt(now), true);
         view.setUint32(place("leeway"), leeway, true);
         view.setUint8(place("has_audience"), audience === undefined ? 0 : 1);
-        view.setBigUint64(place("audience"), text, true);
+        view.setUint32(place("audience"), text, true);
         view.setBigUint64(place("audience_length"), length, true);
-        return BigInt(at);
+        return at;
     }
 
     /**
@@ -409,7 +365,7 @@ class Cose {
             const name = keys instanceof KeyTable ? "table_" : large ? "large_" : "";
             const external = scope.put(aad);
             const conditions = this.putPolicy(scope, policy);
-            this.exports[`cose_edge_${name}verify_cwt`](...under, ...external, conditions, ...scope.put(token), BigInt(at));
+            this.exports[`cose_edge_${name}verify_cwt`](...under, ...external, conditions, ...scope.put(token), at);
             return this.readClaims(at, token);
         });
     }
@@ -424,7 +380,7 @@ class Cose {
         return this.scoped((scope) => {
             const at = scope.room(LAYOUTS.cose_claims_set.size);
             const conditions = this.putPolicy(scope, policy);
-            this.exports[`cose_edge_${large ? "large_" : ""}claims`](...scope.put(payload), conditions, BigInt(at));
+            this.exports[`cose_edge_${large ? "large_" : ""}claims`](...scope.put(payload), conditions, at);
             return this.readClaims(at, payload);
         });
     }
@@ -472,7 +428,7 @@ class Cose {
     audience(payload, index) {
         return this.scoped((scope) => {
             const at = scope.room(LAYOUTS.cose_range.size);
-            this.exports.cose_edge_audience(...scope.put(payload), BigInt(index), BigInt(at));
+            this.exports.cose_edge_audience(...scope.put(payload), BigInt(index), at);
             const range = this.read(at, "cose_range");
             return range.present ? copyOf(payload, range.at, range.length) : undefined;
         });
@@ -545,26 +501,26 @@ class Block {
         this.struct = cose.rooms.take(8);
         /** @type {[number, number][]} */
         this.kept = [];
-        cose.exports[begin](BigInt(this.at));
-        new DataView(cose.rooms.memory.buffer).setBigUint64(this.struct, BigInt(this.at), true);
+        cose.exports[begin](this.at);
+        new DataView(cose.rooms.memory.buffer).setUint32(this.struct, this.at, true);
         this.isOpen = true;
     }
 
     get handle() {
         if (!this.isOpen) throw new Error("it is closed");
-        return BigInt(this.struct);
+        return this.struct;
     }
 
     /**
      * Keeps bytes until the next call of `release`, as a pointer and a length.
      * @param {Uint8Array} bytes
-     * @returns {[bigint, bigint]}
+     * @returns {[number, bigint]}
      */
     keep(bytes) {
         const at = this.cose.rooms.take(bytes.length);
         this.kept.push([at, bytes.length]);
         new Uint8Array(this.cose.rooms.memory.buffer, at, bytes.length).set(bytes);
-        return [BigInt(at), BigInt(bytes.length)];
+        return [at, BigInt(bytes.length)];
     }
 
     release() {
@@ -593,7 +549,7 @@ class KeyTable extends Block {
         /** The status, and the reason and place of a refusal; or the number of usable keys. */
         this.keySet = cose.scoped((scope) => {
             const at = scope.room(LAYOUTS.cose_key_set.size);
-            cose.exports.cose_edge_table_read(this.handle, ...given, BigInt(at));
+            cose.exports.cose_edge_table_read(this.handle, ...given, at);
             const { status, reason, place, usable } = cose.read(at, "cose_key_set");
             return { status, reason, place, usable };
         });
@@ -636,8 +592,8 @@ class Verifier extends Block {
         const given = [...this.keep(keys), ...this.keep(aad)];
         const status = this.cose.scoped((scope) => {
             const at = scope.room(LAYOUTS.cose_status.size);
-            if (payloadLength === undefined) this.call("open", true)(this.handle, ...given, wanted, BigInt(at));
-            else this.call("open_detached", true)(this.handle, ...given, wanted, BigInt(payloadLength), BigInt(at));
+            if (payloadLength === undefined) this.call("open", true)(this.handle, ...given, wanted, at);
+            else this.call("open_detached", true)(this.handle, ...given, wanted, BigInt(payloadLength), at);
             return this.cose.read(at, "cose_status");
         });
         for (const [at, length] of old) this.cose.rooms.give(at, length);
@@ -651,7 +607,7 @@ class Verifier extends Block {
     feed(piece) {
         return this.cose.scoped((scope) => {
             const at = scope.room(LAYOUTS.cose_fed.size);
-            this.call("feed", true)(this.handle, ...scope.put(piece), BigInt(at));
+            this.call("feed", true)(this.handle, ...scope.put(piece), at);
             const { status, used, payload_at: from, payload_length: length } = this.cose.read(at, "cose_fed");
             return { ...status, used, payload: piece.subarray(from, from + length) };
         });
@@ -669,7 +625,7 @@ class Verifier extends Block {
     end() {
         return this.cose.scoped((scope) => {
             const at = scope.room(LAYOUTS.cose_status.size);
-            this.call("end")(this.handle, BigInt(at));
+            this.call("end")(this.handle, at);
             return this.cose.read(at, "cose_status");
         });
     }
@@ -681,7 +637,7 @@ class Verifier extends Block {
     signInput() {
         this.asked ??= this.cose.scoped((scope) => {
             const at = scope.room(LAYOUTS.cose_signature_input.size);
-            return this.call("sign_input")(this.handle, BigInt(at)) === 1 ? this.cose.readInput(at) : undefined;
+            return this.call("sign_input")(this.handle, at) === 1 ? this.cose.readInput(at) : undefined;
         });
         return this.asked;
     }
@@ -697,7 +653,7 @@ class Verifier extends Block {
         if (signatureIsGood === true && input !== this.signInput()) throw new Error("the signature is of another message");
         return this.cose.scoped((scope) => {
             const at = scope.room(LAYOUTS.cose_message_verdict.size);
-            this.call("verdict")(this.handle, signatureIsGood === true ? 1 : 0, BigInt(at));
+            this.call("verdict")(this.handle, signatureIsGood === true ? 1 : 0, at);
             return this.cose.readVerdict(at);
         });
     }
@@ -751,9 +707,9 @@ class Maker extends Block {
                 ...scope.put(kid),
                 ...scope.put(aad),
                 BigInt(payloadLength),
-                BigInt(at),
+                at,
                 384n,
-                BigInt(made),
+                made,
             ),
         );
     }
@@ -771,7 +727,7 @@ class Maker extends Block {
     /** What follows the payload. */
     end() {
         return this.written(70, (_, at, made) =>
-            this.cose.exports.cose_edge_make_end(this.handle, BigInt(at), 70n, BigInt(made)),
+            this.cose.exports.cose_edge_make_end(this.handle, at, 70n, made),
         );
     }
 
@@ -790,5 +746,5 @@ class Maker extends Block {
 }
 
 if (typeof module === "object") {
-    Object.assign(module.exports, { Cose, KeyTable, Verifier, Maker, STATUS, WANTED, FIELDS, LAYOUTS, has64BitMemory, copyOf });
+    Object.assign(module.exports, { Cose, KeyTable, Verifier, Maker, STATUS, WANTED, FIELDS, LAYOUTS, copyOf });
 }

@@ -1,3 +1,7 @@
 // What a script finds: in Node `module`, and in the page the bytes of cose_wasm.js.
-declare var module: { exports: object; require(path: "./rooms.js"): { Rooms: typeof Rooms } } | undefined;
+interface ModulesOfScripts {
+    "./rooms.js": { Rooms: typeof Rooms };
+    "node:crypto": { webcrypto: Crypto };
+}
+declare var module: { exports: object; require<Path extends keyof ModulesOfScripts>(path: Path): ModulesOfScripts[Path] } | undefined;
 declare const COSE_WASM: string;

@@ -13,6 +13,7 @@
 /** @type {readonly Reason[]} */
 const REASONS = Object.freeze(
     [
+        // made by ci/edge_tables: reasons
         [1, "Truncated", "The bytes end before the message or the item is whole, or a detached payload ends before the stated length", "the number of bytes; of a detached payload the payload head", "RFC 8949 section 3"],
         [2, "Reserved", "The low five bits of an initial byte are 28 to 30, or 31 in the major types 0, 1 and 6", "the head", "RFC 8949 section 3"],
         [3, "Indefinite", "A head has an indefinite length or is a break", "the head", "(RFC 8949 section 3.2)"],
@@ -56,6 +57,7 @@ const REASONS = Object.freeze(
         [41, "NestedCwt", "The payload is itself a COSE message or a CWT in its tag", "0", "(RFC 8392 section 7)"],
         [42, "Trailing", "A byte follows the one item that the bytes should be; in the program, a byte follows the accepted message or token", "that byte", "RFC 8949 section 3"],
         [43, "Attached", "A detached payload is wanted, and the message has its payload", "payload head", "(RFC 9052 sections 4.2 and 6.2)"],
+        // end of what ci/edge_tables makes
     ].map(([number, name, meaning, place, section]) =>
         Object.freeze({
             number: Number(number),

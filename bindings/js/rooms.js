@@ -52,17 +52,9 @@ class Rooms {
         this.free.set(size, free);
     }
 
-    /**
-     * A 64-bit memory grows by a BigInt; in Node 20 by a number.
-     * @param {number} pages
-     */
+    /** @param {number} pages */
     grow(pages) {
-        try {
-            this.memory.grow(/** @type {any} */ (BigInt(pages)));
-        } catch (fault) {
-            if (!(fault instanceof TypeError)) throw fault;
-            this.memory.grow(pages);
-        }
+        this.memory.grow(pages);
         this.end += pages * PAGE;
     }
 
@@ -94,12 +86,12 @@ class Scope {
     /**
      * Bytes, as a pointer and a length.
      * @param {Uint8Array} bytes
-     * @returns {[bigint, bigint]}
+     * @returns {[number, bigint]}
      */
     put(bytes) {
         const at = this.room(bytes.length);
         new Uint8Array(this.rooms.memory.buffer, at, bytes.length).set(bytes);
-        return [BigInt(at), BigInt(bytes.length)];
+        return [at, BigInt(bytes.length)];
     }
 
     end() {

@@ -24,6 +24,9 @@ const CURVES = Object.freeze({
     },
 });
 
+/** WebCrypto, which Node has as a global from 20 on. */
+const CRYPTO = typeof module === "object" ? module.require("node:crypto").webcrypto : crypto;
+
 /** The hash functions, by the length of their digests. */
 const HASHES = Object.freeze({ 32: "SHA-256", 48: "SHA-384", 64: "SHA-512" });
 
@@ -149,13 +152,13 @@ const sameBytes = (first, second) => first.length === second.length && first.eve
 async function isGoodSignature(input, structure) {
     const curve = CURVES[/** @type {keyof typeof CURVES} */ (input.crv)];
     const hash = HASHES[/** @type {keyof typeof HASHES} */ (input.digest.length)];
-    if (!sameBytes(new Uint8Array(await crypto.subtle.digest(hash, structure)), input.digest)) return false;
+    if (!sameBytes(new Uint8Array(await CRYPTO.subtle.digest(hash, structure)), input.digest)) return false;
     const y = input.ySign === 0 ? input.y : decompressed(curve, input.x, input.ySign === 2);
     if (!y) return false;
     const algorithm = { name: "ECDSA", namedCurve: curve.name, hash };
     try {
-        const key = await crypto.subtle.importKey("raw", joined(new Uint8Array([4]), input.x, y), algorithm, false, ["verify"]);
-        return await crypto.subtle.verify(algorithm, key, input.signature, structure);
+        const key = await CRYPTO.subtle.importKey("raw", joined(new Uint8Array([4]), input.x, y), algorithm, false, ["verify"]);
+        return await CRYPTO.subtle.verify(algorithm, key, input.signature, structure);
     } catch (fault) {
         // the point isn't on the curve
         if (fault instanceof DOMException) return false;

@@ -1,5 +1,5 @@
-//! Finds the static library: in the folder of the variable `COSE_LIB_DIR`, or where `pkg-config` says that `cose` is. One without the
-//! mark of a proof is refused.
+//! Finds the static library: in the folder of the variable `COSE_LIB_DIR`, in the crate itself, where a release has put one for the
+//! processor, or where `pkg-config` says that `cose` is. One without the mark of a proof is refused.
 
 use std::env;
 use std::path::{Path, PathBuf};
@@ -29,6 +29,18 @@ fn installed() -> Option<PathBuf> {
     (output.status.success() && !folder.trim().is_empty()).then(|| folder.trim().into())
 }
 
+/// The folder of the archive that a release has put into the crate for this processor, on Linux.
+fn packed() -> Option<PathBuf> {
+    if env::var("CARGO_CFG_TARGET_OS").ok()? != "linux" {
+        return None;
+    }
+    let processor = env::var("CARGO_CFG_TARGET_ARCH").ok()?;
+    let folder = Path::new(&env::var_os("CARGO_MANIFEST_DIR")?)
+        .join("lib")
+        .join(processor);
+    name_in(&folder).map(|_| folder)
+}
+
 /// The name of the archive in a folder.
 fn name_in(folder: &Path) -> Option<&'static str> {
     NAMES
@@ -46,6 +58,7 @@ fn main() {
     }
     let folder = env::var_os("COSE_LIB_DIR")
         .map(PathBuf::from)
+        .or_else(packed)
         .or_else(installed);
     let found = folder.and_then(|folder| name_in(&folder).map(|name| (folder, name)));
     let Some((folder, name)) = found else {

@@ -48,26 +48,48 @@ static uint8_t in_pieces(struct cose_verifier *verifier, const uint8_t *message,
     return fed.status.status == COSE_COMPLETE || verdict.status == COSE_REFUSED ? verdict.status : COSE_BAD_ARGUMENT;
 }
 
-/* What TURNS verdicts of a message count. */
-static uint32_t count(struct cose_verifier *verifier, const uint8_t *message)
+/* What TURNS verdicts of a message that is fed in pieces count. */
+static uint32_t count(struct cose_verifier *verifier, const uint8_t *message, size_t piece, uint8_t status)
 {
     count_begin();
     for (int turn = 0; turn < TURNS; turn++)
-        wrong |= in_pieces(verifier, message, sizeof good_message) != COSE_REFUSED;
+        wrong |= in_pieces(verifier, message, piece) != status;
     return counted();
+}
+
+/* Prints what TURNS verdicts of the example count. */
+static void print_counts(struct cose_verifier *verifier)
+{
+    uint32_t bytes = count(verifier, good_message, 1, COSE_AUTHENTIC);
+    uint32_t pieces = count(verifier, good_message, sizeof good_message, COSE_AUTHENTIC);
+    host_print("a byte at a time: ");
+    host_print_number(bytes);
+    host_print(" counted\nin one piece: ");
+    host_print_number(pieces);
+#ifndef FED_ONLY
+    count_begin();
+    for (int turn = 0; turn < TURNS; turn++)
+        wrong |= at_once(good_message) != COSE_AUTHENTIC;
+    uint32_t at_once_count = counted();
+    host_print(" counted\nat once: ");
+    host_print_number(at_once_count);
+#endif
+    host_print(" counted\n");
+    stack_paint();
 }
 
 /* A comparison that ends early would take some instructions less for each byte. A step of the counter is fewer than one
  * byte of each turn. */
 static void compare_counts(struct cose_verifier *verifier)
 {
-    uint32_t first = count(verifier, changed_first), last = count(verifier, changed_message);
+    uint32_t first = count(verifier, changed_first, sizeof changed_first, COSE_REFUSED);
+    uint32_t last = count(verifier, changed_message, sizeof changed_message, COSE_REFUSED);
     uint32_t difference = first < last ? last - first : first - last;
     host_print("tags that differ in the first byte, in the last: ");
     host_print_number(first);
     host_print(" and ");
     host_print_number(last);
-    host_print(" counted\n");
+    host_print("\n");
     judge("both the same", difference <= 1);
 }
 
@@ -92,5 +114,6 @@ int main(void)
     judge("at once: the changed one", at_once(changed_message) == COSE_REFUSED);
 #endif
     compare_counts(&verifier);
+    print_counts(&verifier);
     return wrong;
 }

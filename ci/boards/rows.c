@@ -9,16 +9,14 @@ enum {
     HOST_OPEN = 0x01,
     HOST_WRITE = 0x05,
     HOST_READ = 0x06,
-    SLOTS = 8,
-    LARGE_SLOTS = 2,
-    KEPT = 140000,
 };
 
-static _Alignas(64) uint8_t blocks[SLOTS][16384];
-static _Alignas(64) uint8_t large_blocks[LARGE_SLOTS][140032];
+/* SLOTS, BLOCK and so on are of the command line. */
+static _Alignas(64) uint8_t blocks[SLOTS][BLOCK];
+static _Alignas(64) uint8_t large_blocks[LARGE_SLOTS ? LARGE_SLOTS : 1][LARGE_SLOTS ? LARGE_BLOCK : 64];
 static uint8_t kept[SLOTS + LARGE_SLOTS][KEPT];
-static uint8_t request[1500000];
-static _Alignas(64) uint8_t answer[16384];
+static uint8_t request[REQUEST];
+static _Alignas(64) uint8_t answer[ANSWER];
 static const uint8_t *next;
 static size_t filled_to;
 

@@ -7,7 +7,7 @@ usage: python3 -m retarget TARGET speed|size [--poison] < in.ll > out.ll
 
 The input is the text of a module for x86_64-unknown-linux-gnu, not optimized yet. The second form prints the options with which
 clang compiles the output; the third says how much stack the calls of an object file take, and fails where that is more than
-docs/C.md promises; the last makes the header for all targets. --poison, for tests, writes a pattern above each pointer that is stored.
+docs/DEVICES.md promises; the last makes the header for all targets. --poison, for tests, writes a pattern above each pointer that is stored.
 """
 import sys
 

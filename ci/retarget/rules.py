@@ -7,6 +7,9 @@
 - ptrtoaddr is ptrtoint, which puts zeros above the address
 - a function that is exported returns a number of less than 32 bits with zeros above it
 - an alignment of more than 8 is one of 8, since a Cortex-M's stack has no other
+
+For a processor the module also gets a constant with the address of a symbol that the header for all targets defines, and no other; and
+a function that not every program needs gets a name and is weak, so that a program may define its own, which isn't that large.
 """
 import collections
 import re
@@ -19,6 +22,15 @@ DROPPED = re.compile(r' ?"(?:probe-stack|stack-probe-size|target-cpu|target-feat
 MOST_ALIGN = 8
 # what is written into the half of a slot that has no meaning, where a test wants that
 POISON = 0xDEADBEEF
+# a constant that no linker leaves out: its address is that of the symbol
+WANTED = "@cose_lengths_have_64_bits"
+WANTING = f"""\
+{WANTED} = external constant i8
+@cose_layout = internal constant ptr {WANTED}, align 4
+@llvm.used = appending global [1 x ptr] [ptr @cose_layout], section "llvm.metadata"
+"""
+# functions that a program may replace, and their names there
+WEAK = {'@"sha2::block512::compress"': "@cose_sha512_compress"}
 
 
 def lowered(align):
@@ -46,8 +58,12 @@ class Rewriter:
 
     def rewrite(self, text):
         """The text of the module for the target. Refused is raised where a line has no rule."""
-        if "%retarget." in text:
-            raise Refused("a name of the rewriting", "%retarget.")
+        for name in "%retarget.", WANTED, "@cose_layout ", *WEAK.values():
+            if name in text:
+                raise Refused("a name of the rewriting", name)
+        if self.target.is_processor:
+            for name, its in WEAK.items():
+                text = text.replace(f"{name}(", f"{its}(")
         lines = text.splitlines()
         self.constants = {found["name"] for found in map(forms.CONSTANT.fullmatch, lines) if found}
         self.groups = {found["group"] for found in map(forms.DEFINITION.fullmatch, lines) if found}
@@ -63,7 +79,7 @@ class Rewriter:
             raise Refused("a function without an end", lines[-1])
         if self.seen != {"layout", "triple"}:
             raise Refused("a module without a data layout or a triple", "")
-        return "\n".join(written) + "\n"
+        return "\n".join(written) + "\n" + (WANTING if self.target.is_processor else "")
 
     def line_of_module(self, line):
         """A line outside functions, or the first or the last of one."""
@@ -107,6 +123,9 @@ class Rewriter:
         found = forms.DEFINITION.fullmatch(line)
         if not found:
             raise Refused("a definition of a form that isn't known", line)
+        if found["name"] in WEAK.values():
+            self.counts["functions that a program may replace"] += 1
+            return line.replace("define internal ", "define weak hidden ", 1)
         if found["linkage"]:
             return line
         if found["result"].startswith("{") or "{" in found["parameters"] or "<" in found["parameters"]:

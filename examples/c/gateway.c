@@ -56,10 +56,10 @@ static void print_claims(const struct cose_claims_set *claims)
     const uint8_t *payload = token + claims->payload_at;
     print_text("iss", payload, claims->iss);
     print_text("sub", payload, claims->sub);
-    for (uint64_t index = 0; index < claims->aud_count; index++) {
-        struct cose_range audience;
-        cose_audience(payload, claims->payload_length, index, &audience);
+    struct cose_range audience = claims->aud;
+    for (uint64_t left = claims->aud_count; left > 0; left--) {
         print_text("aud", payload, audience);
+        cose_next_audience(payload, (size_t)claims->payload_length, audience.at + audience.length, &audience);
     }
     print_date("exp", claims->exp);
     print_date("nbf", claims->nbf);
@@ -95,7 +95,7 @@ static int answer(const struct cose_claims_set *claims)
         puts("admitted");
         print_claims(claims);
         return ADMITTED;
-    case COSE_SIGNED: /* firmware_update.c shows how a signature is verified */
+    case COSE_SIGNED: /* adapters/ has what verifies a signature */
         puts("refused: the token is signed, and this gateway knows no curve");
         return REFUSED;
     case COSE_REFUSED:

@@ -30,8 +30,8 @@ static int keep(const uint8_t *bytes, uint64_t length)
 {
     if (length > sizeof payload - payload_length)
         return 0;
-    memcpy(payload + payload_length, bytes, length);
-    payload_length += length;
+    memcpy(payload + payload_length, bytes, (size_t)length);
+    payload_length += (size_t)length;
     return 1;
 }
 
@@ -116,7 +116,7 @@ int main(int count, char **arguments)
         fputs("a verifier of this library doesn't fit into the block\n", stderr);
         return NO_ANSWER;
     }
-    struct cose_verifier verifier = {block};
+    struct cose_verifier verifier = {.at = block};
     struct cose_status status;
     cose_begin(block);
     cose_open(&verifier, keys, keys_length, NULL, 0, COSE_MAC0, &status);

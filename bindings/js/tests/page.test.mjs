@@ -1,5 +1,7 @@
 // What the page of web/ finds, without a browser: its scripts, but for those of elements, run here.
 import assert from "node:assert/strict";
+import { File } from "node:buffer";
+import { webcrypto } from "node:crypto";
 import { readFileSync } from "node:fs";
 import { test } from "node:test";
 import { runInThisContext } from "node:vm";
@@ -10,6 +12,9 @@ const OF_ELEMENTS = ["cose_wasm.js", "elements.js", "bytes_view.js", "answer_vie
 const scripts = [...html.matchAll(/<script defer src="([^"]+)"/g)].map((it) => it[1]).filter((it) => !OF_ELEMENTS.includes(it));
 const names = "Cose, answerTo, bytesFrom, keysFrom, phaseOf, pictureOf, reasonOf, diagnostic, wholeItem, EXAMPLES, REASONS, SENTENCES, spanText, momentText";
 const text = scripts.map((it) => readFileSync(new URL(`web/${it}`, TOP), "utf8")).join("\n");
+// Node 18 has no such globals
+globalThis.crypto ??= webcrypto;
+globalThis.File ??= File;
 const page = runInThisContext(`(() => { ${text}\nreturn { ${names} }; })()`, { filename: "web" });
 
 const cose = await page.Cose.load(readFileSync(new URL("../cose.wasm", import.meta.url)));

@@ -36,6 +36,7 @@ Metadata-Version: 2.1
 Name: cose
 Version: {version}
 Summary: Verifies COSE messages (RFC 9052) and CBOR Web Tokens (RFC 8392) by a proved library
+Maintainer-email: Tafejin maintainers <maintainers@users.noreply.tafejin.example>
 License: MIT OR Apache-2.0
 License-File: LICENSE-APACHE
 License-File: LICENSE-MIT

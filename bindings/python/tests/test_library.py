@@ -77,9 +77,7 @@ class Header(unittest.TestCase):
     def test_calls(self) -> None:
         """Every exported function of the header is called, with as many arguments."""
         text = re.sub(r"/\*.*?\*/", "", HEADER.read_text(), flags=re.S)
-        declared = re.findall(
-            r"^(?:void|size_t|uint64_t|uint8_t) (cose_\w+)\(([^)]*)\);", text, re.M
-        )
+        declared = re.findall(r"^(?:void|size_t|uint\d+_t) (cose_\w+)\(([^)]*)\);", text, re.M)
         wanted = {
             name: 0 if arguments.strip() == "void" else arguments.count(",") + 1
             for name, arguments in declared

@@ -60,16 +60,18 @@ pub struct Claims<'t> {
     /// What it confirms of its presenter.
     pub cnf: Option<Confirmation<'t>>,
     payload: &'t [u8],
+    first: raw::Range,
     count: u64,
 }
 
 impl<'t> Claims<'t> {
-    /// The texts of the audience. Each is looked for from the payload's first byte on.
+    /// The texts of the audience, each of which is read after the one before it.
     #[must_use]
     pub fn audiences(&self) -> Audiences<'t> {
         Audiences {
             payload: self.payload,
-            indices: 0..self.count,
+            next: self.first,
+            left: self.count,
         }
     }
 
@@ -96,6 +98,7 @@ impl<'t> Claims<'t> {
             cti: bytes(claims.cti)?,
             cnf: confirmation(claims, payload)?,
             payload,
+            first: claims.aud,
             count: claims.aud_count,
         })
     }
@@ -149,20 +152,29 @@ fn confirmation<'t>(
 #[derive(Clone, Debug)]
 pub struct Audiences<'t> {
     payload: &'t [u8],
-    indices: core::ops::Range<u64>,
+    next: raw::Range,
+    left: u64,
 }
 
 impl<'t> Iterator for Audiences<'t> {
     type Item = &'t str;
 
     fn next(&mut self) -> Option<&'t str> {
-        let index = self.indices.next()?;
-        let mut found = raw::Range::default();
-        // SAFETY: the pointer with the length is that of one slice, which is borrowed for the call, and the struct is this function's.
-        unsafe {
-            raw::cose_edge_audience(self.payload.as_ptr(), self.payload.len(), index, &mut found);
+        self.left = self.left.checked_sub(1)?;
+        let this = self.next;
+        if self.left > 0 {
+            let place = this.at.saturating_add(this.length);
+            // SAFETY: the pointer with the length is that of one slice, which is borrowed for the call, and the struct is this iterator's.
+            unsafe {
+                raw::cose_edge_next_audience(
+                    self.payload.as_ptr(),
+                    self.payload.len(),
+                    place,
+                    &mut self.next,
+                );
+            }
         }
-        text_in(self.payload, found).ok().flatten()
+        text_in(self.payload, this).ok().flatten()
     }
 }
 

@@ -5,7 +5,9 @@ use core::fmt;
 use crate::{Reason, Refusal};
 
 /// The numbers of a call's status, as `include/cose.h` has them.
+#[allow(dead_code, reason = "each status is named")]
 pub(crate) mod number {
+    // made by ci/edge_tables: statuses
     pub(crate) const MORE: u8 = 0;
     pub(crate) const AUTHENTIC: u8 = 1;
     pub(crate) const SIGNED: u8 = 2;
@@ -15,7 +17,11 @@ pub(crate) mod number {
     pub(crate) const PAYLOAD_NEXT: u8 = 6;
     pub(crate) const COMPLETE: u8 = 7;
     pub(crate) const CLAIMS_REFUSED: u8 = 8;
+    pub(crate) const BAD_AUDIENCE: u8 = 9;
+    pub(crate) const CLOSED: u8 = 10;
+    pub(crate) const STOPPED: u8 = 11;
     pub(crate) const BAD_ARGUMENT: u8 = 12;
+    // end of what ci/edge_tables makes
 }
 
 /// Why there is no payload, no claims or no message.

@@ -13,84 +13,49 @@ pub(crate) trait Library {
 /// Messages, keys and the like: where they begin, and how many bytes they have.
 type Bytes = *const u8;
 
+// made by ci/edge_tables: sizes
 /// The functions that are there in each size, over its handle `V`. `include/cose.h` says what each does.
+#[rustfmt::skip]
+#[allow(dead_code, reason = "each export is declared")]
 pub(crate) struct Functions<V> {
-    pub(crate) verify: unsafe extern "C" fn(
-        keys: Bytes,
-        keys_length: usize,
-        aad: Bytes,
-        aad_length: usize,
-        wanted: u8,
-        message: Bytes,
-        message_length: usize,
-        verdict: &mut raw::Verdict,
-        input: &mut raw::SignInput,
-    ),
-    pub(crate) verify_detached: unsafe extern "C" fn(
-        keys: Bytes,
-        keys_length: usize,
-        aad: Bytes,
-        aad_length: usize,
-        wanted: u8,
-        message: Bytes,
-        message_length: usize,
-        payload: Bytes,
-        payload_length: usize,
-        verdict: &mut raw::Verdict,
-        input: &mut raw::SignInput,
-    ),
     pub(crate) verify_cwt: unsafe extern "C" fn(
-        keys: Bytes,
-        keys_length: usize,
-        aad: Bytes,
-        aad_length: usize,
-        policy: &raw::Policy,
-        token: Bytes,
-        token_length: usize,
-        claims: &mut raw::Claims,
+        keys: Bytes, keys_length: usize, aad: Bytes, aad_length: usize, policy: &raw::Policy, token: Bytes,
+        token_length: usize, claims: &mut raw::Claims,
     ),
     pub(crate) claims: unsafe extern "C" fn(
-        payload: Bytes,
-        payload_length: usize,
-        policy: &raw::Policy,
-        claims: &mut raw::Claims,
+        payload: Bytes, payload_length: usize, policy: &raw::Policy, claims: &mut raw::Claims,
     ),
     pub(crate) size: extern "C" fn() -> usize,
     pub(crate) align: extern "C" fn() -> usize,
-    pub(crate) begin: unsafe extern "C" fn(block: *mut u8),
+    pub(crate) begin: unsafe extern "C" fn(at: *mut u8),
+    pub(crate) verify: unsafe extern "C" fn(
+        keys: Bytes, keys_length: usize, aad: Bytes, aad_length: usize, wanted: u8, message: Bytes,
+        message_length: usize, verdict: &mut raw::Verdict, input: &mut raw::SignInput,
+    ),
+    pub(crate) verify_detached: unsafe extern "C" fn(
+        keys: Bytes, keys_length: usize, aad: Bytes, aad_length: usize, wanted: u8, message: Bytes,
+        message_length: usize, payload: Bytes, payload_length: usize, verdict: &mut raw::Verdict,
+        input: &mut raw::SignInput,
+    ),
     pub(crate) open: unsafe extern "C" fn(
-        verifier: &mut V,
-        keys: Bytes,
-        keys_length: usize,
-        aad: Bytes,
-        aad_length: usize,
-        wanted: u8,
+        verifier: &mut V, keys: Bytes, keys_length: usize, aad: Bytes, aad_length: usize, wanted: u8,
         status: &mut raw::Status,
     ),
     pub(crate) open_detached: unsafe extern "C" fn(
-        verifier: &mut V,
-        keys: Bytes,
-        keys_length: usize,
-        aad: Bytes,
-        aad_length: usize,
-        wanted: u8,
-        payload_length: u64,
-        status: &mut raw::Status,
+        verifier: &mut V, keys: Bytes, keys_length: usize, aad: Bytes, aad_length: usize, wanted: u8,
+        payload_length: u64, status: &mut raw::Status,
     ),
-    pub(crate) feed: unsafe extern "C" fn(
-        verifier: &mut V,
-        piece: Bytes,
-        piece_length: usize,
-        fed: &mut raw::Fed,
-    ),
+    pub(crate) feed: unsafe extern "C" fn(verifier: &mut V, piece: Bytes, piece_length: usize, fed: &mut raw::Fed),
     pub(crate) wanted: unsafe extern "C" fn(verifier: &mut V) -> u64,
     pub(crate) payload_wanted: unsafe extern "C" fn(verifier: &mut V) -> u64,
-    pub(crate) feed_payload:
-        unsafe extern "C" fn(verifier: &mut V, piece: Bytes, piece_length: usize) -> u64,
+    pub(crate) feed_payload: unsafe extern "C" fn(verifier: &mut V, piece: Bytes, piece_length: usize) -> u64,
     pub(crate) end: unsafe extern "C" fn(verifier: &mut V, status: &mut raw::Status),
     pub(crate) sign_input: unsafe extern "C" fn(verifier: &mut V, input: &mut raw::SignInput) -> u8,
-    pub(crate) verdict:
-        unsafe extern "C" fn(verifier: &mut V, signature_is_good: i32, verdict: &mut raw::Verdict),
+    pub(crate) verdict: unsafe extern "C" fn(verifier: &mut V, signature_is_good: i32, verdict: &mut raw::Verdict),
+    pub(crate) message_number: unsafe extern "C" fn(verifier: &mut V) -> u64,
+    pub(crate) verdict_for: unsafe extern "C" fn(
+        verifier: &mut V, message: u64, signature_is_good: i32, verdict: &mut raw::Verdict,
+    ),
     pub(crate) reset: unsafe extern "C" fn(verifier: &mut V),
     pub(crate) taken: unsafe extern "C" fn(verifier: &mut V) -> u64,
     pub(crate) held: unsafe extern "C" fn(verifier: &mut V) -> u64,
@@ -99,13 +64,13 @@ pub(crate) struct Functions<V> {
 impl Library for Small {
     type Handle = raw::Verifier;
     const FUNCTIONS: Functions<raw::Verifier> = Functions {
-        verify: raw::cose_edge_verify,
-        verify_detached: raw::cose_edge_verify_detached,
         verify_cwt: raw::cose_edge_verify_cwt,
         claims: raw::cose_edge_claims,
         size: raw::cose_verifier_size,
         align: raw::cose_verifier_align,
         begin: raw::cose_begin,
+        verify: raw::cose_edge_verify,
+        verify_detached: raw::cose_edge_verify_detached,
         open: raw::cose_edge_open,
         open_detached: raw::cose_edge_open_detached,
         feed: raw::cose_edge_feed,
@@ -115,6 +80,8 @@ impl Library for Small {
         end: raw::cose_end,
         sign_input: raw::cose_sign_input,
         verdict: raw::cose_verdict,
+        message_number: raw::cose_message_number,
+        verdict_for: raw::cose_verdict_for,
         reset: raw::cose_reset,
         taken: raw::cose_taken,
         held: raw::cose_held,
@@ -124,13 +91,13 @@ impl Library for Small {
 impl Library for Large {
     type Handle = raw::LargeVerifier;
     const FUNCTIONS: Functions<raw::LargeVerifier> = Functions {
-        verify: raw::cose_edge_large_verify,
-        verify_detached: raw::cose_edge_large_verify_detached,
         verify_cwt: raw::cose_edge_large_verify_cwt,
         claims: raw::cose_edge_large_claims,
         size: raw::cose_large_verifier_size,
         align: raw::cose_large_verifier_align,
         begin: raw::cose_large_begin,
+        verify: raw::cose_edge_large_verify,
+        verify_detached: raw::cose_edge_large_verify_detached,
         open: raw::cose_edge_large_open,
         open_detached: raw::cose_edge_large_open_detached,
         feed: raw::cose_edge_large_feed,
@@ -140,8 +107,11 @@ impl Library for Large {
         end: raw::cose_large_end,
         sign_input: raw::cose_large_sign_input,
         verdict: raw::cose_large_verdict,
+        message_number: raw::cose_large_message_number,
+        verdict_for: raw::cose_large_verdict_for,
         reset: raw::cose_large_reset,
         taken: raw::cose_large_taken,
         held: raw::cose_large_held,
     };
 }
+// end of what ci/edge_tables makes

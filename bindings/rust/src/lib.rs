@@ -13,7 +13,8 @@
 //! | a payload that wants a MAC | [`Maker`] |
 //!
 //! HMAC is computed by the library. For ECDSA (ES256, ES384, ES512, ESP256, ESP384, ESP512) it computes the digest, and the caller verifies the signature: a
-//! `COSE_Sign1` is [`Verdict::Signed`], which gives its payload through [`Signed::payload_if`] alone.
+//! `COSE_Sign1` is [`Verdict::Signed`], which gives its payload through [`Signed::payload_if`] alone. [`ecdsa_by`] declares what verifies
+//! it by `RustCrypto`'s `p256`, `p384` and `p521`.
 //!
 //! ```
 //! use cose::{verify, SignInput, Verdict};
@@ -44,6 +45,7 @@
 #[cfg(feature = "std")]
 extern crate std;
 
+mod adapter;
 mod block;
 mod claims;
 mod error;

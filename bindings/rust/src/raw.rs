@@ -2,43 +2,6 @@
 //!
 //! A call that takes slices is exported as `cose_edge_NAME`, and none of its pointers is null.
 
-/// A status, of a message that is fed.
-#[repr(C)]
-#[derive(Default)]
-pub(crate) struct Status {
-    pub(crate) number: u8,
-    pub(crate) reason: u8,
-    pub(crate) place: u64,
-}
-
-#[repr(C)]
-#[derive(Default)]
-pub(crate) struct Verdict {
-    pub(crate) status: u8,
-    pub(crate) reason: u8,
-    pub(crate) kind: u8,
-    pub(crate) alg: i32,
-    pub(crate) place: u64,
-    pub(crate) payload_at: u64,
-    pub(crate) payload_length: u64,
-    pub(crate) taken: u64,
-}
-
-#[repr(C)]
-#[derive(Clone, Copy)]
-pub(crate) struct SignInput {
-    pub(crate) crv: u8,
-    pub(crate) y_sign: u8,
-    pub(crate) x_length: u64,
-    pub(crate) y_length: u64,
-    pub(crate) digest_length: u64,
-    pub(crate) signature_length: u64,
-    pub(crate) x: [u8; 66],
-    pub(crate) y: [u8; 66],
-    pub(crate) digest: [u8; 64],
-    pub(crate) signature: [u8; 132],
-}
-
 impl SignInput {
     /// Room for an answer.
     pub(crate) const BLANK: Self = SignInput {
@@ -55,27 +18,20 @@ impl SignInput {
     };
 }
 
-#[repr(C)]
-#[derive(Default)]
-pub(crate) struct Shape {
-    pub(crate) status: u8,
-    pub(crate) reason: u8,
-    pub(crate) kind: u8,
-    pub(crate) place: u64,
-    pub(crate) payload_length: u64,
-    pub(crate) auth_length: u64,
-    pub(crate) taken: u64,
+impl From<*mut u8> for Verifier {
+    fn from(at: *mut u8) -> Self {
+        Verifier { at }
+    }
 }
 
-#[repr(C)]
-#[derive(Default)]
-pub(crate) struct KeySet {
-    pub(crate) status: u8,
-    pub(crate) reason: u8,
-    pub(crate) place: u64,
-    pub(crate) usable: u64,
+impl From<*mut u8> for LargeVerifier {
+    fn from(at: *mut u8) -> Self {
+        LargeVerifier { at }
+    }
 }
 
+// made by ci/edge_tables: structs
+/// The conditions under which a token is admitted.
 #[repr(C)]
 pub(crate) struct Policy {
     pub(crate) now: i64,
@@ -85,24 +41,27 @@ pub(crate) struct Policy {
     pub(crate) audience_length: usize,
 }
 
+/// A range of bytes, relative to the payload.
 #[repr(C)]
-#[derive(Clone, Copy, Default)]
+#[derive(Clone, Copy, Debug, Default, PartialEq, Eq)]
 pub(crate) struct Range {
     pub(crate) at: u64,
     pub(crate) length: u64,
     pub(crate) present: u8,
 }
 
+/// A date, in seconds since 1970.
 #[repr(C)]
-#[derive(Clone, Copy, Default)]
+#[derive(Clone, Copy, Debug, Default, PartialEq, Eq)]
 pub(crate) struct Date {
     pub(crate) number: u64,
     pub(crate) present: u8,
     pub(crate) negative: u8,
 }
 
+/// The claims of a token (RFC 8392 section 3.1).
 #[repr(C)]
-#[derive(Default)]
+#[derive(Clone, Copy, Debug, Default, PartialEq, Eq)]
 pub(crate) struct Claims {
     pub(crate) status: u8,
     pub(crate) reason: u8,
@@ -124,302 +83,224 @@ pub(crate) struct Claims {
     pub(crate) cnf_y_sign: u8,
 }
 
-/// A verifier in a block of the caller's memory.
-#[repr(C)]
-pub(crate) struct Verifier {
-    pub(crate) at: *mut u8,
-}
-
-/// The same in the large size.
+/// The handle of a verifier: where its block is.
 #[repr(C)]
 pub(crate) struct LargeVerifier {
     pub(crate) at: *mut u8,
 }
 
-impl From<*mut u8> for Verifier {
-    fn from(at: *mut u8) -> Self {
-        Verifier { at }
-    }
-}
-
-impl From<*mut u8> for LargeVerifier {
-    fn from(at: *mut u8) -> Self {
-        LargeVerifier { at }
-    }
-}
-
-#[repr(C)]
-#[derive(Default)]
-pub(crate) struct Fed {
-    pub(crate) status: Status,
-    pub(crate) used: u64,
-    pub(crate) payload_at: u64,
-    pub(crate) payload_length: u64,
-}
-
-/// A table of keys in a block.
-#[repr(C)]
-pub(crate) struct Table {
-    pub(crate) at: *mut u8,
-}
-
-/// A message that is made, in a block.
+/// The handle of a maker: where its block is.
 #[repr(C)]
 pub(crate) struct Maker {
     pub(crate) at: *mut u8,
 }
 
+/// The handle of a table: where its block is.
 #[repr(C)]
-#[derive(Default)]
+pub(crate) struct Table {
+    pub(crate) at: *mut u8,
+}
+
+/// The handle of a verifier: where its block is.
+#[repr(C)]
+pub(crate) struct Verifier {
+    pub(crate) at: *mut u8,
+}
+
+/// What a signature is verified with (RFC 9052 section 4.4): a point, a digest and the signature.
+#[repr(C)]
+#[derive(Clone, Copy)]
+pub(crate) struct SignInput {
+    pub(crate) crv: u8,
+    pub(crate) y_sign: u8,
+    pub(crate) x_length: u64,
+    pub(crate) y_length: u64,
+    pub(crate) digest_length: u64,
+    pub(crate) signature_length: u64,
+    pub(crate) x: [u8; 66],
+    pub(crate) y: [u8; 66],
+    pub(crate) digest: [u8; 64],
+    pub(crate) signature: [u8; 132],
+}
+
+/// What is known of a key set (RFC 9052 section 7).
+#[repr(C)]
+#[derive(Clone, Copy, Debug, Default, PartialEq, Eq)]
+pub(crate) struct KeySet {
+    pub(crate) status: u8,
+    pub(crate) reason: u8,
+    pub(crate) place: u64,
+    pub(crate) usable: u64,
+}
+
+/// What was made of a message.
+#[repr(C)]
+#[derive(Clone, Copy, Debug, Default, PartialEq, Eq)]
 pub(crate) struct Made {
     pub(crate) status: u8,
     pub(crate) reason: u8,
     pub(crate) length: u64,
 }
 
+/// A status. Of a refusal it has the number of its reason and its place, and of any other status zeros.
+#[repr(C)]
+#[derive(Clone, Copy, Debug, Default, PartialEq, Eq)]
+pub(crate) struct Status {
+    pub(crate) number: u8,
+    pub(crate) reason: u8,
+    pub(crate) place: u64,
+}
+
+/// The verdict on a message.
+#[repr(C)]
+#[derive(Clone, Copy, Debug, Default, PartialEq, Eq)]
+pub(crate) struct Verdict {
+    pub(crate) status: u8,
+    pub(crate) reason: u8,
+    pub(crate) kind: u8,
+    pub(crate) alg: i32,
+    pub(crate) place: u64,
+    pub(crate) payload_at: u64,
+    pub(crate) payload_length: u64,
+    pub(crate) taken: u64,
+}
+
+/// The shape of a message (RFC 9052 sections 4.2 and 6.2).
+#[repr(C)]
+#[derive(Clone, Copy, Debug, Default, PartialEq, Eq)]
+pub(crate) struct Shape {
+    pub(crate) status: u8,
+    pub(crate) reason: u8,
+    pub(crate) kind: u8,
+    pub(crate) place: u64,
+    pub(crate) payload_length: u64,
+    pub(crate) auth_length: u64,
+    pub(crate) taken: u64,
+}
+
+/// What was used of a piece.
+#[repr(C)]
+#[derive(Clone, Copy, Debug, Default, PartialEq, Eq)]
+pub(crate) struct Fed {
+    pub(crate) status: Status,
+    pub(crate) used: u64,
+    pub(crate) payload_at: u64,
+    pub(crate) payload_length: u64,
+}
+// end of what ci/edge_tables makes
+
+// made by ci/edge_tables: exports
 // SAFETY: these are the library's functions, as its header declares them.
+#[rustfmt::skip]
+#[allow(dead_code, reason = "each export is declared")]
 unsafe extern "C" {
-    pub(crate) fn cose_edge_verify(
-        keys: *const u8,
-        keys_length: usize,
-        aad: *const u8,
-        aad_length: usize,
-        wanted: u8,
-        message: *const u8,
-        message_length: usize,
-        verdict: &mut Verdict,
-        input: &mut SignInput,
-    );
-    pub(crate) fn cose_edge_verify_detached(
-        keys: *const u8,
-        keys_length: usize,
-        aad: *const u8,
-        aad_length: usize,
-        wanted: u8,
-        message: *const u8,
-        message_length: usize,
-        payload: *const u8,
-        payload_length: usize,
-        verdict: &mut Verdict,
-        input: &mut SignInput,
-    );
-    pub(crate) fn cose_edge_shape(
-        wanted: u8,
-        message: *const u8,
-        message_length: usize,
-        shape: &mut Shape,
-    );
-    pub(crate) fn cose_edge_read_keys(keys: *const u8, keys_length: usize, key_set: &mut KeySet);
     pub(crate) fn cose_edge_verify_cwt(
-        keys: *const u8,
-        keys_length: usize,
-        aad: *const u8,
-        aad_length: usize,
-        policy: &Policy,
-        token: *const u8,
-        token_length: usize,
-        claims: &mut Claims,
-    );
-    pub(crate) fn cose_edge_claims(
-        payload: *const u8,
-        payload_length: usize,
-        policy: &Policy,
-        claims: &mut Claims,
-    );
-    pub(crate) fn cose_edge_audience(
-        payload: *const u8,
-        payload_length: usize,
-        index: u64,
-        audience: &mut Range,
-    );
-
-    pub(crate) safe fn cose_verifier_size() -> usize;
-    pub(crate) safe fn cose_verifier_align() -> usize;
-    pub(crate) fn cose_begin(block: *mut u8);
-    pub(crate) fn cose_edge_open(
-        verifier: &mut Verifier,
-        keys: *const u8,
-        keys_length: usize,
-        aad: *const u8,
-        aad_length: usize,
-        wanted: u8,
-        status: &mut Status,
-    );
-    pub(crate) fn cose_edge_open_detached(
-        verifier: &mut Verifier,
-        keys: *const u8,
-        keys_length: usize,
-        aad: *const u8,
-        aad_length: usize,
-        wanted: u8,
-        payload_length: u64,
-        status: &mut Status,
-    );
-    pub(crate) fn cose_edge_feed(
-        verifier: &mut Verifier,
-        piece: *const u8,
-        piece_length: usize,
-        fed: &mut Fed,
-    );
-    pub(crate) fn cose_wanted(verifier: &mut Verifier) -> u64;
-    pub(crate) fn cose_payload_wanted(verifier: &mut Verifier) -> u64;
-    pub(crate) fn cose_edge_feed_payload(
-        verifier: &mut Verifier,
-        piece: *const u8,
-        piece_length: usize,
-    ) -> u64;
-    pub(crate) fn cose_end(verifier: &mut Verifier, status: &mut Status);
-    pub(crate) fn cose_sign_input(verifier: &mut Verifier, input: &mut SignInput) -> u8;
-    pub(crate) fn cose_verdict(
-        verifier: &mut Verifier,
-        signature_is_good: i32,
-        verdict: &mut Verdict,
-    );
-    pub(crate) fn cose_reset(verifier: &mut Verifier);
-    pub(crate) fn cose_taken(verifier: &mut Verifier) -> u64;
-    pub(crate) fn cose_held(verifier: &mut Verifier) -> u64;
-
-    pub(crate) fn cose_edge_large_verify(
-        keys: *const u8,
-        keys_length: usize,
-        aad: *const u8,
-        aad_length: usize,
-        wanted: u8,
-        message: *const u8,
-        message_length: usize,
-        verdict: &mut Verdict,
-        input: &mut SignInput,
-    );
-    pub(crate) fn cose_edge_large_verify_detached(
-        keys: *const u8,
-        keys_length: usize,
-        aad: *const u8,
-        aad_length: usize,
-        wanted: u8,
-        message: *const u8,
-        message_length: usize,
-        payload: *const u8,
-        payload_length: usize,
-        verdict: &mut Verdict,
-        input: &mut SignInput,
+        keys: *const u8, keys_length: usize, aad: *const u8, aad_length: usize, policy: &Policy, token: *const u8,
+        token_length: usize, claims: &mut Claims,
     );
     pub(crate) fn cose_edge_large_verify_cwt(
-        keys: *const u8,
-        keys_length: usize,
-        aad: *const u8,
-        aad_length: usize,
-        policy: &Policy,
-        token: *const u8,
-        token_length: usize,
-        claims: &mut Claims,
+        keys: *const u8, keys_length: usize, aad: *const u8, aad_length: usize, policy: &Policy, token: *const u8,
+        token_length: usize, claims: &mut Claims,
     );
+    pub(crate) fn cose_edge_claims(payload: *const u8, payload_length: usize, policy: &Policy, claims: &mut Claims);
     pub(crate) fn cose_edge_large_claims(
-        payload: *const u8,
-        payload_length: usize,
-        policy: &Policy,
-        claims: &mut Claims,
+        payload: *const u8, payload_length: usize, policy: &Policy, claims: &mut Claims,
     );
+    pub(crate) fn cose_edge_audience(payload: *const u8, payload_length: usize, index: u64, audience: &mut Range);
+    pub(crate) fn cose_edge_next_audience(payload: *const u8, payload_length: usize, place: u64, audience: &mut Range);
     pub(crate) safe fn cose_large_verifier_size() -> usize;
     pub(crate) safe fn cose_large_verifier_align() -> usize;
-    pub(crate) fn cose_large_begin(block: *mut u8);
+    pub(crate) fn cose_large_begin(at: *mut u8);
+    pub(crate) safe fn cose_maker_size() -> usize;
+    pub(crate) safe fn cose_maker_align() -> usize;
+    pub(crate) fn cose_maker_begin(at: *mut u8);
+    pub(crate) safe fn cose_table_size() -> usize;
+    pub(crate) safe fn cose_table_align() -> usize;
+    pub(crate) fn cose_table_begin(at: *mut u8);
+    pub(crate) safe fn cose_verifier_size() -> usize;
+    pub(crate) safe fn cose_verifier_align() -> usize;
+    pub(crate) fn cose_begin(at: *mut u8);
+    pub(crate) fn cose_edge_read_keys(keys: *const u8, keys_length: usize, key_set: &mut KeySet);
+    pub(crate) fn cose_edge_make(
+        maker: &mut Maker, alg: i32, key: *const u8, key_length: usize, kid: *const u8, kid_length: usize,
+        aad: *const u8, aad_length: usize, payload_length: u64, head: *mut u8, head_room: usize, made: &mut Made,
+    );
+    pub(crate) fn cose_edge_make_piece(maker: &mut Maker, piece: *const u8, piece_length: usize) -> u64;
+    pub(crate) fn cose_edge_make_end(maker: &mut Maker, tail: *mut u8, tail_room: usize, made: &mut Made);
+    pub(crate) fn cose_edge_verify(
+        keys: *const u8, keys_length: usize, aad: *const u8, aad_length: usize, wanted: u8, message: *const u8,
+        message_length: usize, verdict: &mut Verdict, input: &mut SignInput,
+    );
+    pub(crate) fn cose_edge_large_verify(
+        keys: *const u8, keys_length: usize, aad: *const u8, aad_length: usize, wanted: u8, message: *const u8,
+        message_length: usize, verdict: &mut Verdict, input: &mut SignInput,
+    );
+    pub(crate) fn cose_edge_verify_detached(
+        keys: *const u8, keys_length: usize, aad: *const u8, aad_length: usize, wanted: u8, message: *const u8,
+        message_length: usize, payload: *const u8, payload_length: usize, verdict: &mut Verdict, input: &mut SignInput,
+    );
+    pub(crate) fn cose_edge_large_verify_detached(
+        keys: *const u8, keys_length: usize, aad: *const u8, aad_length: usize, wanted: u8, message: *const u8,
+        message_length: usize, payload: *const u8, payload_length: usize, verdict: &mut Verdict, input: &mut SignInput,
+    );
+    pub(crate) safe fn cose_version() -> u32;
+    pub(crate) fn cose_edge_shape(wanted: u8, message: *const u8, message_length: usize, shape: &mut Shape);
     pub(crate) fn cose_edge_large_open(
-        verifier: &mut LargeVerifier,
-        keys: *const u8,
-        keys_length: usize,
-        aad: *const u8,
-        aad_length: usize,
-        wanted: u8,
-        status: &mut Status,
+        verifier: &mut LargeVerifier, keys: *const u8, keys_length: usize, aad: *const u8, aad_length: usize,
+        wanted: u8, status: &mut Status,
     );
     pub(crate) fn cose_edge_large_open_detached(
-        verifier: &mut LargeVerifier,
-        keys: *const u8,
-        keys_length: usize,
-        aad: *const u8,
-        aad_length: usize,
-        wanted: u8,
-        payload_length: u64,
-        status: &mut Status,
+        verifier: &mut LargeVerifier, keys: *const u8, keys_length: usize, aad: *const u8, aad_length: usize,
+        wanted: u8, payload_length: u64, status: &mut Status,
     );
     pub(crate) fn cose_edge_large_feed(
-        verifier: &mut LargeVerifier,
-        piece: *const u8,
-        piece_length: usize,
-        fed: &mut Fed,
+        verifier: &mut LargeVerifier, piece: *const u8, piece_length: usize, fed: &mut Fed,
     );
     pub(crate) fn cose_large_wanted(verifier: &mut LargeVerifier) -> u64;
     pub(crate) fn cose_large_payload_wanted(verifier: &mut LargeVerifier) -> u64;
     pub(crate) fn cose_edge_large_feed_payload(
-        verifier: &mut LargeVerifier,
-        piece: *const u8,
-        piece_length: usize,
+        verifier: &mut LargeVerifier, piece: *const u8, piece_length: usize,
     ) -> u64;
     pub(crate) fn cose_large_end(verifier: &mut LargeVerifier, status: &mut Status);
     pub(crate) fn cose_large_sign_input(verifier: &mut LargeVerifier, input: &mut SignInput) -> u8;
-    pub(crate) fn cose_large_verdict(
-        verifier: &mut LargeVerifier,
-        signature_is_good: i32,
-        verdict: &mut Verdict,
+    pub(crate) fn cose_large_verdict(verifier: &mut LargeVerifier, signature_is_good: i32, verdict: &mut Verdict);
+    pub(crate) fn cose_large_message_number(verifier: &mut LargeVerifier) -> u64;
+    pub(crate) fn cose_large_verdict_for(
+        verifier: &mut LargeVerifier, message: u64, signature_is_good: i32, verdict: &mut Verdict,
     );
     pub(crate) fn cose_large_reset(verifier: &mut LargeVerifier);
     pub(crate) fn cose_large_taken(verifier: &mut LargeVerifier) -> u64;
     pub(crate) fn cose_large_held(verifier: &mut LargeVerifier) -> u64;
-
-    pub(crate) safe fn cose_table_size() -> usize;
-    pub(crate) safe fn cose_table_align() -> usize;
-    pub(crate) fn cose_table_begin(block: *mut u8);
-    pub(crate) fn cose_edge_table_read(
-        table: &mut Table,
-        keys: *const u8,
-        keys_length: usize,
-        key_set: &mut KeySet,
+    pub(crate) fn cose_edge_open(
+        verifier: &mut Verifier, keys: *const u8, keys_length: usize, aad: *const u8, aad_length: usize, wanted: u8,
+        status: &mut Status,
     );
+    pub(crate) fn cose_edge_open_detached(
+        verifier: &mut Verifier, keys: *const u8, keys_length: usize, aad: *const u8, aad_length: usize, wanted: u8,
+        payload_length: u64, status: &mut Status,
+    );
+    pub(crate) fn cose_edge_feed(verifier: &mut Verifier, piece: *const u8, piece_length: usize, fed: &mut Fed);
+    pub(crate) fn cose_wanted(verifier: &mut Verifier) -> u64;
+    pub(crate) fn cose_payload_wanted(verifier: &mut Verifier) -> u64;
+    pub(crate) fn cose_edge_feed_payload(verifier: &mut Verifier, piece: *const u8, piece_length: usize) -> u64;
+    pub(crate) fn cose_end(verifier: &mut Verifier, status: &mut Status);
+    pub(crate) fn cose_sign_input(verifier: &mut Verifier, input: &mut SignInput) -> u8;
+    pub(crate) fn cose_verdict(verifier: &mut Verifier, signature_is_good: i32, verdict: &mut Verdict);
+    pub(crate) fn cose_message_number(verifier: &mut Verifier) -> u64;
+    pub(crate) fn cose_verdict_for(
+        verifier: &mut Verifier, message: u64, signature_is_good: i32, verdict: &mut Verdict,
+    );
+    pub(crate) fn cose_reset(verifier: &mut Verifier);
+    pub(crate) fn cose_taken(verifier: &mut Verifier) -> u64;
+    pub(crate) fn cose_held(verifier: &mut Verifier) -> u64;
+    pub(crate) fn cose_edge_table_read(table: &mut Table, keys: *const u8, keys_length: usize, key_set: &mut KeySet);
     pub(crate) fn cose_edge_table_verify(
-        table: &mut Table,
-        aad: *const u8,
-        aad_length: usize,
-        wanted: u8,
-        message: *const u8,
-        message_length: usize,
-        verdict: &mut Verdict,
-        input: &mut SignInput,
+        table: &mut Table, aad: *const u8, aad_length: usize, wanted: u8, message: *const u8, message_length: usize,
+        verdict: &mut Verdict, input: &mut SignInput,
     );
     pub(crate) fn cose_edge_table_verify_cwt(
-        table: &mut Table,
-        aad: *const u8,
-        aad_length: usize,
-        policy: &Policy,
-        token: *const u8,
-        token_length: usize,
+        table: &mut Table, aad: *const u8, aad_length: usize, policy: &Policy, token: *const u8, token_length: usize,
         claims: &mut Claims,
     );
-
-    pub(crate) safe fn cose_maker_size() -> usize;
-    pub(crate) safe fn cose_maker_align() -> usize;
-    pub(crate) fn cose_maker_begin(block: *mut u8);
-    pub(crate) fn cose_edge_make(
-        maker: &mut Maker,
-        alg: i32,
-        key: *const u8,
-        key_length: usize,
-        kid: *const u8,
-        kid_length: usize,
-        aad: *const u8,
-        aad_length: usize,
-        payload_length: u64,
-        head: *mut u8,
-        head_room: usize,
-        made: &mut Made,
-    );
-    pub(crate) fn cose_edge_make_piece(
-        maker: &mut Maker,
-        piece: *const u8,
-        piece_length: usize,
-    ) -> u64;
-    pub(crate) fn cose_edge_make_end(
-        maker: &mut Maker,
-        tail: *mut u8,
-        tail_room: usize,
-        made: &mut Made,
-    );
 }
+// end of what ci/edge_tables makes

@@ -4,17 +4,18 @@ import re
 import unittest
 
 from retarget.forms import Refused
-from retarget.header import BEFORE, for_all_targets
+from retarget.header import AFTER, BEFORE, SYMBOL, for_all_targets
 
 HEADER = pathlib.Path(__file__).resolve().parents[3] / "include" / "cose.h"
 START = f"#include <stdint.h>\n{BEFORE}\n#endif\n"
+assert AFTER in START
 
 
 class Header(unittest.TestCase):
     """Declarations and structs, and what stays."""
 
     def gives(self, text, wanted):
-        self.assertEqual(for_all_targets(START + text).split("#endif\n", 2)[2], wanted)
+        self.assertEqual(for_all_targets(START + text).split(AFTER + SYMBOL)[1], wanted)
 
     def test_declarations(self):
         self.gives("void cose_edge_f(const uint8_t *at,\n    size_t length);\n", "void cose_edge_f(const uint8_t *at,\n    uint64_t length);\n")

@@ -43,6 +43,10 @@ class Refusals(unittest.TestCase):
     def test_address_of_a_function(self):
         self.lines("the address of a function", "store ptr @f, ptr %a, align 8", "call void @g(ptr @f)", "%s = icmp eq ptr @f, %a")
 
+    def test_more_than_a_form(self):
+        self.lines("a form of store", "store i64 0, ptr %a, align 8, !nontemporal !3")
+        self.lines("a form of add", "%s = add i64 %n, 1, !tbaa !3")
+
     def test_inttoptr(self):
         self.lines("an operation that isn't known", "%s = inttoptr i64 %n to ptr")
         self.lines("a form of store", "store ptr inttoptr (i64 4096 to ptr), ptr %a, align 8")
@@ -116,6 +120,8 @@ class Refusals(unittest.TestCase):
 
     def test_names_of_the_rewriting(self):
         self.refused("a name of the rewriting", module("%retarget.1 = add i64 %n, 1"))
+        self.refused("a name of the rewriting", module(before=CONSTANT.replace("@bytes", "@cose_lengths_have_64_bits")))
+        self.refused("a name of the rewriting", module("call void @cose_sha512_compress(ptr %a)"))
 
     def test_recursion(self):
         check_calls(module("call void @g(ptr %a)"))

@@ -4,7 +4,7 @@ import unittest
 from retarget.rules import Rewriter
 from retarget.targets import TARGETS
 
-from . import module
+from . import CONSTANT, module
 
 
 def rewritten(text, target="thumbv7m", way="speed", poison=False):
@@ -129,6 +129,20 @@ class Rules(unittest.TestCase):
         lines = ["switch i8 %b, label %one [", "i8 0, label %one", "]"]
         text = rewritten(module(*lines))
         self.assertEqual(text[text.index("start:") + 1 :][:3], lines)
+
+    def test_weak(self):
+        other = 'define internal void @"sha2::block512::compress"(ptr %a) #0 {\nstart:\n  ret void\n}\n'
+        text = module('call void @"sha2::block512::compress"(ptr %a)', before=CONSTANT + other)
+        lines = rewritten(text)
+        self.assertIn("define weak hidden void @cose_sha512_compress(ptr %a) #0 {", lines)
+        self.assertIn("call void @cose_sha512_compress(ptr %a)", lines)
+        self.assertIn('define internal void @"sha2::block512::compress"(ptr %a) #0 {', rewritten(text, "wasm32"))
+
+    def test_symbol_of_the_header(self):
+        for name, target in TARGETS.items():
+            text = "\n".join(rewritten(module(), name))
+            self.assertEqual(text.count("@cose_lengths_have_64_bits"), 2 * target.is_processor)
+            self.assertEqual(text.count("@llvm.used = appending global [1 x ptr] [ptr @cose_layout]"), target.is_processor)
 
 
 if __name__ == "__main__":

@@ -6,7 +6,8 @@ import tempfile
 import unittest
 
 from retarget import stack
-from retarget.targets import TARGETS, clang_options
+from retarget.calls import NESTING
+from retarget.targets import PROCESSORS, clang_options
 
 RT = shutil.which("rt")
 CLANG = RT and pathlib.Path(RT).resolve().parent.parent / "toolchain" / "bin" / "clang"
@@ -32,7 +33,7 @@ class Stack(unittest.TestCase):
     def test_deepest_path(self):
         source = function("low", 2000) + function("other", 300)
         source += function("high", 1000, "low(n); other(n); other(n);", "") + function("alone", 100, linkage="")
-        for target in TARGETS:
+        for target in PROCESSORS:
             with self.subTest(target):
                 graph = self.graph(source, target)
                 most = graph.deepest()
@@ -43,16 +44,26 @@ class Stack(unittest.TestCase):
 
     def test_outside(self):
         source = "void outside(int n);\n" + function("high", 1000, "outside(n);", "")
-        for target in TARGETS:
+        for target in PROCESSORS:
             with self.subTest(target):
                 most = self.graph(source, target).deepest()
                 self.assertTrue(1000 + stack.OUTSIDE <= most["high"][0] < 1100 + stack.OUTSIDE, most)
 
     def test_recursion(self):
         source = "int high(int n);\n" + function("low", 10, "high(n);") + function("high", 10, "low(n);", "")
-        for target in TARGETS:
+        for target in PROCESSORS:
             with self.subTest(target), self.assertRaises(stack.StackError):
                 self.graph(source, target).deepest()
+
+    def test_nesting(self):
+        source = f'static int item(int n) __asm__("{NESTING}read");\n'
+        source += "static __attribute__((noinline)) int item(int n) { volatile char room[1000]; room[n] = 1;"
+        source += "return n ? item(n - 1) + room[0] : room[0]; }\n" + function("high", 500, "item(n);", "")
+        for target in PROCESSORS:
+            for depth in 3, 8:
+                with self.subTest(target, depth=depth):
+                    most = self.graph(source, target).deepest(depth)["high"][0]
+                    self.assertTrue(1000 * (depth + 1) + 500 <= most < 1050 * (depth + 1) + 600, most)
 
     def test_not_an_object_file(self):
         for data in b"", b"\x7fELF\x02\x01" + bytes(100), b"\x7fELF\x01\x02" + bytes(100):
@@ -61,7 +72,7 @@ class Stack(unittest.TestCase):
 
     def test_promises(self):
         small, large, table = (stack.promised(it, "speed") for it in ("cose_edge_feed", "cose_edge_large_verify", "cose_edge_table_read"))
-        self.assertEqual((small, large, table), (16384, 163840, 57344))
+        self.assertEqual((small, large, table), (16384, 163840, 16384))
         self.assertEqual(stack.promised("cose_edge_large_feed", "speed"), small)
 
 

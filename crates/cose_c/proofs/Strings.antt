@@ -1,13 +1,16 @@
 -- The content of a claim's string is a range of the payload.
-use Rattle.std.proofs.Common.{◌≡◌, ℕ, suc, ◌+◌, ◌-◌, ◌≤◌, Bool, true, false, List, [], ◌∷◌, length, take, drop, Option, Some, None, Ok, refl, sym, ap, subst, ◌∙◌, arith}
+use Rattle.std.proofs.Common.{◌≡◌, ℕ, suc, ◌+◌, ◌-◌, ◌≤◌, Bool, true, false, List, [], ◌∷◌, length, take, drop, Option, Some, None, Result, Ok, Err, refl, sym, ap, subst, ◌∙◌, arith}
 use Rattle.std.proofs.lemmas.Bool.Decides.{nat_tests}
 use Rattle.std.proofs.lemmas.List.{length-drop}
 use Rattle.std.specs.List.{AllByRecursion}
 use Rattle.std.specs.Prelude.{nat_eq, is_some, min, ◌==◌, ◌^◌, option_and_then}
 use Rattle.std.specs.Str.{is_utf8}
 use Rattle.cose_head.specs.declared.head.Head.{Head}
-use Rattle.cose_head.specs.Placed.{Placed, bytes_in, children_of, head_of_item, if_utf8, is_an_array, look, look_with, text_in}
+use Rattle.cose_head.specs.declared.item.Span.{Span}
+use Rattle.cose_head.specs.declared.refusal.Refusal.{Refusal}
+use Rattle.cose_head.specs.Placed.{Placed, bytes_in, children_of, head_of_item, if_utf8, is_an_array, look, look_with, span_at, text_in}
 use Rattle.cose_head.specs.PlacedLaws.{ChildrenEndInside, EndsBy, end_of}
+use Rattle.cose_head.specs.Reading.{read, head}
 use Rattle.cose_head.proofs.Placed.{bytes_found, no_bytes, no_text, text_found}
 use Rattle.cose_map.specs.Label.{LabelValue}
 use Rattle.cose_map.specs.Laws.Tree.{items_of}
@@ -17,7 +20,7 @@ use Rattle.cose_cwt.specs.Claims.Labels as names
 use Rattle.cose_cwt.specs.Laws.{ClaimsAreOfTree}
 use Rattle.cose_c.specs.declared.cose_claims.CoseRange.{CoseRange}
 use Rattle.cose_c.specs.Message.{Covers}
-use Rattle.cose_c.specs.CoseClaims.{Ranges, StartsInside, audience_item, bytes_range, content_range, element_numbered, text_numbered, text_range}
+use Rattle.cose_c.specs.CoseClaims.{Ranges, StartsInside, audience_item, bytes_range, content_range, element_numbered, first_in, first_with, text_at, text_numbered, text_range}
 use Rattle.cose_c.proofs.Dates.{looks}
 use Rattle.cose_c.proofs.Parts.{Part, children_part, drop_taken, drop_twice, taken_all, taken_short, taken_twice, within}
 
@@ -248,3 +251,51 @@ module _ (tree : ClaimsAreOfTree) (ends : ChildrenEndInside) (depth : ℕ) (payl
       Ranges payload (text_numbered n (texts_at value)) range
   audience_range n None range found e inside = e
   audience_range n (Some v) range found e inside = audience_of n v (is_an_array (look v)) (n == 0) range found refl refl e inside
+
+-- ---- a text string at a place
+
+-- The item that the bytes from a place on begin with is a part of the payload, which ends within it.
+module _ (payload : List ℕ) (place count : ℕ) (item : Placed) (here : place ≤ length payload) (is : item ≡ record { bytes = take count (drop place payload); place = place }) where
+  part_here : Part (record { bytes = payload; place = 0 }) item
+  part_here = record { offset = place; count = count; at = ap (λ (p : Placed). p.place) is ∙ omega arith; cut = ap (λ (p : Placed). p.bytes) is }
+
+  ends_here : end_of item ≤ length payload
+  ends_here =
+      let at : item.place ≡ place = ap (λ (p : Placed). p.place) is in
+      let count_of : length item.bytes ≡ length (take count (drop place payload)) = ap (λ (p : Placed). length p.bytes) is in
+      let short : length (take count (drop place payload)) ≤ length (drop place payload) = taken_short count (drop place payload) in
+      let left : length (drop place payload) ≡ length payload - place = length-drop place payload in
+      omega (arith, at, count_of, short, left, here)
+
+  text_here : (text : Option (List ℕ)) (range : CoseRange) → text_in (look item) ≡ text → range ≡ content_range item text → range.at ≤ end_of item → Ranges payload text range
+  text_here None range found e inside = e
+  text_here (Some text) range found e inside =
+      let at : range.at ≡ item.place + (head_of_item item).width = ap (λ (r : CoseRange). r.at) e in
+      let size : range.length ≡ length text = ap (λ (r : CoseRange). r.length) e in
+      let covers = covers_part payload item text (head_of_item item).width (head_of_item item).arg range.at part_here ends_here (text_content item text found) at inside in
+      (ap (λ (r : CoseRange). r.present) e, subst (Covers payload text range.at) (sym size) covers)
+
+ranges_first : (payload : List ℕ) (place : ℕ) (range : CoseRange) → place ≤ length payload → (span : Result Span Refusal) →
+    range ≡ text_range (first_with (record { bytes = drop place payload; place = place }) span) → StartsInside (first_with (record { bytes = drop place payload; place = place }) span) range →
+    Ranges payload (option_and_then (λ item. text_in (look item)) (first_with (record { bytes = drop place payload; place = place }) span)) range
+ranges_first payload place range here (Ok span) e inside =
+    let item : Placed = record { bytes = take span.length (drop place payload); place = place } in
+    text_here payload place span.length item here refl (text_in (look item)) range refl e inside
+ranges_first payload place range here (Err refusal) e inside = e
+
+pub ranges_at : (payload : List ℕ) (place : ℕ) (found : Option Placed) (range : CoseRange) → place ≤ length payload → found ≡ first_in (record { bytes = drop place payload; place = place }) →
+    range ≡ text_range found → StartsInside found range → Ranges payload (text_at payload place) range
+ranges_at payload place found range here is e inside =
+    ranges_first payload place range here (span_at (drop place payload)) (e ∙ ap text_range is) (subst (λ (f : Option Placed). StartsInside f range) is inside)
+
+-- No item is where no byte is.
+pub none_at : (payload : List ℕ) (place : ℕ) → drop place payload ≡ [] → text_at payload place ≡ None
+unfolding read head
+none_at payload place none = rw none refl
+
+pub nothing_left : (xs : List ℕ) → (length xs == 0) ≡ true → xs ≡ []
+nothing_left [] none = refl
+nothing_left (x ∷ xs) none = let zero : length (x ∷ xs) ≡ 0 = grind (arith, nat_tests) in absurd (omega (arith, zero))
+
+pub not_past : (n p k : ℕ) → k ≡ n - p → (k == 0) ≡ false → p ≤ n
+not_past n p k left some = grind (arith, nat_tests)

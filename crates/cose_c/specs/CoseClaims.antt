@@ -1,6 +1,8 @@
 -- What a caller gets of the claims of a token.
-use Rattle.std.specs.Prelude.{◌≡◌, ℕ, ℤ, pos, negsuc, ◌+◌, ◌-◌, ◌≤◌, ◌==◌, if◌then◌else◌, is_some, List, [], ◌∷◌, length, Option, Some, None, option_and_then, ⊤}
-use Rattle.cose_head.specs.Placed.{Placed, bytes_in, children_of, head_of_item, integer_in, is_an_array, look, text_in}
+use Rattle.std.specs.Prelude.{◌≡◌, ℕ, ℤ, pos, negsuc, ◌+◌, ◌-◌, ◌≤◌, ◌==◌, if◌then◌else◌, is_some, List, [], ◌∷◌, length, take, drop, Option, Some, None, Result, Ok, Err, option_and_then, ⊤}
+use Rattle.cose_head.specs.declared.item.Span.{Span}
+use Rattle.cose_head.specs.declared.refusal.Refusal.{Refusal}
+use Rattle.cose_head.specs.Placed.{Placed, bytes_in, children_of, head_of_item, integer_in, is_an_array, look, span_at, text_in}
 use Rattle.cose_head.specs.PlacedLaws.{end_of}
 use Rattle.cose_map.specs.Key.Value.{KeyValue, MaterialValue, YValue, coordinate, elliptic, sign, symmetric}
 use Rattle.cose_map.specs.Map.Form.{Table}
@@ -66,6 +68,18 @@ audience_item n None = None
 audience_item n (Some value) =
     if is_an_array (look value) then element_numbered n (children_of value) else
     if n == 0 then Some value else None
+
+-- The item that bytes begin with, of a nesting of at most 32.
+abbrev pub first_with : Placed → Result Span Refusal → Option Placed
+first_with p (Ok span) = Some (record { bytes = take span.length p.bytes; place = p.place })
+first_with p (Err refusal) = None
+
+abbrev pub first_in : Placed → Option Placed
+first_in p = first_with p (span_at p.bytes)
+
+-- The text string that the item at a place of the payload is.
+abbrev pub text_at : List ℕ → ℕ → Option (List ℕ)
+text_at payload place = option_and_then (λ item. text_in (look item)) (first_in (record { bytes = drop place payload; place = place }))
 
 -- ---- ranges
 

@@ -1,5 +1,5 @@
 -- A verifier in a block, which is there once the block is opened, and what a caller gets of it.
-use Rattle.std.specs.Prelude.{◌≡◌, ℕ, ℤ, pos, ◌+◌, Bool, false, ◌&&◌, not, List, [], Option, Some, None, Result, Ok, Err}
+use Rattle.std.specs.Prelude.{◌≡◌, ℕ, ℤ, pos, ◌+◌, ◌-◌, ◌^◌, ◌==◌, if◌then◌else◌, Bool, false, ◌&&◌, not, List, [], Option, Some, None, Result, Ok, Err}
 use Rattle.std.specs.Ordering.{int_eq}
 use Rattle.cose_map.specs.declared.key_set.KeySet.{KeySet}
 use Rattle.cose_map.specs.declared.keys.KeyMeaning.{Ghosts}
@@ -131,6 +131,10 @@ answer_kept_by None = None
 answer_kept_by (Some v) = kept_answer v
 
 -- ---- the next message
+
+-- The number of the message after that of this number. It is another one.
+abbrev pub following : ℕ → ℕ
+following message = if message == 2 ^ 64 - 1 then 0 else message + 1
 
 -- What the verifier was made for.
 abbrev pub task_by : {H D : ℕ} → Content H D → Option Task

@@ -1,6 +1,6 @@
 //! A token in memory, by one call, and the claims of a payload.
 
-ghost use Rattle.std.specs.Prelude.{◌≡◌, ◌≢◌, ◌≤◌, ◌-◌, ◌^◌, min, length, ℕ, false, [], drop, take, Ok, option_map};
+ghost use Rattle.std.specs.Prelude.{◌≡◌, ◌≢◌, ◌≤◌, ◌<◌, ◌+◌, ◌-◌, ◌^◌, min, length, ℕ, false, [], drop, take, Ok, option_map};
 ghost use Rattle.cose_head.specs.ItemRef.{placed};
 ghost use Rattle.cose_head.specs.Placed.{children_of, if_utf8};
 ghost use Rattle.cose_map.specs.Key.View.{key_value};
@@ -18,7 +18,7 @@ ghost use Rattle.cose_cwt.specs.Claims.Audience.{text_value};
 ghost use Rattle.cose_cwt.specs.Claims.View.{claims_value};
 ghost use Rattle.cose_c.specs.Claims.{Gives, GivesAudience, GivesClaims, GivesToken, GivesTokenIn, claims_given, name_given, name_seen, policy_for, policy_given, status_in, unless_refused};
 ghost use Rattle.cose_c.specs.Terms.{setting_given};
-ghost use Rattle.cose_c.specs.CoseClaims.{Ranges, StartsInside, audience_item, confirmed_curve, confirmed_sign, curve_number, element_numbered, no_claims, sign_number, text_numbered, text_range};
+ghost use Rattle.cose_c.specs.CoseClaims.{Ranges, StartsInside, audience_item, confirmed_curve, confirmed_sign, curve_number, element_numbered, first_in, no_claims, sign_number, text_at, text_numbered, text_range};
 
 use crate::cose_claims::{
     CoseClaims, CoseRange, bytes_range, date_in, no_claims, no_range, text_range,
@@ -32,6 +32,7 @@ use crate::terms::{HEADER, LARGE_HEADER, LARGE_NESTING, NESTING, context};
 use cose_cwt::laws::claims_are_of_a_tree;
 use cose_cwt::{Audience, Claims, Policy};
 use cose_head::laws::children_are_of_tree;
+use cose_head::read_item;
 use cose_map::{Form, ItemRef, Items, Key, Label, Material, Reason, Y, check_map};
 use cose_msg::{Keys, Refusal, Verifier};
 use std::slice;
@@ -544,4 +545,30 @@ pub extern "C" fn cose_edge_audience(payload: &[u8], index: u64, audience: &mut 
         Ok(claims) => audience_for_c(&claims, payload, index),
         Err(_) => no_range(),
     };
+}
+
+/// The item that bytes begin with, of a nesting of at most 32. The first byte is at place `at`.
+#[tactic(auto, using(cose_head::proofs::Whole::spelled_is_one_item))]
+fn first_item(bytes: &[u8], at: u64) -> Option<ItemRef<'_>>
+    requires { at + length bytes.now < 2 ^ 64 }
+    ensures item { option_map placed result ≡ first_in (record { bytes = bytes.now; place = at }) }
+{
+    let span = read_item(bytes, bytes.len(), 32).ok()?;
+    let (bytes, _) = bytes.split_at(span.length);
+    Some(ItemRef { bytes, place: at })
+}
+
+/// The text string of an audience that follows another one: the item at this place of the payload, where that is a text string in UTF-8.
+/// The place is the one after the bytes of the other text string (RFC 8949 section 3.1: the elements of an array follow one another). So
+/// one pass gives a whole audience.
+#[unsafe(no_mangle)]
+pub extern "C" fn cose_edge_next_audience(payload: &[u8], place: u64, audience: &mut CoseRange)
+    ensures { Ranges payload.now (text_at payload.now place) audience.new }
+{
+    let bytes = bytes_from(payload, place);
+    if bytes.is_empty() {
+        *audience = no_range();
+        return;
+    }
+    *audience = text_range(first_item(bytes, place));
 }

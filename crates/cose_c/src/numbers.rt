@@ -45,6 +45,9 @@ pub(crate) const STOPPED: u8 = 11;
 /// A number among the arguments is none that the function knows.
 pub(crate) const BAD_ARGUMENT: u8 = 12;
 
+/// The version of the library: its major number times 65,536, its minor one times 256, and its patch.
+const VERSION: u32 = 512;
+
 /// A status. Of a refusal it has the number of its reason and its place, and of any other status zeros.
 #[repr(C)]
 #[derive(Clone, Copy)]
@@ -148,4 +151,12 @@ pub(crate) fn accepted(status: u8, kind: Kind, alg: Alg, payload: u64, taken: u6
         payload_length: payload,
         taken,
     }
+}
+
+/// The version of the library, as `COSE_VERSION` of the header that was made for it.
+#[unsafe(no_mangle)]
+pub extern "C" fn cose_version() -> u32
+    ensures { result ≡ 512 }
+{
+    VERSION
 }

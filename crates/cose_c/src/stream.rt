@@ -12,7 +12,7 @@ ghost use Rattle.cose_msg.specs.Task.{Task, given_to, rules_of, to_verify};
 ghost use Rattle.cose_c.specs.Deciding.{deciding};
 ghost use Rattle.cose_c.specs.Input.{GivesAll, has_point};
 ghost use Rattle.cose_c.specs.Numbers.{always_authentic, no_message, verdict_numbers};
-ghost use Rattle.cose_c.specs.Stream.{HasRead, IsAnew, IsOpened, answer_kept_by, block_status, detached_given, has_verdict, held_by, is_decidable, nothing_fed, opening_status, payload_fed, payload_wanted_by, reading_of, says_good, signed_by, status_after, status_numbers, taken_by, task_by, wanted_by, wants_any, wants_more};
+ghost use Rattle.cose_c.specs.Stream.{HasRead, IsAnew, IsOpened, answer_kept_by, block_status, detached_given, following, has_verdict, held_by, is_decidable, nothing_fed, opening_status, payload_fed, payload_wanted_by, reading_of, says_good, signed_by, status_after, status_numbers, taken_by, task_by, wanted_by, wants_any, wants_more};
 ghost use Rattle.cose_c.specs.Terms.{setting_given};
 
 mod large;
@@ -81,6 +81,16 @@ fn nothing_fed(status: CoseStatus) -> CoseFed
         payload_at: 0,
         payload_length: 0,
     }
+}
+
+/// The number of the message after that of this number.
+pub(crate) fn following(message: u64) -> u64
+    ensures { result ≡ following message }
+{
+    if message == u64::MAX {
+        return 0;
+    }
+    message + 1
 }
 
 /// Gives a block its verifier. Where that is refused, the block isn't opened, whatever it was before.

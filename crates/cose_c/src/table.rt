@@ -45,6 +45,24 @@ fn context<'k>(
     })
 }
 
+/// Gives a block the table of a key set, where the block is: no copy of the table is on the stack.
+fn fill(content: &mut Option<KeyTable<'static, TABLE>>, keys: &'static [u8]) -> CoseKeySet
+    ensures numbers { result ≡ key_set_numbers (table_of 64 (keys_of keys.now)) }
+    ensures keys { keys_in content.new ≡ keys_read (table_of 64 (keys_of keys.now)) }
+{
+    *content = Some(KeyTable::new());
+    let Some(table) = content else {
+        unreachable!();
+    };
+    match table.fill(keys) {
+        Ok(()) => counted(table.count() as u64),
+        Err(refusal) => {
+            *content = None;
+            no_key_set(refused_status(KEYS_REFUSED, refusal))
+        }
+    }
+}
+
 /// Reads the usable keys of a key set, at most 64, each of them once. Where the set is refused, or has more usable keys, the block has
 /// no table, whatever it had before.
 ///
@@ -58,18 +76,7 @@ pub extern "C" fn cose_edge_table_read(
     ensures numbers { key_set.new ≡ key_set_numbers (table_of 64 (keys_of keys.now)) }
     ensures keys { keys_in table.new.value.content ≡ keys_read (table_of 64 (keys_of keys.now)) }
 {
-    let content = &mut table.lend().content;
-    *key_set = match KeyTable::read(keys) {
-        Ok(read) => {
-            let usable = read.count() as u64;
-            *content = Some(read);
-            counted(usable)
-        }
-        Err(refusal) => {
-            *content = None;
-            no_key_set(refused_status(KEYS_REFUSED, refusal))
-        }
-    };
+    *key_set = fill(&mut table.lend().content, keys);
 }
 
 /// Verifies a message in memory under the table's keys, as `cose_verify` does under those of a key set. A block that isn't read answers

@@ -139,12 +139,12 @@ nothing_held {S} contents before after payload empty same held =
     let e : Some payload ≡ Some [] = sym held ∙ ap contents same ∙ empty in cc
 
 -- The token stops for what the verifier stops for.
-token_stop : (depth : ℕ) (policy : PolicyValue) (verdict : Result Verdict Stop) (payload : List ℕ) → stop_in (token_of depth policy verdict payload) ≡ stop_of verdict
+pub token_stop : (depth : ℕ) (policy : PolicyValue) (verdict : Result Verdict Stop) (payload : List ℕ) → stop_in (token_of depth policy verdict payload) ≡ stop_of verdict
 token_stop depth policy (Ok (Authentic kind alg length taken)) payload = no_stop (admitted_claims depth policy payload)
 token_stop depth policy (Ok (Refused refusal)) payload = refl
 token_stop depth policy (Err stop) payload = refl
 
-stops_for : (verdict : Result Verdict Stop) (stop : Stop) → stop_of verdict ≡ Some stop → verdict ≡ Err stop
+pub stops_for : (verdict : Result Verdict Stop) (stop : Stop) → stop_of verdict ≡ Some stop → verdict ≡ Err stop
 stops_for (Ok verdict) stop e = absurd cc
 stops_for (Err other) stop e = cc
 

@@ -1,5 +1,5 @@
 -- The result for a token of which something is required: its claims, the kind of its message and the algorithm.
-use Rattle.std.specs.Prelude.{◌≡◌, ℕ, Bool, List, Option, Result, Ok, Err}
+use Rattle.std.specs.Prelude.{◌≡◌, ℕ, Bool, List, Option, None, Result, Ok, Err}
 use Rattle.cose_head.specs.declared.algorithm.Alg.{Alg}
 use Rattle.cose_head.specs.declared.kind.Kind.{Kind}
 use Rattle.cose_msg.specs.declared.verdict.Stop.{Stop}
@@ -17,7 +17,7 @@ use Rattle.cose_cwt.specs.Admission.{PolicyValue, admitted_claims}
 use Rattle.cose_cwt.specs.Claims.{ClaimsValue}
 use Rattle.cose_cwt.specs.Claims.View.{claims_value}
 use Rattle.cose_cwt.specs.Requirements.{RequirementsValue, met}
-use Rattle.cose_cwt.specs.Token.{IsRun, Outcome, UnlessStopped, of_claims, read_as}
+use Rattle.cose_cwt.specs.Token.{IsRun, Outcome, UnlessStopped, of_claims, read_as, stop_in}
 
 pub record TokenValue : Type 0 where
   pub claims : ClaimsValue
@@ -60,6 +60,12 @@ abbrev pub RequiredUnlessStopped : Required → Type 0 → Type 0
 RequiredUnlessStopped (Ok token) says = says
 RequiredUnlessStopped (Err (stops.Cwt stop)) says = UnlessStopped (Err stop) says
 RequiredUnlessStopped (Err (stops.Unmet unmet)) says = says
+
+-- Why a verifier stopped, if it did.
+abbrev pub required_stop_in : Required → Option Stop
+required_stop_in (Ok token) = None
+required_stop_in (Err (stops.Cwt stop)) = stop_in (Err stop)
+required_stop_in (Err (stops.Unmet unmet)) = None
 
 -- The effect of a call: that of `verify_cwt`, with an outcome of its own, and the token by the same verdict and payload.
 pub record IsRequiredRun {H D : ℕ} {S : Type 0} {K : _} (setting : Setting) (decides : Decides) (policy : PolicyValue) (requirements : RequirementsValue) (come come_after : Option (List ℕ)) (ended : Bool) (v : Verifier H D S K) (outcome : Required) : Type 0 where

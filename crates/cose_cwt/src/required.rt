@@ -1,17 +1,20 @@
 //! A token of which something is required, from its bytes to its claims, the kind of its message and the algorithm.
 
-ghost use Rattle.std.specs.Prelude.{◌≡◌, ◌≤◌, ℕ, true, false, List, [], Some, Result, IsErr};
+ghost use Rattle.std.specs.Prelude.{◌≡◌, ◌↔◌, ◌≤◌, ◌||◌, ℕ, true, false, List, [], Some, Result, Err, IsErr};
+ghost use Rattle.cose_head.specs.declared.refusal.Refusal.{Refusal};
 ghost use Rattle.cose_msg.specs.declared.verdict.Stop.{Stop};
 ghost use Rattle.cose_msg.specs.declared.verdict.Verdict.{Verdict};
-ghost use Rattle.cose_msg.specs.Kept.{HasTaken, SamePurpose, bytes_taken, is_inspecting, kept_answer};
+ghost use Rattle.cose_msg.specs.Kept.{HasTaken, SamePurpose, bytes_taken, is_inspecting, is_stopped, kept_answer};
 ghost use Rattle.cose_msg.specs.Message.{Setting};
 ghost use Rattle.cose_msg.specs.Task.{to_verify};
 ghost use Rattle.cose_msg.specs.Verifier.{is_detached, setting_in};
 ghost use Rattle.cose_cwt.specs.Admission.{admitted_claims as admitted_claims_of};
 ghost use Rattle.cose_cwt.specs.Admission.View.{policy_value};
 ghost use Rattle.cose_cwt.specs.Requirements.View.{requirements_value};
-ghost use Rattle.cose_cwt.specs.Required.{IsRequiredRun, IsRequiredToken, RequiredUnlessStopped, if_admitted, required_of, token_seen};
-ghost use Rattle.cose_cwt.specs.Token.{of_claims};
+ghost use Rattle.cose_cwt.specs.Required.{IsRequiredRun, IsRequiredToken, RequiredUnlessStopped, if_admitted, required_of, required_stop_in, token_seen};
+ghost use Rattle.cose_cwt.specs.declared.required.TokenStop.{TokenStop};
+ghost use Rattle.cose_cwt.specs.declared.token.CwtStop.{CwtStop};
+ghost use Rattle.cose_cwt.specs.Token.{is_for_intake, is_for_store, of_claims};
 
 use crate::claims::Claims;
 use crate::laws::claims_refusals_stand_inside;
@@ -148,16 +151,32 @@ pub fn verify_token<
         RequiredUnlessStopped (token_seen result)
         (IsRequiredToken H D setting (E.decides ec.now) (policy_value policy.entry.now)
         (requirements_value requirements.entry.now) bytes (token_seen result)) }
-    // A verdict or stop that was kept is answered again.
+    // A verdict or stop that was kept is answered again, and the call doesn't stop for the intake.
     ensures again { (answer : Result Verdict Stop) → kept_answer verifier.old ≡ Some answer →
         (token_seen result ≡ required_of D (policy_value policy.entry.now)
         (requirements_value requirements.entry.now) answer [])
-        × (verifier.new ≡ verifier.old) × (intake.new ≡ intake.old) }
+        × (verifier.new ≡ verifier.old) × (intake.new ≡ intake.old)
+        × (is_for_intake (required_stop_in (token_seen result)) ≡ false) }
+    ensures stopped { (token_seen result ≡ Err (TokenStop.Cwt (CwtStop.Stopped Stop.Again)))
+        ↔ (is_stopped verifier.old ≡ true) }
     ensures purpose { SamePurpose verifier.old verifier.new }
+
+    // The place of a refusal of the claims is within the store's length, for any verifier. In a run it is in the
+    // payload, or at its end.
+    ensures within { (refusal : Refusal)
+        → token_seen result ≡ Err (TokenStop.Cwt (CwtStop.Claims refusal)) → refusal.place ≤ L }
+
+    // The intake has failed exactly where it had failed before, or where this call stops for it. The call never stops
+    // for the store.
+    ensures intake_failure { I.has_failed intake.new
+        ≡ (I.has_failed intake.old || is_for_intake (required_stop_in (token_seen result))) }
+    ensures store_suffices { is_for_store (required_stop_in (token_seen result)) ≡ false }
 {
     // Laws that the proof cites: a verdict is the same when bytes follow, and the places of refusals of claims.
     settled_stays();
     claims_refusals_stand_inside();
+    // The proof cites what this ensures of a verifier that has taken nothing.
+    let _none = verifier.taken();
     store.clear();
     let verdict = verify::<C, H, D, K, I, Store<L>, E>(verifier, intake, store, ec);
     let (payload, lender) = store.lend();

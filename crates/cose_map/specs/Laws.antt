@@ -1,4 +1,5 @@
 -- The statements of the laws.
+pub mod Allowed
 pub mod Inside
 pub mod Least
 pub mod Reasons

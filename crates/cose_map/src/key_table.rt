@@ -27,40 +27,66 @@ pub struct KeyTable<'a, const N: usize> {
 }
 
 impl<'a, const N: usize> KeyTable<'a, N> {
-    ghost use Rattle.std.specs.Prelude.{◌≡◌, ◌≤◌, length, IfErr};
+    ghost use Rattle.std.specs.Prelude.{◌≡◌, ◌≤◌, [], length, IfErr, OnErr};
     ghost use Rattle.cose_map.specs.Choice.{chosen};
     ghost use Rattle.cose_map.specs.Choice.View.{question, found_value};
     ghost use Rattle.cose_map.specs.KeySet.{keys_of};
     ghost use Rattle.cose_map.specs.KeyTable.{keys, table_of};
     ghost use Rattle.cose_map.specs.Map.View.{seen_by};
 
+    /// A table without keys, in which [`KeyTable::fill`] reads a key set. `N` is at most 256.
+    pub fn new() -> KeyTable<'a, N>
+        requires limit { N ≤ 256 }
+        ensures { keys result ≡ [] }
+    {
+        KeyTable {
+            slots: ArrayVec::new(),
+        }
+    }
+
+    /// Reads a key set into this table, in place of the keys that it has: as [`KeyTable::read`] does, but where the table is,
+    /// so that no copy of it is on the stack. A table whose key set is refused has no keys.
+    #[tactic(auto, using(crate::proofs::lemmas::KeyTable::table_holds, crate::proofs::lemmas::KeyTable::table_is_full))]
+    pub fn fill(&mut self, bytes: &'a [u8]) -> Result<(), Refusal>
+        requires { 1 ≤ N }
+        ensures exact { seen_by (λ _. keys self.new) result ≡ table_of N (keys_of bytes.now) }
+        ensures none { OnErr result (keys self.new ≡ []) }
+        ensures within { IfErr result (λ refusal. refusal.place ≤ length bytes.now) }
+    {
+        self.slots.clear();
+        let set = KeySet::read(bytes)?;
+        for item in set.items() {
+            if let Some(key) = usable(&item) {
+                if self.slots.is_full() {
+                    self.slots.clear();
+                    return Err(Refusal {
+                        reason: Reason::BadKeySet,
+                        place: 0,
+                    });
+                }
+                self.slots.push(Slot::Taken(key));
+            }
+        }
+        // The proof cites what this ensures of the length.
+        let _count = self.slots.len();
+        Ok(())
+    }
+
     /// Reads a key set of at most 65,535 bytes and at most `N` usable keys, from 1 to 256 (RFC 9052 section 7).
     ///
     /// A key that is refused is skipped, and takes none of the `N` places. The refusal is that of [`KeySet::read`], and
     /// then [`Reason::BadKeySet`] at 0 where there are more than `N` usable keys.
-    #[tactic(auto, using(crate::proofs::lemmas::KeyTable::table_holds, crate::proofs::lemmas::KeyTable::table_is_full))]
     pub fn read(bytes: &'a [u8]) -> Result<KeyTable<'a, N>, Refusal>
         requires some { 1 ≤ N }
         requires limit { N ≤ 256 }
         ensures exact { seen_by keys result ≡ table_of N (keys_of bytes.now) }
         ensures within { IfErr result (λ refusal. refusal.place ≤ length bytes.now) }
     {
-        let set = KeySet::read(bytes)?;
-        let mut slots = ArrayVec::new();
-        for item in set.items() {
-            if let Some(key) = usable(&item) {
-                if slots.is_full() {
-                    return Err(Refusal {
-                        reason: Reason::BadKeySet,
-                        place: 0,
-                    });
-                }
-                slots.push(Slot { key });
-            }
+        let mut table = KeyTable::new();
+        match table.fill(bytes) {
+            Ok(()) => Ok(table),
+            Err(refusal) => Err(refusal),
         }
-        // The proof cites what this ensures of the length.
-        let _count = slots.len();
-        Ok(KeyTable { slots })
     }
 
     /// The places that are taken.
@@ -88,7 +114,7 @@ impl<'a, const N: usize> KeyTable<'a, N> {
         }
         let mut fitting = Fitting::Nothing;
         for slot in self.slots.as_slice() {
-            fitting.meet(&slot.key, query);
+            slot.meet(&mut fitting, query);
         }
         fitting.answer(query)
     }

@@ -1,6 +1,7 @@
 //! Laws of the definitions that the contracts cite. A law is a function with no run-time effect, whose contract is the
 //! law.
 
+ghost use Rattle.cose_map.specs.Laws.Allowed.{ChosenIsAllowed, AlgorithmIsAllowed, SecretIsLongEnough};
 ghost use Rattle.cose_map.specs.Laws.Inside.{MapIsRefusedInside, ReadIsRefusedInside, BucketIsRefusedInside, KeyIsRefusedInside, FoundEndsInside, BucketEndsInside, PairIsRefusedInside};
 ghost use Rattle.cose_map.specs.Laws.Chosen.{ChosenIsAmong, ChosenFits, ChosenIsOfKind, ChosenIsOfType, NoOtherFits};
 ghost use Rattle.cose_map.specs.Laws.Least.{NoLeastOfNone, LeastIsAmong, NoneBeforeLeast};
@@ -87,4 +88,12 @@ pub fn chosen_key_fits()
     ensures kind { ChosenIsOfKind }
     ensures typed { ChosenIsOfType }
     ensures only { NoOtherFits }
+{}
+
+/// Of the keys that [`Restrictions`](crate::Restrictions) leave, the one that is chosen is allowed. The algorithm that it is
+/// used with is among those that are allowed, where any are named, and a secret has as many bytes as are asked for.
+pub fn restrictions_hold()
+    ensures key { ChosenIsAllowed }
+    ensures algorithm { AlgorithmIsAllowed }
+    ensures secret { SecretIsLongEnough }
 {}

@@ -7,6 +7,7 @@ mod prepared_key;
 use crate::choice::query::Query;
 use crate::key::Key;
 use crate::key_table::KeyTable;
+use crate::key_table::slot::Slot;
 use crate::keys::{KeyMeaning, Keys};
 use crate::prepared_table::prepared_key::PreparedKey;
 use arrayvec::ArrayVec;
@@ -43,9 +44,11 @@ impl<'a, const N: usize> PreparedTable<'a, N> {
     {
         let mut prepared = ArrayVec::new();
         for slot in table.slots() {
-            if let Some(key) = PreparedKey::of(&slot.key) {
-                // There are as many places as keys.
-                let _ = prepared.try_push(key);
+            if let Slot::Taken(key) = slot {
+                if let Some(key) = PreparedKey::of(key) {
+                    // There are as many places as keys.
+                    let _ = prepared.try_push(key);
+                }
             }
         }
         PreparedTable { table, prepared }

@@ -1,5 +1,5 @@
 -- A COSE_Mac0 that is being made of a payload which comes in pieces.
-use Rattle.std.specs.Prelude.{◌≡◌, ℕ, ◌+◌, List, ◌++◌, length, Option, None, Some, Result, Ok, Err}
+use Rattle.std.specs.Prelude.{◌≡◌, ℕ, ◌+◌, Bool, true, false, List, ◌++◌, length, Option, None, Some, Result, Ok, Err}
 use Rattle.cose_head.specs.declared.algorithm.Alg.{Alg}
 use Rattle.cose_head.specs.declared.kind.Kind.TheVariants.{Mac0}
 use Rattle.cose_mac.specs.Running.{FedMac}
@@ -29,6 +29,15 @@ begun_fault (Err faults.WrongKey) = Some faults.WrongKey
 begun_fault (Err faults.Intake) = None
 begun_fault (Err faults.Sink) = None
 begun_fault (Err faults.TooLong) = Some faults.TooLong
+
+-- Whether an answer says that the sink has failed.
+abbrev pub stops_for_sink : Result Maker MakeFault → Bool
+stops_for_sink (Ok maker) = false
+stops_for_sink (Err faults.ShortPayload) = false
+stops_for_sink (Err faults.WrongKey) = false
+stops_for_sink (Err faults.Intake) = false
+stops_for_sink (Err faults.Sink) = true
+stops_for_sink (Err faults.TooLong) = false
 
 -- The message is what precedes the payload's content, the payload, and its MAC as a byte string.
 abbrev pub MadeInParts : Type 0

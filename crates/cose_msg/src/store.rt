@@ -87,6 +87,8 @@ impl<const L: usize> Store<L> {
     /// [`Store::clear`] that can be done while something borrows them.
     pub fn lend(&mut self) -> (&[u8], Lender<'_>)
         ensures* lends { sem 𝓛 (LendsDropped L.row self.entry result.1.dropped) }
+        // What was dropped before stays so, whatever the lender does.
+        ensures starts { result.1.dropped.now ≡ self.old.dropped }
         ensures held { ⟦<Store<L> as Sink>⟧.contents self.old ≡ Some result.0.now }
         ensures limit { length result.0.now ≤ L }
     {

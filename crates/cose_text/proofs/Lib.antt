@@ -2,7 +2,9 @@ pub mod Calendar
 pub mod Dates
 pub mod Levels
 pub mod Quotes
+pub mod TextInputs
 pub mod Texts
 pub mod Trees
 pub mod WorkedDates
 pub mod WorkedDiagnostic
+pub mod WorkedTexts

@@ -2,3 +2,5 @@ pub mod Date
 pub mod Diagnostic
 pub mod Quoted
 pub mod Shown
+pub mod TextForm
+pub mod TextInput

@@ -23,6 +23,7 @@ pub mod Sequences
 pub mod ShortPayloads
 pub mod Shows
 pub mod Sizes
+pub mod TextRequests
 pub mod Trailing
 pub mod VerifiedSequences
 pub mod Vouches

@@ -14,6 +14,7 @@ use Rattle.cosecmd.specs.Admitted.{program_policy}
 use Rattle.cosecmd.specs.Faults.{WritesLine}
 use Rattle.cosecmd.specs.Options.{Options, ◌>>=◌, algorithm_in, bytes_in, flag_in, integer_in, key_in, key_set_in, kind_in, limits_in, message_in, number_in, optional_bytes_in, payload_in, text_in}
 use Rattle.cosecmd.specs.Fields.{checks_in, digest_checks_in}
+use Rattle.cosecmd.specs.InputForm.{input_bytes}
 use Rattle.cosecmd.specs.Printed.{Admits, EndsWith, Fails, Output, admitted_under, digested_under, keys_said, made_under, shown, verified_under}
 use Rattle.cosecmd.specs.Requirements.{requirements_in}
 use Rattle.cosecmd.specs.Sequence.{FailsInSequence, admitted_sequence, verified_sequence}
@@ -121,11 +122,12 @@ IsReadFrom words (Matches matches) = IsFoundIn words matches
 IsReadFrom words (Reply reply) = (reply.status ≢ statuses.Refused) × (begins_as_answer (string_bytes reply.text) ≡ false)
 
 -- A run with these arguments that ends with this status: unless there is a fault, it printed a text of clap's and ended with
--- status 0, or it printed what is printed for what clap found, and ended with its status.
+-- status 0, or it printed what is printed for what clap found, and for the bytes that the input stands for, and ended with its
+-- status.
 abbrev pub Answers : (List ℕ → Option (List ℕ)) → List Text → List ℕ → Option (List ℕ) → Option (List ℕ) → ℕ → Type 0
 Answers content words bytes old new status =
     ((text : Text) × (begins_as_answer text ≡ false) × EndsWith (record { text = text; status = statuses.Done }) old new status)
-    ⊎ ((matches : ArgMatches) × IsFoundIn words matches × ((said : Output) → matches_print content matches bytes ≡ Some said → EndsWith said old new status))
+    ⊎ ((matches : ArgMatches) × IsFoundIn words matches × ((said : Output) → matches_print content matches (input_bytes matches bytes) ≡ Some said → EndsWith said old new status))
 
 -- What is printed for what clap found, for each input.
 abbrev pub PrintsEach : (List ℕ → Option (List ℕ)) → ArgMatches → (List ℕ → Output) → Type 0
@@ -143,4 +145,4 @@ abbrev pub FailsOn : (List ℕ → Option (List ℕ)) → List Text → List ℕ
 FailsOn content words bytes old new =
     ((fault : Fault) × WritesLine fault old new)
     ⊎ (((text : Text) × (begins_as_answer text ≡ false) × AppendsFront old new text)
-    ⊎ ((matches : ArgMatches) × IsFoundIn words matches × FailsAsFound content matches bytes old new))
+    ⊎ ((matches : ArgMatches) × IsFoundIn words matches × FailsAsFound content matches (input_bytes matches bytes) old new))

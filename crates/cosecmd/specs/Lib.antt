@@ -6,6 +6,7 @@ pub mod CommandLine
 pub mod Faults
 pub mod Fields
 pub mod Input
+pub mod InputForm
 pub mod Job
 pub mod KeysListed
 pub mod Limits

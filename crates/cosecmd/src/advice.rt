@@ -79,6 +79,36 @@ impl<'a> Ended<'a> {
         })
     }
 
+    /// The argument of this option, in the same word or in the next.
+    pub fn argument_of(&self, option: &str) -> Option<&'a str> {
+        let mut follows = false;
+        for &word in self.words {
+            if follows {
+                return Some(word);
+            }
+            if let Some(rest) = word.strip_prefix("--") {
+                match rest.strip_prefix(option) {
+                    Some("") => follows = true,
+                    Some(rest) => {
+                        if let Some(argument) = rest.strip_prefix('=') {
+                            return Some(argument);
+                        }
+                    }
+                    None => {}
+                }
+            }
+        }
+        None
+    }
+
+    /// Whether what is printed is this line.
+    pub fn has_printed(&self, kind: &str, option: &str) -> bool {
+        match self.printed.strip_prefix(kind.as_bytes()) {
+            Some(rest) => rest.strip_prefix(option.as_bytes()) == Some("\n".as_bytes()),
+            None => false,
+        }
+    }
+
     /// Whether this is an argument, in a word of its own or after an option's name.
     fn has_argument(&self, argument: &str) -> bool {
         self.words.iter().any(|&word| match word.strip_suffix(argument) {
@@ -98,6 +128,9 @@ impl<'a> Ended<'a> {
 
     /// What to say of a message that isn't accepted.
     fn of_refusal(&self) -> Option<&'static str> {
+        if self.printed.starts_with("fault ".as_bytes()) {
+            return None;
+        }
         let is_bad = contains(self.printed, "BadAuth at ".as_bytes());
         if is_bad && self.is_signed() && !self.has("--vouch") {
             return Some(UNVOUCHED);
@@ -152,16 +185,6 @@ impl<'a> Ended<'a> {
         if !self.printed.starts_with("fault line algs".as_bytes()) {
             return None;
         }
-        let mut follows = false;
-        for &word in self.words {
-            if follows {
-                return wrong_part(word);
-            }
-            if let Some(list) = word.strip_prefix("--algs=") {
-                return wrong_part(list);
-            }
-            follows = word == "--algs";
-        }
-        None
+        wrong_part(self.argument_of("algs")?)
     }
 }

@@ -71,6 +71,9 @@ const KINDS: &[&str] = &["mac0", "sign1", "tagged"];
 /// The values of `--require`, the registered claims (RFC 8392 section 3.1).
 const CLAIMS: &[&str] = &["iss", "sub", "aud", "exp", "nbf", "iat", "cti"];
 
+/// The values of `--input`.
+const FORMS: &[&str] = &["cbor", "hex", "base64url", "auto"];
+
 /// The values of `--limits`.
 const LIMITS_NAMED: &[&str] = &["small", "large"];
 
@@ -86,6 +89,8 @@ enum Value {
     Kind,
     /// The name of a claim. The option may be there several times.
     Claim,
+    /// How the input is written.
+    Form,
     /// The limits of a run.
     Limits,
     /// A time, in seconds since 1970.
@@ -230,6 +235,15 @@ const DIAGNOSTIC: CommandOption = CommandOption {
     value: Value::Flag,
     presence: Presence::Optional,
     help: "Print each pair in diagnostic notation too (RFC 8949 section 8), after its bytes",
+};
+
+/// How standard input is written.
+const INPUT: CommandOption = CommandOption {
+    name: "input",
+    argument: "FORM",
+    value: Value::Form,
+    presence: Presence::Optional,
+    help: "How standard input is written: `cbor`, as without this option, `hex` or `base64url` (RFC 4648), or `auto`, which tells by the first bytes; blanks in a text are skipped",
 };
 
 /// The limits.
@@ -461,7 +475,7 @@ const MESSAGE_COMMANDS: &[Subcommand] = &[
         name: "show",
         about: "Shows the shape and the headers of the COSE message on standard input, under no key",
         notes: SHOW_NOTES,
-        options: &[KIND, DIAGNOSTIC, LIMITS],
+        options: &[KIND, DIAGNOSTIC, INPUT, LIMITS],
         one_of: None,
     },
     Subcommand {
@@ -481,6 +495,7 @@ const MESSAGE_COMMANDS: &[Subcommand] = &[
             PAYLOAD_LENGTH,
             PAYLOAD_TO,
             SEQUENCE,
+            INPUT,
             LIMITS,
         ],
         one_of: KEY_SET,
@@ -512,6 +527,7 @@ const TOKEN_COMMANDS: &[Subcommand] = &[
             MAX_AGE,
             TEXT,
             TOKENS,
+            INPUT,
             LIMITS,
         ],
         one_of: KEY_SET,
@@ -529,6 +545,7 @@ const TOKEN_COMMANDS: &[Subcommand] = &[
             DETACHED,
             PAYLOAD_FILE,
             PAYLOAD_LENGTH,
+            INPUT,
             LIMITS,
         ],
         one_of: KEY_SET,
@@ -541,7 +558,7 @@ const OTHER_COMMANDS: &[Subcommand] = &[
         name: "keys",
         about: "Lists the items of a key set: the usable keys, and why an item is none",
         notes: KEYS_NOTES,
-        options: &[KEYS, KEYS_FILE, FOR_MESSAGE, KIND],
+        options: &[KEYS, KEYS_FILE, FOR_MESSAGE, KIND, INPUT],
         one_of: KEY_SET,
     },
     Subcommand {
@@ -564,6 +581,7 @@ impl Value {
             Value::Text | Value::Flag => arg,
             Value::Kind => arg.value_parser(KINDS),
             Value::Claim => arg.value_parser(CLAIMS).action(ArgAction::Append),
+            Value::Form => arg.value_parser(FORMS),
             Value::Limits => arg.value_parser(LIMITS_NAMED),
             Value::Time => arg.value_parser(value_parser!(i64).range(0..)),
             Value::Seconds => arg.value_parser(value_parser!(u32)),

@@ -42,6 +42,11 @@ impl First {
         }
     }
 
+    /// How many bytes there were.
+    pub fn length(&self) -> usize {
+        self.length
+    }
+
     /// Whether there are enough of them to tell what they begin as.
     pub fn is_enough(&self) -> bool {
         self.length >= ENOUGH
@@ -121,10 +126,9 @@ impl Form {
         match self {
             Form::Pem | Form::Json => "it has to be CBOR",
             Form::JsonWebToken => "COSE is read here, and nothing of JOSE",
-            Form::Hexadecimal => "it has to be CBOR: decode it first, as `xxd -r -p` does",
-            Form::Base64url =>
-                "it has to be CBOR: decode it first, as `basenc --base64url -d` does",
-            Form::Letters => "it has to be CBOR: decode it first (a JSON Web Token is none)",
+            Form::Hexadecimal => "`--input hex` decodes it",
+            Form::Base64url => "`--input base64url` decodes it",
+            Form::Letters => "`--input auto` decodes it (a JSON Web Token is no COSE)",
         }
     }
 

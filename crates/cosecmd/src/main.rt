@@ -9,14 +9,19 @@ ghost use Rattle.std.specs.Process.{exit_status};
 mod advice;
 mod allowed;
 mod answer;
+mod argument_advice;
 mod arguments;
+mod cause;
 mod checks;
 mod commands;
 mod fault;
 mod files;
 mod hints;
+mod host_file;
 mod input;
+mod input_form;
 mod job;
+mod key_hints;
 mod limits;
 mod line;
 mod mistake;
@@ -29,10 +34,13 @@ mod request;
 mod requirements;
 mod run;
 mod streams;
+mod text_advice;
 mod vouch;
 mod write_sink;
 
 use advice::Ended;
+use argument_advice::say_of_arguments;
+use cose_text::{InputForm, TextFault, TextInput};
 use hints::Form;
 use noted_files::NotedFiles;
 use run::run_with_files;
@@ -42,6 +50,10 @@ use std::process::ExitCode;
 use std::rt::Env;
 use std::{env, io};
 use streams::{Noted, hold_closed, reads_input};
+use text_advice::{advice_on_wrong_text, first_bytes, form_named_in, is_text, name_of, other_form};
+
+/// How many bytes are looked at that an input stands for.
+const DECODED: usize = 512;
 
 /// The arguments of the command line, each of them UTF-8.
 fn owned_words(rt: &(impl Env + Alloc<A = Global>)) -> io::Result<Vec<String>> {
@@ -87,32 +99,71 @@ fn say_more(rt: &HostRuntime, ended: &Ended, form: Option<Form>, complaint: Opti
             "cosecmd: --algs takes numbers of algorithms, joined by commas; its part {part} is none"
         );
     }
+    say_of_arguments(rt, ended);
     if let Some(advice) = ended.advice() {
         let _ = eprintln!(rt; "cosecmd: {advice}");
     }
 }
 
+/// Says on standard error why standard input couldn't be read, where the run has ended for that.
+fn say_why_unread(rt: &HostRuntime, ended: &Ended, cause: Option<&str>, is_closed: bool) {
+    if !ended.has_printed("fault ", "input") {
+        return;
+    }
+    if let Some(cause) = cause {
+        let cause = if is_closed { "it is closed" } else { cause };
+        let _ = eprintln!(rt; "cosecmd: standard input can't be read: {cause}");
+    }
+}
+
+/// Says on standard error where the input is no text of the form that the arguments name. Its characters aren't repeated.
+fn say_of_text(rt: &HostRuntime, form: InputForm, fault: TextFault, first: &[u8]) {
+    let name = name_of(form);
+    let _ = match fault {
+        TextFault::Character(place) => {
+            eprintln!(rt; "cosecmd: character {place} of standard input is wrong in {name}")
+        }
+        TextFault::End => eprintln!(rt; "cosecmd: standard input ends early in {name}"),
+    };
+    if let Some(advice) = advice_on_wrong_text(first) {
+        let _ = eprintln!(rt; "cosecmd: {advice}");
+    }
+}
+
 /// Runs the command of these arguments over the standard streams, and says on standard error that it waits for a terminal.
-fn run_command(rt: &HostRuntime, words: &[&str]) -> u8 {
+fn run_command(rt: &HostRuntime, words: &[&str], is_closed: bool) -> u8 {
     if reads_input(words) && rt.stdin().is_terminal() {
         let _ = rt.eprintln("cosecmd: reading from this terminal, up to its end of file");
     }
     let files = NotedFiles::new(rt, words);
-    let mut input = Noted::new(rt.stdin());
+    let mut noted = Noted::new(rt.stdin());
+    let mut input = TextInput::new(&mut noted);
     let mut output = Noted::new(rt.stdout());
     let status = run_with_files(rt.alloc(), words, &files, &mut input, &mut output);
+    let fault = input.fault();
+    let form = form_named_in(words);
+    if let Some(fault) = fault {
+        say_of_text(rt, form, fault, noted.known());
+    }
+    let mut decoded = [0; DECODED];
     let ended = Ended {
         words,
         status,
-        input: input.known(),
+        input: first_bytes(form, noted.known(), &mut decoded),
         printed: output.known(),
     };
-    say_more(rt, &ended, input.form(), output.complaint());
+    let begins = if is_text(form) {
+        other_form(noted.known())
+    } else {
+        noted.form()
+    };
+    say_more(rt, &ended, begins, output.complaint());
+    say_why_unread(rt, &ended, noted.cause(), is_closed);
     status
 }
 
 fn main(rt: HostRuntime) -> ExitCode {
-    let _input = hold_closed(&rt, "/dev/fd/0");
+    let input = hold_closed(&rt, "/dev/fd/0");
     let _output = hold_closed(&rt, "/dev/fd/1");
     let _error = hold_closed(&rt, "/dev/fd/2");
     let owned = match owned_words(&rt) {
@@ -124,7 +175,7 @@ fn main(rt: HostRuntime) -> ExitCode {
         Err(_) => return complain(&mut rt.stdout(), "fault memory\n"),
     };
     match borrowed_words(rt.alloc(), owned.as_slice()) {
-        Ok(words) => ExitCode::from(run_command(&rt, words.as_slice())),
+        Ok(words) => ExitCode::from(run_command(&rt, words.as_slice(), input.is_some())),
         Err(_) => complain(&mut rt.stdout(), "fault memory\n"),
     }
 }

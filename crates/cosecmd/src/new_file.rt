@@ -1,23 +1,18 @@
 //! Files that are new: the payload of an authentic message is kept in one.
 
-ghost use Rattle.std.specs.Prelude.{◌≡◌, ℕ, Bool, true, List, Option, Some, None, IfErr, IfOk};
-ghost use Rattle.std.specs.Fs.{asks_create_new};
+ghost use Rattle.std.specs.Prelude.{◌≡◌, ℕ, Bool, List, Option, Some, None, IfErr, IfOk};
 ghost use Rattle.std.specs.Io.KnownBytes.{Keeps};
 
 use crate::files::NoFiles;
 use std::alloc::Global;
-use std::fs::{File, OpenOptions};
-use std::io::{BufWriter, Error, ErrorKind, Write};
-use std::os::unix::fs::OpenOptionsExt;
-use std::random::RandomSource;
-use std::{fs, io};
-
-/// The most bytes that are held before they are written.
-const ROOM: usize = 16_384;
+use std::io;
+use std::io::{Error, ErrorKind, Write};
 
 /// Under which of its names a new file is, if it is.
 #[derive(Clone, Copy, Debug, PartialEq, Eq)]
 pub enum Standing {
+    /// Under no name yet.
+    Unnamed,
     /// Under its temporary name.
     Temporary,
     /// Under both names.
@@ -30,7 +25,7 @@ pub enum Standing {
     Stuck,
 }
 
-/// A file that wasn't there before. It is written under a temporary name, and has its own name only where it is kept.
+/// A file that wasn't there before. It is written under no name, and has its own name only where it is kept.
 ///
 /// A contract sees under which of its names it is.
 pub trait NewFile: Write {
@@ -38,12 +33,12 @@ pub trait NewFile: Write {
 
     ghost standing: { Self → Standing };
 
-    /// Gives the file its own name, where no other file has that name by then, and takes the temporary one from it.
+    /// Gives the file its own name, where no other file has that name by then.
     fn keep(&mut self) -> io::Result<()>
         ensures kept { IfOk result (λ _. standing self.new ≡ Standing.Kept) }
         ensures bytes { Keeps (Self.contents self.old) (Self.contents self.new) };
 
-    /// Removes the file, whatever names it has.
+    /// Removes the file, whatever names it has. A name that another file has by then stays.
     fn discard(&mut self) -> io::Result<()>
         ensures gone { IfOk result (λ _. standing self.new ≡ Standing.Gone) }
         ensures stuck { IfErr result (λ _. standing self.new ≡ Standing.Stuck) };
@@ -65,136 +60,9 @@ pub trait NewFiles {
         ensures { (taken : Bool) → is_taken self.now name.now ≡ Some taken →
             IfOk result (λ exists. exists ≡ taken) };
 
-    /// Makes a file that is to have this name, and has a temporary one in the same folder. Its owner alone may read it.
+    /// Makes a file that is to have this name, in the same folder. Its owner alone may read it.
     fn create(&self, alloc: Global, name: &str) -> io::Result<Self::New>
         ensures empty { IfOk result (λ file. IsEmpty (Self.New.contents file)) };
-}
-
-/// A new file of the process.
-#[derive(Drop)]
-pub struct HostFile {
-    rt: HostRuntime,
-    writer: BufWriter<File>,
-    name: String,
-    temporary: String,
-    standing: Standing,
-}
-
-/// Removes the file of this name, where it is there still.
-fn remove(rt: &HostRuntime, name: &str) -> io::Result<()> {
-    match fs::remove_file(rt, name) {
-        Err(error) if error.kind() == ErrorKind::NotFound => Ok(()),
-        removed => removed,
-    }
-}
-
-impl HostFile {
-    /// Removes the names that the file has.
-    fn remove_names(&self) -> io::Result<()> {
-        match self.standing {
-            Standing::Temporary => remove(&self.rt, self.temporary.as_str()),
-            Standing::Both => {
-                remove(&self.rt, self.name.as_str())?;
-                remove(&self.rt, self.temporary.as_str())
-            }
-            Standing::Kept => remove(&self.rt, self.name.as_str()),
-            Standing::Gone => Ok(()),
-            Standing::Stuck => Err(Error::from(ErrorKind::Other)),
-        }
-    }
-}
-
-impl Write for HostFile {
-    fn write(&mut self, bytes: &[u8]) -> io::Result<usize> {
-        self.writer.write(bytes)
-    }
-
-    fn flush(&mut self) -> io::Result<()> {
-        self.writer.flush()
-    }
-}
-
-impl NewFile for HostFile {
-    ghost standing = { λ file. file.standing };
-
-    fn keep(&mut self) -> io::Result<()> {
-        self.writer.flush()?;
-        self.writer.get_ref().sync_all()?;
-        // A link never takes the place of a file that has the name by now, as renaming would.
-        fs::hard_link(&self.rt, self.temporary.as_str(), self.name.as_str())?;
-        self.standing = Standing::Both;
-        fs::remove_file(&self.rt, self.temporary.as_str())?;
-        self.standing = Standing::Kept;
-        Ok(())
-    }
-
-    fn discard(&mut self) -> io::Result<()> {
-        match self.remove_names() {
-            Ok(()) => {
-                self.standing = Standing::Gone;
-                Ok(())
-            }
-            Err(error) => {
-                self.standing = Standing::Stuck;
-                Err(error)
-            }
-        }
-    }
-}
-
-/// How a new file is opened: to be written, where no file has its name, and by its owner alone.
-fn new_file_options() -> OpenOptions
-    ensures new { asks_create_new result ≡ true }
-{
-    let mut options = OpenOptions::new();
-    options.mode(0o600);
-    options.write(true).create_new(true);
-    options
-}
-
-/// A name in the same folder that no file is likely to have: this name, and then eight random bytes in hexadecimal.
-fn temporary_name(rt: &HostRuntime, alloc: Global, name: &str) -> io::Result<String> {
-    let mut random = [0u8; 8];
-    rt.fill_bytes(&mut random)?;
-    let digits = hex::encode(alloc, random.as_slice())?;
-    Ok(format!(in alloc; "{name}.{digits}.part")?)
-}
-
-/// The new files of the process.
-impl NewFiles for HostRuntime {
-    type New = HostFile;
-
-    ghost is_taken = { λ _ _. None };
-
-    fn exists(&self, name: &str) -> io::Result<bool> {
-        match fs::symlink_metadata(self, name) {
-            Ok(_) => Ok(true),
-            Err(error) if error.kind() == ErrorKind::NotFound => Ok(false),
-            Err(error) => Err(error),
-        }
-    }
-
-    fn create(&self, alloc: Global, name: &str) -> io::Result<HostFile> {
-        if name.is_empty() {
-            return Err(Error::from(ErrorKind::InvalidInput));
-        }
-        let temporary = temporary_name(self, alloc, name)?;
-        let name = format!(in alloc; "{name}")?;
-        let file = new_file_options().open(self, temporary.as_str())?;
-        match BufWriter::with_capacity(alloc, ROOM, file) {
-            Ok(writer) => Ok(HostFile {
-                rt: *self,
-                writer,
-                name,
-                temporary,
-                standing: Standing::Temporary,
-            }),
-            Err(error) => {
-                let _ = fs::remove_file(self, temporary.as_str());
-                Err(error)
-            }
-        }
-    }
 }
 
 /// A file that isn't there.

@@ -1,14 +1,17 @@
-//! The files of the process, of which standard error says what their first bytes show.
+//! The files of the process, of which standard error says what their first bytes show, and why they can't be used.
 
 ghost use Rattle.std.specs.Prelude.{None};
 
+use crate::cause::cause;
 use crate::files::NamedFiles;
 use crate::hints::{First, form_of, is_no_key, is_published, is_secret};
-use crate::new_file::{HostFile, NewFiles};
+use crate::host_file::HostFile;
+use crate::key_hints::fault_of_keys;
+use crate::new_file::{NewFile, NewFiles};
 use std::alloc::Global;
 use std::fs::File;
 use std::io;
-use std::io::{Error, ErrorKind, Read};
+use std::io::{Error, ErrorKind, Read, Write};
 use std::os::unix::fs::PermissionsExt;
 
 /// The bits of a mode that let others than the owner read or write.
@@ -42,8 +45,10 @@ pub struct NotedFile<'r> {
     first: First,
     /// Whether others may read or write the file.
     is_open_to_others: bool,
-    /// Whether all is said, or nothing is to be said.
+    /// Whether its first bytes are spoken of, or aren't to be.
     is_said: bool,
+    /// Whether it has a key or a key set.
+    has_keys: bool,
 }
 
 /// Whether others than the owner of a regular file may read or write it.
@@ -51,21 +56,6 @@ fn is_open_to_others(file: &File) -> bool {
     match file.metadata() {
         Ok(metadata) => metadata.is_file() && metadata.permissions().mode() & OTHERS != 0,
         Err(_) => false,
-    }
-}
-
-/// What an error of a file is, in words.
-fn cause(kind: ErrorKind) -> &'static str {
-    match kind {
-        ErrorKind::NotFound => "there is no such file or folder",
-        ErrorKind::PermissionDenied => "there is no right to it",
-        ErrorKind::AlreadyExists => "it exists already, and no file is overwritten",
-        ErrorKind::IsADirectory => "it is a folder",
-        ErrorKind::InvalidFilename => "its name is too long",
-        ErrorKind::InvalidInput =>
-            "the number of its bytes is unknown (--payload-length states it)",
-        ErrorKind::UnexpectedEof => "it ends early",
-        _ => "the system refuses it",
     }
 }
 
@@ -95,6 +85,7 @@ impl<'r> NamedFiles for NotedFiles<'r> {
             file,
             first: First::new(),
             is_said: false,
+            has_keys: true,
         })
     }
 
@@ -113,14 +104,21 @@ impl<'r> NamedFiles for NotedFiles<'r> {
             first: First::new(),
             is_open_to_others: false,
             is_said: true,
+            has_keys: false,
         };
         Ok((noted, length))
     }
 }
 
-/// Of a new file nothing is said.
-impl NewFiles for NotedFiles<'_> {
-    type New = HostFile;
+/// A new file, of which is said why it can't be written or kept.
+#[derive(Drop)]
+pub struct NotedNew<'r> {
+    rt: &'r HostRuntime,
+    file: HostFile,
+}
+
+impl<'r> NewFiles for NotedFiles<'r> {
+    type New = NotedNew<'r>;
 
     ghost is_taken = { λ _ _. None };
 
@@ -138,16 +136,65 @@ impl NewFiles for NotedFiles<'_> {
         found
     }
 
-    fn create(&self, alloc: Global, name: &str) -> io::Result<HostFile> {
-        let made = self.rt.create(alloc, name);
-        if let Err(error) = &made {
+    fn create(&self, alloc: Global, name: &str) -> io::Result<NotedNew<'r>> {
+        match self.rt.create(alloc, name) {
+            Ok(file) => Ok(NotedNew { rt: self.rt, file }),
+            Err(error) => {
+                say_cause(self.rt, "payload-to", &error);
+                Err(error)
+            },
+        }
+    }
+}
+
+impl Write for NotedNew<'_> {
+    fn write(&mut self, bytes: &[u8]) -> io::Result<usize> {
+        let written = self.file.write(bytes);
+        if let Err(error) = &written {
+            if error.kind() != ErrorKind::Interrupted {
+                say_cause(self.rt, "payload-to", error);
+            }
+        }
+        written
+    }
+
+    fn flush(&mut self) -> io::Result<()> {
+        self.file.flush()
+    }
+}
+
+impl NewFile for NotedNew<'_> {
+    ghost standing = { λ new. new.file.standing };
+
+    fn keep(&mut self) -> io::Result<()> {
+        let kept = self.file.keep();
+        if let Err(error) = &kept {
             say_cause(self.rt, "payload-to", error);
         }
-        made
+        kept
+    }
+
+    fn discard(&mut self) -> io::Result<()> {
+        let gone = self.file.discard();
+        if let Err(error) = &gone {
+            let cause = cause(error.kind());
+            let _ = eprintln!(self.rt;
+                "cosecmd: the new file of --payload-to can't be removed: {cause}"
+            );
+        }
+        gone
     }
 }
 
 impl NotedFile<'_> {
+    /// Says why all the bytes are no key, or no key set.
+    fn say_fault(&self) {
+        let option = self.option;
+        if let Some(fault) = fault_of_keys(&self.first, option == "keys-file") {
+            let _ = eprintln!(self.rt; "cosecmd: the file of --{option} {fault}");
+        }
+    }
+
     /// Says what there is to say of the first bytes.
     fn say(&self) {
         let option = self.option;
@@ -190,6 +237,11 @@ impl Read for NotedFile<'_> {
                 self.is_said = true;
                 self.say();
             }
+        } else if let Some(bytes) = into.get(..count) {
+            self.first.note(bytes);
+        }
+        if count == 0 && self.has_keys {
+            self.say_fault();
         }
         Ok(count)
     }

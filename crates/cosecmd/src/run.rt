@@ -3,6 +3,7 @@
 ghost use Rattle.std.specs.Prelude.{◌≡◌, ◌≢◌, ◌≤◌, ℕ, true, false, List, Option, Some, None, codes, length, map};
 ghost use Rattle.clap.specs.Matches.{subcommand_name_of};
 ghost use Rattle.clap.specs.Simple.{subcommand_rows_of};
+ghost use Rattle.cose_text.specs.TextInput.{reader_of};
 ghost use Rattle.cosecmd.specs.CommandLine.{Answers, FailsOn, PrintsEach, is_of_sequence, matches_print};
 ghost use Rattle.cosecmd.specs.Options.{part_of_file};
 ghost use Rattle.cosecmd.specs.Payload.{detached_in};
@@ -21,6 +22,7 @@ use crate::arguments::{Parsed, parse, request_of};
 use crate::checks::{slice_of, token_job};
 use crate::fault::Fault;
 use crate::files::{NamedFiles, NoFiles};
+use crate::input_form::input_form_of;
 use crate::job::{Checks, FileJob, Job, Question};
 use crate::limits::Limits;
 use crate::new_file::NewFiles;
@@ -28,6 +30,7 @@ use crate::print::{print, print_fault};
 use crate::request::{Cwt, Keys, Make, OwnedChecks, Payload, Request};
 use clap::ArgMatches;
 use cose_msg::Wanted;
+use cose_text::TextInput;
 use std::alloc::Global;
 use std::io::{Read, Write};
 
@@ -276,11 +279,12 @@ pub fn run<'a, R: Read, W: Write>(
         FailsOn (λ _. None) (map (λ word. word.now) words.entry.now) bytes
         (W.contents output.old) (W.contents output.new) }
 {
-    run_with_files(alloc, words, &NoFiles, input, output)
+    let mut text = TextInput::new(input);
+    run_with_files(alloc, words, &NoFiles, &mut text, output)
 }
 
 /// Runs the program: `words` are the arguments of the command line, the first of them the program's name. The message,
-/// or the payload of which one is made, comes from `input`; every line goes to `output`, a fault's too, and so does a
+/// or the payload of which one is made, comes from `input`, whose form the arguments name; every line goes to `output`, a fault's too, and so does a
 /// message that is made. The keys come from the arguments, or from the file that an option names, and so does a detached
 /// payload, which is read from its file while the message is verified. A payload that is to be kept goes into a new file.
 ///
@@ -292,26 +296,30 @@ pub fn run_with_files<'a, F: NamedFiles + NewFiles, R: Read, W: Write>(
     alloc: Global,
     words: &'a [&'a str],
     files: &F,
-    input: &mut R,
+    input: &mut TextInput<R>,
     output: &mut W,
 ) -> u8
     ensures status { result ≤ 2 }
     // Unless there is a fault, it prints help or the version, or the output for the options that clap finds in the arguments.
-    ensures printed { (bytes : List ℕ) → R.remaining input.old ≡ Some bytes →
+    ensures printed { (bytes : List ℕ) → R.remaining (reader_of input.old) ≡ Some bytes →
         Answers (F.content files.now) (map (λ word. word.now) words.entry.now) bytes
         (W.contents output.old) (W.contents output.new) result }
     // With status 2 it prints a fault's line, what is wrong with the arguments, or a part of the output, and no more. A fault's
     // line may follow what is printed for the first messages of a sequence.
-    ensures fails { (bytes : List ℕ) → R.remaining input.old ≡ Some bytes → result ≡ 2 →
+    ensures fails { (bytes : List ℕ) → R.remaining (reader_of input.old) ≡ Some bytes → result ≡ 2 →
         FailsOn (F.content files.now) (map (λ word. word.now) words.entry.now) bytes
         (W.contents output.old) (W.contents output.new) }
     // Where the arguments name a new file whose name exists, nothing of the input is read.
     ensures unread { ReadsNothingBefore (F.is_taken files.now)
-        (map (λ word. word.now) words.entry.now) input.old input.new result }
+        (map (λ word. word.now) words.entry.now) (reader_of input.old)
+        (reader_of input.new) result }
 {
     match parse(alloc, words) {
         Ok(Parsed::Matches(matches)) => match request_of(alloc, files, &matches) {
-            Ok(request) => answer_request(alloc, files, &request, input, output),
+            Ok(request) => {
+                input.read_as(input_form_of(&matches));
+                answer_request(alloc, files, &request, input, output)
+            }
             Err(fault) => print_fault(alloc, fault, output).code(),
         },
         Ok(Parsed::Text(reply)) => print(output, reply.text.as_str(), reply.status).code(),

@@ -1,6 +1,7 @@
 //! The standard streams of the process: those that are closed, a terminal that the input comes from, a complaint that goes to
 //! standard error too, and an input that begins as a text does.
 
+use crate::cause::cause;
 use crate::hints::{First, Form, form_of_first};
 use std::fs::File;
 use std::io::{Read, Write};
@@ -30,6 +31,8 @@ pub fn reads_input(words: &[&str]) -> bool {
 pub struct Noted<S> {
     stream: S,
     first: First,
+    /// Why it couldn't be read the last time.
+    cause: Option<&'static str>,
 }
 
 impl<S> Noted<S> {
@@ -38,12 +41,18 @@ impl<S> Noted<S> {
         Noted {
             stream,
             first: First::new(),
+            cause: None,
         }
     }
 
     /// The first bytes that went through it, as many as are remembered.
     pub fn known(&self) -> &[u8] {
         self.first.known()
+    }
+
+    /// Why it couldn't be read the last time, in words.
+    pub fn cause(&self) -> Option<&'static str> {
+        self.cause
     }
 
     /// What was written, as far as it is remembered, where it begins as the line of a fault or as a text of clap's does.
@@ -64,7 +73,13 @@ impl<S> Noted<S> {
 
 impl<R: Read> Read for Noted<R> {
     fn read(&mut self, into: &mut [u8]) -> io::Result<usize> {
-        let count = self.stream.read(into)?;
+        let count = match self.stream.read(into) {
+            Ok(count) => count,
+            Err(error) => {
+                self.cause = Some(cause(error.kind()));
+                return Err(error);
+            }
+        };
         if let Some(bytes) = into.get(..count) {
             self.first.note(bytes);
         }

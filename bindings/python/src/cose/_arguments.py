@@ -20,6 +20,7 @@ class Kind(enum.IntEnum):
 class Algorithm(enum.IntEnum):
     """The algorithms, by their numbers (RFC 9053 sections 2.1 and 3.1, RFC 9864 section 2.1)."""
 
+    # made by ci/edge_tables: algorithms
     HMAC_256_64 = 4
     HMAC_256 = 5
     HMAC_384 = 6
@@ -30,6 +31,7 @@ class Algorithm(enum.IntEnum):
     ESP256 = -9
     ESP384 = -51
     ESP512 = -52
+    # end of what ci/edge_tables makes
 
 
 def bytes_of(value: Buffer, name: str) -> bytes:

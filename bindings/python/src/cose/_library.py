@@ -8,6 +8,7 @@ from __future__ import annotations
 
 import ctypes
 import enum
+import itertools
 import os
 import pathlib
 import threading
@@ -24,7 +25,7 @@ from ctypes import (
     c_void_p,
 )
 from types import SimpleNamespace
-from typing import Any, Dict, Iterator, NoReturn, Tuple
+from typing import Any, Callable, Dict, Iterator, List, NoReturn, Tuple, Type, TypeVar
 
 from .errors import LibraryNotFound
 
@@ -32,6 +33,7 @@ from .errors import LibraryNotFound
 class Status(enum.IntEnum):
     """How far a message is, or what a call answers."""
 
+    # made by ci/edge_tables: statuses
     MORE = 0
     AUTHENTIC = 1
     SIGNED = 2
@@ -45,167 +47,260 @@ class Status(enum.IntEnum):
     CLOSED = 10
     STOPPED = 11
     BAD_ARGUMENT = 12
+    # end of what ci/edge_tables makes
 
 
-def _fields(kind: Any, names: str) -> Iterator[Tuple[str, Any]]:
-    return ((name, kind) for name in names.split())
+# made by ci/edge_tables: structs
+_STRUCTS = """
+cose_policy
+    i64 now
+    u32 leeway
+    u8 has_audience
+    bytes audience
+cose_range
+    u64 at length
+    u8 present
+cose_date
+    u64 number
+    u8 present negative
+cose_claims_set
+    u8 status reason
+    u64 place payload_at payload_length
+    cose_range iss sub aud cti
+    u64 aud_count
+    cose_date exp nbf iat
+    cose_range cnf_kid cnf_x cnf_y
+    u8 cnf_crv cnf_y_sign
+cose_large_verifier
+    address at
+cose_maker
+    address at
+cose_table
+    address at
+cose_verifier
+    address at
+cose_signature_input
+    u8 crv y_sign
+    u64 x_length y_length digest_length signature_length
+    u8*66 x y
+    u8*64 digest
+    u8*132 signature
+cose_key_set
+    u8 status reason
+    u64 place usable
+cose_made
+    u8 status reason
+    u64 length
+cose_status
+    u8 status reason
+    u64 place
+cose_message_verdict
+    u8 status reason kind
+    i32 alg
+    u64 place payload_at payload_length taken
+cose_message_shape
+    u8 status reason kind
+    u64 place payload_length auth_length taken
+cose_fed
+    cose_status status
+    u64 used payload_at payload_length
+"""
+# end of what ci/edge_tables makes
+
+# made by ci/edge_tables: exports
+_CALLS = """
+edge_verify_cwt bytes bytes &cose_policy bytes &cose_claims_set
+edge_large_verify_cwt bytes bytes &cose_policy bytes &cose_claims_set
+edge_claims bytes &cose_policy &cose_claims_set
+edge_large_claims bytes &cose_policy &cose_claims_set
+edge_audience bytes u64 &cose_range
+edge_next_audience bytes u64 &cose_range
+large_verifier_size -> usize
+large_verifier_align -> usize
+large_begin address
+maker_size -> usize
+maker_align -> usize
+maker_begin address
+table_size -> usize
+table_align -> usize
+table_begin address
+verifier_size -> usize
+verifier_align -> usize
+begin address
+edge_read_keys bytes &cose_key_set
+edge_make &cose_maker i32 bytes bytes bytes u64 room &cose_made
+edge_make_piece &cose_maker bytes -> u64
+edge_make_end &cose_maker room &cose_made
+edge_verify bytes bytes u8 bytes &cose_message_verdict &cose_signature_input
+edge_large_verify bytes bytes u8 bytes &cose_message_verdict &cose_signature_input
+edge_verify_detached bytes bytes u8 bytes bytes &cose_message_verdict &cose_signature_input
+edge_large_verify_detached bytes bytes u8 bytes bytes &cose_message_verdict &cose_signature_input
+version -> u32
+edge_shape u8 bytes &cose_message_shape
+edge_large_open &cose_large_verifier bytes bytes u8 &cose_status
+edge_large_open_detached &cose_large_verifier bytes bytes u8 u64 &cose_status
+edge_large_feed &cose_large_verifier bytes &cose_fed
+large_wanted &cose_large_verifier -> u64
+large_payload_wanted &cose_large_verifier -> u64
+edge_large_feed_payload &cose_large_verifier bytes -> u64
+large_end &cose_large_verifier &cose_status
+large_sign_input &cose_large_verifier &cose_signature_input -> u8
+large_verdict &cose_large_verifier i32 &cose_message_verdict
+large_message_number &cose_large_verifier -> u64
+large_verdict_for &cose_large_verifier u64 i32 &cose_message_verdict
+large_reset &cose_large_verifier
+large_taken &cose_large_verifier -> u64
+large_held &cose_large_verifier -> u64
+edge_open &cose_verifier bytes bytes u8 &cose_status
+edge_open_detached &cose_verifier bytes bytes u8 u64 &cose_status
+edge_feed &cose_verifier bytes &cose_fed
+wanted &cose_verifier -> u64
+payload_wanted &cose_verifier -> u64
+edge_feed_payload &cose_verifier bytes -> u64
+end &cose_verifier &cose_status
+sign_input &cose_verifier &cose_signature_input -> u8
+verdict &cose_verifier i32 &cose_message_verdict
+message_number &cose_verifier -> u64
+verdict_for &cose_verifier u64 i32 &cose_message_verdict
+reset &cose_verifier
+taken &cose_verifier -> u64
+held &cose_verifier -> u64
+edge_table_read &cose_table bytes &cose_key_set
+edge_table_verify &cose_table bytes u8 bytes &cose_message_verdict &cose_signature_input
+edge_table_verify_cwt &cose_table bytes &cose_policy bytes &cose_claims_set
+"""
+# end of what ci/edge_tables makes
+
+# the types of fields, parameters and results, by the names above; the structs are added below
+_TYPES: Dict[str, Any] = {
+    "u8": c_uint8,
+    "u32": c_uint32,
+    "u64": c_uint64,
+    "i32": c_int32,
+    "i64": c_int64,
+    "usize": c_size_t,
+    "address": c_void_p,
+}
+# what takes the place of bytes: where they begin, and how many there are
+_BYTES, _ROOM = (c_char_p, c_size_t), (c_void_p, c_size_t)
+_S = TypeVar("_S", bound=Type[ctypes.Structure])
 
 
+def _type_of(name: str) -> Any:
+    if name.startswith("&"):
+        return POINTER(_TYPES[name[1:]])
+    kind, _, count = name.partition("*")
+    return _TYPES[kind] * int(count) if count else _TYPES[kind]
+
+
+def _fields(struct: str) -> Iterator[Tuple[str, Any]]:
+    """The fields of a struct, by the lines after its own."""
+    lines = iter(_STRUCTS.splitlines())
+    for line in lines:
+        if line == struct:
+            break
+    for line in itertools.takewhile(lambda it: it.startswith(" "), lines):
+        kind, *names = line.split()
+        for name in names:
+            if kind == "bytes":
+                yield from zip((name, f"{name}_length"), _BYTES)
+            else:
+                yield name, _type_of(kind)
+
+
+def _struct(name: str) -> Callable[[_S], _S]:
+    """Gives a class the fields of a struct of include/cose.h."""
+
+    def with_fields(structure: _S) -> _S:
+        if "_fields_" not in vars(structure):
+            structure._fields_ = list(_fields(name))
+        _TYPES[name] = structure
+        return structure
+
+    return with_fields
+
+
+@_struct("cose_status")
 class StatusStruct(ctypes.Structure):
     """`struct cose_status`"""
 
-    _fields_ = [*_fields(c_uint8, "status reason"), ("place", c_uint64)]
 
-
+@_struct("cose_message_verdict")
 class VerdictStruct(ctypes.Structure):
     """`struct cose_message_verdict`"""
 
-    _fields_ = [
-        *_fields(c_uint8, "status reason kind"),
-        ("alg", c_int32),
-        *_fields(c_uint64, "place payload_at payload_length taken"),
-    ]
 
-
+@_struct("cose_signature_input")
 class SignInputStruct(ctypes.Structure):
     """`struct cose_signature_input`"""
 
-    _fields_ = [
-        *_fields(c_uint8, "crv y_sign"),
-        *_fields(c_uint64, "x_length y_length digest_length signature_length"),
-        ("x", c_uint8 * 66),
-        ("y", c_uint8 * 66),
-        ("digest", c_uint8 * 64),
-        ("signature", c_uint8 * 132),
-    ]
 
-
+@_struct("cose_message_shape")
 class ShapeStruct(ctypes.Structure):
     """`struct cose_message_shape`"""
 
-    _fields_ = [
-        *_fields(c_uint8, "status reason kind"),
-        *_fields(c_uint64, "place payload_length auth_length taken"),
-    ]
 
-
+@_struct("cose_key_set")
 class KeySetStruct(ctypes.Structure):
     """`struct cose_key_set`"""
 
-    _fields_ = [*_fields(c_uint8, "status reason"), *_fields(c_uint64, "place usable")]
 
-
+@_struct("cose_policy")
 class PolicyStruct(ctypes.Structure):
     """`struct cose_policy`"""
 
-    _fields_ = [
-        ("now", c_int64),
-        ("leeway", c_uint32),
-        ("has_audience", c_uint8),
-        ("audience", c_char_p),
-        ("audience_length", c_size_t),
-    ]
 
-
+@_struct("cose_range")
 class RangeStruct(ctypes.Structure):
     """`struct cose_range`"""
 
-    _fields_ = [*_fields(c_uint64, "at length"), ("present", c_uint8)]
 
-
+@_struct("cose_date")
 class DateStruct(ctypes.Structure):
     """`struct cose_date`"""
 
-    _fields_ = [("number", c_uint64), *_fields(c_uint8, "present negative")]
 
-
+@_struct("cose_claims_set")
 class ClaimsStruct(ctypes.Structure):
     """`struct cose_claims_set`"""
 
-    _fields_ = [
-        *_fields(c_uint8, "status reason"),
-        *_fields(c_uint64, "place payload_at payload_length"),
-        *_fields(RangeStruct, "iss sub aud cti"),
-        ("aud_count", c_uint64),
-        *_fields(DateStruct, "exp nbf iat"),
-        *_fields(RangeStruct, "cnf_kid cnf_x cnf_y"),
-        *_fields(c_uint8, "cnf_crv cnf_y_sign"),
-    ]
 
-
+@_struct("cose_fed")
 class FedStruct(ctypes.Structure):
     """`struct cose_fed`"""
 
-    _fields_ = [("status", StatusStruct), *_fields(c_uint64, "used payload_at payload_length")]
 
-
+@_struct("cose_made")
 class MadeStruct(ctypes.Structure):
     """`struct cose_made`"""
 
-    _fields_ = [*_fields(c_uint8, "status reason"), ("length", c_uint64)]
 
-
+@_struct("cose_verifier")
+@_struct("cose_large_verifier")
+@_struct("cose_table")
+@_struct("cose_maker")
 class HandleStruct(ctypes.Structure):
-    """`struct cose_verifier`, `struct cose_table`, `struct cose_maker`"""
-
-    _fields_ = [("at", c_void_p)]
+    """`struct cose_verifier`, and the others that have the address of a block"""
 
 
-_BYTES = (c_char_p, c_size_t)
-_ROOM = (c_void_p, c_size_t)
-_HANDLE = POINTER(HandleStruct)
-_VERDICT = (POINTER(VerdictStruct), POINTER(SignInputStruct))
+Prototype = Tuple[Tuple[Any, ...], Any]
 
-# by a call's name: its arguments and its result. These come in two sizes.
-_BOTH_SIZES: Dict[str, Tuple[Tuple[Any, ...], Any]] = {
-    "edge_verify": ((*_BYTES, *_BYTES, c_uint8, *_BYTES, *_VERDICT), None),
-    "edge_verify_detached": ((*_BYTES, *_BYTES, c_uint8, *_BYTES, *_BYTES, *_VERDICT), None),
-    "edge_verify_cwt": (
-        (*_BYTES, *_BYTES, POINTER(PolicyStruct), *_BYTES, POINTER(ClaimsStruct)),
-        None,
-    ),
-    "edge_claims": ((*_BYTES, POINTER(PolicyStruct), POINTER(ClaimsStruct)), None),
-    "verifier_size": ((), c_size_t),
-    "verifier_align": ((), c_size_t),
-    "begin": ((c_void_p,), None),
-    "edge_open": ((_HANDLE, *_BYTES, *_BYTES, c_uint8, POINTER(StatusStruct)), None),
-    "edge_open_detached": (
-        (_HANDLE, *_BYTES, *_BYTES, c_uint8, c_uint64, POINTER(StatusStruct)),
-        None,
-    ),
-    "edge_feed": ((_HANDLE, *_BYTES, POINTER(FedStruct)), None),
-    "wanted": ((_HANDLE,), c_uint64),
-    "payload_wanted": ((_HANDLE,), c_uint64),
-    "edge_feed_payload": ((_HANDLE, *_BYTES), c_uint64),
-    "end": ((_HANDLE, POINTER(StatusStruct)), None),
-    "sign_input": ((_HANDLE, POINTER(SignInputStruct)), c_uint8),
-    "verdict": ((_HANDLE, c_int32, POINTER(VerdictStruct)), None),
-    "reset": ((_HANDLE,), None),
-    "taken": ((_HANDLE,), c_uint64),
-    "held": ((_HANDLE,), c_uint64),
-}
-_ONE_SIZE: Dict[str, Tuple[Tuple[Any, ...], Any]] = {
-    "edge_shape": ((c_uint8, *_BYTES, POINTER(ShapeStruct)), None),
-    "edge_read_keys": ((*_BYTES, POINTER(KeySetStruct)), None),
-    "edge_audience": ((*_BYTES, c_uint64, POINTER(RangeStruct)), None),
-    "table_size": ((), c_size_t),
-    "table_align": ((), c_size_t),
-    "table_begin": ((c_void_p,), None),
-    "edge_table_read": ((_HANDLE, *_BYTES, POINTER(KeySetStruct)), None),
-    "edge_table_verify": ((_HANDLE, *_BYTES, c_uint8, *_BYTES, *_VERDICT), None),
-    "edge_table_verify_cwt": (
-        (_HANDLE, *_BYTES, POINTER(PolicyStruct), *_BYTES, POINTER(ClaimsStruct)),
-        None,
-    ),
-    "maker_size": ((), c_size_t),
-    "maker_align": ((), c_size_t),
-    "maker_begin": ((c_void_p,), None),
-    "edge_make": (
-        (_HANDLE, c_int32, *_BYTES, *_BYTES, *_BYTES, c_uint64, *_ROOM, POINTER(MadeStruct)),
-        None,
-    ),
-    "edge_make_piece": ((_HANDLE, *_BYTES), c_uint64),
-    "edge_make_end": ((_HANDLE, *_ROOM, POINTER(MadeStruct)), None),
+
+def _prototype(words: List[str]) -> Prototype:
+    """The types of a call's arguments, and that of its result."""
+    result = _type_of(words.pop()) if "->" in words else None
+    arguments: List[Any] = []
+    for word in words:
+        if word in ("bytes", "room"):
+            arguments += _BYTES if word == "bytes" else _ROOM
+        elif word != "->":
+            arguments.append(_type_of(word))
+    return tuple(arguments), result
+
+
+# by a call's name: its arguments and its result
+_PROTOTYPES = {
+    name: _prototype(words) for name, *words in (line.split() for line in _CALLS.split("\n")[1:-1])
 }
 
 
@@ -227,7 +322,7 @@ def _large(name: str) -> str:
     return "edge_large_" + name[5:] if name.startswith("edge_") else "large_" + name
 
 
-def _bind(library: ctypes.CDLL, name: str, prototype: Tuple[Tuple[Any, ...], Any]) -> Any:
+def _bind(library: ctypes.CDLL, name: str, prototype: Prototype) -> Any:
     """A call of the library. Where it lacks one, the rest still serves, and the call raises."""
     try:
         function = getattr(library, f"cose_{name}")
@@ -243,14 +338,13 @@ def _bind(library: ctypes.CDLL, name: str, prototype: Tuple[Tuple[Any, ...], Any
 
 
 _loaded = _load()
+# by the name of a call in the usual size: its name in the large size
+_SIZES = {name: _large(name) for name in _PROTOTYPES if _large(name) in _PROTOTYPES}
+_bound = {name: _bind(_loaded, name, it) for name, it in _PROTOTYPES.items()}
 # the calls of the usual size, and those that have no other
-small = SimpleNamespace(
-    **{name: _bind(_loaded, name, it) for name, it in {**_BOTH_SIZES, **_ONE_SIZE}.items()}
-)
+small = SimpleNamespace(**{name: _bound[name] for name in {*_bound} - {*_SIZES.values()}})
 # headers of up to 65,535 bytes, nested up to 16 deep
-large = SimpleNamespace(
-    **{name: _bind(_loaded, _large(name), it) for name, it in _BOTH_SIZES.items()}
-)
+large = SimpleNamespace(**{name: _bound[it] for name, it in _SIZES.items()})
 
 
 class Block:

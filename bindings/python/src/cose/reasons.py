@@ -6,6 +6,7 @@ import enum
 class Reason(enum.IntEnum):
     """Why bytes are refused. Numbers and names never change."""
 
+    # made by ci/edge_tables: reasons
     Truncated = 1
     Reserved = 2
     Indefinite = 3
@@ -49,3 +50,4 @@ class Reason(enum.IntEnum):
     NestedCwt = 41
     Trailing = 42
     Attached = 43
+    # end of what ci/edge_tables makes

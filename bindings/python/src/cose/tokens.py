@@ -103,13 +103,14 @@ def _texts(payload: bytes, at: int, length: int, count: int) -> Tuple[str, ...]:
         return ()
     end = at + length
     found = [payload[at:end].decode()]
+    append = found.append
     for _ in range(count - 1):
         at, length = end + 1, payload[end] & 31
         if length >= 24:
             at += 1 << (length - 24)
             length = int.from_bytes(payload[end + 1 : at], "big")
         end = at + length
-        found.append(payload[at:end].decode())
+        append(payload[at:end].decode() if length else "")
     return tuple(found)
 
 

@@ -1,6 +1,8 @@
 //! Calls the library through the crate.
 
+mod adapter;
 mod messages;
+mod parameters;
 mod pieces;
 mod reasons;
 mod sizes;

@@ -3,6 +3,8 @@
 ghost use Rattle.std.specs.Prelude.{◌≡◌, None};
 ghost use Rattle.std.specs.Borrow.{full_share, sem};
 ghost use Rattle.std.specs.Ptr.{lies_at};
+ghost use prog.Memory.{align, capped, size};
+ghost use denote.Param.{layout};
 ghost use denote.RawPtr.{room_at};
 ghost use Rattle.cose_c.specs.declared.held.large_verifier.HeldLargeVerifier.{HeldLargeVerifier};
 ghost use Rattle.cose_c.specs.contracts.held.large_verifier.HeldLargeVerifier.{the_row};
@@ -12,9 +14,10 @@ use cose_msg::Verifier;
 use std::marker::Model;
 use std::ptr;
 
-/// The value in a block: a verifier, once it is opened.
+/// The value in a block: a verifier, once it is opened, and the number of its message.
 #[derive(Drop)]
 pub struct HeldLargeVerifier {
+    pub(crate) message: u64,
     pub(crate) content: Option<Verifier<'static, LARGE_HEADER, LARGE_NESTING>>,
 }
 
@@ -45,18 +48,25 @@ impl CoseLargeVerifier {
 fn closed() -> HeldLargeVerifier
     ensures { result.content ≡ None }
 {
-    HeldLargeVerifier { content: None }
+    HeldLargeVerifier {
+        message: 0,
+        content: None,
+    }
 }
 
 /// The number of bytes of a verifier's block.
 #[unsafe(no_mangle)]
-pub extern "C" fn cose_large_verifier_size() -> usize {
+pub extern "C" fn cose_large_verifier_size() -> usize
+    ensures { result ≡ capped (size (layout the_row)) }
+{
     size_of::<HeldLargeVerifier>()
 }
 
 /// The alignment of its address.
 #[unsafe(no_mangle)]
-pub extern "C" fn cose_large_verifier_align() -> usize {
+pub extern "C" fn cose_large_verifier_align() -> usize
+    ensures { result ≡ capped (align (layout the_row)) }
+{
     align_of::<HeldLargeVerifier>()
 }
 

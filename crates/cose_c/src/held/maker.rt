@@ -3,6 +3,8 @@
 ghost use Rattle.std.specs.Prelude.{◌≡◌, None};
 ghost use Rattle.std.specs.Borrow.{full_share, sem};
 ghost use Rattle.std.specs.Ptr.{lies_at};
+ghost use prog.Memory.{align, capped, size};
+ghost use denote.Param.{layout};
 ghost use denote.RawPtr.{room_at};
 ghost use Rattle.cose_c.specs.declared.held.maker.HeldMaker.{HeldMaker};
 ghost use Rattle.cose_c.specs.contracts.held.maker.HeldMaker.{the_row};
@@ -49,13 +51,17 @@ fn closed() -> HeldMaker
 
 /// The number of bytes of a maker's block.
 #[unsafe(no_mangle)]
-pub extern "C" fn cose_maker_size() -> usize {
+pub extern "C" fn cose_maker_size() -> usize
+    ensures { result ≡ capped (size (layout the_row)) }
+{
     size_of::<HeldMaker>()
 }
 
 /// The alignment of its address.
 #[unsafe(no_mangle)]
-pub extern "C" fn cose_maker_align() -> usize {
+pub extern "C" fn cose_maker_align() -> usize
+    ensures { result ≡ capped (align (layout the_row)) }
+{
     align_of::<HeldMaker>()
 }
 

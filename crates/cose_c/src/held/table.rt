@@ -3,6 +3,8 @@
 ghost use Rattle.std.specs.Prelude.{◌≡◌, None};
 ghost use Rattle.std.specs.Borrow.{full_share, sem};
 ghost use Rattle.std.specs.Ptr.{lies_at};
+ghost use prog.Memory.{align, capped, size};
+ghost use denote.Param.{layout};
 ghost use denote.RawPtr.{room_at};
 ghost use Rattle.cose_c.specs.declared.held.table.HeldTable.{HeldTable};
 ghost use Rattle.cose_c.specs.contracts.held.table.HeldTable.{the_row};
@@ -52,13 +54,17 @@ fn closed() -> HeldTable
 
 /// The number of bytes of a table's block.
 #[unsafe(no_mangle)]
-pub extern "C" fn cose_table_size() -> usize {
+pub extern "C" fn cose_table_size() -> usize
+    ensures { result ≡ capped (size (layout the_row)) }
+{
     size_of::<HeldTable>()
 }
 
 /// The alignment of its address.
 #[unsafe(no_mangle)]
-pub extern "C" fn cose_table_align() -> usize {
+pub extern "C" fn cose_table_align() -> usize
+    ensures { result ≡ capped (align (layout the_row)) }
+{
     align_of::<HeldTable>()
 }
 

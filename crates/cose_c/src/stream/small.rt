@@ -1,6 +1,6 @@
 //! A verifier in a block, for callers in C: header buckets of at most 1,024 bytes, nested at most 8 deep.
 
-ghost use Rattle.std.specs.Prelude.{◌≡◌, ◌≤◌, ◌+◌, ℕ, true, false, List, [], ◌++◌, Some, Ok, length, min, take, if◌then◌else◌};
+ghost use Rattle.std.specs.Prelude.{◌≡◌, ◌≢◌, ◌≤◌, ◌+◌, ℕ, true, false, List, [], ◌++◌, Some, Ok, length, min, take, if◌then◌else◌};
 ghost use Rattle.cose_map.specs.KeySet.{keys_of};
 ghost use Rattle.cose_msg.specs.declared.verdict.Verdict.{Verdict};
 ghost use Rattle.cose_msg.specs.Answer.{decided};
@@ -11,13 +11,13 @@ ghost use Rattle.cose_msg.specs.Status.{is_complete, status_of_answer};
 ghost use Rattle.cose_msg.specs.Task.{Task, given_to, rules_of, to_verify};
 ghost use Rattle.cose_c.specs.Deciding.{deciding};
 ghost use Rattle.cose_c.specs.Input.{GivesAll, has_point};
-ghost use Rattle.cose_c.specs.Numbers.{always_authentic, no_message, verdict_numbers};
-ghost use Rattle.cose_c.specs.Stream.{HasRead, IsAnew, IsOpened, answer_kept_by, block_status, detached_given, has_verdict, held_by, nothing_fed, opening_status, payload_fed, payload_wanted_by, reading_of, says_good, signed_by, status_after, status_numbers, taken_by, task_by, wanted_by, wants_any, wants_more};
+ghost use Rattle.cose_c.specs.Numbers.{always_authentic, no_message, plain_status, verdict_numbers};
+ghost use Rattle.cose_c.specs.Stream.{HasRead, IsAnew, IsOpened, answer_kept_by, block_status, detached_given, following, has_verdict, held_by, nothing_fed, opening_status, payload_fed, payload_wanted_by, reading_of, says_good, signed_by, status_after, status_numbers, taken_by, task_by, wanted_by, wants_any, wants_more};
 ghost use Rattle.cose_c.specs.Terms.{setting_given};
 
 use crate::held::verifier::CoseVerifier;
 use crate::input::CoseSignInput;
-use crate::numbers::{CoseStatus, CoseVerdict};
+use crate::numbers::{BAD_ARGUMENT, CoseStatus, CoseVerdict, no_message, plain_status};
 use crate::stream;
 use crate::stream::CoseFed;
 
@@ -36,8 +36,11 @@ pub extern "C" fn cose_edge_open(
     ensures status { status.new ≡ opening_status (setting_given (keys_of keys.now) aad.now wanted) }
     ensures opened { IsOpened (setting_given (keys_of keys.now) aad.now wanted)
         verifier.new.value.content }
+    ensures next { verifier.new.value.message ≡ following verifier.old.value.message }
 {
-    *status = stream::open(&mut verifier.lend().content, keys, aad, wanted);
+    let held = verifier.lend();
+    held.message = stream::following(held.message);
+    *status = stream::open(&mut held.content, keys, aad, wanted);
 }
 
 /// The same for messages whose payload is detached (RFC 9052 sections 4.2 and 6.2), and has so many bytes.
@@ -54,9 +57,11 @@ pub extern "C" fn cose_edge_open_detached(
     ensures opened { IsOpened
         (detached_given payload_length (setting_given (keys_of keys.now) aad.now wanted))
         verifier.new.value.content }
+    ensures next { verifier.new.value.message ≡ following verifier.old.value.message }
 {
-    let content = &mut verifier.lend().content;
-    *status = stream::open_detached(content, keys, aad, wanted, payload_length);
+    let held = verifier.lend();
+    held.message = stream::following(held.message);
+    *status = stream::open_detached(&mut held.content, keys, aad, wanted, payload_length);
 }
 
 /// Takes the next bytes of the message: the fewest that settle it, or the whole piece. It says how many it used, and which of them are of
@@ -87,6 +92,7 @@ pub extern "C" fn cose_edge_feed(verifier: &mut CoseVerifier, piece: &[u8], fed:
     ensures same_task { (task : Task) (taken payload : List ℕ)
         → HasRead task taken payload verifier.old.value.content
         → task_by verifier.new.value.content ≡ task_by verifier.old.value.content }
+    ensures same_message { verifier.new.value.message ≡ verifier.old.value.message }
 {
     *fed = stream::feed(&mut verifier.lend().content, piece);
 }
@@ -128,6 +134,7 @@ pub extern "C" fn cose_edge_feed_payload(verifier: &mut CoseVerifier, piece: &[u
         ≡ payload_wanted_by verifier.old.value.content }
     ensures none { payload_wanted_by verifier.old.value.content ≡ 0
         → verifier.new.value.content ≡ verifier.old.value.content }
+    ensures same_message { verifier.new.value.message ≡ verifier.old.value.message }
 {
     stream::feed_payload(&mut verifier.lend().content, piece)
 }
@@ -144,6 +151,7 @@ pub extern "C" fn cose_end(verifier: &mut CoseVerifier, status: &mut CoseStatus)
     ensures same_task { task_by verifier.new.value.content ≡ task_by verifier.old.value.content }
     ensures taken { taken_by verifier.new.value.content ≡ taken_by verifier.old.value.content }
     ensures signed { signed_by verifier.new.value.content ≡ signed_by verifier.old.value.content }
+    ensures same_message { verifier.new.value.message ≡ verifier.old.value.message }
 {
     *status = stream::end(&mut verifier.lend().content);
 }
@@ -162,6 +170,7 @@ pub extern "C" fn cose_sign_input(verifier: &mut CoseVerifier, input: &mut CoseS
         → signed_by verifier.old.value.content
         ≡ sign_input_in task.setting.aad (reading_of 1024 8 task taken).answer }
     ensures same { verifier.new.value.content ≡ verifier.old.value.content }
+    ensures same_message { verifier.new.value.message ≡ verifier.old.value.message }
 {
     if stream::sign_input(&verifier.lend().content, input) {
         1
@@ -195,9 +204,61 @@ pub extern "C" fn cose_verdict(
     ensures same_task { task_by verifier.new.value.content ≡ task_by verifier.old.value.content }
     ensures taken { taken_by verifier.new.value.content ≡ taken_by verifier.old.value.content }
     ensures signed { signed_by verifier.new.value.content ≡ signed_by verifier.old.value.content }
+    ensures same_message { verifier.new.value.message ≡ verifier.old.value.message }
 {
     let is_good = stream::says_good(signature_is_good);
     *verdict = stream::verdict(&mut verifier.lend().content, is_good);
+}
+
+/// The number of the message: opening and resetting begin another one.
+#[unsafe(no_mangle)]
+pub extern "C" fn cose_message_number(verifier: &mut CoseVerifier) -> u64
+    ensures value { result ≡ verifier.old.value.message }
+    ensures same { verifier.new.value.content ≡ verifier.old.value.content }
+    ensures same_message { verifier.new.value.message ≡ verifier.old.value.message }
+{
+    verifier.lend().message
+}
+
+/// The verdict on the message of this number, as [`cose_verdict`] gives it. Where the verifier has gone on to another message, what
+/// was found of a signature isn't of that one: the status is `BAD_ARGUMENT`, and nothing changes.
+#[unsafe(no_mangle)]
+pub extern "C" fn cose_verdict_for(
+    verifier: &mut CoseVerifier,
+    message: u64,
+    signature_is_good: i32,
+    verdict: &mut CoseVerdict,
+)
+    ensures other { message ≢ verifier.old.value.message
+        → (verdict.new ≡ no_message (plain_status 12))
+        × (verifier.new.value.content ≡ verifier.old.value.content) }
+    ensures verdict { message ≡ verifier.old.value.message
+        → (setting : Setting) (taken payload : List ℕ)
+        → HasRead (to_verify setting) taken payload verifier.old.value.content
+        → is_complete (status_after 1024 8 (to_verify setting) taken) ≡ true
+        → verdict.new ≡ verdict_numbers always_authentic 0
+        (verdict_of 1024 8 setting (deciding (says_good signature_is_good)) taken) }
+    ensures incomplete { message ≡ verifier.old.value.message
+        → has_verdict verifier.old.value.content ≡ false
+        → (verdict.new ≡ no_message (block_status verifier.old.value.content))
+        × (verifier.new.value.content ≡ verifier.old.value.content) }
+    ensures again { message ≡ verifier.old.value.message → (kept : Verdict)
+        → has_verdict verifier.old.value.content ≡ true
+        → answer_kept_by verifier.old.value.content ≡ Some (Ok kept)
+        → (verdict.new ≡ verdict_numbers always_authentic 0 (decided kept))
+        × (verifier.new.value.content ≡ verifier.old.value.content) }
+    ensures same_task { task_by verifier.new.value.content ≡ task_by verifier.old.value.content }
+    ensures taken { taken_by verifier.new.value.content ≡ taken_by verifier.old.value.content }
+    ensures signed { signed_by verifier.new.value.content ≡ signed_by verifier.old.value.content }
+    ensures same_message { verifier.new.value.message ≡ verifier.old.value.message }
+{
+    let held = verifier.lend();
+    if held.message != message {
+        *verdict = no_message(plain_status(BAD_ARGUMENT));
+        return;
+    }
+    let is_good = stream::says_good(signature_is_good);
+    *verdict = stream::verdict(&mut held.content, is_good);
 }
 
 /// Begins the next message, under the same keys. A block that isn't opened stays so.
@@ -207,8 +268,11 @@ pub extern "C" fn cose_reset(verifier: &mut CoseVerifier)
     ensures reads { (task : Task) (taken payload : List ℕ)
         → HasRead task taken payload verifier.old.value.content
         → HasRead (given_to [] task) [] [] verifier.new.value.content }
+    ensures next { verifier.new.value.message ≡ following verifier.old.value.message }
 {
-    stream::reset(&mut verifier.lend().content);
+    let held = verifier.lend();
+    held.message = stream::following(held.message);
+    stream::reset(&mut held.content);
 }
 
 /// The number of bytes of the message that were taken.

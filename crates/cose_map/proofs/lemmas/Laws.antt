@@ -1,3 +1,4 @@
+pub mod Allowed
 pub mod Inside
 pub mod Least
 pub mod Reasons

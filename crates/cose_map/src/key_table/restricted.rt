@@ -39,7 +39,7 @@ impl<'a, const N: usize> KeyTable<'a, N> {
                             place: 0,
                         });
                     }
-                    slots.push(Slot { key });
+                    slots.push(Slot::Taken(key));
                 }
             }
         }

@@ -1,24 +1,58 @@
 //! The places of a table of keys.
 
+ghost use Rattle.std.specs.Prelude.{◌≡◌, ℤ, List};
+ghost use Rattle.std.specs.List.{cons_option};
+ghost use Rattle.cose_map.specs.Choice.{fitting as fitting_key};
+ghost use Rattle.cose_map.specs.Choice.View.{question, with_rest};
+ghost use Rattle.cose_map.specs.Key.Value.{KeyValue};
+ghost use Rattle.cose_map.specs.Key.View.{key_value};
+ghost use Rattle.cose_map.specs.KeyTable.{blank_key, slot_value};
+
+use crate::choice::fitting::Fitting;
+use crate::choice::query::Query;
 use crate::key::Key;
 use crate::key::material::Material;
 
-/// A place of a table. One that is empty holds a blank key, which no call returns.
+/// A place of a table.
+///
+/// An empty one is told by its variant alone, so that a table without keys is made by writing a number to each place, and is
+/// never moved. In a contract it holds a blank key, which no call returns.
 #[derive(Clone, Copy)]
-pub(crate) struct Slot<'a> {
-    /// The key.
-    pub(crate) key: Key<'a>,
+pub(crate) enum Slot<'a> {
+    /// No key.
+    Empty,
+    /// A key.
+    Taken(Key<'a>),
 }
 
 impl Default for Slot<'_> {
     fn default() -> Self {
-        Slot {
-            key: Key {
-                kid: None,
-                alg: None,
-                ops: None,
-                material: Material::Symmetric(&[0]),
-            },
+        Slot::Empty
+    }
+}
+
+/// The key that an empty place holds in a contract.
+fn blank<'a>() -> Key<'a>
+    ensures { key_value result ≡ blank_key }
+{
+    Key {
+        kid: None,
+        alg: None,
+        ops: None,
+        material: Material::Symmetric(&[0]),
+    }
+}
+
+impl<'a> Slot<'a> {
+    /// Meets `fitting` with the key of the place, as [`Fitting::meet`] does.
+    pub(crate) fn meet(&self, fitting: &mut Fitting<'a>, query: &Query)
+        ensures { (rest : List (KeyValue × ℤ)) → with_rest (question query.now) fitting.new rest
+            ≡ with_rest (question query.now) fitting.old
+            (cons_option (fitting_key (question query.now) (slot_value self.now)) rest) }
+    {
+        match self {
+            Slot::Taken(key) => fitting.meet(key, query),
+            Slot::Empty => fitting.meet(&blank(), query),
         }
     }
 }

@@ -1,6 +1,6 @@
 //! A COSE_Mac0 that is made of a payload which the caller passes in pieces.
 
-ghost use Rattle.std.specs.Prelude.{◌≡◌, ◌≤◌, ◌<◌, ◌+◌, ℕ, true, List, [], ◌++◌, IfOk, IsOk, None, Err, is_some, length as length_of, min, option_map, take};
+ghost use Rattle.std.specs.Prelude.{◌≡◌, ◌≤◌, ◌<◌, ◌+◌, ◌||◌, ℕ, true, List, [], ◌++◌, IfOk, IsOk, OnErr, None, Err, is_some, length as length_of, min, option_map, take};
 ghost use Rattle.cose_head.specs.declared.algorithm.Alg.{Alg};
 ghost use Rattle.cose_mac.specs.Running.{makes_mac};
 ghost use Rattle.cose_mac.specs.Structure.{encoded_string};
@@ -9,6 +9,7 @@ ghost use Rattle.cose_msg.specs.declared.make.MakeFault.{MakeFault};
 ghost use Rattle.cose_msg.specs.Make.{make_fault};
 ghost use Rattle.cose_msg.specs.Making.{auth_made, protected_made};
 ghost use Rattle.cose_msg.specs.Message.{secret_of};
+ghost use Rattle.cose_msg.specs.Sink.{AppendsFront};
 ghost use Rattle.cose_msg.specs.Writes.{WritesTo, front_of, seen};
 
 use crate::make::{
@@ -30,7 +31,7 @@ pub struct Maker {
 
 impl Maker {
     ghost use Rattle.std.specs.Io.KnownBytes.{Appends};
-    ghost use Rattle.cose_msg.specs.Maker.{IsMaking, begun_fault, bytes_left};
+    ghost use Rattle.cose_msg.specs.Maker.{IsMaking, begun_fault, bytes_left, stops_for_sink};
 
     /// Begins the message of a payload of `length` bytes: puts all that precedes the payload's content, at most 321 bytes.
     ///
@@ -50,6 +51,14 @@ impl Maker {
             IsMaking alg (secret_of (key_value key.now).material) aad.now length [] maker) }
         ensures front { IfOk result (λ maker. Appends (S.contents sink.old) (S.contents sink.new)
             (front_of (protected_made alg) (option_map contents kid.entry) length)) }
+        ensures short { IfOk result (λ _. length_of
+            (front_of (protected_made alg) (option_map contents kid.entry) length) ≤ 321) }
+        // No other fault is one of the sink, which has a prefix of these bytes then.
+        ensures failed { begun_fault result ≡ None → OnErr result
+            ((result ≡ Err MakeFault.Sink) × AppendsFront (S.contents sink.old) (S.contents sink.new)
+            (front_of (protected_made alg) (option_map contents kid.entry) length)) }
+        ensures failure { S.has_failed sink.new
+            ≡ (S.has_failed sink.old || stops_for_sink result) }
         // A sink that is sure of these bytes doesn't fail.
         ensures sure { length_of
             (front_of (protected_made alg) (option_map contents kid.entry) length)

@@ -54,6 +54,9 @@ fn keeps_what_it_lends_unless_its_lender_is_cleared(rt: HostRuntime) {
     equal(&rt, store.bytes(), b"abc".as_slice());
     let (_, lender) = store.lend();
     lender.clear();
+    // Another loan brings nothing back.
+    let (lent, _) = store.lend();
+    equal(&rt, lent, b"".as_slice());
     equal(&rt, store.bytes(), b"".as_slice());
     // there is room for four bytes again
     let put = store.put(b"defg");

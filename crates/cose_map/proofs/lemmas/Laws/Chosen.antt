@@ -79,7 +79,7 @@ module _ (q : Question) where
   fits_named None own key n found = cc
   fits_named (Some alg) own key n found = fits_numbered (integer_in_label alg) own key n found
 
-  found_fits : (own key : KeyValue) (n : ℤ) → fitting q own ≡ Some (key, n) → (own ≡ key) × (fits q key n ≡ true)
+  pub found_fits : (own key : KeyValue) (n : ℤ) → fitting q own ≡ Some (key, n) → (own ≡ key) × (fits q key n ≡ true)
   found_fits own key n found = fits_named (algorithm_used q.protected_alg q.unprotected_alg own.alg) own key n found
 
   one_of : (found : List (KeyValue × ℤ)) (key : KeyValue) (n : ℤ) → only_one q found ≡ Ok (key, n) → found ≡ (key, n) ∷ []
@@ -92,7 +92,7 @@ module _ (q : Question) where
   answered true found reason key n e = one_of found key n e
   answered false found reason key n e = cc
 
-  only_fitting : (keys : List KeyValue) (key : KeyValue) (n : ℤ) → chosen q keys ≡ Ok (key, n) → filter_map (fitting q) keys ≡ (key, n) ∷ []
+  pub only_fitting : (keys : List KeyValue) (key : KeyValue) (n : ℤ) → chosen q keys ≡ Ok (key, n) → filter_map (fitting q) keys ≡ (key, n) ∷ []
   unfolding chosen
   only_fitting keys key n e = answered (is_answerable q.kind q.protected_alg q.unprotected_alg) (filter_map (fitting q) keys) _ key n e
 

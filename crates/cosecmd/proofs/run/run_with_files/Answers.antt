@@ -1,10 +1,13 @@
 use Rattle.std.proofs.Common.{◌≡◌, ◌∙◌, ℕ, List, ap, inl, inr, rules}
+use Rattle.cose_text.specs.TextInput.{reader_of}
 use Rattle.cosecmd.specs.CommandLine.{AsksFor, begins_as_answer}
+use Rattle.cosecmd.specs.InputForm.{input_bytes}
 use Rattle.cosecmd.specs.declared.arguments.Parsed.TheVariants.{Matches, Text}
 use Rattle.cosecmd.proofs.Asked.{ends_with, fails_with, not_made}
 use Rattle.cosecmd.proofs.AskedSequences.{found_fails, not_of_sequence}
 use Rattle.cosecmd.proofs.CommandLines.{found_in, text_read}
 use Rattle.cosecmd.proofs.Replies.{ends_with_text, some_line}
+use Rattle.cosecmd.proofs.TextRequests.{read_of}
 use Rattle.cosecmd.proofs.run.run_with_files.Goals as goal
 
 pub returns-in-Ok-clause-printed : goal.returns-in-Ok-clause-printed
@@ -15,27 +18,31 @@ returns-in-Ok-clause-printed g c = λ bytes e.
       met.matches,
       found_in _ met.field-0 met.matches is met.ensures,
       λ said prints.
-          let asks = c.in-Ok.ensures.asks bytes said prints in
-          ends_with _ _ _ asks.2 (c.answer_request.ensures.printed bytes asks.0 e asks.1),
+          let read = input_bytes met.matches bytes in
+          let asks = c.in-Ok.ensures.asks read said prints in
+          let known = read_of _ c.input_form_of.result _ _ _ _ bytes c.read_as.ensures.next c.read_as.ensures.reader c.input_form_of.ensures e in
+          ends_with _ _ _ asks.2 (c.answer_request.ensures.printed read asks.0 known asks.1),
     )
 
 pub returns-in-Ok-clause-fails : goal.returns-in-Ok-clause-fails
 returns-in-Ok-clause-fails g c = λ bytes e two.
     let met = c.in-Ok-Matches in
     let is : met.field-0 ≡ Matches met.matches = search rules in
+    let read = input_bytes met.matches bytes in
+    let known = read_of _ c.input_form_of.result _ _ _ _ bytes c.read_as.ensures.next c.read_as.ensures.reader c.input_form_of.ensures e in
     inr (inr (
       met.matches,
       found_in _ met.field-0 met.matches is met.ensures,
       record {
         one = λ said prints other alone.
-            let asks = c.in-Ok.ensures.asks bytes said prints in
-            fails_with _ _ asks.2 (c.answer_request.ensures.fails bytes asks.0 e asks.1 (not_made c.in-Ok.request _ c.in-Ok.ensures.making other) (not_of_sequence c.in-Ok.request _ c.in-Ok.ensures.sequence alone) two);
+            let asks = c.in-Ok.ensures.asks read said prints in
+            fails_with _ _ asks.2 (c.answer_request.ensures.fails read asks.0 known asks.1 (not_made c.in-Ok.request _ c.in-Ok.ensures.making other) (not_of_sequence c.in-Ok.request _ c.in-Ok.ensures.sequence alone) two);
         sequence = λ said each other.
             let asks : (input : List ℕ) → AsksFor (g.F.NamedFiles.content c.args.files.now) c.in-Ok.request input (said input) = λ input. c.in-Ok.ensures.asks input (said input) (each input) in
-            let these = asks bytes in
-            found_fails (g.F.NamedFiles.content c.args.files.now) c.in-Ok.request said bytes _ _ asks
-            (λ one. fails_with _ _ these.2 (c.answer_request.ensures.fails bytes these.0 e these.1 (not_made c.in-Ok.request _ c.in-Ok.ensures.making other) one two))
-            (λ is. c.answer_request.ensures.sequence bytes e is two);
+            let these = asks read in
+            found_fails (g.F.NamedFiles.content c.args.files.now) c.in-Ok.request said read _ _ asks
+            (λ one. fails_with _ _ these.2 (c.answer_request.ensures.fails read these.0 known these.1 (not_made c.in-Ok.request _ c.in-Ok.ensures.making other) one two))
+            (λ is. c.answer_request.ensures.sequence read known is two);
       },
     ))
 
@@ -43,7 +50,13 @@ pub returns-in-Ok-clause-unread : goal.returns-in-Ok-clause-unread
 returns-in-Ok-clause-unread g c =
     let met = c.in-Ok-Matches in
     let is : met.field-0 ≡ Matches met.matches = search rules in
-    inr (met.matches, found_in _ met.field-0 met.matches is met.ensures, λ name some taken. c.answer_request.ensures.taken name (c.in-Ok.ensures.keeping ∙ some) taken)
+    inr (
+      met.matches,
+      found_in _ met.field-0 met.matches is met.ensures,
+      λ name some taken.
+          let kept = c.answer_request.ensures.taken name (c.in-Ok.ensures.keeping ∙ some) taken in
+          (ap reader_of kept.0 ∙ c.read_as.ensures.reader, kept.1),
+    )
 
 pub returns-in-Ok-Text-clause-printed : goal.returns-in-Ok-Text-clause-printed
 returns-in-Ok-Text-clause-printed g c = λ bytes e.

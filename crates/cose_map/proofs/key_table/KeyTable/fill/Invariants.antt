@@ -4,7 +4,7 @@ use Rattle.std.specs.Prelude.{filter_map}
 use Rattle.cose_map.specs.KeySet.Items.{key_items_left}
 use Rattle.cose_map.specs.KeySet.{keys_of, usable}
 use Rattle.cose_map.specs.KeyTable.{slot_value}
-use Rattle.cose_map.proofs.key_table.KeyTable.read.Given as goal
+use Rattle.cose_map.proofs.key_table.KeyTable.fill.Given as goal
 
 abbrev pub invariant-loop-item : goal.invariant-loop-item
-invariant-loop-item g l = Ok (map slot_value l.slots.items ++ filter_map usable (key_items_left l.item-iterator)) ≡ keys_of l.fn.bytes
+invariant-loop-item g l = Ok (map slot_value l.self.slots.items ++ filter_map usable (key_items_left l.item-iterator)) ≡ keys_of l.fn.bytes

@@ -1,6 +1,6 @@
 use Rattle.std.proofs.Common.{arith}
 use Rattle.std.proofs.lemmas.Grind.{common_steps}
-use Rattle.cose_map.proofs.key_table.KeyTable.read.Goals as goal
+use Rattle.cose_map.proofs.key_table.KeyTable.fill.Goals as goal
 
 pub read-requires : goal.read-requires
 read-requires g c = grind (arith, common_steps)
@@ -10,9 +10,6 @@ returns-in_err-set-clause-exact g c = grind (arith, common_steps)
 
 pub returns-in_err-set-clause-within : goal.returns-in_err-set-clause-within
 returns-in_err-set-clause-within g c = grind (arith, common_steps)
-
-pub new-slots-requires : goal.new-slots-requires
-new-slots-requires g c = grind (arith, common_steps)
 
 pub items-item-items-requires : goal.items-item-items-requires
 items-item-items-requires g c = grind (arith, common_steps)
@@ -49,9 +46,6 @@ loop-item-preserved g c = grind (arith, common_steps)
 
 pub len-count-requires : goal.len-count-requires
 len-count-requires g c = grind (arith, common_steps)
-
-pub invariant_of-result : goal.invariant_of-result
-invariant_of-result g c = grind (arith, common_steps)
 
 pub returns-clause-exact : goal.returns-clause-exact
 returns-clause-exact g c = grind (arith, common_steps)

@@ -1,0 +1,86 @@
+// Key sets that are read once.
+
+package cose
+
+// #include "sized.h"
+import "C"
+
+import "runtime"
+
+// KeyTable is a COSE_Key or a COSE_KeySet (RFC 9052 section 7) that is read once, for many messages. It has up to 64 usable keys.
+// Any number of goroutines may use it.
+type KeyTable struct {
+	block  block
+	usable int
+}
+
+// NewKeyTable reads keys. It returns a *KeysRefused where they are refused.
+func NewKeyTable(keys []byte) (*KeyTable, error) {
+	table := new(KeyTable)
+	runtime.SetFinalizer(table, func(it *KeyTable) { it.block.free() })
+	data, isKept := table.block.keep(keys)
+	if !isKept || !table.block.make(C.cose_table_size(), C.cose_table_align()) {
+		table.block.free()
+		return nil, errNoMemory
+	}
+	C.cose_table_begin(table.block.at)
+	read := C.sized_table_read(table.block.at, data)
+	if read.status != C.COSE_COMPLETE {
+		table.block.free()
+		return nil, errorOf(read.status, read.reason, read.place)
+	}
+	table.usable = int(read.usable)
+	return table, nil
+}
+
+// Len is how many keys are usable.
+func (t *KeyTable) Len() int {
+	return t.usable
+}
+
+// Close gives the memory back, which the garbage collector does too. Other calls return ErrClosed then.
+func (t *KeyTable) Close() error {
+	if err := t.block.lock(); err != nil {
+		return err
+	}
+	defer t.block.mutex.Unlock()
+	t.block.free()
+	return nil
+}
+
+// Verify verifies a message in memory, as the function Verify does.
+func (t *KeyTable) Verify(message []byte, options *Options) (*Message, error) {
+	o := options.orDefault()
+	answer, keys, err := t.answer(message, &o)
+	if err != nil {
+		return nil, err
+	}
+	return o.decided(&answer, keys, message, nil)
+}
+
+// answer is the library's, with a copy of the keys where it is the signature that decides.
+func (t *KeyTable) answer(message []byte, o *Options) (answer C.struct_sized_answer, keys []byte, err error) {
+	if err = t.block.lock(); err != nil {
+		return answer, nil, err
+	}
+	defer t.block.mutex.Unlock()
+	kept := t.block.copies[0]
+	if o.Large {
+		answer = C.sized_verify(true, bytesOf(kept), bytesOf(o.AAD), C.uint32_t(o.Wanted), bytesOf(message))
+	} else {
+		answer = C.sized_table_verify(t.block.at, bytesOf(o.AAD), C.uint32_t(o.Wanted), bytesOf(message))
+	}
+	if answer.verdict.status == C.COSE_SIGNED {
+		keys = append(keys, kept...)
+	}
+	return answer, keys, nil
+}
+
+// CountKeys is how many keys of a COSE_Key or a COSE_KeySet are usable. It returns a *KeysRefused where they are refused.
+func CountKeys(keys []byte) (int, error) {
+	read := C.sized_read_keys(bytesOf(keys))
+	if read.status != C.COSE_COMPLETE {
+		return 0, errorOf(read.status, read.reason, read.place)
+	}
+	return int(read.usable), nil
+}

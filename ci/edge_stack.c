@@ -1,0 +1,425 @@
+/* Calls each function of the library on a stack of the size that docs/C.md promises, below which no byte can be
+ * touched: a call that takes more ends the program, which says in which call. The bytes are those that take much stack:
+ * items as deep as they may nest, labels out of order, a key set of 64 keys. It prints how many calls there were. */
+#define _GNU_SOURCE
+#include "cose.h"
+#include <signal.h>
+#include <stdio.h>
+#include <string.h>
+#include <sys/mman.h>
+#include <ucontext.h>
+#include <unistd.h>
+
+/* The bytes of a message, a key or a token that is being written. */
+struct written {
+    uint8_t bytes[4096];
+    size_t length;
+};
+
+static struct written one_key, keys, message, deep_message, detached, token, deep_claims, payload;
+static _Alignas(COSE_BLOCK_ALIGN) uint8_t block[COSE_TABLE_BLOCK], large_block[COSE_LARGE_VERIFIER_BLOCK];
+static struct cose_verifier verifier = {block};
+static struct cose_large_verifier large = {large_block};
+static struct cose_table table = {block};
+static struct cose_maker maker = {block};
+static struct cose_message_verdict verdict;
+static struct cose_signature_input input;
+static struct cose_message_shape shape;
+static struct cose_key_set key_set;
+static struct cose_claims_set claims;
+static struct cose_range range;
+static struct cose_status status;
+static struct cose_fed fed;
+static struct cose_made made;
+static uint8_t room[384];
+static uint64_t number;
+
+static void put(struct written *to, const void *bytes, size_t length)
+{
+    memcpy(to->bytes + to->length, bytes, length);
+    to->length += length;
+}
+
+/* A label and an item that nests so deep. */
+static void put_nested(struct written *to, uint8_t label, int depth)
+{
+    put(to, &label, 1);
+    for (int level = 0; level < depth; level++)
+        put(to, "\x81", 1);
+    put(to, "\x00", 1);
+}
+
+/* A key of 32 bytes, with a member that nests as deep as the key set may. */
+static void put_key(struct written *to, uint8_t first, int depth)
+{
+    uint8_t secret[32] = {0};
+    secret[0] = first;
+    put(to, "\xa3\x01\x04\x20\x58\x20", 6);
+    put(to, secret, sizeof secret);
+    put_nested(to, 0x0a, depth);
+}
+
+/* A COSE_Mac0 with labels out of order, and two items that nest so deep, whose tag is wrong. */
+static void put_message(struct written *to, int depth, const struct written *content)
+{
+    struct written bucket = {{0}, 0};
+    const uint8_t tag[32] = {0};
+    put(&bucket, "\xa9", 1);
+    put_nested(&bucket, 0x17, depth);
+    for (uint8_t label = 0x16; label > 0x0f; label--)
+        put_nested(&bucket, label, 0);
+    put(&bucket, "\x01\x05", 2);
+    put(to, "\xd1\x84\x58", 3);
+    put(to, (const uint8_t[]){(uint8_t)bucket.length}, 1);
+    put(to, bucket.bytes, bucket.length);
+    put(to, "\xa1", 1);
+    put_nested(to, 0x0e, depth);
+    if (content != NULL) {
+        put(to, (const uint8_t[]){0x58, (uint8_t)content->length}, 2);
+        put(to, content->bytes, content->length);
+    } else {
+        put(to, "\xf6", 1);
+    }
+    put(to, "\x58\x20", 2);
+    put(to, tag, sizeof tag);
+}
+
+/* A claims set with an item that nests so deep, labels out of order, and two audiences. */
+static void put_claims(struct written *to, int depth)
+{
+    put(to, "\xa5", 1);
+    put_nested(to, 0x17, depth);
+    put(to, "\x03\x82\x61\x61\x61\x62\x02\x61s\x01\x61i\x00\x00", 14);
+}
+
+static void write_all(void)
+{
+    put_key(&one_key, 1, 7);
+    put(&keys, "\x98\x40", 2);
+    for (uint8_t number = 0; number < 64; number++)
+        put_key(&keys, number, 6);
+    put(&payload, "hi", 2);
+    put_message(&message, 7, &payload);
+    put_message(&deep_message, 15, &payload);
+    put_message(&detached, 7, NULL);
+    put_claims(&deep_claims, 7);
+    /* a token whose tag is right */
+    cose_maker_begin(block);
+    cose_make(&maker, 5, one_key.bytes, one_key.length, NULL, 0, NULL, 0, deep_claims.length, room, sizeof room, &made);
+    put(&token, room, made.length);
+    put(&token, deep_claims.bytes, deep_claims.length);
+    cose_make_piece(&maker, deep_claims.bytes, deep_claims.length);
+    cose_make_end(&maker, room, sizeof room, &made);
+    put(&token, room, made.length);
+}
+
+static const struct cose_policy policy = {0, 0, 1, (const uint8_t *)"b", 1};
+
+#define OF(written) (written).bytes, (written).length
+
+static void verify(void)
+{
+    cose_verify(OF(one_key), NULL, 0, COSE_TAGGED, OF(message), &verdict, &input);
+}
+static void verify_keys(void)
+{
+    cose_verify(OF(keys), NULL, 0, COSE_TAGGED, OF(message), &verdict, &input);
+}
+static void verify_beside(void)
+{
+    cose_verify_detached(OF(one_key), NULL, 0, COSE_TAGGED, OF(detached), OF(payload), &verdict, &input);
+}
+static void shapes(void)
+{
+    cose_shape(COSE_TAGGED, OF(message), &shape);
+}
+static void read_keys(void)
+{
+    cose_read_keys(OF(keys), &key_set);
+}
+static void verify_cwt(void)
+{
+    cose_verify_cwt(OF(one_key), NULL, 0, &policy, OF(token), &claims);
+}
+static void claims_of(void)
+{
+    cose_claims(OF(deep_claims), &policy, &claims);
+}
+static void large_claims(void)
+{
+    cose_large_claims(OF(deep_claims), &policy, &claims);
+}
+static void audience(void)
+{
+    cose_audience(OF(deep_claims), 1, &range);
+}
+static void next_audience(void)
+{
+    cose_next_audience(OF(deep_claims), range.at - 1, &range);
+}
+static void begin(void)
+{
+    cose_begin(block);
+}
+static void open_it(void)
+{
+    cose_open(&verifier, OF(one_key), NULL, 0, COSE_TAGGED, &status);
+}
+static void open_beside(void)
+{
+    cose_open_detached(&verifier, OF(one_key), NULL, 0, COSE_TAGGED, payload.length, &status);
+}
+static void feed(void)
+{
+    cose_feed(&verifier, OF(message), &fed);
+}
+static void feed_head(void)
+{
+    cose_feed(&verifier, detached.bytes, detached.length - 34, &fed);
+}
+static void feed_payload(void)
+{
+    cose_feed_payload(&verifier, OF(payload));
+}
+static void feed_tag(void)
+{
+    cose_feed(&verifier, detached.bytes + detached.length - 34, 34, &fed);
+}
+static void end(void)
+{
+    cose_end(&verifier, &status);
+}
+static void sign_input(void)
+{
+    cose_sign_input(&verifier, &input);
+}
+static void decide(void)
+{
+    cose_verdict(&verifier, 1, &verdict);
+}
+static void decide_for(void)
+{
+    cose_verdict_for(&verifier, cose_message_number(&verifier), 1, &verdict);
+}
+static void reset(void)
+{
+    cose_reset(&verifier);
+}
+static void large_begin(void)
+{
+    cose_large_begin(large_block);
+}
+static void large_open(void)
+{
+    cose_large_open(&large, OF(one_key), NULL, 0, COSE_TAGGED, &status);
+}
+static void large_feed(void)
+{
+    cose_large_feed(&large, OF(deep_message), &fed);
+}
+static void large_decide(void)
+{
+    cose_large_verdict(&large, 1, &verdict);
+}
+static void large_reset(void)
+{
+    cose_large_reset(&large);
+}
+static void large_open_beside(void)
+{
+    cose_large_open_detached(&large, OF(one_key), NULL, 0, COSE_TAGGED, payload.length, &status);
+}
+static void large_feed_head(void)
+{
+    cose_large_feed(&large, detached.bytes, detached.length - 34, &fed);
+}
+static void large_feed_payload(void)
+{
+    cose_large_feed_payload(&large, OF(payload));
+}
+static void large_end(void)
+{
+    cose_large_end(&large, &status);
+}
+static void large_sign_input(void)
+{
+    cose_large_sign_input(&large, &input);
+}
+static void large_decide_for(void)
+{
+    cose_large_verdict_for(&large, cose_large_message_number(&large), 1, &verdict);
+}
+static void numbers(void)
+{
+    number = cose_wanted(&verifier) + cose_payload_wanted(&verifier) + cose_taken(&verifier) + cose_held(&verifier) +
+             cose_message_number(&verifier) + cose_version() + cose_verifier_size() + cose_verifier_align() +
+             cose_table_size() + cose_table_align() + cose_maker_size() + cose_maker_align();
+}
+static void large_numbers(void)
+{
+    number = cose_large_wanted(&large) + cose_large_payload_wanted(&large) + cose_large_taken(&large) +
+             cose_large_held(&large) + cose_large_verifier_size() + cose_large_verifier_align();
+}
+static void table_begin(void)
+{
+    cose_table_begin(block);
+}
+static void table_read(void)
+{
+    cose_table_read(&table, OF(keys), &key_set);
+}
+static void table_verify(void)
+{
+    cose_table_verify(&table, NULL, 0, COSE_TAGGED, OF(message), &verdict, &input);
+}
+static void table_read_one(void)
+{
+    cose_table_read(&table, OF(one_key), &key_set);
+}
+static void table_verify_cwt(void)
+{
+    cose_table_verify_cwt(&table, NULL, 0, &policy, OF(token), &claims);
+}
+static void maker_begin(void)
+{
+    cose_maker_begin(block);
+}
+static void make(void)
+{
+    cose_make(&maker, 7, OF(one_key), (const uint8_t *)"kid", 3, NULL, 0, payload.length, room, sizeof room, &made);
+}
+static void make_piece(void)
+{
+    cose_make_piece(&maker, OF(payload));
+}
+static void make_end(void)
+{
+    cose_make_end(&maker, room, sizeof room, &made);
+}
+static void large_verify(void)
+{
+    cose_large_verify(OF(one_key), NULL, 0, COSE_TAGGED, OF(deep_message), &verdict, &input);
+}
+static void large_beside(void)
+{
+    cose_large_verify_detached(OF(one_key), NULL, 0, COSE_TAGGED, OF(detached), OF(payload), &verdict, &input);
+}
+static void large_cwt(void)
+{
+    cose_large_verify_cwt(OF(one_key), NULL, 0, &policy, OF(token), &claims);
+}
+
+enum { KIB = 1024, SMALL = 16 * KIB, LARGE = 160 * KIB };
+
+/* The calls in their order, the stack that each is promised, and what its answer is. */
+static const struct {
+    const char *name;
+    void (*call)(void);
+    size_t stack;
+    const uint8_t *answer;
+    uint8_t wanted;
+} calls[] = {
+    {"verify", verify, SMALL, &verdict.reason, COSE_REASON_BAD_AUTH},
+    {"verify, 64 keys", verify_keys, SMALL, &verdict.reason, COSE_REASON_AMBIGUOUS_KEY},
+    {"verify_detached", verify_beside, SMALL, &verdict.reason, COSE_REASON_BAD_AUTH},
+    {"shape", shapes, SMALL, &shape.status, COSE_COMPLETE},
+    {"read_keys", read_keys, SMALL, &key_set.status, COSE_COMPLETE},
+    {"verify_cwt", verify_cwt, SMALL, &claims.status, COSE_AUTHENTIC},
+    {"claims", claims_of, SMALL, &claims.status, COSE_AUTHENTIC},
+    {"large_claims", large_claims, SMALL, &claims.status, COSE_AUTHENTIC},
+    {"audience", audience, SMALL, &range.present, 1},
+    {"next_audience", next_audience, SMALL, &range.present, 1},
+    {"begin", begin, SMALL, NULL, 0},
+    {"open", open_it, SMALL, &status.status, COSE_MORE},
+    {"feed", feed, SMALL, &fed.status.status, COSE_COMPLETE},
+    {"the numbers", numbers, SMALL, NULL, 0},
+    {"end", end, SMALL, &status.status, COSE_COMPLETE},
+    {"sign_input", sign_input, SMALL, NULL, 0},
+    {"verdict", decide, SMALL, &verdict.reason, COSE_REASON_BAD_AUTH},
+    {"verdict_for", decide_for, SMALL, &verdict.reason, COSE_REASON_BAD_AUTH},
+    {"reset", reset, SMALL, NULL, 0},
+    {"open_detached", open_beside, SMALL, &status.status, COSE_MORE},
+    {"feed, to the payload", feed_head, SMALL, &fed.status.status, COSE_PAYLOAD_NEXT},
+    {"feed_payload", feed_payload, SMALL, NULL, 0},
+    {"feed, from the payload", feed_tag, SMALL, &fed.status.status, COSE_COMPLETE},
+    {"large_begin", large_begin, SMALL, NULL, 0},
+    {"large_open", large_open, SMALL, &status.status, COSE_MORE},
+    {"large_feed", large_feed, SMALL, &fed.status.status, COSE_COMPLETE},
+    {"the large numbers", large_numbers, SMALL, NULL, 0},
+    {"large_end", large_end, SMALL, &status.status, COSE_COMPLETE},
+    {"large_sign_input", large_sign_input, SMALL, NULL, 0},
+    {"large_verdict", large_decide, SMALL, &verdict.reason, COSE_REASON_BAD_AUTH},
+    {"large_verdict_for", large_decide_for, SMALL, &verdict.reason, COSE_REASON_BAD_AUTH},
+    {"large_reset", large_reset, SMALL, NULL, 0},
+    {"large_open_detached", large_open_beside, SMALL, &status.status, COSE_MORE},
+    {"large_feed, to the payload", large_feed_head, SMALL, &fed.status.status, COSE_PAYLOAD_NEXT},
+    {"large_feed_payload", large_feed_payload, SMALL, NULL, 0},
+    {"table_begin", table_begin, SMALL, NULL, 0},
+    {"table_read", table_read, SMALL, &key_set.status, COSE_COMPLETE},
+    {"table_verify", table_verify, SMALL, &verdict.reason, COSE_REASON_AMBIGUOUS_KEY},
+    {"table_read, again", table_read_one, SMALL, &key_set.status, COSE_COMPLETE},
+    {"table_verify_cwt", table_verify_cwt, SMALL, &claims.status, COSE_AUTHENTIC},
+    {"maker_begin", maker_begin, SMALL, NULL, 0},
+    {"make", make, SMALL, &made.status, COSE_MORE},
+    {"make_piece", make_piece, SMALL, NULL, 0},
+    {"make_end", make_end, SMALL, &made.status, COSE_COMPLETE},
+    {"large_verify", large_verify, LARGE, &verdict.reason, COSE_REASON_BAD_AUTH},
+    {"large_verify_detached", large_beside, LARGE, &verdict.reason, COSE_REASON_BAD_AUTH},
+    {"large_verify_cwt", large_cwt, LARGE, &claims.status, COSE_AUTHENTIC},
+};
+
+static const char *running = "none";
+
+/* The stack of a call is used up. */
+static void overflowed(int number)
+{
+    (void)number;
+    const char *parts[] = {"more stack than promised: ", running, "\n"};
+    for (int part = 0; part < 3; part++)
+        if (write(STDOUT_FILENO, parts[part], strlen(parts[part])) < 0)
+            break;
+    _exit(1);
+}
+
+/* Runs a call on the last bytes of the memory, so many of them: those before can't be touched. */
+static int called(uint8_t *memory, size_t most, size_t stack, void (*call)(void))
+{
+    ucontext_t here, there;
+    if (mprotect(memory, most, PROT_NONE) != 0 || mprotect(memory + most - stack, stack, PROT_READ | PROT_WRITE) != 0)
+        return 0;
+    if (getcontext(&there) != 0)
+        return 0;
+    there.uc_stack.ss_sp = memory + most - stack;
+    there.uc_stack.ss_size = stack;
+    there.uc_link = &here;
+    makecontext(&there, call, 0);
+    return swapcontext(&here, &there) == 0;
+}
+
+int main(void)
+{
+    static uint8_t signals[65536];
+    const size_t most = LARGE + 64 * KIB;
+    struct sigaction action = {0};
+    stack_t other = {0};
+    int failures = 0;
+    uint8_t *memory = mmap(NULL, most, PROT_NONE, MAP_PRIVATE | MAP_ANONYMOUS, -1, 0);
+    other.ss_sp = signals;
+    other.ss_size = sizeof signals;
+    action.sa_handler = overflowed;
+    action.sa_flags = SA_ONSTACK;
+    if (memory == MAP_FAILED || sigaltstack(&other, NULL) != 0 || sigaction(SIGSEGV, &action, NULL) != 0)
+        return 2;
+    write_all();
+    for (size_t index = 0; index < sizeof calls / sizeof *calls; index++) {
+        running = calls[index].name;
+        if (!called(memory, most, calls[index].stack, calls[index].call))
+            return 2;
+        if (calls[index].answer != NULL && *calls[index].answer != calls[index].wanted) {
+            printf("%s: %u, not %u\n", running, *calls[index].answer, calls[index].wanted);
+            failures++;
+        }
+    }
+    printf("%zu calls, %d failed\n", sizeof calls / sizeof *calls, failures);
+    return failures != 0;
+}

@@ -1,0 +1,135 @@
+"""Makes the declarations of include/cose.h, and the functions that take NULL, of the exports of cose_c.
+
+Comments, and whatever else the header has, stay as they are: each declaration and each function is put in the place of the one
+that has its name. An export that the header hasn't comes last, under the comment of the source.
+"""
+import re
+import textwrap
+
+import edge_source as source
+
+NUMBERS = {"u8": "uint8_t", "u32": "uint32_t", "u64": "uint64_t", "i32": "int32_t", "i64": "int64_t", "usize": "size_t"}
+# calls that open, read or make something: with NULL they are made with nothing, so that the block has nothing then
+CLOSING = re.compile("^cose_edge_(large_)?open|^cose_edge_table_read$|^cose_edge_make$")
+WIDTH = 138
+LAST = "#ifdef __cplusplus\n}\n#endif\n#endif\n"
+
+
+class Parameter:
+    """A parameter: its name in the header, its declarations, and what the functions for NULL do with it."""
+
+    def __init__(self, name, kind):
+        self.name, self.kind = {"wanted": "kind", "at": "block"}.get(name, name), kind
+        self.is_slice, self.is_room = kind == "&[u8]", kind == "&mut [u8]"
+        self.is_kind, self.is_policy = name == "wanted", kind == "&CosePolicy"
+        self.is_out = kind.startswith("&mut Cose") and self.fields().get("at") != "*mut u8"
+
+    def fields(self):
+        """The types of the fields of its struct, by their names."""
+        found = re.search(r"Cose\w+", self.kind)
+        return dict(next(it.fields for it in source.structs() if it.name == found[0])) if found else {}
+
+    def declared(self, in_wrapper):
+        """Its declarations, of a slice two."""
+        if self.is_slice or self.is_room:
+            return [f"{'const ' if self.is_slice else ''}uint8_t *{self.name}", f"size_t {self.length}"]
+        if self.is_kind and in_wrapper:
+            return ["enum cose_kind_number kind"]
+        struct = re.search(r"Cose\w+", self.kind)
+        if struct:
+            name = next(it.in_c for it in source.structs() if it.name == struct[0])
+            return [f"{'' if 'mut' in self.kind else 'const '}struct {name} *{self.name}"]
+        return [f"uint8_t *{self.name}" if self.kind == "*mut u8" else f"{NUMBERS[self.kind]} {self.name}"]
+
+    @property
+    def length(self):
+        return f"{self.name}_room" if self.is_room else f"{self.name}_length"
+
+    def tests(self):
+        """What is true where it is NULL with a length."""
+        if self.is_policy:
+            return [f"cose_is_null_({self.name}->audience, {self.name}->audience_length)"]
+        return [f"cose_is_null_({self.name}, {self.length})"] if self.is_slice or self.is_room else []
+
+    def passed(self):
+        """What the library gets."""
+        if self.is_slice or self.is_room:
+            return [f"cose_{'room' if self.is_room else 'slice'}_({self.name})", self.length]
+        return ["cose_kind_(kind)"] if self.is_kind else ["&cose_policy_"] if self.is_policy else [self.name]
+
+    def nothing(self):
+        """What it gets in a call with nothing."""
+        if self.is_slice or self.is_room:
+            return [f"cose_{'room' if self.is_room else 'slice'}_(NULL)", "0"]
+        if self.is_kind or self.name == "alg":
+            return ["COSE_NO_KIND_" if self.is_kind else "COSE_NO_ALG_"]
+        return ["0"] if self.kind in NUMBERS else [self.name]
+
+
+def wrapped(text, indent):
+    lines = textwrap.wrap(text, WIDTH, initial_indent=indent, subsequent_indent=indent + "    ", break_long_words=False, break_on_hyphens=False)
+    return "\n".join(lines)
+
+
+def declaration(export, name, parameters, in_wrapper):
+    listed = [it for each in parameters for it in each.declared(in_wrapper)] or ["void"]
+    result = NUMBERS[export.result] if export.result else "void"
+    # no parameter is cut
+    text = ", ".join(it.replace(" ", "\0") for it in listed)
+    return wrapped(f"{'static inline ' if in_wrapper else ''}{result} {name}({text})", "").replace("\0", " ")
+
+
+def bad_argument(parameters):
+    """The lines by which an answer says that an argument is NULL."""
+    out = next(it for it in parameters if it.is_out)
+    status = {"u8": "status", "CoseStatus": "status.status"}.get(out.fields().get("status"))
+    lines = [f"        memset({out.name}, 0, sizeof *{out.name});"]
+    return lines + [f"        {out.name}->{status} = COSE_BAD_ARGUMENT;"] if status else lines
+
+
+def answer_to_null(export, parameters):
+    """The lines that a function for NULL has where one is NULL."""
+    if CLOSING.match(export.name):
+        nothing = ", ".join(it for each in parameters for it in each.nothing())
+        call = wrapped(f"{export.name}({nothing});", "        ")
+        names = {it.name for it in parameters}
+        if names & {"kind", "alg"}:
+            return [call, "        return;"]
+        return [f"{call} /* the block has nothing then */", *bad_argument(parameters), "        return;"]
+    if export.result:
+        return ["        return 0;"]
+    return [*bad_argument(parameters), "        return;"]
+
+
+def wrapper(export):
+    """The function that takes NULL, of an export with a slice."""
+    parameters = [Parameter(*it) for it in export.parameters]
+    lines = [declaration(export, export.name.replace("_edge", "", 1), parameters, True), "{"]
+    policy = next((it.name for it in parameters if it.is_policy), None)
+    if policy:
+        lines.append(f"    struct cose_policy cose_policy_ = *{policy};")
+    tests = [it for each in parameters for it in each.tests()]
+    condition = f"    if ({' || '.join(tests)}) {{"
+    lines.append(condition if len(condition) <= WIDTH and len(tests) < 4 else "    if (" + " ||\n        ".join(tests) + ") {")
+    lines += [*answer_to_null(export, parameters), "    }"]
+    if policy:
+        lines.append(f"    cose_policy_.audience = cose_slice_({policy}->audience);")
+    passed = ", ".join(it for each in parameters for it in each.passed())
+    return "\n".join([*lines, wrapped(f"{'return ' if export.result else ''}{export.name}({passed});", "    "), "}"])
+
+
+def in_header(text):
+    """The header with what is made in it."""
+    for export in source.exports():
+        parameters = [Parameter(*it) for it in export.parameters]
+        declared = declaration(export, export.name, parameters, False) + ";"
+        name = export.name.replace("_edge", "", 1)
+        made = wrapper(export) if name != export.name else None
+        text, count = re.subn(rf"^\w+ {export.name}\([^)]*\);", lambda _: declared, text, flags=re.M)
+        if not count:
+            comment = wrapped(f"/** {export.text} */", "").replace("\n    ", "\n * ")
+            added = f"{declared}\n\n{comment}\n{made}\n" if made else f"{comment}\n{declared}\n"
+            text = text.replace(LAST, f"{added}\n{LAST}")
+        elif made:
+            text = re.sub(rf"^static inline \w+ {name}\([^)]*\)\n\{{\n.*?^\}}", lambda _: made, text, flags=re.M | re.S)
+    return text

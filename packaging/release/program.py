@@ -1,0 +1,77 @@
+"""The program, with its scripts, manual pages and completions."""
+import pathlib
+import subprocess
+import tempfile
+
+import source
+from archives import Entry, Files, of_file
+from source import LICENSES, PROGRAM, TOP, Source
+
+SCRIPTS = {"verify_sign1": "cosecmd-sign1", "cose_key": "cosecmd-key"}
+PROGRAMS = ("cosecmd", *SCRIPTS.values())
+# It finds its prefix itself, and says what it is without a file beside it.
+WRAPPER = """\
+#!/bin/sh
+# Runs the program. With --version it also prints by which kit it was proved, and from which commit.
+set -eu
+prefix=$(dirname -- "$(dirname -- "$(readlink -f -- "$0")")")
+case "$# ${{1-}} " in
+    "1 --version " | "1 -V ")
+        "$prefix/libexec/cose/cosecmd" "$1" || exit
+        cat <<'RECORD'
+{record}RECORD
+        exit 0
+        ;;
+esac
+exec "$prefix/libexec/cose/cosecmd" "$@"
+"""
+
+
+def record(made_from: Source, content: bytes) -> str:
+    """What is known of the proof of a program or an archive."""
+    logic = source.MARK.search(content)[1].decode()
+    return f"proved each function\nkit {made_from.kit}\nlogic {logic}\ncommit {made_from.commit}\n"
+
+
+def script(name: str) -> Entry:
+    """A script of examples/ under the name that it is installed by, which finds the program from where it is."""
+    text = (TOP / "examples" / name).read_text().replace(name, SCRIPTS[name])
+    place = 'PROGRAM = pathlib.Path(__file__).resolve().parent.parent / "libexec" / "cose" / "cosecmd"'
+    lines = [place if line.startswith("PROGRAM = ") else line for line in text.splitlines()]
+    return Entry(("\n".join(lines) + "\n").encode(), 0o755)
+
+
+def pages() -> Files:
+    """The manual pages and the completions."""
+    files: Files = {}
+    with tempfile.TemporaryDirectory() as folder:
+        for kind in ("man", "completions"):
+            subprocess.run([TOP / "packaging" / "pages", kind, pathlib.Path(folder, kind)], check=True, stdout=subprocess.DEVNULL)
+        for page in sorted(pathlib.Path(folder, "man").glob("*.1")):
+            files[f"share/man/man1/{page.name}"] = Entry(page.read_bytes())
+        made = pathlib.Path(folder, "completions")
+        for name in PROGRAMS:
+            files[f"share/bash-completion/completions/{name}"] = Entry((made / f"{name}.bash").read_bytes())
+            files[f"share/zsh/site-functions/_{name}"] = Entry((made / f"_{name}").read_bytes())
+            files[f"share/fish/vendor_completions.d/{name}.fish"] = Entry((made / f"{name}.fish").read_bytes())
+    return files
+
+
+def tree(made_from: Source) -> Files:
+    """The program below a prefix."""
+    content = source.proved(PROGRAM)
+    wrapper = WRAPPER.format(record=record(made_from, content))
+    files: Files = {"libexec/cose/cosecmd": Entry(content, 0o755), "bin/cosecmd": Entry(wrapper.encode(), 0o755)}
+    files.update({f"bin/{SCRIPTS[name]}": script(name) for name in SCRIPTS})
+    return {**files, **pages()}
+
+
+def package(made_from: Source) -> Files:
+    """The program for any Linux: it is unpacked anywhere."""
+    base = f"cosecmd-{made_from.version}/"
+    files = {f"{base}{name}": entry for name, entry in tree(made_from).items()}
+    for name in (*LICENSES, "README.md", "SECURITY.md"):
+        files[f"{base}share/doc/cose/{name}"] = of_file(TOP / name)
+    for name in ("mac0.cbor", "key.cbor"):
+        files[f"{base}share/doc/cose/examples/{name}"] = of_file(TOP / "examples" / name)
+    return files
