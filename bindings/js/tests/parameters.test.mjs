@@ -23,7 +23,7 @@ function structureOf(context, content, aad, payload) {
     return Buffer.from([0x84, ...headOf(3, context.length), ...Buffer.from(context), ...[content, aad, payload].flatMap(byteString)]);
 }
 
-/** A message of either kind, and the keys that it is verified under. */
+/** A message of either kind, the keys that it is verified under, and what is authenticated. */
 function made(kind, { payload = PAYLOAD, aad = [], tagged = true, detached = false, long = false } = {}) {
     const isMac = kind === WANTED.MAC0;
     const content = [long ? 0xa2 : 0xa1, 1, isMac ? 5 : 0x26, ...(long ? [4, ...byteString(new Uint8Array(2_000))] : [])];
@@ -33,14 +33,14 @@ function made(kind, { payload = PAYLOAD, aad = [], tagged = true, detached = fal
         : sign("sha256", structure, { key: privateKey, dsaEncoding: "ieee-p1363" });
     const tag = tagged ? [isMac ? 0xd1 : 0xd2] : [];
     const message = [...tag, 0x84, ...byteString(content), 0xa0, ...(detached ? [0xf6] : byteString(payload)), ...byteString(auth)];
-    return { keys: isMac ? MAC_KEYS : POINT, message: new Uint8Array(message) };
+    return { keys: isMac ? MAC_KEYS : POINT, message: new Uint8Array(message), structure };
 }
 
 const KINDS = [WANTED.MAC0, WANTED.SIGN1];
 const otherThan = (kind) => KINDS.find((it) => it !== kind);
 
-/** The payload of a message that is fed; its signature counts as good. */
-async function fed({ keys, message }, { large, payload, ...options } = {}) {
+/** The verdict on a message that is fed; its signature is good where the digest is that of what was signed. */
+async function fed({ keys, message, structure }, { large, payload, ...options } = {}) {
     const verifier = new Verifier(cose, { large });
     verifier.open(keys, { ...options, payloadLength: payload?.length });
     const { used } = verifier.feed(message);
@@ -51,16 +51,10 @@ async function fed({ keys, message }, { large, payload, ...options } = {}) {
     const end = verifier.end();
     if (end.status !== STATUS.COMPLETE) throw new Refused(end);
     const input = verifier.signInput();
-    const isGood = input !== undefined && isDigest(input.digest, options.aad ?? [], message, payload);
+    const isGood = input !== undefined && createHash("sha256").update(structure).digest().equals(Buffer.from(input.digest));
     const verdict = verifier.verdict(isGood, input);
     verifier.close();
     if (verdict.status !== STATUS.AUTHENTIC) throw new Refused(verdict);
-}
-
-/** Whether a digest is that of one of the structures that are signed here. */
-function isDigest(digest, aad, message, payload) {
-    const structure = signatures.sigStructure(signatures.protectedOf(message), new Uint8Array(aad), payload ?? PAYLOAD);
-    return createHash("sha256").update(structure).digest().equals(Buffer.from(digest));
 }
 
 /** The call is accepted with the good options, and refused with the bad ones. */

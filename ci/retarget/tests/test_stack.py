@@ -72,7 +72,7 @@ class Stack(unittest.TestCase):
 
     def test_promises(self):
         small, large, table = (stack.promised(it, "speed") for it in ("cose_edge_feed", "cose_edge_large_verify", "cose_edge_table_read"))
-        self.assertEqual((small, large, table), (16384, 163840, 16384))
+        self.assertEqual((small, large, table), (16384, 163840, 24576))
         self.assertEqual(stack.promised("cose_edge_large_feed", "speed"), small)
 
 

@@ -1,6 +1,6 @@
 //! A table of keys in a block: it is read once, and many messages are verified under it.
 
-ghost use Rattle.std.specs.Prelude.{◌≡◌, ◌≤◌, true, IfOk, length};
+ghost use Rattle.std.specs.Prelude.{◌≡◌, ◌≤◌, true, IfOk, is_some, length};
 ghost use Rattle.cose_map.specs.KeySet.{keys_of};
 ghost use Rattle.cose_map.specs.KeyTable.{table_of};
 ghost use Rattle.cose_c.specs.Claims.{GivesToken, policy_given};
@@ -45,12 +45,20 @@ fn context<'k>(
     })
 }
 
+/// Gives a block a table without keys. It is never inlined: what it takes of the stack is free again when the keys are read.
+#[inline(never)]
+fn begin(content: &mut Option<KeyTable<'static, TABLE>>)
+    ensures { is_some content.new ≡ true }
+{
+    *content = Some(KeyTable::new());
+}
+
 /// Gives a block the table of a key set, where the block is: no copy of the table is on the stack.
 fn fill(content: &mut Option<KeyTable<'static, TABLE>>, keys: &'static [u8]) -> CoseKeySet
     ensures numbers { result ≡ key_set_numbers (table_of 64 (keys_of keys.now)) }
     ensures keys { keys_in content.new ≡ keys_read (table_of 64 (keys_of keys.now)) }
 {
-    *content = Some(KeyTable::new());
+    begin(content);
     let Some(table) = content else {
         unreachable!();
     };

@@ -189,8 +189,9 @@ impl NewFile for NotedNew<'_> {
 impl NotedFile<'_> {
     /// Says why all the bytes are no key, or no key set.
     fn say_fault(&self) {
-        let option = self.option;
-        if let Some(fault) = fault_of_keys(&self.first, option == "keys-file") {
+        let is_set = self.option == "keys-file";
+        let option = if is_set { "keys-file" } else { "key-file" };
+        if let Some(fault) = fault_of_keys(&self.first, is_set) {
             let _ = eprintln!(self.rt; "cosecmd: the file of --{option} {fault}");
         }
     }

@@ -20,7 +20,7 @@ returns-in-Ok-clause-printed g c = λ bytes e.
       λ said prints.
           let read = input_bytes met.matches bytes in
           let asks = c.in-Ok.ensures.asks read said prints in
-          let known = read_of _ c.input_form_of.result _ _ _ _ bytes c.read_as.ensures.next c.read_as.ensures.reader c.input_form_of.ensures e in
+          let known = read_of g.R.Read.remaining c.input_form_of.result _ _ _ _ bytes c.read_as.ensures.next c.read_as.ensures.reader c.input_form_of.ensures e in
           ends_with _ _ _ asks.2 (c.answer_request.ensures.printed read asks.0 known asks.1),
     )
 
@@ -29,7 +29,7 @@ returns-in-Ok-clause-fails g c = λ bytes e two.
     let met = c.in-Ok-Matches in
     let is : met.field-0 ≡ Matches met.matches = search rules in
     let read = input_bytes met.matches bytes in
-    let known = read_of _ c.input_form_of.result _ _ _ _ bytes c.read_as.ensures.next c.read_as.ensures.reader c.input_form_of.ensures e in
+    let known = read_of g.R.Read.remaining c.input_form_of.result _ _ _ _ bytes c.read_as.ensures.next c.read_as.ensures.reader c.input_form_of.ensures e in
     inr (inr (
       met.matches,
       found_in _ met.field-0 met.matches is met.ensures,
