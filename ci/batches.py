@@ -151,8 +151,8 @@ def users_of(name, text_of, files, types=()):
 class Batch:
     """Edits that are tried in one check: the texts of the files that they change, and each edit's functions."""
 
-    def __init__(self, read, files=()):
-        self.read, self.files, self.types = read, files, types_in(read, files)
+    def __init__(self, read, files=(), types=None):
+        self.read, self.files, self.types = read, files, types_in(read, files) if types is None else types
         self.texts, self.functions, self.constants = {}, {}, set()
 
     def text(self, file):
@@ -199,11 +199,11 @@ class Batch:
 
 def batches(edits, read, files=()):
     """Batches of the edits, a list of each edit and its changes, and those that can be in none. The files are all sources."""
-    made, alone = [], []
+    made, alone, types = [], [], types_in(read, files)
     for edit, changes in edits:
         if any(batch.take(edit, changes) for batch in made):
             continue
-        batch = Batch(read, files)
+        batch = Batch(read, files, types)
         if batch.take(edit, changes):
             made.append(batch)
         else:
