@@ -42,7 +42,7 @@ openssl dgst -sha256 -verify key.pem -signature sums.der sums.tbs
 By the program:
 
 ```sh
-cosecmd-key --alg ES256 key.pem >key.cbor
+cosecmd-key --pem key.pem --alg ES256 >key.cbor
 cosecmd-sign1 verify --keys-file key.cbor --payload-file SHA256SUMS <SHA256SUMS.cose
 ```
 
