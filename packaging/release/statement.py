@@ -22,6 +22,7 @@ From commit {commit}, proved by {kit}. `proof.json` has for each file what was p
 ## Is it this release?
 
 {signed}
+
 By sha256sum:
 
 ```sh
@@ -34,7 +35,7 @@ By OpenSSL, with the releaser's public key in `key.pem` (the Sig_structure of RF
 {{ printf '\\204\\152Signature1\\103\\241\\001\\046\\100{head}'; cat SHA256SUMS; }} >sums.tbs
 r=$(tail -c 64 SHA256SUMS.cose | head -c 32 | xxd -p -c 32)
 s=$(tail -c 32 SHA256SUMS.cose | xxd -p -c 32)
-printf 'asn1=SEQUENCE:s\n[s]\nr=INTEGER:0x%s\ns=INTEGER:0x%s\n' "$r" "$s" >sums.conf
+printf 'asn1=SEQUENCE:s\\n[s]\\nr=INTEGER:0x%s\\ns=INTEGER:0x%s\\n' "$r" "$s" >sums.conf
 openssl asn1parse -genconf sums.conf -noout -out sums.der
 openssl dgst -sha256 -verify key.pem -signature sums.der sums.tbs
 ```
