@@ -11,7 +11,7 @@ from typing import Dict, NamedTuple
 import library
 import source
 from archives import Entry, Files, of_file, write_all
-from program import tree
+from program import SHARED, tree
 from source import TOP, Refusal, Source
 
 CONTROL = """\
@@ -79,7 +79,7 @@ def needed_library(content: bytes) -> str:
 def program(made_from: Source) -> Package:
     """The program."""
     files: Files = {}
-    for name, entry in tree(made_from).items():
+    for name, entry in tree(made_from, SHARED).items():
         place = name.replace("share/zsh/site-functions/", "share/zsh/vendor-completions/")
         if place.startswith("share/man/"):
             place, entry = place + ".gz", Entry(gzip.compress(entry.content, 9, mtime=0))

@@ -9,6 +9,7 @@ from source import LICENSES, PROGRAM, TOP, Source
 
 SCRIPTS = {"verify_sign1": "cosecmd-sign1", "cose_key": "cosecmd-key"}
 PROGRAMS = ("cosecmd", *SCRIPTS.values())
+LIBRARIES = ("libos_c.a", "liblibc_c.a")
 # It finds its prefix itself, and says what it is without a file beside it.
 WRAPPER = """\
 #!/bin/sh
@@ -25,6 +26,27 @@ case "$# ${{1-}} " in
 esac
 exec "$prefix/libexec/cose/cosecmd" "$@"
 """
+
+
+# how the object that the compiler made of the proved crate is linked: for any Linux, and for a system's C library
+STATIC = ("-static-pie",)
+SHARED = ("-pie", "-Wl,-z,relro", "-Wl,-z,now")
+
+
+def linked(way: "tuple[str, ...]") -> bytes:
+    """The program, linked in this way, with the kit's two libraries of calls of the system."""
+    made = PROGRAM.with_suffix(".o")
+    source.proved(PROGRAM)
+    if not made.exists():
+        raise source.Refusal(f"{made.relative_to(TOP)} isn't there: `rt run -- --version` in crates/cosecmd leaves it")
+    kit = pathlib.Path(source.run("rt", "doc")).parent
+    with tempfile.TemporaryDirectory() as folder:
+        program = pathlib.Path(folder, "cosecmd")
+        command = ["cc", *way, "-s", "-Wl,--build-id=none", str(made), *(str(kit / "c" / name) for name in LIBRARIES), "-o", str(program)]
+        ended = subprocess.run(command, capture_output=True, text=True)
+        if ended.returncode:
+            raise source.Refusal(f"cc: {ended.stderr}")
+        return source.proved(program)
 
 
 def record(made_from: Source, content: bytes) -> str:
@@ -57,9 +79,9 @@ def pages() -> Files:
     return files
 
 
-def tree(made_from: Source) -> Files:
-    """The program below a prefix."""
-    content = source.proved(PROGRAM)
+def tree(made_from: Source, way: "tuple[str, ...]") -> Files:
+    """The program below a prefix, linked in this way."""
+    content = linked(way)
     wrapper = WRAPPER.format(record=record(made_from, content))
     files: Files = {"libexec/cose/cosecmd": Entry(content, 0o755), "bin/cosecmd": Entry(wrapper.encode(), 0o755)}
     files.update({f"bin/{SCRIPTS[name]}": script(name) for name in SCRIPTS})
@@ -69,7 +91,7 @@ def tree(made_from: Source) -> Files:
 def package(made_from: Source) -> Files:
     """The program for any Linux: it is unpacked anywhere."""
     base = f"cosecmd-{made_from.version}/"
-    files = {f"{base}{name}": entry for name, entry in tree(made_from).items()}
+    files = {f"{base}{name}": entry for name, entry in tree(made_from, STATIC).items()}
     for name in (*LICENSES, "README.md", "SECURITY.md"):
         files[f"{base}share/doc/cose/{name}"] = of_file(TOP / name)
     for name in ("mac0.cbor", "key.cbor"):

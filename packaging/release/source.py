@@ -57,10 +57,10 @@ def read() -> Source:
 def proved(path: pathlib.Path) -> bytes:
     """A program or an archive, which has to have the mark of a proof."""
     if not path.exists():
-        raise Refusal(f"{path.relative_to(TOP)} isn't built: ./check builds it, and ci/edge_archive the archives")
+        raise Refusal(f"{path} isn't built: ./check builds it, and ci/edge_archive the archives")
     content = path.read_bytes()
     if not MARK.search(content):
-        raise Refusal(f"{path.relative_to(TOP)} isn't what the compiler makes of a proved crate")
+        raise Refusal(f"{path} isn't what the compiler makes of a proved crate")
     return content
 
 

@@ -22,10 +22,30 @@ From commit {commit}, proved by {kit}. `proof.json` has for each file what was p
 ## Is it this release?
 
 {signed}
-- By sha256sum: `sha256sum -c SHA256SUMS`.
-- By OpenSSL alone: `openssl dgst -sha256 -verify key.pem -signature sums.der sums.tbs`, where `sums.tbs` is the Sig_structure with
-  SHA256SUMS as the payload, and `sums.der` the signature: both are made from SHA256SUMS.cose, of which the last 64 bytes are r and s.
-- By the program: `cosecmd-sign1 verify --keys-file KEY --payload-file SHA256SUMS < SHA256SUMS.cose`.
+
+By sha256sum:
+
+```sh
+sha256sum -c SHA256SUMS
+```
+
+By OpenSSL, with the releaser's public key in `key.pem` (the Sig_structure of RFC 9052 section 4.4, and the signature in DER):
+
+```sh
+{{ printf '\\204\\152Signature1\\103\\241\\001\\046\\100{head}'; cat SHA256SUMS; }} >sums.tbs
+r=$(tail -c 64 SHA256SUMS.cose | head -c 32 | xxd -p -c 32)
+s=$(tail -c 32 SHA256SUMS.cose | xxd -p -c 32)
+printf 'asn1=SEQUENCE:s\\n[s]\\nr=INTEGER:0x%s\\ns=INTEGER:0x%s\\n' "$r" "$s" >sums.conf
+openssl asn1parse -genconf sums.conf -noout -out sums.der
+openssl dgst -sha256 -verify key.pem -signature sums.der sums.tbs
+```
+
+By the program:
+
+```sh
+cosecmd-key --pem key.pem --alg ES256 >key.cbor
+cosecmd-sign1 verify --keys-file key.cbor --payload-file SHA256SUMS <SHA256SUMS.cose
+```
 
 ## How is it installed?
 
@@ -138,7 +158,11 @@ def write(files: Dict[str, bytes], made_from: Source, key: "pathlib.Path | None"
     said["proof.json"] = proof(files, made_from)
     said["cose.spdx.json"] = parts(made_from, files)
     signed = "SHA256SUMS.cose is a COSE_Sign1 over SHA256SUMS, by the releaser's key." if key else "It is unsigned."
-    said["RELEASE.md"] = GUIDE.format(version=made_from.version, commit=made_from.commit, kit=made_from.kit, signed=signed).encode()
+    # (so many bytes have the sums of these names, whatever they are)
+    length = len(sums({**said, "RELEASE.md": b""}))
+    octal = "".join(f"\\{byte:03o}" for byte in head(2, length))
+    values = {"version": made_from.version, "commit": made_from.commit, "kit": made_from.kit, "signed": signed, "head": octal}
+    said["RELEASE.md"] = GUIDE.format(**values).encode()
     listed = sums(said)
     made = {name: Entry(said[name]) for name in said if name not in files}
     made["SHA256SUMS"] = Entry(listed)

@@ -7,9 +7,11 @@ import subprocess
 import tempfile
 import unittest
 from pathlib import Path
-from typing import Dict, List, Type
+from typing import Dict, List, Type, cast
 
+import cose
 from cose import _library
+from cose.errors import LibraryNotFound
 from support import REPOSITORY
 
 HEADER = REPOSITORY / "include" / "cose.h"
@@ -73,6 +75,24 @@ class Header(unittest.TestCase):
         assert statuses
         named = re.findall(r"COSE_([A-Z_]+) = (\d+)", statuses[1])
         self.assertEqual(named, [(it.name, str(it.value)) for it in _library.Status])
+
+    def test_version(self) -> None:
+        """The package, the header and the library have one version, and another library is refused."""
+        parts = re.findall(r"#define COSE_VERSION_[A-Z]+ (\d+)", HEADER.read_text())
+        self.assertEqual(".".join(parts), cose.__version__)
+        self.assertEqual(_library.VERSION, tuple(map(int, parts)))
+
+        class Other:
+            """A library of another version."""
+
+            _name = "other"
+
+            @staticmethod
+            def cose_version() -> int:
+                return 1 << 16
+
+        with self.assertRaisesRegex(LibraryNotFound, "version 1.0.0"):
+            _library._check_version(cast(ctypes.CDLL, Other()))
 
     def test_calls(self) -> None:
         """Every exported function of the header is called, with as many arguments."""

@@ -304,6 +304,10 @@ _PROTOTYPES = {
 }
 
 
+# the version of the library that this package is for
+VERSION = (0, 2, 0)
+
+
 def _load() -> ctypes.CDLL:
     named = os.environ.get("COSE_LIBRARY")
     own = pathlib.Path(__file__).with_name("_libcose.so")
@@ -311,10 +315,22 @@ def _load() -> ctypes.CDLL:
         [named] if named else [str(own)] if own.exists() else ["libcose.so.0", "libcose.so"]
     ):
         try:
-            return ctypes.CDLL(name)
+            library = ctypes.CDLL(name)
         except OSError as error:
             problem = error
+            continue
+        _check_version(library)
+        return library
     raise LibraryNotFound(f"the shared library of the package cose isn't there: {problem}")
+
+
+def _check_version(library: ctypes.CDLL) -> None:
+    """Refuses a library of another version."""
+    number = library.cose_version() if hasattr(library, "cose_version") else 0
+    version = (number >> 16, number >> 8 & 255, number & 255)
+    if version != VERSION:
+        wanted, found = (".".join(map(str, it)) for it in (VERSION, version))
+        raise LibraryNotFound(f"{library._name} has version {found}, and this package is for {wanted}")
 
 
 def _large(name: str) -> str:
