@@ -498,6 +498,9 @@ class Round:
         if draft.command in ("verify", "digest") and self.happens(0.2):
             items.append(("payload", self.argument(draft.payload[:ARGUMENT_BYTES])))
             payload = payload if self.slips() else NIL
+        if draft.command == "show" and self.happens(0.2):
+            items.append(("detached", True))
+            payload = payload if self.slips() else NIL
         self.chance.shuffle(items)
         data = draft.front + protected + draft.unprotected + payload + auth
         case = Case(draft.command, dict(items), data)

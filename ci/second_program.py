@@ -123,15 +123,26 @@ def printed(lines):
 def show(options, data):
     limits = limits_of(options)
     context = reading.Context(options.get("kind", "tagged"), header_limit=limits.header, nesting=limits.nesting)
-    message = reading.read_message(data, context)
+    notation = "diagnostic" in options
+    try:
+        message = reading.read_message(data, context)
+    except Refused as refusal:
+        if refusal.reason is not reading.Reason.Detached or "detached" not in options:
+            raise
+        _, protected, unprotected, *_ = reading.read_headers(data, context)
+        return printed([f"detached at {refusal.place}", *lines_of_headers(protected, unprotected, notation)])
     demand_end(data, message)
-    return printed(lines_of_shape(message, "diagnostic" in options))
+    return printed(lines_of_shape(message, notation))
 
 
 def lines_of_shape(message, in_diagnostic_notation=False):
     payload, auth = len(message.payload), len(message.auth)
     yield f"shape {message.kind} payload {payload} auth {auth} taken {message.taken}"
-    for name, bucket in ("protected", message.protected), ("unprotected", message.unprotected):
+    yield from lines_of_headers(message.protected, message.unprotected, in_diagnostic_notation)
+
+
+def lines_of_headers(protected, unprotected, in_diagnostic_notation):
+    for name, bucket in ("protected", protected), ("unprotected", unprotected):
         for label, value in bucket.values():
             notation = f" {diagnostic(label)}: {diagnostic(value)}" if in_diagnostic_notation else ""
             yield f"{name} {label.spelling().hex()} {value.spelling().hex()}{notation}"

@@ -54,7 +54,7 @@ at_the_large_limits : Prints (prints (verifying Large plain)) (
 unfolding prints
 at_the_large_limits = refl
 
-shown_at_the_large_limits : Prints (prints (Show Large wants.Tagged false)) (
+shown_at_the_large_limits : Prints (prints (Show Large wants.Tagged false false)) (
     ("d18459ffff", line "refused Truncated at 5" statuses.Refused) ∷
     ("d1845a00010000", line "refused PastRoom at 2" statuses.Refused) ∷
     ("d18452a10a81818181818181818181818181818100", line "refused Truncated at 21" statuses.Refused) ∷

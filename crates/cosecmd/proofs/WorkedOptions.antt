@@ -112,17 +112,20 @@ stated_none = refl
 
 -- ---- command lines
 
-show_line : (bytes : List ℕ) → line_prints no_file (Some (codes "show", given (codes "kind") (codes "sign1") ∷ [])) bytes ≡ Some (shown Small Sign1 false bytes)
+show_line : (bytes : List ℕ) → line_prints no_file (Some (codes "show", given (codes "kind") (codes "sign1") ∷ [])) bytes ≡ Some (shown Small Sign1 false false bytes)
 show_line bytes = refl
 
-diagnostic_line : (bytes : List ℕ) → line_prints no_file (Some (codes "show", given (codes "kind") (codes "mac0") ∷ given (codes "diagnostic") (codes "true") ∷ [])) bytes ≡ Some (shown Small Mac0 true bytes)
+diagnostic_line : (bytes : List ℕ) → line_prints no_file (Some (codes "show", given (codes "kind") (codes "mac0") ∷ given (codes "diagnostic") (codes "true") ∷ [])) bytes ≡ Some (shown Small Mac0 true false bytes)
 diagnostic_line bytes = refl
 
 -- Where a flag is left out, clap gives it this argument.
-plain_line : (bytes : List ℕ) → line_prints no_file (Some (codes "show", given (codes "diagnostic") (codes "false") ∷ [])) bytes ≡ Some (shown Small Tagged false bytes)
+plain_line : (bytes : List ℕ) → line_prints no_file (Some (codes "show", given (codes "diagnostic") (codes "false") ∷ [])) bytes ≡ Some (shown Small Tagged false false bytes)
 plain_line bytes = refl
 
-large_line : (bytes : List ℕ) → line_prints no_file (Some (codes "show", given (codes "limits") (codes "large") ∷ [])) bytes ≡ Some (shown Large Tagged false bytes)
+detached_line : (bytes : List ℕ) → line_prints no_file (Some (codes "show", given (codes "detached") (codes "true") ∷ [])) bytes ≡ Some (shown Small Tagged false true bytes)
+detached_line bytes = refl
+
+large_line : (bytes : List ℕ) → line_prints no_file (Some (codes "show", given (codes "limits") (codes "large") ∷ [])) bytes ≡ Some (shown Large Tagged false false bytes)
 large_line bytes = refl
 
 -- Under the key set without keys, the array 80, and with this argument of `--vouch`.

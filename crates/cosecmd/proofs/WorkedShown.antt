@@ -39,38 +39,57 @@ lines texts = record { text = all texts; status = statuses.Done }
 abbrev after : String → ℕ → List ℕ
 after front n = hex front ++ replicate n 0
 
-shape_of_mac0 : prints (Show Small wants.Tagged false) (after "d18443a10105a0 426869 5820" 32) ≡ lines ("shape mac0 payload 2 auth 32 taken 44" ∷ "protected 01 05" ∷ [])
+shape_of_mac0 : prints (Show Small wants.Tagged false false) (after "d18443a10105a0 426869 5820" 32) ≡ lines ("shape mac0 payload 2 auth 32 taken 44" ∷ "protected 01 05" ∷ [])
 unfolding prints
 shape_of_mac0 = refl
 
-shape_of_sign1 : prints (Show Small wants.Tagged false) (after "d28443a10126a0 40 5840" 64) ≡ lines ("shape sign1 payload 0 auth 64 taken 74" ∷ "protected 01 26" ∷ [])
+shape_of_sign1 : prints (Show Small wants.Tagged false false) (after "d28443a10126a0 40 5840" 64) ≡ lines ("shape sign1 payload 0 auth 64 taken 74" ∷ "protected 01 26" ∷ [])
 unfolding prints
 shape_of_sign1 = refl
 
-nested_value : prints (Show Small wants.Tagged false) (after "d18443a10105a10a81818100 426869 5820" 32) ≡
+nested_value : prints (Show Small wants.Tagged false false) (after "d18443a10105a10a81818100 426869 5820" 32) ≡
     lines ("shape mac0 payload 2 auth 32 taken 49" ∷ "protected 01 05" ∷ "unprotected 0a 81818100" ∷ [])
 unfolding prints
 nested_value = refl
 
 -- In the order of the message, the bytes as they were received; no key is required, and no length of the tag.
-order_of_message : prints (Show Small wants.Mac0 false) (hex "8447a2180a61780105a0 40 40") ≡ lines ("shape mac0 payload 0 auth 0 taken 12" ∷ "protected 180a 6178" ∷ "protected 01 05" ∷ [])
+order_of_message : prints (Show Small wants.Mac0 false false) (hex "8447a2180a61780105a0 40 40") ≡ lines ("shape mac0 payload 0 auth 0 taken 12" ∷ "protected 180a 6178" ∷ "protected 01 05" ∷ [])
 unfolding prints
 order_of_message = refl
 
 -- In diagnostic notation too: a text ends no line, and no quotes.
-in_notation : prints (Show Small wants.Mac0 true) (hex "844ba2180a6522203a0a0a0105a1186482f943c1a16101f6 40 40") ≡ lines (
+in_notation : prints (Show Small wants.Mac0 true false) (hex "844ba2180a6522203a0a0a0105a1186482f943c1a16101f6 40 40") ≡ lines (
     "shape mac0 payload 0 auth 0 taken 26" ∷ "protected 180a 6522203a0a0a 10: \"\\\" :\\u000a\\u000a\"" ∷ "protected 01 05 1: 5" ∷
     "unprotected 1864 82f943c1a16101f6 100: [float'43c1', {\"\\u0001\": null}]" ∷ [])
 unfolding prints
 in_notation = refl
 
 -- The tag of a CWT may come first.
-in_cwt : prints (Show Small wants.Tagged false) (hex "d83dd18443a10105a0 40 40") ≡ lines ("shape mac0 payload 0 auth 0 taken 11" ∷ "protected 01 05" ∷ [])
+in_cwt : prints (Show Small wants.Tagged false false) (hex "d83dd18443a10105a0 40 40") ≡ lines ("shape mac0 payload 0 auth 0 taken 11" ∷ "protected 01 05" ∷ [])
 unfolding prints
 in_cwt = refl
 
+-- Of a message whose payload is elsewhere the place of the nil and the headers, where they are asked for. What follows isn't read.
+without_payload : prints (Show Small wants.Tagged false true) (hex "d18443a10105a0 f6") ≡ lines ("detached at 7" ∷ "protected 01 05" ∷ [])
+unfolding prints
+without_payload = refl
+
+without_payload_in_notation : prints (Show Small wants.Tagged true true) (hex "d28443a10126a104423131 f6 40 00") ≡
+    lines ("detached at 11" ∷ "protected 01 26 1: -7" ∷ "unprotected 04 423131 4: h'3131'" ∷ [])
+unfolding prints
+without_payload_in_notation = refl
+
+-- Any other input gives what it gives without the option.
+with_payload : Prints (prints (Show Small wants.Tagged false true)) (
+    ("d18443a10105a0 40 40", lines ("shape mac0 payload 0 auth 0 taken 9" ∷ "protected 01 05" ∷ [])) ∷
+    ("d18443a10105a0 40 40 f6", line "refused Trailing at 9" statuses.Refused) ∷
+    ("d18443a10105a0", line "refused Truncated at 7" statuses.Refused) ∷
+    ("d18443a10105f6 f6", line "refused NotMap at 6" statuses.Refused) ∷ [])
+unfolding prints
+with_payload = refl
+
 -- The limits are those of `verify`, and no label is understood in addition to the standard's.
-at_the_limits : Prints (prints (Show Small wants.Tagged false)) (
+at_the_limits : Prints (prints (Show Small wants.Tagged false false)) (
     ("d184590400", line "refused Truncated at 5" statuses.Refused) ∷
     ("d184590401", line "refused PastRoom at 2" statuses.Refused) ∷
     ("d1844aa10a8181818181818100", line "refused Truncated at 13" statuses.Refused) ∷
@@ -85,7 +104,7 @@ at_the_limits : Prints (prints (Show Small wants.Tagged false)) (
 unfolding prints
 at_the_limits = refl
 
-not_shown : Prints (prints (Show Small wants.Tagged false)) (
+not_shown : Prints (prints (Show Small wants.Tagged false false)) (
     ("", line "refused Truncated at 0" statuses.Refused) ∷
     ("d18443a10105a0 40 40 ff", line "refused Trailing at 9" statuses.Refused) ∷
     ("8443a10105a0 40 40", line "refused WrongTag at 0" statuses.Refused) ∷

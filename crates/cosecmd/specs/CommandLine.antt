@@ -76,7 +76,7 @@ make_prints content options bytes = do
 -- By the name of the command and its options.
 abbrev pub command_prints : (List ℕ → Option (List ℕ)) → Text → Options → List ℕ → Option Output
 command_prints content name options bytes =
-    if bytes_eq name (codes "show") then Some (shown (limits_in options) (kind_in options) (flag_in (codes "diagnostic") options) bytes)
+    if bytes_eq name (codes "show") then Some (shown (limits_in options) (kind_in options) (flag_in (codes "diagnostic") options) (flag_in (codes "detached") options) bytes)
     else if bytes_eq name (codes "verify") then verify_prints content options bytes
     else if bytes_eq name (codes "cwt") then cwt_prints content options bytes
     else if bytes_eq name (codes "digest") then digest_prints content options bytes
@@ -114,7 +114,7 @@ begins_with word text = bytes_eq word (take (length word) text)
 -- An answer begins with one of these words. No text of clap's does.
 abbrev pub begins_as_answer : Text → Bool
 begins_as_answer text =
-    begins_with (codes "authentic ") text || begins_with (codes "refused ") text || begins_with (codes "admitted") text || begins_with (codes "shape ") text || begins_with (codes "vouch ") text || begins_with (codes "key at ") text
+    begins_with (codes "authentic ") text || begins_with (codes "refused ") text || begins_with (codes "admitted") text || begins_with (codes "shape ") text || begins_with (codes "detached at ") text || begins_with (codes "vouch ") text || begins_with (codes "key at ") text
 
 -- A text of clap's is help or the version, or says what is wrong with the arguments.
 abbrev pub IsReadFrom : List Text → Parsed → Type 0

@@ -1,12 +1,13 @@
 -- What the program prints for a job and an input, and how it ends.
-use Rattle.std.specs.Prelude.{◌≡◌, ◌≢◌, ◌⊎◌, ℕ, ◌<◌, ◌-◌, ◌^◌, Bool, true, List, [], ◌∷◌, ◌++◌, length, map, take, Option, Some, None, Result, Ok, Err, option_map, codes, string_bytes, nat_lt, if◌then◌else◌}
+use Rattle.std.specs.Prelude.{◌≡◌, ◌≢◌, ◌⊎◌, ℕ, ◌<◌, ◌-◌, ◌^◌, Bool, true, false, ◌&&◌, List, [], ◌∷◌, ◌++◌, length, map, take, Option, Some, None, Result, Ok, Err, option_map, codes, string_bytes, nat_lt, if◌then◌else◌}
 use Rattle.std.specs.Borrow.{Bor}
 use Rattle.std.specs.List.{concat}
 use Rattle.std.specs.Fmt.{decimal, signed_decimal}
 use Rattle.std.specs.Io.KnownBytes.{Appends}
 use Rattle.cose_head.specs.declared.kind.Kind.{Kind}
 use Rattle.cose_head.specs.declared.kind.Kind.TheVariants.{Mac0, Sign1}
-use Rattle.cose_head.specs.declared.reason.Reason.TheVariants.{Trailing}
+use Rattle.cose_head.specs.declared.reason.Reason.{Reason}
+use Rattle.cose_head.specs.declared.reason.Reason.TheVariants.{Detached, Trailing}
 use Rattle.cose_head.specs.declared.refusal.Refusal.{Refusal}
 use Rattle.cose_head.specs.Placed.{Placed}
 use Rattle.cose_head.specs.Refusal.{refusal_text}
@@ -212,20 +213,44 @@ shape_said diagnostic kind payload auth taken protected unprotected = record {
   status = statuses.Done;
 }
 
-abbrev pub shown_as : Bool → Findings → Answer → Output
-shown_as diagnostic told (shaped kind payload auth taken) = shape_said diagnostic kind payload auth taken told.protected told.unprotected
-shown_as diagnostic told (decided verdict) = said_of verdict
-shown_as diagnostic told (complete whole) = none_said
+-- The place of the nil that a message has instead of its payload, which is elsewhere (RFC 9052 section 2).
+abbrev pub detached_line : ℕ → List ℕ
+detached_line place = codes "detached at " ++ decimal place ++ codes "\n"
 
-abbrev pub shown_of : Bool → ℕ → Reading → Output
-shown_of diagnostic n reading = shown_as diagnostic reading.so_far (trailed n reading.answer)
+-- This line, then the pairs as those of a shape.
+abbrev pub detached_said : Bool → ℕ → Option (List Pair) → Option (List Pair) → Output
+detached_said diagnostic place protected unprotected = record {
+  text = detached_line place ++ bucket_lines diagnostic (codes "protected") protected ++ bucket_lines diagnostic (codes "unprotected") unprotected;
+  status = statuses.Done;
+}
+
+abbrev pub is_for_nil : Reason → Bool
+is_for_nil Detached = true
+is_for_nil _ = false
+
+-- Where a message without its payload is to be shown, its refusal for that says where the nil is.
+abbrev pub refusal_shown : Bool → Bool → Option (List Pair) → Option (List Pair) → Refusal → Output
+refusal_shown diagnostic elsewhere protected unprotected refusal =
+    if is_for_nil refusal.reason && elsewhere then detached_said diagnostic refusal.place protected unprotected else said_of (Refused refusal)
+
+abbrev pub verdict_shown : Bool → Bool → Findings → Verdict → Output
+verdict_shown diagnostic elsewhere told (Refused refusal) = refusal_shown diagnostic elsewhere told.protected told.unprotected refusal
+verdict_shown diagnostic elsewhere told (Authentic kind alg payload taken) = said_of (Authentic kind alg payload taken)
+
+abbrev pub shown_as : Bool → Bool → Findings → Answer → Output
+shown_as diagnostic elsewhere told (shaped kind payload auth taken) = shape_said diagnostic kind payload auth taken told.protected told.unprotected
+shown_as diagnostic elsewhere told (decided verdict) = verdict_shown diagnostic elsewhere told verdict
+shown_as diagnostic elsewhere told (complete whole) = none_said
+
+abbrev pub shown_of : Bool → Bool → ℕ → Reading → Output
+shown_of diagnostic elsewhere n reading = shown_as diagnostic elsewhere reading.so_far (trailed n reading.answer)
 
 -- A message is shown as it is when it is only inspected: under no key.
-abbrev pub shown_in : ℕ → ℕ → Wanted → Bool → List ℕ → Output
-shown_in header nesting wanted diagnostic bytes = shown_of diagnostic (length bytes) (message (inspecting header nesting (program_setting [] [] wanted)) bytes)
+abbrev pub shown_in : ℕ → ℕ → Wanted → Bool → Bool → List ℕ → Output
+shown_in header nesting wanted diagnostic elsewhere bytes = shown_of diagnostic elsewhere (length bytes) (message (inspecting header nesting (program_setting [] [] wanted)) bytes)
 
-abbrev pub shown : Limits → Wanted → Bool → List ℕ → Output
-shown limits wanted diagnostic bytes = shown_in (room_of limits).header (room_of limits).nesting wanted diagnostic bytes
+abbrev pub shown : Limits → Wanted → Bool → Bool → List ℕ → Output
+shown limits wanted diagnostic elsewhere bytes = shown_in (room_of limits).header (room_of limits).nesting wanted diagnostic elsewhere bytes
 
 -- The line that prints the argument of `--vouch`, with which a signature passes `verify`.
 abbrev pub vouched : List ℕ → Output
@@ -343,7 +368,7 @@ keys_said (Some wanted) keys bytes = keys_listed_for wanted keys bytes
 -- What is printed for a job, where the input is these bytes. A text of status Fault is what the program's documents
 -- say; no clause requires a run that ends so to print all of it.
 unfoldable pub printed : Job → List ℕ → Output
-printed (Show limits wanted diagnostic) bytes = shown limits wanted diagnostic bytes
+printed (Show limits wanted diagnostic elsewhere) bytes = shown limits wanted diagnostic elsewhere bytes
 printed (Verify checks payload) bytes = verified_for checks payload bytes
 printed (Cwt job) bytes = admits_for_job admitted_under job bytes
 printed (Digest checks payload) bytes = digested_for checks payload bytes

@@ -27,6 +27,10 @@ const NO_VERDICT: &str =
 /// What is said of a refusal for want of room.
 const LARGE: &str = "`--limits large` has more room";
 
+/// What is said of a message that isn't shown, since its payload is elsewhere.
+const WITHOUT_PAYLOAD: &str =
+    "the payload of this message is elsewhere; `--detached` shows its headers";
+
 /// What is said of a path that is a dash.
 const DASH: &str = "a path of `-` names no stream here; /dev/stdin names standard input";
 
@@ -134,6 +138,10 @@ impl<'a> Ended<'a> {
         let is_bad = contains(self.printed, "BadAuth at ".as_bytes());
         if is_bad && self.is_signed() && !self.has("--vouch") {
             return Some(UNVOUCHED);
+        }
+        let is_detached = self.printed.starts_with("refused Detached at ".as_bytes());
+        if is_detached && self.is_of("show") {
+            return Some(WITHOUT_PAYLOAD);
         }
         let is_past_room = contains(self.printed, "PastRoom at ".as_bytes())
             && !contains(self.printed, "PastRoom at 0\n".as_bytes());

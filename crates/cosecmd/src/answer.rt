@@ -80,8 +80,9 @@ pub fn answer<R: Read, W: Write>(alloc: Global, job: &Job, input: &mut R, output
             limits,
             wanted,
             diagnostic,
+            detached,
         } => {
-            let reply = show_reply(alloc, *limits, *wanted, *diagnostic, input);
+            let reply = show_reply(alloc, *limits, *wanted, *diagnostic, *detached, input);
             end_with(alloc, reply, output)
         }
         Job::Verify { checks, payload } => {

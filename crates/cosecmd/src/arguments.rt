@@ -48,6 +48,7 @@ fn is_like_answer(text: &str) -> bool
         || bytes.starts_with(b"refused ")
         || bytes.starts_with(b"admitted")
         || bytes.starts_with(b"shape ")
+        || bytes.starts_with(b"detached at ")
         || bytes.starts_with(b"vouch ")
         || bytes.starts_with(b"key at ")
 }
@@ -586,6 +587,7 @@ pub fn request_of<'a, F: NamedFiles>(
             limits: limits_of(show),
             wanted: kind_of(show),
             diagnostic: flag_of(show, "diagnostic"),
+            detached: flag_of(show, "detached"),
         });
     }
     if let Some(verify) = matches.subcommand_matches("verify") {

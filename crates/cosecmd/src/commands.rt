@@ -237,6 +237,15 @@ const DIAGNOSTIC: CommandOption = CommandOption {
     help: "Print each pair in diagnostic notation too (RFC 8949 section 8), after its bytes",
 };
 
+/// Messages whose payload is elsewhere.
+const WITHOUT_PAYLOAD: CommandOption = CommandOption {
+    name: "detached",
+    argument: "",
+    value: Value::Flag,
+    presence: Presence::Optional,
+    help: "Show the headers also of a message whose payload is elsewhere (detached)",
+};
+
 /// How standard input is written.
 const INPUT: CommandOption = CommandOption {
     name: "input",
@@ -475,7 +484,7 @@ const MESSAGE_COMMANDS: &[Subcommand] = &[
         name: "show",
         about: "Shows the shape and the headers of the COSE message on standard input, under no key",
         notes: SHOW_NOTES,
-        options: &[KIND, DIAGNOSTIC, INPUT, LIMITS],
+        options: &[KIND, DIAGNOSTIC, WITHOUT_PAYLOAD, INPUT, LIMITS],
         one_of: None,
     },
     Subcommand {

@@ -57,6 +57,8 @@ pub enum Job<'j> {
         wanted: Wanted,
         /// Whether each pair is printed in diagnostic notation too (RFC 8949 section 8).
         diagnostic: bool,
+        /// Whether the headers are shown of a message too whose payload is detached (RFC 9052 section 2).
+        detached: bool,
     },
     /// To verify the message on the input.
     Verify {

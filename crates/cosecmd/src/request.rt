@@ -95,6 +95,8 @@ pub enum Request<'w> {
         wanted: Wanted,
         /// Whether each pair is printed in diagnostic notation too.
         diagnostic: bool,
+        /// Whether the headers are shown of a message too whose payload is detached.
+        detached: bool,
     },
     /// To verify a message, or to print what its signature is verified with.
     Message {

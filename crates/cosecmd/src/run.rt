@@ -40,19 +40,21 @@ fn answer_show<R: Read, W: Write>(
     limits: Limits,
     wanted: Wanted,
     diagnostic: bool,
+    detached: bool,
     input: &mut R,
     output: &mut W,
 ) -> u8
     ensures status { result ≤ 2 }
-    ensures printed { PrintsFor (R.remaining input.old) (shown limits wanted diagnostic)
+    ensures printed { PrintsFor (R.remaining input.old) (shown limits wanted diagnostic detached)
         (W.contents output.old) (W.contents output.new) result }
-    ensures fails { FailsFor (R.remaining input.old) (shown limits wanted diagnostic)
+    ensures fails { FailsFor (R.remaining input.old) (shown limits wanted diagnostic detached)
         (W.contents output.old) (W.contents output.new) result }
 {
     let job = Job::Show {
         limits,
         wanted,
         diagnostic,
+        detached,
     };
     answer(alloc, &job, input, output)
 }
@@ -235,7 +237,16 @@ fn answer_request<F: NamedFiles + NewFiles, R: Read, W: Write>(
             limits,
             wanted,
             diagnostic,
-        } => answer_show(alloc, *limits, *wanted, *diagnostic, input, output),
+            detached,
+        } => answer_show(
+            alloc,
+            *limits,
+            *wanted,
+            *diagnostic,
+            *detached,
+            input,
+            output,
+        ),
         Request::Message {
             question,
             checks,

@@ -8,17 +8,11 @@ returns-in_err-text-clause-says c = grind (arith, common_steps)
 pub returns-in_err-text-clause-fault : goal.returns-in_err-text-clause-fault
 returns-in_err-text-clause-fault c = grind (arith, common_steps)
 
-pub returns-in_err-push_pairs-clause-says : goal.returns-in_err-push_pairs-clause-says
-returns-in_err-push_pairs-clause-says c = grind (arith, common_steps)
+pub returns-in_err-push_headers-clause-says : goal.returns-in_err-push_headers-clause-says
+returns-in_err-push_headers-clause-says c = grind (arith, common_steps)
 
-pub returns-in_err-push_pairs-clause-fault : goal.returns-in_err-push_pairs-clause-fault
-returns-in_err-push_pairs-clause-fault c = grind (arith, common_steps)
-
-pub returns-in_err-push_pairs-2-clause-says : goal.returns-in_err-push_pairs-2-clause-says
-returns-in_err-push_pairs-2-clause-says c = grind (arith, common_steps)
-
-pub returns-in_err-push_pairs-2-clause-fault : goal.returns-in_err-push_pairs-2-clause-fault
-returns-in_err-push_pairs-2-clause-fault c = grind (arith, common_steps)
+pub returns-in_err-push_headers-clause-fault : goal.returns-in_err-push_headers-clause-fault
+returns-in_err-push_headers-clause-fault c = grind (arith, common_steps)
 
 pub returns-clause-says : goal.returns-clause-says
 returns-clause-says c = grind (arith, common_steps)
