@@ -36,7 +36,7 @@ def packed(made_from: Source) -> Dict[str, bytes]:
     rows = archives.of_folder(TOP / "rows", f"cose-rows-{version}/", ("*.json", "README.md"))
     made[f"cose-rows-{version}.tar.gz"] = archives.tar_gz(rows, made_from.time)
     plain = subprocess.run(["git", "archive", "--format=tar", f"--prefix=cose-sources-{version}/", "HEAD"], cwd=TOP, check=True, capture_output=True).stdout
-    made[f"cose-sources-{version}.tar.xz"] = subprocess.run(["xz", "-T1", "-6", "-c"], input=plain, check=True, capture_output=True).stdout
+    made[f"cose-sources-{version}.tar.xz"] = subprocess.run(["xz", "--threads=1", "-6", "--stdout"], input=plain, check=True, capture_output=True).stdout
     made[f"cose-{version}.html"] = page.single().content
     return made
 

@@ -31,9 +31,9 @@ abbrev pub after_value : (ℕ → Next) → Option ℕ → Next
 after_value next (Some value) = next value
 after_value next None = Wrong
 
--- A text whose first digit is 8 or greater is in hexadecimal, and any other in base64url. So each message is told by one
--- character: it begins with an array or a tag, a byte from 128 to 223, which hexadecimal begins with 8, 9, a, b, c or d, and
--- base64url with a character of a value from 32 to 55: g to z, 0, 1, 2 or 3.
+-- A text whose first digit is 8 or greater is in hexadecimal, and any other in base64url. So for each message one
+-- character decides: it begins with an array or a tag, a byte from 128 to 223, which hexadecimal begins with 8, 9, a, b,
+-- c or d, and base64url with a character of a value from 32 to 55: g to z, 0, 1, 2 or 3.
 abbrev pub leads_hexadecimal : ℕ → Bool
 leads_hexadecimal c = is_between 56 57 c || is_between 65 70 c || is_between 97 102 c
 

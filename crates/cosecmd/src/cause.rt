@@ -2,7 +2,7 @@
 
 use std::io::ErrorKind;
 
-/// What an error of the system is, in words, where it has a sense for whoever runs the program.
+/// What an error of the system is, in words, where it has a sense for the operator.
 pub fn cause(kind: ErrorKind) -> &'static str {
     match kind {
         ErrorKind::NotFound => "there is no such file or folder",
