@@ -383,9 +383,7 @@ fn point_confirmed(claims: &Claims<'_>) -> Point
 
 /// The claims that are admitted.
 fn claims_for_c(claims: &Claims<'_>, payload: &[u8]) -> CoseClaims
-    ensures at { result.payload_at ≡ 0 }
-    ensures count { result.payload_length ≡ length payload.now }
-    ensures gives { (depth : ℕ) → depth ≤ 32
+    ensures { (depth : ℕ) → depth ≤ 32
         → claims_of depth (record { bytes = payload.now; place = 0 }) ≡ Ok (claims_value claims.now)
         → GivesClaims payload.now (claims_value claims.now) result }
 {
@@ -435,7 +433,7 @@ fn claims_named(payload: &[u8], depth: usize, policy: &Policy<'_>) -> CoseClaims
         result }
 {
     match admitted(payload, depth, policy) {
-        Ok(claims) => claims_for_c(&claims, payload),
+        Ok(claims) => placed_claims(claims_for_c(&claims, payload), 0, payload.len() as u64),
         Err(refusal) => no_claims(refused_status(CLAIMS_REFUSED, refusal)),
     }
 }

@@ -9,8 +9,8 @@ use Rattle.cose_c.specs.CoseClaims.{LiesIn, StartsInside, audience_item, bytes_r
 use Rattle.cose_c.proofs.Strings.{audience_range, bytes_claim_range, cnf_range, text_claim_range}
 use Rattle.cose_c.proofs.claims.claims_for_c.Goals as goal
 
-pub returns-clause-gives : goal.returns-clause-gives
-returns-clause-gives c = λ depth shallow read.
+pub returns : goal.returns
+returns c = λ depth shallow read.
     let value = claims_value c.args.claims.now in
     let tree = c.claims_are_of_a_tree.ensures in
     let ends = c.children_are_of_tree.ensures.inside in
