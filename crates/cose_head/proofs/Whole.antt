@@ -140,15 +140,6 @@ one_item_is_no_half bytes wanted e half = let s = one_item_has_head bytes e in l
 pub one_item_is_no_fault : (bytes : List ℕ) (reason : Reason) → is_one_item bytes ≡ true → bare_head bytes ≡ Fault reason → ⊥
 one_item_is_no_fault bytes reason e fault = let s = one_item_has_head bytes e in let f = s.1 in cc
 
-pub head_is_there : (p : Placed) (h : Head) → is_one_item p.bytes ≡ true → h ≡ head_of_item p → h.width ≤ length p.bytes
-unfolding head_of_item
-head_is_there p h e found =
-    let s = one_item_has_head p.bytes e in
-    let same : h ≡ s.0 = found ∙ ap head_or_undefined s.1 in
-    let there = s.2 in
-    let width = ap (λ g. g.width) same in
-    omega arith
-
 -- what a tag encloses is one item
 enclosed_found : (tree : Item) (p : Placed) → IsItem 32 p tree → is_tag tree ≡ true → is_one_item (past_head (head_of_item p) p).bytes ≡ true
 enclosed_found (tag number content) p s e =
