@@ -15,7 +15,7 @@ use Rattle.cose_head.specs.Reading.{Left, Outcome, after, read}
 use Rattle.cose_head.specs.Measured.{left_of, span_found, nesting, SpansItem}
 use Rattle.cose_head.specs.Laws.{Steps}
 use Rattle.cose_head.specs.Head.{bare_head}
-use Rattle.cose_head.specs.Placed.{Placed, head_or_undefined, head_of_item, past_head}
+use Rattle.cose_head.specs.Placed.{Placed, head_of_item, past_head}
 use Rattle.cose_head.specs.PlacedLaws.{IsItem, StandsIn, is_tag}
 use Rattle.cose_head.specs.Whole.{nothing_after, whole, is_one_item}
 use Rattle.cose_head.proofs.Measured.{same_ok}
