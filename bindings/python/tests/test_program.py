@@ -95,6 +95,13 @@ class Program(unittest.TestCase):
         status, printed, _ = self.run_program(*words, given=message.hex().encode())
         self.assertEqual((status, printed["payload"]), (0, "6869"))
 
+    def test_large(self) -> None:
+        words = ["verify", "--keys", self.file("keys", KEYS)]
+        message = mac0(b"hi", kid=bytes(2_000))
+        self.assertEqual(self.run_program(*words, "--large", given=message)[0], 0)
+        status, printed, _ = self.run_program(*words, given=message)
+        self.assertEqual((status, printed["reason"]), (1, "PastRoom"))
+
     def test_token(self) -> None:
         words = ["cwt", "--keys", self.file("keys", KEYS), self.file("token", TOKEN)]
         claims = {
