@@ -228,6 +228,10 @@ class KeyFiles(unittest.TestCase):
         ]
         both = json.dumps({"keys": [*others, key]}).encode()
         self.assertEqual(key_files.read(both), wanted)
+        made = [{1: 4, -1: bytes([it + 1])} for it in range(16)]
+        many = [{"kty": "oct", "k": base64url(bytes([it + 1]))} for it in range(16)]
+        many_keys = json.dumps({"keys": many}).encode()
+        self.assertEqual(key_files.read(many_keys), cbor.encode(made))
         for other in others:
             with self.assertRaises(ValueError):
                 key_files.read(json.dumps(other).encode())
@@ -240,6 +244,8 @@ class KeyFiles(unittest.TestCase):
         )
         for change in (
             {"x": base64url(x[1:])},
+            {"y": base64url(y[1:])},
+            {"y": base64url(y + b"0")},
             {"x": base64url(x[1:]), "y": base64url(y + b"0")},
             {"x": 1},
         ):
