@@ -194,7 +194,7 @@ PLACES = {
             "option",
             of_option,
             "ci/second_program.py",
-            "input key-file keys-file payload-file payload-length payload-to",
+            "key-file keys-file payload-file payload-length payload-to",
         ),
         Places("option", of_option, "ci/sign1", "alg key-file kid length detached diagnostic for-message"),
     ],
