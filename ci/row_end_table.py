@@ -316,6 +316,10 @@ def limit_ends():
                 yield from next_to(f"--limits large: {name}", "Limits(65_535, 16, 256, 65_535)", new, ("commands",), PROGRAM)
     yield from next_to("--kid", "len(kid) > KID_LIMIT", "len(kid) > KID_LIMIT + {}", ("made", "commands"), PROGRAM)
     yield from next_to("--aad", "len(aad) > AAD_LIMIT", "len(aad) > AAD_LIMIT + {}", ("made", "commands"), PROGRAM)
+    old = "payload_limit = limits.claims if"
+    yield from next_to("show --with-payload: the most bytes", old, old.replace("claims", "claims + {}"), ("commands",), PROGRAM)
+    old = "len(payload), nesting)"
+    yield from next_to("show --with-payload: D", old, old.replace("nesting", "nesting + {}"), ("commands",), PROGRAM)
     yield from next_to("keys: the most usable keys", "usable > reading.USABLE_KEYS", "usable > reading.USABLE_KEYS + {}", ("commands",), PROGRAM)
     old = "header_limit=65_535, nesting=16)\n        asked"
     yield from next_to("keys --for-message: H", old, old.replace("65_535", "65_535 + {}"), ("commands",), PROGRAM)

@@ -12,7 +12,7 @@ use Rattle.cose_map.specs.Key.{key_of}
 use Rattle.cose_msg.specs.Sink.{AppendsFront}
 use Rattle.cosecmd.specs.Admitted.{program_policy}
 use Rattle.cosecmd.specs.Faults.{WritesLine}
-use Rattle.cosecmd.specs.Options.{Options, ◌>>=◌, algorithm_in, bytes_in, flag_in, integer_in, key_in, key_set_in, kind_in, limits_in, message_in, number_in, optional_bytes_in, payload_in, text_in}
+use Rattle.cosecmd.specs.Options.{Options, ◌>>=◌, algorithm_in, bytes_in, details_in, flag_in, integer_in, key_in, key_set_in, kind_in, limits_in, message_in, number_in, optional_bytes_in, payload_in, text_in}
 use Rattle.cosecmd.specs.Fields.{checks_in, digest_checks_in}
 use Rattle.cosecmd.specs.InputForm.{input_bytes}
 use Rattle.cosecmd.specs.Printed.{Admits, EndsWith, Fails, Output, admitted_under, digested_under, keys_said, made_under, shown, verified_under}
@@ -76,7 +76,7 @@ make_prints content options bytes = do
 -- By the name of the command and its options.
 abbrev pub command_prints : (List ℕ → Option (List ℕ)) → Text → Options → List ℕ → Option Output
 command_prints content name options bytes =
-    if bytes_eq name (codes "show") then Some (shown (limits_in options) (kind_in options) (flag_in (codes "diagnostic") options) (flag_in (codes "detached") options) bytes)
+    if bytes_eq name (codes "show") then Some (shown (limits_in options) (kind_in options) (details_in options) bytes)
     else if bytes_eq name (codes "verify") then verify_prints content options bytes
     else if bytes_eq name (codes "cwt") then cwt_prints content options bytes
     else if bytes_eq name (codes "digest") then digest_prints content options bytes

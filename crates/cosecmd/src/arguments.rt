@@ -6,7 +6,7 @@ ghost use Rattle.clap.specs.Simple.{subcommand_rows_of};
 ghost use Rattle.cose_cwt.specs.Claims.Audience.{text_value};
 ghost use Rattle.cosecmd.specs.CommandLine.{AsksFor, IsReadFrom, begins_as_answer, cwt_prints, digest_prints, is_of_sequence, matches_print, message_prints, sequence_prints, verify_prints};
 ghost use Rattle.cosecmd.specs.Fields.{AreChecks, CwtFields, HasKeysOf, IsKeyOf, IsListedAs, KeysFields, MakeFields, checks_in, digest_checks_in};
-ghost use Rattle.cosecmd.specs.Options.{algorithm_in, bytes_in, flag_in, hex_bytes, integer_in, kind_in, kind_named, limits_in, limits_named, message_in, number_in, optional_bytes_in, options_of, payload_in, text_in};
+ghost use Rattle.cosecmd.specs.Options.{algorithm_in, bytes_in, details_in, flag_in, hex_bytes, integer_in, kind_in, kind_named, limits_in, limits_named, message_in, number_in, optional_bytes_in, options_of, payload_in, text_in};
 ghost use Rattle.cosecmd.specs.Payload.{IsFile, detached_in};
 ghost use Rattle.cosecmd.specs.PayloadTo.{AsksToVerify, new_file_for, new_file_of};
 ghost use Rattle.cosecmd.specs.Printed.{Output};
@@ -16,7 +16,7 @@ use crate::allowed::allowed_of;
 use crate::commands::line;
 use crate::fault::Fault;
 use crate::files::{NamedFiles, key_bytes, key_set_bytes};
-use crate::job::Question;
+use crate::job::{Details, Question};
 use crate::limits::Limits;
 use crate::mistake::mistake;
 use crate::reply::{Reply, Status};
@@ -562,6 +562,17 @@ pub fn parse<'a>(alloc: Global, words: &'a [&'a str]) -> Result<Parsed<'a>, Faul
     }
 }
 
+/// What the command `show` prints in addition.
+fn details_of(show: &ArgMatches) -> Details
+    ensures { result ≡ details_in (options_of show.now) }
+{
+    Details {
+        diagnostic: flag_of(show, "diagnostic"),
+        detached: flag_of(show, "detached"),
+        payload: flag_of(show, "with-payload"),
+    }
+}
+
 /// What the arguments ask for. It reads the file of keys that they name. Not inlined, as `parse`.
 #[inline(never)]
 pub fn request_of<'a, F: NamedFiles>(
@@ -586,8 +597,7 @@ pub fn request_of<'a, F: NamedFiles>(
         return Ok(Request::Show {
             limits: limits_of(show),
             wanted: kind_of(show),
-            diagnostic: flag_of(show, "diagnostic"),
-            detached: flag_of(show, "detached"),
+            details: details_of(show),
         });
     }
     if let Some(verify) = matches.subcommand_matches("verify") {
