@@ -316,7 +316,7 @@ def limit_ends():
                 yield from next_to(f"--limits large: {name}", "Limits(65_535, 16, 256, 65_535)", new, ("commands",), PROGRAM)
     yield from next_to("--kid", "len(kid) > KID_LIMIT", "len(kid) > KID_LIMIT + {}", ("made", "commands"), PROGRAM)
     yield from next_to("--aad", "len(aad) > AAD_LIMIT", "len(aad) > AAD_LIMIT + {}", ("made", "commands"), PROGRAM)
-    old = "payload_limit = limits.claims if"
+    old = "payload_limit = limits.claims if has_payload"
     yield from next_to("show --with-payload: the most bytes", old, old.replace("claims", "claims + {}"), ("commands",), PROGRAM)
     old = "len(payload), nesting)"
     yield from next_to("show --with-payload: D", old, old.replace("nesting", "nesting + {}"), ("commands",), PROGRAM)

@@ -9,6 +9,7 @@ use Rattle.cose_cwt.specs.Requirements.{RequirementsValue}
 use Rattle.cose_cwt.specs.Requirements.View.{requirements_value}
 use Rattle.cose_map.specs.Key.View.{contents}
 use Rattle.cose_msg.specs.declared.context.Wanted.{Wanted}
+use Rattle.cosecmd.specs.declared.job.Details.{Details}
 use Rattle.cosecmd.specs.declared.job.Job.{Job}
 use Rattle.cosecmd.specs.declared.job.Job.TheVariants.{Cwt, Keys, KeysFor, Make}
 use Rattle.cosecmd.specs.declared.job.Question.{Question}

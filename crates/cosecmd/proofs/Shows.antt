@@ -1,6 +1,6 @@
 -- What inspecting finds of an input, and the reply that prints it.
-use Rattle.std.proofs.Common.{◌≡◌, ◌≤◌, ℕ, Bool, true, false, List, [], ◌∷◌, ◌++◌, length, Option, Some, None, Result, Err, refl, sym, ap, subst, ◌∙◌, append_assoc}
-use Rattle.std.specs.Prelude.{◌||◌, ◌↔◌, IfOk}
+use Rattle.std.proofs.Common.{◌≡◌, ℕ, Bool, true, false, List, [], ◌∷◌, ◌++◌, length, Option, Some, None, Result, refl, sym, ap, subst, ◌∙◌, append_assoc}
+use Rattle.std.specs.Prelude.{IfOk}
 use Rattle.std.specs.Io.KnownBytes.{Appends, Consumes, IsAtEnd}
 use Rattle.cose_head.specs.declared.kind.Kind.{Kind}
 use Rattle.cose_head.specs.declared.refusal.Refusal.{Refusal}
@@ -9,22 +9,19 @@ use Rattle.cose_map.specs.Map.Pairs.{Pair}
 use Rattle.cose_msg.specs.declared.context.Wanted.{Wanted}
 use Rattle.cose_msg.specs.declared.verdict.Inspected.{Inspected}
 use Rattle.cose_msg.specs.declared.verdict.Inspected.TheVariants as inspected
-use Rattle.cose_msg.specs.declared.verdict.Stop.{Stop}
-use Rattle.cose_msg.specs.declared.verdict.Stop.TheVariants as stops
-use Rattle.cose_msg.specs.declared.verdict.Verdict.TheVariants.{Refused}
 use Rattle.cose_msg.specs.declared.verifier.Verifier.{Verifier}
 use Rattle.cose_msg.specs.Answer.{Answer, decided, complete, shaped}
 use Rattle.cose_msg.specs.Laws.{MessageStays}
 use Rattle.cose_msg.specs.Message.{Setting, inspecting, message}
 use Rattle.cose_msg.specs.Reading.{Reading}
 use Rattle.cose_msg.specs.Rules.{Rules}
-use Rattle.cose_msg.specs.Run.{inspection, stops_for_intake, stops_for_sink}
+use Rattle.cose_msg.specs.Run.{inspection}
 use Rattle.cose_msg.specs.Shown.{protected_of, unprotected_of}
 use Rattle.cosecmd.specs.declared.job.Details.{Details}
 use Rattle.cosecmd.specs.declared.reply.Reply.{Reply}
 use Rattle.cosecmd.specs.Inspection.{IsInspection}
 use Rattle.cosecmd.specs.Printed.{Output, Says, trailing_refusal, bucket_lines, pair_line, show_setting, shown_as, shown_in, shown_of, trailed}
-use Rattle.cosecmd.specs.Readable.{payload_line, payload_shown}
+use Rattle.cosecmd.specs.Readable.{payload_shown}
 use Rattle.cosecmd.proofs.MessageReplies.{all_come_to}
 use Rattle.cosecmd.proofs.Trailing.{all_taken, kept_at_end, left_of_input, refused_past}
 
@@ -67,13 +64,6 @@ module _ (stays : MessageStays) (header nesting : ℕ) (setting : Setting) (byte
         finds (inspected.Shape kind payload_length auth count)
         (ap (λ (a : Answer). trailed (length bytes) a) shape ∙ kept_at_end bytes taken (shaped kind payload_length auth count) count refl (all_taken bytes taken o.0 count o.2 (h o.0 o.1)) counted)
 
--- A call that stops neither for the sink nor again stops for the intake.
-pub stops_for_that : {A : Type 0} (before after : Bool) (stop : Stop) (stopped : Bool) → after ≡ (before || stops_for_intake (Err {A = A} stop)) → stops_for_sink (Err {A = A} stop) ≡ false →
-    (Err {A = A} stop ≡ Err stops.Again ↔ stopped ≡ true) → stopped ≡ false → after ≡ (before || true)
-stops_for_that before after stops.Intake stopped failed sink again goes_on = failed
-stops_for_that before after stops.Sink stopped failed sink again goes_on = absurd cc
-stops_for_that before after stops.Again stopped failed sink again goes_on = let yes : stopped ≡ true = again.0 refl in absurd cc
-
 -- ---- the reply
 
 -- What is printed depends on the payload by its line alone.
@@ -88,10 +78,10 @@ pub unasked_line : (asked : Bool) (nesting : ℕ) (content other : List ℕ) →
 unasked_line asked nesting content other is = rw is refl
 
 -- A sink that held nothing holds what it got.
-pub got_line : (asked : Bool) (nesting : ℕ) (content payload : List ℕ) (contents_after : Option (List ℕ)) → contents_after ≡ Some content → Appends (Some []) contents_after payload →
+pub got_line : (asked : Bool) (nesting : ℕ) (content payload : List ℕ) (contents contents_after : Option (List ℕ)) → contents ≡ Some [] → contents_after ≡ Some content → Appends contents contents_after payload →
     payload_shown asked nesting content ≡ payload_shown asked nesting payload
-got_line asked nesting content payload contents_after is grows =
-    let got : content ≡ payload = rw is at grows in
+got_line asked nesting content payload contents contents_after none is grows =
+    let got : content ≡ payload = rw (none, is) at grows in
     ap (payload_shown asked nesting) got
 
 module _ (header nesting claims : ℕ) (wanted : Wanted) (details : Details) (keys : List KeyValue) (aad bytes : List ℕ) where
