@@ -227,6 +227,9 @@ def date_ends(numbers):
         kinds = SIZES[:2] if "leeway" in rule else SIZES if "stated" in rule else NUMBERS
         new = old.replace(word, f"turned({word})", 1)
         yield from numbers(rule, old, new, ("requirements", "commands"), kinds)
+    for name, old in ("age", age), ("lifetime", starts):
+        new = old.replace("required.leeway", f"required.leeway * (required.{name} != 0)")
+        yield End(f"{name.capitalize()}: the leeway", "none where the stated number is 0", ((old, new),), ("requirements", "commands"))
 
 
 # ---- tables
