@@ -21,6 +21,7 @@ pub mod Task
 pub mod Reader
 pub mod Verifier
 pub mod Choosing
+pub mod Elsewhere
 pub mod Intake
 pub mod SliceIntake
 pub mod Sink
