@@ -10,24 +10,6 @@ from source import LICENSES, PROGRAM, TOP, Source
 SCRIPTS = {"verify_sign1": "cosecmd-sign1", "cose_key": "cosecmd-key"}
 PROGRAMS = ("cosecmd", *SCRIPTS.values())
 LIBRARIES = ("libos_c.a", "liblibc_c.a")
-# It finds its prefix itself, and says what it is without a file beside it.
-WRAPPER = """\
-#!/bin/sh
-# Runs the program. With --version it also prints by which kit it was proved, and from which commit.
-set -eu
-prefix=$(dirname -- "$(dirname -- "$(readlink -f -- "$0")")")
-case "$# ${{1-}} " in
-    "1 --version " | "1 -V ")
-        "$prefix/libexec/cose/cosecmd" "$1" || exit
-        cat <<'RECORD'
-{record}RECORD
-        exit 0
-        ;;
-esac
-exec "$prefix/libexec/cose/cosecmd" "$@"
-"""
-
-
 # how the object that the compiler made of the proved crate is linked: for any Linux, and for a system's C library
 STATIC = ("-static-pie",)
 SHARED = ("-pie", "-Wl,-z,relro", "-Wl,-z,now")
@@ -82,7 +64,7 @@ def pages() -> Files:
 def tree(made_from: Source, way: "tuple[str, ...]") -> Files:
     """The program below a prefix, linked in this way."""
     content = linked(way)
-    wrapper = WRAPPER.format(record=record(made_from, content))
+    wrapper = (TOP / "packaging" / "cosecmd.in").read_text().replace("@record@\n", record(made_from, content))
     files: Files = {"libexec/cose/cosecmd": Entry(content, 0o755), "bin/cosecmd": Entry(wrapper.encode(), 0o755)}
     files.update({f"bin/{SCRIPTS[name]}": script(name) for name in SCRIPTS})
     return {**files, **pages()}

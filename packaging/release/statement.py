@@ -14,6 +14,9 @@ from source import TOP, Refusal, Source
 TESTED_ONLY = "docs/PROVED.md, 'What is only tested'"
 # the crates of the kit that the libraries and the program stand on
 KIT_CRATES = ("sha2", "arrayvec", "hex", "clap")
+SIGNED = """\
+SHA256SUMS.cose is a COSE_Sign1 over SHA256SUMS, by the releaser's key. Whoever makes the release of this commit once more gets the same \
+files, and this one too where OpenSSL is 3.2 or newer: an older one signs with a random number."""
 GUIDE = """\
 # cose {version}
 
@@ -141,8 +144,12 @@ def signature(payload: bytes, key: pathlib.Path) -> bytes:
     """A COSE_Sign1 over the payload, which is detached (RFC 9052 section 4.2), by OpenSSL with a key on P-256: ES256."""
     protected = bytes([0xA1, 0x01, 0x26])
     structure = head(4, 4) + head(3, 10) + b"Signature1" + head(2, len(protected)) + protected + head(2, 0) + head(2, len(payload)) + payload
-    ended = subprocess.run(["openssl", "dgst", "-sha256", "-sign", str(key)], input=structure, capture_output=True)
-    if ended.returncode:
+    # (by RFC 6979 the same bytes each time; OpenSSL has that from version 3.2 on)
+    for nonce in (["-sigopt", "nonce-type:1"], []):
+        ended = subprocess.run(["openssl", "dgst", "-sha256", *nonce, "-sign", str(key)], input=structure, capture_output=True)
+        if ended.returncode == 0:
+            break
+    else:
         raise Refusal(f"openssl can't sign with {key}: {ended.stderr.decode(errors='replace').strip()}")
     numbers = re.match(rb"\x30.\x02(.)", ended.stdout, re.S)
     length = numbers[1][0]
@@ -157,7 +164,7 @@ def write(files: Dict[str, bytes], made_from: Source, key: "pathlib.Path | None"
     said = dict(files)
     said["proof.json"] = proof(files, made_from)
     said["cose.spdx.json"] = parts(made_from, files)
-    signed = "SHA256SUMS.cose is a COSE_Sign1 over SHA256SUMS, by the releaser's key." if key else "It is unsigned."
+    signed = SIGNED if key else "It is unsigned."
     # (so many bytes have the sums of these names, whatever they are)
     length = len(sums({**said, "RELEASE.md": b""}))
     octal = "".join(f"\\{byte:03o}" for byte in head(2, length))
