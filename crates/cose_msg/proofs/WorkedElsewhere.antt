@@ -1,6 +1,5 @@
 -- Messages that are authenticated elsewhere, on examples, by computing.
 use Rattle.std.specs.Prelude.{◌≡◌, ℕ, true, false, List, [], ◌∷◌, ◌++◌, None, replicate, refl}
-use Rattle.std.specs.Str.{bytes_eq}
 use Rattle.cose_head.specs.declared.kind.Kind.TheVariants.{Mac0, Sign1}
 use Rattle.cose_head.specs.declared.reason.Reason.TheVariants.{BadAuth, BadAuthLength, NoKey}
 use Rattle.cose_head.specs.declared.algorithm.Alg.TheVariants.{Hmac256, Es256}

@@ -8,7 +8,7 @@ use Rattle.cose_msg.specs.Answer.{Answer, Chosen, Whole, decided, complete, shap
 use Rattle.cose_msg.specs.Elsewhere.{Authenticates, DecidedBefore, IsWhole, OtherMacIsRefused, StatedAnswerIsVerdict, StatedMacIsVerdict, VerdictIsInstance, authenticated, authenticates_by, stated_answer, stated_mac, then_authenticated, verdict_by}
 use Rattle.cose_msg.specs.Hashing.{authenticator}
 use Rattle.cose_msg.specs.Laws.{ComparingGoesLast, VerifyingGoesLast, then_compared, then_verified}
-use Rattle.cose_msg.specs.Message.{Decides, Setting, compare_tag, compared, digest_signed, judged, message, structure, tag_of, uncompared, verdict_of}
+use Rattle.cose_msg.specs.Message.{Decides, Setting, compare_tag, compared, digest_signed, judged, message, structure, tag_of, uncompared}
 use Rattle.cose_msg.specs.Reading.{Reading}
 
 module _ (aad : List ℕ) (decides : Decides) where
