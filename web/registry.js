@@ -127,36 +127,12 @@ const ALGORITHM_NAMES = new Map(
     ]),
 );
 
-/** Members of a COSE_Key (RFC 9052 section 7.1). Negative labels depend on the type. */
-const KEY_NAMES = new Map(
-    /** @type {[number, string][]} */ ([
-        [1, "kty"],
-        [2, "kid"],
-        [3, "alg"],
-        [4, "key_ops"],
-        [5, "Base IV"],
-    ]),
-);
-const EC2_NAMES = new Map(/** @type {[number, string][]} */ ([[-1, "crv"], [-2, "x"], [-3, "y"], [-4, "d"]]));
-
-/** Types of keys, operations and curves (RFC 9053 section 7). */
+/** Types of keys, and curves (RFC 9053 section 7). */
 const KEY_TYPES = new Map([
     [1, "OKP"],
     [2, "EC2"],
     [3, "RSA"],
     [4, "Symmetric"],
-]);
-const OPERATION_NAMES = new Map([
-    [1, "sign"],
-    [2, "verify"],
-    [3, "encrypt"],
-    [4, "decrypt"],
-    [5, "wrap key"],
-    [6, "unwrap key"],
-    [7, "derive key"],
-    [8, "derive bits"],
-    [9, "MAC create"],
-    [10, "MAC verify"],
 ]);
 const CURVE_NAMES = new Map([
     [1, "P-256"],

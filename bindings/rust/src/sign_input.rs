@@ -6,11 +6,11 @@ use crate::raw;
 /// A curve ([RFC 9053 section 7.1](https://www.rfc-editor.org/rfc/rfc9053#section-7.1)).
 #[derive(Clone, Copy, Debug, PartialEq, Eq, Hash)]
 pub enum Curve {
-    /// P-256, of ES256.
+    /// P-256, of ES256 and ESP256.
     P256,
-    /// P-384, of ES384.
+    /// P-384, of ES384 and ESP384.
     P384,
-    /// P-521, of ES512.
+    /// P-521, of ES512 and ESP512.
     P521,
 }
 

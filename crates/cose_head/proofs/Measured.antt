@@ -155,11 +155,6 @@ pub item_parent : (depth count : ℕ) (l : Left) (h : Head) → Ok (h, after h.w
 item_parent depth count l h e s p r =
     item_body depth l h e ∙ rw (s, p) (parent_counted depth l.place count h (after h.width l) p r)
 
--- and what is left after a head and what follows it
-pub then_string : (depth : ℕ) (l : Left) (h : Head) (n : ℕ) → Ok (0, after n (after h.width l)) ≡ nesting (read depth l) →
-    Ok (0, after (h.width + n) l) ≡ nesting (read depth l)
-then_string depth l h n e = rw (← after-after h.width n l) e
-
 pub same_ok : {A : Type 0} (x y : A) → ◌≡◌ {A = Result A Refusal} (Ok x) (Ok y) → x ≡ y
 same_ok x y e = cc
 
@@ -191,13 +186,6 @@ raised-zero (Err refusal) = refl
 abbrev pub onward : Reader Item → ℕ → ℕ → ℕ → Left → Outcome ℕ
 onward one most count length l = raised most (nesting_all (read_all one count (after length l)))
 
-pub items_begin : (one : Reader Item) (count : ℕ) (l : Left) → onward one 0 (count - 0) 0 l ≡ nesting_all (read_all one count l)
-items_begin one count l =
-    let c : count - 0 ≡ count = omega arith in
-    let r : l.room - 0 ≡ l.room = omega arith in
-    let p : l.place + 0 ≡ l.place = omega arith in
-    rw (c, r, p) (raised-zero (nesting_all (read_all one count l)))
-
 pub items_go_on : (one : Reader Item) (most index count length : ℕ) (l : Left) (depth n : ℕ) → index < count →
     Ok (depth, after n (after length l)) ≡ nesting (one (after length l)) →
     onward one most (count - index) length l ≡ onward one (max most depth) (count - (index + 1)) (length + n) l
@@ -206,13 +194,6 @@ items_go_on one most index count length l depth n more e =
     rw (c, ← after-after length n l)
     (ap (raised most) (next_item one (count - (index + 1)) depth (after n (after length l)) (one (after length l)) e)
     ∙ raised-raised most depth (nesting_all (read_all one (count - (index + 1)) (after n (after length l)))))
-
-pub items_stop : (one : Reader Item) (most index count length : ℕ) (l : Left) (refusal : Refusal) → index < count →
-    Err refusal ≡ nesting (one (after length l)) →
-    onward one most (count - index) length l ≡ Err refusal
-items_stop one most index count length l refusal more e =
-    let c : count - index ≡ suc (count - (index + 1)) = omega arith in
-    rw c (ap (raised most) (no_item one (count - (index + 1)) refusal (one (after length l)) e))
 
 pub items_end : (one : Reader Item) (most count length : ℕ) (l : Left) → onward one most (count - count) length l ≡ Ok (most, after length l)
 unfolding deepest

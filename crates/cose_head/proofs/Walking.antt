@@ -28,9 +28,6 @@ pub walk_all-more : (depth n : ℕ) (l : Left) → walk_all depth (suc n) l ≡ 
 unfolding walk walk_all
 walk_all-more depth n l = past_first (read depth l) (open_in depth l) (read_all (read depth) n) (open_all (read depth) (open_in depth) n)
 
-pub within-ends : (l : Left) (next : Left → Walk) → within (ends l) next ≡ next l
-within-ends l next = refl
-
 -- the innermost open items come last
 pub finish-append : (depth : ℕ) (counts more : List ℕ) (child : Walk)
     → finish depth (counts ++ more) child ≡ finish depth counts (finish (depth - length counts) more child)

@@ -15,7 +15,7 @@ use Rattle.cose_head.specs.Reading.{Left, Outcome, after, read}
 use Rattle.cose_head.specs.Measured.{left_of, span_found, nesting, SpansItem}
 use Rattle.cose_head.specs.Laws.{Steps}
 use Rattle.cose_head.specs.Head.{bare_head}
-use Rattle.cose_head.specs.Placed.{Placed, head_or_undefined, head_of_item, past_head}
+use Rattle.cose_head.specs.Placed.{Placed, head_of_item, past_head}
 use Rattle.cose_head.specs.PlacedLaws.{IsItem, StandsIn, is_tag}
 use Rattle.cose_head.specs.Whole.{nothing_after, whole, is_one_item}
 use Rattle.cose_head.proofs.Measured.{same_ok}
@@ -139,15 +139,6 @@ one_item_is_no_half bytes wanted e half = let s = one_item_has_head bytes e in l
 
 pub one_item_is_no_fault : (bytes : List ℕ) (reason : Reason) → is_one_item bytes ≡ true → bare_head bytes ≡ Fault reason → ⊥
 one_item_is_no_fault bytes reason e fault = let s = one_item_has_head bytes e in let f = s.1 in cc
-
-pub head_is_there : (p : Placed) (h : Head) → is_one_item p.bytes ≡ true → h ≡ head_of_item p → h.width ≤ length p.bytes
-unfolding head_of_item
-head_is_there p h e found =
-    let s = one_item_has_head p.bytes e in
-    let same : h ≡ s.0 = found ∙ ap head_or_undefined s.1 in
-    let there = s.2 in
-    let width = ap (λ g. g.width) same in
-    omega arith
 
 -- what a tag encloses is one item
 enclosed_found : (tree : Item) (p : Placed) → IsItem 32 p tree → is_tag tree ≡ true → is_one_item (past_head (head_of_item p) p).bytes ≡ true

@@ -1,4 +1,5 @@
-//! A reader of one message, changed in place: its stores are fields, and its progress is counts alone.
+//! A reader of one message, changed in place: its stores are fields, and its progress is counts alone. It knows no keys: with a type
+//! parameter in it goals don't compute within the checker's limits.
 
 ghost use Rattle.std.specs.Prelude.{◌<◌, ◌≤◌, ◌^◌};
 ghost use Rattle.arrayvec.specs.ArrayVec.{array_vec_len};

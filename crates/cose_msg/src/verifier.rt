@@ -1,4 +1,7 @@
 //! A verifier of one message, changed in place: a reader of the message, the keys, and what is counted and kept.
+//!
+//! A verifier that each step consumed and gave back would move its stores at each byte, and the C compiler does not end on stores of
+//! some thousand bytes.
 
 ghost use Rattle.std.specs.Prelude.{◌≡◌, ◌≤◌, ◌+◌, ◌*◌};
 ghost use Rattle.cose_msg.specs.Reader.{IsUntouched, held_by, opened_by};

@@ -1,4 +1,7 @@
 //! A sink that writes what it gets.
+//!
+//! It borrows its writer. What it holds by the contract is the name of that reference and then the writer's bytes, so that the owner
+//! finds in the writer what the sink got.
 
 ghost use Rattle.std.specs.Prelude.{◌≡◌, false};
 ghost use Rattle.cosecmd.specs.WriteSink.{held_through, name_in, writer_in};

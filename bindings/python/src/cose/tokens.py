@@ -11,7 +11,8 @@ from typing import Any, Optional, Tuple, Union, cast
 from . import _library, cbor
 from ._answers import Ecdsa, fail
 from ._arguments import Buffer, Kind, bytes_of, number_of, text_of
-from ._library import ClaimsStruct, DateStruct, PolicyStruct, RangeStruct, Status, small
+from ._library import ClaimsStruct, PolicyStruct, Status, small
+from ._numbers import Numbers, places, reader
 from .keys import Keys, KeyTable, call_table, data_of
 from .messages import verify
 
@@ -78,20 +79,33 @@ def _policy(now: Optional[int], leeway: int, audience: Optional[str]) -> PolicyS
     return PolicyStruct(moment, seconds, audience is not None, name, len(name))
 
 
-def _bytes(payload: bytes, place: RangeStruct) -> Optional[bytes]:
-    return payload[place.at : place.at + place.length] if place.present else None
+# (a number by itself compares faster than a member does)
+_AUTHENTIC = Status.AUTHENTIC.value
+_numbers_of = reader(ClaimsStruct)
+_AT = places(ClaimsStruct)
+_PAYLOAD, _ISS, _SUB, _AUD, _AUD_COUNT = (_AT[it] for it in ("payload_at", "iss", "sub", "aud", "aud_count"))
+_EXP, _NBF, _IAT, _CTI = (_AT[it] for it in ("exp", "nbf", "iat", "cti"))
+_CNF_KID, _CNF_CRV, _CNF_X, _CNF_Y, _CNF_Y_SIGN = (
+    _AT[f"cnf_{it}"] for it in ("kid", "crv", "x", "y", "y_sign")
+)
 
 
-def _text(payload: bytes, place: RangeStruct) -> Optional[str]:
-    found = _bytes(payload, place)
-    return None if found is None else found.decode()
+def _bytes(payload: bytes, numbers: Numbers, place: int) -> Optional[bytes]:
+    """Those of a range, whose numbers begin at this place."""
+    at, length, present = numbers[place : place + 3]
+    return payload[at : at + length] if present else None
 
 
-def _date(date: DateStruct) -> Optional[int]:
-    if not date.present:
+def _text(payload: bytes, numbers: Numbers, place: int) -> Optional[str]:
+    at, length, present = numbers[place : place + 3]
+    return payload[at : at + length].decode() if present else None
+
+
+def _date(numbers: Numbers, place: int) -> Optional[int]:
+    number, present, negative = numbers[place : place + 3]
+    if not present:
         return None
-    number: int = date.number
-    return -1 - number if date.negative else number
+    return -1 - number if negative else number
 
 
 def _texts(payload: bytes, at: int, length: int, count: int) -> Tuple[str, ...]:
@@ -114,27 +128,30 @@ def _texts(payload: bytes, at: int, length: int, count: int) -> Tuple[str, ...]:
     return tuple(found)
 
 
-def _confirmation(payload: bytes, claims: ClaimsStruct) -> Optional[Confirmation]:
-    kid, key = _bytes(payload, claims.cnf_kid), None
-    if claims.cnf_crv:
-        x = _bytes(payload, claims.cnf_x) or b""
-        y = claims.cnf_y_sign == 2 if claims.cnf_y_sign else _bytes(payload, claims.cnf_y) or b""
-        key = ConfirmationKey(claims.cnf_crv, x, y)
+def _confirmation(payload: bytes, numbers: Numbers) -> Optional[Confirmation]:
+    kid, crv, key = _bytes(payload, numbers, _CNF_KID), numbers[_CNF_CRV], None
+    if crv:
+        x, y_sign = _bytes(payload, numbers, _CNF_X) or b"", numbers[_CNF_Y_SIGN]
+        y = y_sign == 2 if y_sign else _bytes(payload, numbers, _CNF_Y) or b""
+        key = ConfirmationKey(crv, x, y)
     return None if kid is None and key is None else Confirmation(kid, key)
 
 
-def _claims_of(payload: bytes, claims: ClaimsStruct) -> Claims:
-    return Claims(
+def _claims_of(payload: bytes, numbers: Numbers) -> Claims:
+    made = object.__new__(Claims)
+    # (the class's own __init__ sets each field by a call, since it is frozen)
+    made.__dict__.update(
         payload=payload,
-        iss=_text(payload, claims.iss),
-        sub=_text(payload, claims.sub),
-        aud=cast(Any, partial(_texts, payload, claims.aud.at, claims.aud.length, claims.aud_count)),
-        exp=_date(claims.exp),
-        nbf=_date(claims.nbf),
-        iat=_date(claims.iat),
-        cti=_bytes(payload, claims.cti),
-        cnf=_confirmation(payload, claims),
+        iss=_text(payload, numbers, _ISS),
+        sub=_text(payload, numbers, _SUB),
+        aud=partial(_texts, payload, numbers[_AUD], numbers[_AUD + 1], numbers[_AUD_COUNT]),
+        exp=_date(numbers, _EXP),
+        nbf=_date(numbers, _NBF),
+        iat=_date(numbers, _IAT),
+        cti=_bytes(payload, numbers, _CTI),
+        cnf=_confirmation(payload, numbers),
     )
+    return made
 
 
 def claims(
@@ -155,7 +172,7 @@ def claims(
     calls.edge_claims(data, len(data), byref(policy), byref(found))
     if found.status != Status.AUTHENTIC:
         fail(found)
-    return _claims_of(data, found)
+    return _claims_of(data, _numbers_of(found))
 
 
 def _read(keys: Keys, aad: bytes, policy: PolicyStruct, token: bytes, large: bool) -> ClaimsStruct:
@@ -195,10 +212,12 @@ def verify_cwt(
     policy = _policy(now, leeway, audience)
     if wanted is None:
         found = _read(keys, external, policy, data, large)
-        if found.status == Status.AUTHENTIC:
-            payload = data[found.payload_at : found.payload_at + found.payload_length]
-            return _claims_of(payload, found)
-        if found.status != Status.SIGNED:
+        status = found.status
+        if status == _AUTHENTIC:
+            numbers = _numbers_of(found)
+            at, length = numbers[_PAYLOAD : _PAYLOAD + 2]
+            return _claims_of(data[at : at + length], numbers)
+        if status != Status.SIGNED:
             fail(found)
     message = verify(keys, data, aad=external, wanted=wanted, ecdsa=ecdsa, large=large)
     return claims(message.payload, now=policy.now, leeway=leeway, audience=audience, large=large)

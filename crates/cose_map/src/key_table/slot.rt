@@ -15,8 +15,8 @@ use crate::key::material::Material;
 
 /// A place of a table.
 ///
-/// An empty one is told by its variant alone, so that a table without keys is made by writing a number to each place, and is
-/// never moved. In a contract it holds a blank key, which no call returns.
+/// An empty place is a variant without fields, so that a table without keys is made by writing a number to each place, and is
+/// never moved. In a contract an empty place holds a blank key, which no call returns.
 #[derive(Clone, Copy)]
 pub(crate) enum Slot<'a> {
     /// No key.

@@ -1,4 +1,4 @@
-use Rattle.std.proofs.Common.{◌≡◌, ◌+◌, ◌≤◌, ◌<◌, ◌%◌, slice_index_or, length, arith}
+use Rattle.std.proofs.Common.{◌+◌, ◌≤◌, ◌<◌, ◌%◌, slice_index_or, length, arith}
 use Rattle.cose_head.proofs.ItemSteps.{short_integer, short_string}
 use Rattle.cose_head.proofs.item.short_item.Goals as goal
 
