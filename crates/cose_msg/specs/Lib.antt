@@ -22,6 +22,7 @@ pub mod Reader
 pub mod Verifier
 pub mod Choosing
 pub mod Elsewhere
+pub mod FrontPieces
 pub mod Intake
 pub mod SliceIntake
 pub mod Sink
