@@ -194,7 +194,7 @@ PLACES = {
             "option",
             of_option,
             "ci/second_program.py",
-            "input key-file keys-file payload-file payload-length payload-to",
+            "key-file keys-file payload-file payload-length payload-to",
         ),
         Places("option", of_option, "ci/sign1", "alg key-file kid length detached diagnostic for-message"),
     ],
@@ -215,7 +215,7 @@ PLACES = {
     ],
 }
 # where three algorithms for signatures are named and not all: those that a JWK can name (RFC 7518), and those that a version brought
-SOME = ("CHANGELOG.md", "ci/field", "ci/lists.py", "examples/cose_key", "web/keys.js", "bindings/python/src/cose/key_files.py")
+SOME = ("CHANGELOG.md", "ci/field", "examples/cose_key", "web/keys.js", "bindings/python/src/cose/key_files.py")
 
 
 def faults_of(places, pattern):

@@ -527,6 +527,144 @@ def sequence_ends():
         yield End(f"--sequence behind {name}", "turned", ((old, new),), ("commands",), None, PROGRAM)
 
 
+# ---- show --detached
+
+
+def detached_ends():
+    def ends(end, old, new, turned=None):
+        return End("show --detached", end, ((old, new),), ("commands",), turned, PROGRAM)
+
+    old = 'refusal.reason is not reading.Reason.Detached or "detached" not in options'
+    yield ends("it is refused", old, "True")
+    yield ends("without the option", old, "refusal.reason is not reading.Reason.Detached")
+    line = 'f"detached at {refusal.place}"'
+    yield ends("the place, one more", line, line.replace("place}", "place + 1}"))
+    yield from compared("show --detached: the place", line, line.replace("refusal.place", "turned(refusal.place)"), ("commands",), SIZES[:1], PROGRAM)
+    old = "*lines_of_headers(protected, unprotected, notation)])"
+    for end, new in (
+        ("no protected header", old.replace("(protected", "({}")),
+        ("no unprotected header", old.replace("unprotected", "{}")),
+        ("never in diagnostic notation", old.replace("notation)", "False)")),
+        ("always in diagnostic notation", old.replace("notation)", "True)")),
+    ):
+        yield ends(end, old, new)
+    before = "        return printed([f\"detached"
+    yield ends("a message has to end there", before, f"        reading.demand(refusal.place + 1 == len(data), reading.Reason.Trailing, 0)\n{before}")
+    yield ends("the rest has to be there", before, f"        reading.demand(refusal.place + 1 < len(data), reading.Reason.Truncated, 0)\n{before}")
+    old = "        _, protected, unprotected, *_ = reading.read_headers(data, context)\n"
+    for name in ("header_limit", "nesting"):
+        small = f"reading.{name.upper()}"
+        yield ends(f"{name} of --limits large", old, f"        reading.demand(context.{name} == {small}, reading.Reason.PastRoom, 0)\n{old}")
+    yield ends("--kind", old, f'        reading.demand(context.wanted == "tagged", reading.Reason.WrongTag, 0)\n{old}')
+    old = "        for label, value in bucket.values():\n"
+    for count in (1, 8, 23, 255):
+        turned = lambda it, count=count: [*it][:count]
+        yield End("show: the pairs of a bucket", f"the first {count} alone", ((old, old.replace("bucket.values()", "turned(bucket.values())")),), ("commands",), turned, PROGRAM)
+
+
+# ---- --input
+
+
+def input_ends():
+    def ends(rule, end, old, new, turned=None):
+        return End(f"--input {rule}", end, ((old, new),), ("commands",), turned, PROGRAM)
+
+    for it in (9, 10, 13, 32):
+        yield ends("blanks", f"{it} is none", "BLANKS =", f"BLANKS = bytes([it for it in (9, 10, 13, 32) if it != {it}]) #")
+    for it in (0, 8, 11, 12, 14, 31, 33, 0x85, 0xA0):
+        yield ends("blanks", f"{it} is one", "BLANKS =", f"BLANKS = bytes([9, 10, 13, 32, {it}]) #")
+    for form, ranges, others in (
+        ("hexadecimal", ("09", "AF", "af"), "=xXhH"),
+        ("base64url", ("AZ", "az", "09", "--", "__", "++", "//"), "=.,~"),
+    ):
+        old = "values, width = FORMS[form]\n"
+        width = {"hexadecimal": 4, "base64url": 6}[form]
+        edges = sorted({one for it in ranges for one in it})
+        for it in edges:
+            new = f"{old}    values = {{at: it for at, it in values.items() if width != {width} or at != {ord(it)}}}\n"
+            yield ends(f"in {form}", f"{it!r} is wrong", old, new)
+            new = f"{old}    values = {{at: it ^ (width == {width} and at == {ord(it)}) for at, it in values.items()}}\n"
+            yield ends(f"in {form}", f"{it!r} has another value", old, new)
+        inside = {chr(at) for it in ranges for at in range(ord(it[0]), ord(it[1]) + 1)}
+        beside = {chr(ord(it) + by) for it in edges for by in (-1, 1)} | {chr(0x80 | ord(it)) for it in edges} | {*others} - inside
+        for it in sorted(beside - inside):
+            new = f"{old}    values = {{**values, {ord(it)}: 0}} if width == {width} else values\n"
+            yield ends(f"in {form}", f"{it!r} is a digit", old, new)
+    yield from text_length_ends(ends)
+    yield from auto_ends(ends)
+
+
+def text_length_ends(ends):
+    """The lengths of a text, and its end."""
+    old = "is_whole = len(bits) % 8 < width\n"
+    yield ends("hex", "a digit too few is taken", old, old.replace("< width", "< width or width == 4"))
+    yield ends("base64url", "one character of four is taken", old, old.replace("< width", "< width or width == 6"))
+    for rest in (2, 3):
+        turned = f"    is_whole = is_whole and (form == 'hex' or count % 4 != {rest})\n"
+        yield ends("base64url", f"{rest} characters of four are wrong", old, old + turned)
+        turned = f"    is_whole = is_whole and (form == 'hex' or count % 4 != {rest} or text[count:] != b'')\n"
+        yield ends("base64url", f"no padding after {rest} of four is wrong", old, old + turned)
+        turned = f"    is_whole = is_whole and (form == 'hex' or count % 4 != {rest} or text[count:] == b'')\n"
+        yield ends("base64url", f"padding after {rest} of four is wrong", old, old + turned)
+    old = 'paddings = (b"", b"=" * (-count % 4)) if form == "base64url" else (b"",)\n'
+    for end, new in (
+        ("one sign of padding for two", 'b"=" * (-count % 4), b"="'),
+        ("two signs of padding for one", 'b"=" * (-count % 4), b"=" * 2 * (count % 4 > 1)'),
+        ("a sign of padding after four of four", 'b"=" * (-count % 4), b"=" * (count % 4 == 0)'),
+        ("two signs of padding after four of four", 'b"=" * (-count % 4), b"==" * (count % 4 == 0)'),
+        ("four signs of padding after four of four", 'b"=" * (-count % 4), b"====" * (count % 4 == 0)'),
+        ("three signs of padding", 'b"=" * (-count % 4), b"==="'),
+    ):
+        yield ends("base64url", end, old, old.replace('b"=" * (-count % 4)', new))
+    yield ends("hex", "padding", old, old.replace('"base64url"', 'form'))
+    for what in ("=", "A", ".", "=="):
+        padded = old.replace(")) if", f'), b"=" * (-count % 4) + b"{what}") if')
+        yield ends("base64url", f"{what!r} behind the padding", old, padded)
+    old = "return content, is_whole and"
+    yield ends("both", "the end is taken as it is", old, old.replace("is_whole and", "True or"))
+    yield ends("hex", "the end is taken as it is", old, old.replace("is_whole and", 'form == "hex" or is_whole and'))
+    yield ends("base64url", "the end is taken as it is", old, old.replace("is_whole and", 'form == "base64url" or is_whole and'))
+    old = "text = bytes(it for it in data if it not in BLANKS)\n"
+    for count in (255, 4095, 4096, 8192):
+        for form in FORMS:
+            cut = f'    text = text[:{count}] if form == "{form}" else text\n'
+            yield ends(form, f"the first {count} characters alone", old, old + cut)
+    for end, new in (
+        ("no line break at the end", "text = bytes(it for it in data.rstrip(BLANKS) if it not in BLANKS) + b'.' * (data[-1:] == b'\\n')\n"),
+        ("no blank at the beginning", "text = b'.' * (data[:1] in (b' ', b'\\n')) + bytes(it for it in data if it not in BLANKS)\n"),
+        ("no blank inside", "text = data.strip(BLANKS)\n"),
+        ("no two blanks together", "text = re.sub(rb'[ \\t\\r\\n]', b'', data.replace(b'\\r\\n', b'').replace(b'\\n\\n', b'.'))\n"),
+    ):
+        yield ends("both", end, old, new)
+    for form in FORMS:
+        yield ends(form, "a wrong character ends it", old, f"{old}    text = text[:next((at for at, it in enumerate(text) if it not in values), len(text))] if form == '{form}' else text\n")
+    old = "return found if is_whole or is_decided or is_early"
+    yield ends("both", "a message that is refused before a wrong character is a fault", old, old.replace("is_decided", "False"))
+    yield ends("both", "headers that are shown before a wrong character are a fault", old, old.replace("is_early", "False"))
+
+
+FORMS = ("hex", "base64url")
+
+
+def auto_ends(ends):
+    """What tells a text, and its form."""
+    old = 'return "hex" if data.lstrip(BLANKS)[:1] in [bytes([it]) for it in LEADS] else "base64url"'
+    for it in b"89abcdefABCDEF":
+        yield ends("auto", f"{chr(it)} begins base64url", old, old.replace("for it in LEADS", f"for it in LEADS if it != {it}"))
+    for it in b"01234567gGzZ-_+/":
+        yield ends("auto", f"{chr(it)} begins hexadecimal", old, old.replace("for it in LEADS", f"for it in [*LEADS, {it}]"))
+    yield ends("auto", "a blank before hexadecimal", old, old.replace("data.lstrip(BLANKS)", "data"))
+    old = "if not data or data[0] not in BLANKS and data[0] not in BASE64URL:"
+    for it in b"0789AZaz-_+/dDf":
+        yield ends("auto", f"{chr(it)} begins CBOR", old, old.replace("if not data", f"if not data or data[0] == {it}"))
+    for it in (9, 10, 13, 32):
+        yield ends("auto", f"{it} begins CBOR", old, old.replace("if not data", f"if not data or data[0] == {it}"))
+    for it in (0x21, 0x2A, 0x2C, 0x2E, 0x3A, 0x3D, 0x40, 0x5B, 0x5E, 0x60, 0x7B, 0x80, 0x84, 0x85, 0xA0, 0xD1, 0xD2, 0xD8, 0xDF):
+        turned = f"if not data or data[0] != {it} and data[0] not in BLANKS and data[0] not in BASE64URL:"
+        yield ends("auto", f"{it} begins a text", old, turned)
+
+
 def all_ends():
-    for part in (bytes_ends, list_ends, number_ends, table_ends, limit_ends, order_ends, text_ends, day_ends, sequence_ends):
+    parts = (bytes_ends, list_ends, number_ends, table_ends, limit_ends, order_ends, text_ends, day_ends, sequence_ends, detached_ends, input_ends)
+    for part in parts:
         yield from part()

@@ -4,7 +4,6 @@ A function returns the result that the row should have, as far as it is compared
 called with the modules of the second reading, ci/second_reading.py and ci/second_program.py, or with copies of them in which
 one rule is another.
 """
-import base64
 import re
 
 # places of rows may be beyond what a list of bytes can have before them
@@ -324,28 +323,12 @@ def options_of(test):
     return options
 
 
-def decoded(data, form):
-    """What standard input stands for in a form of --input, by Python's own decoders; a text as far as it is one."""
-    text = b"".join(data.split())
-    is_hex = re.fullmatch(rb"[0-9a-fA-F]+", text)
-    if form == "auto":
-        form = "hex" if is_hex else "base64url" if re.fullmatch(rb"[\w+/=-]+", text) else "cbor"
-    if form == "hex":
-        digits = re.match(rb"(?:[0-9a-fA-F]{2})*", text).group()
-        return bytes.fromhex(digits.decode())
-    if form == "base64url":
-        digits = text.rstrip(b"=").replace(b"+", b"-").replace(b"/", b"_")
-        return base64.urlsafe_b64decode(digits + b"=" * (-len(digits) % 4))
-    return data
-
-
 def commands(_reading, program, _group, test):
     arguments = test["arguments"]
     options = options_of(test) if arguments and arguments[0] in program.COMMANDS else None
-    if options is None or test["result"]["output"].startswith(("error:", "fault file", "fault input")):
+    if options is None or test["result"]["output"].startswith(("error:", "fault file")):
         return test["result"]
-    given = decoded(bytes.fromhex(test["input"]), options.get("input", "cbor"))
-    answer = program.answer(arguments[0], options, given)
+    answer = program.answer_to_text(arguments[0], options, bytes.fromhex(test["input"]))
     is_text = test["result"]["verdict"] == "lines"
     found = {"verdict": test["result"]["verdict"], "output": answer.text.decode() if is_text else answer.text.hex(), "status": answer.status}
     return {**found, "read": test["result"]["read"]} if "read" in test["result"] else found

@@ -368,6 +368,52 @@ def quoted(text):
     return '"' + "".join("\\" * (it in (34, 92)) + chr(it) if 32 <= it <= 126 else f"\\u{it:04x}" for it in numbers) + '"'
 
 
+# ---- --input
+
+BLANKS = b" \t\r\n"
+LETTERS = b"ABCDEFGHIJKLMNOPQRSTUVWXYZabcdefghijklmnopqrstuvwxyz"
+# the values of the characters of a text, and how many bits each has (RFC 4648 sections 4, 5 and 8)
+HEXADECIMAL = {it: int(chr(it), 16) for it in b"0123456789abcdefABCDEF"}
+BASE64URL = {it: at for at, it in enumerate(LETTERS + b"0123456789-_")} | {ord("+"): 62, ord("/"): 63}
+FORMS = {"hex": (HEXADECIMAL, 4), "base64url": (BASE64URL, 6)}
+# what the hexadecimal of a message begins with, whose first byte is an array's or a tag's
+LEADS = b"89abcdefABCDEF"
+
+
+def form_of(data):
+    """What --input auto takes some bytes for."""
+    if not data or data[0] not in BLANKS and data[0] not in BASE64URL:
+        return "cbor"
+    return "hex" if data.lstrip(BLANKS)[:1] in [bytes([it]) for it in LEADS] else "base64url"
+
+
+def written(data, form):
+    """The bytes that standard input stands for in a form of --input, and whether it is of that form to its end."""
+    form = form_of(data) if form == "auto" else form
+    if form == "cbor":
+        return data, True
+    values, width = FORMS[form]
+    text = bytes(it for it in data if it not in BLANKS)
+    count = next((at for at, it in enumerate(text) if it not in values), len(text))
+    bits = "".join(f"{values[it]:0{width}b}" for it in text[:count])
+    content = bytes(int(bits[at : at + 8], 2) for at in range(0, len(bits) - 7, 8))
+    # a character too few gives no byte; the signs of padding may be left out (RFC 4648 section 3.2)
+    is_whole = len(bits) % 8 < width
+    paddings = (b"", b"=" * (-count % 4)) if form == "base64url" else (b"",)
+    return content, is_whole and text[count:] in paddings
+
+
+def answer_to_text(command, options, data):
+    """What the program answers to a text: a message that is refused before a wrong character is refused."""
+    form = options.get("input", "cbor")
+    content, is_whole = written(data, form)
+    found = answer(command, options, content)
+    is_decided = found.status == 1 and not found.text.endswith(b"Truncated at %d\n" % len(content))
+    # what is shown before the payload has come
+    is_early = found.status == 0 and found.text.startswith(b"detached")
+    return found if is_whole or is_decided or is_early or found.status == 2 else Answer(2, printed(["fault input"]))
+
+
 COMMANDS = {"show": show, "verify": verify, "cwt": cwt, "digest": digest, "keys": keys, "make": make}
 
 

@@ -11,6 +11,7 @@ import (
 	"os"
 	"regexp"
 	"strconv"
+	"strings"
 	"testing"
 	"time"
 
@@ -221,6 +222,25 @@ func TestSignedToken(t *testing.T) {
 		}
 		if _, err = call(flipped(token), nil, nil); !errors.Is(err, cose.ReasonBadAuth) {
 			t.Error(name, err)
+		}
+	}
+}
+
+// TestManyAudiences reads texts whose heads have one byte, two, three and five.
+func TestManyAudiences(t *testing.T) {
+	var texts []byte
+	lengths := []int{0, 1, 23, 24, 25, 255, 256, 300, 65_536, 24, 0}
+	for _, length := range lengths {
+		texts = append(texts, str(3, bytes.Repeat([]byte("a"), length))...)
+	}
+	payload := joined([]byte{0xa1, 0x03}, head(4, uint64(len(lengths))), texts)
+	claims, err := cose.ClaimsOf(payload, nil, false)
+	if err != nil || len(claims.Audience) != len(lengths) {
+		t.Fatal(claims, err)
+	}
+	for i, length := range lengths {
+		if claims.Audience[i] != strings.Repeat("a", length) {
+			t.Errorf("the audience %d has %d bytes", i, len(claims.Audience[i]))
 		}
 	}
 }

@@ -50,6 +50,14 @@ test("a protected header with a parameter is signed as it is, also where its cou
     }
 });
 
+test("a message with the tag of a CWT before its own is signed without its tags (RFC 8392 section 6)", async () => {
+    const { privateKey, keys } = newPair();
+    for (const spelling of [[0xd8, 0x3d], [0xd9, 0x00, 0x3d]]) {
+        const message = new Uint8Array([...spelling, ...signed(privateKey, octets("a104420001"), structureOf(octets("a104420001")))]);
+        assert.equal(text(await cose.payload(keys, message)), "hi", String(spelling));
+    }
+});
+
 /** A token by Node's HMAC, which expires at a time in seconds. */
 function tokenUntil(exp) {
     const secret = Buffer.from("a secret of thirty-two octets ..");

@@ -169,6 +169,10 @@ class Parameter(unittest.TestCase):
             self.both(call, {"aad": b"data"}, {}, "BadAuth")
         for call in self.tokens({2: "s"}, long=True):
             self.both(call, {"large": True}, {}, "PastRoom")
+        for kind in (MAC, SIGNED):
+            it = Made(kind, cbor.encode({2: "s"}), long=True)
+            table = partial(cose.verify_cwt, cose.KeyTable(it.keys), it.data, now=0, **it.rest)
+            self.both(table, {"large": True}, {}, "PastRoom")
         for kind, other in ((MAC, SIGNED), (SIGNED, MAC)):
             untagged = Made(kind, cbor.encode({}), tagged=False).verify_cwt
             self.both(untagged, {"wanted": kind}, {}, "WrongTag")

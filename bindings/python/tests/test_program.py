@@ -95,6 +95,13 @@ class Program(unittest.TestCase):
         status, printed, _ = self.run_program(*words, given=message.hex().encode())
         self.assertEqual((status, printed["payload"]), (0, "6869"))
 
+    def test_large(self) -> None:
+        words = ["verify", "--keys", self.file("keys", KEYS)]
+        message = mac0(b"hi", kid=bytes(2_000))
+        self.assertEqual(self.run_program(*words, "--large", given=message)[0], 0)
+        status, printed, _ = self.run_program(*words, given=message)
+        self.assertEqual((status, printed["reason"]), (1, "PastRoom"))
+
     def test_token(self) -> None:
         words = ["cwt", "--keys", self.file("keys", KEYS), self.file("token", TOKEN)]
         claims = {
@@ -221,6 +228,10 @@ class KeyFiles(unittest.TestCase):
         ]
         both = json.dumps({"keys": [*others, key]}).encode()
         self.assertEqual(key_files.read(both), wanted)
+        made = [{1: 4, -1: bytes([it + 1])} for it in range(16)]
+        many = [{"kty": "oct", "k": base64url(bytes([it + 1]))} for it in range(16)]
+        many_keys = json.dumps({"keys": many}).encode()
+        self.assertEqual(key_files.read(many_keys), cbor.encode(made))
         for other in others:
             with self.assertRaises(ValueError):
                 key_files.read(json.dumps(other).encode())
@@ -233,6 +244,8 @@ class KeyFiles(unittest.TestCase):
         )
         for change in (
             {"x": base64url(x[1:])},
+            {"y": base64url(y[1:])},
+            {"y": base64url(y + b"0")},
             {"x": base64url(x[1:]), "y": base64url(y + b"0")},
             {"x": 1},
         ):

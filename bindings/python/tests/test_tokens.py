@@ -127,6 +127,8 @@ class Tokens(unittest.TestCase):
         self.assertEqual(found.key.cose_key(), cbor.encode(key))
         found = cose.verify_cwt(KEYS, token({8: {1: {**key, -3: True}, 3: b"k"}})).cnf
         self.assertEqual(found, cose.Confirmation(b"k", cose.ConfirmationKey(1, x, True)))
+        found = cose.verify_cwt(KEYS, token({8: {1: {**key, -3: False}}})).cnf
+        self.assertEqual(found, cose.Confirmation(None, cose.ConfirmationKey(1, x, False)))
 
     def test_threads(self) -> None:
         """A table serves several threads at once."""

@@ -21,6 +21,16 @@ class Verifier(unittest.TestCase):
         wanted = cose.Verdict(cose.Kind.MAC0, cose.Algorithm.HMAC_256, 9, len(message))
         self.assertEqual(found, wanted)
 
+    def test_long_piece(self) -> None:
+        """The payload of a piece is one part of it, however long."""
+        payload = bytes(range(256)) * 1_000
+        for before in (1, 9, 70_000):
+            message = mac0(payload)
+            with cose.Verifier(KEYS) as verifier:
+                first = verifier.feed(message[:before]).payload
+                self.assertEqual(first + verifier.feed(message[before:]).payload, payload)
+                verifier.verdict()
+
     def test_bytes_after_it(self) -> None:
         message = mac0(b"hi")
         with cose.Verifier(KEYS) as verifier:

@@ -73,6 +73,10 @@ class Rules(unittest.TestCase):
             "%retarget.3 = getelementptr i8, ptr %a, i64 8",
             "store i64 %retarget.2, ptr %retarget.3, align 1",
         )
+        for kind, align in ("{ i64, i64 }", 8), ("{ i8, i32 }", 4), ("{ i64, i8 }", 1):
+            second = kind.strip("{ }").split(", ")[1]
+            lines = rewritten(module(f"store {kind} %pair, ptr %a, align 8"))
+            self.assertIn(f"store {second} %retarget.2, ptr %retarget.3, align {align}", lines)
 
     def test_poison(self):
         above = "%retarget.1 = getelementptr i8, ptr %a, i64 4"
