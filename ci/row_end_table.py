@@ -547,11 +547,12 @@ def detached_ends():
     line = 'f"detached at {refusal.place}"'
     yield ends("the place, one more", line, line.replace("place}", "place + 1}"))
     yield from compared("show --detached: the place", line, line.replace("refusal.place", "turned(refusal.place)"), ("commands",), SIZES[:1], PROGRAM)
-    old = "*lines_of_headers(protected, unprotected, notation)])"
+    old = "*lines_of_headers(protected, unprotected, notation), *elsewhere])"
     for end, new in (
         ("no protected header", old.replace("(protected", "({}")),
         ("no unprotected header", old.replace("unprotected", "{}")),
         ("never in diagnostic notation", old.replace("notation)", "False)")),
+        ("nothing of the payload that is elsewhere", old.replace(", *elsewhere", "")),
         ("always in diagnostic notation", old.replace("notation)", "True)")),
     ):
         yield ends(end, old, new)
