@@ -300,7 +300,8 @@ pub fn run_with_files<'a, F: NamedFiles + NewFiles, R: Read, W: Write>(
     output: &mut W,
 ) -> u8
     ensures status { result ≤ 2 }
-    // Unless there is a fault, it prints help or the version, or the output for the options that clap finds in the arguments.
+    // Unless there is a fault, it prints help or the version, which a word of the arguments asks for, or the output for a request
+    // that it reads from the options that clap finds in them. So only then the status is 0 or 1.
     ensures printed { (bytes : List ℕ) → R.remaining (reader_of input.old) ≡ Some bytes →
         Answers (F.content files.now) (map (λ word. word.now) words.entry.now) bytes
         (W.contents output.old) (W.contents output.new) result }
