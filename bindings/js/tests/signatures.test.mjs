@@ -102,3 +102,9 @@ test("without a time, a token is admitted by the machine's clock", async () => {
     await assert.rejects(cose.token(old.keys, old.token, { now: undefined }), isExpired);
     assert.deepEqual((await cose.token(old.keys, old.token, { now: now - 3_601 })).exp, BigInt(now - 3_600));
 });
+
+test("no secret stays where keys were passed to the module", async () => {
+    const { token, keys } = tokenUntil(Math.floor(Date.now() / 1000) + 3_600);
+    cose.verify(keys, token);
+    assert.equal(Buffer.from(cose.rooms.memory.buffer).indexOf(Buffer.from(keys)), -1);
+});
