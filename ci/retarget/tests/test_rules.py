@@ -113,7 +113,7 @@ class Rules(unittest.TestCase):
     def test_attributes(self):
         self.assertIn("attributes #0 = { nounwind }", rewritten(module()))
         small = rewritten(module(), way="size")
-        self.assertIn("attributes #0 = { optsize nounwind }", small)
+        self.assertIn("attributes #2 = { minsize optsize nounwind }", small)
         self.assertIn("attributes #1 = { nounwind memory(argmem: write) }", small)
 
     def test_what_stays(self):
