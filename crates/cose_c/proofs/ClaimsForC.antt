@@ -33,15 +33,16 @@ module _ (policy : PolicyValue) (claims : ClaimsValue) where
   pub was_read : (depth : ℕ) (payload : List ℕ) → admitted_claims depth policy payload ≡ Ok claims → claims_of depth (record { bytes = payload; place = 0 }) ≡ Ok claims
   was_read depth payload e = reading (claims_of depth (record { bytes = payload; place = 0 })) e
 
-module _ (depth : ℕ) (payload : List ℕ) (claims : CoseClaims) (now : ℤ) (leeway : ℕ) (given : Result (Option (List ℕ)) CoseStatus) where
-  pub gives_no_policy : (status : CoseStatus) → given ≡ Err status → claims ≡ no_claims status → Gives payload (claims_given depth (policy_named now leeway given) payload) claims
-  gives_no_policy status e is = subst (λ (g : Result (Option (List ℕ)) CoseStatus). Gives payload (claims_given depth (policy_named now leeway g) payload) claims) (sym e) (ap without_payload is)
+-- What holds of the claims under the policy that the arguments say.
+module _ (P : Result ClaimsValue CoseStatus → Type 0) (depth : ℕ) (payload : List ℕ) (now : ℤ) (leeway : ℕ) (given : Result (Option (List ℕ)) CoseStatus) where
+  pub of_no_policy : (status : CoseStatus) → given ≡ Err status → P (Err status) → P (claims_given depth (policy_named now leeway given) payload)
+  of_no_policy status e h = subst (λ (g : Result (Option (List ℕ)) CoseStatus). P (claims_given depth (policy_named now leeway g) payload)) (sym e) h
 
-  pub gives_named : (name : Option (List ℕ)) (policy : PolicyValue) → given ≡ Ok name → policy ≡ policy_for now leeway name →
-      Gives payload (unless_refused (admitted_claims depth policy payload)) claims → Gives payload (claims_given depth (policy_named now leeway given) payload) claims
-  gives_named name policy e same h =
-      subst (λ (g : Result (Option (List ℕ)) CoseStatus). Gives payload (claims_given depth (policy_named now leeway g) payload) claims) (sym e)
-      (subst (λ (p : PolicyValue). Gives payload (unless_refused (admitted_claims depth p payload)) claims) same h)
+  pub of_policy : (name : Option (List ℕ)) (policy : PolicyValue) → given ≡ Ok name → policy ≡ policy_for now leeway name →
+      P (unless_refused (admitted_claims depth policy payload)) → P (claims_given depth (policy_named now leeway given) payload)
+  of_policy name policy e same h =
+      subst (λ (g : Result (Option (List ℕ)) CoseStatus). P (claims_given depth (policy_named now leeway g) payload)) (sym e)
+      (subst (λ (p : PolicyValue). P (unless_refused (admitted_claims depth p payload))) same h)
 
 -- The same where the payload is at another place.
 pub gives_at_any_place : (payload : List ℕ) (given : Result ClaimsValue CoseStatus) (claims : CoseClaims) (at count : ℕ) → Gives payload given claims → Gives payload given (record claims { payload_at = at; payload_length = count })
@@ -59,6 +60,9 @@ gives_at_any_place payload (Ok value) claims at count g = record {
   iat = g.iat;
   cnf_crv = g.cnf_crv;
   cnf_y_sign = g.cnf_y_sign;
+  cnf_kid = g.cnf_kid;
+  cnf_x = g.cnf_x;
+  cnf_y = g.cnf_y;
 }
 gives_at_any_place payload (Err status) claims at count g = g
 

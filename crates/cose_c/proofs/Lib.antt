@@ -1,6 +1,8 @@
 pub mod ClaimsForC
+pub mod Copies
 pub mod Dates
 pub mod Imports
+pub mod Members
 pub mod Messages
 pub mod Parts
 pub mod Streams

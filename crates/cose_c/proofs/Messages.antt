@@ -1,8 +1,9 @@
 -- The verdict on bytes in memory, of which the first ones were fed.
-use Rattle.std.proofs.Common.{◌≡◌, inl, inr, ℕ, ◌-◌, ◌≤◌, ℤ, Bool, true, false, List, [], ◌++◌, length, take, drop, Option, Some, None, Result, Ok, Err, refl, sym, ap, subst, ◌∙◌, ◌||◌, not, arith}
+use Rattle.std.proofs.Common.{◌≡◌, inl, inr, ℕ, zero, suc, ◌-◌, ◌<◌, ◌≤◌, ℤ, Bool, true, false, List, [], ◌++◌, length, take, drop, Option, Some, None, Result, Ok, Err, refl, sym, ap, subst, ◌∙◌, ◌||◌, not, arith}
 use Rattle.std.proofs.lemmas.Bool.Decides.{nat_tests}
-use Rattle.std.proofs.lemmas.List.{length-drop, length-take, take-append-drop}
+use Rattle.std.proofs.lemmas.List.{append-nil, length-drop, length-take, take-append-drop}
 use Rattle.std.proofs.Math.Seq.{take-length}
+use Rattle.std.specs.Io.KnownBytes.{Consumes, IsAtEnd}
 use Rattle.std.specs.Prelude.{IfOk, IsSomeAnd, min, nat_lt, ◌⊎◌}
 use Rattle.cose_head.specs.declared.algorithm.Alg.{Alg}
 use Rattle.cose_head.specs.declared.kind.Kind.{Kind}
@@ -21,8 +22,8 @@ use Rattle.cose_msg.specs.declared.verdict.Verdict.TheVariants.{Authentic, Refus
 use Rattle.cose_msg.specs.Answer.{Answer, Chosen, Headers, Whole, decided, complete, shaped}
 use Rattle.cose_msg.specs.Feed.{Uses, part_of}
 use Rattle.cose_msg.specs.GrammarLaws.{AuthenticIsMessage, MessageIsRead}
-use Rattle.cose_msg.specs.Laws.{ComparingGoesLast, MessageStays, answered, then_compared}
-use Rattle.cose_msg.specs.Message.{Decides, Setting, as_choice, comparing, key_choice_of, message, past_chosen, question_of, uncompared, verdict_of, with_algorithm}
+use Rattle.cose_msg.specs.Laws.{ComparingGoesLast, MessageStays, PayloadStays, VerifyingGoesLast, answered, receiving, then_compared}
+use Rattle.cose_msg.specs.Message.{Decides, Setting, as_choice, comparing, given, key_choice_of, message, past_chosen, question_of, uncompared, verdict_of, verifying, with_algorithm}
 use Rattle.cose_msg.specs.Phases.{headers_so_far}
 use Rattle.cose_msg.specs.Reading.{Reading, settled}
 use Rattle.cose_msg.specs.Rules.{Rules}
@@ -168,6 +169,41 @@ signed_input of_kind of_type law room nesting setting bytes whole found is chose
     let input : sign_input_in setting.aad (message (comparing room nesting setting) bytes).answer ≡ Some (signed_with setting.aad whole found) =
     law room nesting setting bytes ∙ ap (signature_in setting.aad) is ∙ rw (signs, chose) refl in
     ap has_point input ∙ found_point of_kind of_type setting.keys whole.headers found (chosen (question_of whole.headers) setting.keys) refl signs (choice ∙ ap Ok chose)
+
+-- ---- a detached payload
+
+-- What a message has been read as stays, once no byte of its payload is wanted, and no byte of it or none is left.
+module _ (stays : MessageStays) (payload_stays : PayloadStays) (rules : Rules) (taken came rest left : List ℕ) where
+  with_left : (wanted : ℕ) → (message (receiving came rules) taken).payload_wanted ≡ wanted → (0 < wanted → left ≡ []) →
+      message (receiving (came ++ left) rules) taken ≡ message (receiving came rules) taken
+  with_left zero is none = payload_stays rules came left taken is
+  with_left (suc n) is none = ap (λ (c : List ℕ). message (receiving c rules) taken) (ap (λ (l : List ℕ). came ++ l) (none (omega arith)) ∙ append-nil came)
+
+  with_rest : (settled : Bool) → (message (receiving came rules) taken).settled ≡ settled → (settled ≡ false → rest ≡ []) → (0 < (message (receiving came rules) taken).payload_wanted → left ≡ []) →
+      message (receiving (came ++ left) rules) (taken ++ rest) ≡ message (receiving came rules) taken
+  with_rest true is ended none =
+      let same = with_left (message (receiving came rules) taken).payload_wanted refl none in
+      stays (receiving (came ++ left) rules) taken rest (ap (λ (r : Reading). r.settled) same ∙ is) ∙ same
+  with_rest false is ended none =
+      ap (message (receiving (came ++ left) rules)) (ap (λ (l : List ℕ). taken ++ l) (ended refl) ∙ append-nil taken)
+      ∙ with_left (message (receiving came rules) taken).payload_wanted refl none
+
+-- All bytes of a message and of its payload are read as those that a run took of both.
+pub read_on_both : MessageStays → PayloadStays → VerifyingGoesLast → (H D : ℕ) (setting : Setting) (decides : Decides) (bytes payload taken came : List ℕ) (come come_after beside beside_after : Option (List ℕ)) →
+    come ≡ Some bytes → beside ≡ Some payload → Consumes come come_after taken → Consumes beside beside_after came →
+    ((message (verifying H D (given came setting) decides) taken).settled ≡ false → IsAtEnd come_after) → (0 < (message (verifying H D (given came setting) decides) taken).payload_wanted → IsAtEnd beside_after) →
+    message (comparing H D (given payload setting)) bytes ≡ message (comparing H D (given came setting)) taken
+read_on_both stays payload_stays last H D setting decides bytes payload taken came come None beside beside_after told beside_told of_bytes of_payload ended missing = let none = rw told at of_bytes in absurd none
+read_on_both stays payload_stays last H D setting decides bytes payload taken came come (Some rest) beside None told beside_told of_bytes of_payload ended missing = let none = rw beside_told at of_payload in absurd none
+read_on_both stays payload_stays last H D setting decides bytes payload taken came come (Some rest) beside (Some left) told beside_told of_bytes of_payload ended missing =
+    let all : bytes ≡ taken ++ rest = rw told at of_bytes in
+    let both : payload ≡ came ++ left = rw beside_told at of_payload in
+    let compared = last H D (given came setting) decides taken in
+    let open_too : (message (verifying H D (given came setting) decides) taken).settled ≡ (message (comparing H D (given came setting)) taken).settled = ap (λ (r : Reading). r.settled) compared in
+    let wanted_too : (message (comparing H D (given came setting)) taken).payload_wanted ≡ (message (verifying H D (given came setting) decides) taken).payload_wanted = sym (ap (λ (r : Reading). r.payload_wanted) compared) in
+    ap (λ (p : List ℕ). message (comparing H D (given p setting)) bytes) both ∙ ap (message (comparing H D (given (came ++ left) setting))) all
+    ∙ with_rest stays payload_stays (comparing H D setting) taken came rest left (message (comparing H D (given came setting)) taken).settled refl
+    (λ unsettled. ended (open_too ∙ unsettled)) (λ some. missing (subst (λ (n : ℕ). 0 < n) wanted_too some))
 
 -- ---- what a call answers
 

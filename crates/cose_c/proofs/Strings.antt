@@ -20,7 +20,7 @@ use Rattle.cose_cwt.specs.Claims.Labels as names
 use Rattle.cose_cwt.specs.Laws.{ClaimsAreOfTree}
 use Rattle.cose_c.specs.declared.cose_claims.CoseRange.{CoseRange}
 use Rattle.cose_c.specs.Message.{Covers}
-use Rattle.cose_c.specs.CoseClaims.{Ranges, StartsInside, audience_item, bytes_range, content_range, element_numbered, first_in, first_with, text_at, text_numbered, text_range}
+use Rattle.cose_c.specs.CoseClaims.{IsWithin, LiesIn, Ranges, StartsInside, audience_item, bytes_range, content_range, element_numbered, first_in, first_with, text_at, text_numbered, text_range}
 use Rattle.cose_c.proofs.Dates.{looks}
 use Rattle.cose_c.proofs.Parts.{Part, children_part, drop_taken, drop_twice, taken_all, taken_short, taken_twice, within}
 
@@ -49,7 +49,7 @@ bytes_are h rest content false e is =
 text_content : (p : Placed) (text : List ℕ) → text_in (look p) ≡ Some text → text ≡ take (head_of_item p).arg (drop (head_of_item p).width p.bytes)
 text_content p text is = text_is (head_of_item p) _ text (nat_eq (head_of_item p).major 3) refl (sym (ap text_in (looks p (head_of_item p) refl)) ∙ is)
 
-bytes_content : (p : Placed) (content : List ℕ) → bytes_in (look p) ≡ Some content → content ≡ take (head_of_item p).arg (drop (head_of_item p).width p.bytes)
+pub bytes_content : (p : Placed) (content : List ℕ) → bytes_in (look p) ≡ Some content → content ≡ take (head_of_item p).arg (drop (head_of_item p).width p.bytes)
 bytes_content p content is = bytes_are (head_of_item p) _ content (nat_eq (head_of_item p).major 2) refl (sym (ap bytes_in (looks p (head_of_item p) refl)) ∙ is)
 
 -- ---- its place
@@ -220,6 +220,14 @@ module _ (tree : ClaimsAreOfTree) (ends : ChildrenEndInside) (depth : ℕ) (payl
       Ranges payload (option_and_then (λ v. bytes_in (look v)) value) range
   bytes_claim_range name None range found e inside = e
   bytes_claim_range name (Some v) range found e inside = bytes_ranges name v (bytes_in (look v)) range found refl e inside
+
+  -- A range of the confirmation is within the payload.
+  pub cnf_range : (value : Option Placed) (range : CoseRange) → value_of names.cnf claims.pairs ≡ value → LiesIn value range → IsWithin payload range
+  cnf_range None range found e =
+      let at : range.at ≡ 0 = ap (λ (r : CoseRange). r.at) e in
+      let count : range.length ≡ 0 = ap (λ (r : CoseRange). r.length) e in
+      omega (arith, at, count)
+  cnf_range (Some v) range found inside = let ends = value_ends names.cnf v found in omega (arith, ends, inside)
 
   of_element : (v : Placed) (found : Option Placed) (range : CoseRange) → Part whole v → end_of v ≤ length payload → ((x : Placed) → found ≡ Some x → Part v x) → ((x : Placed) → found ≡ Some x → end_of x ≤ end_of v) →
       range ≡ text_range found → StartsInside found range → Ranges payload (option_and_then (λ x. text_in (look x)) found) range

@@ -14,7 +14,7 @@ use Rattle.cose_c.specs.declared.cose_claims.CoseClaims.{CoseClaims}
 use Rattle.cose_c.specs.declared.cose_claims.CoseRange.{CoseRange}
 use Rattle.cose_c.specs.Message.{Covers, payload_read, verdict_read}
 use Rattle.cose_c.specs.Numbers.{plain_status, refused_status}
-use Rattle.cose_c.specs.CoseClaims.{Ranges, confirmed_curve, confirmed_sign, date_numbers, no_claims, no_range, text_numbered}
+use Rattle.cose_c.specs.CoseClaims.{IsWithin, Ranges, confirmed_curve, confirmed_sign, date_numbers, no_claims, no_range, text_numbered}
 
 abbrev pub policy_for : ℤ → ℕ → Option (List ℕ) → PolicyValue
 policy_for now leeway name = record { now = now; leeway = leeway; mine = option_map (λ text. text ∷ []) name }
@@ -48,7 +48,8 @@ abbrev pub claims_given : ℕ → Result PolicyValue CoseStatus → List ℕ →
 claims_given depth (Ok policy) payload = unless_refused (admitted_claims depth policy payload)
 claims_given depth (Err status) payload = Err status
 
--- What a caller gets of claims that are admitted: each text string and byte string as its range in the payload, and the dates.
+-- What a caller gets of claims that are admitted: each text string and byte string as its range in the payload, and the dates. Of the
+-- confirmation it gets ranges that are within the payload.
 pub record GivesClaims (payload : List ℕ) (value : ClaimsValue) (claims : CoseClaims) : Type 0 where
   pub status : claims.status ≡ 1
   pub no_reason : claims.reason ≡ 0
@@ -63,6 +64,9 @@ pub record GivesClaims (payload : List ℕ) (value : ClaimsValue) (claims : Cose
   pub iat : claims.iat ≡ date_numbers (iat_of value)
   pub cnf_crv : claims.cnf_crv ≡ confirmed_curve value.confirmation
   pub cnf_y_sign : claims.cnf_y_sign ≡ confirmed_sign value.confirmation
+  pub cnf_kid : IsWithin payload claims.cnf_kid
+  pub cnf_x : IsWithin payload claims.cnf_x
+  pub cnf_y : IsWithin payload claims.cnf_y
 
 -- Or why there are none. (Where the payload is in the token is said apart.)
 abbrev pub without_payload : CoseClaims → CoseClaims
@@ -71,6 +75,12 @@ without_payload claims = record claims { payload_at = 0; payload_length = 0 }
 abbrev pub Gives : List ℕ → Result ClaimsValue CoseStatus → CoseClaims → Type 0
 Gives payload (Ok value) claims = GivesClaims payload value claims
 Gives payload (Err status) claims = without_payload claims ≡ no_claims status
+
+-- Where the payload is, of claims that are read without a token: it is all of the bytes. Where there are no claims, there is their
+-- status alone.
+abbrev pub GivesAlone : List ℕ → Result ClaimsValue CoseStatus → CoseClaims → Type 0
+GivesAlone payload (Ok value) claims = (claims.payload_at ≡ 0) × (claims.payload_length ≡ length payload)
+GivesAlone payload (Err status) claims = claims ≡ no_claims status
 
 -- The status of a message that isn't authentic.
 abbrev pub status_in : CoseVerdict → CoseStatus

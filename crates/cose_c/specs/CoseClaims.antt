@@ -40,6 +40,16 @@ abbrev pub StartsInside : Option Placed → CoseRange → Type 0
 StartsInside (Some item) range = range.at ≤ end_of item
 StartsInside None range = ⊤
 
+-- An item ends by the end of the one that it is in.
+abbrev pub EndsIn : Placed → Option Placed → Type 0
+EndsIn outer (Some inner) = end_of inner ≤ end_of outer
+EndsIn outer None = ⊤
+
+-- A range ends by the end of the item that it is in. Where there is no item, there is no range.
+abbrev pub LiesIn : Option Placed → CoseRange → Type 0
+LiesIn (Some item) range = range.at + range.length ≤ end_of item
+LiesIn None range = range ≡ no_range
+
 -- A date before 1970 is -1 less its number (RFC 8949 section 3.1).
 abbrev pub date_value : Option Placed → Option ℤ
 date_value item = option_and_then (λ value. integer_in (look value)) item
@@ -87,6 +97,10 @@ text_at payload place = option_and_then (λ item. text_in (look item)) (first_in
 abbrev pub Ranges : List ℕ → Option (List ℕ) → CoseRange → Type 0
 Ranges payload None range = range ≡ no_range
 Ranges payload (Some content) range = (range.present ≡ 1) × Covers payload content range.at range.length
+
+-- A range of the payload, or none, is within it.
+abbrev pub IsWithin : List ℕ → CoseRange → Type 0
+IsWithin payload range = range.at + range.length ≤ length payload
 
 abbrev pub no_claims : CoseStatus → CoseClaims
 no_claims s = record {

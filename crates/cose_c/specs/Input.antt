@@ -4,11 +4,15 @@ use Rattle.cose_map.specs.Key.Value.{MaterialValue, YValue, symmetric, elliptic,
 use Rattle.cose_msg.specs.Shown.{SignInput}
 use Rattle.cose_c.specs.declared.input.CoseSignInput.{CoseSignInput}
 
--- A field with so much room begins with these bytes, and has their number beside it. (There is room for each: no coordinate has more
--- than 66 bytes, no digest more than 64, and no signature more than 132.)
+-- A field with so much room begins with these bytes, and has their number beside it. (No coordinate has more than 66 bytes.)
 pub record Gives (bytes field : List ℕ) (room count : ℕ) : Type 0 where
   pub counted : count ≡ min (length bytes) room
   pub copied : take count field ≡ take count bytes
+
+-- A field begins with all of these bytes, and has their number beside it.
+pub record GivesWhole (bytes field : List ℕ) (count : ℕ) : Type 0 where
+  pub counted : count ≡ length bytes
+  pub copied : take count field ≡ bytes
 
 -- The coordinate y has its bytes, or its sign alone: 1 where it is even, 2 where it is odd.
 abbrev pub GivesY : YValue → CoseSignInput → Type 0
@@ -26,8 +30,8 @@ is_point (symmetric secret) = false
 
 pub record GivesInput (signed : SignInput) (input : CoseSignInput) : Type 0 where
   pub point : GivesPoint signed.key.material input
-  pub digest : Gives signed.digest input.digest 64 input.digest_length
-  pub signature : Gives signed.signature input.signature 132 input.signature_length
+  pub digest : GivesWhole signed.digest input.digest input.digest_length
+  pub signature : GivesWhole signed.signature input.signature input.signature_length
 
 -- The same of a message, if it has a signature. Where it has none, nothing is given.
 abbrev pub has_point : Option SignInput → Bool

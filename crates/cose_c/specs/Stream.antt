@@ -9,6 +9,7 @@ use Rattle.cose_msg.specs.declared.status.Status.TheVariants as statuses
 use Rattle.cose_msg.specs.declared.verdict.Stop.{Stop}
 use Rattle.cose_msg.specs.declared.verdict.Verdict.{Verdict}
 use Rattle.cose_msg.specs.declared.verifier.Verifier.{Verifier}
+use Rattle.cose_msg.specs.Answer.{decided}
 use Rattle.cose_msg.specs.Feed.{part_of}
 use Rattle.cose_msg.specs.Kept.{HasTaken, bytes_taken, is_inspecting, kept_answer}
 use Rattle.cose_msg.specs.Message.{Setting, message}
@@ -18,8 +19,9 @@ use Rattle.cose_msg.specs.Status.{is_complete, is_more, is_open, payload_wanted_
 use Rattle.cose_msg.specs.Task.{Task, rules_of, to_verify}
 use Rattle.cose_msg.specs.Verifier.{detaching, task_of}
 use Rattle.cose_c.specs.declared.numbers.CoseStatus.{CoseStatus}
+use Rattle.cose_c.specs.declared.numbers.CoseVerdict.{CoseVerdict}
 use Rattle.cose_c.specs.declared.stream.CoseFed.{CoseFed}
-use Rattle.cose_c.specs.Numbers.{plain_status, refused_status}
+use Rattle.cose_c.specs.Numbers.{always_authentic, plain_status, refused_status, verdict_numbers}
 
 -- What the keys of a key set mean.
 abbrev pub meaning : Ghosts KeySet
@@ -129,6 +131,10 @@ says_good number = int_eq number (pos 1)
 abbrev pub answer_kept_by : {H D : ℕ} → Content H D → Option (Result Verdict Stop)
 answer_kept_by None = None
 answer_kept_by (Some v) = kept_answer v
+
+-- The verdict that a caller gets is the one that the block keeps.
+abbrev pub Keeps : {H D : ℕ} → CoseVerdict → Content H D → Type 0
+Keeps verdict content = (kept : Verdict) × (answer_kept_by content ≡ Some (Ok kept)) × (verdict ≡ verdict_numbers always_authentic 0 (decided kept))
 
 -- ---- the next message
 

@@ -1,12 +1,13 @@
 //! A token in memory, by one call, and the claims of a payload.
 
-ghost use Rattle.std.specs.Prelude.{◌≡◌, ◌≢◌, ◌≤◌, ◌<◌, ◌+◌, ◌-◌, ◌^◌, min, length, ℕ, false, [], drop, take, Ok, option_map};
+ghost use Rattle.std.specs.Prelude.{◌≡◌, ◌≢◌, ◌≤◌, ◌<◌, ◌+◌, ◌-◌, ◌^◌, min, length, ℕ, false, [], drop, take, Ok, Some, option_map};
 ghost use Rattle.cose_head.specs.ItemRef.{placed};
-ghost use Rattle.cose_head.specs.Placed.{children_of, if_utf8};
+ghost use Rattle.cose_head.specs.Placed.{Placed, children_of, if_utf8};
 ghost use Rattle.cose_map.specs.Key.View.{key_value};
 ghost use Rattle.cose_map.specs.KeySet.{keys_of};
 ghost use Rattle.cose_map.specs.Map.Pairs.{value_of};
-ghost use Rattle.cose_map.specs.Map.View.{seen_by};
+ghost use Rattle.cose_map.specs.Map.Read.{check_map};
+ghost use Rattle.cose_map.specs.Map.View.{pairs_left, seen_by};
 ghost use Rattle.cose_msg.specs.Kept.{HasTaken, is_inspecting};
 ghost use Rattle.cose_msg.specs.Task.{to_verify};
 ghost use Rattle.cose_msg.specs.Verifier.{is_detached, setting_in};
@@ -16,9 +17,9 @@ ghost use Rattle.cose_cwt.specs.Claims.{auds_of, claims_of, texts_at, texts_from
 ghost use Rattle.cose_cwt.specs.Claims.Labels as names;
 ghost use Rattle.cose_cwt.specs.Claims.Audience.{text_value};
 ghost use Rattle.cose_cwt.specs.Claims.View.{claims_value};
-ghost use Rattle.cose_c.specs.Claims.{Gives, GivesAudience, GivesClaims, GivesToken, GivesTokenIn, claims_given, name_given, name_seen, policy_for, policy_given, status_in, unless_refused};
+ghost use Rattle.cose_c.specs.Claims.{Gives, GivesAlone, GivesAudience, GivesClaims, GivesToken, GivesTokenIn, claims_given, name_given, name_seen, policy_for, policy_given, status_in, unless_refused};
 ghost use Rattle.cose_c.specs.Terms.{setting_given};
-ghost use Rattle.cose_c.specs.CoseClaims.{Ranges, StartsInside, audience_item, confirmed_curve, confirmed_sign, curve_number, element_numbered, first_in, no_claims, sign_number, text_at, text_numbered, text_range};
+ghost use Rattle.cose_c.specs.CoseClaims.{EndsIn, LiesIn, Ranges, StartsInside, any_value, audience_item, confirmed_curve, confirmed_sign, curve_number, element_numbered, first_in, no_claims, sign_number, no_range, text_at, text_numbered, text_range};
 
 use crate::cose_claims::{
     CoseClaims, CoseRange, bytes_range, date_in, no_claims, no_range, text_range,
@@ -33,7 +34,8 @@ use cose_cwt::laws::claims_are_of_a_tree;
 use cose_cwt::{Audience, Claims, Policy};
 use cose_head::laws::children_are_of_tree;
 use cose_head::read_item;
-use cose_map::{Form, ItemRef, Items, Key, Label, Material, Reason, Y, check_map};
+use cose_map::laws::refusals_stand_inside;
+use cose_map::{Form, ItemRef, Items, Key, Label, Material, Pairs, Reason, Y, check_map};
 use cose_msg::{Keys, Refusal, Verifier};
 use std::slice;
 
@@ -251,45 +253,121 @@ fn point_of(key: Option<Key<'_>>) -> Point
     }
 }
 
-/// Where the strings of a confirmation are.
+/// A member of a map, if the map has it.
+fn member<'a>(members: &Pairs<'a>, label: &Label<'_>) -> Option<ItemRef<'a>>
+    ensures { (item : Placed) → check_map any_value item ≡ Ok (pairs_left members.now)
+        → EndsIn item (option_map placed result) }
+{
+    // The law that the proof cites.
+    refusals_stand_inside();
+    members.get(label)
+}
+
+/// The range of the byte string that a member of a map is, if the map has the member.
+fn member_range(members: &Pairs<'_>, label: &Label<'_>) -> CoseRange
+    ensures { (item : Placed) → check_map any_value item ≡ Ok (pairs_left members.now)
+        → LiesIn (Some item) result }
+{
+    bytes_range(member(members, label))
+}
+
+/// Where the coordinates of the key of a confirmation are.
 #[derive(Clone, Copy)]
-struct Strings {
-    kid: CoseRange,
+struct Coordinates {
     x: CoseRange,
     y: CoseRange,
 }
 
-/// The coordinates of the key that is confirmed, whose item this is (RFC 8747 section 3.2).
-fn give_coordinates(key: &ItemRef<'_>, point: Point, strings: &mut Strings) {
-    let Ok(members) = check_map(&AnyForm, key) else {
-        return;
-    };
-    strings.x = bytes_range(members.get(&X));
-    if point.y_sign == 0 {
-        strings.y = bytes_range(members.get(&Y_COORDINATE));
+/// No coordinates.
+fn no_coordinates() -> Coordinates
+    ensures x { result.x ≡ no_range }
+    ensures y { result.y ≡ no_range }
+{
+    Coordinates {
+        x: no_range(),
+        y: no_range(),
     }
 }
 
-/// The strings of a confirmation, whose item this is, if there is one (RFC 8747 section 3).
-fn strings_of(cnf: Option<ItemRef<'_>>, point: Point) -> Strings {
-    let mut strings = Strings {
-        kid: no_range(),
-        x: no_range(),
-        y: no_range(),
-    };
-    let Some(cnf) = cnf else {
-        return strings;
-    };
-    let Ok(members) = check_map(&AnyForm, &cnf) else {
-        return strings;
-    };
-    strings.kid = bytes_range(members.get(&KID));
-    if let Some(key) = members.get(&COSE_KEY)
-        && point.crv > 0
-    {
-        give_coordinates(&key, point, &mut strings);
+/// The coordinate y among the members of a key, where it has its bytes.
+fn y_range(members: &Pairs<'_>, point: Point) -> CoseRange
+    ensures { (item : Placed) → check_map any_value item ≡ Ok (pairs_left members.now)
+        → LiesIn (Some item) result }
+{
+    if point.y_sign == 0 {
+        return member_range(members, &Y_COORDINATE);
     }
-    strings
+    no_range()
+}
+
+/// The coordinates of the key that is confirmed, whose item this is (RFC 8747 section 3.2).
+fn coordinates_in(key: &ItemRef<'_>, point: Point) -> Coordinates
+    ensures x { LiesIn (Some (placed key.now)) result.x }
+    ensures y { LiesIn (Some (placed key.now)) result.y }
+{
+    match check_map(&AnyForm, key) {
+        Ok(members) => Coordinates {
+            x: member_range(&members, &X),
+            y: y_range(&members, point),
+        },
+        Err(_) => no_coordinates(),
+    }
+}
+
+/// The coordinates of the key among the members of a confirmation, if it has a point.
+fn coordinates_of(members: &Pairs<'_>, point: Point) -> Coordinates
+    ensures x { (item : Placed) → check_map any_value item ≡ Ok (pairs_left members.now)
+        → LiesIn (Some item) result.x }
+    ensures y { (item : Placed) → check_map any_value item ≡ Ok (pairs_left members.now)
+        → LiesIn (Some item) result.y }
+{
+    if point.crv == 0 {
+        return no_coordinates();
+    }
+    match member(members, &COSE_KEY) {
+        Some(key) => coordinates_in(&key, point),
+        None => no_coordinates(),
+    }
+}
+
+/// Where the strings of a confirmation are.
+#[derive(Clone, Copy)]
+struct Strings {
+    kid: CoseRange,
+    key: Coordinates,
+}
+
+/// The strings of a confirmation, whose item this is (RFC 8747 section 3).
+fn strings_in(cnf: &ItemRef<'_>, point: Point) -> Strings
+    ensures kid { LiesIn (Some (placed cnf.now)) result.kid }
+    ensures x { LiesIn (Some (placed cnf.now)) result.key.x }
+    ensures y { LiesIn (Some (placed cnf.now)) result.key.y }
+{
+    match check_map(&AnyForm, cnf) {
+        Ok(members) => Strings {
+            kid: member_range(&members, &KID),
+            key: coordinates_of(&members, point),
+        },
+        Err(_) => Strings {
+            kid: no_range(),
+            key: no_coordinates(),
+        },
+    }
+}
+
+/// The strings of a confirmation, if there is one.
+fn strings_of(cnf: Option<ItemRef<'_>>, point: Point) -> Strings
+    ensures kid { LiesIn (option_map placed cnf.entry) result.kid }
+    ensures x { LiesIn (option_map placed cnf.entry) result.key.x }
+    ensures y { LiesIn (option_map placed cnf.entry) result.key.y }
+{
+    match cnf {
+        Some(cnf) => strings_in(&cnf, point),
+        None => Strings {
+            kid: no_range(),
+            key: no_coordinates(),
+        },
+    }
 }
 
 /// The point of the key that a token confirms, if it does.
@@ -337,8 +415,8 @@ fn claims_for_c(claims: &Claims<'_>, payload: &[u8]) -> CoseClaims
         nbf,
         iat,
         cnf_kid: strings.kid,
-        cnf_x: strings.x,
-        cnf_y: strings.y,
+        cnf_x: strings.key.x,
+        cnf_y: strings.key.y,
         cnf_crv: point.crv,
         cnf_y_sign: point.y_sign,
     }
@@ -347,12 +425,15 @@ fn claims_for_c(claims: &Claims<'_>, payload: &[u8]) -> CoseClaims
 /// The claims of a payload, admitted under a policy or refused.
 fn claims_named(payload: &[u8], depth: usize, policy: &Policy<'_>) -> CoseClaims
     requires { depth ≤ 32 }
-    ensures { Gives payload.now
+    ensures gives { Gives payload.now
+        (unless_refused (admitted_claims depth (policy_value policy.entry.now) payload.now))
+        result }
+    ensures alone { GivesAlone payload.now
         (unless_refused (admitted_claims depth (policy_value policy.entry.now) payload.now))
         result }
 {
     match admitted(payload, depth, policy) {
-        Ok(claims) => claims_for_c(&claims, payload),
+        Ok(claims) => placed_claims(claims_for_c(&claims, payload), 0, payload.len() as u64),
         Err(refusal) => no_claims(refused_status(CLAIMS_REFUSED, refusal)),
     }
 }
@@ -360,8 +441,10 @@ fn claims_named(payload: &[u8], depth: usize, policy: &Policy<'_>) -> CoseClaims
 /// The claims of a payload under a policy.
 fn claims_under(payload: &[u8], depth: usize, policy: &CosePolicy<'_>) -> CoseClaims
     requires { depth ≤ 32 }
-    ensures { Gives payload.now (claims_given depth (policy_given policy.entry.now) payload.now)
-        result }
+    ensures gives { Gives payload.now
+        (claims_given depth (policy_given policy.entry.now) payload.now) result }
+    ensures alone { GivesAlone payload.now
+        (claims_given depth (policy_given policy.entry.now) payload.now) result }
 {
     match name_of(policy) {
         Ok(name) => claims_named(payload, depth, &policy_of(policy, &name)),
@@ -502,8 +585,10 @@ pub extern "C" fn cose_edge_large_verify_cwt(
 /// Reads the claims of a payload that is known to be authentic, such as that of a COSE_Sign1 whose signature is good.
 #[unsafe(no_mangle)]
 pub extern "C" fn cose_edge_claims(payload: &[u8], policy: &CosePolicy<'_>, claims: &mut CoseClaims)
-    ensures { Gives payload.now (claims_given 8 (policy_given policy.entry.now) payload.now)
-        claims.new }
+    ensures claims { Gives payload.now
+        (claims_given 8 (policy_given policy.entry.now) payload.now) claims.new }
+    ensures payload { GivesAlone payload.now
+        (claims_given 8 (policy_given policy.entry.now) payload.now) claims.new }
 {
     *claims = claims_under(payload, NESTING, policy);
 }
@@ -515,8 +600,10 @@ pub extern "C" fn cose_edge_large_claims(
     policy: &CosePolicy<'_>,
     claims: &mut CoseClaims,
 )
-    ensures { Gives payload.now (claims_given 16 (policy_given policy.entry.now) payload.now)
-        claims.new }
+    ensures claims { Gives payload.now
+        (claims_given 16 (policy_given policy.entry.now) payload.now) claims.new }
+    ensures payload { GivesAlone payload.now
+        (claims_given 16 (policy_given policy.entry.now) payload.now) claims.new }
 {
     *claims = claims_under(payload, LARGE_NESTING, policy);
 }

@@ -1,9 +1,9 @@
 //! What a signature is verified with, in the form of the C interface.
 
-ghost use Rattle.std.specs.Prelude.{◌≡◌, true, false, length, min, take};
+ghost use Rattle.std.specs.Prelude.{◌≡◌, ◌≤◌, true, false, length, min, take};
 ghost use Rattle.cose_map.specs.Key.View.{key_value};
 ghost use Rattle.cose_msg.specs.Shown.{sign_input_of};
-ghost use Rattle.cose_c.specs.Input.{Gives, GivesAll, GivesPoint, has_point, is_point};
+ghost use Rattle.cose_c.specs.Input.{Gives, GivesAll, GivesPoint, GivesWhole, has_point, is_point};
 
 use cose_map::{Key, Keys, Material, Y};
 use cose_msg::Verifier;
@@ -41,6 +41,14 @@ fn copy(from: &[u8], into: &mut [u8]) -> u64
     let count = from.len().min(into.len());
     into[..count].copy_from_slice(&from[..count]);
     count as u64
+}
+
+/// Copies all bytes, for which there is room, and returns how many there are.
+fn copy_all(from: &[u8], into: &mut [u8]) -> u64
+    requires { length from.now ≤ length into.old }
+    ensures { GivesWhole from.now into.new result }
+{
+    copy(from, into)
 }
 
 /// Gives the point of a key, if it has one.
@@ -82,8 +90,8 @@ pub(crate) fn give_input<'k, const H: usize, const D: usize, K: Keys<'k>>(
     if !give_point(&key, input) {
         return false;
     }
-    input.digest_length = copy(digest, &mut input.digest);
-    input.signature_length = copy(signature, &mut input.signature);
+    input.digest_length = copy_all(digest, &mut input.digest);
+    input.signature_length = copy_all(signature, &mut input.signature);
     true
 }
 

@@ -1,7 +1,7 @@
 //! A COSE_Mac0 that is made over pieces (RFC 9052 section 6.2), in a block. What precedes the payload, the payload's pieces, and what
 //! follows it are the message.
 
-ghost use Rattle.std.specs.Prelude.{◌≡◌, ◌≤◌, ◌<◌, ℕ, List, [], ◌++◌, None, Some, Ok, Err, IfErr, IfOk, IsOk, length, min, option_map, take};
+ghost use Rattle.std.specs.Prelude.{◌≡◌, ◌≢◌, ◌≤◌, ◌<◌, ℕ, List, [], ◌++◌, None, Some, Ok, Err, IfErr, IfOk, IsOk, length, min, option_map, take};
 ghost use Rattle.cose_head.specs.declared.algorithm.Alg.{Alg};
 ghost use Rattle.cose_mac.specs.Structure.{encoded_string};
 ghost use Rattle.cose_map.specs.Key.{key_of};
@@ -79,10 +79,16 @@ fn begin_under(
         ≡ Some fault
         → result ≡ Err fault }
     ensures refused { IfErr result (λ fault. 0 < fault.status) }
+    ensures nothing { IfErr result (λ fault. fault.length ≡ 0) }
+    ensures room { fault_numbers
+        (make_fault alg (key_value key.now) (kid_given kid.now) aad.now payload_length) ≡ None
+        → IfErr result (λ fault. fault ≡ not_made 12 0) }
     ensures making { IfOk result (λ begun. IsMaking alg (secret_of (key_value key.now).material)
         aad.now payload_length [] begun.0) }
     ensures front { IfOk result (λ begun. take begun.1 head.new
         ≡ front_of (protected_made alg) (kid_given kid.now) payload_length) }
+    ensures counted { IfOk result (λ begun. begun.1
+        ≡ length (front_of (protected_made alg) (kid_given kid.now) payload_length)) }
     ensures begins { fault_numbers
         (make_fault alg (key_value key.now) (kid_given kid.now) aad.now payload_length) ≡ None
         → length (front_of (protected_made alg) (kid_given kid.now) payload_length) ≤ 384
@@ -117,6 +123,11 @@ fn begin(
         kid.now aad.now payload_length ≡ Some fault
         → result ≡ Err fault }
     ensures refused { IfErr result (λ fault. 0 < fault.status) }
+    ensures nothing { IfErr result (λ fault. fault.length ≡ 0) }
+    ensures room { (found : Alg) → mac_numbered alg ≡ Some found
+        → arguments_fault (Some found) (key_of (whole key.now)) kid.now aad.now payload_length
+        ≡ None
+        → IfErr result (λ fault. fault ≡ not_made 12 0) }
     ensures making { (found : Alg) (read : KeyValue) → mac_numbered alg ≡ Some found
         → key_of (whole key.now) ≡ Ok read
         → IfOk result (λ begun. IsMaking found (secret_of read.material) aad.now payload_length []
@@ -124,6 +135,9 @@ fn begin(
     ensures front { (found : Alg) → mac_numbered alg ≡ Some found
         → IfOk result (λ begun. take begun.1 head.new
         ≡ front_of (protected_made found) (kid_given kid.now) payload_length) }
+    ensures counted { (found : Alg) → mac_numbered alg ≡ Some found
+        → IfOk result (λ begun. begun.1
+        ≡ length (front_of (protected_made found) (kid_given kid.now) payload_length)) }
     ensures begins { (found : Alg) → mac_numbered alg ≡ Some found
         → arguments_fault (Some found) (key_of (whole key.now)) kid.now aad.now payload_length
         ≡ None
@@ -169,6 +183,17 @@ pub extern "C" fn cose_edge_make(
     ensures front { (found : Alg) → mac_numbered alg ≡ Some found → made.new.status ≡ 0
         → take made.new.length head.new
         ≡ front_of (protected_made found) (kid_given kid.now) payload_length }
+    ensures counted { (found : Alg) → mac_numbered alg ≡ Some found → made.new.status ≡ 0
+        → made.new.length
+        ≡ length (front_of (protected_made found) (kid_given kid.now) payload_length) }
+    ensures reason { made.new.status ≡ 0 → made.new.reason ≡ 0 }
+    // Where nothing is made, the block has no message, and arguments without a fault lack room alone.
+    ensures closed { made.new.status ≢ 0
+        → (maker.new.value.content ≡ None) × (made.new.length ≡ 0) }
+    ensures room { (found : Alg) → mac_numbered alg ≡ Some found
+        → arguments_fault (Some found) (key_of (whole key.now)) kid.now aad.now payload_length
+        ≡ None
+        → made.new.status ≢ 0 → made.new ≡ not_made 12 0 }
     ensures begins { (found : Alg) → mac_numbered alg ≡ Some found
         → arguments_fault (Some found) (key_of (whole key.now)) kid.now aad.now payload_length
         ≡ None

@@ -20,8 +20,8 @@ use crate::numbers::{
 use crate::terms::{HEADER, LARGE_HEADER, LARGE_NESTING, NESTING, context};
 use cose_map::laws::chosen_key_fits;
 use cose_msg::laws::{
-    authentication_decides, deciding_goes_last, settled_stays, signatures_are_of_sign1,
-    spelled_is_read,
+    authentication_decides, deciding_goes_last, payload_stays, settled_stays,
+    signatures_are_of_sign1, spelled_is_read,
 };
 use cose_msg::{
     Keys, Kind, Nothing, Reason, Refusal, SliceIntake, Verdict, Verifier, verify, verify_detached,
@@ -171,9 +171,19 @@ pub(crate) fn read_detached<'k, const H: usize, const D: usize, K: Keys<'k>>(
 ) -> CoseVerdict
     requires detached { is_detached verifier.old ≡ true }
     requires fresh { HasTaken (to_verify (setting_in verifier.old)) [] [] verifier.old }
-    ensures { result
+    ensures verdict { result
         ≡ verdict_read H D (given payload.now (setting_in verifier.old)) 0 message.now }
+    ensures input { result.status ≡ 2 → GivesAll
+        (input_read H D (given payload.now (setting_in verifier.old)) message.now) input.new }
 {
+    // Laws that the proof cites.
+    settled_stays();
+    payload_stays();
+    deciding_goes_last();
+    spelled_is_read();
+    authentication_decides();
+    signatures_are_of_sign1();
+    chosen_key_fits();
     let mut bytes = SliceIntake::new(message, CHUNK);
     let mut beside = SliceIntake::new(payload, CHUNK);
     match verify_detached::<CHUNK, H, D, _, _, _, _, _>(
@@ -205,6 +215,10 @@ pub extern "C" fn cose_edge_verify_detached(
 )
     ensures verdict { verdict.new ≡ verdict_given 1024 8
         (beside payload.now (setting_given (keys_of keys.now) aad.now wanted)) 0 message.now }
+    ensures input { verdict.new.status ≡ 2 → GivesAll
+        (input_given 1024 8
+        (beside payload.now (setting_given (keys_of keys.now) aad.now wanted)) message.now)
+        input.new }
 {
     *verdict = match context(keys, aad, wanted) {
         Ok(context) => {
@@ -228,6 +242,10 @@ pub extern "C" fn cose_edge_large_verify_detached(
 )
     ensures verdict { verdict.new ≡ verdict_given 65535 16
         (beside payload.now (setting_given (keys_of keys.now) aad.now wanted)) 0 message.now }
+    ensures input { verdict.new.status ≡ 2 → GivesAll
+        (input_given 65535 16
+        (beside payload.now (setting_given (keys_of keys.now) aad.now wanted)) message.now)
+        input.new }
 {
     *verdict = match context(keys, aad, wanted) {
         Ok(context) => {

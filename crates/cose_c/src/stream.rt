@@ -12,7 +12,7 @@ ghost use Rattle.cose_msg.specs.Task.{Task, given_to, rules_of, to_verify};
 ghost use Rattle.cose_c.specs.Deciding.{deciding};
 ghost use Rattle.cose_c.specs.Input.{GivesAll, has_point};
 ghost use Rattle.cose_c.specs.Numbers.{always_authentic, no_message, verdict_numbers};
-ghost use Rattle.cose_c.specs.Stream.{HasRead, IsAnew, IsOpened, answer_kept_by, block_status, detached_given, following, has_verdict, held_by, is_decidable, nothing_fed, opening_status, payload_fed, payload_wanted_by, reading_of, says_good, signed_by, status_after, status_numbers, taken_by, task_by, wanted_by, wants_any, wants_more};
+ghost use Rattle.cose_c.specs.Stream.{HasRead, IsAnew, IsOpened, Keeps, answer_kept_by, block_status, detached_given, following, has_verdict, held_by, is_decidable, nothing_fed, opening_status, payload_fed, payload_wanted_by, reading_of, says_good, signed_by, status_after, status_numbers, taken_by, task_by, wanted_by, wants_any, wants_more};
 ghost use Rattle.cose_c.specs.Terms.{setting_given};
 
 mod large;
@@ -294,6 +294,11 @@ pub(crate) fn verdict<'k, const H: usize, const D: usize>(
         → answer_kept_by content.old ≡ Some (Ok verdict)
         → (result ≡ verdict_numbers always_authentic 0 (decided verdict))
         × (content.new ≡ content.old) }
+    ensures kept { has_verdict content.old ≡ true → Keeps result content.new }
+    ensures stays { (setting : Setting) (taken payload : List ℕ)
+        → HasRead (to_verify setting) taken payload content.old
+        → is_complete (status_after H D (to_verify setting) taken) ≡ true
+        → has_verdict content.new ≡ true }
     ensures same_task { task_by content.new ≡ task_by content.old }
     ensures taken { taken_by content.new ≡ taken_by content.old }
     ensures signed { signed_by content.new ≡ signed_by content.old }

@@ -17,7 +17,7 @@ pub(crate) enum Hashing {
 }
 
 impl Hashing {
-    ghost use Rattle.std.specs.Prelude.{◌≡◌, ℕ, List, [], ◌++◌, length};
+    ghost use Rattle.std.specs.Prelude.{◌≡◌, ◌≤◌, ℕ, List, [], ◌++◌, length};
     ghost use Rattle.cose_map.specs.Key.Value.{KeyValue};
     ghost use Rattle.cose_mac.specs.Structure.{structure_front, structure_of};
     ghost use Rattle.cose_msg.specs.Answer.{Chosen as Found};
@@ -92,7 +92,8 @@ impl Hashing {
 
     /// The finished bytes, and none before they are finished.
     pub(crate) fn result(&self) -> &[u8]
-        ensures { result.now ≡ result_of self.now }
+        ensures value { result.now ≡ result_of self.now }
+        ensures fits { length result.now ≤ 64 }
     {
         match self {
             Hashing::Finished(bytes) => bytes.as_slice(),

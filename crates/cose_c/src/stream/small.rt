@@ -12,7 +12,7 @@ ghost use Rattle.cose_msg.specs.Task.{Task, given_to, rules_of, to_verify};
 ghost use Rattle.cose_c.specs.Deciding.{deciding};
 ghost use Rattle.cose_c.specs.Input.{GivesAll, has_point};
 ghost use Rattle.cose_c.specs.Numbers.{always_authentic, no_message, plain_status, verdict_numbers};
-ghost use Rattle.cose_c.specs.Stream.{HasRead, IsAnew, IsOpened, answer_kept_by, block_status, detached_given, following, has_verdict, held_by, nothing_fed, opening_status, payload_fed, payload_wanted_by, reading_of, says_good, signed_by, status_after, status_numbers, taken_by, task_by, wanted_by, wants_any, wants_more};
+ghost use Rattle.cose_c.specs.Stream.{HasRead, IsAnew, IsOpened, Keeps, answer_kept_by, block_status, detached_given, following, has_verdict, held_by, nothing_fed, opening_status, payload_fed, payload_wanted_by, reading_of, says_good, signed_by, status_after, status_numbers, taken_by, task_by, wanted_by, wants_any, wants_more};
 ghost use Rattle.cose_c.specs.Terms.{setting_given};
 
 use crate::held::verifier::CoseVerifier;
@@ -201,6 +201,12 @@ pub extern "C" fn cose_verdict(
         → answer_kept_by verifier.old.value.content ≡ Some (Ok kept)
         → (verdict.new ≡ verdict_numbers always_authentic 0 (decided kept))
         × (verifier.new.value.content ≡ verifier.old.value.content) }
+    ensures kept { has_verdict verifier.old.value.content ≡ true
+        → Keeps verdict.new verifier.new.value.content }
+    ensures stays { (setting : Setting) (taken payload : List ℕ)
+        → HasRead (to_verify setting) taken payload verifier.old.value.content
+        → is_complete (status_after 1024 8 (to_verify setting) taken) ≡ true
+        → has_verdict verifier.new.value.content ≡ true }
     ensures same_task { task_by verifier.new.value.content ≡ task_by verifier.old.value.content }
     ensures taken { taken_by verifier.new.value.content ≡ taken_by verifier.old.value.content }
     ensures signed { signed_by verifier.new.value.content ≡ signed_by verifier.old.value.content }
@@ -247,6 +253,14 @@ pub extern "C" fn cose_verdict_for(
         → answer_kept_by verifier.old.value.content ≡ Some (Ok kept)
         → (verdict.new ≡ verdict_numbers always_authentic 0 (decided kept))
         × (verifier.new.value.content ≡ verifier.old.value.content) }
+    ensures kept { message ≡ verifier.old.value.message
+        → has_verdict verifier.old.value.content ≡ true
+        → Keeps verdict.new verifier.new.value.content }
+    ensures stays { message ≡ verifier.old.value.message
+        → (setting : Setting) (taken payload : List ℕ)
+        → HasRead (to_verify setting) taken payload verifier.old.value.content
+        → is_complete (status_after 1024 8 (to_verify setting) taken) ≡ true
+        → has_verdict verifier.new.value.content ≡ true }
     ensures same_task { task_by verifier.new.value.content ≡ task_by verifier.old.value.content }
     ensures taken { taken_by verifier.new.value.content ≡ taken_by verifier.old.value.content }
     ensures signed { signed_by verifier.new.value.content ≡ signed_by verifier.old.value.content }

@@ -1,6 +1,6 @@
 //! What a reader gives of a message in addition to the result, and what it holds.
 
-ghost use Rattle.std.specs.Prelude.{◌≡◌, ◌<◌, ◌≤◌, ◌+◌, ◌*◌, ◌^◌, length, option_map};
+ghost use Rattle.std.specs.Prelude.{◌≡◌, ◌<◌, ◌≤◌, ◌+◌, ◌*◌, ◌^◌, IfSome, length, option_map};
 ghost use Rattle.cose_map.specs.Bucket.View.{bucket_pairs};
 ghost use Rattle.cose_msg.specs.Phase.{has_signature};
 ghost use Rattle.cose_msg.specs.Shown.{input_value, pairs_at, protected_by, sign_input_by, unprotected_by};
@@ -52,7 +52,9 @@ impl<'k, const H: usize, const D: usize> Reader<'k, H, D> {
 
     /// The key, the digest and the signature of a COSE_Sign1, once all bytes are there.
     pub(crate) fn sign_input(&self) -> Option<(Key<'k>, &[u8], &[u8])>
-        ensures { option_map input_value result ≡ sign_input_by self.now }
+        ensures value { option_map input_value result ≡ sign_input_by self.now }
+        ensures digest { IfSome result (λ input. length input.1.now ≤ 64) }
+        ensures signature { IfSome result (λ input. length input.2.now ≤ 132) }
     {
         if !self.has_signature() {
             return None;

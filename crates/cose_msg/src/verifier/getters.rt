@@ -1,6 +1,6 @@
 //! What a verifier gives of a message in addition to the result, and what it holds.
 
-ghost use Rattle.std.specs.Prelude.{◌≡◌, ◌≤◌, ◌+◌, ◌*◌, option_map};
+ghost use Rattle.std.specs.Prelude.{◌≡◌, ◌≤◌, ◌+◌, ◌*◌, IfSome, length, option_map};
 ghost use Rattle.cose_map.specs.Bucket.View.{bucket_pairs};
 ghost use Rattle.cose_msg.specs.Shown.{held, input_value, protected_of, sign_input_of, unprotected_of};
 ghost use Rattle.cose_msg.specs.Verifier.{opened};
@@ -26,7 +26,9 @@ impl<'k, const H: usize, const D: usize, S: Keys<'k>> Verifier<'k, H, D, S> {
     /// What the signature of a COSE_Sign1 is verified with (RFC 9052 section 4.4), once all bytes are there, and also when it was
     /// decided on: the key, the digest of the structure that is signed, and the signature as it was received.
     pub fn sign_input(&self) -> Option<(Key<'k>, &[u8], &[u8])>
-        ensures { option_map input_value result ≡ sign_input_of self.now }
+        ensures value { option_map input_value result ≡ sign_input_of self.now }
+        ensures digest { IfSome result (λ input. length input.1.now ≤ 64) }
+        ensures signature { IfSome result (λ input. length input.2.now ≤ 132) }
     {
         self.reader.sign_input()
     }

@@ -5,8 +5,8 @@ use Rattle.cose_cwt.specs.Claims.{texts_at}
 use Rattle.cose_cwt.specs.Claims.Known.{KnownValue}
 use Rattle.cose_cwt.specs.Claims.Labels as names
 use Rattle.cose_cwt.specs.Claims.View.{claims_value}
-use Rattle.cose_c.specs.CoseClaims.{StartsInside, audience_item, bytes_range, date_numbers, date_value, text_range}
-use Rattle.cose_c.proofs.Strings.{audience_range, bytes_claim_range, text_claim_range}
+use Rattle.cose_c.specs.CoseClaims.{LiesIn, StartsInside, audience_item, bytes_range, date_numbers, date_value, text_range}
+use Rattle.cose_c.proofs.Strings.{audience_range, bytes_claim_range, cnf_range, text_claim_range}
 use Rattle.cose_c.proofs.claims.claims_for_c.Goals as goal
 
 pub returns : goal.returns
@@ -35,4 +35,7 @@ returns c = λ depth shallow read.
       iat = c.date_in-iat.ensures ∙ ap (λ (k : KnownValue). date_numbers (date_value k.iat)) known;
       cnf_crv = c.point_confirmed-point.ensures.crv;
       cnf_y_sign = c.point_confirmed-point.ensures.y_sign;
+      cnf_kid = cnf_range tree ends depth payload value shallow read (value_of names.cnf value.pairs) c.strings_of-strings.result.kid refl (subst (λ (k : KnownValue). LiesIn k.cnf c.strings_of-strings.result.kid) known c.strings_of-strings.ensures.kid);
+      cnf_x = cnf_range tree ends depth payload value shallow read (value_of names.cnf value.pairs) c.strings_of-strings.result.key.x refl (subst (λ (k : KnownValue). LiesIn k.cnf c.strings_of-strings.result.key.x) known c.strings_of-strings.ensures.x);
+      cnf_y = cnf_range tree ends depth payload value shallow read (value_of names.cnf value.pairs) c.strings_of-strings.result.key.y refl (subst (λ (k : KnownValue). LiesIn k.cnf c.strings_of-strings.result.key.y) known c.strings_of-strings.ensures.y);
     }

@@ -11,3 +11,9 @@ returns-clause-verdict c = λ setting taken payload read done.
 
 pub returns-clause-again : goal.returns-clause-again
 returns-clause-again c = rw c.lend.ensures.value at c.verdict.ensures.again
+
+pub returns-clause-kept : goal.returns-clause-kept
+returns-clause-kept c = rw c.lend.ensures.value at c.verdict.ensures.kept
+
+pub returns-clause-stays : goal.returns-clause-stays
+returns-clause-stays c = rw c.lend.ensures.value at c.verdict.ensures.stays

@@ -17,7 +17,7 @@ returns-then-same_bytes g c = record {
   reads_on = λ task known found at e key chosen alg count fed auth.
       let mac : is_mac_of found.alg ≡ true = ap is_mac_of alg ∙ (sym c.is_mac.ensures ∙ c.if-is_mac.true) in
       let verifies = is_verified found known.chosen task.inspects chosen key.2 in
-      let computed = c.result-computed.ensures ∙ finished c.args.self.now.hashing (structure task.setting.aad known.headers known.payload) _ found c.finish.ensures known.chosen chosen fed in
+      let computed = c.result-computed.ensures.value ∙ finished c.args.self.now.hashing (structure task.setting.aad known.headers known.payload) _ found c.finish.ensures known.chosen chosen fed in
       let same : bytes_eq known.auth c.result-computed.result.now ≡ true = rw (← auth) (rw c.as_slice-received.ensures.value at (sym c.same_bytes.ensures ∙ c.if-same_bytes.true)) in
       record {
         known = known;
@@ -35,7 +35,7 @@ returns-else-same_bytes g c = record {
   reads_on = λ task known found at e key chosen alg count fed auth.
       let mac : is_mac_of found.alg ≡ true = ap is_mac_of alg ∙ (sym c.is_mac.ensures ∙ c.if-is_mac.true) in
       let verifies = is_verified found known.chosen task.inspects chosen key.2 in
-      let computed = c.result-computed.ensures ∙ finished c.args.self.now.hashing (structure task.setting.aad known.headers known.payload) _ found c.finish.ensures known.chosen chosen fed in
+      let computed = c.result-computed.ensures.value ∙ finished c.args.self.now.hashing (structure task.setting.aad known.headers known.payload) _ found c.finish.ensures known.chosen chosen fed in
       let same : bytes_eq known.auth c.result-computed.result.now ≡ false = rw (← auth) (rw c.as_slice-received.ensures.value at (sym c.same_bytes.ensures ∙ c.if-same_bytes.false)) in
       moved c.refuse.new.self _ _ refl refl
       (λ z. rw verifies (ap (λ (x : Option Chosen). settled (headers_so_far known.headers known.payload) (compared task.setting.aad x (whole_of known c.args.whole.head_at c.args.whole.taken))) chosen ∙ ap (settled (headers_so_far known.headers known.payload)) (tag_compared task.setting.aad known found c.result-computed.result.now c.args.whole.head_at c.args.whole.taken false mac computed same)))
