@@ -7,10 +7,15 @@ returned (u64), and then each room and each struct that it filled, at multiples 
 """
 import collections
 import ctypes
+import pathlib
+import re
 import struct
 from typing import NamedTuple
 
 KEEPING = ("open", "open_detached", "table_read")
+HEADER = pathlib.Path(__file__).resolve().parent.parent / "include" / "cose.h"
+# the version of the library that the header is for
+VERSION = sum(int(re.search(rf"COSE_VERSION_{part} (\d+)", HEADER.read_text())[1]) << at for part, at in (("MAJOR", 16), ("MINOR", 8), ("PATCH", 0)))
 DECLARED = {ctypes.c_uint8: "(uint8_t)", ctypes.c_int32: "(int32_t)"}
 
 
@@ -37,8 +42,7 @@ class LeftOut(Exception):
 
 def calls_of(library):
     """The calls of the package's table: each name with the types of its arguments and of its result."""
-    found = {f"cose_{name}": it for name, it in {**library._BOTH_SIZES, **library._ONE_SIZE}.items()}
-    return {**found, **{f"cose_{library._large(name)}": it for name, it in library._BOTH_SIZES.items()}}
+    return {f"cose_{name}": it for name, it in library._PROTOTYPES.items()}
 
 
 def kinds_of(library, arguments):
@@ -51,7 +55,7 @@ def kinds_of(library, arguments):
             word = "bytes" if kind is ctypes.c_char_p else "room"
         elif kind is ctypes.c_void_p:
             word = "memory"
-        elif kind is library._HANDLE:
+        elif kind is ctypes.POINTER(library.HandleStruct):
             word = "block"
         elif kind is ctypes.POINTER(library.PolicyStruct):
             word = "policy"
@@ -120,12 +124,20 @@ class Device:
     def __getattr__(self, name):
         if not name.startswith("cose_"):
             raise AttributeError(name)
+        if name == "cose_version" and not self.numbers:
+            return lambda: VERSION  # what the package asks for before the program runs
         return Call(self, name)
 
     def use(self, library):
         """Takes the package's table, once it is imported."""
         self.library = library
         self.numbers = {name: number for number, name in enumerate(calls_of(library))}
+
+    def version(self):
+        """The version of the library, which the program answers."""
+        call = Call(self, "cose_version")
+        call.restype = ctypes.c_uint32
+        return call()
 
     def ask(self, number, body):
         """Sends a request, and returns what the call returned and what it filled."""

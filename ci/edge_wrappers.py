@@ -8,7 +8,7 @@ import textwrap
 
 import edge_source as source
 
-NUMBERS = {"u8": "uint8_t", "u32": "uint32_t", "u64": "uint64_t", "i32": "int32_t", "i64": "int64_t", "usize": "size_t"}
+NUMBERS = {"u8": "uint8_t", "u32": "uint32_t", "u64": "uint64_t", "i32": "int32_t", "i64": "int64_t", "usize": "uint64_t"}
 # calls that open, read or make something: with NULL they are made with nothing, so that the block has nothing then
 CLOSING = re.compile("^cose_edge_(large_)?open|^cose_edge_table_read$|^cose_edge_make$")
 WIDTH = 138
@@ -32,7 +32,9 @@ class Parameter:
     def declared(self, in_wrapper):
         """Its declarations, of a slice two."""
         if self.is_slice or self.is_room:
-            return [f"{'const ' if self.is_slice else ''}uint8_t *{self.name}", f"size_t {self.length}"]
+            # on each target the library's lengths have 64 bits
+            length = "size_t" if in_wrapper else "uint64_t"
+            return [f"{'const ' if self.is_slice else ''}uint8_t *{self.name}", f"{length} {self.length}"]
         if self.is_kind and in_wrapper:
             return ["enum cose_kind_number kind"]
         struct = re.search(r"Cose\w+", self.kind)

@@ -477,6 +477,8 @@ class Round:
 
     def draft(self):
         payload = self.claims() if self.command == "cwt" else self.some_bytes()
+        if self.command == "show" and self.happens(0.4):
+            payload = self.spell(self.any_value())
         parts = {"front": self.front(), "payload": payload, "auth": self.auth(), **self.headers()}
         return Draft(self.command, self.options(), self.key_set(), **parts)
 
@@ -501,6 +503,8 @@ class Round:
         if draft.command == "show" and self.happens(0.2):
             items.append(("detached", True))
             payload = payload if self.slips() else NIL
+        if draft.command == "show" and self.happens(0.4):
+            items.append(("with-payload", True))
         self.chance.shuffle(items)
         data = draft.front + protected + draft.unprotected + payload + auth
         case = Case(draft.command, dict(items), data)

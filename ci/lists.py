@@ -196,7 +196,7 @@ PLACES = {
             "ci/second_program.py",
             "key-file keys-file payload-file payload-length payload-to",
         ),
-        Places("option", of_option, "ci/sign1", "alg key-file kid length detached diagnostic for-message"),
+        Places("option", of_option, "ci/sign1", "alg key-file kid length detached diagnostic with-payload for-message"),
     ],
     "export": [
         Places("export", of_name, "include/cose.h bindings/rust/src/raw.rs"),

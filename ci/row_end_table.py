@@ -227,6 +227,9 @@ def date_ends(numbers):
         kinds = SIZES[:2] if "leeway" in rule else SIZES if "stated" in rule else NUMBERS
         new = old.replace(word, f"turned({word})", 1)
         yield from numbers(rule, old, new, ("requirements", "commands"), kinds)
+    for name, old in ("age", age), ("lifetime", starts):
+        new = old.replace("required.leeway", f"required.leeway * (required.{name} != 0)")
+        yield End(f"{name.capitalize()}: the leeway", "none where the stated number is 0", ((old, new),), ("requirements", "commands"))
 
 
 # ---- tables
@@ -316,6 +319,10 @@ def limit_ends():
                 yield from next_to(f"--limits large: {name}", "Limits(65_535, 16, 256, 65_535)", new, ("commands",), PROGRAM)
     yield from next_to("--kid", "len(kid) > KID_LIMIT", "len(kid) > KID_LIMIT + {}", ("made", "commands"), PROGRAM)
     yield from next_to("--aad", "len(aad) > AAD_LIMIT", "len(aad) > AAD_LIMIT + {}", ("made", "commands"), PROGRAM)
+    old = "payload_limit = limits.claims if has_payload"
+    yield from next_to("show --with-payload: the most bytes", old, old.replace("claims", "claims + {}"), ("commands",), PROGRAM)
+    old = "len(payload), nesting)"
+    yield from next_to("show --with-payload: D", old, old.replace("nesting", "nesting + {}"), ("commands",), PROGRAM)
     yield from next_to("keys: the most usable keys", "usable > reading.USABLE_KEYS", "usable > reading.USABLE_KEYS + {}", ("commands",), PROGRAM)
     old = "header_limit=65_535, nesting=16)\n        asked"
     yield from next_to("keys --for-message: H", old, old.replace("65_535", "65_535 + {}"), ("commands",), PROGRAM)
@@ -540,11 +547,12 @@ def detached_ends():
     line = 'f"detached at {refusal.place}"'
     yield ends("the place, one more", line, line.replace("place}", "place + 1}"))
     yield from compared("show --detached: the place", line, line.replace("refusal.place", "turned(refusal.place)"), ("commands",), SIZES[:1], PROGRAM)
-    old = "*lines_of_headers(protected, unprotected, notation)])"
+    old = "*lines_of_headers(protected, unprotected, notation), *elsewhere])"
     for end, new in (
         ("no protected header", old.replace("(protected", "({}")),
         ("no unprotected header", old.replace("unprotected", "{}")),
         ("never in diagnostic notation", old.replace("notation)", "False)")),
+        ("nothing of the payload that is elsewhere", old.replace(", *elsewhere", "")),
         ("always in diagnostic notation", old.replace("notation)", "True)")),
     ):
         yield ends(end, old, new)

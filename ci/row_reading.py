@@ -293,7 +293,7 @@ def made(_reading, program, group, test):
 
 
 # the options without an argument, and those that may be there several times
-FLAGS, REPEATED = ("sequence", "text", "diagnostic", "detached", "for-message", "require-aud"), ("require",)
+FLAGS, REPEATED = ("sequence", "text", "diagnostic", "detached", "with-payload", "for-message", "require-aud"), ("require",)
 
 
 def options_of(test):

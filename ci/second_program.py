@@ -122,17 +122,29 @@ def printed(lines):
 
 def show(options, data):
     limits = limits_of(options)
+    notation, has_payload = "diagnostic" in options, "with-payload" in options
+    payload_limit = limits.claims if has_payload else reading.PAYLOAD_LIMIT
     context = reading.Context(options.get("kind", "tagged"), header_limit=limits.header, nesting=limits.nesting)
-    notation = "diagnostic" in options
+    context.payload_limit = payload_limit
     try:
         message = reading.read_message(data, context)
     except Refused as refusal:
         if refusal.reason is not reading.Reason.Detached or "detached" not in options:
             raise
         _, protected, unprotected, *_ = reading.read_headers(data, context)
-        return printed([f"detached at {refusal.place}", *lines_of_headers(protected, unprotected, notation)])
+        elsewhere = ["payload elsewhere"] * has_payload
+        return printed([f"detached at {refusal.place}", *lines_of_headers(protected, unprotected, notation), *elsewhere])
     demand_end(data, message)
-    return printed(lines_of_shape(message, notation))
+    shown = [line_of_payload(message.payload, limits.nesting)] * has_payload
+    return printed([*lines_of_shape(message, notation), *shown])
+
+
+def line_of_payload(payload, nesting):
+    """The payload as one item, or its bytes and why they are none."""
+    try:
+        return f"payload {diagnostic(reading.read_whole(payload, 0, len(payload), nesting))}"
+    except Refused as refusal:
+        return f"payload h'{payload.hex()}' refused {refusal}"
 
 
 def lines_of_shape(message, in_diagnostic_notation=False):

@@ -31,8 +31,32 @@
 /** What cose_version returns of the library that this header is for. */
 #define COSE_VERSION (COSE_VERSION_MAJOR * 65536 + COSE_VERSION_MINOR * 256 + COSE_VERSION_PATCH)
 
+/* On each target a length that the library takes or gives is a uint64_t, and a pointer in a struct has 8 bytes. */
+#if UINTPTR_MAX > 0xffffffff
+#define COSE_SLOT_(pointer) pointer
+#else
+#define COSE_SLOT_(pointer) union { pointer; uint64_t slot_; }
+#endif
+
 #ifdef __cplusplus
 extern "C" {
+#endif
+
+#if UINTPTR_MAX <= 0xffffffff
+/* The library wants this symbol: a program whose lengths had 32 bits wouldn't link. */
+__attribute__((weak)) extern const uint8_t cose_lengths_have_64_bits;
+const uint8_t cose_lengths_have_64_bits = 1;
+
+/* One file of a program may define COSE_NO_SHA512 before this header. The function that SHA-384 and SHA-512 need is left out then, and
+ * where a message gets to it nothing goes on: each key has to name an algorithm with SHA-256. */
+#ifdef COSE_NO_SHA512
+extern void cose_sha512_compress(void);
+void cose_sha512_compress(void)
+{
+    for (;;)
+        ;
+}
+#endif
 #endif
 
 /** The number of a status. */
@@ -157,8 +181,8 @@ struct cose_policy {
     int64_t now;             /**< the current time, in seconds since 1970 */
     uint32_t leeway;         /**< by how many seconds the clocks of issuer and caller may differ */
     uint8_t has_audience;    /**< 0: any audience will do. Any other number: a token that names an audience has to name this one */
-    const uint8_t *audience; /**< in UTF-8 */
-    size_t audience_length;
+    COSE_SLOT_(const uint8_t *audience); /**< in UTF-8 */
+    uint64_t audience_length;
 };
 
 /** A range of the payload. Where present is 0 there is none, and the others are 0. */
@@ -190,12 +214,12 @@ struct cose_claims_set {
 
 /** A verifier in a block of the caller's memory, which is fed. */
 struct cose_verifier {
-    uint8_t *at;
+    COSE_SLOT_(uint8_t *at);
 };
 
 /** The same for headers of 65,535 bytes that nest 16 deep. */
 struct cose_large_verifier {
-    uint8_t *at;
+    COSE_SLOT_(uint8_t *at);
 };
 
 /** What came of a piece: how many of its bytes were used, and which of them are of the payload. */
@@ -207,12 +231,12 @@ struct cose_fed {
 
 /** A table of at most 64 keys in a block of the caller's memory, each of which is read once. */
 struct cose_table {
-    uint8_t *at;
+    COSE_SLOT_(uint8_t *at);
 };
 
 /** A COSE_Mac0 that is being made, in a block of the caller's memory. */
 struct cose_maker {
-    uint8_t *at;
+    COSE_SLOT_(uint8_t *at);
 };
 
 /** What was made: COSE_MORE after cose_make, COSE_COMPLETE after cose_make_end, with the number of bytes written; or why nothing was. */
@@ -229,7 +253,7 @@ struct cose_made {
 /* A kind and an algorithm that no function knows: what is opened or made with them is COSE_BAD_ARGUMENT, and the block has nothing then. */
 enum { COSE_NO_KIND_ = 1, COSE_NO_ALG_ = 0 };
 
-static inline int cose_is_null_(const uint8_t *at, size_t length)
+static inline int cose_is_null_(const uint8_t *at, uint64_t length)
 {
     return at == NULL && length != 0;
 }
@@ -291,8 +315,8 @@ enum {
 
 /* ---- One call over memory. */
 
-void cose_edge_verify(const uint8_t *keys, size_t keys_length, const uint8_t *aad, size_t aad_length, uint8_t kind,
-    const uint8_t *message, size_t message_length, struct cose_message_verdict *verdict, struct cose_signature_input *input);
+void cose_edge_verify(const uint8_t *keys, uint64_t keys_length, const uint8_t *aad, uint64_t aad_length, uint8_t kind,
+    const uint8_t *message, uint64_t message_length, struct cose_message_verdict *verdict, struct cose_signature_input *input);
 
 /** Verifies a message (RFC 9052 sections 4.4 and 6.3) under a COSE_Key or a COSE_KeySet, with externally supplied data (section 4.3).
  * The bytes are the message: a byte after it is refused (COSE_REASON_TRAILING). *
@@ -310,8 +334,8 @@ static inline void cose_verify(const uint8_t *keys, size_t keys_length, const ui
         verdict, input);
 }
 
-void cose_edge_large_verify(const uint8_t *keys, size_t keys_length, const uint8_t *aad, size_t aad_length, uint8_t kind,
-    const uint8_t *message, size_t message_length, struct cose_message_verdict *verdict, struct cose_signature_input *input);
+void cose_edge_large_verify(const uint8_t *keys, uint64_t keys_length, const uint8_t *aad, uint64_t aad_length, uint8_t kind,
+    const uint8_t *message, uint64_t message_length, struct cose_message_verdict *verdict, struct cose_signature_input *input);
 
 /** The same for headers of 65,535 bytes, where headers and claims nest 16 deep: a call needs some 140 KB of stack. */
 static inline void cose_large_verify(const uint8_t *keys, size_t keys_length, const uint8_t *aad, size_t aad_length,
@@ -327,9 +351,9 @@ static inline void cose_large_verify(const uint8_t *keys, size_t keys_length, co
         message_length, verdict, input);
 }
 
-void cose_edge_verify_detached(const uint8_t *keys, size_t keys_length, const uint8_t *aad, size_t aad_length, uint8_t kind,
-    const uint8_t *message, size_t message_length, const uint8_t *payload, size_t payload_length, struct cose_message_verdict *verdict,
-    struct cose_signature_input *input);
+void cose_edge_verify_detached(const uint8_t *keys, uint64_t keys_length, const uint8_t *aad, uint64_t aad_length, uint8_t kind,
+    const uint8_t *message, uint64_t message_length, const uint8_t *payload, uint64_t payload_length,
+    struct cose_message_verdict *verdict, struct cose_signature_input *input);
 
 /** The same for a message whose payload is detached (RFC 9052 section 4.1): it has nil in its place, and all of the payload is in memory.
  * payload_at is 0. */
@@ -349,9 +373,9 @@ static inline void cose_verify_detached(const uint8_t *keys, size_t keys_length,
         message_length, cose_slice_(payload), payload_length, verdict, input);
 }
 
-void cose_edge_large_verify_detached(const uint8_t *keys, size_t keys_length, const uint8_t *aad, size_t aad_length, uint8_t kind,
-    const uint8_t *message, size_t message_length, const uint8_t *payload, size_t payload_length, struct cose_message_verdict *verdict,
-    struct cose_signature_input *input);
+void cose_edge_large_verify_detached(const uint8_t *keys, uint64_t keys_length, const uint8_t *aad, uint64_t aad_length, uint8_t kind,
+    const uint8_t *message, uint64_t message_length, const uint8_t *payload, uint64_t payload_length,
+    struct cose_message_verdict *verdict, struct cose_signature_input *input);
 
 /** The same for headers of 65,535 bytes, where headers and claims nest 16 deep: a call needs some 140 KB of stack. */
 static inline void cose_large_verify_detached(const uint8_t *keys, size_t keys_length, const uint8_t *aad, size_t aad_length,
@@ -370,7 +394,7 @@ static inline void cose_large_verify_detached(const uint8_t *keys, size_t keys_l
         message_length, cose_slice_(payload), payload_length, verdict, input);
 }
 
-void cose_edge_shape(uint8_t kind, const uint8_t *message, size_t message_length, struct cose_message_shape *shape);
+void cose_edge_shape(uint8_t kind, const uint8_t *message, uint64_t message_length, struct cose_message_shape *shape);
 
 /** The shape of a message. Nothing of it is authenticated. */
 static inline void cose_shape(enum cose_kind_number kind, const uint8_t *message, size_t message_length, struct cose_message_shape *shape)
@@ -383,7 +407,7 @@ static inline void cose_shape(enum cose_kind_number kind, const uint8_t *message
     cose_edge_shape(cose_kind_(kind), cose_slice_(message), message_length, shape);
 }
 
-void cose_edge_read_keys(const uint8_t *keys, size_t keys_length, struct cose_key_set *key_set);
+void cose_edge_read_keys(const uint8_t *keys, uint64_t keys_length, struct cose_key_set *key_set);
 
 /** How many usable keys a COSE_Key or a COSE_KeySet has (RFC 9052 section 7): a key that is refused is ignored. */
 static inline void cose_read_keys(const uint8_t *keys, size_t keys_length, struct cose_key_set *key_set)
@@ -398,8 +422,8 @@ static inline void cose_read_keys(const uint8_t *keys, size_t keys_length, struc
 
 /* ---- Tokens. */
 
-void cose_edge_verify_cwt(const uint8_t *keys, size_t keys_length, const uint8_t *aad, size_t aad_length,
-    const struct cose_policy *policy, const uint8_t *token, size_t token_length, struct cose_claims_set *claims);
+void cose_edge_verify_cwt(const uint8_t *keys, uint64_t keys_length, const uint8_t *aad, uint64_t aad_length,
+    const struct cose_policy *policy, const uint8_t *token, uint64_t token_length, struct cose_claims_set *claims);
 
 /** Verifies a token and reads its claims (RFC 8392 section 7.2): the bytes are the token. A COSE_Mac0 alone: of a COSE_Sign1 the status is
  * COSE_SIGNED, and there are no claims. Call cose_verify, verify the signature, and then call cose_claims over the payload. */
@@ -420,8 +444,8 @@ static inline void cose_verify_cwt(const uint8_t *keys, size_t keys_length, cons
         claims);
 }
 
-void cose_edge_large_verify_cwt(const uint8_t *keys, size_t keys_length, const uint8_t *aad, size_t aad_length,
-    const struct cose_policy *policy, const uint8_t *token, size_t token_length, struct cose_claims_set *claims);
+void cose_edge_large_verify_cwt(const uint8_t *keys, uint64_t keys_length, const uint8_t *aad, uint64_t aad_length,
+    const struct cose_policy *policy, const uint8_t *token, uint64_t token_length, struct cose_claims_set *claims);
 
 /** The same for headers of 65,535 bytes, where headers and claims nest 16 deep: a call needs some 140 KB of stack. */
 static inline void cose_large_verify_cwt(const uint8_t *keys, size_t keys_length, const uint8_t *aad, size_t aad_length,
@@ -441,7 +465,7 @@ static inline void cose_large_verify_cwt(const uint8_t *keys, size_t keys_length
         token_length, claims);
 }
 
-void cose_edge_claims(const uint8_t *payload, size_t payload_length, const struct cose_policy *policy, struct cose_claims_set *claims);
+void cose_edge_claims(const uint8_t *payload, uint64_t payload_length, const struct cose_policy *policy, struct cose_claims_set *claims);
 
 /** Reads the claims of a payload that is known to be authentic. */
 static inline void cose_claims(const uint8_t *payload, size_t payload_length, const struct cose_policy *policy,
@@ -457,7 +481,7 @@ static inline void cose_claims(const uint8_t *payload, size_t payload_length, co
     cose_edge_claims(cose_slice_(payload), payload_length, &cose_policy_, claims);
 }
 
-void cose_edge_large_claims(const uint8_t *payload, size_t payload_length, const struct cose_policy *policy,
+void cose_edge_large_claims(const uint8_t *payload, uint64_t payload_length, const struct cose_policy *policy,
     struct cose_claims_set *claims);
 
 /** The same for claims that nest 16 deep. */
@@ -474,7 +498,7 @@ static inline void cose_large_claims(const uint8_t *payload, size_t payload_leng
     cose_edge_large_claims(cose_slice_(payload), payload_length, &cose_policy_, claims);
 }
 
-void cose_edge_audience(const uint8_t *payload, size_t payload_length, uint64_t index, struct cose_range *audience);
+void cose_edge_audience(const uint8_t *payload, uint64_t payload_length, uint64_t index, struct cose_range *audience);
 
 /** The text string of this number, from 0, of the audience that a payload names (RFC 8392 section 3.1.3). present is 0 where it has
  * fewer, and where the payload isn't a claims set. Each call reads all claims: cose_next_audience doesn't. */
@@ -487,7 +511,7 @@ static inline void cose_audience(const uint8_t *payload, size_t payload_length, 
     cose_edge_audience(cose_slice_(payload), payload_length, index, audience);
 }
 
-void cose_edge_next_audience(const uint8_t *payload, size_t payload_length, uint64_t place, struct cose_range *audience);
+void cose_edge_next_audience(const uint8_t *payload, uint64_t payload_length, uint64_t place, struct cose_range *audience);
 
 /** The text string of an audience that follows another one, by the place after the bytes of that one: in time that doesn't depend on the
  * other claims. Begin with aud of the claims, and count to aud_count: after the last one anything may follow. */
@@ -503,15 +527,15 @@ static inline void cose_next_audience(const uint8_t *payload, size_t payload_len
 /* ---- A verifier in the caller's memory, which is fed. */
 
 /** How many bytes its block has. */
-size_t cose_verifier_size(void);
+uint64_t cose_verifier_size(void);
 
 /** What the address of its block is a multiple of. */
-size_t cose_verifier_align(void);
+uint64_t cose_verifier_align(void);
 
 /** Makes the block a verifier without keys. Once, before anything else. */
 void cose_begin(uint8_t *block);
 
-void cose_edge_open(struct cose_verifier *verifier, const uint8_t *keys, size_t keys_length, const uint8_t *aad, size_t aad_length,
+void cose_edge_open(struct cose_verifier *verifier, const uint8_t *keys, uint64_t keys_length, const uint8_t *aad, uint64_t aad_length,
     uint8_t kind, struct cose_status *status);
 
 /** Gives it the keys and the externally supplied data of the next messages: COSE_MORE, or why there are none. */
@@ -525,8 +549,8 @@ static inline void cose_open(struct cose_verifier *verifier, const uint8_t *keys
     cose_edge_open(verifier, cose_slice_(keys), keys_length, cose_slice_(aad), aad_length, cose_kind_(kind), status);
 }
 
-void cose_edge_open_detached(struct cose_verifier *verifier, const uint8_t *keys, size_t keys_length, const uint8_t *aad,
-    size_t aad_length, uint8_t kind, uint64_t payload_length, struct cose_status *status);
+void cose_edge_open_detached(struct cose_verifier *verifier, const uint8_t *keys, uint64_t keys_length, const uint8_t *aad,
+    uint64_t aad_length, uint8_t kind, uint64_t payload_length, struct cose_status *status);
 
 /** The same for messages whose payload is detached, and has so many bytes. */
 static inline void cose_open_detached(struct cose_verifier *verifier, const uint8_t *keys, size_t keys_length, const uint8_t *aad,
@@ -540,7 +564,7 @@ static inline void cose_open_detached(struct cose_verifier *verifier, const uint
         status);
 }
 
-void cose_edge_feed(struct cose_verifier *verifier, const uint8_t *piece, size_t piece_length, struct cose_fed *fed);
+void cose_edge_feed(struct cose_verifier *verifier, const uint8_t *piece, uint64_t piece_length, struct cose_fed *fed);
 
 /** Takes the next bytes of the message: the fewest that settle it, or all of the piece. */
 static inline void cose_feed(struct cose_verifier *verifier, const uint8_t *piece, size_t piece_length, struct cose_fed *fed)
@@ -559,7 +583,7 @@ uint64_t cose_wanted(struct cose_verifier *verifier);
 /** How many bytes of a detached payload are wanted. */
 uint64_t cose_payload_wanted(struct cose_verifier *verifier);
 
-uint64_t cose_edge_feed_payload(struct cose_verifier *verifier, const uint8_t *piece, size_t piece_length);
+uint64_t cose_edge_feed_payload(struct cose_verifier *verifier, const uint8_t *piece, uint64_t piece_length);
 
 /** Takes the next bytes of a detached payload, and returns how many it used. */
 static inline uint64_t cose_feed_payload(struct cose_verifier *verifier, const uint8_t *piece, size_t piece_length)
@@ -599,16 +623,16 @@ uint64_t cose_held(struct cose_verifier *verifier);
 /* ---- The same for headers of 65,535 bytes that nest 16 deep. */
 
 /** How many bytes its block has. */
-size_t cose_large_verifier_size(void);
+uint64_t cose_large_verifier_size(void);
 
 /** What the address of its block is a multiple of. */
-size_t cose_large_verifier_align(void);
+uint64_t cose_large_verifier_align(void);
 
 /** Makes the block a verifier without keys. Once, before anything else. */
 void cose_large_begin(uint8_t *block);
 
-void cose_edge_large_open(struct cose_large_verifier *verifier, const uint8_t *keys, size_t keys_length, const uint8_t *aad,
-    size_t aad_length, uint8_t kind, struct cose_status *status);
+void cose_edge_large_open(struct cose_large_verifier *verifier, const uint8_t *keys, uint64_t keys_length, const uint8_t *aad,
+    uint64_t aad_length, uint8_t kind, struct cose_status *status);
 
 /** Gives it the keys and the externally supplied data of the next messages: COSE_MORE, or why there are none. */
 static inline void cose_large_open(struct cose_large_verifier *verifier, const uint8_t *keys, size_t keys_length, const uint8_t *aad,
@@ -621,8 +645,8 @@ static inline void cose_large_open(struct cose_large_verifier *verifier, const u
     cose_edge_large_open(verifier, cose_slice_(keys), keys_length, cose_slice_(aad), aad_length, cose_kind_(kind), status);
 }
 
-void cose_edge_large_open_detached(struct cose_large_verifier *verifier, const uint8_t *keys, size_t keys_length, const uint8_t *aad,
-    size_t aad_length, uint8_t kind, uint64_t payload_length, struct cose_status *status);
+void cose_edge_large_open_detached(struct cose_large_verifier *verifier, const uint8_t *keys, uint64_t keys_length, const uint8_t *aad,
+    uint64_t aad_length, uint8_t kind, uint64_t payload_length, struct cose_status *status);
 
 /** The same for messages whose payload is detached, and has so many bytes. */
 static inline void cose_large_open_detached(struct cose_large_verifier *verifier, const uint8_t *keys, size_t keys_length,
@@ -636,7 +660,7 @@ static inline void cose_large_open_detached(struct cose_large_verifier *verifier
         payload_length, status);
 }
 
-void cose_edge_large_feed(struct cose_large_verifier *verifier, const uint8_t *piece, size_t piece_length, struct cose_fed *fed);
+void cose_edge_large_feed(struct cose_large_verifier *verifier, const uint8_t *piece, uint64_t piece_length, struct cose_fed *fed);
 
 /** Takes the next bytes of the message: the fewest that settle it, or all of the piece. */
 static inline void cose_large_feed(struct cose_large_verifier *verifier, const uint8_t *piece, size_t piece_length, struct cose_fed *fed)
@@ -655,7 +679,7 @@ uint64_t cose_large_wanted(struct cose_large_verifier *verifier);
 /** How many bytes of a detached payload are wanted. */
 uint64_t cose_large_payload_wanted(struct cose_large_verifier *verifier);
 
-uint64_t cose_edge_large_feed_payload(struct cose_large_verifier *verifier, const uint8_t *piece, size_t piece_length);
+uint64_t cose_edge_large_feed_payload(struct cose_large_verifier *verifier, const uint8_t *piece, uint64_t piece_length);
 
 /** Takes the next bytes of a detached payload, and returns how many it used. */
 static inline uint64_t cose_large_feed_payload(struct cose_large_verifier *verifier, const uint8_t *piece, size_t piece_length)
@@ -696,15 +720,15 @@ uint64_t cose_large_held(struct cose_large_verifier *verifier);
 /* ---- A table of keys in the caller's memory. */
 
 /** How many bytes its block has. */
-size_t cose_table_size(void);
+uint64_t cose_table_size(void);
 
 /** What the address of its block is a multiple of. */
-size_t cose_table_align(void);
+uint64_t cose_table_align(void);
 
 /** Makes the block a table without keys. Once, before anything else. */
 void cose_table_begin(uint8_t *block);
 
-void cose_edge_table_read(struct cose_table *table, const uint8_t *keys, size_t keys_length, struct cose_key_set *key_set);
+void cose_edge_table_read(struct cose_table *table, const uint8_t *keys, uint64_t keys_length, struct cose_key_set *key_set);
 
 /** Reads the keys of a COSE_Key or a COSE_KeySet, each once. */
 static inline void cose_table_read(struct cose_table *table, const uint8_t *keys, size_t keys_length, struct cose_key_set *key_set)
@@ -718,8 +742,8 @@ static inline void cose_table_read(struct cose_table *table, const uint8_t *keys
     cose_edge_table_read(table, cose_slice_(keys), keys_length, key_set);
 }
 
-void cose_edge_table_verify(struct cose_table *table, const uint8_t *aad, size_t aad_length, uint8_t kind, const uint8_t *message,
-    size_t message_length, struct cose_message_verdict *verdict, struct cose_signature_input *input);
+void cose_edge_table_verify(struct cose_table *table, const uint8_t *aad, uint64_t aad_length, uint8_t kind, const uint8_t *message,
+    uint64_t message_length, struct cose_message_verdict *verdict, struct cose_signature_input *input);
 
 /** As cose_verify, under the keys of the table. */
 static inline void cose_table_verify(struct cose_table *table, const uint8_t *aad, size_t aad_length, enum cose_kind_number kind,
@@ -733,8 +757,8 @@ static inline void cose_table_verify(struct cose_table *table, const uint8_t *aa
     cose_edge_table_verify(table, cose_slice_(aad), aad_length, cose_kind_(kind), cose_slice_(message), message_length, verdict, input);
 }
 
-void cose_edge_table_verify_cwt(struct cose_table *table, const uint8_t *aad, size_t aad_length, const struct cose_policy *policy,
-    const uint8_t *token, size_t token_length, struct cose_claims_set *claims);
+void cose_edge_table_verify_cwt(struct cose_table *table, const uint8_t *aad, uint64_t aad_length, const struct cose_policy *policy,
+    const uint8_t *token, uint64_t token_length, struct cose_claims_set *claims);
 
 /** As cose_verify_cwt, under the keys of the table. */
 static inline void cose_table_verify_cwt(struct cose_table *table, const uint8_t *aad, size_t aad_length,
@@ -755,16 +779,17 @@ static inline void cose_table_verify_cwt(struct cose_table *table, const uint8_t
 /* ---- Making a COSE_Mac0 (RFC 9052 section 6.2) over pieces: head, the pieces and tail are the message. */
 
 /** How many bytes its block has. */
-size_t cose_maker_size(void);
+uint64_t cose_maker_size(void);
 
 /** What the address of its block is a multiple of. */
-size_t cose_maker_align(void);
+uint64_t cose_maker_align(void);
 
 /** Makes the block a maker of nothing. Once, before anything else. */
 void cose_maker_begin(uint8_t *block);
 
-void cose_edge_make(struct cose_maker *maker, int32_t alg, const uint8_t *key, size_t key_length, const uint8_t *kid, size_t kid_length,
-    const uint8_t *aad, size_t aad_length, uint64_t payload_length, uint8_t *head, size_t head_room, struct cose_made *made);
+void cose_edge_make(struct cose_maker *maker, int32_t alg, const uint8_t *key, uint64_t key_length, const uint8_t *kid,
+    uint64_t kid_length, const uint8_t *aad, uint64_t aad_length, uint64_t payload_length, uint8_t *head, uint64_t head_room,
+    struct cose_made *made);
 
 /** Writes what precedes the payload into head, at most 384 bytes. alg is 4, 5, 6 or 7 (RFC 9053 section 3.1). */
 static inline void cose_make(struct cose_maker *maker, int32_t alg, const uint8_t *key, size_t key_length, const uint8_t *kid,
@@ -783,7 +808,7 @@ static inline void cose_make(struct cose_maker *maker, int32_t alg, const uint8_
         cose_room_(head), head_room, made);
 }
 
-uint64_t cose_edge_make_piece(struct cose_maker *maker, const uint8_t *piece, size_t piece_length);
+uint64_t cose_edge_make_piece(struct cose_maker *maker, const uint8_t *piece, uint64_t piece_length);
 
 /** Hashes the next bytes of the payload, and returns how many it used. */
 static inline uint64_t cose_make_piece(struct cose_maker *maker, const uint8_t *piece, size_t piece_length)
@@ -794,7 +819,7 @@ static inline uint64_t cose_make_piece(struct cose_maker *maker, const uint8_t *
     return cose_edge_make_piece(maker, cose_slice_(piece), piece_length);
 }
 
-void cose_edge_make_end(struct cose_maker *maker, uint8_t *tail, size_t tail_room, struct cose_made *made);
+void cose_edge_make_end(struct cose_maker *maker, uint8_t *tail, uint64_t tail_room, struct cose_made *made);
 
 /** Writes what follows the payload into tail, at most 70 bytes. */
 static inline void cose_make_end(struct cose_maker *maker, uint8_t *tail, size_t tail_room, struct cose_made *made)
@@ -819,7 +844,7 @@ static inline int cose_fits(void)
         cose_maker_size() <= COSE_MAKER_BLOCK && cose_maker_align() <= COSE_BLOCK_ALIGN;
 }
 
-static inline void cose_overwrite_(uint8_t *block, size_t size)
+static inline void cose_overwrite_(uint8_t *block, uint64_t size)
 {
     volatile uint8_t *at = block;
     while (size > 0)

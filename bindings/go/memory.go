@@ -50,7 +50,7 @@ type block struct {
 }
 
 // make gives the block its memory, at a multiple of the alignment.
-func (b *block) make(size, align C.size_t) bool {
+func (b *block) make(size, align C.uint64_t) bool {
 	b.memory = allocate(int(size + align))
 	if b.memory == nil {
 		return false

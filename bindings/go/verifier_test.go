@@ -4,6 +4,8 @@ package cose_test
 
 import (
 	"bytes"
+	"crypto/hmac"
+	"crypto/sha256"
 	"errors"
 	"fmt"
 	"io"
@@ -244,6 +246,42 @@ func TestTable(t *testing.T) {
 		t.Error(err)
 	}
 	if _, err = table.Verify(mac0(nil, nil), nil); !errors.Is(err, cose.ErrClosed) {
+		t.Error(err)
+	}
+}
+
+// TestPart has what follows the payload in a piece out of the reach of its part.
+func TestPart(t *testing.T) {
+	v := newVerifier(t, keys, nil)
+	defer v.Close()
+	fed, err := v.Feed(mac0([]byte("hi"), nil))
+	if err != nil || string(fed.Payload) != "hi" || cap(fed.Payload) != 2 {
+		t.Error(fed, cap(fed.Payload), err)
+	}
+	// what is held isn't counted by what was taken
+	if counts, err := v.Counts(); err != nil || counts.Held == 0 || counts.Held == counts.Taken {
+		t.Error(counts, err)
+	}
+}
+
+// TestLargeTable verifies a token under a table whose header has room within the large limits alone.
+func TestLargeTable(t *testing.T) {
+	table, err := cose.NewKeyTable(keys)
+	if err != nil {
+		t.Fatal(err)
+	}
+	defer table.Close()
+	protected := joined([]byte{0xa2, 0x01, 0x05, 0x04}, str(2, make([]byte, 2_000)))
+	mac := hmac.New(sha256.New, secret)
+	mac.Write(structure("MAC0", protected, nil, []byte{0xa0}))
+	token := joined([]byte{0xd1, 0x84}, str(2, protected), []byte{0xa0}, str(2, []byte{0xa0}), str(2, mac.Sum(nil)))
+	if _, err = table.VerifyCWT(token, nil, &cose.Options{Large: true}); err != nil {
+		t.Error(err)
+	}
+	if _, err = table.Verify(token, &cose.Options{Large: true}); err != nil {
+		t.Error(err)
+	}
+	if _, err = table.VerifyCWT(token, nil, nil); !errors.Is(err, cose.ReasonPastRoom) {
 		t.Error(err)
 	}
 }

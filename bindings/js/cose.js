@@ -30,7 +30,7 @@ const WANTED = Object.freeze({ TAGGED: 0, MAC0: 17, SIGN1: 18 });
 const FIELDS = Object.freeze({
     // made by ci/edge_tables: structs
     cose_policy: [
-        "int64_t now", "uint32_t leeway", "uint8_t has_audience", "pointer audience", "size_t audience_length",
+        "int64_t now", "uint32_t leeway", "uint8_t has_audience", "pointer audience", "uint64_t audience_length",
     ],
     cose_range: ["uint64_t at", "uint64_t length", "uint8_t present"],
     cose_date: ["uint64_t number", "uint8_t present", "uint8_t negative"],
@@ -69,7 +69,6 @@ const SIZES = Object.freeze({
     uint32_t: 4,
     uint64_t: 8,
     int64_t: 8,
-    size_t: 8,
     pointer: 8,
 });
 

@@ -2,22 +2,21 @@
 
 usage: python3 -m retarget TARGET speed|size [--poison] < in.ll > out.ll
        python3 -m retarget --options TARGET speed|size
+       python3 -m retarget --rounds speed|size
        python3 -m retarget --stack speed|size OBJECT
-       python3 -m retarget --header < include/cose.h > cose.h
 
 The input is the text of a module for x86_64-unknown-linux-gnu, not optimized yet. The second form prints the options with which
-clang compiles the output; the third says how much stack the calls of an object file take, and fails where that is more than
-docs/DEVICES.md promises; the last makes the header for all targets. --poison, for tests, writes a pattern above each pointer that is stored.
+clang compiles the output, the third how often it optimizes it; the last says how much stack the calls of an object file take, and
+fails where that is more than docs/DEVICES.md promises. --poison, for tests, writes a pattern above each pointer that is stored.
 """
 import sys
 
 from .calls import check_calls
 from .forms import Refused
-from .header import for_all_targets
 from .rules import Rewriter
 from .slots import check_slots
 from .stack import report
-from .targets import LEVELS, TARGETS, clang_options
+from .targets import LEVELS, ROUNDS, TARGETS, clang_options
 
 
 def rewrite(target, way, poison):
@@ -28,6 +27,9 @@ def rewrite(target, way, poison):
         check_calls(text)
         places = check_slots(text)
         written = rewriter.rewrite(text)
+        missing = rewriter.inlining.missing() if rewriter.inlining else []
+        if missing:
+            raise Refused("a function that inlining.py names isn't there", ", ".join(missing))
     except Refused as refused:
         print(f"retarget: {refused}", file=sys.stderr)
         return 1
@@ -39,11 +41,11 @@ def rewrite(target, way, poison):
 
 def main(arguments):
     match arguments:
-        case ["--header"]:
-            sys.stdout.write(for_all_targets(sys.stdin.read()))
-            return 0
         case ["--options", target, way] if target in TARGETS and way in LEVELS:
             print(" ".join(clang_options(target, way)))
+            return 0
+        case ["--rounds", way] if way in LEVELS:
+            print(ROUNDS[way])
             return 0
         case ["--stack", way, path] if way in LEVELS:
             return report(path, way)

@@ -9,13 +9,15 @@
 - an alignment of more than 8 is one of 8, since a Cortex-M's stack has no other
 
 For a processor the module also gets a constant with the address of a symbol that the header for all targets defines, and no other; and
-a function that not every program needs gets a name and is weak, so that a program may define its own, which isn't that large.
+a function that not every program needs gets a name and is weak, so that a program may define its own, which isn't that large. Built for
+size, inlining.py says of each function how it is inlined.
 """
 import collections
 import re
 
 from . import forms
 from .forms import Refused
+from .inlining import Inlining
 
 # attributes in quotes that are about the processor or the operating system
 DROPPED = re.compile(r' ?"(?:probe-stack|stack-probe-size|target-cpu|target-features|tune-cpu|frame-pointer)"="[^"]*"')
@@ -47,7 +49,7 @@ class Rewriter:
         self.poison = poison
         self.counts = collections.Counter()
         self.constants = set()
-        self.groups = set()
+        self.inlining = None
         self.fresh = 0
         self.seen = set()
 
@@ -66,7 +68,7 @@ class Rewriter:
                 text = text.replace(f"{name}(", f"{its}(")
         lines = text.splitlines()
         self.constants = {found["name"] for found in map(forms.CONSTANT.fullmatch, lines) if found}
-        self.groups = {found["group"] for found in map(forms.DEFINITION.fullmatch, lines) if found}
+        self.inlining = Inlining(text) if self.way == "size" else None
         written = []
         inside = False
         for line in lines:
@@ -79,6 +81,8 @@ class Rewriter:
             raise Refused("a function without an end", lines[-1])
         if self.seen != {"layout", "triple"}:
             raise Refused("a module without a data layout or a triple", "")
+        if self.inlining:
+            written += self.inlining.lines(lambda words: DROPPED.sub("", " ".join(words)).strip())
         return "\n".join(written) + "\n" + (WANTING if self.target.is_processor else "")
 
     def line_of_module(self, line):
@@ -123,6 +127,8 @@ class Rewriter:
         found = forms.DEFINITION.fullmatch(line)
         if not found:
             raise Refused("a definition of a form that isn't known", line)
+        if self.inlining:
+            line = f"{line[: found.start('group')]}{self.inlining.group(found['name'], found['group'])} {{"
         if found["name"] in WEAK.values():
             self.counts["functions that a program may replace"] += 1
             return line.replace("define internal ", "define weak hidden ", 1)
@@ -150,8 +156,6 @@ class Rewriter:
         kept = DROPPED.sub("", found["list"]).strip() if found else '"'
         if '"' in kept:
             raise Refused("an attribute that isn't known", line)
-        if self.way == "size" and found["group"] in self.groups:
-            kept = f"optsize {kept}"
         return f"attributes #{found['group']} = {{ {kept} }}"
 
     def line_of_function(self, line):

@@ -17,9 +17,13 @@ OUTSIDE = 128
 KIB = 1024
 # how deep items nest: in calls of the large size, and in others
 LARGE_DEPTH, DEPTH = 16, 8
-# what docs/DEVICES.md promises: calls over memory of the large size, cose_table_read, and all others
-PROMISED = {"speed": (160 * KIB, 24 * KIB, 16 * KIB), "size": (160 * KIB, 24 * KIB, 20 * KIB)}
+# what docs/DEVICES.md promises: calls over memory of the large size, calls over memory, cose_table_read, and all others
+PROMISED = {"speed": (160 * KIB, 15 * KIB, 8 * KIB, 12 * KIB), "size": (160 * KIB, 17 * KIB, 8 * KIB, 12 * KIB)}
 LARGE_OVER_MEMORY = ("cose_edge_large_verify", "cose_edge_large_verify_detached", "cose_edge_large_verify_cwt", "cose_edge_large_claims")
+OVER_MEMORY = {
+    *("cose_edge_verify", "cose_edge_verify_detached", "cose_edge_verify_cwt", "cose_edge_shape"),
+    *("cose_edge_table_verify", "cose_edge_table_verify_cwt"),
+}
 ALL_SYMBOLS, FUNCTION, GLOBAL, UNDEFINED = 2, 2, 1, 0
 RELOCATIONS = {4: "<IIi", 9: "<II"}  # with an addend, without
 
@@ -161,9 +165,11 @@ class Graph:
 
 def promised(name, way):
     """What docs/DEVICES.md promises of a call."""
-    large, table, others = PROMISED[way]
+    large, over_memory, table, others = PROMISED[way]
     if name in LARGE_OVER_MEMORY:
         return large
+    if name in OVER_MEMORY:
+        return over_memory
     return table if name == "cose_edge_table_read" else others
 
 

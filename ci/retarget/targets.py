@@ -25,6 +25,8 @@ TARGETS = {
 }
 PROCESSORS = tuple(name for name, target in TARGETS.items() if target.is_processor)
 LEVELS = {"speed": "-O3", "size": "-Os"}
+# how often the module is optimized: the second time takes copies away that the first one leaves
+ROUNDS = {"speed": 1, "size": 2}
 # what rattle passes for each of its targets
 OPTIONS = (
     *("-ffreestanding", "-ffunction-sections", "-fdata-sections", "-Wno-override-module"),
@@ -32,10 +34,20 @@ OPTIONS = (
     *("-mllvm", "-disable-machine-licm", "-mllvm", "-disable-postra-machine-licm"),
     *("-mllvm", "-sink-common-insts=false"),
 )
+# how far the compiler looks for a copy of memory that is needless: with its own limits it leaves values as large as a store on the stack
+LIMITS = {
+    "memssa-check-limit": 5000,
+    "dse-memoryssa-scanlimit": 5000,
+    "dse-memoryssa-walklimit": 2000,
+    "dse-memoryssa-path-check-limit": 1000,
+    "dse-memoryssa-partial-store-limit": 50,
+    "dse-memoryssa-defs-per-block-limit": 50000,
+}
 
 
 def clang_options(target, way):
     """The options with which clang compiles a rewritten module."""
     it = TARGETS[target]
     sizes = ["-fstack-size-section"] if it.is_processor else []  # of frames, for stack.py
-    return [f"--target={it.triple}", *it.options, LEVELS[way], *OPTIONS, *sizes]
+    limits = [word for name, limit in LIMITS.items() for word in ("-mllvm", f"-{name}={limit}")]
+    return [f"--target={it.triple}", *it.options, LEVELS[way], *OPTIONS, *(limits if it.is_processor else []), *sizes]

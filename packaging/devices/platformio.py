@@ -20,9 +20,10 @@ def link(env, top):
     processor = board.get("build.cpu", board.get("build.march", ""))
     if processor not in TARGETS:
         raise SystemExit(f"cose has no archive for {processor or 'this board'}")
-    out = os.path.join(top, "..", "..", "crates", "cose_c", "out")
+    checkout = os.path.join(top, "..", "..")
+    out = os.path.join(checkout, "crates", "cose_c", "out")
     way = env.GetProjectOption("custom_cose_way", "size")
-    env.Append(CPPPATH=[os.path.join(out, "devices")])
+    env.Append(CPPPATH=[os.path.join(checkout, "include")])
     env.Append(LINKFLAGS=[os.path.join(out, f"libcose_c.{TARGETS[processor]}.{way}.a")])
 
 

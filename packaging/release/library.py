@@ -61,9 +61,6 @@ def package(made_from: Source) -> Files:
     for target, path in source.archives().items():
         source.proved(path)
         files[f"{base}lib/{'libcose.a' if target == 'x86_64' else target + '/libcose.a'}"] = of_file(path)
-    for_devices = source.OUT / "devices" / "cose.h"
-    if for_devices.exists():
-        files[f"{base}include/devices/cose.h"] = of_file(for_devices)
     files.update(of_folder(TOP / "examples" / "c", f"{base}examples/", ("*.c", "*.h", "adapters/*")))
     files[f"{base}examples/mac0.cbor"] = of_file(TOP / "examples" / "mac0.cbor")
     files.update({f"{base}{name}": of_file(TOP / name) for name in LICENSES})

@@ -1,10 +1,12 @@
 // Signatures over a protected header without parameters, in each spelling, and tokens at the time of the clock.
 import assert from "node:assert/strict";
-import { createHmac, generateKeyPairSync, sign } from "node:crypto";
+import { createHash, createHmac, generateKeyPairSync, sign } from "node:crypto";
+import { createRequire } from "node:module";
 import { test } from "node:test";
 import { load, Refused } from "../index.mjs";
 
 const cose = await load();
+const { CURVES, decompressed, isGoodSignature } = createRequire(import.meta.url)("../signatures.js");
 const text = (bytes) => new TextDecoder().decode(bytes);
 const octets = (hex) => new Uint8Array(Buffer.from(hex, "hex"));
 
@@ -58,6 +60,26 @@ test("a message with the tag of a CWT before its own is signed without its tags 
     }
 });
 
+test("a coordinate that isn't less than p is of no point (SEC 1 section 2.3.4)", () => {
+    for (const curve of Object.values(CURVES)) {
+        const octetsOf = (n) => octets(n.toString(16).padStart(2 * curve.bytes, "0"));
+        const x = [5n, 6n, 7n, 8n, 9n, 10n, 11n, 12n].find((it) => decompressed(curve, octetsOf(it), false));
+        assert.ok(x, curve.name);
+        assert.equal(decompressed(curve, octetsOf(curve.p + x), false), undefined, curve.name);
+    }
+});
+
+test("what isn't about a point is no answer on a signature", async () => {
+    const { keys } = newPair();
+    const structure = new Uint8Array(structureOf([]));
+    const digest = new Uint8Array(createHash("sha256").update(structure).digest());
+    const input = { crv: 1, digest, ySign: 0, x: keys.slice(10, 42), y: keys.slice(45, 77), signature: "no bytes" };
+    await assert.rejects(isGoodSignature(input, structure), TypeError);
+    const other = { ...input, signature: new Uint8Array(64) };
+    assert.equal(await isGoodSignature(other, structure), false);
+    assert.equal(await isGoodSignature({ ...other, y: new Uint8Array(32) }, structure), false);
+});
+
 /** A token by Node's HMAC, which expires at a time in seconds. */
 function tokenUntil(exp) {
     const secret = Buffer.from("a secret of thirty-two octets ..");
@@ -79,4 +101,10 @@ test("without a time, a token is admitted by the machine's clock", async () => {
     await assert.rejects(cose.token(old.keys, old.token), isExpired);
     await assert.rejects(cose.token(old.keys, old.token, { now: undefined }), isExpired);
     assert.deepEqual((await cose.token(old.keys, old.token, { now: now - 3_601 })).exp, BigInt(now - 3_600));
+});
+
+test("no secret stays where keys were passed to the module", async () => {
+    const { token, keys } = tokenUntil(Math.floor(Date.now() / 1000) + 3_600);
+    cose.verify(keys, token);
+    assert.equal(Buffer.from(cose.rooms.memory.buffer).indexOf(Buffer.from(keys)), -1);
 });

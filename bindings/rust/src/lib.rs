@@ -45,6 +45,10 @@
 #[cfg(feature = "std")]
 extern crate std;
 
+// raw.rs declares the library's lengths, which have 64 bits, as usize
+#[cfg(not(target_pointer_width = "64"))]
+compile_error!("this crate is for targets whose pointers have 64 bits");
+
 mod adapter;
 mod block;
 mod claims;

@@ -5,17 +5,16 @@ import subprocess
 import tempfile
 import unittest
 
-from retarget.header import for_all_targets
 from retarget.rules import WANTED, Rewriter
 from retarget.targets import PROCESSORS, TARGETS, clang_options
 
 from . import module
-from .test_header import START
+from .test_header import SYMBOLS
 
 RT = shutil.which("rt")
 BIN = RT and pathlib.Path(RT).resolve().parent.parent / "toolchain" / "bin"
 LINKERS = {"riscv32imac": "elf32lriscv"}
-# the header's own includes are left out: the kit has no header of C
+# the kit has no header of C
 PROGRAM = """\
 #define UINTPTR_MAX __UINTPTR_MAX__
 typedef __UINT8_TYPE__ uint8_t;
@@ -52,12 +51,11 @@ class Link(unittest.TestCase):
         return run.returncode, run.stderr
 
     def test_link(self):
-        plain = START.replace("#include <stdint.h>", "")
         for target in PROCESSORS:
             with self.subTest(target):
-                status, said = self.link(target, for_all_targets(START).replace("#include <stdint.h>", ""))
+                status, said = self.link(target, SYMBOLS)
                 self.assertEqual((status, said), (0, ""))
-                status, said = self.link(target, plain)
+                status, said = self.link(target, "")
                 self.assertEqual(status, 1)
                 self.assertIn(f"undefined symbol: {WANTED[1:]}", said)
 

@@ -2,7 +2,7 @@
 import unittest
 
 from retarget.rules import Rewriter
-from retarget.targets import TARGETS
+from retarget.targets import PROCESSORS, TARGETS, clang_options
 
 from . import CONSTANT, module
 
@@ -113,7 +113,7 @@ class Rules(unittest.TestCase):
     def test_attributes(self):
         self.assertIn("attributes #0 = { nounwind }", rewritten(module()))
         small = rewritten(module(), way="size")
-        self.assertIn("attributes #0 = { optsize nounwind }", small)
+        self.assertIn("attributes #2 = { minsize optsize nounwind }", small)
         self.assertIn("attributes #1 = { nounwind memory(argmem: write) }", small)
 
     def test_what_stays(self):
@@ -141,6 +141,13 @@ class Rules(unittest.TestCase):
         self.assertIn("define weak hidden void @cose_sha512_compress(ptr %a) #0 {", lines)
         self.assertIn("call void @cose_sha512_compress(ptr %a)", lines)
         self.assertIn('define internal void @"sha2::block512::compress"(ptr %a) #0 {', rewritten(text, "wasm32"))
+
+    def test_numbers_with_a_point(self):
+        """A processor that may have a unit for floats is compiled for as if it had none."""
+        options = clang_options("thumbv7em", "speed")
+        self.assertIn("-mfloat-abi=soft", options)
+        for name in PROCESSORS:
+            self.assertFalse([it for it in clang_options(name, "size") if it.startswith(("-mfpu", "-mfloat-abi=")) and it != "-mfloat-abi=soft"])
 
     def test_symbol_of_the_header(self):
         for name, target in TARGETS.items():

@@ -71,9 +71,11 @@ class Stack(unittest.TestCase):
                 stack.Graph(data)
 
     def test_promises(self):
-        small, large, table = (stack.promised(it, "speed") for it in ("cose_edge_feed", "cose_edge_large_verify", "cose_edge_table_read"))
-        self.assertEqual((small, large, table), (16384, 163840, 24576))
-        self.assertEqual(stack.promised("cose_edge_large_feed", "speed"), small)
+        names = ("cose_edge_large_verify", "cose_edge_verify", "cose_edge_table_read", "cose_edge_feed")
+        for way, wanted in ("speed", (163840, 15360, 8192, 12288)), ("size", (163840, 17408, 8192, 12288)):
+            self.assertEqual(tuple(stack.promised(it, way) for it in names), wanted)
+            self.assertEqual(stack.promised("cose_edge_large_feed", way), wanted[-1])
+            self.assertEqual(stack.promised("cose_edge_table_verify_cwt", way), wanted[1])
 
 
 if __name__ == "__main__":

@@ -5,6 +5,7 @@ mod WorkedChoices
 mod WorkedDetached
 mod WorkedPayloads
 mod WorkedComparisons
+mod WorkedElsewhere
 mod WorkedLimits
 mod WorkedShapes
 mod WorkedMaking

@@ -3,6 +3,7 @@ pub mod Choosing
 pub mod Deciding
 pub mod Detached
 pub mod Feeding
+pub mod Fronts
 pub mod Made
 pub mod Reader
 pub mod Reading

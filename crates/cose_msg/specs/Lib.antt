@@ -21,6 +21,8 @@ pub mod Task
 pub mod Reader
 pub mod Verifier
 pub mod Choosing
+pub mod Elsewhere
+pub mod FrontPieces
 pub mod Intake
 pub mod SliceIntake
 pub mod Sink

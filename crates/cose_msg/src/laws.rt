@@ -1,6 +1,7 @@
 //! Laws of the definitions that the contracts cite. A law is a function with no run-time effect, whose contract is the
 //! law.
 
+ghost use Rattle.cose_msg.specs.Elsewhere.{DecidedBefore, OtherMacIsRefused, StatedAnswerIsVerdict, StatedMacIsVerdict, VerdictIsInstance};
 ghost use Rattle.cose_msg.specs.Feed.{CutsDontMatter, PiecesJoin};
 ghost use Rattle.cose_msg.specs.GrammarLaws.{ArrayOfFourIsMessage, AuthenticIsMessage, MessageIsArrayOfFour, MessageIsRead, OneArrayOfFour};
 ghost use Rattle.cose_msg.specs.Maker.{MadeInParts};
@@ -163,3 +164,18 @@ pub fn cuts_dont_matter()
     ensures joined { PiecesJoin }
     ensures same { CutsDontMatter }
 {}
+
+/// Authentication may be computed elsewhere: the verdict is what is read of the message, with the key that was chosen, and then
+/// an answer about its tag or signature. Where a caller states the MAC of the structure under that key (RFC 9052 section 6.3), or
+/// an answer about the signature that is right (section 4.4), its verdict is that of the message. Other bytes than those of the tag are refused
+/// as BadAuth. What is decided before that is the same, whatever is stated.
+pub fn authentication_is_stated()
+    ensures instance { VerdictIsInstance }
+    ensures mac { StatedMacIsVerdict }
+    ensures answer { StatedAnswerIsVerdict }
+    ensures other { OtherMacIsRefused }
+    ensures before { DecidedBefore }
+{
+    // The laws that the proof cites: comparing and deciding on the signature come last.
+    deciding_goes_last();
+}

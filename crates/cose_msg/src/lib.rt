@@ -38,7 +38,8 @@
 //! A COSE_Sign1 is authentic where the [`EcVerifier`] that the caller passes answers so, asked with the key, the digest
 //! of the structure that is signed and the signature; [`Never`] refuses all. Until [`Verifier::reset`] a verdict is
 //! answered again, and after a [`Stop`] for a failure of the intake or the sink [`Stop::Again`]. [`same_bytes`], by which tags
-//! are compared, is for a caller that compares one of its own.
+//! are compared, is for a caller that compares one of its own. One that has the hash or the key elsewhere gets the bytes before
+//! the payload by [`FrontPieces`].
 //!
 //! A [`SliceIntake`] gives the bytes of a slice, a [`ReadIntake`] those of a reader. A [`Store`] holds the payload until
 //! [`Store::clear`], [`Nothing`] keeps none of it. An intake that fails says so by [`IntakeFault`], and a sink by [`SinkFault`].
@@ -81,6 +82,7 @@
 mod bare_head;
 mod context;
 mod elliptic;
+mod front_pieces;
 mod hashing;
 mod intake;
 pub mod laws;
@@ -101,6 +103,7 @@ pub use cose_head::{Kind, Reason, Refusal};
 pub use cose_mac::{Alg, same_bytes};
 pub use cose_map::{Bucket, Key, KeySet, KeyTable, Keys, Label, PreparedTable};
 pub use elliptic::{EcVerifier, Never};
+pub use front_pieces::FrontPieces;
 pub use intake::{Intake, IntakeFault, ReadIntake, SliceIntake};
 pub use make::maker::Maker;
 pub use make::{MakeFault, make_mac0};

@@ -9,6 +9,7 @@ use Rattle.cose_cwt.specs.Requirements.{RequirementsValue}
 use Rattle.cose_cwt.specs.Requirements.View.{requirements_value}
 use Rattle.cose_map.specs.Key.View.{contents}
 use Rattle.cose_msg.specs.declared.context.Wanted.{Wanted}
+use Rattle.cosecmd.specs.declared.job.Details.{Details}
 use Rattle.cosecmd.specs.declared.job.Job.{Job}
 use Rattle.cosecmd.specs.declared.job.Job.TheVariants.{Cwt, Keys, KeysFor, Make}
 use Rattle.cosecmd.specs.declared.job.Question.{Question}
@@ -46,7 +47,7 @@ fails_with old new e fails = subst (λ (output : Output). Fails output old new) 
 -- A message is made only by the command of this name.
 pub not_made : (request : Request) (A : Type 0) → (makes request ≡ true → A) → (A → ⊥) → makes request ≡ false
 not_made (asks.Make words) A by_name other = absurd (other (by_name refl))
-not_made (asks.Show limits wanted diagnostic elsewhere) A by_name other = refl
+not_made (asks.Show limits wanted details) A by_name other = refl
 not_made (asks.Message question checks from) A by_name other = refl
 not_made (asks.Keep checks name) A by_name other = refl
 not_made (asks.MessageSequence checks) A by_name other = refl
@@ -97,9 +98,9 @@ pub make_words : (words : MakeWords) (key aad : Bor (List ℕ)) (kid : Option (B
 unfolding printed
 make_words words key aad kid bytes k a v = rw (k, a, v) refl
 
-pub show_words : (request : Request) (limits : Limits) (wanted : Wanted) (diagnostic elsewhere : Bool) (payload : Option (List ℕ)) (bytes : List ℕ) → request ≡ asks.Show limits wanted diagnostic elsewhere →
-    shown limits wanted diagnostic elsewhere bytes ≡ asked_for request payload bytes
-show_words request limits wanted diagnostic elsewhere payload bytes is = rw is refl
+pub show_words : (request : Request) (limits : Limits) (wanted : Wanted) (details : Details) (payload : Option (List ℕ)) (bytes : List ℕ) → request ≡ asks.Show limits wanted details →
+    shown limits wanted details bytes ≡ asked_for request payload bytes
+show_words request limits wanted details payload bytes is = rw is refl
 
 -- ---- a payload in a file
 

@@ -46,7 +46,7 @@ token_sequence_words request words payload bytes is = rw is refl
 of_no_payload : (request : Request) (payload : Option (List ℕ)) (input : List ℕ) → is_sequence request ≡ true → asked_for request None input ≡ asked_for request payload input
 of_no_payload (asks.MessageSequence checks) payload input is = refl
 of_no_payload (asks.TokenSequence words) payload input is = refl
-of_no_payload (asks.Show limits wanted diagnostic elsewhere) payload input is = absurd cc
+of_no_payload (asks.Show limits wanted details) payload input is = absurd cc
 of_no_payload (asks.Message question checks from) payload input is = absurd cc
 of_no_payload (asks.Keep checks name) payload input is = absurd cc
 of_no_payload (asks.Cwt words) payload input is = absurd cc

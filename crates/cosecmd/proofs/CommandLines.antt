@@ -1,5 +1,5 @@
 -- A request whose fields are the values of the options asks for what is printed for these options.
-use Rattle.std.proofs.Common.{◌≡◌, ◌≢◌, ◌∙◌, Bool, false, ℕ, List, Option, Some, None, ap, subst, sym, refl, option_map, codes}
+use Rattle.std.proofs.Common.{◌≡◌, ◌≢◌, ◌∙◌, Bool, true, false, ℕ, List, Option, Some, None, ap, subst, sym, refl, option_map, codes}
 use Rattle.std.specs.Prelude.{string_bytes}
 use Rattle.clap.specs.Matches.{subcommand_name_of}
 use Rattle.clap.specs.Simple.{subcommand_rows_of}
@@ -12,7 +12,7 @@ use Rattle.cose_cwt.specs.Requirements.{RequirementsValue}
 use Rattle.cose_msg.specs.declared.context.Wanted.{Wanted}
 use Rattle.cosecmd.specs.Admitted.{program_policy}
 use Rattle.cosecmd.specs.AskedKeys.{asked}
-use Rattle.cosecmd.specs.CommandLine.{IsFoundIn, IsReadFrom, begins_as_answer, command_prints, keys_prints, line_prints, make_prints, matches_print, tokens_print}
+use Rattle.cosecmd.specs.CommandLine.{IsFoundIn, IsReadFrom, ask_for_help, begins_as_answer, command_prints, keys_prints, line_prints, make_prints, matches_print, payload_named, tokens_print}
 use Rattle.cosecmd.specs.Fields.{AreChecks, CwtFields, IsListedAs, KeysFields, MakeFields, checks_in}
 use Rattle.cosecmd.specs.Options.{Options, ◌>>=◌, flag_in, key_in, key_set_in, message_in, text_in}
 use Rattle.cosecmd.specs.PayloadTo.{new_file_of}
@@ -127,10 +127,16 @@ pub file_named : (matches : ArgMatches) (name : Text) (options : Options) (file 
     option_map (λ (command : Text × Options). command.1) (subcommand_rows_of matches) ≡ Some options → file ≡ new_file_of (Some (name, options)) → file ≡ new_file_of (subcommand_rows_of matches)
 file_named matches name options file n o is = is ∙ sym (ap new_file_of (command_met matches name options n o))
 
+-- Its payload is that of the command that clap met.
+pub payload_met : (content : List ℕ → Option (List ℕ)) (matches : ArgMatches) (name : Text) (options : Options) (payload : Option (Option (List ℕ))) → subcommand_name_of matches ≡ Some name →
+    option_map (λ (command : Text × Options). command.1) (subcommand_rows_of matches) ≡ Some options → payload ≡ payload_named content (Some (name, options)) → payload ≡ payload_named content (subcommand_rows_of matches)
+payload_met content matches name options payload n o is = is ∙ sym (ap (payload_named content) (command_met matches name options n o))
+
 -- What was parsed, where it is the options that clap found.
 pub found_in : (words : List Text) (parsed : Parsed) (matches : ArgMatches) → parsed ≡ Matches matches → IsReadFrom words parsed → IsFoundIn words matches
 found_in words parsed matches is read = subst (IsReadFrom words) is read
 
 -- And where it is a text of clap's.
-pub text_read : (words : List Text) (parsed : Parsed) (reply : Reply) → parsed ≡ ClapText reply → IsReadFrom words parsed → (reply.status ≢ statuses.Refused) × (begins_as_answer (string_bytes reply.text) ≡ false)
+pub text_read : (words : List Text) (parsed : Parsed) (reply : Reply) → parsed ≡ ClapText reply → IsReadFrom words parsed →
+    (reply.status ≢ statuses.Refused) × (begins_as_answer (string_bytes reply.text) ≡ false) × (reply.status ≡ statuses.Done → ask_for_help words ≡ true)
 text_read words parsed reply is read = subst (IsReadFrom words) is read

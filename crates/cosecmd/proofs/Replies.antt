@@ -67,6 +67,12 @@ ends_with_text old new text given statuses.Done other same written = λ well. (r
 ends_with_text old new text given statuses.Refused other same written = λ well. absurd (other (sym (same (λ e. absurd cc))))
 ends_with_text old new text given statuses.Fault other same written = λ well. absurd (omega (arith, well))
 
+-- What a text that ends a run well has asked for was asked for.
+pub asked_where_well : (A : Type 0) (given status : Status) → given ≢ statuses.Refused → (status ≢ statuses.Fault → status ≡ given) → (given ≡ statuses.Done → A) → code_of status < 2 → A
+asked_where_well A given statuses.Done other same asks well = asks (sym (same (λ e. absurd cc)))
+asked_where_well A given statuses.Refused other same asks well = absurd (other (sym (same (λ e. absurd cc))))
+asked_where_well A given statuses.Fault other same asks well = absurd (omega (arith, well))
+
 pub some_line : (old new : Option (List ℕ)) (fault : Fault) → WritesLine fault old new ⊎ WritesLine faults.Memory old new → (fault : Fault) × WritesLine fault old new
 some_line old new fault (inl line) = (fault, line)
 some_line old new fault (inr line) = (faults.Memory, line)

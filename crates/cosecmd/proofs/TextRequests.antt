@@ -1,5 +1,5 @@
 -- What a run reads of an input whose form the arguments name.
-use Rattle.std.proofs.Common.{◌≡◌, ◌∙◌, ℕ, List, Option, Some, ap, refl}
+use Rattle.std.proofs.Common.{◌≡◌, ℕ, List, Option, Some, refl}
 use Rattle.cose_text.specs.TextInput.{begins, bytes_in, to_come}
 use Rattle.cose_text.specs.declared.text_form.Next.{Next}
 use Rattle.cose_text.specs.declared.text_input.InputForm.{InputForm}

@@ -1,5 +1,5 @@
 -- What the program prints at the large limits, and at the small ones, on examples, by computing.
-use Rattle.std.specs.Prelude.{◌≡◌, ℕ, false, List, [], ◌∷◌, ◌++◌, replicate, None, pos, refl}
+use Rattle.std.specs.Prelude.{◌≡◌, ℕ, true, false, List, [], ◌∷◌, ◌++◌, replicate, None, pos, refl}
 use Rattle.std.specs.List.{concat}
 use Rattle.std.specs.Fmt.{digits}
 use Rattle.std.specs.Str.{is_utf8, chars}
@@ -26,7 +26,7 @@ use Rattle.cosecmd.specs.declared.limits.Limits.TheVariants.{Small, Large}
 use Rattle.cosecmd.specs.declared.reply.Status.TheVariants as statuses
 use Rattle.cosecmd.specs.Printed.{Output, printed}
 use Rattle.cosecmd.proofs.WorkedAdmitted.{no_requirements}
-use Rattle.cosecmd.proofs.WorkedPrinted.{Prints, checks_within, hex, line, plain, point}
+use Rattle.cosecmd.proofs.WorkedPrinted.{Prints, checks_within, hex, line, plain, plainly, point}
 
 unfoldable prints : Job → List ℕ → Output
 unfolding printed keys_of key_of key_table material_of message with_head with_string with_item bucket_of bucket_table check_pairs pair_faults chosen children_of items_from look head_of_item bare_head read head depth_of is_utf8 chars lib.Utf8.encode digits
@@ -54,13 +54,20 @@ at_the_large_limits : Prints (prints (verifying Large plain)) (
 unfolding prints
 at_the_large_limits = refl
 
-shown_at_the_large_limits : Prints (prints (Show Large wants.Tagged false false)) (
+shown_at_the_large_limits : Prints (prints (Show Large wants.Tagged plainly)) (
     ("d18459ffff", line "refused Truncated at 5" statuses.Refused) ∷
     ("d1845a00010000", line "refused PastRoom at 2" statuses.Refused) ∷
     ("d18452a10a81818181818181818181818181818100", line "refused Truncated at 21" statuses.Refused) ∷
     ("d18453a10a8181818181818181818181818181818100", line "refused TooDeep at 20" statuses.Refused) ∷ [])
 unfolding prints
 shown_at_the_large_limits = refl
+
+-- A payload that is shown has at most as many bytes as the claims of a token.
+payload_at_the_large_limits : Prints (prints (Show Large wants.Tagged (record plainly { payload = true }))) (
+    ("d18443a10105a059ffff", line "refused Truncated at 10" statuses.Refused) ∷
+    ("d18443a10105a05a00010000", line "refused PayloadTooLong at 7" statuses.Refused) ∷ [])
+unfolding prints
+payload_at_the_large_limits = refl
 
 compared_at_the_large_limits : Prints (prints (Digest (checks_within Large point [] wants.Sign1 None) None)) (
     ("d28459ffff", line "refused Truncated at 5" statuses.Refused) ∷

@@ -16,6 +16,7 @@ use Rattle.cosecmd.specs.Printed.{admitted_under, made_under, shown, verified_un
 use Rattle.cosecmd.specs.Requirements.{required_at}
 use Rattle.cosecmd.specs.Under.{Under, program_keys}
 use Rattle.cosecmd.specs.declared.limits.Limits.TheVariants.{Small, Large}
+use Rattle.cosecmd.proofs.WorkedPrinted.{plainly}
 
 -- An option with this argument; and one whose range has no negative number.
 abbrev pub given : Text → Text → Row
@@ -112,20 +113,23 @@ stated_none = refl
 
 -- ---- command lines
 
-show_line : (bytes : List ℕ) → line_prints no_file (Some (codes "show", given (codes "kind") (codes "sign1") ∷ [])) bytes ≡ Some (shown Small Sign1 false false bytes)
+show_line : (bytes : List ℕ) → line_prints no_file (Some (codes "show", given (codes "kind") (codes "sign1") ∷ [])) bytes ≡ Some (shown Small Sign1 plainly bytes)
 show_line bytes = refl
 
-diagnostic_line : (bytes : List ℕ) → line_prints no_file (Some (codes "show", given (codes "kind") (codes "mac0") ∷ given (codes "diagnostic") (codes "true") ∷ [])) bytes ≡ Some (shown Small Mac0 true false bytes)
+diagnostic_line : (bytes : List ℕ) → line_prints no_file (Some (codes "show", given (codes "kind") (codes "mac0") ∷ given (codes "diagnostic") (codes "true") ∷ [])) bytes ≡ Some (shown Small Mac0 (record plainly { diagnostic = true }) bytes)
 diagnostic_line bytes = refl
 
 -- Where a flag is left out, clap gives it this argument.
-plain_line : (bytes : List ℕ) → line_prints no_file (Some (codes "show", given (codes "diagnostic") (codes "false") ∷ [])) bytes ≡ Some (shown Small Tagged false false bytes)
+plain_line : (bytes : List ℕ) → line_prints no_file (Some (codes "show", given (codes "diagnostic") (codes "false") ∷ [])) bytes ≡ Some (shown Small Tagged plainly bytes)
 plain_line bytes = refl
 
-detached_line : (bytes : List ℕ) → line_prints no_file (Some (codes "show", given (codes "detached") (codes "true") ∷ [])) bytes ≡ Some (shown Small Tagged false true bytes)
+detached_line : (bytes : List ℕ) → line_prints no_file (Some (codes "show", given (codes "detached") (codes "true") ∷ [])) bytes ≡ Some (shown Small Tagged (record plainly { detached = true }) bytes)
 detached_line bytes = refl
 
-large_line : (bytes : List ℕ) → line_prints no_file (Some (codes "show", given (codes "limits") (codes "large") ∷ [])) bytes ≡ Some (shown Large Tagged false false bytes)
+payload_line : (bytes : List ℕ) → line_prints no_file (Some (codes "show", given (codes "with-payload") (codes "true") ∷ [])) bytes ≡ Some (shown Small Tagged (record plainly { payload = true }) bytes)
+payload_line bytes = refl
+
+large_line : (bytes : List ℕ) → line_prints no_file (Some (codes "show", given (codes "limits") (codes "large") ∷ [])) bytes ≡ Some (shown Large Tagged plainly bytes)
 large_line bytes = refl
 
 -- Under the key set without keys, the array 80, and with this argument of `--vouch`.

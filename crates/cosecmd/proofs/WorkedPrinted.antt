@@ -33,6 +33,7 @@ use Rattle.cose_msg.specs.Answer.{Chosen, decided, refused}
 use Rattle.cose_msg.specs.Message.{message, structure, verified}
 use Rattle.cose_msg.specs.Reading.{with_head, with_string, with_item}
 use Rattle.cosecmd.specs.declared.job.Checks.{Checks}
+use Rattle.cosecmd.specs.declared.job.Details.{Details}
 use Rattle.cosecmd.specs.declared.job.Job.{Job}
 use Rattle.cosecmd.specs.declared.job.Job.TheVariants.{Verify}
 use Rattle.cosecmd.specs.declared.limits.Limits.{Limits}
@@ -58,6 +59,10 @@ hex text = bytes_of (filter (λ code. not (code == 0x20)) (codes text))
 abbrev pub any : (ℕ → ℕ) → ℕ → List ℕ
 any byte zero = []
 any byte (suc n) = byte n ∷ any byte n
+
+-- What is printed of a message that is shown, in addition: nothing.
+abbrev pub plainly : Details
+plainly = record { diagnostic = false; detached = false; payload = false }
 
 -- One line, and how the run ends.
 abbrev pub line : String → Status → Output

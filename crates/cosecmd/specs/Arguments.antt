@@ -32,7 +32,7 @@ abbrev pub payload_for : (List ℕ → Option (List ℕ)) → Request → Option
 payload_for content (asks.Message question checks payload) = detached_in content payload
 payload_for content (asks.Keep checks name) = Some None
 payload_for content (asks.MessageSequence checks) = Some None
-payload_for content (asks.Show limits wanted diagnostic elsewhere) = Some None
+payload_for content (asks.Show limits wanted details) = Some None
 payload_for content (asks.Cwt words) = Some None
 payload_for content (asks.TokenSequence words) = Some None
 payload_for content (asks.Keys words) = Some None
@@ -40,7 +40,7 @@ payload_for content (asks.Make words) = Some None
 
 -- With this detached payload, where there is one.
 abbrev pub asked_for : Request → Option (List ℕ) → List ℕ → Output
-asked_for (asks.Show limits wanted diagnostic elsewhere) payload bytes = shown limits wanted diagnostic elsewhere bytes
+asked_for (asks.Show limits wanted details) payload bytes = shown limits wanted details bytes
 asked_for (asks.Message question checks from) payload bytes = answered_under question (owned_under checks) payload bytes
 asked_for (asks.Keep checks name) payload bytes = verified_under (owned_under checks) payload bytes
 asked_for (asks.MessageSequence checks) payload bytes = verified_sequence (owned_under checks) bytes
@@ -52,7 +52,7 @@ asked_for (asks.Make words) payload bytes = made_for words bytes
 -- Whether a message is to be made.
 abbrev pub makes : Request → Bool
 makes (asks.Make words) = true
-makes (asks.Show limits wanted diagnostic elsewhere) = false
+makes (asks.Show limits wanted details) = false
 makes (asks.Message question checks from) = false
 makes (asks.Keep checks name) = false
 makes (asks.MessageSequence checks) = false
@@ -64,7 +64,7 @@ makes (asks.Keys words) = false
 abbrev pub is_sequence : Request → Bool
 is_sequence (asks.MessageSequence checks) = true
 is_sequence (asks.TokenSequence words) = true
-is_sequence (asks.Show limits wanted diagnostic elsewhere) = false
+is_sequence (asks.Show limits wanted details) = false
 is_sequence (asks.Message question checks from) = false
 is_sequence (asks.Keep checks name) = false
 is_sequence (asks.Cwt words) = false

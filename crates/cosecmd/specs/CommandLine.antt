@@ -1,6 +1,6 @@
 -- What the program prints for the options of a command that clap found, and how it ends: where each argument is in order,
 -- and the bytes of the files that are named are known.
-use Rattle.std.specs.Prelude.{◌≡◌, ◌≢◌, ◌⊎◌, ◌||◌, ℕ, Bool, false, List, length, take, Option, Some, None, codes, string_bytes, if◌then◌else◌}
+use Rattle.std.specs.Prelude.{◌≡◌, ◌≢◌, ◌⊎◌, ◌<◌, ◌||◌, ℕ, Bool, true, false, List, [], ◌∷◌, length, take, Option, Some, None, codes, string_bytes, if◌then◌else◌}
 use Rattle.std.specs.Str.{bytes_eq}
 use Rattle.clap.specs.Built.{IsParsedFrom}
 use Rattle.clap.specs.Matches.{subcommand_name_of}
@@ -12,13 +12,13 @@ use Rattle.cose_map.specs.Key.{key_of}
 use Rattle.cose_msg.specs.Sink.{AppendsFront}
 use Rattle.cosecmd.specs.Admitted.{program_policy}
 use Rattle.cosecmd.specs.Faults.{WritesLine}
-use Rattle.cosecmd.specs.Options.{Options, ◌>>=◌, algorithm_in, bytes_in, flag_in, integer_in, key_in, key_set_in, kind_in, limits_in, message_in, number_in, optional_bytes_in, payload_in, text_in}
+use Rattle.cosecmd.specs.Options.{Options, ◌>>=◌, algorithm_in, bytes_in, details_in, flag_in, integer_in, key_in, key_set_in, kind_in, limits_in, message_in, number_in, optional_bytes_in, payload_in, text_in}
 use Rattle.cosecmd.specs.Fields.{checks_in, digest_checks_in}
 use Rattle.cosecmd.specs.InputForm.{input_bytes}
 use Rattle.cosecmd.specs.Printed.{Admits, EndsWith, Fails, Output, admitted_under, digested_under, keys_said, made_under, shown, verified_under}
 use Rattle.cosecmd.specs.Requirements.{requirements_in}
 use Rattle.cosecmd.specs.Sequence.{FailsInSequence, admitted_sequence, verified_sequence}
-use Rattle.cosecmd.specs.Arguments.{asked_for, payload_for}
+use Rattle.cosecmd.specs.Arguments.{asked_for, is_sequence, makes, payload_for}
 use Rattle.cosecmd.specs.declared.fault.Fault.{Fault}
 use Rattle.cosecmd.specs.declared.reply.Status.TheVariants as statuses
 use Rattle.cosecmd.specs.declared.request.Request.{Request}
@@ -76,7 +76,7 @@ make_prints content options bytes = do
 -- By the name of the command and its options.
 abbrev pub command_prints : (List ℕ → Option (List ℕ)) → Text → Options → List ℕ → Option Output
 command_prints content name options bytes =
-    if bytes_eq name (codes "show") then Some (shown (limits_in options) (kind_in options) (flag_in (codes "diagnostic") options) (flag_in (codes "detached") options) bytes)
+    if bytes_eq name (codes "show") then Some (shown (limits_in options) (kind_in options) (details_in options) bytes)
     else if bytes_eq name (codes "verify") then verify_prints content options bytes
     else if bytes_eq name (codes "cwt") then cwt_prints content options bytes
     else if bytes_eq name (codes "digest") then digest_prints content options bytes
@@ -116,18 +116,59 @@ abbrev pub begins_as_answer : Text → Bool
 begins_as_answer text =
     begins_with (codes "authentic ") text || begins_with (codes "refused ") text || begins_with (codes "admitted") text || begins_with (codes "shape ") text || begins_with (codes "detached at ") text || begins_with (codes "vouch ") text || begins_with (codes "key at ") text
 
--- A text of clap's is help or the version, or says what is wrong with the arguments.
+-- A word that asks for help or for the version.
+abbrev pub is_for_help : Text → Bool
+is_for_help word =
+    bytes_eq word (codes "help") || begins_with (codes "--help") word || begins_with (codes "--version") word || begins_with (codes "-h") word || begins_with (codes "-V") word
+
+-- Whether one of these words does.
+abbrev pub ask_for_help : List Text → Bool
+ask_for_help [] = false
+ask_for_help (word ∷ words) = is_for_help word || ask_for_help words
+
+-- A text of clap's is help or the version, where the arguments ask for one of them, or says what is wrong with the arguments.
 abbrev pub IsReadFrom : List Text → Parsed → Type 0
 IsReadFrom words (Matches matches) = IsFoundIn words matches
-IsReadFrom words (Reply reply) = (reply.status ≢ statuses.Refused) × (begins_as_answer (string_bytes reply.text) ≡ false)
+IsReadFrom words (Reply reply) =
+    (reply.status ≢ statuses.Refused) × (begins_as_answer (string_bytes reply.text) ≡ false) × (reply.status ≡ statuses.Done → ask_for_help words ≡ true)
 
--- A run with these arguments that ends with this status: unless there is a fault, it printed a text of clap's and ended with
--- status 0, or it printed what is printed for what clap found, and for the bytes that the input stands for, and ended with its
--- status.
+-- The detached payload that the options name, as far as it is known. A message of a sequence has its own.
+abbrev pub unless_sequence : Bool → Option (Option (List ℕ)) → Option (Option (List ℕ))
+unless_sequence true payload = Some None
+unless_sequence false payload = payload
+
+abbrev pub verify_payload : (List ℕ → Option (List ℕ)) → Options → Option (Option (List ℕ))
+verify_payload content options = unless_sequence (flag_in (codes "sequence") options) (payload_in content options)
+
+abbrev pub command_payload : (List ℕ → Option (List ℕ)) → Text → Options → Option (Option (List ℕ))
+command_payload content name options =
+    if bytes_eq name (codes "verify") then verify_payload content options
+    else if bytes_eq name (codes "digest") then payload_in content options
+    else Some None
+
+abbrev pub payload_named : (List ℕ → Option (List ℕ)) → Option (Text × Options) → Option (Option (List ℕ))
+payload_named content None = Some None
+payload_named content (Some command) = command_payload content command.0 command.1
+
+-- A request that was read from what clap found, whatever the files have that it names.
+pub record IsReadAs (content : List ℕ → Option (List ℕ)) (matches : ArgMatches) (request : Request) : Type 0 where
+  pub payload : payload_for content request ≡ payload_named content (subcommand_rows_of matches)
+  pub making : makes request ≡ true → subcommand_name_of matches ≡ Some (codes "make")
+  pub sequence : is_sequence request ≡ true → is_of_sequence matches ≡ true
+
+-- Unless there is a fault, what this request asks for was printed, with each payload that is known to be the one that it names.
+abbrev pub AnswersRequest : (List ℕ → Option (List ℕ)) → Request → List ℕ → Option (List ℕ) → Option (List ℕ) → ℕ → Type 0
+AnswersRequest content request bytes old new status = (payload : Option (List ℕ)) → payload_for content request ≡ Some payload → EndsWith (asked_for request payload bytes) old new status
+
+-- A run with these arguments that ends with this status: unless there is a fault, it printed a text of clap's that the arguments
+-- ask for and ended with status 0, or it read a request from what clap found, and printed what that asks for, for the bytes that
+-- the input stands for, and ended with its status.
 abbrev pub Answers : (List ℕ → Option (List ℕ)) → List Text → List ℕ → Option (List ℕ) → Option (List ℕ) → ℕ → Type 0
 Answers content words bytes old new status =
-    ((text : Text) × (begins_as_answer text ≡ false) × EndsWith (record { text = text; status = statuses.Done }) old new status)
-    ⊎ ((matches : ArgMatches) × IsFoundIn words matches × ((said : Output) → matches_print content matches (input_bytes matches bytes) ≡ Some said → EndsWith said old new status))
+    ((text : Text) × (begins_as_answer text ≡ false) × (status < 2 → ask_for_help words ≡ true) × EndsWith (record { text = text; status = statuses.Done }) old new status)
+    ⊎ ((matches : ArgMatches) × IsFoundIn words matches
+    × (status < 2 → (request : Request) × IsReadAs content matches request × AnswersRequest content request (input_bytes matches bytes) old new status)
+    × ((said : Output) → matches_print content matches (input_bytes matches bytes) ≡ Some said → EndsWith said old new status))
 
 -- What is printed for what clap found, for each input.
 abbrev pub PrintsEach : (List ℕ → Option (List ℕ)) → ArgMatches → (List ℕ → Output) → Type 0

@@ -64,7 +64,7 @@ fault_of_making (Err refusal) alg kid aad payload_length = Some (faults.Key refu
 abbrev pub making_fault : Job → Option Fault
 making_fault (Make alg key payload_length kid aad) =
     fault_of_making (key_of (record { bytes = key.now; place = 0 })) alg (option_map contents kid) aad.now payload_length
-making_fault (Show limits wanted diagnostic elsewhere) = None
+making_fault (Show limits wanted details) = None
 making_fault (Verify checks payload) = None
 making_fault (Cwt job) = None
 making_fault (Digest checks payload) = None

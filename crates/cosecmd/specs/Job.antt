@@ -8,7 +8,7 @@ use Rattle.cosecmd.specs.declared.job.Question.{Question}
 use Rattle.cosecmd.specs.declared.job.Question.TheVariants as questions
 
 abbrev pub aad_of : Job → List ℕ
-aad_of (Show limits wanted diagnostic elsewhere) = []
+aad_of (Show limits wanted details) = []
 aad_of (Verify checks payload) = checks.aad.now
 aad_of (Cwt job) = job.checks.aad.now
 aad_of (Digest checks payload) = checks.aad.now
@@ -18,7 +18,7 @@ aad_of (Make alg key length kid aad) = aad.now
 
 abbrev pub is_make : Job → Bool
 is_make (Make alg key length kid aad) = true
-is_make (Show limits wanted diagnostic elsewhere) = false
+is_make (Show limits wanted details) = false
 is_make (Verify checks payload) = false
 is_make (Cwt job) = false
 is_make (Digest checks payload) = false
@@ -29,7 +29,7 @@ is_make (KeysFor keys wanted) = false
 abbrev pub reads_input : Job → Bool
 reads_input (Keys keys) = false
 reads_input (KeysFor keys wanted) = true
-reads_input (Show limits wanted diagnostic elsewhere) = true
+reads_input (Show limits wanted details) = true
 reads_input (Verify checks payload) = true
 reads_input (Cwt job) = true
 reads_input (Digest checks payload) = true

@@ -7,6 +7,7 @@ pub mod Faults
 pub mod Fields
 pub mod Input
 pub mod InputForm
+pub mod Inspection
 pub mod Job
 pub mod KeysListed
 pub mod Limits

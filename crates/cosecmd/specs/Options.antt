@@ -11,6 +11,7 @@ use Rattle.cose_head.specs.declared.algorithm.Alg.{Alg}
 use Rattle.cose_head.specs.Algorithm.{algorithm_numbered}
 use Rattle.cose_msg.specs.declared.context.Wanted.{Wanted}
 use Rattle.cose_msg.specs.declared.context.Wanted.TheVariants as wants
+use Rattle.cosecmd.specs.declared.job.Details.{Details}
 use Rattle.cosecmd.specs.declared.limits.Limits.{Limits}
 use Rattle.cosecmd.specs.declared.limits.Limits.TheVariants as limits
 
@@ -86,6 +87,14 @@ limits_in options = limits_named (unwrap_or (text_in (codes "limits") options) (
 -- An option without an argument: clap gives it the argument `true`, and `false` where it is left out.
 abbrev pub flag_in : Text → Options → Bool
 flag_in name options = bytes_eq (unwrap_or (text_in name options) (codes "false")) (codes "true")
+
+-- What is printed of a message that is shown, in addition.
+abbrev pub details_in : Options → Details
+details_in options = record {
+  diagnostic = flag_in (codes "diagnostic") options;
+  detached = flag_in (codes "detached") options;
+  payload = flag_in (codes "with-payload") options;
+}
 
 -- The kinds of messages that keys are listed for, where they are.
 abbrev pub message_in : Options → Option Wanted

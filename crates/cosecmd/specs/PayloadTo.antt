@@ -57,7 +57,7 @@ new_file_of (Some command) = if bytes_eq command.0 (codes "verify") then text_in
 -- The new file of a request.
 abbrev pub new_file_for : Request → Option Text
 new_file_for (asks.Keep checks name) = Some name.now
-new_file_for (asks.Show limits wanted diagnostic elsewhere) = None
+new_file_for (asks.Show limits wanted details) = None
 new_file_for (asks.Message question checks payload) = None
 new_file_for (asks.MessageSequence checks) = None
 new_file_for (asks.Cwt words) = None

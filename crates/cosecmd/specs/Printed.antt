@@ -30,7 +30,7 @@ use Rattle.cose_msg.specs.Make.{make_fault}
 use Rattle.cose_msg.specs.Making.{made, protected_made}
 use Rattle.cose_msg.specs.Message.{Decides, Setting, comparing, inspecting, message, secret_of, verdict_of}
 use Rattle.cose_msg.specs.Source.{attached, detached}
-use Rattle.cose_msg.specs.Reading.{Reading, Findings}
+use Rattle.cose_msg.specs.Reading.{Reading}
 use Rattle.cose_msg.specs.Shown.{SignInput, sign_input_in}
 use Rattle.cose_msg.specs.Writes.{front_of}
 use Rattle.cose_cwt.specs.Admission.{PolicyValue}
@@ -44,6 +44,7 @@ use Rattle.cosecmd.specs.KeysListed.{set_status, set_text}
 use Rattle.cosecmd.specs.Limits.{room_of}
 use Rattle.cosecmd.specs.declared.fault.Fault.{Fault}
 use Rattle.cosecmd.specs.declared.job.Checks.{Checks}
+use Rattle.cosecmd.specs.declared.job.Details.{Details}
 use Rattle.cosecmd.specs.declared.job.Job.{Job}
 use Rattle.cosecmd.specs.declared.job.Job.TheVariants.{Show, Verify, Cwt, Digest, Keys, KeysFor, Make}
 use Rattle.cosecmd.specs.declared.job.Question.{Question}
@@ -53,7 +54,7 @@ use Rattle.cosecmd.specs.declared.limits.Limits.{Limits}
 use Rattle.cosecmd.specs.declared.reply.Reply.{Reply}
 use Rattle.cosecmd.specs.declared.reply.Status.{Status}
 use Rattle.cosecmd.specs.declared.reply.Status.TheVariants as statuses
-use Rattle.cosecmd.specs.Readable.{pair_notation}
+use Rattle.cosecmd.specs.Readable.{no_payload_shown, pair_notation, payload_shown}
 use Rattle.cosecmd.specs.Under.{Under, job_under}
 use Rattle.cosecmd.specs.Vouch.{vouch_word, vouching}
 use Rattle.hex.specs.Hex.{encode_lower}
@@ -206,10 +207,14 @@ abbrev pub bucket_lines : Bool → List ℕ → Option (List Pair) → List ℕ
 bucket_lines diagnostic bucket None = []
 bucket_lines diagnostic bucket (Some pairs) = concat (map (pair_line diagnostic bucket) pairs)
 
--- The shape, then the pairs of the protected bucket, then those of the unprotected one.
-abbrev pub shape_said : Bool → Kind → ℕ → ℕ → ℕ → Option (List Pair) → Option (List Pair) → Output
-shape_said diagnostic kind payload auth taken protected unprotected = record {
-  text = shape_line kind payload auth taken ++ bucket_lines diagnostic (codes "protected") protected ++ bucket_lines diagnostic (codes "unprotected") unprotected;
+-- The pairs of the protected bucket, then those of the unprotected one.
+abbrev pub header_lines : Bool → Option (List Pair) → Option (List Pair) → List ℕ
+header_lines diagnostic protected unprotected = bucket_lines diagnostic (codes "protected") protected ++ bucket_lines diagnostic (codes "unprotected") unprotected
+
+-- The shape, then the pairs, then the payload, where it is asked for.
+abbrev pub shape_said : Details → ℕ → Kind → ℕ → ℕ → ℕ → Option (List Pair) → Option (List Pair) → List ℕ → Output
+shape_said details nesting kind payload auth taken protected unprotected content = record {
+  text = shape_line kind payload auth taken ++ header_lines details.diagnostic protected unprotected ++ payload_shown details.payload nesting content;
   status = statuses.Done;
 }
 
@@ -218,9 +223,9 @@ abbrev pub detached_line : ℕ → List ℕ
 detached_line place = codes "detached at " ++ decimal place ++ codes "\n"
 
 -- This line, then the pairs as those of a shape.
-abbrev pub detached_said : Bool → ℕ → Option (List Pair) → Option (List Pair) → Output
-detached_said diagnostic place protected unprotected = record {
-  text = detached_line place ++ bucket_lines diagnostic (codes "protected") protected ++ bucket_lines diagnostic (codes "unprotected") unprotected;
+abbrev pub detached_said : Details → ℕ → Option (List Pair) → Option (List Pair) → Output
+detached_said details place protected unprotected = record {
+  text = detached_line place ++ header_lines details.diagnostic protected unprotected ++ no_payload_shown details.payload;
   status = statuses.Done;
 }
 
@@ -229,28 +234,33 @@ is_for_nil Detached = true
 is_for_nil _ = false
 
 -- Where a message without its payload is to be shown, its refusal for that says where the nil is.
-abbrev pub refusal_shown : Bool → Bool → Option (List Pair) → Option (List Pair) → Refusal → Output
-refusal_shown diagnostic elsewhere protected unprotected refusal =
-    if is_for_nil refusal.reason && elsewhere then detached_said diagnostic refusal.place protected unprotected else said_of (Refused refusal)
+abbrev pub refusal_shown : Details → Option (List Pair) → Option (List Pair) → Refusal → Output
+refusal_shown details protected unprotected refusal =
+    if is_for_nil refusal.reason && details.detached then detached_said details refusal.place protected unprotected else said_of (Refused refusal)
 
-abbrev pub verdict_shown : Bool → Bool → Findings → Verdict → Output
-verdict_shown diagnostic elsewhere told (Refused refusal) = refusal_shown diagnostic elsewhere told.protected told.unprotected refusal
-verdict_shown diagnostic elsewhere told (Authentic kind alg payload taken) = said_of (Authentic kind alg payload taken)
+abbrev pub verdict_shown : Details → Option (List Pair) → Option (List Pair) → Verdict → Output
+verdict_shown details protected unprotected (Refused refusal) = refusal_shown details protected unprotected refusal
+verdict_shown details protected unprotected (Authentic kind alg payload taken) = said_of (Authentic kind alg payload taken)
 
-abbrev pub shown_as : Bool → Bool → Findings → Answer → Output
-shown_as diagnostic elsewhere told (shaped kind payload auth taken) = shape_said diagnostic kind payload auth taken told.protected told.unprotected
-shown_as diagnostic elsewhere told (decided verdict) = verdict_shown diagnostic elsewhere told verdict
-shown_as diagnostic elsewhere told (complete whole) = none_said
+-- The answer for a message that has these pairs and this payload.
+abbrev pub shown_as : Details → ℕ → Option (List Pair) → Option (List Pair) → List ℕ → Answer → Output
+shown_as details nesting protected unprotected content (shaped kind payload auth taken) = shape_said details nesting kind payload auth taken protected unprotected content
+shown_as details nesting protected unprotected content (decided verdict) = verdict_shown details protected unprotected verdict
+shown_as details nesting protected unprotected content (complete whole) = none_said
 
-abbrev pub shown_of : Bool → Bool → ℕ → Reading → Output
-shown_of diagnostic elsewhere n reading = shown_as diagnostic elsewhere reading.so_far (trailed n reading.answer)
+abbrev pub shown_of : Details → ℕ → ℕ → Reading → Output
+shown_of details nesting n reading = shown_as details nesting reading.so_far.protected reading.so_far.unprotected reading.so_far.payload (trailed n reading.answer)
 
--- A message is shown as it is when it is only inspected: under no key.
-abbrev pub shown_in : ℕ → ℕ → Wanted → Bool → Bool → List ℕ → Output
-shown_in header nesting wanted diagnostic elsewhere bytes = shown_of diagnostic elsewhere (length bytes) (message (inspecting header nesting (program_setting [] [] wanted)) bytes)
+-- A message is shown as it is when it is only inspected: under no key. A payload that is asked for is at most as long as claims.
+abbrev pub show_setting : Bool → ℕ → List KeyValue → List ℕ → Wanted → Setting
+show_setting payload claims keys aad wanted = if payload then token_setting claims keys aad wanted else program_setting keys aad wanted
 
-abbrev pub shown : Limits → Wanted → Bool → Bool → List ℕ → Output
-shown limits wanted diagnostic elsewhere bytes = shown_in (room_of limits).header (room_of limits).nesting wanted diagnostic elsewhere bytes
+abbrev pub shown_in : ℕ → ℕ → ℕ → Wanted → Details → List ℕ → Output
+shown_in header nesting claims wanted details bytes =
+    shown_of details nesting (length bytes) (message (inspecting header nesting (show_setting details.payload claims [] [] wanted)) bytes)
+
+abbrev pub shown : Limits → Wanted → Details → List ℕ → Output
+shown limits wanted details bytes = shown_in (room_of limits).header (room_of limits).nesting (room_of limits).claims wanted details bytes
 
 -- The line that prints the argument of `--vouch`, with which a signature passes `verify`.
 abbrev pub vouched : List ℕ → Output
@@ -368,7 +378,7 @@ keys_said (Some wanted) keys bytes = keys_listed_for wanted keys bytes
 -- What is printed for a job, where the input is these bytes. A text of status Fault is what the program's documents
 -- say; no clause requires a run that ends so to print all of it.
 unfoldable pub printed : Job → List ℕ → Output
-printed (Show limits wanted diagnostic elsewhere) bytes = shown limits wanted diagnostic elsewhere bytes
+printed (Show limits wanted details) bytes = shown limits wanted details bytes
 printed (Verify checks payload) bytes = verified_for checks payload bytes
 printed (Cwt job) bytes = admits_for_job admitted_under job bytes
 printed (Digest checks payload) bytes = digested_for checks payload bytes

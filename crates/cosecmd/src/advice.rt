@@ -145,7 +145,11 @@ impl<'a> Ended<'a> {
         }
         let is_past_room = contains(self.printed, "PastRoom at ".as_bytes())
             && !contains(self.printed, "PastRoom at 0\n".as_bytes());
-        let is_past_limits = is_past_room || contains(self.printed, "TooDeep at ".as_bytes());
+        let is_too_long = contains(self.printed, "PayloadTooLong at ".as_bytes())
+            && (self.is_of("cwt") || self.has("--with-payload"));
+        let is_past_limits = is_past_room
+            || is_too_long
+            || contains(self.printed, "TooDeep at ".as_bytes());
         if is_past_limits && !self.has_argument("large") {
             return Some(LARGE);
         }

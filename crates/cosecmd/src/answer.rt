@@ -79,10 +79,9 @@ pub fn answer<R: Read, W: Write>(alloc: Global, job: &Job, input: &mut R, output
         Job::Show {
             limits,
             wanted,
-            diagnostic,
-            detached,
+            details,
         } => {
-            let reply = show_reply(alloc, *limits, *wanted, *diagnostic, *detached, input);
+            let reply = show_reply(alloc, *limits, *wanted, *details, input);
             end_with(alloc, reply, output)
         }
         Job::Verify { checks, payload } => {

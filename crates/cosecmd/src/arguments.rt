@@ -4,19 +4,19 @@ ghost use Rattle.std.specs.Prelude.{◌≡◌, ◌≢◌, ◌≤◌, ◌⊎◌, 
 ghost use Rattle.clap.specs.Matches.{first_value, found_of, subcommand_name_of};
 ghost use Rattle.clap.specs.Simple.{subcommand_rows_of};
 ghost use Rattle.cose_cwt.specs.Claims.Audience.{text_value};
-ghost use Rattle.cosecmd.specs.CommandLine.{AsksFor, IsReadFrom, begins_as_answer, cwt_prints, digest_prints, is_of_sequence, matches_print, message_prints, sequence_prints, verify_prints};
+ghost use Rattle.cosecmd.specs.CommandLine.{AsksFor, IsReadFrom, ask_for_help, begins_as_answer, cwt_prints, digest_prints, is_for_help as is_for_help_in, is_of_sequence, matches_print, message_prints, payload_named, sequence_prints, verify_payload, verify_prints};
 ghost use Rattle.cosecmd.specs.Fields.{AreChecks, CwtFields, HasKeysOf, IsKeyOf, IsListedAs, KeysFields, MakeFields, checks_in, digest_checks_in};
-ghost use Rattle.cosecmd.specs.Options.{algorithm_in, bytes_in, flag_in, hex_bytes, integer_in, kind_in, kind_named, limits_in, limits_named, message_in, number_in, optional_bytes_in, options_of, payload_in, text_in};
+ghost use Rattle.cosecmd.specs.Options.{algorithm_in, bytes_in, details_in, flag_in, hex_bytes, integer_in, kind_in, kind_named, limits_in, limits_named, message_in, number_in, optional_bytes_in, options_of, payload_in, text_in};
 ghost use Rattle.cosecmd.specs.Payload.{IsFile, detached_in};
 ghost use Rattle.cosecmd.specs.PayloadTo.{AsksToVerify, new_file_for, new_file_of};
 ghost use Rattle.cosecmd.specs.Printed.{Output};
-ghost use Rattle.cosecmd.specs.Arguments.{is_sequence, makes};
+ghost use Rattle.cosecmd.specs.Arguments.{is_sequence, makes, payload_for};
 
 use crate::allowed::allowed_of;
 use crate::commands::line;
 use crate::fault::Fault;
 use crate::files::{NamedFiles, key_bytes, key_set_bytes};
-use crate::job::Question;
+use crate::job::{Details, Question};
 use crate::limits::Limits;
 use crate::mistake::mistake;
 use crate::reply::{Reply, Status};
@@ -53,20 +53,57 @@ fn is_like_answer(text: &str) -> bool
         || bytes.starts_with(b"key at ")
 }
 
+/// Whether a word asks for help or for the version.
+fn is_for_help(word: &str) -> bool
+    ensures { result ≡ is_for_help_in word.now }
+{
+    let bytes = word.as_bytes();
+    word == "help"
+        || bytes.starts_with(b"--help")
+        || bytes.starts_with(b"--version")
+        || bytes.starts_with(b"-h")
+        || bytes.starts_with(b"-V")
+}
+
+/// Whether one of these words does.
+fn asks_for_help(words: &[&str]) -> bool
+    ensures { result ≡ ask_for_help (map (λ word. word.now) words.now) }
+{
+    'words: for word in words {
+        if is_for_help(word) {
+            return true;
+        }
+    }
+    false
+}
+
+/// How a run ends with a text of clap's: well only where it is help or the version, and the arguments ask for one of them.
+fn status_of(error: &clap::Error, words: &[&str]) -> Status
+    ensures other { result ≢ Status.Refused }
+    ensures asked { result ≡ Status.Done
+        → ask_for_help (map (λ word. word.now) words.now) ≡ true }
+{
+    if error.use_stderr() {
+        return Status::Fault;
+    }
+    if asks_for_help(words) {
+        return Status::Done;
+    }
+    Status::Fault
+}
+
 /// The text of a line that is refused, which repeats none of its arguments, or the help or version that it asks for. None of them
 /// can be taken for an answer.
-fn refused_line(alloc: Global, error: clap::Error) -> Result<Reply, Fault>
+fn refused_line(alloc: Global, error: clap::Error, words: &[&str]) -> Result<Reply, Fault>
     ensures status { IfOk result (λ reply. reply.status ≢ Status.Refused) }
+    ensures asked { IfOk result (λ reply. reply.status ≡ Status.Done
+        → ask_for_help (map (λ word. word.now) words.now) ≡ true) }
     ensures text { IfOk result (λ reply. begins_as_answer (string_bytes reply.text) ≡ false) }
 {
     if matches!(error.kind(), ErrorKind::OutOfMemory) {
         return Err(Fault::Memory);
     }
-    let status = if error.use_stderr() {
-        Status::Fault
-    } else {
-        Status::Done
-    };
+    let status = status_of(&error, words);
     let text = mistake(alloc, error.kind(), format!(in alloc; "{error}")?.as_str())?;
     if is_like_answer(text.as_str()) {
         return Err(Fault::Line("command"));
@@ -453,6 +490,8 @@ fn message_request<'a, F: NamedFiles>(
     ensures asks { IfOk result (λ request. (bytes : List ℕ) (said : Output) →
         message_prints (F.content files.now) (options_of matches.now) bytes ≡ Some said →
         AsksFor (F.content files.now) request bytes said) }
+    ensures payload { IfOk result (λ request. payload_for (F.content files.now) request
+        ≡ payload_in (F.content files.now) (options_of matches.now)) }
     ensures verifies { IfOk result (λ request. makes request ≡ false) }
     ensures one { IfOk result (λ request. is_sequence request ≡ false) }
     // Where the arguments name a new file, the payload is to be kept in it.
@@ -473,6 +512,8 @@ fn sequence_request<'a, F: NamedFiles>(
     ensures asks { IfOk result (λ request. (bytes : List ℕ) (said : Output) →
         sequence_prints (F.content files.now) (options_of matches.now) bytes ≡ Some said →
         AsksFor (F.content files.now) request bytes said) }
+    ensures payload { IfOk result (λ request. payload_for (F.content files.now) request
+        ≡ Some None) }
     ensures verifies { IfOk result (λ request. makes request ≡ false) }
     ensures keeps { IfOk result (λ request. new_file_for request
         ≡ text_in (codes "payload-to") (options_of matches.now)) }
@@ -494,6 +535,8 @@ fn verify_request<'a, F: NamedFiles>(
     ensures asks { IfOk result (λ request. (bytes : List ℕ) (said : Output) →
         verify_prints (F.content files.now) (options_of matches.now) bytes ≡ Some said →
         AsksFor (F.content files.now) request bytes said) }
+    ensures payload { IfOk result (λ request. payload_for (F.content files.now) request
+        ≡ verify_payload (F.content files.now) (options_of matches.now)) }
     ensures verifies { IfOk result (λ request. makes request ≡ false) }
     // Where the arguments name a new file, the payload is to be kept in it.
     ensures keeps { IfOk result (λ request. new_file_for request
@@ -517,6 +560,8 @@ fn cwt_request<'a, F: NamedFiles>(
     ensures asks { IfOk result (λ request. (bytes : List ℕ) (said : Output) →
         cwt_prints (F.content files.now) (options_of matches.now) bytes ≡ Some said →
         AsksFor (F.content files.now) request bytes said) }
+    ensures payload { IfOk result (λ request. payload_for (F.content files.now) request
+        ≡ Some None) }
     ensures admits { IfOk result (λ request. makes request ≡ false) }
     ensures keeps { IfOk result (λ request. new_file_for request ≡ None) }
     ensures sequence { IfOk result (λ request. is_sequence request ≡ true
@@ -538,6 +583,8 @@ fn digest_request<'a, F: NamedFiles>(
     ensures asks { IfOk result (λ request. (bytes : List ℕ) (said : Output) →
         digest_prints (F.content files.now) (options_of matches.now) bytes ≡ Some said →
         AsksFor (F.content files.now) request bytes said) }
+    ensures payload { IfOk result (λ request. payload_for (F.content files.now) request
+        ≡ payload_in (F.content files.now) (options_of matches.now)) }
     ensures digests { IfOk result (λ request. makes request ≡ false) }
     ensures keeps { IfOk result (λ request. new_file_for request ≡ None) }
     ensures one { IfOk result (λ request. is_sequence request ≡ false) }
@@ -558,7 +605,18 @@ pub fn parse<'a>(alloc: Global, words: &'a [&'a str]) -> Result<Parsed<'a>, Faul
 {
     match line(alloc)?.try_get_matches_from(words) {
         Ok(matches) => Ok(Parsed::Matches(matches)),
-        Err(error) => Ok(Parsed::Text(refused_line(alloc, error)?)),
+        Err(error) => Ok(Parsed::Text(refused_line(alloc, error, words)?)),
+    }
+}
+
+/// What the command `show` prints in addition.
+fn details_of(show: &ArgMatches) -> Details
+    ensures { result ≡ details_in (options_of show.now) }
+{
+    Details {
+        diagnostic: flag_of(show, "diagnostic"),
+        detached: flag_of(show, "detached"),
+        payload: flag_of(show, "with-payload"),
     }
 }
 
@@ -572,6 +630,9 @@ pub fn request_of<'a, F: NamedFiles>(
     ensures asks { IfOk result (λ request. (bytes : List ℕ) (said : Output) →
         matches_print (F.content files.now) matches.now bytes ≡ Some said →
         AsksFor (F.content files.now) request bytes said) }
+    // Its payload is that which the options name, whatever the files of the keys have.
+    ensures payload { IfOk result (λ request. payload_for (F.content files.now) request
+        ≡ payload_named (F.content files.now) (subcommand_rows_of matches.now)) }
     // Only `make` makes a message.
     ensures making { IfOk result (λ request. makes request ≡ true
         → subcommand_name_of matches.now ≡ Some (codes "make")) }
@@ -586,8 +647,7 @@ pub fn request_of<'a, F: NamedFiles>(
         return Ok(Request::Show {
             limits: limits_of(show),
             wanted: kind_of(show),
-            diagnostic: flag_of(show, "diagnostic"),
-            detached: flag_of(show, "detached"),
+            details: details_of(show),
         });
     }
     if let Some(verify) = matches.subcommand_matches("verify") {

@@ -246,6 +246,15 @@ const WITHOUT_PAYLOAD: CommandOption = CommandOption {
     help: "Show the headers also of a message whose payload is elsewhere (detached)",
 };
 
+/// The payload of a message that is shown.
+const WITH_PAYLOAD: CommandOption = CommandOption {
+    name: "with-payload",
+    argument: "",
+    value: Value::Flag,
+    presence: Presence::Optional,
+    help: "Print the payload too, in diagnostic notation where it is one item of CBOR",
+};
+
 /// How standard input is written.
 const INPUT: CommandOption = CommandOption {
     name: "input",
@@ -484,7 +493,14 @@ const MESSAGE_COMMANDS: &[Subcommand] = &[
         name: "show",
         about: "Shows the shape and the headers of the COSE message on standard input, under no key",
         notes: SHOW_NOTES,
-        options: &[KIND, DIAGNOSTIC, WITHOUT_PAYLOAD, INPUT, LIMITS],
+        options: &[
+            KIND,
+            DIAGNOSTIC,
+            WITHOUT_PAYLOAD,
+            WITH_PAYLOAD,
+            INPUT,
+            LIMITS,
+        ],
         one_of: None,
     },
     Subcommand {

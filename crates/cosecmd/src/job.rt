@@ -25,6 +25,17 @@ pub struct Checks<'j> {
     pub limits: Limits,
 }
 
+/// What is printed of a message that is shown, in addition to its shape and the bytes of its headers.
+#[derive(Clone, Copy)]
+pub struct Details {
+    /// Whether each pair is printed in diagnostic notation too (RFC 8949 section 8).
+    pub diagnostic: bool,
+    /// Whether the headers are shown of a message too whose payload is detached (RFC 9052 section 2).
+    pub detached: bool,
+    /// Whether the payload is printed, which then has at most as many bytes as the claims of a token.
+    pub payload: bool,
+}
+
 /// What is asked of a message, whose payload may be elsewhere.
 #[derive(Clone, Copy)]
 pub enum Question {
@@ -55,10 +66,8 @@ pub enum Job<'j> {
         limits: Limits,
         /// The kinds of messages that are wanted.
         wanted: Wanted,
-        /// Whether each pair is printed in diagnostic notation too (RFC 8949 section 8).
-        diagnostic: bool,
-        /// Whether the headers are shown of a message too whose payload is detached (RFC 9052 section 2).
-        detached: bool,
+        /// What is printed in addition.
+        details: Details,
     },
     /// To verify the message on the input.
     Verify {

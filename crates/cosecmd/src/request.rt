@@ -3,7 +3,7 @@
 ghost use Rattle.std.specs.Prelude.{◌≤◌, length as length_of};
 
 use crate::allowed::Allowed;
-use crate::job::Question;
+use crate::job::{Details, Question};
 use crate::limits::Limits;
 use crate::requirements::Required;
 use cose_msg::{Alg, Wanted};
@@ -93,10 +93,8 @@ pub enum Request<'w> {
         limits: Limits,
         /// The kinds of messages that are wanted.
         wanted: Wanted,
-        /// Whether each pair is printed in diagnostic notation too.
-        diagnostic: bool,
-        /// Whether the headers are shown of a message too whose payload is detached.
-        detached: bool,
+        /// What is printed in addition.
+        details: Details,
     },
     /// To verify a message, or to print what its signature is verified with.
     Message {

@@ -23,7 +23,7 @@ use crate::checks::{slice_of, token_job};
 use crate::fault::Fault;
 use crate::files::{NamedFiles, NoFiles};
 use crate::input_form::input_form_of;
-use crate::job::{Checks, FileJob, Job, Question};
+use crate::job::{Checks, Details, FileJob, Job, Question};
 use crate::limits::Limits;
 use crate::new_file::NewFiles;
 use crate::print::{print, print_fault};
@@ -39,22 +39,20 @@ fn answer_show<R: Read, W: Write>(
     alloc: Global,
     limits: Limits,
     wanted: Wanted,
-    diagnostic: bool,
-    detached: bool,
+    details: Details,
     input: &mut R,
     output: &mut W,
 ) -> u8
     ensures status { result ≤ 2 }
-    ensures printed { PrintsFor (R.remaining input.old) (shown limits wanted diagnostic detached)
+    ensures printed { PrintsFor (R.remaining input.old) (shown limits wanted details)
         (W.contents output.old) (W.contents output.new) result }
-    ensures fails { FailsFor (R.remaining input.old) (shown limits wanted diagnostic detached)
+    ensures fails { FailsFor (R.remaining input.old) (shown limits wanted details)
         (W.contents output.old) (W.contents output.new) result }
 {
     let job = Job::Show {
         limits,
         wanted,
-        diagnostic,
-        detached,
+        details,
     };
     answer(alloc, &job, input, output)
 }
@@ -236,17 +234,8 @@ fn answer_request<F: NamedFiles + NewFiles, R: Read, W: Write>(
         Request::Show {
             limits,
             wanted,
-            diagnostic,
-            detached,
-        } => answer_show(
-            alloc,
-            *limits,
-            *wanted,
-            *diagnostic,
-            *detached,
-            input,
-            output,
-        ),
+            details,
+        } => answer_show(alloc, *limits, *wanted, *details, input, output),
         Request::Message {
             question,
             checks,
@@ -311,7 +300,8 @@ pub fn run_with_files<'a, F: NamedFiles + NewFiles, R: Read, W: Write>(
     output: &mut W,
 ) -> u8
     ensures status { result ≤ 2 }
-    // Unless there is a fault, it prints help or the version, or the output for the options that clap finds in the arguments.
+    // Unless there is a fault, it prints help or the version, which a word of the arguments asks for, or the output for a request
+    // that it reads from the options that clap finds in them. So only then the status is 0 or 1.
     ensures printed { (bytes : List ℕ) → R.remaining (reader_of input.old) ≡ Some bytes →
         Answers (F.content files.now) (map (λ word. word.now) words.entry.now) bytes
         (W.contents output.old) (W.contents output.new) result }

@@ -1,6 +1,8 @@
 //! The standard streams of the process: those that are closed, a terminal that the input comes from, a complaint that goes to
 //! standard error too, and an input that begins as a text does.
 
+ghost use Rattle.std.specs.Prelude.{◌≡◌};
+
 use crate::cause::cause;
 use crate::hints::{First, Form, form_of_first};
 use std::fs::File;
@@ -37,7 +39,9 @@ pub struct Noted<S> {
 
 impl<S> Noted<S> {
     /// Before anything is read or written.
-    pub fn new(stream: S) -> Noted<S> {
+    pub fn new(stream: S) -> Noted<S>
+        ensures { result.stream ≡ stream }
+    {
         Noted {
             stream,
             first: First::new(),
@@ -72,6 +76,9 @@ impl<S> Noted<S> {
 }
 
 impl<R: Read> Read for Noted<R> {
+    // What is left of its stream.
+    ghost remaining = { λ noted. R.remaining noted.stream };
+
     fn read(&mut self, into: &mut [u8]) -> io::Result<usize> {
         let count = match self.stream.read(into) {
             Ok(count) => count,
@@ -88,6 +95,9 @@ impl<R: Read> Read for Noted<R> {
 }
 
 impl<W: Write> Write for Noted<W> {
+    // What its stream holds.
+    ghost contents = { λ noted. W.contents noted.stream };
+
     fn write(&mut self, bytes: &[u8]) -> io::Result<usize> {
         let count = self.stream.write(bytes)?;
         if let Some(taken) = bytes.get(..count) {

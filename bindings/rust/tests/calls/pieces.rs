@@ -320,3 +320,39 @@ fn threads_share_a_maker_and_a_table() {
     let made = [head, &[0; 400], tail].concat();
     assert!(cose::verify(&keys, &made).is_ok());
 }
+
+/// Gives a byte at a time, each of them after an interruption.
+#[cfg(feature = "std")]
+struct Interrupted<'b>(&'b [u8], bool);
+
+#[cfg(feature = "std")]
+impl std::io::Read for Interrupted<'_> {
+    fn read(&mut self, into: &mut [u8]) -> std::io::Result<usize> {
+        self.1 = !self.1;
+        if self.1 {
+            return Err(std::io::ErrorKind::Interrupted.into());
+        }
+        let count = into.len().min(1);
+        self.0.read(&mut into[..count])
+    }
+}
+
+#[cfg(feature = "std")]
+#[test]
+fn a_reader_that_is_interrupted_or_ends() {
+    let (keys, message) = (hex(JEFE), hex(HI));
+    for length in [44, 43, 8] {
+        let mut block = Block::new();
+        let mut verifier =
+            Verifier::new(&mut block, &keys, &Options::default()).expect("the keys are good");
+        let mut payload = Vec::new();
+        let mut reader = Interrupted(&message[..length], false);
+        match verifier.feed_from(&mut reader, &mut payload) {
+            Ok(()) => assert_eq!((length, payload.as_slice()), (44, b"hi".as_slice())),
+            Err(cose::ReadError::Refused(error)) => {
+                assert_eq!(error, refused(Reason::Truncated, length as u64));
+            }
+            Err(error) => panic!("{error}"),
+        }
+    }
+}

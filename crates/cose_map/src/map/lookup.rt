@@ -23,10 +23,10 @@ use cose_head::Items;
 pub(crate) struct Lookup<'a, 'b> {
     /// The pairs.
     pub(crate) pairs: Pairs<'a>,
-    /// The labels that no pair has.
-    pub(crate) absent: Labels<'b>,
     /// Of how many of the next labels.
     pub(crate) settled: u128,
+    /// The labels that no pair has.
+    pub(crate) absent: Labels<'b>,
 }
 
 /// Removes the labels of pairs.
@@ -50,8 +50,8 @@ impl<'a, 'b> Lookup<'a, 'b> {
     {
         Lookup {
             pairs,
-            absent: Labels::none(),
             settled: 0,
+            absent: Labels::none(),
         }
     }
 

@@ -13,10 +13,10 @@ use crate::map::pairs::Pairs;
 pub(crate) struct Unordered<'a> {
     /// The first pairs.
     pub(crate) earlier: Earlier<'a>,
-    /// The labels that no earlier pair has.
-    pub(crate) absent: Labels<'a>,
     /// For how many of the next pairs.
     pub(crate) settled: u128,
+    /// The labels that no earlier pair has.
+    pub(crate) absent: Labels<'a>,
 }
 
 impl<'a> Unordered<'a> {
@@ -36,8 +36,8 @@ impl<'a> Unordered<'a> {
     {
         Unordered {
             earlier: Earlier::none(pairs),
-            absent: Labels::none(),
             settled: 0,
+            absent: Labels::none(),
         }
     }
 

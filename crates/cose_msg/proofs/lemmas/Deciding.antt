@@ -2,4 +2,5 @@ pub mod Decisions
 pub mod KeptAnswers
 pub mod PhaseCases
 pub mod Signatures
+pub mod StatedElsewhere
 pub mod Untouched

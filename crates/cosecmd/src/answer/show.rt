@@ -1,24 +1,34 @@
-//! The lines of the job `show`: the shape of a message, and what is in its headers.
+//! The lines of the job `show`: the shape of a message, what is in its headers, and its payload.
 
-ghost use Rattle.std.specs.Prelude.{◌≡◌, ◌≤◌, ◌++◌, ◌&&◌, ◌||◌, ℕ, List, Some, IfErr, IfOk, codes, option_map, string_bytes};
+ghost use Rattle.std.specs.Prelude.{◌≡◌, ◌≤◌, ◌++◌, ◌&&◌, ◌||◌, ℕ, true, false, List, [], Some, IfErr, IfOk, codes, is_err, length, option_map, string_bytes};
 ghost use Rattle.cose_head.specs.ItemRef.{placed};
 ghost use Rattle.cose_map.specs.Bucket.View.{bucket_pairs};
+ghost use Rattle.cose_msg.specs.Kept.{HasTaken, is_inspecting};
+ghost use Rattle.cose_msg.specs.Message.{Setting};
+ghost use Rattle.cose_msg.specs.Run.{inspection};
 ghost use Rattle.cose_msg.specs.Shown.{protected_of, unprotected_of};
+ghost use Rattle.cose_msg.specs.Task.{to_inspect};
+ghost use Rattle.cose_msg.specs.Verifier.{is_detached};
 ghost use Rattle.cosecmd.specs.Faults.{fails_by_input};
-ghost use Rattle.cosecmd.specs.Printed.{Says, bucket_lines, detached_said, is_for_nil, item_line, refusal_shown, shape_said, shown, shown_in};
-ghost use Rattle.cosecmd.specs.Readable.{pair_notation};
+ghost use Rattle.cosecmd.specs.Inspection.{IsInspection};
+ghost use Rattle.cosecmd.specs.Printed.{Says, bucket_lines, detached_said, header_lines, is_for_nil, item_line, refusal_shown, shape_said, shown, shown_as, shown_in};
+ghost use Rattle.cosecmd.specs.Readable.{no_payload_shown, pair_notation, payload_line, payload_shown};
 
+use crate::answer::cwt::token_context;
 use crate::answer::verdict::{CHUNK, program_context, reply_of, trailing_at};
 use crate::fault::Fault;
-use crate::limits::{LARGE_HEADER, LARGE_NESTING, Limits, SMALL_HEADER, SMALL_NESTING};
+use crate::job::Details;
+use crate::limits::{
+    LARGE_CLAIMS, LARGE_HEADER, LARGE_NESTING, Limits, SMALL_CLAIMS, SMALL_HEADER, SMALL_NESTING,
+};
 use crate::line::word_of;
 use crate::reply::{Reply, Status};
 use cose_head::ItemRef;
 use cose_map::Bucket;
 use cose_msg::laws::settled_stays;
 use cose_msg::{
-    Inspected, Intake, KeySet, Kind, Nothing, ReadIntake, Reason, Refusal, Verdict, Verifier,
-    Wanted, inspect,
+    Inspected, Intake, KeySet, Kind, Nothing, ReadIntake, Reason, Refusal, Sink, Store, Verdict,
+    Verifier, Wanted, inspect,
 };
 use cose_text::push_diagnostic;
 use std::alloc::Global;
@@ -110,8 +120,7 @@ fn push_headers<const H: usize, const D: usize>(
     diagnostic: bool,
 ) -> Result<(), Fault>
     ensures lines { IfOk result (λ _. string_bytes text.new ≡ string_bytes text.old
-        ++ bucket_lines diagnostic (codes "protected") (protected_of verifier.now)
-        ++ bucket_lines diagnostic (codes "unprotected") (unprotected_of verifier.now)) }
+        ++ header_lines diagnostic (protected_of verifier.now) (unprotected_of verifier.now)) }
     ensures fault { IfErr result (λ fault. fault ≡ Fault.Memory) }
 {
     push_pairs(alloc, text, "protected", verifier.protected(), diagnostic)?;
@@ -124,16 +133,68 @@ fn push_headers<const H: usize, const D: usize>(
     )
 }
 
-/// The lines of a message of this shape, which this verifier has inspected.
+/// Appends the line of a payload: one item of CBOR of a nesting of at most `depth` in diagnostic notation, or the bytes, and why
+/// they are no such item.
+fn push_payload(alloc: Global, text: &mut String, payload: &[u8], depth: usize) -> Result<(), Fault>
+    requires nesting { depth ≤ 32 }
+    ensures line { IfOk result (λ _. string_bytes text.new
+        ≡ string_bytes text.old ++ payload_line depth payload.now) }
+    ensures fault { IfErr result (λ fault. fault ≡ Fault.Memory) }
+{
+    text.push_str("payload ")?;
+    match ItemRef::read(payload, 0, depth) {
+        Ok(item) => push_diagnostic(alloc, text, &item)?,
+        Err(refusal) => {
+            let digits = hex::encode(alloc, payload)?;
+            let refused = format!(in alloc; "h'{digits}' refused {refusal}")?;
+            text.push_str(refused.as_str())?;
+        }
+    }
+    text.push_str("\n")?;
+    Ok(())
+}
+
+/// Appends the line of a payload, where it is asked for.
+fn push_payload_if(
+    alloc: Global,
+    text: &mut String,
+    payload: &[u8],
+    depth: usize,
+    asked: bool,
+) -> Result<(), Fault>
+    requires nesting { depth ≤ 32 }
+    ensures line { IfOk result (λ _. string_bytes text.new
+        ≡ string_bytes text.old ++ payload_shown asked depth payload.now) }
+    ensures fault { IfErr result (λ fault. fault ≡ Fault.Memory) }
+{
+    if !asked {
+        return Ok(());
+    }
+    push_payload(alloc, text, payload, depth)
+}
+
+/// The line of a payload that the message doesn't have, where it is asked for.
+fn no_payload(asked: bool) -> &'static str
+    ensures { result.now ≡ no_payload_shown asked }
+{
+    if asked {
+        return "payload elsewhere\n";
+    }
+    ""
+}
+
+/// The lines of a message of this shape, which this verifier has inspected, and which has this payload.
 fn shape_reply<const H: usize, const D: usize>(
     alloc: Global,
     shape: Shape,
     verifier: &Verifier<H, D>,
-    diagnostic: bool,
+    details: Details,
+    content: &[u8],
 ) -> Result<Reply, Fault>
+    requires nesting { D ≤ 32 }
     ensures says { IfOk result
-        (Says (shape_said diagnostic shape.kind shape.payload shape.auth shape.taken
-        (protected_of verifier.now) (unprotected_of verifier.now))) }
+        (Says (shape_said details D shape.kind shape.payload shape.auth shape.taken
+        (protected_of verifier.now) (unprotected_of verifier.now) content.now)) }
     ensures fault { IfErr result (λ fault. fault ≡ Fault.Memory) }
 {
     let Shape {
@@ -144,7 +205,8 @@ fn shape_reply<const H: usize, const D: usize>(
     } = shape;
     let kind = word_of(kind);
     let mut text = format!(in alloc; "shape {kind} payload {payload} auth {auth} taken {taken}\n")?;
-    push_headers(alloc, &mut text, verifier, diagnostic)?;
+    push_headers(alloc, &mut text, verifier, details.diagnostic)?;
+    push_payload_if(alloc, &mut text, content, D, details.payload)?;
     let status = Status::Done;
     Ok(Reply { status, text })
 }
@@ -154,14 +216,15 @@ fn nil_reply<const H: usize, const D: usize>(
     alloc: Global,
     place: u64,
     verifier: &Verifier<H, D>,
-    diagnostic: bool,
+    details: Details,
 ) -> Result<Reply, Fault>
-    ensures says { IfOk result (Says (detached_said diagnostic place (protected_of verifier.now)
+    ensures says { IfOk result (Says (detached_said details place (protected_of verifier.now)
         (unprotected_of verifier.now))) }
     ensures fault { IfErr result (λ fault. fault ≡ Fault.Memory) }
 {
     let mut text = format!(in alloc; "detached at {place}\n")?;
-    push_headers(alloc, &mut text, verifier, diagnostic)?;
+    push_headers(alloc, &mut text, verifier, details.diagnostic)?;
+    text.push_str(no_payload(details.payload))?;
     let status = Status::Done;
     Ok(Reply { status, text })
 }
@@ -178,44 +241,73 @@ fn refused_reply<const H: usize, const D: usize>(
     alloc: Global,
     refusal: Refusal,
     verifier: &Verifier<H, D>,
-    diagnostic: bool,
-    detached: bool,
+    details: Details,
 ) -> Result<Reply, Fault>
-    ensures says { IfOk result (Says (refusal_shown diagnostic detached (protected_of verifier.now)
+    ensures says { IfOk result (Says (refusal_shown details (protected_of verifier.now)
         (unprotected_of verifier.now) refusal)) }
     ensures fault { IfErr result (λ fault. fault ≡ Fault.Memory) }
 {
-    if is_shown(refusal.reason, detached) {
-        return nil_reply(alloc, refusal.place, verifier, diagnostic);
+    if is_shown(refusal.reason, details.detached) {
+        return nil_reply(alloc, refusal.place, verifier, details);
     }
     reply_of(alloc, Verdict::Refused(refusal))
 }
 
-/// The reply to the message of an intake: no byte may follow a message that has a shape.
-#[inline(never)]
-fn shown_reply<const H: usize, const D: usize, I: Intake>(
+/// The reply to a message that this verifier has inspected, and that has this payload.
+fn inspected_reply<const H: usize, const D: usize>(
     alloc: Global,
-    wanted: Wanted,
-    diagnostic: bool,
-    detached: bool,
-    intake: &mut I,
+    inspected: Inspected,
+    verifier: &Verifier<H, D>,
+    details: Details,
+    content: &[u8],
 ) -> Result<Reply, Fault>
-    requires some_room { 16 ≤ H }
-    requires limit { H ≤ 65535 }
     requires nesting { D ≤ 32 }
-    ensures says { (bytes : List ℕ) → I.to_come intake.old ≡ Some bytes →
-        IfOk result (Says (shown_in H D wanted diagnostic detached bytes)) }
-    // Its fault is that the input failed exactly where the intake failed in this call.
-    ensures input { I.has_failed intake.new ≡ (I.has_failed intake.old || fails_by_input result) }
+    ensures says { IfOk result (Says (shown_as details D (protected_of verifier.now)
+        (unprotected_of verifier.now) content.now (inspection inspected))) }
+    ensures fault { IfErr result (λ fault. fault ≡ Fault.Memory) }
+{
+    match inspected {
+        Inspected::Shape {
+            kind,
+            payload,
+            auth,
+            taken,
+        } => {
+            let shape = Shape {
+                kind,
+                payload,
+                auth,
+                taken,
+            };
+            shape_reply(alloc, shape, verifier, details, content)
+        }
+        Inspected::Refused(refusal) => refused_reply(alloc, refusal, verifier, details),
+    }
+}
+
+/// What inspecting finds of the message of an intake, to which no byte is left after a shape. The payload goes into the sink as it
+/// comes.
+fn whole_inspection<const H: usize, const D: usize, I: Intake, S: Sink>(
+    verifier: &mut Verifier<H, D>,
+    intake: &mut I,
+    sink: &mut S,
+) -> Result<Inspected, Fault>
+    requires inspects { is_inspecting verifier.old ≡ true }
+    requires attached { is_detached verifier.old ≡ false }
+    ensures whole { (setting : Setting) (bytes : List ℕ)
+        → HasTaken (to_inspect setting) [] [] verifier.old → I.to_come intake.old ≡ Some bytes →
+        IfOk result (IsInspection H D setting bytes verifier.new (S.contents sink.old)
+        (S.contents sink.new)) }
+    ensures fault { IfErr result (λ fault. fault ≡ Fault.Input) }
+    // Where the sink is sure of every payload, it fails exactly where the intake failed in this call.
+    ensures failure { (setting : Setting) → HasTaken (to_inspect setting) [] [] verifier.old →
+        setting.payload_limit ≤ S.sure sink.old →
+        I.has_failed intake.new ≡ (I.has_failed intake.old || is_err result) }
 {
     // A law of messages that the proof cites.
     settled_stays();
-    let keys = match KeySet::read(NO_KEYS) {
-        Ok(keys) => keys,
-        Err(refusal) => return Err(Fault::Keys(refusal)),
-    };
-    let mut verifier = Verifier::<H, D>::inspecting(program_context(keys, b"", wanted));
-    match inspect::<CHUNK, H, D, _, _, _>(&mut verifier, intake, &mut Nothing) {
+    match inspect::<CHUNK, H, D, _, _, _>(verifier, intake, sink) {
+        Ok(Inspected::Refused(refusal)) => Ok(Inspected::Refused(refusal)),
         Ok(
             Inspected::Shape {
                 kind,
@@ -224,23 +316,93 @@ fn shown_reply<const H: usize, const D: usize, I: Intake>(
                 taken,
             },
         ) => match trailing_at(taken, intake)? {
-            Some(refusal) => reply_of(alloc, Verdict::Refused(refusal)),
-            None => {
-                let shape = Shape {
-                    kind,
-                    payload,
-                    auth,
-                    taken,
-                };
-                shape_reply(alloc, shape, &verifier, diagnostic)
-            }
+            Some(refusal) => Ok(Inspected::Refused(refusal)),
+            None => Ok(Inspected::Shape {
+                kind,
+                payload,
+                auth,
+                taken,
+            }),
         },
-        Ok(Inspected::Refused(refusal)) => {
-            refused_reply(alloc, refusal, &verifier, diagnostic, detached)
-        }
-        // The sink `Nothing` never fails, and a new verifier hasn't stopped.
+        // Of a sink that isn't sure of the payload this may be the failure too.
         Err(_) => Err(Fault::Input),
     }
+}
+
+/// The reply to the message of an intake, whose payload isn't asked for.
+#[inline(never)]
+fn reply_without_payload<const H: usize, const D: usize, I: Intake>(
+    alloc: Global,
+    wanted: Wanted,
+    details: Details,
+    intake: &mut I,
+) -> Result<Reply, Fault>
+    requires some_room { 16 ≤ H }
+    requires limit { H ≤ 65535 }
+    requires nesting { D ≤ 32 }
+    requires unasked { details.payload ≡ false }
+    ensures says { (claims : ℕ) (bytes : List ℕ) → I.to_come intake.old ≡ Some bytes →
+        IfOk result (Says (shown_in H D claims wanted details bytes)) }
+    // Its fault is that the input failed exactly where the intake failed in this call.
+    ensures input { I.has_failed intake.new ≡ (I.has_failed intake.old || fails_by_input result) }
+{
+    let keys = match KeySet::read(NO_KEYS) {
+        Ok(keys) => keys,
+        Err(refusal) => return Err(Fault::Keys(refusal)),
+    };
+    let mut verifier = Verifier::<H, D>::inspecting(program_context(keys, b"", wanted));
+    let inspected = whole_inspection(&mut verifier, intake, &mut Nothing)?;
+    inspected_reply(alloc, inspected, &verifier, details, b"")
+}
+
+/// The reply to the message of an intake, whose payload is asked for, and has at most `L` bytes.
+#[inline(never)]
+fn reply_with_payload<const H: usize, const D: usize, const L: usize, I: Intake>(
+    alloc: Global,
+    wanted: Wanted,
+    details: Details,
+    intake: &mut I,
+) -> Result<Reply, Fault>
+    requires some_room { 16 ≤ H }
+    requires limit { H ≤ 65535 }
+    requires nesting { D ≤ 32 }
+    requires store_limit { L ≤ 65535 }
+    requires asked { details.payload ≡ true }
+    ensures says { (bytes : List ℕ) → I.to_come intake.old ≡ Some bytes →
+        IfOk result (Says (shown_in H D L wanted details bytes)) }
+    // Its fault is that the input failed exactly where the intake failed in this call.
+    ensures input { I.has_failed intake.new ≡ (I.has_failed intake.old || fails_by_input result) }
+{
+    let keys = match KeySet::read(NO_KEYS) {
+        Ok(keys) => keys,
+        Err(refusal) => return Err(Fault::Keys(refusal)),
+    };
+    let mut verifier = Verifier::<H, D>::inspecting(token_context::<L, _>(keys, b"", wanted));
+    let mut store = Store::<L>::new();
+    let inspected = whole_inspection(&mut verifier, intake, &mut store)?;
+    inspected_reply(alloc, inspected, &verifier, details, store.bytes())
+}
+
+/// The reply to the message of an intake: no byte may follow a message that has a shape.
+fn shown_reply<const H: usize, const D: usize, const L: usize, I: Intake>(
+    alloc: Global,
+    wanted: Wanted,
+    details: Details,
+    intake: &mut I,
+) -> Result<Reply, Fault>
+    requires some_room { 16 ≤ H }
+    requires limit { H ≤ 65535 }
+    requires nesting { D ≤ 32 }
+    requires store_limit { L ≤ 65535 }
+    ensures says { (bytes : List ℕ) → I.to_come intake.old ≡ Some bytes →
+        IfOk result (Says (shown_in H D L wanted details bytes)) }
+    // Its fault is that the input failed exactly where the intake failed in this call.
+    ensures input { I.has_failed intake.new ≡ (I.has_failed intake.old || fails_by_input result) }
+{
+    if details.payload {
+        return reply_with_payload::<H, D, L, _>(alloc, wanted, details, intake);
+    }
+    reply_without_payload::<H, D, _>(alloc, wanted, details, intake)
 }
 
 /// The reply to the job `show`.
@@ -248,32 +410,25 @@ pub fn show_reply<R: Read>(
     alloc: Global,
     limits: Limits,
     wanted: Wanted,
-    diagnostic: bool,
-    detached: bool,
+    details: Details,
     input: &mut R,
 ) -> Result<Reply, Fault>
     ensures says { (bytes : List ℕ) → R.remaining input.old ≡ Some bytes →
-        IfOk result (Says (shown limits wanted diagnostic detached bytes)) }
+        IfOk result (Says (shown limits wanted details bytes)) }
 {
     let mut intake = ReadIntake::new(input);
     match limits {
-        Limits::Small => {
-            shown_reply::<SMALL_HEADER, SMALL_NESTING, _>(
-                alloc,
-                wanted,
-                diagnostic,
-                detached,
-                &mut intake,
-            )
-        }
-        Limits::Large => {
-            shown_reply::<LARGE_HEADER, LARGE_NESTING, _>(
-                alloc,
-                wanted,
-                diagnostic,
-                detached,
-                &mut intake,
-            )
-        }
+        Limits::Small => shown_reply::<SMALL_HEADER, SMALL_NESTING, SMALL_CLAIMS, _>(
+            alloc,
+            wanted,
+            details,
+            &mut intake,
+        ),
+        Limits::Large => shown_reply::<LARGE_HEADER, LARGE_NESTING, LARGE_CLAIMS, _>(
+            alloc,
+            wanted,
+            details,
+            &mut intake,
+        ),
     }
 }

@@ -19,3 +19,8 @@ returns-clause-one g c = IfOk-weaker c.verify_or_keep.result _ _ (λ request ver
 
 pub returns-clause-keeps : goal.returns-clause-keeps
 returns-clause-keeps g c = IfOk-weaker c.verify_or_keep.result _ _ (λ request keeps. keeps ∙ c.text_of.ensures) c.verify_or_keep.ensures.keeps
+
+pub returns-clause-payload : goal.returns-clause-payload
+returns-clause-payload g c =
+    let content = g.F.NamedFiles.content c.args.files.now in
+    IfOk-weaker c.verify_or_keep.result _ _ (λ request verifies. verifies.payload_is content ∙ c.in_ok-payload.ensures.value content) c.verify_or_keep.ensures.asks

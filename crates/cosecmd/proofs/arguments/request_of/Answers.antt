@@ -2,7 +2,7 @@ use Rattle.std.proofs.Common.{◌≡◌, ◌∙◌, None, Some, ap, codes, refl}
 use Rattle.std.proofs.lemmas.Result.{IfOk-weaker}
 use Rattle.cosecmd.specs.CommandLine.{cwt_prints, has_sequence, keys_prints, make_prints}
 use Rattle.cosecmd.specs.Options.{options_of}
-use Rattle.cosecmd.proofs.CommandLines.{command_asked, command_met, keys_asks, make_asks}
+use Rattle.cosecmd.proofs.CommandLines.{command_asked, command_met, keys_asks, make_asks, payload_met}
 use Rattle.cosecmd.proofs.arguments.request_of.Goals as goal
 
 pub returns-in-Some-subcommand_matches-2-clause-asks : goal.returns-in-Some-subcommand_matches-2-clause-asks
@@ -42,3 +42,39 @@ returns-in-Some-subcommand_matches-2-clause-sequence g c =
     let met = c.in-Some-subcommand_matches-2 in
     let command = command_met c.args.matches.now (codes "cwt") (options_of met.cwt.now) (met.ensures.found.0 refl) met.ensures.rows in
     IfOk-weaker c.cwt_request.result _ _ (λ request only is. ap has_sequence command ∙ only is) c.cwt_request.ensures.sequence
+
+pub returns-in-Some-clause-payload : goal.returns-in-Some-clause-payload
+returns-in-Some-clause-payload g c =
+    let content = g.F.NamedFiles.content c.args.files.now in
+    let met = c.in-Some in
+    payload_met content c.args.matches.now (codes "show") (options_of met.show.now) (Some None) (met.ensures.found.0 refl) met.ensures.rows refl
+
+pub returns-in-Some-subcommand_matches-clause-payload : goal.returns-in-Some-subcommand_matches-clause-payload
+returns-in-Some-subcommand_matches-clause-payload g c =
+    let content = g.F.NamedFiles.content c.args.files.now in
+    let met = c.in-Some-subcommand_matches in
+    IfOk-weaker c.verify_request.result _ _ (λ request is. payload_met content c.args.matches.now (codes "verify") (options_of met.verify.now) _ (met.ensures.found.0 refl) met.ensures.rows is) c.verify_request.ensures.payload
+
+pub returns-in-Some-subcommand_matches-2-clause-payload : goal.returns-in-Some-subcommand_matches-2-clause-payload
+returns-in-Some-subcommand_matches-2-clause-payload g c =
+    let content = g.F.NamedFiles.content c.args.files.now in
+    let met = c.in-Some-subcommand_matches-2 in
+    IfOk-weaker c.cwt_request.result _ _ (λ request is. payload_met content c.args.matches.now (codes "cwt") (options_of met.cwt.now) _ (met.ensures.found.0 refl) met.ensures.rows is) c.cwt_request.ensures.payload
+
+pub returns-in-Some-subcommand_matches-3-clause-payload : goal.returns-in-Some-subcommand_matches-3-clause-payload
+returns-in-Some-subcommand_matches-3-clause-payload g c =
+    let content = g.F.NamedFiles.content c.args.files.now in
+    let met = c.in-Some-subcommand_matches-3 in
+    IfOk-weaker c.digest_request.result _ _ (λ request is. payload_met content c.args.matches.now (codes "digest") (options_of met.digest.now) _ (met.ensures.found.0 refl) met.ensures.rows is) c.digest_request.ensures.payload
+
+pub returns-in-Some-subcommand_matches-4-clause-payload : goal.returns-in-Some-subcommand_matches-4-clause-payload
+returns-in-Some-subcommand_matches-4-clause-payload g c =
+    let content = g.F.NamedFiles.content c.args.files.now in
+    let met = c.in-Some-subcommand_matches-4 in
+    payload_met content c.args.matches.now (codes "keys") (options_of met.keys.now) (Some None) (met.ensures.found.0 refl) met.ensures.rows refl
+
+pub returns-in_ok-make_of-in-Some-subcommand_matches-5-clause-payload : goal.returns-in_ok-make_of-in-Some-subcommand_matches-5-clause-payload
+returns-in_ok-make_of-in-Some-subcommand_matches-5-clause-payload g c =
+    let content = g.F.NamedFiles.content c.args.files.now in
+    let met = c.in-Some-subcommand_matches-5 in
+    payload_met content c.args.matches.now (codes "make") (options_of met.make.now) (Some None) (met.ensures.found.0 refl) met.ensures.rows refl

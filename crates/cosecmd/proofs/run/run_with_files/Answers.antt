@@ -6,7 +6,7 @@ use Rattle.cosecmd.specs.declared.arguments.Parsed.TheVariants.{Matches, Text}
 use Rattle.cosecmd.proofs.Asked.{ends_with, fails_with, not_made}
 use Rattle.cosecmd.proofs.AskedSequences.{found_fails, not_of_sequence}
 use Rattle.cosecmd.proofs.CommandLines.{found_in, text_read}
-use Rattle.cosecmd.proofs.Replies.{ends_with_text, some_line}
+use Rattle.cosecmd.proofs.Replies.{asked_where_well, ends_with_text, some_line}
 use Rattle.cosecmd.proofs.TextRequests.{read_of}
 use Rattle.cosecmd.proofs.run.run_with_files.Goals as goal
 
@@ -14,13 +14,14 @@ pub returns-in-Ok-clause-printed : goal.returns-in-Ok-clause-printed
 returns-in-Ok-clause-printed g c = λ bytes e.
     let met = c.in-Ok-Matches in
     let is : met.field-0 ≡ Matches met.matches = search rules in
+    let read = input_bytes met.matches bytes in
+    let known = read_of g.R.Read.remaining c.input_form_of.result _ _ _ _ bytes c.read_as.ensures.next c.read_as.ensures.reader c.input_form_of.ensures e in
     inr (
       met.matches,
       found_in _ met.field-0 met.matches is met.ensures,
+      (λ well. (c.in-Ok.request, record { payload = c.in-Ok.ensures.payload; making = c.in-Ok.ensures.making; sequence = c.in-Ok.ensures.sequence }, λ payload named. c.answer_request.ensures.printed read payload known named)),
       λ said prints.
-          let read = input_bytes met.matches bytes in
           let asks = c.in-Ok.ensures.asks read said prints in
-          let known = read_of g.R.Read.remaining c.input_form_of.result _ _ _ _ bytes c.read_as.ensures.next c.read_as.ensures.reader c.input_form_of.ensures e in
           ends_with _ _ _ asks.2 (c.answer_request.ensures.printed read asks.0 known asks.1),
     )
 
@@ -64,7 +65,7 @@ returns-in-Ok-Text-clause-printed g c = λ bytes e.
     let is : met.field-0 ≡ Text met.reply = search rules in
     let read = text_read _ met.field-0 met.reply is met.ensures in
     let unlike = ap begins_as_answer c.as_str.ensures.value ∙ read.1 in
-    rw c.code-in-Ok-Text.ensures (inl (c.as_str.result.now, unlike, ends_with_text _ _ c.as_str.result.now met.reply.status c.print.result read.0 c.print.ensures.status c.print.ensures.written))
+    rw c.code-in-Ok-Text.ensures (inl (c.as_str.result.now, unlike, asked_where_well _ met.reply.status c.print.result read.0 c.print.ensures.status read.2, ends_with_text _ _ c.as_str.result.now met.reply.status c.print.result read.0 c.print.ensures.status c.print.ensures.written))
 
 pub returns-in-Ok-Text-clause-fails : goal.returns-in-Ok-Text-clause-fails
 returns-in-Ok-Text-clause-fails g c = λ bytes e two.

@@ -1,0 +1,99 @@
+"""Which functions are inlined where a module is built for size: only what is named here, and what the compiler finds to be smaller so.
+
+The attributes of the module are made for speed. They say nothing about what a function does, so any choice is right; these are chosen by
+what the functions take of flash and of the stack.
+"""
+from . import forms
+
+# what makes a value as large as a store, or may move one: where it is inlined the value is made where it stays, so that no copy is on
+# the stack
+INLINED = {
+    "cose_map::key_table::KeyTable::new",
+    "cose_map::map::labels::Labels::none",
+    "cose_map::map::labels::keys::Keys::none",
+    "cose_map::map::labels::others::Others::none",
+    "cose_map::map::lookup::Lookup::new",
+    "cose_map::map::unordered::Unordered::none",
+    "cose_msg::reader::Reader::new",
+    "cose_msg::verifier::Verifier::detached",
+    "cose_msg::verifier::Verifier::inspecting",
+    "cose_msg::verifier::Verifier::made",
+    "cose_msg::verifier::Verifier::new",
+    "core::array::ArrayDefault::default",
+    "core::array::DefaultsElements::at",
+    "core::slice::edits::slice+T::rotate_left",
+}
+# what is long, since there are no vectors
+OUT_OF_LINE = {
+    "core::cmp::bytes::read_u64_be",
+    "core::slice::scan::ByteMismatchLaneTest::marks",
+}
+# what has a value as large as a store on its stack: it is not made smaller at the cost of copies
+HOLDING = {
+    "cose_c::table::begin",
+    "cose_mac::hasher::Hasher::finish",
+    "cose_map::bucket::both::least_of_elements_in_any_order",
+    "cose_map::bucket::both::with_unprotected_in_any_order",
+    "cose_map::map::read::check_in_any_order",
+}
+EXPORTED = "cose_"
+# what takes most of the time stays as it is made for speed
+HASHING = "sha2::block256::"
+# what an attribute may say of inlining, and what it says of each kind of function
+ABOUT = ("alwaysinline", "inlinehint", "noinline")
+SIZES = {
+    "plain": "optsize",
+    "plain out of line": "noinline optsize",
+    "small": "minsize optsize",
+    "inlined": "alwaysinline optsize",
+    "out of line": "minsize noinline optsize",
+}
+
+
+class Inlining:
+    """The attributes of the functions of one module."""
+
+    def __init__(self, text):
+        """Takes note of the groups of attributes of the functions: what the module says of inlining, and what else."""
+        self.groups, self.numbers, self.seen = {}, {}, set()
+        groups = {found["group"]: found["list"].split() for found in map(forms.ATTRIBUTES.fullmatch, text.splitlines()) if found}
+        self.next = 1 + max(map(int, groups), default=0)
+        for number, words in groups.items():
+            about = [it for it in words if it in ABOUT]
+            self.groups[number] = about, [it for it in words if it not in ABOUT]
+
+    def kind(self, name, group):
+        """How a function is compiled."""
+        plain = name.lstrip("@").strip('"').split("::<")[0]
+        self.seen.add(plain)
+        if plain in INLINED:
+            return "inlined"
+        if plain in OUT_OF_LINE:
+            return "out of line"
+        if plain.startswith(HASHING):
+            return "as it is"
+        is_out_of_line = "noinline" in self.groups[group][0]
+        if plain in HOLDING or plain.startswith(EXPORTED) and "::" not in plain:
+            return "plain out of line" if is_out_of_line else "plain"
+        return "out of line" if is_out_of_line else "small"
+
+    def group(self, name, group):
+        """The number of the group of attributes of a function."""
+        key = self.kind(name, group), group
+        if key not in self.numbers:
+            self.numbers[key] = str(self.next)
+            self.next += 1
+        return self.numbers[key]
+
+    def lines(self, others):
+        """The groups that were given, of which `others` are the attributes that stay."""
+        found = []
+        for (kind, group), number in self.numbers.items():
+            about, rest = self.groups[group]
+            words = SIZES.get(kind) or " ".join([*about, "optsize"])
+            found.append(f"attributes #{number} = {{ {words} {others(rest)} }}")
+        return found
+
+    def missing(self):
+        """The functions that are named above and aren't there."""
+        return sorted((INLINED | OUT_OF_LINE | HOLDING) - self.seen)
