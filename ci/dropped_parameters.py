@@ -175,15 +175,15 @@ RUST = losses_of(
     },
 )
 
-NAMES = 'for name in *keys, "aad", *payload, "limits", "kind":'
+NAMES = 'for name in *keys, "aad", *payload, "input", "limits", "kind":'
 VOUCHED = 'program([command, *options, "--vouch", word], message)'
 SIGN1 = losses_of(
     "examples",
     {
         "verify_sign1": [
             *(
-                (f"digest: --{name}", NAMES, f'for name in (it for it in (*keys, "aad", *payload, "limits", "kind") if it != "{name}"):')
-                for name in ("keys", "keys-file", "algs", "least-secret", "aad", "payload", "payload-file", "payload-length", "limits")
+                (f"digest: --{name}", NAMES, f'for name in (it for it in (*keys, "aad", *payload, "input", "limits", "kind") if it != "{name}"):')
+                for name in ("keys", "keys-file", "algs", "least-secret", "aad", "payload", "payload-file", "payload-length", "limits", "input", "kind")
             ),
             ("verify: the options", VOUCHED, VOUCHED.replace("*options", "*for_digest")),
             ("verify: whether the signature is good", "if not is_good(bytes.fromhex(word)):", "if is_good(bytes.fromhex(word)) is None:"),
