@@ -1,5 +1,5 @@
 -- A token that is admitted (RFC 8392 section 7.2).
-use Rattle.std.specs.Prelude.{◌≡◌, ℕ, ℤ, true, List, [], ◌∷◌, length, Some, Ok}
+use Rattle.std.specs.Prelude.{◌≡◌, ℕ, ℤ, true, List, [], ◌∷◌, codes, length, Some, Ok}
 use Rattle.cose_head.specs.declared.algorithm.Alg.{Alg}
 use Rattle.cose_head.specs.declared.kind.Kind.{Kind}
 use Rattle.cose_map.specs.Key.Value.{KeyValue}
@@ -27,7 +27,7 @@ token_setting keys = record {
 
 -- The conditions of admission: at this time, give or take 60 seconds, and for `coap://light.example.com`.
 abbrev pub light : List ℕ
-light = 99 ∷ 111 ∷ 97 ∷ 112 ∷ 58 ∷ 47 ∷ 47 ∷ 108 ∷ 105 ∷ 103 ∷ 104 ∷ 116 ∷ 46 ∷ 101 ∷ 120 ∷ 97 ∷ 109 ∷ 112 ∷ 108 ∷ 101 ∷ 46 ∷ 99 ∷ 111 ∷ 109 ∷ []
+light = codes "coap://light.example.com"
 
 abbrev pub policy_at : ℤ → PolicyValue
 policy_at now = record { now = now; leeway = 60; mine = Some (light ∷ []) }

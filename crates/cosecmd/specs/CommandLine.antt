@@ -114,7 +114,7 @@ begins_with word text = bytes_eq word (take (length word) text)
 -- An answer begins with one of these words. No text of clap's does.
 abbrev pub begins_as_answer : Text → Bool
 begins_as_answer text =
-    begins_with (codes "authentic ") text || begins_with (codes "refused ") text || begins_with (codes "admitted") text || begins_with (codes "shape ") text || begins_with (codes "detached at ") text || begins_with (codes "vouch ") text || begins_with (codes "key at ") text
+    begins_with (codes "authentic ") text || begins_with (codes "refused ") text || begins_with (codes "admitted") text || begins_with (codes "shape ") text || begins_with (codes "detached at ") text || begins_with (codes "vouch ") text || begins_with (codes "key at ") text || begins_with (codes "at ") text
 
 -- A word that asks for help or for the version.
 abbrev pub is_for_help : Text → Bool

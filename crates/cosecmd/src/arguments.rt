@@ -51,6 +51,7 @@ fn is_like_answer(text: &str) -> bool
         || bytes.starts_with(b"detached at ")
         || bytes.starts_with(b"vouch ")
         || bytes.starts_with(b"key at ")
+        || bytes.starts_with(b"at ")
 }
 
 /// Whether a word asks for help or for the version.
