@@ -4,6 +4,7 @@ ghost use Rattle.std.specs.Prelude.{◌≡◌, ◌≤◌, ◌<◌, false, true};
 ghost use Rattle.cose_msg.specs.Kept.{is_inspecting};
 ghost use Rattle.cose_msg.specs.Verifier.{is_detached};
 
+use crate::elsewhere;
 use crate::expected::Expected;
 use crate::fields::{Difference, Way, bytes, holds, integer, number, object};
 use crate::messages::{CUTS, decided};
@@ -131,6 +132,23 @@ fn is_fed<'k, const H: usize, const D: usize, K: Keys<'k>>(
     }
 }
 
+/// Whether a caller that authenticates the message itself gets what is expected, where the message and its payload come in pieces
+/// of at most `cut` bytes.
+fn is_stated<'k, const H: usize, const D: usize, K: Keys<'k>>(
+    verifier: &mut Verifier<'k, H, D, K>,
+    case: &Case<'_, '_>,
+    cut: usize,
+) -> bool
+    requires some { 0 < cut }
+{
+    let mut came = Comparison::new(case.came);
+    let hash = elsewhere::feed_detached(verifier, case.message, case.payload, cut, &mut came);
+    match elsewhere::stated(verifier, hash, case.signature) {
+        Some(verdict) => case.is(verdict, verifier.taken(), &came),
+        None => false,
+    }
+}
+
 /// Whether a prefix of the message is Truncated at its end, with the whole payload next to it.
 fn is_truncated<'k, const H: usize, const D: usize, K: Keys<'k>>(
     verifier: &mut Verifier<'k, H, D, K>,
@@ -178,6 +196,8 @@ fn run_under_set<'k, const H: usize, const D: usize>(
         holds(is_verified(&mut verifier, case, cut), Way::Verify)?;
         let mut fed = under_set::<H, D>(setting, set, case.length);
         holds(is_fed(&mut fed, case, cut), Way::Feed)?;
+        let mut asking = Verifier::<H, D>::elsewhere_detached(setting.context(set), case.length);
+        holds(is_stated(&mut asking, case, cut), Way::Elsewhere)?;
     }
     if !case.expected.is_authentic() {
         return Ok(());

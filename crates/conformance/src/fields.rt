@@ -24,6 +24,8 @@ pub enum Way {
     Feed,
     /// A call over bytes that are all there, and over their prefixes.
     Slice,
+    /// The caller authenticates the message.
+    Elsewhere,
 }
 
 impl Difference {
@@ -34,6 +36,7 @@ impl Difference {
             Difference::Result(Way::Verify) => "from an intake",
             Difference::Result(Way::Feed) => "fed in pieces",
             Difference::Result(Way::Slice) => "in memory",
+            Difference::Result(Way::Elsewhere) => "authenticated elsewhere",
         }
     }
 }

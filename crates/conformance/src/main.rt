@@ -8,6 +8,7 @@ mod choices;
 mod claims;
 mod detached;
 mod digests;
+mod elsewhere;
 mod expected;
 mod fields;
 mod headers;

@@ -4,6 +4,7 @@ ghost use Rattle.std.specs.Prelude.{◌≡◌, ◌≤◌, ◌<◌, false};
 ghost use Rattle.cose_msg.specs.Kept.{is_inspecting};
 ghost use Rattle.cose_msg.specs.Verifier.{is_detached};
 
+use crate::elsewhere;
 use crate::expected::Expected;
 use crate::fields::{Difference, Way, bytes, holds, integer, object};
 use crate::setting::Setting;
@@ -138,6 +139,22 @@ fn is_fed<'k, const H: usize, const D: usize, K: Keys<'k>>(
     }
 }
 
+/// Whether a caller that authenticates the message itself gets what is expected, where it comes in pieces of at most `cut` bytes.
+fn is_stated<'k, const H: usize, const D: usize, K: Keys<'k>>(
+    verifier: &mut Verifier<'k, H, D, K>,
+    case: &Case<'_, '_>,
+    cut: usize,
+) -> bool
+    requires some { 0 < cut }
+{
+    let mut payload = Comparison::new(case.payload);
+    let hash = elsewhere::feed(verifier, case.message, cut, &mut payload);
+    match elsewhere::stated(verifier, hash, case.signature) {
+        Some(verdict) => case.is(verdict, verifier.taken(), &payload),
+        None => false,
+    }
+}
+
 /// Whether `verify_slice` gives what is expected, and of each shorter prefix of an authentic message that it is Truncated
 /// at its end.
 fn is_read<'k, const H: usize, const D: usize, K: Keys<'k>>(
@@ -189,6 +206,8 @@ fn run_under_set<'k, const H: usize, const D: usize>(
         holds(is_verified(&mut verifier, case, cut), Way::Verify)?;
         let mut fed = under_set::<H, D>(setting, set);
         holds(is_fed(&mut fed, case, cut), Way::Feed)?;
+        let mut asking = Verifier::<H, D>::elsewhere(setting.context(set));
+        holds(is_stated(&mut asking, case, cut), Way::Elsewhere)?;
     }
     let mut verifier = under_set::<H, D>(setting, set);
     holds(is_read(&mut verifier, case), Way::Slice)

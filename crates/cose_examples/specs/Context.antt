@@ -16,4 +16,5 @@ setting_under keys = record {
   understood = [];
   payload_limit = 4096;
   source = attached;
+  elsewhere = false;
 }

@@ -1,5 +1,5 @@
 -- A token that is admitted (RFC 8392 section 7.2).
-use Rattle.std.specs.Prelude.{◌≡◌, ℕ, ℤ, true, List, [], ◌∷◌, codes, length, Some, Ok}
+use Rattle.std.specs.Prelude.{◌≡◌, ℕ, ℤ, true, List, [], ◌∷◌, codes, length, Some, Ok, false}
 use Rattle.cose_head.specs.declared.algorithm.Alg.{Alg}
 use Rattle.cose_head.specs.declared.kind.Kind.{Kind}
 use Rattle.cose_map.specs.Key.Value.{KeyValue}
@@ -23,6 +23,7 @@ token_setting keys = record {
   understood = [];
   payload_limit = 4096;
   source = attached;
+  elsewhere = false;
 }
 
 -- The conditions of admission: at this time, give or take 60 seconds, and for `coap://light.example.com`.

@@ -33,6 +33,12 @@ stated_answers : stating (stated_answer true) (under (point None ∷ [])) sign1 
 unfolding reading
 stated_answers = refl
 
+-- No MAC authenticates a COSE_Sign1, be it the bytes of its signature, and no answer about a signature a COSE_Mac0.
+of_the_other_kind : stating (stated_mac (replicate 64 0x5a)) (under (point None ∷ [])) sign1 ∷ stating (stated_answer true) (under plain) (mac0 (replicate 32 0x2a)) ∷ []
+    ≡ refused BadAuth 8 ∷ refused BadAuth 10 ∷ []
+unfolding reading
+of_the_other_kind = refl
+
 -- A tag that is too short, and a message that no key fits, are refused whatever is stated.
 refused_before : (holds : Authenticates) →
     stating holds (under plain) (hex "d18443a10105a0 426869 48 0102030405060708") ∷ stating holds (under []) (mac0 (replicate 32 0x2a)) ∷ []

@@ -53,7 +53,7 @@ abbrev pub never : Decides
 never key digest signature = false
 
 abbrev pub under : List KeyValue → Setting
-under keys = record { keys = keys; aad = []; wanted = wants.Tagged; cwt = true; understood = []; payload_limit = 0xffffffffffffff; source = attached }
+under keys = record { keys = keys; aad = []; wanted = wants.Tagged; cwt = true; understood = []; payload_limit = 0xffffffffffffff; source = attached; elsewhere = false }
 
 -- The verdict with room for 1024 bytes in each header bucket, and a nesting of 4.
 abbrev pub verdict_in : Setting → List ℕ → Answer

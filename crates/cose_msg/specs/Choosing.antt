@@ -7,7 +7,7 @@ use Rattle.cose_map.specs.Map.Read.{Read}
 use Rattle.cose_map.specs.Map.Read.{◌>>=◌}
 use Rattle.cose_map.specs.Bucket.Both.{pair_fault}
 use Rattle.cose_msg.specs.Answer.{Chosen, Headers}
-use Rattle.cose_msg.specs.Task.{Task, choice_for}
+use Rattle.cose_msg.specs.Task.{Task, choice_for, is_keyless}
 
 abbrev pub unless_refused : Option Refusal → Read (Unit {0})
 unless_refused None = Ok tt
@@ -21,4 +21,4 @@ refused_at place (Err reason) = Err (record { reason = reason; place = place })
 unfoldable pub choice_of : Task → Headers → ℕ → Read (Option Chosen)
 choice_of task headers place = do
   unused ← unless_refused (pair_fault headers.protected_pairs headers.unprotected_pairs task.setting.understood place)
-  refused_at place (choice_for task.inspects task.setting headers)
+  refused_at place (choice_for (is_keyless task) task.setting headers)

@@ -19,6 +19,7 @@ abbrev pub Hashes : Hashing → Chosen → List ℕ → Type 0
 Hashes (states.Running running) found message = FedAs (is_mac_of found.alg) running found message
 Hashes states.Nothing found message = ⊥
 Hashes (states.Finished bytes) found message = ⊥
+Hashes states.Elsewhere found message = ⊤
 
 -- Where no key is chosen, nothing is required of it.
 abbrev pub HashesFor : Hashing → Option Chosen → List ℕ → Type 0
@@ -30,6 +31,14 @@ abbrev pub result_of : Hashing → List ℕ
 result_of (states.Finished bytes) = bytes.items
 result_of states.Nothing = []
 result_of (states.Running running) = []
+result_of states.Elsewhere = []
+
+-- Whether nothing is hashed here, since the caller authenticates the message.
+abbrev pub is_elsewhere : Hashing → Bool
+is_elsewhere states.Elsewhere = true
+is_elsewhere states.Nothing = false
+is_elsewhere (states.Running running) = false
+is_elsewhere (states.Finished bytes) = false
 
 -- The MAC of a message, or its digest, as the algorithm requires.
 abbrev pub authenticator : Chosen → List ℕ → List ℕ

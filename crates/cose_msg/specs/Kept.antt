@@ -12,7 +12,7 @@ use Rattle.cose_msg.specs.declared.verdict.Verdict.TheVariants.{Authentic, Refus
 use Rattle.cose_msg.specs.declared.verifier.Verifier.{Verifier}
 use Rattle.cose_msg.specs.Reader.{SoFar}
 use Rattle.cose_msg.specs.Message.{Setting}
-use Rattle.cose_msg.specs.Task.{Task, given_to, to_inspect, to_verify}
+use Rattle.cose_msg.specs.Task.{Task, given_to, to_inspect, to_verify, to_verify_elsewhere}
 use Rattle.cose_msg.specs.Verifier.{is_detached, setting_in, task_of}
 
 abbrev pub bytes_taken : {H D : ℕ} {S : Type 0} {K : _} → Verifier H D S K → ℕ
@@ -84,6 +84,10 @@ WhateverVerified v fact = (setting : Setting) (taken payload_so_far : List ℕ) 
 
 abbrev pub WhateverInspected : {H D : ℕ} {S : Type 0} {K : _} → Verifier H D S K → (Setting → List ℕ → List ℕ → Type 0) → Type 0
 WhateverInspected v fact = (setting : Setting) (taken payload_so_far : List ℕ) → HasTaken (to_inspect setting) taken payload_so_far v → fact setting taken payload_so_far
+
+-- And of one whose message is authenticated elsewhere.
+abbrev pub WhateverAsked : {H D : ℕ} {S : Type 0} {K : _} → Verifier H D S K → (Setting → List ℕ → List ℕ → Type 0) → Type 0
+WhateverAsked v fact = (setting : Setting) (taken payload_so_far : List ℕ) → HasTaken (to_verify_elsewhere setting) taken payload_so_far v → fact setting taken payload_so_far
 
 -- What the verifier was made for is the same after a call: whether it inspects, whether it awaits a detached payload, and
 -- the setting that it reads a message under. (Of a call that takes bytes the setting is said where those before are known.)

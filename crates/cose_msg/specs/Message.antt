@@ -27,8 +27,8 @@ unfoldable pub message : Rules → List ℕ → Reading
 message rules bytes = first_head rules 0 bytes
 
 -- The setting of a verification: the usable keys, the externally supplied data, the kinds that are wanted, whether the
--- CWT tag may precede the message's own, the labels that the application understands, the most bytes of a payload, and
--- where the payload is.
+-- CWT tag may precede the message's own, the labels that the application understands, the most bytes of a payload,
+-- where the payload is, and whether an inspection is one whose message is authenticated elsewhere.
 pub record Setting : Type 0 where
   pub keys : List KeyValue
   pub aad : List ℕ
@@ -37,6 +37,7 @@ pub record Setting : Type 0 where
   pub understood : List LabelValue
   pub payload_limit : ℕ
   pub source : Source
+  pub elsewhere : Bool
 
 -- The same, where these bytes of a detached payload have come.
 abbrev pub given : List ℕ → Setting → Setting

@@ -1,5 +1,8 @@
 -- What is known of a phase of the code by its counts alone.
-use Rattle.std.specs.Prelude.{ℕ, Bool, true, false, List, ◌++◌}
+use Rattle.std.specs.Prelude.{ℕ, Bool, true, false, not, List, ◌++◌, Option, Some, None}
+use Rattle.cose_head.specs.Algorithm.{is_mac_of}
+use Rattle.cose_head.specs.declared.kind.Kind.{Kind}
+use Rattle.cose_msg.specs.declared.phase.Frame.{Frame}
 use Rattle.cose_msg.specs.declared.phase.Phase.{Phase}
 use Rattle.cose_msg.specs.declared.phase.Phase.TheVariants as phases
 
@@ -27,6 +30,24 @@ abbrev pub has_signature : Phase → Bool
 has_signature (phases.Signed p) = true
 has_signature (phases.Decided verdict) = true
 has_signature _ = false
+
+-- What is known of the structure that is authenticated, after the payload's head and before the verdict: the kind of the message
+-- and the number of the payload's bytes.
+abbrev pub framed : Kind → ℕ → Option Frame
+framed kind payload = Some (record { kind = kind; payload = payload })
+
+abbrev pub frame_of : Phase → Option Frame
+frame_of (phases.Payload p) = framed p.kind p.length
+frame_of (phases.Detached p) = framed p.kind p.length
+frame_of (phases.AuthHead p) = framed p.kind p.payload
+frame_of (phases.Auth p) = framed p.kind p.payload
+frame_of (phases.Signed p) = framed p.kind p.payload
+frame_of _ = None
+
+-- Whether the caller is asked about a signature.
+abbrev pub asks_signature : Phase → Bool
+asks_signature (phases.Signed p) = not (is_mac_of p.alg)
+asks_signature _ = false
 
 -- How many bytes are to come for certain: those of a string that are left, and one of a head.
 abbrev pub want_of : Phase → ℕ

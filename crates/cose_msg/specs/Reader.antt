@@ -23,18 +23,18 @@ use Rattle.cose_msg.specs.declared.reader.Reader.{Reader}
 use Rattle.cose_msg.specs.Answer.{decided, complete, shaped, Chosen, Headers, Whole}
 use Rattle.cose_msg.specs.Chosen.{chosen_value}
 use Rattle.cose_msg.specs.Front.{first_head, second_head, array_head}
-use Rattle.cose_msg.specs.Hashing.{Hashes, HashesFor, authenticator, result_of}
+use Rattle.cose_msg.specs.Hashing.{Hashes, HashesFor, authenticator, is_elsewhere, result_of}
 use Rattle.cose_msg.specs.Message.{Setting, has_auth_length, message, structure}
 use Rattle.cose_msg.specs.Phase.{is_settled}
 use Rattle.cose_msg.specs.Phases.{nothing_so_far, unprotected_so_far, headers_so_far, placed_at, protected_head, protected, unprotected, payload_head, payload, detached_payload, auth_head, auth}
 use Rattle.cose_msg.specs.Reading.{Reading, Findings, open_items_after, wanted_after, settled}
 use Rattle.cose_msg.specs.Rules.{Rules}
 use Rattle.cose_msg.specs.Source.{Source, attached, detached}
-use Rattle.cose_msg.specs.Task.{Task, rules_of}
+use Rattle.cose_msg.specs.Task.{Task, asks, is_keyless, rules_of}
 
 -- The setting by the terms of the code, these keys, and where the payload is.
-abbrev pub setting_with : List KeyValue → Source → Terms → Setting
-setting_with keys source terms = record {
+abbrev pub setting_with : List KeyValue → Source → Bool → Terms → Setting
+setting_with keys source elsewhere terms = record {
   keys = keys;
   aad = terms.aad.now;
   wanted = terms.wanted;
@@ -42,12 +42,13 @@ setting_with keys source terms = record {
   understood = map label_value terms.understood.now;
   payload_limit = terms.payload_limit;
   source = source;
+  elsewhere = elsewhere;
 }
 
 -- A task under the terms of a reader, which knows neither the keys, nor where the payload is, nor what the task is for: they
 -- are passed with the bytes.
 abbrev pub task_in : {H D : ℕ} → Task → Reader H D → Task
-task_in task v = record { setting = setting_with task.setting.keys task.setting.source v.terms; inspects = task.inspects }
+task_in task v = record { setting = setting_with task.setting.keys task.setting.source task.setting.elsewhere v.terms; inspects = task.inspects }
 
 -- The usable keys that are passed, if any.
 abbrev pub keys_in : {S : Type 0} → (S → List KeyValue) → Option (Bor S) → Option (List KeyValue)
@@ -124,7 +125,8 @@ HoldsHead at n v = IsMore (bare_head v.head.items) × (n ≡ at + length v.head.
 -- The kind, and the key, if one is to be chosen.
 abbrev pub HoldsKey : {H D : ℕ} → Task → Known → Reader H D → Kind → Type 0
 HoldsKey task known v kind =
-    (known.headers.kind ≡ kind) × (option_map chosen_value v.chosen ≡ known.chosen) × (is_none known.chosen ≡ task.inspects)
+    (known.headers.kind ≡ kind) × (option_map chosen_value v.chosen ≡ known.chosen) × (is_none known.chosen ≡ is_keyless task) × (is_elsewhere v.hashing ≡ asks task)
+    × (known.headers.protected ≡ v.protected.items)
 
 -- The hash was fed a prefix of the structure that any payload of this length completes, and the payload so far.
 pub record Opened (hashing : Hashing) (aad : List ℕ) (headers : Headers) (payload : List ℕ) (n : ℕ) (found : Chosen) : Type 0 where
@@ -155,18 +157,20 @@ abbrev pub HoldsAuth : Option Chosen → List ℕ → List ℕ → Type 0
 HoldsAuth (Some found) held auth = held ≡ auth
 HoldsAuth None held auth = ⊤
 
--- All bytes of a message with a signature are there: the key, the digest of what was signed, and the signature.
+-- All bytes of a message with a signature are there: the key, the digest of what was signed, and the signature. Or those of
+-- any message that is authenticated elsewhere: the key, and the tag or signature.
 pub record IsSigned (task : Task) (known : Known) (chosen : Option code.Chosen) (hashing : Hashing) (auth : List ℕ) (p : Signed) : Type 0 where
   pub found : Chosen
   pub key_is : option_map chosen_value chosen ≡ Some found
   pub chosen_is : known.chosen ≡ Some found
-  pub verifies : task.inspects ≡ false
+  pub verifies : asks task ≡ false → task.inspects ≡ false
+  pub elsewhere_is : is_elsewhere hashing ≡ asks task
   pub kind_is : known.headers.kind ≡ p.kind
   pub alg_is : found.alg ≡ p.alg
-  pub no_tag : is_mac_of p.alg ≡ false
+  pub no_tag : asks task ≡ false → is_mac_of p.alg ≡ false
   pub payload_is : length known.payload ≡ p.payload
   pub auth_is : auth ≡ known.auth
-  pub digest_is : result_of hashing ≡ authenticator found (structure task.setting.aad known.headers known.payload)
+  pub digest_is : asks task ≡ false → result_of hashing ≡ authenticator found (structure task.setting.aad known.headers known.payload)
 
 -- The number of bytes of a message, where the verdict gives it.
 abbrev pub Counts : Verdict → ℕ → Type 0
@@ -211,9 +215,10 @@ HoldsIn task known so_far n v (phases.Auth p) =
     × (has_auth_length known.chosen p.length ≡ true) × HoldsAuth known.chosen v.auth.items known.auth
 HoldsIn task known so_far n v (phases.Signed p) =
     (so_far ≡ headers_so_far known.headers known.payload) × (n ≡ p.taken) × IsSigned task known v.chosen v.hashing v.auth.items p
+    × (known.headers.protected ≡ v.protected.items)
 HoldsIn task known so_far n v (phases.Decided verdict) = ⊥
 HoldsIn task known so_far n v (phases.Settled verdict) = Counts verdict n × (is_authentic verdict ≡ true → task.inspects ≡ false)
-HoldsIn task known so_far n v (phases.Shaped p) = (p.taken ≡ n) × (task.inspects ≡ true)
+HoldsIn task known so_far n v (phases.Shaped p) = (p.taken ≡ n) × (task.inspects ≡ true) × (task.setting.elsewhere ≡ false)
 
 -- A reader for this task, which has taken n bytes, with this payload among them, means a reading of the bytes to come.
 -- (Once it has decided on a signature it means none.)

@@ -1,5 +1,5 @@
 -- What a verifier gives of a message in addition to the result.
-use Rattle.std.specs.Prelude.{◌≡◌, ℕ, List, Option, Some, None, Ok, Err, option_map, if◌then◌else◌}
+use Rattle.std.specs.Prelude.{◌≡◌, ℕ, Bool, true, false, List, Option, Some, None, Ok, Err, option_map, if◌then◌else◌}
 use Rattle.std.specs.Borrow.{Bor}
 use Rattle.cose_head.specs.declared.kind.Kind.{Kind}
 use Rattle.cose_head.specs.declared.kind.Kind.TheVariants as kinds
@@ -15,13 +15,13 @@ use Rattle.cose_msg.specs.declared.reader.Reader.{Reader}
 use Rattle.cose_msg.specs.declared.verifier.Verifier.{Verifier}
 use Rattle.cose_msg.specs.Answer.{Answer, Chosen, Whole, decided, complete, shaped}
 use Rattle.cose_msg.specs.Chosen.{chosen_value}
-use Rattle.cose_msg.specs.Hashing.{result_of}
+use Rattle.cose_msg.specs.Hashing.{is_elsewhere, result_of}
 use Rattle.cose_msg.specs.Message.{Setting, digest_signed, message, comparing, uncompared}
 use Rattle.cose_msg.specs.Phase.{has_signature}
 use Rattle.cose_msg.specs.Phases.{placed_at}
 use Rattle.cose_msg.specs.Reader.{held_by, opened_by}
 use Rattle.cose_msg.specs.Reading.{Reading}
-use Rattle.cose_msg.specs.Task.{Task, rules_of}
+use Rattle.cose_msg.specs.Task.{Task, asks, rules_of}
 
 -- What a signature is verified with (RFC 9052 section 4.4): the key, the digest of the structure that was signed, and the signature.
 pub record SignInput : Type 0 where
@@ -42,11 +42,19 @@ pub record Shown : Type 0 where
 abbrev pub signed_with : List ℕ → Whole → Chosen → SignInput
 signed_with aad whole found = record { key = found.key; digest = digest_signed aad found whole; signature = whole.auth }
 
+-- It is given to no caller that has the digest itself.
+abbrev pub unless_elsewhere : Bool → Option SignInput → Option SignInput
+unless_elsewhere true input = None
+unless_elsewhere false input = input
+
+abbrev pub sign_input_for : Bool → List ℕ → Answer → Option SignInput
+sign_input_for elsewhere aad (complete whole) = unless_elsewhere elsewhere (option_map (signed_with aad whole) whole.chosen)
+sign_input_for elsewhere aad (decided verdict) = None
+sign_input_for elsewhere aad (shaped kind payload auth taken) = None
+
 -- Where tags are compared, a message that is complete and not decided is one with a signature.
 abbrev pub sign_input_in : List ℕ → Answer → Option SignInput
-sign_input_in aad (complete whole) = option_map (signed_with aad whole) whole.chosen
-sign_input_in aad (decided verdict) = None
-sign_input_in aad (shaped kind payload auth taken) = None
+sign_input_in aad answer = sign_input_for false aad answer
 
 -- Of a message that is read without the comparison: it is one with a signature where its kind says so.
 abbrev pub of_sign1 : Kind → Option SignInput → Option SignInput
@@ -63,11 +71,11 @@ abbrev pub SignaturesAreOfSign1 : Type 0
 SignaturesAreOfSign1 = (room nesting : ℕ) (setting : Setting) (bytes : List ℕ) →
     sign_input_in setting.aad (message (comparing room nesting setting) bytes).answer ≡ signature_in setting.aad (message (uncompared room nesting setting) bytes).answer
 
-abbrev pub shown_in : Setting → Reading → Shown
-shown_in setting reading = record {
+abbrev pub shown_in : Task → Reading → Shown
+shown_in task reading = record {
   protected = reading.so_far.protected;
   unprotected = reading.so_far.unprotected;
-  sign_input = sign_input_in setting.aad reading.answer;
+  sign_input = sign_input_for (asks task) task.setting.aad reading.answer;
   open_items = reading.so_far.open_items;
 }
 
@@ -88,7 +96,8 @@ abbrev pub unprotected_by : {H D : ℕ} → Reader H D → Option (List Pair)
 unprotected_by {H} {D} v = pairs_at D v.unprotected_at v.unprotected.items
 
 abbrev pub held_input : {H D : ℕ} → Reader H D → Option SignInput
-held_input v = option_map (λ found. record { key = found.key; digest = result_of v.hashing; signature = v.auth.items }) (option_map chosen_value v.chosen)
+held_input v = unless_elsewhere (is_elsewhere v.hashing)
+    (option_map (λ found. record { key = found.key; digest = result_of v.hashing; signature = v.auth.items }) (option_map chosen_value v.chosen))
 
 abbrev pub input_in : Phase → Option SignInput → Option SignInput
 input_in phase held = if has_signature phase then held else None
@@ -120,7 +129,7 @@ shown_of v = shown_by v.reader
 
 -- The verifier gives what the reading of these bytes of a message gives.
 abbrev pub ShowsReading : {H D : ℕ} {S : Type 0} {K : _} → Task → List ℕ → Verifier H D S K → Type 0
-ShowsReading {H} {D} task taken v = shown_of v ≡ shown_in task.setting (message (rules_of H D task) taken)
+ShowsReading {H} {D} task taken v = shown_of v ≡ shown_in task (message (rules_of H D task) taken)
 
 -- How many bytes of the message it holds.
 abbrev pub held : {H D : ℕ} {S : Type 0} {K : _} → Verifier H D S K → ℕ

@@ -14,20 +14,23 @@ pub(crate) enum Hashing {
     Running(Running),
     /// The MAC or the digest.
     Finished(ArrayVec<u8, 64>),
+    /// Nothing is hashed here: the caller authenticates the message.
+    Elsewhere,
 }
 
 impl Hashing {
-    ghost use Rattle.std.specs.Prelude.{◌≡◌, ◌≤◌, ℕ, List, [], ◌++◌, length};
+    ghost use Rattle.std.specs.Prelude.{◌≡◌, ◌≤◌, ℕ, List, [], ◌++◌, false, length};
     ghost use Rattle.cose_map.specs.Key.Value.{KeyValue};
     ghost use Rattle.cose_mac.specs.Structure.{structure_front, structure_of};
     ghost use Rattle.cose_msg.specs.Answer.{Chosen as Found};
-    ghost use Rattle.cose_msg.specs.Hashing.{Hashes, authenticator, result_of};
+    ghost use Rattle.cose_msg.specs.Hashing.{Hashes, authenticator, is_elsewhere, result_of};
     ghost use Rattle.cose_msg.specs.Message.{secret_of};
 
     /// The MAC or the digest of the empty message, as the algorithm requires. The keys begin the MAC, where they are passed.
     pub(crate) fn begin<K: KeyMeaning>(keys: Option<&K>, alg: Alg, secret: &[u8]) -> Hashing
-        ensures { (found : Found) → found.alg ≡ alg → secret_of found.key.material ≡ secret.now
-            → Hashes result found [] }
+        ensures begun { (found : Found) → found.alg ≡ alg
+            → secret_of found.key.material ≡ secret.now → Hashes result found [] }
+        ensures here { is_elsewhere result ≡ false }
     {
         if !alg.is_mac() {
             return Hashing::Running(Running::digest(alg));
@@ -38,14 +41,22 @@ impl Hashing {
         }
     }
 
+    /// Whether nothing is hashed here.
+    pub(crate) fn is_elsewhere(&self) -> bool
+        ensures { result ≡ is_elsewhere self.now }
+    {
+        matches!(self, Hashing::Elsewhere)
+    }
+
     /// Appends a piece.
     pub(crate) fn update(&mut self, piece: &[u8])
-        ensures { (found : Found) (message : List ℕ) → Hashes self.old found message
+        ensures appended { (found : Found) (message : List ℕ) → Hashes self.old found message
             → Hashes self.new found (message ++ piece.now) }
+        ensures kept { is_elsewhere self.new ≡ is_elsewhere self.old }
     {
         match self {
             Hashing::Running(running) => running.update(piece),
-            Hashing::Nothing | Hashing::Finished(_) => {}
+            Hashing::Nothing | Hashing::Finished(_) | Hashing::Elsewhere => {}
         }
     }
 
@@ -59,6 +70,7 @@ impl Hashing {
             → length payload ≡ payload_length
             → structure_front kind protected.now aad.now payload_length ++ payload
             ≡ structure_of kind protected.now aad.now payload }
+        ensures kept { is_elsewhere self.new ≡ is_elsewhere self.old }
     {
         match self {
             Hashing::Running(running) => structure_front(
@@ -68,14 +80,15 @@ impl Hashing {
                 payload_length,
                 running,
             ),
-            Hashing::Nothing | Hashing::Finished(_) => {}
+            Hashing::Nothing | Hashing::Finished(_) | Hashing::Elsewhere => {}
         }
     }
 
     /// Replaces what was fed by its MAC or digest.
     pub(crate) fn finish(&mut self)
-        ensures { (found : Found) (message : List ℕ) → Hashes self.old found message
-            → result_of self.new ≡ authenticator found message }
+        ensures finished { (found : Found) (message : List ℕ) → is_elsewhere self.old ≡ false
+            → Hashes self.old found message → result_of self.new ≡ authenticator found message }
+        ensures kept { is_elsewhere self.new ≡ is_elsewhere self.old }
     {
         match mem::replace(self, Hashing::Nothing) {
             Hashing::Running(running) => {
@@ -86,6 +99,7 @@ impl Hashing {
                 };
                 *self = Hashing::Finished(bytes);
             }
+            Hashing::Elsewhere => *self = Hashing::Elsewhere,
             Hashing::Nothing | Hashing::Finished(_) => {}
         }
     }
@@ -97,7 +111,7 @@ impl Hashing {
     {
         match self {
             Hashing::Finished(bytes) => bytes.as_slice(),
-            Hashing::Nothing | Hashing::Running(_) => &[],
+            Hashing::Nothing | Hashing::Running(_) | Hashing::Elsewhere => &[],
         }
     }
 }

@@ -55,6 +55,10 @@
 //! A payload may be detached (RFC 9052 sections 4.2 and 6.2): the message has nil in its place. [`Verifier::detached`] is
 //! passed its length; where the status is [`Status::PayloadNext`], [`Verifier::feed_payload`] takes its bytes.
 //!
+//! A caller that has the hash or the key elsewhere, as in a secure element, makes the verifier by [`Verifier::elsewhere`]. After
+//! the payload's head [`Verifier::front_pieces`] gives the bytes to hash before the payload, and [`Verifier::asked_key`] the key;
+//! once the message is complete, [`Verifier::verdict_of_mac`] or [`Verifier::verdict_of_answer`] decides by what the caller found.
+//!
 //! ```rust
 //! let fed = verifier.feed(piece);
 //! let payload = fed.payload_of(piece);

@@ -192,6 +192,15 @@ pub(crate) struct Shape {
     pub(crate) taken: u64,
 }
 
+/// What is known of the structure that is authenticated, once the payload's head was read.
+#[derive(Clone, Copy)]
+pub(crate) struct Frame {
+    /// The kind of the message.
+    pub(crate) kind: Kind,
+    /// The number of the payload's bytes.
+    pub(crate) payload: u64,
+}
+
 /// The phase that the next byte is in.
 #[derive(Clone, Copy)]
 pub(crate) enum Phase {
@@ -229,7 +238,7 @@ pub(crate) enum Phase {
 
 impl Phase {
     ghost use Rattle.std.specs.Prelude.{◌≡◌, false};
-    ghost use Rattle.cose_msg.specs.Phase.{ends_at, is_settled, payload_want_of, want_of};
+    ghost use Rattle.cose_msg.specs.Phase.{ends_at, frame_of, is_settled, payload_want_of, want_of};
     ghost use Rattle.cose_msg.specs.Status.{status_of_phase};
 
     /// Whether no further byte of the message is wanted, or none before bytes of a detached payload.
@@ -244,6 +253,21 @@ impl Phase {
                 | Phase::Settled(_)
                 | Phase::Shaped(_)
         )
+    }
+
+    /// What is known of the structure, after the payload's head and before the verdict.
+    pub(crate) fn frame(&self) -> Option<Frame>
+        ensures { result ≡ frame_of self.now }
+    {
+        let (kind, payload) = match *self {
+            Phase::Payload(payload) => (payload.kind, payload.length),
+            Phase::Detached(detached) => (detached.kind, detached.length),
+            Phase::AuthHead(auth_head) => (auth_head.kind, auth_head.payload),
+            Phase::Auth(auth) => (auth.kind, auth.payload),
+            Phase::Signed(signed) => (signed.kind, signed.payload),
+            _ => return None,
+        };
+        Some(Frame { kind, payload })
     }
 
     /// How many bytes are to come for certain: those of a string that are left, one of a head, and none once the message is

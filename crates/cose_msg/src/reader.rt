@@ -21,6 +21,7 @@ mod front;
 mod getters;
 mod headers;
 mod payload;
+pub(crate) mod stated;
 
 /// The key that fits the message, and the algorithm that it is used with.
 #[derive(Clone, Copy)]
@@ -69,7 +70,7 @@ impl<'k, const H: usize, const D: usize> Reader<'k, H, D> {
     ghost use Rattle.cose_msg.specs.Reading.{Reading, stop, Findings};
     ghost use Rattle.cose_msg.specs.Source.{IsStated};
     ghost use Rattle.cose_msg.specs.Shown.{shown_by, shown_in};
-    ghost use Rattle.cose_msg.specs.Task.{Task, keys_for, rules_of};
+    ghost use Rattle.cose_msg.specs.Task.{Task, asks, keys_for, rules_of};
 
     /// A reader of a message under these terms.
     pub(crate) fn new(terms: Terms<'k>) -> Self
@@ -78,7 +79,7 @@ impl<'k, const H: usize, const D: usize> Reader<'k, H, D> {
         requires nesting { D ≤ 32 }
         ensures untouched { IsUntouched result }
         ensures shown { (task : Task)
-            → shown_by result ≡ shown_in task.setting (message (rules_of H D task) []) }
+            → shown_by result ≡ shown_in task (message (rules_of H D task) []) }
         ensures phase { result.phase ≡ Phase.FirstHead }
         ensures held { held_by result ≡ 256 }
         ensures terms { result.terms ≡ terms.entry }
@@ -102,7 +103,7 @@ impl<'k, const H: usize, const D: usize> Reader<'k, H, D> {
     pub(crate) fn reset(&mut self)
         ensures untouched { IsUntouched self.new }
         ensures shown { (task : Task)
-            → shown_by self.new ≡ shown_in task.setting (message (rules_of H D task) []) }
+            → shown_by self.new ≡ shown_in task (message (rules_of H D task) []) }
         ensures phase { self.new.phase ≡ Phase.FirstHead }
         ensures held { held_by self.new ≡ 256 }
         ensures no_key { self.new.chosen ≡ None }
@@ -145,6 +146,16 @@ impl<'k, const H: usize, const D: usize> Reader<'k, H, D> {
         matches!(self.phase, Phase::Payload(_))
     }
 
+    /// Whether so many bytes, at least one, all are the payload's, and others of it follow.
+    #[inline(always)]
+    pub(crate) fn has_more_payload_than(&self, count: usize) -> bool
+        ensures some { result ≡ true → 0 < count }
+        ensures fewer { result ≡ true → count < want_of self.now.phase }
+        ensures inside { result ≡ true → in_payload self.now.phase ≡ true }
+    {
+        0 < count && self.is_in_payload() && (count as u64) < self.wanted()
+    }
+
     /// How many bytes are to come for certain: those of a string that are left, one of a head, and none once the message is
     /// settled.
     pub(crate) fn wanted(&self) -> u64
@@ -175,12 +186,14 @@ impl<'k, const H: usize, const D: usize> Reader<'k, H, D> {
 
     /// Takes the next bytes, all of one phase, and returns their number. A string takes all that it has left, or the
     /// whole piece. The key is chosen from those that are passed, once both header buckets are there; none are passed
-    /// where the message is only inspected. The length of a detached payload is stated.
+    /// where the message is only inspected. Nothing is hashed where it is authenticated elsewhere. The length of a detached
+    /// payload is stated.
     #[inline(always)]
     pub(crate) fn advance<K: Keys<'k>>(
         &mut self,
         piece: &[u8],
         keys: Option<&K>,
+        elsewhere: bool,
         stated: Option<u64>,
     ) -> usize
         requires some { 0 < length piece.now }
@@ -188,7 +201,8 @@ impl<'k, const H: usize, const D: usize> Reader<'k, H, D> {
         ensures uses { is_settled self.old.phase ≡ false → 0 < result }
         ensures whole { length piece.now ≤ want_of self.old.phase → result ≡ length piece.now }
         ensures reads_on { (task : Task) (payload : List ℕ) (n : ℕ) (reading : List ℕ → Reading)
-            → keys_in K.usable keys.entry ≡ keys_for task → IsStated stated task.setting.source
+            → keys_in K.usable keys.entry ≡ keys_for task → elsewhere ≡ asks task
+            → IsStated stated task.setting.source
             → ReaderMeans task payload n self.old reading
             → ReaderMeans task (grown self.old.phase payload (take result piece.now)) (n + result)
             self.new (λ more. reading (take result piece.now ++ more)) }
@@ -201,7 +215,7 @@ impl<'k, const H: usize, const D: usize> Reader<'k, H, D> {
             }
             Phase::Unprotected(unprotected) => {
                 let part = front_of(piece, unprotected.wanted);
-                self.unprotected_piece(unprotected, part, keys);
+                self.unprotected_piece(unprotected, part, keys, elsewhere);
                 part.len()
             }
             Phase::Payload(payload) => {

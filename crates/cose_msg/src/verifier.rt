@@ -12,6 +12,7 @@ use cose_map::{KeySet, Keys};
 
 mod decide;
 mod detached;
+mod elsewhere;
 mod feed;
 mod getters;
 mod naming;
@@ -23,6 +24,8 @@ pub struct Verifier<'k, const H: usize, const D: usize, S: Keys<'k> = KeySet<'k>
     taken: u64,
     stopped: bool,
     inspecting: bool,
+    /// Whether an inspection is one whose message is authenticated elsewhere.
+    elsewhere: bool,
     /// The number of bytes of a detached payload; none where the message has its payload.
     stated: Option<u64>,
     pub(crate) reader: Reader<'k, H, D>,
@@ -44,28 +47,29 @@ impl<'k, const H: usize, const D: usize, S: Keys<'k>> Verifier<'k, H, D, S> {
     ghost use Rattle.cose_msg.specs.declared.status.Status.{Status};
     ghost use Rattle.cose_msg.specs.Status.{status_in};
     ghost use Rattle.cose_msg.specs.Task.{to_inspect, to_verify};
-    ghost use Rattle.cose_msg.specs.Verifier.{attaching, detaching, is_detached, setting_in, setting_of, sourced, task_of};
+    ghost use Rattle.cose_msg.specs.Verifier.{attaching, detaching, is_detached, is_elsewhere, placed, setting_in, setting_of, task_of};
 
-    /// A verifier for either purpose, of a message that has its payload, or of one with a detached payload of this length.
-    fn made(context: Context<'k, S>, inspecting: bool, stated: Option<u64>) -> Self
+    /// A verifier for any purpose, of a message that has its payload, or of one with a detached payload of this length.
+    fn made(context: Context<'k, S>, inspecting: bool, elsewhere: bool, stated: Option<u64>) -> Self
         requires some_room { 16 ≤ H }
         requires limit { H ≤ 65535 }
         requires nesting { D ≤ 32 }
         ensures none_taken { HasTaken
             (record {
-              setting = sourced stated (setting_of S.usable context.entry);
+              setting = placed elsewhere stated (setting_of S.usable context.entry);
               inspects = inspecting;
             })
             [] [] result }
         ensures shows { ShowsReading
             (record {
-              setting = sourced stated (setting_of S.usable context.entry);
+              setting = placed elsewhere stated (setting_of S.usable context.entry);
               inspects = inspecting;
             })
             [] result }
         ensures status { status_in result ≡ Status.More }
         ensures held { held result ≡ 256 }
-        ensures context { setting_in result ≡ sourced stated (setting_of S.usable context.entry) }
+        ensures context { setting_in result
+            ≡ placed elsewhere stated (setting_of S.usable context.entry) }
         ensures inspects { is_inspecting result ≡ inspecting }
     {
         let Context {
@@ -80,6 +84,7 @@ impl<'k, const H: usize, const D: usize, S: Keys<'k>> Verifier<'k, H, D, S> {
             taken: 0,
             stopped: false,
             inspecting,
+            elsewhere,
             stated,
             reader: Reader::new(Terms {
                 aad,
@@ -106,7 +111,7 @@ impl<'k, const H: usize, const D: usize, S: Keys<'k>> Verifier<'k, H, D, S> {
         ensures inspects { is_inspecting result ≡ false }
         ensures attached { is_detached result ≡ false }
     {
-        Self::made(context, false, None)
+        Self::made(context, false, false, None)
     }
 
     /// A verifier of a message that is only inspected in this context: its keys are not looked at, and nothing is authenticated.
@@ -124,7 +129,7 @@ impl<'k, const H: usize, const D: usize, S: Keys<'k>> Verifier<'k, H, D, S> {
         ensures inspects { is_inspecting result ≡ true }
         ensures attached { is_detached result ≡ false }
     {
-        Self::made(context, true, None)
+        Self::made(context, true, false, None)
     }
 
     /// A verifier of a message in this context whose payload is detached (RFC 9052 sections 4.2 and 6.2): the message has nil
@@ -147,10 +152,10 @@ impl<'k, const H: usize, const D: usize, S: Keys<'k>> Verifier<'k, H, D, S> {
         ensures inspects { is_inspecting result ≡ false }
         ensures detached { is_detached result ≡ true }
     {
-        Self::made(context, false, Some(payload_length))
+        Self::made(context, false, false, Some(payload_length))
     }
 
-    /// Whether it was made for inspecting alone.
+    /// Whether it compares nothing: it was made for inspecting alone, or for a message that is authenticated elsewhere.
     pub fn is_inspecting(&self) -> bool
         ensures { result ≡ is_inspecting self.now }
     {

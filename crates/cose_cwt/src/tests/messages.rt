@@ -3,6 +3,7 @@
 mod bounds;
 mod detached;
 mod detached_pieces;
+mod elsewhere;
 mod inspecting;
 mod intake;
 mod limits;

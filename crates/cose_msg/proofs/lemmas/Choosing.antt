@@ -1,3 +1,4 @@
 pub mod ChoiceReadings
 pub mod Choices
 pub mod ChosenKeys
+pub mod Purposed

@@ -1,4 +1,5 @@
 pub mod Decisions
+pub mod Frames
 pub mod KeptAnswers
 pub mod PhaseCases
 pub mod Signatures

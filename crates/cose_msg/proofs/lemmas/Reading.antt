@@ -1,4 +1,5 @@
 pub mod Bounds
+pub mod Completes
 pub mod DefiniteForms
 pub mod DefinitePhases
 pub mod FairRules

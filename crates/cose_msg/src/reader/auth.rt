@@ -53,7 +53,9 @@ fn hold(store: &mut ArrayVec<u8, 132>, has_key: bool, piece: &[u8])
 }
 
 impl<'k, const H: usize, const D: usize> Reader<'k, H, D> {
-    ghost use Rattle.std.specs.Prelude.{List, ◌∷◌, Some, option_map};
+    ghost use Rattle.std.specs.Prelude.{List, ◌∷◌, Some, ◌&&◌, not, option_map};
+    ghost use Rattle.cose_head.specs.Algorithm.{is_mac_of};
+    ghost use Rattle.cose_msg.specs.Hashing.{is_elsewhere};
     ghost use Rattle.cose_msg.specs.declared.reader.Chosen.{Chosen};
     ghost use Rattle.cose_msg.specs.Answer.{Chosen as Found};
     ghost use Rattle.cose_msg.specs.declared.status.Status.{Status};
@@ -72,6 +74,13 @@ impl<'k, const H: usize, const D: usize> Reader<'k, H, D> {
             Some(chosen) => Some(chosen.alg),
             None => None,
         }
+    }
+
+    /// Whether a tag or signature is compared with what was hashed.
+    fn compares(&self, alg: Alg) -> bool
+        ensures { result ≡ (not (is_elsewhere self.now.hashing) && is_mac_of alg) }
+    {
+        !self.hashing.is_elsewhere() && alg.is_mac()
     }
 
     /// The head of the tag or signature begins here, after a payload of this length.
@@ -199,7 +208,8 @@ impl<'k, const H: usize, const D: usize> Reader<'k, H, D> {
         }
     }
 
-    /// All bytes are there, and a key was chosen: a tag is compared, and a signature is left to the `EcVerifier`.
+    /// All bytes are there, and a key was chosen: a tag is compared, and a signature is left to the `EcVerifier`. Both are left to
+    /// the caller where the message is authenticated elsewhere.
     fn compare(&mut self, whole: Whole, alg: Alg)
         ensures reads_on { (task : Task) (known : Known) (found : Found) (at : ℕ)
             → Shows task (headers_so_far known.headers known.payload) self.old
@@ -209,8 +219,9 @@ impl<'k, const H: usize, const D: usize> Reader<'k, H, D> {
             → ReaderMeans task known.payload whole.taken self.new (λ more. finish (rules_of H D task)
             known.headers known.chosen known.payload whole.head_at at known.auth whole.taken more) }
     {
+        let is_compared = self.compares(alg);
         self.hashing.finish();
-        if alg.is_mac() {
+        if is_compared {
             let received = self.auth.as_slice();
             let computed = self.hashing.result();
             if same_bytes(received, computed) {

@@ -86,11 +86,11 @@ impl<'k, const H: usize, const D: usize> Reader<'k, H, D> {
     ghost use Rattle.cose_map.specs.Map.Pairs.{Pair};
     ghost use Rattle.cose_msg.specs.Choosing.{choice_of};
     ghost use Rattle.cose_msg.specs.Chosen.{ChoiceIs, chosen_value};
-    ghost use Rattle.cose_msg.specs.Hashing.{HashesFor};
+    ghost use Rattle.cose_msg.specs.Hashing.{HashesFor, is_elsewhere};
     ghost use Rattle.cose_msg.specs.Phases.{both_buckets, headers_so_far, placed_at};
     ghost use Rattle.cose_msg.specs.Reading.{Reading};
     ghost use Rattle.cose_msg.specs.Reader.{Shows, ReaderMeans, task_in};
-    ghost use Rattle.cose_msg.specs.Task.{Task, keys_for, rules_of};
+    ghost use Rattle.cose_msg.specs.Task.{Task, asks, keys_for, rules_of};
 
     /// Puts the key that the buckets choose into its place, if one is to be chosen, and returns whether the protected bucket
     /// has no pair. The contents of both are at these places, and were found good.
@@ -122,10 +122,18 @@ impl<'k, const H: usize, const D: usize> Reader<'k, H, D> {
         }
     }
 
-    /// Begins the hash over the structure, where a key was chosen.
-    fn begin_hashing<K: Keys<'k>>(keys: Option<&K>, chosen: &Option<Chosen<'k>>) -> Hashing
-        ensures { HashesFor result (option_map chosen_value chosen.now) [] }
+    /// Begins the hash over the structure, where a key was chosen and the message isn't authenticated elsewhere.
+    fn begin_hashing<K: Keys<'k>>(
+        keys: Option<&K>,
+        elsewhere: bool,
+        chosen: &Option<Chosen<'k>>,
+    ) -> Hashing
+        ensures begun { HashesFor result (option_map chosen_value chosen.now) [] }
+        ensures kind { is_elsewhere result ≡ elsewhere }
     {
+        if elsewhere {
+            return Hashing::Elsewhere;
+        }
         match chosen {
             Some(chosen) => Hashing::begin(keys, chosen.alg, secret_of(&chosen.key.material)),
             None => Hashing::Nothing,
@@ -136,6 +144,7 @@ impl<'k, const H: usize, const D: usize> Reader<'k, H, D> {
     pub(crate) fn past_buckets<K: Keys<'k>>(
         &mut self,
         keys: Option<&K>,
+        elsewhere: bool,
         kind: Kind,
         protected_at: u64,
         at: u64,
@@ -143,7 +152,7 @@ impl<'k, const H: usize, const D: usize> Reader<'k, H, D> {
         requires protected_early { protected_at ≤ 36 }
         requires early { at < 2 ^ 17 }
         ensures reads_on { (task : Task) (pairs others : List Pair)
-            → keys_in K.usable keys.entry ≡ keys_for task
+            → keys_in K.usable keys.entry ≡ keys_for task → elsewhere ≡ asks task
             → Shows task (headers_so_far (headers_of kind self.old.protected.items pairs others) [])
             self.old
             → bucket_of D (placed_at protected_at self.old.protected.items) ≡ Ok pairs
@@ -157,7 +166,7 @@ impl<'k, const H: usize, const D: usize> Reader<'k, H, D> {
         let mut chosen = None;
         match self.choose(keys, kind, protected_at, at, &mut chosen) {
             Ok(is_bare) => {
-                self.hashing = Self::begin_hashing(keys, &chosen);
+                self.hashing = Self::begin_hashing(keys, elsewhere, &chosen);
                 self.chosen = chosen;
                 self.begin_payload_head(kind, is_bare, after);
             }

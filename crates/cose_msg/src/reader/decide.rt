@@ -23,7 +23,7 @@ impl<'k, const H: usize, const D: usize> Reader<'k, H, D> {
     ghost use Rattle.cose_msg.specs.Shown.{shown_by, shown_in, sign_input_by};
     ghost use Rattle.cose_msg.specs.declared.status.Status.{Status};
     ghost use Rattle.cose_msg.specs.Status.{is_open, status_of_phase, status_of_reading, status_of_answer};
-    ghost use Rattle.cose_msg.specs.Task.{Task, given_to, to_inspect, to_verify};
+    ghost use Rattle.cose_msg.specs.Task.{Task, asks, given_to, to_inspect, to_verify};
 
     /// The verdict, once it is known.
     pub(crate) fn known_verdict(&self) -> Option<Verdict>
@@ -73,7 +73,7 @@ impl<'k, const H: usize, const D: usize> Reader<'k, H, D> {
         // What it shows so far is what the reading of these bytes shows.
         ensures shows { (task : Task) (payload : List ℕ) (n : ℕ) (reading : List ℕ → Reading)
             → ReaderMeans task payload n self.now reading → given_to payload task ≡ task
-            → shown_by self.now ≡ shown_in task.setting (reading []) }
+            → shown_by self.now ≡ shown_in task (reading []) }
         ensures payload_wanted { (task : Task) (payload : List ℕ) (n : ℕ)
             (reading : List ℕ → Reading) → ReaderMeans task payload n self.now reading
             → given_to payload task ≡ task
@@ -148,7 +148,7 @@ impl<'k, const H: usize, const D: usize> Reader<'k, H, D> {
     fn signed_verdict<E: EcVerifier>(&self, signed: Signed, ec: &E) -> Verdict
         requires phase { self.now.phase ≡ Phase.Signed signed }
         ensures answer { (task : Task) (payload : List ℕ) (n : ℕ) (reading : List ℕ → Reading)
-            → ReaderMeans task payload n self.now reading
+            → asks task ≡ false → ReaderMeans task payload n self.now reading
             → then_verified task.setting.aad (E.decides ec.now) (reading []).answer
             ≡ decided result }
         ensures counted { Counts result signed.taken }

@@ -6,8 +6,11 @@ ghost use Rattle.cose_msg.specs.Phase.{has_signature};
 ghost use Rattle.cose_msg.specs.Shown.{input_value, pairs_at, protected_by, sign_input_by, unprotected_by};
 ghost use Rattle.cose_msg.specs.Reader.{held_by, opened_by};
 
+use crate::front_pieces::FrontPieces;
 use crate::phase::Phase;
+use crate::reader::payload::empty_if;
 use crate::reader::{Place, Reader};
+use cose_mac::Alg;
 use cose_map::{Bucket, Key};
 
 /// The number of bytes that the running hash counts as.
@@ -29,6 +32,15 @@ fn bucket_at(bytes: &[u8], place: Option<Place>, depth: usize) -> Option<Bucket<
 }
 
 impl<'k, const H: usize, const D: usize> Reader<'k, H, D> {
+    ghost use Rattle.std.specs.Prelude.{ℕ, List, [], true, is_some};
+    ghost use Rattle.std.specs.List.{concat};
+    ghost use Rattle.cose_msg.specs.Elsewhere.{AsksKey, HasSignature, IsFrontOf, key_asked};
+    ghost use Rattle.cose_msg.specs.FrontPieces.{pieces_of};
+    ghost use Rattle.cose_msg.specs.Phase.{asks_signature, frame_of};
+    ghost use Rattle.cose_msg.specs.Reader.{ReaderMeans};
+    ghost use Rattle.cose_msg.specs.Reading.{Reading};
+    ghost use Rattle.cose_msg.specs.Task.{Task, asks};
+
     /// The protected header bucket, once it was found good.
     pub(crate) fn protected(&self) -> Option<Bucket<'_>>
         ensures { option_map bucket_pairs result ≡ protected_by self.now }
@@ -41,6 +53,66 @@ impl<'k, const H: usize, const D: usize> Reader<'k, H, D> {
         ensures { option_map bucket_pairs result ≡ unprotected_by self.now }
     {
         bucket_at(self.unprotected.as_slice(), self.unprotected_at, D)
+    }
+
+    /// The structure that is authenticated before the payload's content, once the payload's head was read.
+    pub(crate) fn front_pieces(&self) -> Option<FrontPieces<'_>>
+        ensures front { IfSome result (λ pieces.
+            (task : Task) (payload : List ℕ) (n : ℕ) (reading : List ℕ → Reading)
+            → ReaderMeans task payload n self.now reading → asks task ≡ true
+            → IsFrontOf task.setting.aad reading (concat (pieces_of pieces))) }
+        ensures some { (task : Task) (payload : List ℕ) (n : ℕ) (reading : List ℕ → Reading)
+            → ReaderMeans task payload n self.now reading → asks task ≡ true
+            → is_some result ≡ is_some (frame_of self.now.phase) }
+    {
+        match self.phase.frame() {
+            Some(frame) => match self.protected() {
+                Some(bucket) => {
+                    let protected = empty_if(bucket.is_empty(), self.protected.as_slice());
+                    Some(FrontPieces::new(frame.kind, protected, self.terms.aad, frame.payload))
+                }
+                None => None,
+            },
+            None => None,
+        }
+    }
+
+    /// The chosen key and its algorithm, once the payload's head was read.
+    pub(crate) fn asked_key(&self) -> Option<(Key<'k>, Alg)>
+        ensures key { IfSome result (λ asked.
+            (task : Task) (payload : List ℕ) (n : ℕ) (reading : List ℕ → Reading)
+            → ReaderMeans task payload n self.now reading → asks task ≡ true
+            → AsksKey reading (key_asked asked)) }
+        ensures some { (task : Task) (payload : List ℕ) (n : ℕ) (reading : List ℕ → Reading)
+            → ReaderMeans task payload n self.now reading → asks task ≡ true
+            → is_some result ≡ is_some (frame_of self.now.phase) }
+    {
+        match self.phase.frame() {
+            Some(_frame) => match &self.chosen {
+                Some(chosen) => Some((chosen.key, chosen.alg)),
+                None => None,
+            },
+            None => None,
+        }
+    }
+
+    /// The signature as received, once all bytes of a COSE_Sign1 are there and until the verdict.
+    pub(crate) fn asked_signature(&self) -> Option<&[u8]>
+        ensures signature { IfSome result (λ signature.
+            (task : Task) (payload : List ℕ) (n : ℕ) (reading : List ℕ → Reading)
+            → ReaderMeans task payload n self.now reading
+            → HasSignature (reading []).answer signature.now) }
+        ensures some { is_some result ≡ asks_signature self.now.phase }
+    {
+        match self.phase {
+            Phase::Signed(signed) => {
+                if signed.alg.is_mac() {
+                    return None;
+                }
+                Some(self.auth.as_slice())
+            }
+            _ => None,
+        }
     }
 
     /// Whether all bytes of a message with a signature are there.
@@ -56,7 +128,7 @@ impl<'k, const H: usize, const D: usize> Reader<'k, H, D> {
         ensures digest { IfSome result (λ input. length input.1.now ≤ 64) }
         ensures signature { IfSome result (λ input. length input.2.now ≤ 132) }
     {
-        if !self.has_signature() {
+        if !self.has_signature() || self.hashing.is_elsewhere() {
             return None;
         }
         match &self.chosen {

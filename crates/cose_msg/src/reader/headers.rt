@@ -50,7 +50,7 @@ impl<'k, const H: usize, const D: usize> Reader<'k, H, D> {
     ghost use Rattle.cose_map.specs.Map.Pairs.{Pair};
     ghost use Rattle.cose_msg.specs.Phases.{nothing_so_far, past_protected, past_protected_head, past_unprotected, placed_at, protected_head, protected_fault_within, protected_so_far, unprotected};
     ghost use Rattle.cose_msg.specs.Reading.{Reading};
-    ghost use Rattle.cose_msg.specs.Task.{Task, keys_for, rules_of};
+    ghost use Rattle.cose_msg.specs.Task.{Task, asks, keys_for, rules_of};
     ghost use Rattle.cose_msg.specs.Reader.{Shows, ReaderMeans, keys_in};
 
     /// The head of the protected bucket begins here.
@@ -182,6 +182,7 @@ impl<'k, const H: usize, const D: usize> Reader<'k, H, D> {
     fn past_unprotected<K: Keys<'k>>(
         &mut self,
         keys: Option<&K>,
+        elsewhere: bool,
         kind: Kind,
         protected_at: u64,
         at: u64,
@@ -189,7 +190,7 @@ impl<'k, const H: usize, const D: usize> Reader<'k, H, D> {
         requires protected_early { protected_at ≤ 36 }
         requires early { at < 2 ^ 17 }
         ensures reads_on { (task : Task) (pairs : List Pair)
-            → keys_in K.usable keys.entry ≡ keys_for task
+            → keys_in K.usable keys.entry ≡ keys_for task → elsewhere ≡ asks task
             → Shows task (protected_so_far pairs) self.old
             → bucket_of D (placed_at protected_at self.old.protected.items) ≡ Ok pairs
             → ReaderMeans task [] (at + length self.old.unprotected.items) self.new
@@ -200,7 +201,7 @@ impl<'k, const H: usize, const D: usize> Reader<'k, H, D> {
             Some(refusal) => self.refuse(refusal.reason, refusal.place),
             None => {
                 self.unprotected_at = Some(Place { at });
-                self.past_buckets(keys, kind, protected_at, at);
+                self.past_buckets(keys, elsewhere, kind, protected_at, at);
             }
         }
     }
@@ -212,12 +213,13 @@ impl<'k, const H: usize, const D: usize> Reader<'k, H, D> {
         unprotected: Unprotected,
         piece: &[u8],
         keys: Option<&K>,
+        elsewhere: bool,
     )
         requires phase { self.old.phase ≡ Phase.Unprotected unprotected }
         requires some { 0 < length piece.now }
         requires fits { length piece.now ≤ unprotected.wanted }
         ensures reads_on { (task : Task) (payload : List ℕ) (n : ℕ) (reading : List ℕ → Reading)
-            → keys_in K.usable keys.entry ≡ keys_for task
+            → keys_in K.usable keys.entry ≡ keys_for task → elsewhere ≡ asks task
             → ReaderMeans task payload n self.old reading
             → ReaderMeans task payload (n + length piece.now) self.new (λ more. reading (piece.now ++
             more)) }
@@ -237,9 +239,13 @@ impl<'k, const H: usize, const D: usize> Reader<'k, H, D> {
                     wanted: self.walker.want() as u64,
                 });
             }
-            Step::Done => {
-                self.past_unprotected(keys, unprotected.kind, unprotected.protected_at, at)
-            }
+            Step::Done => self.past_unprotected(
+                keys,
+                elsewhere,
+                unprotected.kind,
+                unprotected.protected_at,
+                at,
+            ),
             Step::Fault(refusal) => self.refuse(refusal.reason, at.saturating_add(refusal.place)),
         }
     }

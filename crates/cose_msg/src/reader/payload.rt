@@ -49,7 +49,7 @@ fn fault_of_nil(head: &Head, stated: u64, limit: u64) -> Option<Reason>
 }
 
 /// The bytes, or none.
-fn empty_if(is_bare: bool, bytes: &[u8]) -> &[u8]
+pub(crate) fn empty_if(is_bare: bool, bytes: &[u8]) -> &[u8]
     ensures { result.now ≡ (if is_bare then [] else bytes.now) }
 {
     if is_bare {

@@ -26,11 +26,11 @@ fn kept<A: Copy>(stopped: bool, answer: Option<A>) -> Option<Result<A, Stop>>
     }
 }
 
-/// The keys of which one is chosen: none where a message is only inspected.
-fn keys_to_choose_from<'k, K: Keys<'k>>(keys: &K, inspecting: bool) -> Option<&K>
-    ensures { keys_in K.usable result ≡ (if inspecting then None else Some (K.usable keys.now)) }
+/// The keys of which one is chosen, unless none is.
+fn keys_to_choose_from<'k, K: Keys<'k>>(keys: &K, keyless: bool) -> Option<&K>
+    ensures { keys_in K.usable result ≡ (if keyless then None else Some (K.usable keys.now)) }
 {
-    if inspecting {
+    if keyless {
         return None;
     }
     Some(keys)
@@ -95,8 +95,10 @@ impl<'k, const H: usize, const D: usize, S: Keys<'k>> Verifier<'k, H, D, S> {
             HasTaken task (taken ++ piece.now)
             (grown self.old.reader.phase payload_so_far piece.now) self.new) }
     {
-        let keys = keys_to_choose_from(&self.keys, self.inspecting);
-        self.reader.advance(piece, keys, self.stated);
+        let elsewhere = self.is_elsewhere();
+        let keyless = self.is_keyless();
+        let keys = keys_to_choose_from(&self.keys, keyless);
+        self.reader.advance(piece, keys, elsewhere, self.stated);
         self.reader.lemma_bounded();
         self.taken += piece.len() as u64;
     }
@@ -110,11 +112,13 @@ impl<'k, const H: usize, const D: usize, S: Keys<'k>> Verifier<'k, H, D, S> {
         ensures early { result ≡ true → self.now.taken < 2 ^ 57 }
         ensures goes_on { result ≡ true → self.now.stopped ≡ false }
     {
-        0 < count
-            && self.reader.is_in_payload()
-            && (count as u64) < self.reader.wanted()
-            && self.taken < MESSAGE_LIMIT
-            && !self.stopped
+        if self.stopped {
+            return false;
+        }
+        if self.taken >= MESSAGE_LIMIT {
+            return false;
+        }
+        self.reader.has_more_payload_than(count)
     }
 
     /// Takes a piece that ends before the payload does, and counts it.

@@ -14,13 +14,13 @@ use Rattle.cose_msg.specs.Choosing.{choice_of, refused_at}
 use Rattle.cose_msg.specs.Message.{Setting, as_choice, found_key}
 use Rattle.cose_msg.specs.Phases.{both_buckets, headers_so_far, payload_head}
 use Rattle.cose_msg.specs.Reading.{stop}
-use Rattle.cose_msg.specs.Task.{Task, choice_among, choice_for, keys_for, rules_of}
+use Rattle.cose_msg.specs.Task.{Task, choice_among, choice_for, keys_for, rules_of, is_keyless}
 
 module _ (room nesting : ℕ) (task : Task) (headers : Headers) (place : ℕ) where
   fault : Option Refusal
   fault = pair_fault headers.protected_pairs headers.unprotected_pairs task.setting.understood place
 
-  finds_key : (choice : Result (Option Chosen) Reason) (chosen : Option Chosen) → fault ≡ None → choice_for task.inspects task.setting headers ≡ choice → refused_at place choice ≡ Ok chosen
+  finds_key : (choice : Result (Option Chosen) Reason) (chosen : Option Chosen) → fault ≡ None → choice_for (is_keyless task) task.setting headers ≡ choice → refused_at place choice ≡ Ok chosen
       → (z : List ℕ) → both_buckets (rules_of room nesting task) headers place z ≡ payload_head (rules_of room nesting task) headers chosen place z
   unfolding fault
   finds_key (Ok other) chosen f k is z = let same : other ≡ chosen = cc in rw (f, k, same) refl
@@ -29,14 +29,14 @@ module _ (room nesting : ℕ) (task : Task) (headers : Headers) (place : ℕ) wh
   finds : (found : Option Refusal) (chosen : Option Chosen) → fault ≡ found → choice_of task headers place ≡ Ok chosen
       → (z : List ℕ) → both_buckets (rules_of room nesting task) headers place z ≡ payload_head (rules_of room nesting task) headers chosen place z
   unfolding fault choice_of
-  finds None chosen f is z = finds_key (choice_for task.inspects task.setting headers) chosen f refl (rw f at is) z
+  finds None chosen f is z = finds_key (choice_for (is_keyless task) task.setting headers) chosen f refl (rw f at is) z
   finds (Some refusal) chosen f is z = absurd (let both = rw f at is in cc)
 
   pub choice_finds : (chosen : Option Chosen) → choice_of task headers place ≡ Ok chosen
       → (z : List ℕ) → both_buckets (rules_of room nesting task) headers place z ≡ payload_head (rules_of room nesting task) headers chosen place z
   choice_finds chosen is z = finds fault chosen refl is z
 
-  refuses_key : (choice : Result (Option Chosen) Reason) (refusal : Refusal) → fault ≡ None → choice_for task.inspects task.setting headers ≡ choice → refused_at place choice ≡ Err refusal
+  refuses_key : (choice : Result (Option Chosen) Reason) (refusal : Refusal) → fault ≡ None → choice_for (is_keyless task) task.setting headers ≡ choice → refused_at place choice ≡ Err refusal
       → (z : List ℕ) → both_buckets (rules_of room nesting task) headers place z ≡ stop (headers_so_far headers []) refusal.reason refusal.place
   unfolding fault
   refuses_key (Ok other) refusal f k is z = absurd cc
@@ -45,7 +45,7 @@ module _ (room nesting : ℕ) (task : Task) (headers : Headers) (place : ℕ) wh
   refuses : (found : Option Refusal) (refusal : Refusal) → fault ≡ found → choice_of task headers place ≡ Err refusal
       → (z : List ℕ) → both_buckets (rules_of room nesting task) headers place z ≡ stop (headers_so_far headers []) refusal.reason refusal.place
   unfolding fault choice_of
-  refuses None refusal f is z = refuses_key (choice_for task.inspects task.setting headers) refusal f refl (rw f at is) z
+  refuses None refusal f is z = refuses_key (choice_for (is_keyless task) task.setting headers) refusal f refl (rw f at is) z
   refuses (Some other) refusal f is z = let same : other ≡ refusal = (let both = rw f at is in cc) in rw (f, same) refl
 
   pub choice_refuses : (refusal : Refusal) → choice_of task headers place ≡ Err refusal
@@ -57,8 +57,8 @@ chosen_for : (inspects : Bool) (setting : Setting) (headers : Headers) → choic
 chosen_for true setting headers = refl
 chosen_for false setting headers = refl
 
-pub chosen_among : (task : Task) (keys : Option (List KeyValue)) (headers : Headers) → keys ≡ keys_for task → choice_for task.inspects task.setting headers ≡ choice_among keys headers
-chosen_among task keys headers same = rw same (chosen_for task.inspects task.setting headers)
+pub chosen_among : (task : Task) (keys : Option (List KeyValue)) (headers : Headers) → keys ≡ keys_for task → choice_for (is_keyless task) task.setting headers ≡ choice_among keys headers
+chosen_among task keys headers same = rw same (chosen_for (is_keyless task) task.setting headers)
 
 -- A key is chosen exactly where a message isn't only inspected.
 chosen_is_key : (found : Result Chosen Reason) (chosen : Option Chosen) → as_choice found ≡ Ok chosen → is_none chosen ≡ false
@@ -81,12 +81,12 @@ past_refused : {A : Type 0} (place : ℕ) (choice : Result A Reason) (x : A) →
 past_refused place (Ok y) x e = let same : y ≡ x = cc in rw same refl
 past_refused place (Err reason) x e = absurd cc
 
-key_among : (task : Task) (headers : Headers) (place : ℕ) (found : Option Refusal) (chosen : Option Chosen) → pair_fault headers.protected_pairs headers.unprotected_pairs task.setting.understood place ≡ found → choice_of task headers place ≡ Ok chosen → is_none chosen ≡ task.inspects
+key_among : (task : Task) (headers : Headers) (place : ℕ) (found : Option Refusal) (chosen : Option Chosen) → pair_fault headers.protected_pairs headers.unprotected_pairs task.setting.understood place ≡ found → choice_of task headers place ≡ Ok chosen → is_none chosen ≡ is_keyless task
 unfolding choice_of
-key_among task headers place None chosen f is = key_if_verified task.inspects task.setting headers chosen (past_refused place (choice_for task.inspects task.setting headers) chosen (rw f at is))
+key_among task headers place None chosen f is = key_if_verified (is_keyless task) task.setting headers chosen (past_refused place (choice_for (is_keyless task) task.setting headers) chosen (rw f at is))
 key_among task headers place (Some refusal) chosen f is = absurd (let both = rw f at is in cc)
 
-pub chooses_if_verified : (task : Task) (headers : Headers) (place : ℕ) (chosen : Option Chosen) → choice_of task headers place ≡ Ok chosen → is_none chosen ≡ task.inspects
+pub chooses_if_verified : (task : Task) (headers : Headers) (place : ℕ) (chosen : Option Chosen) → choice_of task headers place ≡ Ok chosen → is_none chosen ≡ is_keyless task
 chooses_if_verified task headers place chosen is = key_among task headers place (pair_fault headers.protected_pairs headers.unprotected_pairs task.setting.understood place) chosen refl is
 
 -- What the code's choice ensures of the definition's.

@@ -7,7 +7,7 @@ use Rattle.cose_map.specs.Map.Read.{Read}
 use Rattle.cose_map.specs.Bucket.Both.{pair_fault}
 use Rattle.cose_msg.specs.Answer.{Chosen, Headers}
 use Rattle.cose_msg.specs.Choosing.{choice_of}
-use Rattle.cose_msg.specs.Task.{Task, choice_for}
+use Rattle.cose_msg.specs.Task.{Task, choice_for, is_keyless}
 
 -- a bucket that is read again, which had no fault
 pub same_pairs : (x y : List Pair) → ◌≡◌ {A = Read (List Pair)} (Ok x) (Ok y) → x ≡ y
@@ -21,10 +21,10 @@ module _ (task : Task) (headers : Headers) (place : ℕ) where
   unfolding choice_of
   pair_refused refusal f = rw f refl
 
-  pub key_refused : (reason : Reason) → pair_fault headers.protected_pairs headers.unprotected_pairs task.setting.understood place ≡ None → choice_for task.inspects task.setting headers ≡ Err reason → choice_of task headers place ≡ Err (record { reason = reason; place = place })
+  pub key_refused : (reason : Reason) → pair_fault headers.protected_pairs headers.unprotected_pairs task.setting.understood place ≡ None → choice_for (is_keyless task) task.setting headers ≡ Err reason → choice_of task headers place ≡ Err (record { reason = reason; place = place })
   unfolding choice_of
   key_refused reason f k = rw (f, k) refl
 
-  pub key_found : (chosen : Option Chosen) → pair_fault headers.protected_pairs headers.unprotected_pairs task.setting.understood place ≡ None → choice_for task.inspects task.setting headers ≡ Ok chosen → choice_of task headers place ≡ Ok chosen
+  pub key_found : (chosen : Option Chosen) → pair_fault headers.protected_pairs headers.unprotected_pairs task.setting.understood place ≡ None → choice_for (is_keyless task) task.setting headers ≡ Ok chosen → choice_of task headers place ≡ Ok chosen
   unfolding choice_of
   key_found chosen f k = rw (f, k) refl

@@ -20,6 +20,7 @@ use Rattle.cose_msg.specs.declared.reader.Place.{Place}
 use Rattle.cose_msg.specs.declared.reader.Reader.{Reader}
 use Rattle.cose_msg.specs.Answer.{Answer, Chosen, Whole, complete, decided, refused}
 use Rattle.cose_msg.specs.Chosen.{chosen_value}
+use Rattle.cose_msg.specs.Elsewhere.{Authenticates, HasSignature, authenticated, then_authenticated}
 use Rattle.cose_msg.specs.Hashing.{authenticator, result_of}
 use Rattle.cose_msg.specs.Kept.{inspected_in, refusal_in, verdict_in}
 use Rattle.cose_msg.specs.Laws.{then_verified}
@@ -28,9 +29,9 @@ use Rattle.cose_msg.specs.Phase.{awaits_decision, ends_at, is_settled}
 use Rattle.cose_msg.specs.Phases.{headers_so_far}
 use Rattle.cose_msg.specs.Reading.{Reading, Findings, settled}
 use Rattle.cose_msg.specs.Run.{SaysCount, inspection}
-use Rattle.cose_msg.specs.Shown.{SignInput, Shown, held_input, input_in, pairs_at, shown_in, shown_by, sign_input_in}
+use Rattle.cose_msg.specs.Shown.{SignInput, Shown, held_input, input_in, pairs_at, shown_in, shown_by, sign_input_for}
 use Rattle.cose_msg.specs.Status.{is_open, status_of_phase}
-use Rattle.cose_msg.specs.Task.{Task, given_to, rules_of, to_inspect, to_verify}
+use Rattle.cose_msg.specs.Task.{Task, asks, given_to, rules_of, to_inspect, to_verify, to_verify_elsewhere}
 use Rattle.cose_msg.specs.Reader.{Counts, HoldsBucket, HoldsIn, IsSigned, Known, ReaderMeans, is_authentic, left_in, whole_of}
 use Rattle.cose_msg.proofs.lemmas.Deciding.PhaseCases.{unsettled_ends}
 use Rattle.cose_msg.proofs.lemmas.Reader.Unsettled.{IsNow, ItemWaits, awaiting_in, came_known, here, ends_in, truncated_in}
@@ -71,19 +72,40 @@ module _ {H D : ℕ} {task : Task} {B : List ℕ} {n : ℕ} {v : Reader H D} {re
   unfolding whole
   read_whole = h.left [] ∙ ap (λ (phase : Phase). left_in (rules_of H D task) h.known h.so_far v phase []) e
 
-  pub signed_answer : (decides : Decides) (chosen : code.Chosen) → v.chosen ≡ Some chosen → (holds : Bool) →
+  pub signed_answer : asks task ≡ false → (decides : Decides) (chosen : code.Chosen) → v.chosen ≡ Some chosen → (holds : Bool) →
       holds ≡ decides (key_value chosen.key) (result_of v.hashing) v.auth.items → then_verified task.setting.aad decides (reading []).answer ≡ decision p holds
   unfolding whole
-  signed_answer decides chosen is holds asked =
+  signed_answer is_here decides chosen is holds asked =
       let s : IsSigned task h.known v.chosen v.hashing v.auth.items p = signed_in in
       let key : chosen_value chosen ≡ s.found = some_is v.chosen chosen s.found is s.key_is in
       let key_is : s.found.key ≡ key_value chosen.key = sym (ap (λ (c : Chosen). c.key) key) in
-      let digest : digest_signed task.setting.aad s.found whole ≡ result_of v.hashing = no_mac s.found p.alg (structure task.setting.aad h.known.headers h.known.payload) (result_of v.hashing) s.alg_is s.no_tag s.digest_is in
+      let digest : digest_signed task.setting.aad s.found whole ≡ result_of v.hashing = no_mac s.found p.alg (structure task.setting.aad h.known.headers h.known.payload) (result_of v.hashing) s.alg_is (s.no_tag is_here) (s.digest_is is_here) in
       let answer : then_verified task.setting.aad decides (reading []).answer ≡ verified task.setting.aad decides h.known.chosen (complete whole) = ap (λ (r : Reading). then_verified task.setting.aad decides r.answer) read_whole in
       let found : verified task.setting.aad decides h.known.chosen (complete whole) ≡ judged (decides s.found.key (digest_signed task.setting.aad s.found whole) h.known.auth) s.found whole = ap (λ (c : Option Chosen). verified task.setting.aad decides c (complete whole)) s.chosen_is in
       let so_far : judged (decides s.found.key (digest_signed task.setting.aad s.found whole) h.known.auth) s.found whole ≡ judged holds s.found whole = ap (λ (b : Bool). judged b s.found whole)
       (ap (λ (key : KeyValue). decides key (digest_signed task.setting.aad s.found whole) h.known.auth) key_is ∙ ap (λ (d : List ℕ). decides (key_value chosen.key) d h.known.auth) digest ∙ ap (λ (auth : List ℕ). decides (key_value chosen.key) (result_of v.hashing) auth) (sym s.auth_is) ∙ sym asked) in
       answer ∙ found ∙ so_far ∙ said_as p holds s.found whole s.kind_is s.alg_is s.payload_is refl refl
+
+  -- The same by what the caller states.
+  pub stated_decides : (holds : Authenticates) (said : Bool) → ((found : Chosen) (message : List ℕ) → found.alg ≡ p.alg → said ≡ holds found message v.auth.items) →
+      then_authenticated task.setting.aad holds (reading []).answer ≡ decision p said
+  unfolding whole
+  stated_decides holds said told =
+      let s : IsSigned task h.known v.chosen v.hashing v.auth.items p = signed_in in
+      let message : List ℕ = structure task.setting.aad h.known.headers h.known.payload in
+      let answer : then_authenticated task.setting.aad holds (reading []).answer ≡ authenticated task.setting.aad holds h.known.chosen whole = ap (λ (r : Reading). then_authenticated task.setting.aad holds r.answer) read_whole in
+      let found : authenticated task.setting.aad holds h.known.chosen whole ≡ judged (holds s.found (structure task.setting.aad h.known.headers h.known.payload) h.known.auth) s.found whole = ap (λ (c : Option Chosen). authenticated task.setting.aad holds c whole) s.chosen_is in
+      let same : holds s.found message h.known.auth ≡ said = ap (holds s.found message) (sym s.auth_is) ∙ sym (told s.found message s.alg_is) in
+      answer ∙ found ∙ ap (λ (b : Bool). judged b s.found whole) same ∙ said_as p said s.found whole s.kind_is s.alg_is s.payload_is refl refl
+
+  -- The signature that is held.
+  pub signature_is : HasSignature (reading []).answer v.auth.items
+  unfolding whole
+  signature_is other is =
+      let s : IsSigned task h.known v.chosen v.hashing v.auth.items p = signed_in in
+      let both : complete whole ≡ complete other = sym (ap (λ (r : Reading). r.answer) read_whole) ∙ is in
+      let same : whole ≡ other = cc in
+      s.auth_is ∙ ap (λ (w : Whole). w.auth) same
 
   -- There is a key.
   pub signed_has_key : (chosen : code.Chosen) × (v.chosen ≡ Some chosen)
@@ -155,11 +177,15 @@ reads_on_inspected {H} {D} {task} {B} {n} {v} {reading} shown h e =
 
 -- ---- no answer yet
 
-module _ {H D : ℕ} (setting : Setting) (known : Known) (so_far : Findings) (n : ℕ) (v : Reader H D) where
-  open_without_verdict : (phase : Phase) → HoldsIn (to_verify setting) known so_far n v phase → verdict_in phase ≡ None → awaits_decision phase ≡ false → is_open (status_of_phase phase) ≡ true
+-- A message of which no shape is given.
+abbrev pub Shapeless : Task → Type 0
+Shapeless task = task.inspects ≡ true → task.setting.elsewhere ≡ false → ⊥
+
+module _ {H D : ℕ} (task : Task) (shapeless : Shapeless task) (known : Known) (so_far : Findings) (n : ℕ) (v : Reader H D) where
+  open_without_verdict : (phase : Phase) → HoldsIn task known so_far n v phase → verdict_in phase ≡ None → awaits_decision phase ≡ false → is_open (status_of_phase phase) ≡ true
   open_without_verdict (phases.Settled verdict) h none e = absurd cc
   open_without_verdict (phases.Decided verdict) h none e = absurd h
-  open_without_verdict (phases.Shaped p) h none e = let clash : false ≡ true = h.1 in absurd cc
+  open_without_verdict (phases.Shaped p) h none e = absurd (shapeless h.1 h.2)
   open_without_verdict (phases.Signed p) h none e = absurd cc
   open_without_verdict phases.FirstHead h none e = refl
   open_without_verdict (phases.TagHead p) h none e = refl
@@ -173,6 +199,7 @@ module _ {H D : ℕ} (setting : Setting) (known : Known) (so_far : Findings) (n 
   open_without_verdict (phases.AuthHead p) h none e = refl
   open_without_verdict (phases.Auth p) h none e = refl
 
+module _ {H D : ℕ} (setting : Setting) (known : Known) (so_far : Findings) (n : ℕ) (v : Reader H D) where
   not_authentic : (verdict : Verdict) → Counts verdict n × (is_authentic verdict ≡ true → true ≡ false) → refusal_in verdict ≡ None → ⊥
   not_authentic (Refused refusal) h none = absurd cc
   not_authentic (Authentic kind alg payload taken) h none = let clash : true ≡ false = h.1 refl in absurd cc
@@ -181,7 +208,7 @@ module _ {H D : ℕ} (setting : Setting) (known : Known) (so_far : Findings) (n 
   open_without_shape (phases.Settled verdict) h none = absurd (not_authentic verdict h none)
   open_without_shape (phases.Decided verdict) h none = absurd h
   open_without_shape (phases.Shaped p) h none = absurd cc
-  open_without_shape (phases.Signed p) h none = let clash : true ≡ false = h.2.verifies in absurd cc
+  open_without_shape (phases.Signed p) h none = let clash : true ≡ false = h.2.verifies refl in absurd cc
   open_without_shape phases.FirstHead h none = refl
   open_without_shape (phases.TagHead p) h none = refl
   open_without_shape (phases.ArrayHead p) h none = refl
@@ -194,11 +221,20 @@ module _ {H D : ℕ} (setting : Setting) (known : Known) (so_far : Findings) (n 
   open_without_shape (phases.AuthHead p) h none = refl
   open_without_shape (phases.Auth p) h none = refl
 
-pub reads_on_without_verdict : {H D : ℕ} {setting : Setting} {B : List ℕ} {n : ℕ} {v : Reader H D} {reading : List ℕ → Reading} → ReaderMeans (to_verify setting) B n v reading → verdict_in v.phase ≡ None → awaits_decision v.phase ≡ false → is_open (status_of_phase v.phase) ≡ true
-reads_on_without_verdict {H} {D} {setting} {B} {n} {v} {reading} h none e = open_without_verdict setting h.known h.so_far n v v.phase h.holds none e
+verifies_shapeless : (setting : Setting) → Shapeless (to_verify setting)
+verifies_shapeless setting inspects is_here = let clash : false ≡ true = inspects in cc
 
-pub reads_on_without_shape : {H D : ℕ} {setting : Setting} {B : List ℕ} {n : ℕ} {v : Reader H D} {reading : List ℕ → Reading} → ReaderMeans (to_inspect setting) B n v reading → inspected_in v.phase ≡ None → is_open (status_of_phase v.phase) ≡ true
-reads_on_without_shape {H} {D} {setting} {B} {n} {v} {reading} h none = open_without_shape setting h.known h.so_far n v v.phase h.holds none
+pub reads_on_without_verdict : {H D : ℕ} {setting : Setting} {B : List ℕ} {n : ℕ} {v : Reader H D} {reading : List ℕ → Reading} → ReaderMeans (to_verify setting) B n v reading → verdict_in v.phase ≡ None → awaits_decision v.phase ≡ false → is_open (status_of_phase v.phase) ≡ true
+reads_on_without_verdict {H} {D} {setting} {B} {n} {v} {reading} h none e = open_without_verdict (to_verify setting) (verifies_shapeless setting) h.known h.so_far n v v.phase h.holds none e
+
+away_shapeless : (setting : Setting) → Shapeless (to_verify_elsewhere setting)
+away_shapeless setting inspects is_here = let clash : true ≡ false = is_here in cc
+
+pub reads_on_unstated : (setting : Setting) {H D : ℕ} {B : List ℕ} {n : ℕ} {v : Reader H D} {reading : List ℕ → Reading} → ReaderMeans (to_verify_elsewhere setting) B n v reading → verdict_in v.phase ≡ None → awaits_decision v.phase ≡ false → is_open (status_of_phase v.phase) ≡ true
+reads_on_unstated setting {H} {D} {B} {n} {v} {reading} h none e = open_without_verdict (to_verify_elsewhere setting) (away_shapeless setting) h.known h.so_far n v v.phase h.holds none e
+
+pub reads_on_without_shape : (setting : Setting) {H D : ℕ} {B : List ℕ} {n : ℕ} {v : Reader H D} {reading : List ℕ → Reading} → ReaderMeans (to_inspect setting) B n v reading → inspected_in v.phase ≡ None → is_open (status_of_phase v.phase) ≡ true
+reads_on_without_shape setting {H} {D} {B} {n} {v} {reading} h none = open_without_shape setting h.known h.so_far n v v.phase h.holds none
 
 pub open_shows_no_input : (phase : Phase) (held : Option SignInput) → is_open (status_of_phase phase) ≡ true → input_in phase held ≡ None
 open_shows_no_input phases.FirstHead held e = refl
@@ -250,7 +286,7 @@ reads_on_ended {H} {D} {task} {B} {n} {v} {reading} waits h came e = ap (λ (r :
 
 -- ---- what is shown
 
-bucket_shown : (nesting : ℕ) (so_far : Option (List Pair)) (place : Option Place) (content : List ℕ) → HoldsBucket nesting so_far place content → pairs_at nesting place content ≡ so_far
+pub bucket_shown : (nesting : ℕ) (so_far : Option (List Pair)) (place : Option Place) (content : List ℕ) → HoldsBucket nesting so_far place content → pairs_at nesting place content ≡ so_far
 bucket_shown nesting None place content h = rw h refl
 bucket_shown nesting (Some pairs) (Some place) content h = rw h refl
 bucket_shown nesting (Some pairs) None content h = absurd h
@@ -264,21 +300,22 @@ shown_alike : (p q : Option (List Pair)) (r t : Option (List Pair)) (x y : Optio
 shown_alike p q r t x y m n e f g h = rw (e, f, g, h) refl
 
 module _ {H D : ℕ} (task : Task) (known : Known) (so_far : Findings) (n : ℕ) (v : Reader H D) (waits : ItemWaits v) where
-  open_input : (phase : Phase) → HoldsIn task known so_far n v phase → is_settled phase ≡ false → is_open (status_of_phase phase) ≡ true → input_in phase (held_input v) ≡ sign_input_in task.setting.aad (left task known so_far n v phase).answer
+  open_input : (phase : Phase) → HoldsIn task known so_far n v phase → is_settled phase ≡ false → is_open (status_of_phase phase) ≡ true → input_in phase (held_input v) ≡ sign_input_for (asks task) task.setting.aad (left task known so_far n v phase).answer
   unfolding left here
-  open_input phase h unsettled e = open_shows_no_input phase (held_input v) e ∙ sym (ap (sign_input_in task.setting.aad) (truncated_in task known so_far n v waits phase h unsettled))
+  open_input phase h unsettled e = open_shows_no_input phase (held_input v) e ∙ sym (ap (sign_input_for (asks task) task.setting.aad) (truncated_in task known so_far n v waits phase h unsettled))
 
-  signed_input : (p : Signed) → IsSigned task known v.chosen v.hashing v.auth.items p → held_input v ≡ sign_input_in task.setting.aad (complete (whole_of known p.head_at p.taken))
-  signed_input p s =
-      let digest : digest_signed task.setting.aad s.found (whole_of known p.head_at p.taken) ≡ result_of v.hashing = no_mac s.found p.alg (structure task.setting.aad known.headers known.payload) (result_of v.hashing) s.alg_is s.no_tag s.digest_is in
-      rw (s.key_is, s.chosen_is, digest, s.auth_is) refl
+  signed_input : (elsewhere : Bool) → asks task ≡ elsewhere → (p : Signed) → IsSigned task known v.chosen v.hashing v.auth.items p → held_input v ≡ sign_input_for (asks task) task.setting.aad (complete (whole_of known p.head_at p.taken))
+  signed_input true away p s = rw (s.elsewhere_is, away) refl
+  signed_input false is_here p s =
+      let digest : digest_signed task.setting.aad s.found (whole_of known p.head_at p.taken) ≡ result_of v.hashing = no_mac s.found p.alg (structure task.setting.aad known.headers known.payload) (result_of v.hashing) s.alg_is (s.no_tag is_here) (s.digest_is is_here) in
+      rw (s.elsewhere_is, is_here, s.key_is, s.chosen_is, digest, s.auth_is) refl
 
-  input_shown : (phase : Phase) → HoldsIn task known so_far n v phase → IsNow task known so_far n v waits → input_in phase (held_input v) ≡ sign_input_in task.setting.aad (left task known so_far n v phase).answer
+  input_shown : (phase : Phase) → HoldsIn task known so_far n v phase → IsNow task known so_far n v waits → input_in phase (held_input v) ≡ sign_input_for (asks task) task.setting.aad (left task known so_far n v phase).answer
   unfolding left here
   input_shown (phases.Settled verdict) h now = refl
   input_shown (phases.Shaped p) h now = refl
   input_shown (phases.Decided verdict) h now = absurd h
-  input_shown (phases.Signed p) h now = signed_input p h.2
+  input_shown (phases.Signed p) h now = signed_input (asks task) refl p h.2
   input_shown phases.FirstHead h now = open_input phases.FirstHead h refl refl
   input_shown (phases.TagHead p) h now = open_input (phases.TagHead p) h refl refl
   input_shown (phases.ArrayHead p) h now = open_input (phases.ArrayHead p) h refl refl
@@ -287,11 +324,11 @@ module _ {H D : ℕ} (task : Task) (known : Known) (so_far : Findings) (n : ℕ)
   input_shown (phases.Unprotected p) h now = open_input (phases.Unprotected p) h refl refl
   input_shown (phases.PayloadHead p) h now = open_input (phases.PayloadHead p) h refl refl
   input_shown (phases.Payload p) h now = open_input (phases.Payload p) h refl refl
-  input_shown (phases.Detached p) h now = sym (ap (λ (r : Reading). sign_input_in task.setting.aad r.answer) (awaiting_in task known so_far n v waits p h now []))
+  input_shown (phases.Detached p) h now = sym (ap (λ (r : Reading). sign_input_for (asks task) task.setting.aad r.answer) (awaiting_in task known so_far n v waits p h now []))
   input_shown (phases.AuthHead p) h now = open_input (phases.AuthHead p) h refl refl
   input_shown (phases.Auth p) h now = open_input (phases.Auth p) h refl refl
 
-pub reads_on_shown : {H D : ℕ} {task : Task} {B : List ℕ} {n : ℕ} {v : Reader H D} {reading : List ℕ → Reading} → ItemWaits v → ReaderMeans task B n v reading → given_to B task ≡ task → shown_by v ≡ shown_in task.setting (reading [])
+pub reads_on_shown : {H D : ℕ} {task : Task} {B : List ℕ} {n : ℕ} {v : Reader H D} {reading : List ℕ → Reading} → ItemWaits v → ReaderMeans task B n v reading → given_to B task ≡ task → shown_by v ≡ shown_in task (reading [])
 unfolding left here
 reads_on_shown {H} {D} {task} {B} {n} {v} {reading} waits h came =
     let now = came_known task h.known B h.payload_known came in
@@ -299,5 +336,5 @@ reads_on_shown {H} {D} {task} {B} {n} {v} {reading} waits h came =
     shown_alike _ _ _ _ _ _ _ _
     (bucket_shown D h.so_far.protected v.protected_at v.protected.items h.shows.1 ∙ sym (ap (λ (t : Findings). t.protected) same))
     (bucket_shown D h.so_far.unprotected v.unprotected_at v.unprotected.items h.shows.2 ∙ sym (ap (λ (t : Findings). t.unprotected) same))
-    (input_shown task h.known h.so_far n v waits v.phase h.holds now ∙ sym (ap (λ (r : Reading). sign_input_in task.setting.aad r.answer) (h.left [])))
+    (input_shown task h.known h.so_far n v waits v.phase h.holds now ∙ sym (ap (λ (r : Reading). sign_input_for (asks task) task.setting.aad r.answer) (h.left [])))
     (h.shows.3 ∙ sym (ap (λ (t : Findings). t.open_items) same))

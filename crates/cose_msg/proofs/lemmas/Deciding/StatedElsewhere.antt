@@ -2,6 +2,7 @@
 use Rattle.std.proofs.Common.{◌≡◌, ℕ, Bool, true, false, cond, List, Option, Some, None, refl, sym, ap, ◌∙◌}
 use Rattle.std.proofs.lemmas.Bool.{false_from_ne_true}
 use Rattle.std.proofs.lemmas.Slice.Eq.{bytes_eq-Decides}
+use Rattle.std.specs.Prelude.{◌&&◌}
 use Rattle.std.specs.Str.{bytes_eq}
 use Rattle.cose_head.specs.Algorithm.{is_mac_of}
 use Rattle.cose_msg.specs.Answer.{Answer, Chosen, Whole, decided, complete, shaped}
@@ -62,10 +63,15 @@ stated_answer_is_verdict instance room nesting setting decides bytes holds found
     agree room nesting setting bytes found whole is (stated_answer holds) (authenticates_by authenticator decides) (rw (no_mac, same) refl)
     ∙ sym (instance room nesting setting decides bytes)
 
+and_false : (b : Bool) → (b && false) ≡ false
+and_false true = refl
+and_false false = refl
+
 pub other_mac_is_refused : OtherMacIsRefused
 other_mac_is_refused room nesting setting bytes mac found whole is other =
     let differs : bytes_eq whole.auth mac ≡ false = false_from_ne_true _ (λ e. other (sym ((bytes_eq-Decides whole.auth mac).0 e))) in
-    decided_by room nesting setting bytes found whole is (stated_mac mac) ∙ ap (λ (b : Bool). judged b found whole) differs
+    let refused : (is_mac_of found.alg && bytes_eq whole.auth mac) ≡ false = ap (λ (b : Bool). is_mac_of found.alg && b) differs ∙ and_false (is_mac_of found.alg) in
+    decided_by room nesting setting bytes found whole is (stated_mac mac) ∙ ap (λ (b : Bool). judged b found whole) refused
 
 pub decided_before : VerdictIsInstance → DecidedBefore
 decided_before instance room nesting setting decides holds bytes verdict e =

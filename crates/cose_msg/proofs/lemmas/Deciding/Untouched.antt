@@ -63,7 +63,7 @@ none_kept true answer e = absurd cc
 none_kept false (Some answer) e = absurd cc
 none_kept false None e = (refl, refl)
 
-one_kept : {A : Type 0} (is_stopped : Bool) (answer : Option A) (one : A) → answer_kept is_stopped answer ≡ Some (Ok one) → answer ≡ Some one
+pub one_kept : {A : Type 0} (is_stopped : Bool) (answer : Option A) (one : A) → answer_kept is_stopped answer ≡ Some (Ok one) → answer ≡ Some one
 one_kept true answer one e = absurd cc
 one_kept false (Some answer) one e = cc
 one_kept false None one e = absurd cc

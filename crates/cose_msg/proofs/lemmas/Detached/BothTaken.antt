@@ -28,8 +28,12 @@ use Rattle.cose_msg.proofs.lemmas.Feeding.Statuses.{unsettled_open}
 
 -- ---- rules under which more has come
 
+rules_inspected_for : (H D : ℕ) (came : List ℕ) (setting : Setting) (elsewhere : Bool) → setting.elsewhere ≡ elsewhere → rules_of H D (given_to came (record { setting = setting; inspects = true })) ≡ receiving came (rules_of H D (record { setting = setting; inspects = true }))
+rules_inspected_for H D came setting true e = rw e refl
+rules_inspected_for H D came setting false e = rw e refl
+
 rules_given_for : (H D : ℕ) (came : List ℕ) (setting : Setting) (inspects : Bool) → rules_of H D (given_to came (record { setting = setting; inspects = inspects })) ≡ receiving came (rules_of H D (record { setting = setting; inspects = inspects }))
-rules_given_for H D came setting true = refl
+rules_given_for H D came setting true = rules_inspected_for H D came setting setting.elsewhere refl
 rules_given_for H D came setting false = refl
 
 pub rules_given : (H D : ℕ) (came : List ℕ) (task : Task) → rules_of H D (given_to came task) ≡ receiving came (rules_of H D task)

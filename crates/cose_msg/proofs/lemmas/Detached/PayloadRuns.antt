@@ -119,7 +119,7 @@ module _ {H D : ℕ} {S : Type 0} {K : _} {task : Task} {s B : List ℕ} {beside
 -- What a reader gives, without a further byte, is what the reading gives of the bytes taken.
 pub record IsAsRead {H D : ℕ} {S : Type 0} {K : _} (task : Task) (s B : List ℕ) (v : Verifier H D S K) : Type 0 where
   pub so_far : (message (rules_of H D task) (s ++ [])).so_far.payload ≡ B
-  pub shown : shown_of v ≡ shown_in task.setting (message (rules_of H D task) (s ++ []))
+  pub shown : shown_of v ≡ shown_in task (message (rules_of H D task) (s ++ []))
   pub status : status_of_phase v.reader.phase ≡ status_of_reading (message (rules_of H D task) (s ++ []))
   pub wanted : (message (rules_of H D task) (s ++ [])).payload_wanted ≡ payload_want_of v.reader.phase
 
@@ -128,7 +128,7 @@ module _ {H D : ℕ} {S : Type 0} {K : _} {task : Task} {s B : List ℕ} {v : Ve
   read_payload = ap (λ (t : Reading). t.so_far.payload) (sym (without_more H D task s)) ∙ r.so_far
 
   pub read_shown : ShowsReading task s v
-  read_shown = r.shown ∙ ap (shown_in task.setting) (without_more H D task s)
+  read_shown = r.shown ∙ ap (shown_in task) (without_more H D task s)
 
   pub read_status : status_in v ≡ status_of_reading (message (rules_of H D task) s)
   read_status = rw h.goes_on (r.status ∙ ap status_of_reading (without_more H D task s))

@@ -180,5 +180,5 @@ module _ {H D : ℕ} {S : Type 0} {K : _} {task : Task} {s B piece : List ℕ} {
       let known : (message (rules_of H D task) s).so_far.payload ≡ B = ap (λ (r : Reading). r.so_far.payload) (sym (without_more H D task s)) ∙ before in
       ap (λ (r : Reading). r.so_far.payload) (sym (without_more H D task (s ++ take used piece))) ∙ now ∙ ap (λ (t : List ℕ). t ++ part_of piece from to) (sym known)
 
-pub shows_now : {H D : ℕ} {S : Type 0} {K : _} (task : Task) (bytes : List ℕ) (v : Verifier H D S K) → shown_of v ≡ shown_in task.setting (message (rules_of H D task) (bytes ++ [])) → ShowsReading task bytes v
-shows_now {H} {D} task bytes v e = e ∙ ap (shown_in task.setting) (without_more H D task bytes)
+pub shows_now : {H D : ℕ} {S : Type 0} {K : _} (task : Task) (bytes : List ℕ) (v : Verifier H D S K) → shown_of v ≡ shown_in task (message (rules_of H D task) (bytes ++ [])) → ShowsReading task bytes v
+shows_now {H} {D} task bytes v e = e ∙ ap (shown_in task) (without_more H D task bytes)

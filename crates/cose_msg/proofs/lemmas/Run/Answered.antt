@@ -63,13 +63,13 @@ stopped answer_of {H} {D} {S} {K} {task} rules same {s} {B} {come} {come_after} 
 
 -- Nothing is taken where the message is settled already.
 pub still : {H D : ℕ} {S : Type 0} {K : _} {task : Task} {s B : List ℕ} {v : Verifier H D S K} (come contents : Option (List ℕ)) (ended : Bool) → HasTaken task s B v →
-    (message (rules_of H D task) (s ++ [])).so_far.payload ≡ B → shown_of v ≡ shown_in task.setting (message (rules_of H D task) (s ++ [])) → (message (rules_of H D task) (s ++ [])).settled ≡ true →
+    (message (rules_of H D task) (s ++ [])).so_far.payload ≡ B → shown_of v ≡ shown_in task (message (rules_of H D task) (s ++ [])) → (message (rules_of H D task) (s ++ [])).settled ≡ true →
     TakesMessage task s B come come ended contents contents None v
 still {H} {D} {S} {K} {task} {s} {B} {v} come contents ended h so_far shown done =
     let reads : message (rules_of H D task) ((s ++ []) ++ []) ≡ message (rules_of H D task) (s ++ []) = without_more H D task (s ++ []) in
     let settled_now : (message (rules_of H D task) ((s ++ []) ++ [])).settled ≡ true = ap (λ (r : Reading). r.settled) reads ∙ done in
     let start : Along task s B come come ended contents contents 0 0 v = at_start come contents ended 0 h in
-    concluded start (Consumes-nil come) (ap (λ (r : Reading). r.so_far.payload) reads ∙ so_far ∙ sym (append-nil B)) (shown ∙ ap (shown_in task.setting) (sym reads)) (λ e. let clash : true ≡ false = sym settled_now ∙ e in absurd cc) (λ e lt. absurd (omega arith))
+    concluded start (Consumes-nil come) (ap (λ (r : Reading). r.so_far.payload) reads ∙ so_far ∙ sym (append-nil B)) (shown ∙ ap (shown_in task) (sym reads)) (λ e. let clash : true ≡ false = sym settled_now ∙ e in absurd cc) (λ e lt. absurd (omega arith))
 
 -- ---- a verdict
 
@@ -97,8 +97,9 @@ module _ {H D : ℕ} {S : Type 0} {K : _} {setting : Setting} {s B : List ℕ} {
       let run : Run (verifying H D setting decides) decided s B come come_after ended contents contents_after (Ok k.answer) d.taken = verdict_run goes_last inside fair decides k.answer d (ap (then_verified setting.aad decides) st.0) st.2 in
       subst (λ (r : Result Verdict Stop). Run (verifying H D setting decides) decided s B come come_after ended contents contents_after r d.taken) (sym k.result_is) run
 
-  -- ---- an inspection
+-- ---- an inspection
 
+module _ (setting : Setting) {H D : ℕ} {S : Type 0} {K : _} {s B : List ℕ} {come come_after contents contents_after : Option (List ℕ)} {ended : Bool} {v : Verifier H D S K} where
   pub inspection_run : MessageIsPlacedInside → AllAreFair → (shown : Inspected) (d : TakesMessage (to_inspect setting) s B come come_after ended contents contents_after None v) →
       (message (inspecting H D setting) ((s ++ d.taken) ++ [])).answer ≡ inspection shown → SaysCount (inspection shown) v.taken →
       Run (inspecting H D setting) inspection s B come come_after ended contents contents_after (Ok shown) d.taken
@@ -123,8 +124,8 @@ kept_verdict_settles {H} {D} {S} {K} {setting} {s} {B} {v} result h kept =
     let k : IsKept (verdict_in v.reader.phase) result = kept_by (verdict_in v.reader.phase) result going in
     (reads_on_with_verdict k.answer (counted_meaning h) k.kept_is).1
 
-pub kept_inspection_settles : {H D : ℕ} {S : Type 0} {K : _} {setting : Setting} {s B : List ℕ} {v : Verifier H D S K} (result : Result Inspected Stop) → HasTaken (to_inspect setting) s B v → answer_kept v.stopped (inspected_in v.reader.phase) ≡ Some result → IsDone (message (rules_of H D (to_inspect setting)) (s ++ []))
-kept_inspection_settles {H} {D} {S} {K} {setting} {s} {B} {v} result h kept =
+pub kept_inspection_settles : (setting : Setting) {H D : ℕ} {S : Type 0} {K : _} {s B : List ℕ} {v : Verifier H D S K} (result : Result Inspected Stop) → HasTaken (to_inspect setting) s B v → answer_kept v.stopped (inspected_in v.reader.phase) ≡ Some result → IsDone (message (rules_of H D (to_inspect setting)) (s ++ []))
+kept_inspection_settles setting {H} {D} {S} {K} {s} {B} {v} result h kept =
     let going : answer_kept false (inspected_in v.reader.phase) ≡ Some result = rw h.goes_on at kept in
     let k : IsKept (inspected_in v.reader.phase) result = kept_by (inspected_in v.reader.phase) result going in
     (reads_on_inspected k.answer (counted_meaning h) k.kept_is).1

@@ -18,7 +18,7 @@ use Rattle.cose_msg.specs.declared.verifier.Verifier.{Verifier}
 use Rattle.cose_msg.specs.Intake.{KeepsOrForgets, TakesInAll, is_end, marks}
 use Rattle.cose_msg.specs.Kept.{HasTaken, answer_kept}
 use Rattle.cose_msg.specs.Laws.{MessageIsInspectedWithin, VerifiedWithin, payload_inside}
-use Rattle.cose_msg.specs.Message.{Setting, comparing, message}
+use Rattle.cose_msg.specs.Message.{Setting, comparing, message, uncompared}
 use Rattle.cose_msg.specs.Phase.{grown, in_payload, is_settled, want_of}
 use Rattle.cose_msg.specs.Reading.{Reading, Findings}
 use Rattle.cose_msg.specs.Run.{TakesMessage}
@@ -215,12 +215,12 @@ goes_on {H} {D} {S} {K} {task} {s} {B} {come} {come_now} {come_after} {contents}
 -- ---- exits
 
 -- What the reading of the bytes gives that were taken in all.
-shown_of_all : {H D : ℕ} {S : Type 0} {K : _} (task : Task) (v : Verifier H D S K) (bytes all : List ℕ) → bytes ≡ all → shown_of v ≡ shown_in task.setting (message (rules_of H D task) (bytes ++ [])) → ShowsReading task all v
-shown_of_all {H} {D} task v bytes all same h = subst (λ (b : List ℕ). ShowsReading task b v) same (h ∙ ap (shown_in task.setting) (without_more H D task bytes))
+shown_of_all : {H D : ℕ} {S : Type 0} {K : _} (task : Task) (v : Verifier H D S K) (bytes all : List ℕ) → bytes ≡ all → shown_of v ≡ shown_in task (message (rules_of H D task) (bytes ++ [])) → ShowsReading task all v
+shown_of_all {H} {D} task v bytes all same h = subst (λ (b : List ℕ). ShowsReading task b v) same (h ∙ ap (shown_in task) (without_more H D task bytes))
 
 -- Nothing more is wanted, or the intake has ended.
 pub concluded : {H D : ℕ} {S : Type 0} {K : _} {task : Task} {s B : List ℕ} {come come_now come_after contents contents_now : Option (List ℕ)} {ended ended_after : Bool} {sure sure_now : ℕ} {v : Verifier H D S K} → (a : Along task s B come come_now ended contents contents_now sure sure_now v) →
-    Consumes come_now come_after [] → (message (rules_of H D task) ((s ++ a.taken) ++ [])).so_far.payload ≡ B ++ a.part → shown_of v ≡ shown_in task.setting (message (rules_of H D task) ((s ++ a.taken) ++ [])) →
+    Consumes come_now come_after [] → (message (rules_of H D task) ((s ++ a.taken) ++ [])).so_far.payload ≡ B ++ a.part → shown_of v ≡ shown_in task (message (rules_of H D task) ((s ++ a.taken) ++ [])) →
     ((message (rules_of H D task) ((s ++ a.taken) ++ [])).settled ≡ false → (ended_after ≡ true) × IsAtEnd come_after) → ((message (rules_of H D task) ((s ++ a.taken) ++ [])).settled ≡ true → 0 < length a.taken → ended_after ≡ false) →
     TakesMessage task s B come come_after ended_after contents contents_now None v
 concluded {H} {D} {S} {K} {task} {s} {B} {come} {come_now} {come_after} {contents} {contents_now} {ended} {ended_after} {sure} {sure_now} {v} a took so_far shown not_yet once =
@@ -242,7 +242,7 @@ concluded {H} {D} {S} {K} {task} {s} {B} {come} {come_now} {come_after} {content
 
 -- A failed intake.
 pub stopped_by_intake : {H D : ℕ} {S : Type 0} {K : _} {task : Task} {s B : List ℕ} {come come_now come_after contents contents_now : Option (List ℕ)} {ended ended_after : Bool} {sure sure_now : ℕ} {v next : Verifier H D S K} → (a : Along task s B come come_now ended contents contents_now sure sure_now v) →
-    KeepsOrForgets come_now come_after → (message (rules_of H D task) ((s ++ a.taken) ++ [])).so_far.payload ≡ B ++ a.part → shown_of v ≡ shown_in task.setting (message (rules_of H D task) ((s ++ a.taken) ++ [])) → (message (rules_of H D task) ((s ++ a.taken) ++ [])).settled ≡ false →
+    KeepsOrForgets come_now come_after → (message (rules_of H D task) ((s ++ a.taken) ++ [])).so_far.payload ≡ B ++ a.part → shown_of v ≡ shown_in task (message (rules_of H D task) ((s ++ a.taken) ++ [])) → (message (rules_of H D task) ((s ++ a.taken) ++ [])).settled ≡ false →
     next.taken ≡ v.taken → shown_of next ≡ shown_of v → TakesMessage task s B come come_after ended_after contents contents_now (Some stops.Intake) next
 stopped_by_intake {H} {D} {S} {K} {task} {s} {B} {come} {come_now} {come_after} {contents} {contents_now} {ended} {ended_after} {sure} {sure_now} {v} {next} a keeps so_far shown unsettled_yet count same =
     let bytes : List ℕ = s ++ a.taken in
@@ -263,7 +263,7 @@ stopped_by_intake {H} {D} {S} {K} {task} {s} {B} {come} {come_now} {come_after} 
 -- A failed sink: the piece was of the payload.
 pub stopped_by_sink : {H D : ℕ} {S : Type 0} {K : _} {task : Task} {s B : List ℕ} {come come_now come_after contents contents_now contents_after : Option (List ℕ)} {ended ended_after : Bool} {sure sure_now : ℕ} {v next : Verifier H D S K} (stepped : Verifier H D S K) (piece : List ℕ) → (a : Along task s B come come_now ended contents contents_now sure sure_now v) →
     Consumes come_now come_after piece → ((more : List ℕ) → length more < length piece → (message (rules_of H D task) ((s ++ a.taken) ++ more)).settled ≡ false) → (message (rules_of H D task) ((s ++ a.taken) ++ piece)).settled ≡ false → in_payload v.reader.phase ≡ true →
-    (message (rules_of H D task) (((s ++ a.taken) ++ piece) ++ [])).so_far.payload ≡ grown v.reader.phase (B ++ a.part) piece → shown_of stepped ≡ shown_in task.setting (message (rules_of H D task) (((s ++ a.taken) ++ piece) ++ [])) → AppendsFront contents_now contents_after piece →
+    (message (rules_of H D task) (((s ++ a.taken) ++ piece) ++ [])).so_far.payload ≡ grown v.reader.phase (B ++ a.part) piece → shown_of stepped ≡ shown_in task (message (rules_of H D task) (((s ++ a.taken) ++ piece) ++ [])) → AppendsFront contents_now contents_after piece →
     stepped.taken ≡ length ((s ++ a.taken) ++ piece) → next.taken ≡ stepped.taken → shown_of next ≡ shown_of stepped → TakesMessage task s B come come_after ended_after contents contents_after (Some stops.Sink) next
 stopped_by_sink {H} {D} {S} {K} {task} {s} {B} {come} {come_now} {come_after} {contents} {contents_now} {contents_after} {ended} {ended_after} {sure} {sure_now} {v} {next} stepped piece a took within unsettled_yet in_it so_far shown front counted count same =
     let bytes : List ℕ = (s ++ a.taken) ++ piece in
@@ -340,12 +340,17 @@ within_limit room source limit n le late = let short : payload_inside source lim
 
 -- This many bytes settle any message.
 pub record Bounded : Type 0 where
+  pub read : VerifiedWithin uncompared
   pub compared : VerifiedWithin comparing
   pub inspected : MessageIsInspectedWithin
 
+inspected_by_limit : Bounded → (H D : ℕ) (setting : Setting) (elsewhere : Bool) → setting.elsewhere ≡ elsewhere → (bytes : List ℕ) → H ≤ 65535 → 2 ^ 57 ≤ length bytes → (message (rules_of H D (record { setting = setting; inspects = true })) bytes).settled ≡ true
+inspected_by_limit within H D setting true away bytes le late = rw away (within.read H D setting bytes (within_limit H setting.source setting.payload_limit (length bytes) le late).0)
+inspected_by_limit within H D setting false away bytes le late = rw away (within.inspected H D setting bytes (within_limit H setting.source setting.payload_limit (length bytes) le late).1)
+
 settled_by_limit : Bounded → (H D : ℕ) (inspects : Bool) (setting : Setting) (bytes : List ℕ) → H ≤ 65535 → 2 ^ 57 ≤ length bytes → (message (rules_of H D (record { setting = setting; inspects = inspects })) bytes).settled ≡ true
 settled_by_limit within H D false setting bytes le late = within.compared H D setting bytes (within_limit H setting.source setting.payload_limit (length bytes) le late).0
-settled_by_limit within H D true setting bytes le late = within.inspected H D setting bytes (within_limit H setting.source setting.payload_limit (length bytes) le late).1
+settled_by_limit within H D true setting bytes le late = inspected_by_limit within H D setting setting.elsewhere refl bytes le late
 
 too_long : (settled : Bool) → (settled ≡ false → settled ≡ true) → settled ≡ true
 too_long true h = refl

@@ -15,10 +15,10 @@ use Rattle.cose_msg.proofs.run.inspect.Goals as goal
 pub returns-in-Some-clause-run : goal.returns-in-Some-clause-run
 returns-in-Some-clause-run g c = λ setting s B h.
     let kept = sym c.kept_inspection.ensures ∙ c.in-Some.is in
-    let d = still _ _ _ h (c.lemma_reading_so_far.ensures.payload (to_inspect setting) B _ _ h.so_far h.came) (c.lemma_reading_so_far.ensures.shows (to_inspect setting) B _ _ h.so_far h.came) (kept_inspection_settles c.in-Some.answer h kept).0 in (
+    let d = still _ _ _ h (c.lemma_reading_so_far.ensures.payload (to_inspect setting) B _ _ h.so_far h.came) (c.lemma_reading_so_far.ensures.shows (to_inspect setting) B _ _ h.so_far h.came) (kept_inspection_settles setting c.in-Some.answer h kept).0 in (
       d.taken,
-      kept_inspection_run c.nothing_stands_after_the_bytes.ensures.inside c.nothing_stands_after_the_bytes.ensures.fair d c.in-Some.answer kept,
-      (d.counted, d.shows, left_by_kept _ c.in-Some.answer d.reads_on.0 (c.lemma_reading_so_far.ensures.status (to_inspect setting) _ _ _ d.reads_on.0.so_far d.reads_on.0.came) (kept_inspection_settles c.in-Some.answer d.reads_on.0 kept) kept),
+      kept_inspection_run setting c.nothing_stands_after_the_bytes.ensures.inside c.nothing_stands_after_the_bytes.ensures.fair d c.in-Some.answer kept,
+      (d.counted, d.shows, left_by_kept _ c.in-Some.answer d.reads_on.0 (c.lemma_reading_so_far.ensures.status (to_inspect setting) _ _ _ d.reads_on.0.so_far d.reads_on.0.came) (kept_inspection_settles setting c.in-Some.answer d.reads_on.0 kept) kept),
     )
 
 pub returns-in-Some-clause-answer : goal.returns-in-Some-clause-answer
@@ -31,7 +31,7 @@ returns-in-Ok-clause-run g c = λ setting s B h.
     let d = rw c.in-Ok.is at (c.take_message.ensures.drive (to_inspect setting) s B h) in
     let reads_on = counted_meaning d.reads_on.0 in (
       d.taken,
-      inspection_run c.nothing_stands_after_the_bytes.ensures.inside c.nothing_stands_after_the_bytes.ensures.fair c.conclude_inspection.result d (c.conclude_inspection.ensures.answer setting _ _ reads_on d.reads_on.0.came) (c.conclude_inspection.ensures.counted setting _ _ reads_on d.reads_on.0.came),
+      inspection_run setting c.nothing_stands_after_the_bytes.ensures.inside c.nothing_stands_after_the_bytes.ensures.fair c.conclude_inspection.result d (c.conclude_inspection.ensures.answer setting _ _ reads_on d.reads_on.0.came) (c.conclude_inspection.ensures.counted setting _ _ reads_on d.reads_on.0.came),
       (c.conclude_inspection.ensures.counts ∙ d.counted, c.conclude_inspection.ensures.shown setting _ _ reads_on d.reads_on.0.came ∙ d.shows, left_by_answer (to_inspect setting) (s ++ d.taken) c.conclude_inspection.new.self (c.conclude_inspection.ensures.status setting _ _ reads_on d.reads_on.0.came d.reads_on.0.goes_on)),
     )
 

@@ -62,7 +62,7 @@ returns-then-asked-eq0-clause-drive g c = λ task s B h.
     let a = c.pieces.invariant.0 task s B h in
     let none : c.request-asked.result ≡ 0 = omega (arith, c.if-asked-eq0.true) in
     let room : g.row.H ≤ 65535 = c.pieces.verifier.reader.limit in
-    let done = settled_if_none_asked (record { compared = c.messages_are_bounded.ensures.verified.1; inspected = c.messages_are_bounded.ensures.inspected }) room c.request-asked.result a.reads_on (c.lemma_reading_so_far.ensures.settled task _ _ _ a.reads_on.so_far a.reads_on.came) c.request-asked.ensures.some none in
+    let done = settled_if_none_asked (record { read = c.messages_are_bounded.ensures.verified.0; compared = c.messages_are_bounded.ensures.verified.1; inspected = c.messages_are_bounded.ensures.inspected }) room c.request-asked.result a.reads_on (c.lemma_reading_so_far.ensures.settled task _ _ _ a.reads_on.so_far a.reads_on.came) c.request-asked.ensures.some none in
     concluded a (Consumes-nil _) (c.lemma_reading_so_far.ensures.payload task _ _ _ a.reads_on.so_far a.reads_on.came) (c.lemma_reading_so_far.ensures.shows task _ _ _ a.reads_on.so_far a.reads_on.came)
     (λ e. let clash : true ≡ false = sym done ∙ e in absurd cc) (λ e. a.not_ended)
 

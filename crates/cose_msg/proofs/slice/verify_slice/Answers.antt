@@ -41,7 +41,7 @@ returns-clause-shows g c =
     let setting = setting_in c.args.verifier.now in
     let fresh = begun c.requires.verifies c.reset.ensures.none_taken in
     let reads = reads_all c.settled_stays.ensures.message (rules_of g.row.H g.row.D (to_verify setting)) c.args.message.now c.feed-fed.result.used (c.feed-fed.ensures.uses (to_verify setting) [] [] fresh) in
-    c.conclude-verdict.ensures.shown ∙ c.feed-fed.ensures.shows (to_verify setting) [] [] fresh ∙ ap (shown_in setting) (sym reads)
+    c.conclude-verdict.ensures.shown ∙ c.feed-fed.ensures.shows (to_verify setting) [] [] fresh ∙ ap (shown_in (to_verify setting)) (sym reads)
 
 pub returns-clause-status : goal.returns-clause-status
 returns-clause-status g c =

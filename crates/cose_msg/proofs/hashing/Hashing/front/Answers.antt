@@ -1,5 +1,6 @@
 use Rattle.std.proofs.Common.{arith}
 use Rattle.std.proofs.lemmas.Grind.{common_steps}
+use Rattle.cose_msg.proofs.lemmas.Fronts.{front_completed}
 use Rattle.cose_msg.proofs.hashing.Hashing.front.Goals as goal
 
 pub returns-in-Running-clause-appended : goal.returns-in-Running-clause-appended
@@ -19,3 +20,6 @@ returns-2-clause-appended c = grind (arith, common_steps)
 
 pub returns-2-clause-front : goal.returns-2-clause-front
 returns-2-clause-front c = grind (arith, common_steps)
+
+pub returns-3-clause-front : goal.returns-3-clause-front
+returns-3-clause-front c = λ found message payload fed count. front_completed c.args.kind c.args.protected.now c.args.aad.now payload c.args.payload_length count

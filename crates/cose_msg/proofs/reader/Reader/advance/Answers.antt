@@ -7,23 +7,23 @@ use Rattle.cose_msg.proofs.lemmas.Reader.PhaseSteps.{first_byte, grown_by_byte}
 use Rattle.cose_msg.proofs.reader.Reader.advance.Goals as goal
 
 pub returns-in-Protected-clause-reads_on : goal.returns-in-Protected-clause-reads_on
-returns-in-Protected-clause-reads_on g c = λ task B n reading among st h.
+returns-in-Protected-clause-reads_on g c = λ task B n reading among away st h.
     rw (c.in-Protected.is, ← c.front_of-part.ensures.front) (c.protected_piece.ensures.reads_on task B n reading h)
 
 pub returns-in-Unprotected-clause-reads_on : goal.returns-in-Unprotected-clause-reads_on
-returns-in-Unprotected-clause-reads_on g c = λ task B n reading among st h.
-    rw (c.in-Unprotected.is, ← c.front_of-part-in-Unprotected.ensures.front) (c.unprotected_piece.ensures.reads_on task B n reading among h)
+returns-in-Unprotected-clause-reads_on g c = λ task B n reading among away st h.
+    rw (c.in-Unprotected.is, ← c.front_of-part-in-Unprotected.ensures.front) (c.unprotected_piece.ensures.reads_on task B n reading among away h)
 
 pub returns-in-Payload-clause-reads_on : goal.returns-in-Payload-clause-reads_on
-returns-in-Payload-clause-reads_on g c = λ task B n reading among st h.
+returns-in-Payload-clause-reads_on g c = λ task B n reading among away st h.
     rw (c.in-Payload.is, ← c.front_of-part-in-Payload.ensures.front) (c.payload.ensures.reads_on task B n reading h)
 
 pub returns-in-Auth-clause-reads_on : goal.returns-in-Auth-clause-reads_on
-returns-in-Auth-clause-reads_on g c = λ task B n reading among st h.
+returns-in-Auth-clause-reads_on g c = λ task B n reading among away st h.
     rw (c.in-Auth.is, ← c.front_of-part-in-Auth.ensures.front) (c.auth.ensures.reads_on task B n reading h)
 
 pub returns-in_default-2-clause-reads_on : goal.returns-in_default-2-clause-reads_on
-returns-in_default-2-clause-reads_on g c = λ task B n reading among st h.
+returns-in_default-2-clause-reads_on g c = λ task B n reading among away st h.
     let byte : takes_bytes c.args.self.now.phase ≡ true = takes_byte c.args.self.now.phase c.in_default-2.not-Protected c.in_default-2.not-Unprotected c.in_default-2.not-Payload c.in_default-2.not-Auth (sym c.is_settled.ensures ∙ c.if-is_settled.false) in
     rw (grown_by_byte c.args.self.now.phase B (take 1 c.args.piece.now) byte, first_byte c.args.piece.now c.requires.some) (c.take_byte.ensures task B n reading st h)
 

@@ -6,7 +6,7 @@ use Rattle.cose_map.specs.Bucket.Both.{pair_fault}
 use Rattle.std.specs.Prelude.{option_map}
 use Rattle.cose_msg.specs.Chosen.{chosen_value}
 use Rattle.cose_msg.specs.Phases.{headers_of}
-use Rattle.cose_msg.specs.Task.{Task, choice_for}
+use Rattle.cose_msg.specs.Task.{Task, choice_for, is_keyless}
 use Rattle.cose_msg.proofs.lemmas.Choosing.ChoiceReadings.{chosen_among}
 use Rattle.cose_msg.proofs.lemmas.Choosing.Choices.{key_found, key_refused, not_refused, pair_refused, same_pairs}
 use Rattle.cose_msg.proofs.reader.Reader.choose.Goals as goal
@@ -32,7 +32,7 @@ returns-in-Ok g c = λ task pairs others e among good found_good.
     let same : pairs ≡ bucket_pairs c.in_ok-protected.protected = sym (same_pairs (bucket_pairs c.in_ok-protected.protected) pairs ((rw c.as_slice.ensures.value at c.in_ok-protected.ensures.good) pairs good)) in
     let same_others : others ≡ bucket_pairs c.in_ok-unprotected.unprotected = sym (same_pairs (bucket_pairs c.in_ok-unprotected.unprotected) others ((rw c.as_slice-2.ensures.value at c.in_ok-unprotected.ensures.good) others found_good)) in
     let fault : pair_fault (bucket_pairs c.in_ok-protected.protected) (bucket_pairs c.in_ok-unprotected.unprotected) task.setting.understood (c.args.at + length c.args.self.now.unprotected.items) ≡ None = ap (λ (t : Task). pair_fault (bucket_pairs c.in_ok-protected.protected) (bucket_pairs c.in_ok-unprotected.unprotected) t.setting.understood (c.args.at + length c.args.self.now.unprotected.items)) (sym e) ∙ sym (rw c.len.ensures.value at c.in_ok-check_pair.ensures) in
-    let found : choice_for task.inspects task.setting (headers_of c.args.kind c.args.self.now.protected.items (bucket_pairs c.in_ok-protected.protected) (bucket_pairs c.in_ok-unprotected.unprotected)) ≡ Ok (option_map chosen_value c.key_for.new.into) = chosen_among task _ (headers_of c.args.kind c.args.self.now.protected.items (bucket_pairs c.in_ok-protected.protected) (bucket_pairs c.in_ok-unprotected.unprotected)) among ∙ sym (c.in-Ok.ensures c.args.self.now.protected.items) in
+    let found : choice_for (is_keyless task) task.setting (headers_of c.args.kind c.args.self.now.protected.items (bucket_pairs c.in_ok-protected.protected) (bucket_pairs c.in_ok-unprotected.unprotected)) ≡ Ok (option_map chosen_value c.key_for.new.into) = chosen_among task _ (headers_of c.args.kind c.args.self.now.protected.items (bucket_pairs c.in_ok-protected.protected) (bucket_pairs c.in_ok-unprotected.unprotected)) among ∙ sym (c.in-Ok.ensures c.args.self.now.protected.items) in
     rw (same, same_others, key_found task (headers_of c.args.kind c.args.self.now.protected.items (bucket_pairs c.in_ok-protected.protected) (bucket_pairs c.in_ok-unprotected.unprotected)) (c.args.at + length c.args.self.now.unprotected.items) (option_map chosen_value c.key_for.new.into) fault found) (refl, c.is_empty.ensures)
 
 pub returns-in-Err : goal.returns-in-Err
@@ -40,7 +40,7 @@ returns-in-Err g c = λ task pairs others e among good found_good.
     let same : pairs ≡ bucket_pairs c.in_ok-protected.protected = sym (same_pairs (bucket_pairs c.in_ok-protected.protected) pairs ((rw c.as_slice.ensures.value at c.in_ok-protected.ensures.good) pairs good)) in
     let same_others : others ≡ bucket_pairs c.in_ok-unprotected.unprotected = sym (same_pairs (bucket_pairs c.in_ok-unprotected.unprotected) others ((rw c.as_slice-2.ensures.value at c.in_ok-unprotected.ensures.good) others found_good)) in
     let fault : pair_fault (bucket_pairs c.in_ok-protected.protected) (bucket_pairs c.in_ok-unprotected.unprotected) task.setting.understood (c.args.at + length c.args.self.now.unprotected.items) ≡ None = ap (λ (t : Task). pair_fault (bucket_pairs c.in_ok-protected.protected) (bucket_pairs c.in_ok-unprotected.unprotected) t.setting.understood (c.args.at + length c.args.self.now.unprotected.items)) (sym e) ∙ sym (rw c.len.ensures.value at c.in_ok-check_pair.ensures) in
-    let none : choice_for task.inspects task.setting (headers_of c.args.kind c.args.self.now.protected.items (bucket_pairs c.in_ok-protected.protected) (bucket_pairs c.in_ok-unprotected.unprotected)) ≡ Err c.in-Err.reason = chosen_among task _ (headers_of c.args.kind c.args.self.now.protected.items (bucket_pairs c.in_ok-protected.protected) (bucket_pairs c.in_ok-unprotected.unprotected)) among ∙ sym (c.in-Err.ensures c.args.self.now.protected.items) in
+    let none : choice_for (is_keyless task) task.setting (headers_of c.args.kind c.args.self.now.protected.items (bucket_pairs c.in_ok-protected.protected) (bucket_pairs c.in_ok-unprotected.unprotected)) ≡ Err c.in-Err.reason = chosen_among task _ (headers_of c.args.kind c.args.self.now.protected.items (bucket_pairs c.in_ok-protected.protected) (bucket_pairs c.in_ok-unprotected.unprotected)) among ∙ sym (c.in-Err.ensures c.args.self.now.protected.items) in
     rw (same, same_others, key_refused task (headers_of c.args.kind c.args.self.now.protected.items (bucket_pairs c.in_ok-protected.protected) (bucket_pairs c.in_ok-unprotected.unprotected)) (c.args.at + length c.args.self.now.unprotected.items) c.in-Err.reason fault none, c.len.ensures.value) refl
 
 pub overflow_add-place : goal.overflow_add-place

@@ -33,7 +33,7 @@ returns-in-Signed-clause-status g c = λ setting B reading h came.
     settled_status (reading []) Complete complete settles
 
 pub returns-in-Signed-clause-answer : goal.returns-in-Signed-clause-answer
-returns-in-Signed-clause-answer g c = λ setting B reading h came. c.signed_verdict-verdict.ensures.answer (to_verify setting) B _ reading h
+returns-in-Signed-clause-answer g c = λ setting B reading h came. c.signed_verdict-verdict.ensures.answer (to_verify setting) B _ reading refl h
 
 pub returns-in-Signed-clause-counted : goal.returns-in-Signed-clause-counted
 returns-in-Signed-clause-counted g c = λ setting B reading h came.

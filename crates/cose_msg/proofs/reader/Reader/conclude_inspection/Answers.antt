@@ -29,11 +29,11 @@ returns-in-None g c =
     record {
       kept = rw same.phase refl;
       terms = same.terms;
-      shown = λ setting B reading h came. same.shown (open_shows_no_input c.args.self.now.phase (held_input c.args.self.now) (reads_on_without_shape h none));
+      shown = λ setting B reading h came. same.shown (open_shows_no_input c.args.self.now.phase (held_input c.args.self.now) (reads_on_without_shape setting h none));
       held = same.held;
       opened = same.opened;
-      answer = λ setting B reading h came. rw (c.lemma_reading_so_far.ensures.ended (to_inspect setting) B _ reading h came (reads_on_without_shape h none), same.same, c.ends_at-place.ensures) refl;
+      answer = λ setting B reading h came. rw (c.lemma_reading_so_far.ensures.ended (to_inspect setting) B _ reading h came (reads_on_without_shape setting h none), same.same, c.ends_at-place.ensures) refl;
       counted = λ setting B reading h came. tt;
-      status = λ setting B reading h came. rw (same.phase, c.lemma_reading_so_far.ensures.ended (to_inspect setting) B _ reading h came (reads_on_without_shape h none), same.same, c.ends_at-place.ensures) refl;
+      status = λ setting B reading h came. rw (same.phase, c.lemma_reading_so_far.ensures.ended (to_inspect setting) B _ reading h came (reads_on_without_shape setting h none), same.same, c.ends_at-place.ensures) refl;
       untouched = λ none untouched. same.untouched (c.ends_at-place.ensures ∙ untouched_ends c.args.self.now c.args.taken untouched ∙ none) untouched;
     }

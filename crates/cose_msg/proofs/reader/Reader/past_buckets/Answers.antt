@@ -11,7 +11,7 @@ use Rattle.cose_msg.proofs.reader.Reader.past_buckets.Goals as goal
 
 pub returns-in-Ok : goal.returns-in-Ok
 returns-in-Ok g c = record {
-  reads_on = λ task pairs others among e good found_good.
+  reads_on = λ task pairs others among away e good found_good.
       let headers = headers_of c.args.kind c.args.self.now.protected.items pairs others in
       let place = c.args.at + length c.args.self.now.unprotected.items in
       let is = choice_is_found pairs c.in-Ok.is_bare c.choose.new.into (choice_of task (headers_of c.args.kind c.args.self.now.protected.items pairs others) (c.args.at + length c.args.self.now.unprotected.items)) (rw c.in-Ok.is at (c.choose.ensures task pairs others e.0 among good found_good)) in
@@ -19,12 +19,12 @@ returns-in-Ok g c = record {
       let known : Known = record { headers = headers_of c.args.kind c.args.self.now.protected.items pairs others; chosen = option_map chosen_value c.choose.new.into; payload = []; auth = [] } in
       moved c.begin_payload_head.new.self _ _ refl (ap (λ (n : ℕ). c.args.at + n) c.len.ensures.value)
       (λ z. choice_finds g.row.H g.row.D task headers place (option_map chosen_value c.choose.new.into) chooses z ∙ rw c.len.ensures.value refl)
-      (c.begin_payload_head.ensures.reads_on task known e refl (refl, refl, chooses_if_verified task headers place (option_map chosen_value c.choose.new.into) chooses) refl is.bare_is c.begin_hashing-self.ensures);
+      (c.begin_payload_head.ensures.reads_on task known e refl (refl, refl, chooses_if_verified task headers place (option_map chosen_value c.choose.new.into) chooses, c.begin_hashing-self.ensures.kind ∙ away, refl) refl is.bare_is c.begin_hashing-self.ensures.begun);
 }
 
 pub returns-in-Err : goal.returns-in-Err
 returns-in-Err g c = record {
-  reads_on = λ task pairs others among e good found_good.
+  reads_on = λ task pairs others among away e good found_good.
       let headers = headers_of c.args.kind c.args.self.now.protected.items pairs others in
       let place = c.args.at + length c.args.self.now.unprotected.items in
       let is = choice_is_refused pairs c.in-Err.refusal c.choose.new.into (choice_of task (headers_of c.args.kind c.args.self.now.protected.items pairs others) (c.args.at + length c.args.self.now.unprotected.items)) (rw c.in-Err.is at (c.choose.ensures task pairs others e.0 among good found_good)) in

@@ -13,7 +13,7 @@ use Rattle.cose_msg.proofs.reader.Reader.unprotected_piece.Goals as goal
 
 pub returns-in-Going : goal.returns-in-Going
 returns-in-Going g c = record {
-  reads_on = λ task B n reading handed h.
+  reads_on = λ task B n reading handed away h.
       let inside = rw c.requires.phase at h.holds in
       let put = inside.2 in
       let fits : length c.args.piece.now ≤ wanted_after g.row.H g.row.D c.args.self.now.unprotected.items = omega (arith, c.requires.fits, inside.4) in
@@ -35,7 +35,7 @@ returns-in-Going g c = record {
 
 pub returns-in-Done : goal.returns-in-Done
 returns-in-Done g c = record {
-  reads_on = λ task B n reading handed h.
+  reads_on = λ task B n reading handed away h.
       let inside = rw c.requires.phase at h.holds in
       let put = inside.2 in
       let none = so_far_payload h.so_far (unprotected_so_far h.known.headers.protected_pairs (open_items_after g.row.H g.row.D c.args.self.now.unprotected.items)) B inside.0 h.payload_so_far in
@@ -47,12 +47,12 @@ returns-in-Done g c = record {
       let none_open : c.walk_on.new.walker.step ≡ steps.Done → open_now c.walk_on.new.walker ≡ 0 = λ e. ap (λ (step : Step). open_while step (length c.walk_on.new.walker.counts.items)) e in
       moved c.past_unprotected.new.self _ _ none count
       (λ z. (rw c.requires.phase at (h.left (c.args.piece.now ++ z))) ∙ item_completed c.read_stays.ensures.stays (unprotected_so_far h.known.headers.protected_pairs) g.row.H g.row.D (past_unprotected (rules_of g.row.H g.row.D task) c.args.unprotected.kind c.args.self.now.protected.items h.known.headers.protected_pairs) c.args.unprotected.at c.args.self.now.unprotected.items c.args.piece.now (rw c.in-Done.is at (c.walk_on.ensures.answer g.row.H c.args.self.now.unprotected.items put fits)) z)
-      (rw grown at (c.past_unprotected.ensures.reads_on task h.known.headers.protected_pairs handed (shows.0, shows.1, shows.2, none_open (c.walk_on.ensures.step ∙ c.in-Done.is)) inside.1));
+      (rw grown at (c.past_unprotected.ensures.reads_on task h.known.headers.protected_pairs handed away (shows.0, shows.1, shows.2, none_open (c.walk_on.ensures.step ∙ c.in-Done.is)) inside.1));
 }
 
 pub returns-in-Fault : goal.returns-in-Fault
 returns-in-Fault g c = record {
-  reads_on = λ task B n reading handed h.
+  reads_on = λ task B n reading handed away h.
       let inside = rw c.requires.phase at h.holds in
       let put = inside.2 in
       let none = so_far_payload h.so_far (unprotected_so_far h.known.headers.protected_pairs (open_items_after g.row.H g.row.D c.args.self.now.unprotected.items)) B inside.0 h.payload_so_far in

@@ -40,7 +40,7 @@ returns-then-count-eq0 g c = record {
   uses = λ task s B h.
       let a = c.pieces.invariant.0 task s B h in
       let limit : g.row.H ≤ 65535 = c.pieces.self.reader.limit in
-      uses_all a (record { compared = c.messages_are_bounded.ensures.verified.1; inspected = c.messages_are_bounded.ensures.inspected }) limit c.step-count.result (c.lemma_reading_so_far-in-pieces.ensures.settled task _ _ _ a.reads_on.so_far a.reads_on.came) c.step-count.ensures.some c.if-count-eq0.true c.pieces.invariant.4;
+      uses_all a (record { read = c.messages_are_bounded.ensures.verified.0; compared = c.messages_are_bounded.ensures.verified.1; inspected = c.messages_are_bounded.ensures.inspected }) limit c.step-count.result (c.lemma_reading_so_far-in-pieces.ensures.settled task _ _ _ a.reads_on.so_far a.reads_on.came) c.step-count.ensures.some c.if-count-eq0.true c.pieces.invariant.4;
   taken = λ task s B h. let a = c.pieces.invariant.0 task s B h in a.reads_on;
   status = λ task s B h. let a = c.pieces.invariant.0 task s B h in c.status-then-count-eq0.ensures.reads task _ _ a.reads_on;
   attached = λ task s B h is.

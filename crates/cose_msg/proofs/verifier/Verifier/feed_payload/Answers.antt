@@ -23,7 +23,7 @@ returns-in-Detached-clause-taken g c = λ task s B h.
     let before : SoFar (given_to ((B ++ piece) ++ more) task) s B c.args.self.now.reader = subst (λ (t : Task). SoFar t s B c.args.self.now.reader) same (h.whatever_comes (piece ++ more)) in
     c.detached_piece.ensures.reads_on (given_to ((B ++ piece) ++ more) task) B more (length s) _ (came_more task ((B ++ piece) ++ more) (reads_on_beside h.so_far c.in-Detached.detached c.in-Detached.is)) before) in
     let all : HasTaken (given_to (B ++ piece) task) s (B ++ piece) _ = record {
-      made_for = whole_task (given_to (B ++ piece) task) _ c.detached_piece.new.self.terms _ _ (ap (λ (t : Task). t.setting.keys) h.made_for) (ap (λ (t : Task). t.inspects) h.made_for) (ap (λ (t : Task). t.setting.source) (h.made_for ∙ sym (given_again task [] (B ++ piece)))) (now_given task s (B ++ piece) c.detached_piece.new.self later).shows.0;
+      made_for = whole_task (given_to (B ++ piece) task) _ c.detached_piece.new.self.terms _ _ _ (ap (λ (t : Task). t.setting.keys) h.made_for) (ap (λ (t : Task). t.inspects) h.made_for) (ap (λ (t : Task). t.setting.source) (h.made_for ∙ sym (given_again task [] (B ++ piece)))) (ap (λ (t : Task). t.setting.elsewhere) h.made_for) (now_given task s (B ++ piece) c.detached_piece.new.self later).shows.0;
       so_far = now_given task s (B ++ piece) c.detached_piece.new.self later;
       came = given_again task (B ++ piece) (B ++ piece);
       whatever_comes = λ more. subst (λ (t : Task). SoFar t s (B ++ piece) c.detached_piece.new.self) (sym (given_again task ((B ++ piece) ++ more) (B ++ piece))) (later more);
@@ -40,7 +40,7 @@ returns-in-Detached-clause-status g c = λ task s B h.
 pub returns-in-Detached-clause-shows : goal.returns-in-Detached-clause-shows
 returns-in-Detached-clause-shows g c = λ task s B h.
     let now = returns-in-Detached-clause-taken g c task s B h in
-    c.lemma_reading_so_far.ensures.shows _ _ _ _ now.so_far now.came ∙ ap (shown_in (given_to (B ++ take c.min-count.result c.args.piece.now) task).setting) (without_more g.row.H g.row.D _ s)
+    c.lemma_reading_so_far.ensures.shows _ _ _ _ now.so_far now.came ∙ ap (shown_in (given_to (B ++ take c.min-count.result c.args.piece.now) task)) (without_more g.row.H g.row.D _ s)
 
 pub returns-in-Detached-clause-purpose : goal.returns-in-Detached-clause-purpose
 returns-in-Detached-clause-purpose g c = record { inspects = refl; detached = refl; context = λ h. keeps_setting _ (returns-in-Detached-clause-taken g c _ _ _ h) h }

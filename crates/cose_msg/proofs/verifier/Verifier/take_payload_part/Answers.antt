@@ -18,7 +18,7 @@ returns-clause-taken g c = λ task s B h.
     let now : SoFar task (s ++ piece) (B ++ piece) next =
     moved next _ _ refl count (λ z. ap (message (rules_of g.row.H g.row.D task)) (append_assoc s piece z)) (c.payload_part.ensures.reads_on task B _ _ h.so_far) in
     record {
-      made_for = whole_task task _ next.terms _ _ (ap (λ (t : Task). t.setting.keys) h.made_for) (ap (λ (t : Task). t.inspects) h.made_for) (ap (λ (t : Task). t.setting.source) h.made_for) now.shows.0;
+      made_for = whole_task task _ next.terms _ _ _ (ap (λ (t : Task). t.setting.keys) h.made_for) (ap (λ (t : Task). t.inspects) h.made_for) (ap (λ (t : Task). t.setting.source) h.made_for) (ap (λ (t : Task). t.setting.elsewhere) h.made_for) now.shows.0;
       so_far = now;
       came = given_attached task (B ++ piece) is_attached;
       whatever_comes = λ more. subst (λ (t : Task). SoFar t (s ++ piece) (B ++ piece) next) (sym (given_attached task ((B ++ piece) ++ more) is_attached)) now;

@@ -1,8 +1,10 @@
-use Rattle.std.proofs.Common.{ap, refl, sym, ◌∙◌, arith}
+use Rattle.std.proofs.Common.{◌≡◌, Some, ap, refl, sym, ◌∙◌, arith}
 use Rattle.std.proofs.lemmas.Grind.{common_steps}
 use Rattle.cose_msg.specs.Laws.{then_verified}
 use Rattle.cose_msg.proofs.lemmas.Run.Answered.{verdict_so_far}
+use Rattle.cose_msg.specs.Kept.{verdict_in}
 use Rattle.cose_msg.proofs.lemmas.Deciding.Decisions.{reads_on_with_verdict}
+use Rattle.cose_msg.proofs.lemmas.Deciding.Untouched.{one_kept}
 use Rattle.cose_msg.proofs.lemmas.Run.Runs.{counted_meaning}
 use Rattle.cose_msg.proofs.lemmas.Feeding.Statuses.{complete_stays}
 use Rattle.cose_msg.proofs.verifier.Verifier.verdict.Goals as goal
@@ -23,7 +25,10 @@ pub returns-in-Some-clause-kept : goal.returns-in-Some-clause-kept
 returns-in-Some-clause-kept g c = grind (arith, common_steps)
 
 pub returns-in-Some-clause-again : goal.returns-in-Some-clause-again
-returns-in-Some-clause-again g c = grind (arith, common_steps)
+returns-in-Some-clause-again g c = λ verdict kept.
+    let same : Some c.in-Some.verdict ≡ Some verdict = sym c.in-Some.is ∙ c.known_verdict.ensures ∙ one_kept c.args.self.now.stopped (verdict_in c.args.self.now.reader.phase) verdict kept in
+    let one : c.in-Some.verdict ≡ verdict = cc in
+    (one, refl)
 
 pub returns-in-Some-clause-counts : goal.returns-in-Some-clause-counts
 returns-in-Some-clause-counts g c = grind (arith, common_steps)

@@ -1,0 +1,134 @@
+//! A caller that has the hash and the key: it hashes what a verifier asks for, and states what it finds.
+
+ghost use Rattle.std.specs.Prelude.{◌<◌};
+
+use crate::streams::{Comparison, Signature};
+use arrayvec::ArrayVec;
+use cose_mac::Running;
+use cose_map::Material;
+use cose_msg::{EcVerifier, FrontPieces, Keys, Status, Verdict, Verifier};
+
+/// The secret of a symmetric key.
+fn secret_of<'k>(material: &Material<'k>) -> &'k [u8] {
+    match material {
+        Material::Symmetric(secret) => secret,
+        Material::Ec { .. } => &[],
+    }
+}
+
+/// The hash of the structure under the chosen key, of which it was fed what precedes the payload, once that is known.
+fn begun<'k, const H: usize, const D: usize, K: Keys<'k>>(
+    verifier: &Verifier<'k, H, D, K>,
+) -> Option<Running> {
+    let pieces = verifier.front_pieces()?;
+    let (key, alg) = verifier.asked_key()?;
+    let mut hash = if alg.is_mac() {
+        Running::hmac(alg, secret_of(&key.material))
+    } else {
+        Running::digest(alg)
+    };
+    for index in 0..FrontPieces::COUNT {
+        hash.update(pieces.piece(index));
+    }
+    Some(hash)
+}
+
+/// The hash of the structure of a message that is fed in pieces of at most `cut` bytes.
+pub fn feed<'k, const H: usize, const D: usize, K: Keys<'k>>(
+    verifier: &mut Verifier<'k, H, D, K>,
+    message: &[u8],
+    cut: usize,
+    payload: &mut Comparison<'_>,
+) -> Option<Running>
+    requires some { 0 < cut }
+{
+    let mut hash: Option<Running> = None;
+    for piece in message.chunks(cut) {
+        let fed = verifier.feed(piece);
+        if hash.is_none() {
+            hash = begun(verifier);
+        }
+        let part = fed.payload_of(piece);
+        payload.compare(part);
+        if let Some(running) = &mut hash {
+            running.update(part);
+        }
+    }
+    hash
+}
+
+/// The hash of the structure of a message whose payload is detached, where both are fed in pieces of at most `cut` bytes: as much of
+/// the message as is used before the payload, the payload as far as it is wanted, and the rest.
+pub fn feed_detached<'k, const H: usize, const D: usize, K: Keys<'k>>(
+    verifier: &mut Verifier<'k, H, D, K>,
+    message: &[u8],
+    payload: &[u8],
+    cut: usize,
+    came: &mut Comparison<'_>,
+) -> Option<Running>
+    requires some { 0 < cut }
+{
+    let used = used_of(verifier, message, cut);
+    let mut hash = begun(verifier);
+    for piece in payload.chunks(cut) {
+        if verifier.payload_wanted() > 0 {
+            let taken = verifier.feed_payload(piece);
+            let part = piece.get(..taken).unwrap_or(&[]);
+            came.compare(part);
+            if let Some(running) = &mut hash {
+                running.update(part);
+            }
+        }
+    }
+    used_of(verifier, message.get(used..).unwrap_or(&[]), cut);
+    hash
+}
+
+/// How many bytes of a message are used that is fed in pieces of at most `cut` bytes.
+fn used_of<'k, const H: usize, const D: usize, K: Keys<'k>>(
+    verifier: &mut Verifier<'k, H, D, K>,
+    message: &[u8],
+    cut: usize,
+) -> usize
+    requires some { 0 < cut }
+{
+    let mut used = 0usize;
+    for piece in message.chunks(cut) {
+        used = used.saturating_add(verifier.feed(piece).used);
+    }
+    used
+}
+
+/// Whether the signature of a message that is complete holds.
+fn is_signed<'k, const H: usize, const D: usize, K: Keys<'k>>(
+    verifier: &Verifier<'k, H, D, K>,
+    digest: &[u8],
+    signature: &Signature,
+) -> bool {
+    match (verifier.asked_key(), verifier.asked_signature()) {
+        (Some((key, _)), Some(received)) => signature.holds(&key, digest, received),
+        _ => false,
+    }
+}
+
+/// The verdict on a message that was fed and has no further byte, by what the caller finds.
+pub fn stated<'k, const H: usize, const D: usize, K: Keys<'k>>(
+    verifier: &mut Verifier<'k, H, D, K>,
+    hash: Option<Running>,
+    signature: &Signature,
+) -> Option<Verdict> {
+    if let Status::Refused(refusal) = verifier.end() {
+        return Some(Verdict::Refused(refusal));
+    }
+    if !verifier.is_complete() || !verifier.is_elsewhere() {
+        return None;
+    }
+    let hash = hash?;
+    if hash.is_mac() {
+        let mac: ArrayVec<u8, 64> = hash.finish_mac();
+        return Some(verifier.verdict_of_mac(mac.as_slice()));
+    }
+    let digest: ArrayVec<u8, 64> = hash.finish_digest();
+    let holds = is_signed(verifier, digest.as_slice(), signature);
+    Some(verifier.verdict_of_answer(holds))
+}
