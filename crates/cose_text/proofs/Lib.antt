@@ -1,6 +1,7 @@
 pub mod Calendar
 pub mod Dates
 pub mod Levels
+pub mod Printables
 pub mod Quotes
 pub mod TextInputs
 pub mod Texts

@@ -1,8 +1,8 @@
 //! What people read of a message: an item in diagnostic notation (RFC 8949 section 8), a text in quotes, and a date
 //! (RFC 3339). What people have of one: its bytes in hexadecimal or base64url (RFC 4648), decoded as they are read.
 //!
-//! A text is written in printable ASCII characters, and ends where its quotes do, whatever its bytes are
-//! ([`laws::quotes_end`]). All is appended to a `String` of the caller, which may be refused memory.
+//! All is written in printable ASCII characters ([`laws::is_printable`]), and a text ends where its quotes do, whatever its bytes
+//! are ([`laws::quotes_end`]). It is appended to a `String` of the caller, which may be refused memory.
 #![tactic(auto)]
 
 mod date;
