@@ -15,7 +15,7 @@ use Rattle.cosecmd.specs.AskedKeys.{asked}
 use Rattle.cosecmd.specs.CommandLine.{IsFoundIn, IsReadFrom, ask_for_help, begins_as_answer, command_prints, keys_prints, line_prints, make_prints, matches_print, payload_named, tokens_print}
 use Rattle.cosecmd.specs.Fields.{AreChecks, CwtFields, IsListedAs, KeysFields, MakeFields, checks_in}
 use Rattle.cosecmd.specs.Options.{Options, ◌>>=◌, flag_in, key_in, key_set_in, message_in, text_in}
-use Rattle.cosecmd.specs.PayloadTo.{new_file_of}
+use Rattle.cosecmd.specs.PayloadTo.{checks_named, new_file_of}
 use Rattle.cosecmd.specs.Printed.{Admits, Output, items_listed, items_listed_for, keys_said, made_under}
 use Rattle.cosecmd.specs.Requirements.{requirements_with}
 use Rattle.cosecmd.specs.Under.{Under, owned_under}
@@ -131,6 +131,11 @@ file_named matches name options file n o is = is ∙ sym (ap new_file_of (comman
 pub payload_met : (content : List ℕ → Option (List ℕ)) (matches : ArgMatches) (name : Text) (options : Options) (payload : Option (Option (List ℕ))) → subcommand_name_of matches ≡ Some name →
     option_map (λ (command : Text × Options). command.1) (subcommand_rows_of matches) ≡ Some options → payload ≡ payload_named content (Some (name, options)) → payload ≡ payload_named content (subcommand_rows_of matches)
 payload_met content matches name options payload n o is = is ∙ sym (ap (payload_named content) (command_met matches name options n o))
+
+-- What the options say that a message is verified under is what those of the command say that clap met.
+pub checks_met : (content : List ℕ → Option (List ℕ)) (matches : ArgMatches) (name : Text) (options : Options) (under : Under) → subcommand_name_of matches ≡ Some name →
+    option_map (λ (command : Text × Options). command.1) (subcommand_rows_of matches) ≡ Some options → checks_named content (subcommand_rows_of matches) ≡ Some under → checks_in content options ≡ Some under
+checks_met content matches name options under n o said = sym (ap (checks_named content) (command_met matches name options n o)) ∙ said
 
 -- What was parsed, where it is the options that clap found.
 pub found_in : (words : List Text) (parsed : Parsed) (matches : ArgMatches) → parsed ≡ Matches matches → IsReadFrom words parsed → IsFoundIn words matches

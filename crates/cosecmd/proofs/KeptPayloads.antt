@@ -1,7 +1,7 @@
 -- A payload that goes into a sink, and the new file that it is kept in.
 use Rattle.std.proofs.Common.{◌≡◌, ◌≢◌, ℕ, true, false, List, [], ◌++◌, Option, Some, None, Result, Ok, Err, ◌⊎◌, inl, inr, refl, sym, ap, subst, ◌∙◌}
-use Rattle.std.specs.Prelude.{IfErr, IfOk, IsErr, codes, string_bytes}
-use Rattle.std.specs.Io.KnownBytes.{Appends, Consumes, IsAtEnd, Keeps}
+use Rattle.std.specs.Prelude.{IfErr, IfOk, IsErr, codes, option_map, string_bytes}
+use Rattle.std.specs.Io.KnownBytes.{Appends, Consumes, IsAtEnd}
 use Rattle.cose_map.specs.Key.Value.{KeyValue}
 use Rattle.cose_map.specs.Map.Read.{Read}
 use Rattle.cose_msg.specs.Laws.{MessageStays}
@@ -14,7 +14,10 @@ use Rattle.cosecmd.specs.declared.fault.Fault.TheVariants as faults
 use Rattle.cosecmd.specs.declared.reply.Reply.{Reply}
 use Rattle.cosecmd.specs.declared.reply.Status.{Status}
 use Rattle.cosecmd.specs.declared.reply.Status.TheVariants as statuses
+use Rattle.cosecmd.specs.declared.new_file.Standing.{Standing}
+use Rattle.cosecmd.specs.declared.new_file.Standing.TheVariants as standings
 use Rattle.cosecmd.specs.Faults.{WritesLine}
+use Rattle.cosecmd.specs.NewFile.{IsFirstFile, IsRemoved, IsSettled, Made, MadeFile, Stands, content_of, file_settled, settled, unnamed}
 use Rattle.cosecmd.specs.PayloadTo.{IsOfNewFile, WritesFileFault, payload_in, payload_under, payload_where_read}
 use Rattle.cosecmd.specs.Printed.{Output, Prints, Says, code_of, setting_under}
 use Rattle.cosecmd.specs.Under.{Under}
@@ -80,23 +83,61 @@ where_refused (Err fault) old new status P prints is gone =
     let same : statuses.Refused ≡ statuses.Done = sym is ∙ other in
     absurd cc
 
-appended_kept : (old mid new : Option (List ℕ)) (bytes : List ℕ) → Appends old mid bytes → Keeps mid new → Appends old new bytes
-appended_kept None mid new bytes grows keeps = tt
-appended_kept (Some x) None new bytes grows keeps = absurd grows
-appended_kept (Some x) (Some y) None bytes grows keeps = absurd keeps
-appended_kept (Some x) (Some y) (Some z) bytes grows keeps = keeps ∙ grows
+-- The file that is kept holds what was written to it.
+pub content_settled : (made : Made) (file : MadeFile) (standing : Standing) (content : Option (List ℕ)) → made.file ≡ Some file → content_of (settled standing content made) ≡ content
+content_settled made file standing content is = rw is refl
 
--- The file that is kept has what was written to it.
-pub payload_kept : (written reply : Result Reply Fault) (old mid new contents contents_after : Option (List ℕ)) (status : Status) (Kept : Type 0) (payload : List ℕ) →
-    IfOk written (λ _. Appends old mid payload) → IfErr written (λ _. IsErr reply) → IfOk reply (λ said. said.status ≡ statuses.Done → Kept × Keeps mid new) →
-    ((said : Output) → IfOk reply (Says said) → Prints said contents contents_after status) → status ≡ statuses.Done → Appends old new payload
-payload_kept (Ok w) reply old mid new contents contents_after status Kept payload grows failed kept prints is =
-    appended_kept old mid new payload grows (where_done reply contents contents_after status (Kept × Keeps mid new) prints is kept).1
-payload_kept (Err fault) (Ok r) old mid new contents contents_after status Kept payload grows failed kept prints is =
+pub payload_kept : (written reply : Result Reply Fault) (old mid contents contents_after : Option (List ℕ)) (made made_after : Made) (file : MadeFile) (status : Status) (payload : List ℕ) → made.file ≡ Some file →
+    IfOk written (λ _. Appends old mid payload) → IfErr written (λ _. IsErr reply) → IfOk reply (λ said. said.status ≡ statuses.Done → made_after ≡ settled standings.Kept mid made) →
+    ((said : Output) → IfOk reply (Says said) → Prints said contents contents_after status) → status ≡ statuses.Done → Appends old (content_of made_after) payload
+payload_kept (Ok w) reply old mid contents contents_after made made_after file status payload named grows failed kept prints is =
+    let e : content_of made_after ≡ mid =
+    ap content_of (where_done reply contents contents_after status (made_after ≡ settled standings.Kept mid made) prints is kept) ∙ content_settled made file standings.Kept mid named in
+    subst (λ (content : Option (List ℕ)). Appends old content payload) (sym e) grows
+payload_kept (Err fault) (Ok r) old mid contents contents_after made made_after file status payload named grows failed kept prints is =
     let no : false ≡ true = failed in
     absurd cc
-payload_kept (Err fault) (Err other) old mid new contents contents_after status Kept payload grows failed kept prints is =
-    where_done (Err other) contents contents_after status (Appends old new payload) prints is tt
+payload_kept (Err fault) (Err other) old mid contents contents_after made made_after file status payload named grows failed kept prints is =
+    where_done (Err other) contents contents_after status (Appends old (content_of made_after) payload) prints is tt
+
+-- What is kept holds what the record says that it holds.
+pub kept_as : (made mid new : Made) (content : Option (List ℕ)) → new ≡ mid → mid ≡ settled standings.Kept content made → new ≡ settled standings.Kept (content_of new) made
+kept_as made mid new content same kept = go made.file refl
+  where
+    go : (file : Option MadeFile) → made.file ≡ file → new ≡ settled standings.Kept (content_of new) made
+    go None none =
+        let bare : settled standings.Kept content made ≡ settled standings.Kept (content_of new) made = rw none refl in
+        same ∙ kept ∙ bare
+    go (Some file) some =
+        let held : content_of new ≡ content = ap content_of (same ∙ kept) ∙ content_settled made file standings.Kept content some in
+        rw held (same ∙ kept)
+
+-- A file that is settled stays so where it is settled again.
+pub settled_again : (old mid : Made) (standing : Standing) (content : Option (List ℕ)) → IsSettled old mid → settled standing content mid ≡ settled standing content old
+settled_again old mid standing content (before, held, is) = ap (settled standing content) is ∙ settled_twice old before standing held content
+  where
+    twice : (file : Option MadeFile) (before standing : Standing) (held content : Option (List ℕ)) → option_map (file_settled standing content) (option_map (file_settled before held) file) ≡ option_map (file_settled standing content) file
+    twice None before standing held content = refl
+    twice (Some file) before standing held content = refl
+
+    settled_twice : (old : Made) (before standing : Standing) (held content : Option (List ℕ)) → settled standing content (settled before held old) ≡ settled standing content old
+    settled_twice old before standing held content = rw (twice old.file before standing held content) refl
+
+-- Whatever a reply says, the file is settled by it.
+pub settled_by : (reply : Result Reply Fault) (old new : Made) (content : Option (List ℕ)) → IfOk reply (λ said. said.status ≡ statuses.Done → new ≡ settled standings.Kept content old) →
+    IfOk reply (λ said. said.status ≢ statuses.Done → new ≡ settled standings.Gone None old) → IfErr reply (λ _. IsRemoved old new) → IsSettled old new
+settled_by (Ok reply) old new content kept gone removed = go reply.status kept gone
+  where
+    go : (status : Status) → (status ≡ statuses.Done → new ≡ settled standings.Kept content old) → (status ≢ statuses.Done → new ≡ settled standings.Gone None old) → IsSettled old new
+    go statuses.Done kept gone = (standings.Kept, content, kept refl)
+    go statuses.Refused kept gone = (standings.Gone, None, gone (λ e. absurd cc))
+    go statuses.Fault kept gone = (standings.Gone, None, gone (λ e. absurd cc))
+settled_by (Err fault) old new content kept gone (inl is) = (standings.Gone, None, is)
+settled_by (Err fault) old new content kept gone (inr is) = (standings.Stuck, None, is)
+
+pub removed_again : (old mid new : Made) → IsSettled old mid → IsRemoved mid new → IsRemoved old new
+removed_again old mid new is (inl gone) = inl (gone ∙ settled_again old mid standings.Gone None is)
+removed_again old mid new is (inr stuck) = inr (stuck ∙ settled_again old mid standings.Stuck None is)
 
 pub is_done : (status : Status) → code_of status ≡ 0 → status ≡ statuses.Done
 is_done statuses.Done e = refl
@@ -120,3 +161,47 @@ file_line old new (faults.Key refusal) of_file (inl line) = absurd of_file
 file_line old new faults.WrongKey of_file (inl line) = absurd of_file
 file_line old new faults.TooLong of_file (inl line) = absurd of_file
 file_line old new faults.Input of_file (inl line) = absurd of_file
+
+-- ---- the file of a name
+
+pub stands : (name : List ℕ) (old mid new : Made) (standing : Standing) (content : Option (List ℕ)) → IsFirstFile name old mid → new ≡ settled standing content mid → Stands name standing new
+stands name old mid new standing content first is =
+    let file : new.file ≡ Some (record { name = name; standing = standing; content = content }) = ap (λ (made : Made). made.file) is ∙ ap (option_map (file_settled standing content)) first.1 in
+    (content, file)
+
+pub stands_removed : (name : List ℕ) (old mid new : Made) → IsFirstFile name old mid → IsRemoved mid new → Stands name standings.Gone new ⊎ Stands name standings.Stuck new
+stands_removed name old mid new first (inl gone) = inl (stands name old mid new standings.Gone None first gone)
+stands_removed name old mid new first (inr stuck) = inr (stands name old mid new standings.Stuck None first stuck)
+
+-- What a file holds to which all is written from its beginning.
+holds_all : (before content : Option (List ℕ)) (payload : List ℕ) → before ≡ Some [] → Appends before content payload → content ≡ Some payload
+holds_all (Some x) None payload is grows = absurd grows
+holds_all None content payload is grows = absurd cc
+holds_all (Some x) (Some y) payload is grows =
+    let none : x ≡ [] = cc in
+    ap Some (grows ∙ ap (λ (front : List ℕ). front ++ payload) none)
+
+pub holds_payload : (name : List ℕ) (old mid new : Made) (before : Option (List ℕ)) (payload : List ℕ) → IsFirstFile name old mid → before ≡ Some [] →
+    ((made : MadeFile) → mid.file ≡ Some made → Appends before (content_of new) payload) → content_of new ≡ Some payload
+holds_payload name old mid new before payload first is grows =
+    holds_all before (content_of new) payload is (grows (unnamed name) first.1)
+
+-- A first file that is settled was made, and its name wasn't taken.
+pub none_made : (name : List ℕ) (old mid new : Made) (A : Type 0) → IsFirstFile name old mid → IsSettled mid new → new.file ≡ old.file → A
+none_made name old mid new A first settles same =
+    let stood = stands name old mid new settles.0 settles.1 first settles.2 in
+    let no : Some (record { name = name; standing = settles.0; content = stood.0 }) ≡ None = sym stood.1 ∙ same ∙ first.0 in
+    absurd cc
+
+pub taken_before : (mid new : Made) → IsSettled mid new → new.is_taken ≡ Some true → mid.is_taken ≡ Some true
+taken_before mid new settles taken = sym (ap (λ (made : Made). made.is_taken) settles.2) ∙ taken
+
+-- A run settles the file, also where it withdraws it.
+pub settled_in_end : (old mid new : Made) (status : Status) → IsSettled old mid → (status ≢ statuses.Fault → new ≡ mid) → (status ≡ statuses.Fault → IsRemoved mid new) → IsSettled old new
+settled_in_end old mid new statuses.Done settles stays removed = (settles.0, settles.1, stays (λ e. absurd cc) ∙ settles.2)
+settled_in_end old mid new statuses.Refused settles stays removed = (settles.0, settles.1, stays (λ e. absurd cc) ∙ settles.2)
+settled_in_end old mid new statuses.Fault settles stays removed = go (removed_again old mid new settles (removed refl))
+  where
+    go : IsRemoved old new → IsSettled old new
+    go (inl gone) = (standings.Gone, None, gone)
+    go (inr stuck) = (standings.Stuck, None, stuck)

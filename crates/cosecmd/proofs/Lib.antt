@@ -7,7 +7,9 @@ pub mod ChecksAsked
 pub mod CommandLines
 pub mod DetachedReplies
 pub mod Failures
+pub mod HostFiles
 pub mod KeptPayloads
+pub mod KeptRequests
 pub mod KeyFiles
 pub mod Listings
 pub mod Makings

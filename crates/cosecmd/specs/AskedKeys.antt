@@ -29,6 +29,7 @@ headers_setting wanted = record {
   understood = [];
   payload_limit = 0;
   source = attached;
+  elsewhere = false;
 }
 
 abbrev pub headers_verdict : Wanted → List ℕ → Answer

@@ -156,6 +156,11 @@ pub record IsReadAs (content : List ℕ → Option (List ℕ)) (matches : ArgMat
   pub making : makes request ≡ true → subcommand_name_of matches ≡ Some (codes "make")
   pub sequence : is_sequence request ≡ true → is_of_sequence matches ≡ true
 
+-- What a run answers that doesn't end with a fault: the arguments ask for help or for the version, or a request was read from what
+-- clap finds in them.
+abbrev pub IsAsked : (List ℕ → Option (List ℕ)) → List Text → Type 0
+IsAsked content words = (ask_for_help words ≡ true) ⊎ ((matches : ArgMatches) × IsFoundIn words matches × (request : Request) × IsReadAs content matches request)
+
 -- Unless there is a fault, what this request asks for was printed, with each payload that is known to be the one that it names.
 abbrev pub AnswersRequest : (List ℕ → Option (List ℕ)) → Request → List ℕ → Option (List ℕ) → Option (List ℕ) → ℕ → Type 0
 AnswersRequest content request bytes old new status = (payload : Option (List ℕ)) → payload_for content request ≡ Some payload → EndsWith (asked_for request payload bytes) old new status

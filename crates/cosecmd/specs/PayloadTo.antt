@@ -1,5 +1,5 @@
 -- The payload of a message, which is kept in a new file where the message is authentic.
-use Rattle.std.specs.Prelude.{◌≡◌, ℕ, ◌⊎◌, Bool, true, false, List, [], Option, Some, None, Result, Ok, Err, IfOk, ⊤, codes, if◌then◌else◌}
+use Rattle.std.specs.Prelude.{◌≡◌, ℕ, ◌<◌, ◌⊎◌, true, false, List, [], Option, Some, None, Result, Ok, Err, IfOk, ⊤, codes, if◌then◌else◌}
 use Rattle.std.specs.Io.KnownBytes.{Appends}
 use Rattle.std.specs.Str.{bytes_eq}
 use Rattle.clap.specs.Simple.{subcommand_rows_of}
@@ -9,7 +9,10 @@ use Rattle.cose_map.specs.Key.Value.{KeyValue}
 use Rattle.cose_map.specs.Map.Read.{Read}
 use Rattle.cose_msg.specs.Message.{Decides, Setting, message, verifying}
 use Rattle.cose_msg.specs.Sink.{AppendsFront}
-use Rattle.cosecmd.specs.CommandLine.{IsFoundIn}
+use Rattle.cosecmd.specs.CommandLine.{IsFoundIn, ask_for_help}
+use Rattle.cosecmd.specs.Fields.{checks_in}
+use Rattle.cosecmd.specs.InputForm.{input_bytes}
+use Rattle.cosecmd.specs.NewFile.{Made, Stands, content_of}
 use Rattle.cosecmd.specs.Options.{Options, text_in}
 use Rattle.cosecmd.specs.Payload.{detached_in}
 use Rattle.cosecmd.specs.Printed.{setting_under, verified_under}
@@ -18,6 +21,7 @@ use Rattle.cosecmd.specs.Vouch.{vouching}
 use Rattle.cosecmd.specs.Arguments.{asked_for, is_sequence, makes, payload_for}
 use Rattle.cosecmd.specs.declared.fault.Fault.{Fault}
 use Rattle.cosecmd.specs.declared.fault.Fault.TheVariants as faults
+use Rattle.cosecmd.specs.declared.new_file.Standing.TheVariants as standings
 use Rattle.cosecmd.specs.declared.request.OwnedChecks.{OwnedChecks}
 use Rattle.cosecmd.specs.declared.request.Payload.{Payload}
 use Rattle.cosecmd.specs.declared.request.Request.{Request}
@@ -65,15 +69,60 @@ new_file_for (asks.TokenSequence words) = None
 new_file_for (asks.Keys words) = None
 new_file_for (asks.Make words) = None
 
+-- What the message is verified under whose payload a request keeps.
+abbrev pub kept_under : Request → Option Under
+kept_under (asks.Keep checks name) = Some (owned_under checks)
+kept_under (asks.Show limits wanted details) = None
+kept_under (asks.Message question checks payload) = None
+kept_under (asks.MessageSequence checks) = None
+kept_under (asks.Cwt words) = None
+kept_under (asks.TokenSequence words) = None
+kept_under (asks.Keys words) = None
+kept_under (asks.Make words) = None
+
 -- A request to verify a message under these checks, with this payload.
 pub record AsksToVerify (checks : OwnedChecks) (payload : Payload) (request : Request) : Type 0 where
   pub payload_is : (content : List ℕ → Option (List ℕ)) → payload_for content request ≡ detached_in content payload
   pub asked : (detached : Option (List ℕ)) (bytes : List ℕ) → asked_for request detached bytes ≡ verified_under (owned_under checks) detached bytes
   pub makes_none : makes request ≡ false
   pub one : is_sequence request ≡ false
+  pub kept : (name : List ℕ) → new_file_for request ≡ Some name → kept_under request ≡ Some (owned_under checks)
 
--- Where the arguments name a new file whose name exists, nothing of the input is read, and there is a fault.
-abbrev pub ReadsNothingBefore : {R : Type 0} → (List ℕ → Option Bool) → List Text → R → R → ℕ → Type 0
-ReadsNothingBefore is_taken words old new status = (new ≡ old)
+-- A request that keeps a payload verifies its message under what the options say, where each argument is in order and the bytes
+-- of a file that is named are known.
+abbrev pub KeepsUnder : Option Under → Request → Type 0
+KeepsUnder said request = (name : List ℕ) (under : Under) → new_file_for request ≡ Some name → said ≡ Some under → kept_under request ≡ Some under
+
+abbrev pub checks_named : (List ℕ → Option (List ℕ)) → Option (Text × Options) → Option Under
+checks_named content None = None
+checks_named content (Some command) = checks_in content command.1
+
+-- What a run that ends with this status has left of the file of this name: it is kept after an accepting answer alone. After a
+-- fault it may be that none was made, or that the system doesn't remove it. Where the name exists, none is made.
+pub record Settles (name : List ℕ) (old new : Made) (status : ℕ) : Type 0 where
+  pub kept : status ≡ 0 → Stands name standings.Kept new
+  pub refused : status ≡ 1 → Stands name standings.Gone new
+  pub fault : status ≡ 2 → (new.file ≡ old.file) ⊎ (Stands name standings.Gone new ⊎ Stands name standings.Stuck new)
+  pub taken : new.is_taken ≡ Some true → new.file ≡ old.file
+
+-- The new file is the one that the arguments name. Where they name none, none is made.
+abbrev pub SettlesNamed : Option Text → Made → Made → ℕ → Type 0
+SettlesNamed None old new status = new ≡ old
+SettlesNamed (Some name) old new status = Settles name old new status
+
+abbrev pub EndsWithFile : List Text → Made → Made → ℕ → Type 0
+EndsWithFile words old new status = ((new ≡ old) × (status < 2 → ask_for_help words ≡ true))
+    ⊎ ((matches : ArgMatches) × IsFoundIn words matches × SettlesNamed (new_file_of (subcommand_rows_of matches)) old new status)
+
+-- After an accepting answer the new file that the arguments name holds the payload of the message.
+abbrev pub KeepsPayload : (List ℕ → Option (List ℕ)) → List Text → List ℕ → Made → ℕ → Type 0
+KeepsPayload content words bytes new status = (status < 2 → ask_for_help words ≡ true)
     ⊎ ((matches : ArgMatches) × IsFoundIn words matches
-    × ((name : Text) → new_file_of (subcommand_rows_of matches) ≡ Some name → is_taken name ≡ Some true → (new ≡ old) × (status ≡ 2)))
+    × ((name : Text) (under : Under) → new_file_of (subcommand_rows_of matches) ≡ Some name → checks_named content (subcommand_rows_of matches) ≡ Some under → status ≡ 0 →
+    content_of new ≡ Some (payload_under under (input_bytes matches bytes))))
+
+-- Where the arguments name a new file, and none is made, nothing of the input is read, and there is a fault.
+abbrev pub ReadsNothingBefore : {R : Type 0} → List Text → Made → Made → R → R → ℕ → Type 0
+ReadsNothingBefore words made made_after old new status = (new ≡ old)
+    ⊎ ((matches : ArgMatches) × IsFoundIn words matches
+    × ((name : Text) → new_file_of (subcommand_rows_of matches) ≡ Some name → made_after.file ≡ made.file → (new ≡ old) × (status ≡ 2)))

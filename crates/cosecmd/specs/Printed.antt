@@ -106,6 +106,7 @@ program_setting keys aad wanted = record {
   understood = [];
   payload_limit = 2 ^ 56 - 1;
   source = attached;
+  elsewhere = false;
 }
 
 abbrev pub setting_under : Under → List KeyValue → Setting

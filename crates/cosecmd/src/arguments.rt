@@ -8,7 +8,7 @@ ghost use Rattle.cosecmd.specs.CommandLine.{AsksFor, IsReadFrom, ask_for_help, b
 ghost use Rattle.cosecmd.specs.Fields.{AreChecks, CwtFields, HasKeysOf, IsKeyOf, IsListedAs, KeysFields, MakeFields, checks_in, digest_checks_in};
 ghost use Rattle.cosecmd.specs.Options.{algorithm_in, bytes_in, details_in, flag_in, hex_bytes, integer_in, kind_in, kind_named, limits_in, limits_named, message_in, number_in, optional_bytes_in, options_of, payload_in, text_in};
 ghost use Rattle.cosecmd.specs.Payload.{IsFile, detached_in};
-ghost use Rattle.cosecmd.specs.PayloadTo.{AsksToVerify, new_file_for, new_file_of};
+ghost use Rattle.cosecmd.specs.PayloadTo.{AsksToVerify, KeepsUnder, checks_named, new_file_for, new_file_of};
 ghost use Rattle.cosecmd.specs.Printed.{Output};
 ghost use Rattle.cosecmd.specs.Arguments.{is_sequence, makes, payload_for};
 
@@ -498,6 +498,8 @@ fn message_request<'a, F: NamedFiles>(
     // Where the arguments name a new file, the payload is to be kept in it.
     ensures keeps { IfOk result (λ request. new_file_for request
         ≡ text_in (codes "payload-to") (options_of matches.now)) }
+    ensures kept { IfOk result
+        (KeepsUnder (checks_in (F.content files.now) (options_of matches.now))) }
 {
     let checks = checks_of(alloc, files, matches)?;
     let payload = payload_of(alloc, matches)?;
@@ -518,6 +520,8 @@ fn sequence_request<'a, F: NamedFiles>(
     ensures verifies { IfOk result (λ request. makes request ≡ false) }
     ensures keeps { IfOk result (λ request. new_file_for request
         ≡ text_in (codes "payload-to") (options_of matches.now)) }
+    ensures kept { IfOk result
+        (KeepsUnder (checks_in (F.content files.now) (options_of matches.now))) }
 {
     // clap refuses the options together.
     if text_of(matches, "payload-to").is_some() {
@@ -542,6 +546,8 @@ fn verify_request<'a, F: NamedFiles>(
     // Where the arguments name a new file, the payload is to be kept in it.
     ensures keeps { IfOk result (λ request. new_file_for request
         ≡ text_in (codes "payload-to") (options_of matches.now)) }
+    ensures kept { IfOk result
+        (KeepsUnder (checks_in (F.content files.now) (options_of matches.now))) }
     // It is a sequence only where the option says so.
     ensures sequence { IfOk result (λ request. is_sequence request ≡ true
         → flag_in (codes "sequence") (options_of matches.now) ≡ true) }
@@ -640,6 +646,9 @@ pub fn request_of<'a, F: NamedFiles>(
     // A new file is made where the arguments name one.
     ensures keeping { IfOk result (λ request. new_file_for request
         ≡ new_file_of (subcommand_rows_of matches.now)) }
+    // The message whose payload is kept in it is verified under what the options say.
+    ensures kept { IfOk result
+        (KeepsUnder (checks_named (F.content files.now) (subcommand_rows_of matches.now))) }
     // A sequence is asked for only where the option says so.
     ensures sequence { IfOk result (λ request. is_sequence request ≡ true
         → is_of_sequence matches.now ≡ true) }

@@ -1,10 +1,10 @@
 //! The new files of the process. What is written has no name while it is written, and goes into a file that has one only where it
 //! is kept: a process that is ended before leaves nothing.
 
-ghost use Rattle.std.specs.Prelude.{◌≡◌, true, None};
+ghost use Rattle.std.specs.Prelude.{◌≡◌, true, IfErr, IfOk};
 ghost use Rattle.std.specs.Fs.{asks_create_new};
 
-use crate::new_file::{NewFile, NewFiles, Standing};
+use crate::new_file::{NewFiles, Standing};
 use std::alloc::Global;
 use std::fs::{File, Metadata, OpenOptions};
 use std::io::{BufWriter, Error, ErrorKind, Seek, SeekFrom, Write};
@@ -15,17 +15,30 @@ use std::{fs, io};
 /// The most bytes that are held before they are written.
 const ROOM: usize = 16_384;
 
+/// The new files of the process: what was found of the name, and the file.
+#[derive(Drop)]
+pub struct HostFiles {
+    rt: HostRuntime,
+    /// Whether something had the name, once that was looked at.
+    is_taken: Option<bool>,
+    file: Option<HostFile>,
+}
+
 /// A new file of the process.
 #[derive(Drop)]
 pub struct HostFile {
     rt: HostRuntime,
-    /// The file without a name, to which is written.
-    writer: BufWriter<File>,
     /// The file that has a name, once it is made.
     named: Option<File>,
     name: String,
     temporary: String,
     standing: Standing,
+}
+
+/// The file without a name, to which is written.
+#[derive(Drop)]
+pub struct NamelessFile {
+    writer: BufWriter<File>,
 }
 
 /// What has this name, if anything has it.
@@ -92,6 +105,20 @@ fn copy(mut from: &File, mut to: &File) -> io::Result<()> {
 }
 
 impl HostFile {
+    /// The file that is to have this name.
+    fn new(rt: HostRuntime, name: String, temporary: String) -> HostFile
+        ensures name { result.name ≡ name }
+        ensures standing { result.standing ≡ Standing.Unnamed }
+    {
+        HostFile {
+            rt,
+            named: None,
+            name,
+            temporary,
+            standing: Standing::Unnamed,
+        }
+    }
+
     /// The file that has a name.
     fn named(&self) -> io::Result<&File> {
         match &self.named {
@@ -100,17 +127,14 @@ impl HostFile {
         }
     }
 
-    /// Makes the file that has a name, at first the temporary one.
-    fn name_temporarily(&mut self) -> io::Result<()> {
+    /// Makes the file that has a name, at first the temporary one, and copies into it what was written.
+    fn name_temporarily(&mut self, written: &File) -> io::Result<()>
+        ensures name { self.new.name ≡ self.old.name }
+    {
         let named = new_file_options().open(&self.rt, self.temporary.as_str())?;
         self.named = Some(named);
         self.standing = Standing::Temporary;
-        self.copy_written()
-    }
-
-    /// Copies what was written into the file that has a name.
-    fn copy_written(&self) -> io::Result<()> {
-        copy(self.writer.get_ref(), self.named()?)
+        copy(written, self.named()?)
     }
 
     /// Removes the temporary name.
@@ -128,7 +152,9 @@ impl HostFile {
     }
 
     /// Gives the file its own name, and takes the temporary one from it.
-    fn take_name(&mut self) -> io::Result<()> {
+    fn take_name(&mut self) -> io::Result<()>
+        ensures name { self.new.name ≡ self.old.name }
+    {
         self.expect(self.temporary.as_str())?;
         // A link never takes the place of a file that has the name by now, as renaming would.
         fs::hard_link(&self.rt, self.temporary.as_str(), self.name.as_str())?;
@@ -157,30 +183,24 @@ impl HostFile {
             Standing::Stuck => Err(Error::from(ErrorKind::Other)),
         }
     }
-}
 
-impl Write for HostFile {
-    fn write(&mut self, bytes: &[u8]) -> io::Result<usize> {
-        self.writer.write(bytes)
-    }
-
-    fn flush(&mut self) -> io::Result<()> {
-        self.writer.flush()
-    }
-}
-
-impl NewFile for HostFile {
-    ghost standing = { λ file. file.standing };
-
-    fn keep(&mut self) -> io::Result<()> {
-        self.writer.flush()?;
-        self.name_temporarily()?;
+    /// Gives what was written its own name.
+    fn keep(&mut self, written: &File) -> io::Result<()>
+        ensures name { self.new.name ≡ self.old.name }
+        ensures kept { IfOk result (λ _. self.new.standing ≡ Standing.Kept) }
+    {
+        self.name_temporarily(written)?;
         self.take_name()?;
         self.standing = Standing::Kept;
         Ok(())
     }
 
-    fn discard(&mut self) -> io::Result<()> {
+    /// Removes the file.
+    fn discard(&mut self) -> io::Result<()>
+        ensures name { self.new.name ≡ self.old.name }
+        ensures gone { IfOk result (λ _. self.new.standing ≡ Standing.Gone) }
+        ensures stuck { IfErr result (λ _. self.new.standing ≡ Standing.Stuck) }
+    {
         match self.remove_names() {
             Ok(()) => {
                 self.standing = Standing::Gone;
@@ -194,30 +214,67 @@ impl NewFile for HostFile {
     }
 }
 
-/// The new files of the process.
-impl NewFiles for HostRuntime {
-    type New = HostFile;
-
-    ghost is_taken = { λ _ _. None };
-
-    fn exists(&self, name: &str) -> io::Result<bool> {
-        Ok(found(self, name)?.is_some())
+impl Write for NamelessFile {
+    fn write(&mut self, bytes: &[u8]) -> io::Result<usize> {
+        self.writer.write(bytes)
     }
 
-    fn create(&self, alloc: Global, name: &str) -> io::Result<HostFile> {
-        if name.is_empty() {
+    fn flush(&mut self) -> io::Result<()> {
+        self.writer.flush()
+    }
+}
+
+impl HostFiles {
+    /// Before any file is made.
+    pub fn new(rt: HostRuntime) -> HostFiles {
+        HostFiles {
+            rt,
+            is_taken: None,
+            file: None,
+        }
+    }
+}
+
+impl NewFiles for HostFiles {
+    type New = NamelessFile;
+
+    ghost use Rattle.std.specs.Prelude.{false, option_map};
+    ghost use Rattle.cosecmd.specs.HostFile.{made_file};
+
+    ghost made = { λ files. record { is_taken = files.is_taken; file = option_map made_file files.file } };
+
+    ghost is_known = { false };
+
+    fn look(&mut self, name: &str) -> io::Result<bool> {
+        let is_taken = found(&self.rt, name)?.is_some();
+        self.is_taken = Some(is_taken);
+        Ok(is_taken)
+    }
+
+    fn create(&mut self, alloc: Global, name: &str) -> io::Result<NamelessFile> {
+        if name.is_empty() || self.file.is_some() {
             return Err(Error::from(ErrorKind::InvalidInput));
         }
-        let temporary = temporary_name(self, alloc, name)?;
+        let temporary = temporary_name(&self.rt, alloc, name)?;
         let name = format!(in alloc; "{name}")?;
-        let file = nameless(self, temporary.as_str())?;
-        Ok(HostFile {
-            rt: *self,
-            writer: BufWriter::with_capacity(alloc, ROOM, file)?,
-            named: None,
-            name,
-            temporary,
-            standing: Standing::Unnamed,
-        })
+        let file = nameless(&self.rt, temporary.as_str())?;
+        let writer = BufWriter::with_capacity(alloc, ROOM, file)?;
+        self.file = Some(HostFile::new(self.rt, name, temporary));
+        Ok(NamelessFile { writer })
+    }
+
+    fn keep(&mut self, file: &mut NamelessFile) -> io::Result<()> {
+        file.writer.flush()?;
+        match &mut self.file {
+            Some(named) => named.keep(file.writer.get_ref()),
+            None => Err(Error::from(ErrorKind::NotFound)),
+        }
+    }
+
+    fn discard(&mut self) -> io::Result<()> {
+        match &mut self.file {
+            Some(named) => named.discard(),
+            None => Ok(()),
+        }
     }
 }

@@ -42,7 +42,7 @@ use advice::Ended;
 use argument_advice::say_of_arguments;
 use cose_text::{InputForm, TextFault, TextInput};
 use hints::Form;
-use noted_files::NotedFiles;
+use noted_files::{NotedFiles, NotedNewFiles};
 use run::run_with_files;
 use std::alloc::{AllocError, Global};
 use std::io::{ErrorKind, IsTerminal, Write};
@@ -136,10 +136,18 @@ fn run_command(rt: &HostRuntime, words: &[&str], is_closed: bool) -> u8 {
         let _ = rt.eprintln("cosecmd: reading from this terminal, up to its end of file");
     }
     let files = NotedFiles::new(rt, words);
+    let mut new_files = NotedNewFiles::new(rt);
     let mut noted = Noted::new(rt.stdin());
     let mut input = TextInput::new(&mut noted);
     let mut output = Noted::new(rt.stdout());
-    let status = run_with_files(rt.alloc(), words, &files, &mut input, &mut output);
+    let status = run_with_files(
+        rt.alloc(),
+        words,
+        &files,
+        &mut new_files,
+        &mut input,
+        &mut output,
+    );
     let fault = input.fault();
     let form = form_named_in(words);
     if let Some(fault) = fault {

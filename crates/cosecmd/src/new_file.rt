@@ -1,7 +1,7 @@
 //! Files that are new: the payload of an authentic message is kept in one.
 
-ghost use Rattle.std.specs.Prelude.{◌≡◌, ℕ, Bool, List, Option, Some, None, IfErr, IfOk};
-ghost use Rattle.std.specs.Io.KnownBytes.{Keeps};
+ghost use Rattle.std.specs.Prelude.{◌≡◌, ℕ, Bool, true, List, [], Option, Some, None, IfErr, IfOk};
+ghost use Rattle.cosecmd.specs.NewFile.{IsFirstFile, IsSettled, Made, looked, settled};
 
 use crate::files::NoFiles;
 use std::alloc::Global;
@@ -25,44 +25,43 @@ pub enum Standing {
     Stuck,
 }
 
-/// A file that wasn't there before. It is written under no name, and has its own name only where it is kept.
+/// Where a new file is made, at most one of a run. It is written under no name, and has its own name only where it is kept.
 ///
-/// A contract sees under which of its names it is.
-pub trait NewFile: Write {
-    ghost use Rattle.cosecmd.specs.declared.new_file.Standing.{Standing};
+/// A contract sees what was found of the name, and the file that was made: its name, under which of its names it is, and what it
+/// holds, where that is known to it.
+pub trait NewFiles {
+    /// The file while it is written.
+    type New: Write + Drop;
 
-    ghost standing: { Self → Standing };
+    ghost use Rattle.cosecmd.specs.declared.new_file.Standing.TheVariants.{Gone, Kept, Stuck};
 
-    /// Gives the file its own name, where no other file has that name by then.
-    fn keep(&mut self) -> io::Result<()>
-        ensures kept { IfOk result (λ _. standing self.new ≡ Standing.Kept) }
-        ensures bytes { Keeps (Self.contents self.old) (Self.contents self.new) };
+    ghost made: { Self → Made };
+
+    // Whether what is written to a file is known to the contract.
+    ghost is_known: { Bool };
+
+    /// Looks whether something has this name: a file, a folder, or a link, wherever that leads.
+    fn look(&mut self, name: &str) -> io::Result<bool>
+        ensures looked { IfOk result (λ is_taken. made self.new ≡ looked is_taken (made self.old)) }
+        ensures unseen { IfErr result (λ _. made self.new ≡ made self.old) };
+
+    /// Makes the file that is to have this name, in the same folder. Its owner alone may read it.
+    fn create(&mut self, alloc: Global, name: &str) -> io::Result<Self::New>
+        ensures made { IfOk result (λ _. IsFirstFile name.now (made self.old) (made self.new)) }
+        ensures looked { (made self.new).is_taken ≡ (made self.old).is_taken }
+        ensures empty { is_known ≡ true → IfOk result (λ file. Self.New.contents file ≡ Some []) }
+        ensures unmade { IfErr result (λ _. made self.new ≡ made self.old) };
+
+    /// Gives the file its own name, where no other file has that name by then. It holds what was written.
+    fn keep(&mut self, file: &mut Self::New) -> io::Result<()>
+        ensures kept { IfOk result (λ _. made self.new
+            ≡ settled Kept (Self.New.contents file.old) (made self.old)) }
+        ensures unkept { IfErr result (λ _. IsSettled (made self.old) (made self.new)) };
 
     /// Removes the file, whatever names it has. A name that another file has by then stays.
     fn discard(&mut self) -> io::Result<()>
-        ensures gone { IfOk result (λ _. standing self.new ≡ Standing.Gone) }
-        ensures stuck { IfErr result (λ _. standing self.new ≡ Standing.Stuck) };
-}
-
-/// Where new files are made.
-///
-/// A contract sees whether a name exists, where that is known to it.
-pub trait NewFiles {
-    /// A new file.
-    type New: NewFile + Drop;
-
-    ghost use Rattle.cosecmd.specs.NewFile.{IsEmpty};
-
-    ghost is_taken: { Self → List ℕ → Option Bool };
-
-    /// Whether something has this name: a file, a folder, or a link, wherever that leads.
-    fn exists(&self, name: &str) -> io::Result<bool>
-        ensures { (taken : Bool) → is_taken self.now name.now ≡ Some taken →
-            IfOk result (λ exists. exists ≡ taken) };
-
-    /// Makes a file that is to have this name, in the same folder. Its owner alone may read it.
-    fn create(&self, alloc: Global, name: &str) -> io::Result<Self::New>
-        ensures empty { IfOk result (λ file. IsEmpty (Self.New.contents file)) };
+        ensures gone { IfOk result (λ _. made self.new ≡ settled Gone None (made self.old)) }
+        ensures stuck { IfErr result (λ _. made self.new ≡ settled Stuck None (made self.old)) };
 }
 
 /// A file that isn't there.
@@ -79,31 +78,30 @@ impl Write for NoFile {
     }
 }
 
-impl NewFile for NoFile {
-    ghost use Rattle.cosecmd.specs.declared.new_file.Standing.TheVariants.{Gone};
+/// No file can be made.
+impl NewFiles for NoFiles {
+    type New = NoFile;
 
-    ghost standing = { λ _. Gone };
+    ghost use Rattle.std.specs.Prelude.{false};
 
-    fn keep(&mut self) -> io::Result<()> {
+    // Nothing has any name.
+    ghost made = { λ _. record { is_taken = Some false; file = None } };
+
+    ghost is_known = { false };
+
+    fn look(&mut self, _name: &str) -> io::Result<bool> {
+        Ok(false)
+    }
+
+    fn create(&mut self, _alloc: Global, _name: &str) -> io::Result<NoFile> {
+        Err(Error::from(ErrorKind::NotFound))
+    }
+
+    fn keep(&mut self, _file: &mut NoFile) -> io::Result<()> {
         Err(Error::from(ErrorKind::NotFound))
     }
 
     fn discard(&mut self) -> io::Result<()> {
         Ok(())
-    }
-}
-
-/// No file can be made.
-impl NewFiles for NoFiles {
-    type New = NoFile;
-
-    ghost is_taken = { λ _ _. None };
-
-    fn exists(&self, _name: &str) -> io::Result<bool> {
-        Ok(false)
-    }
-
-    fn create(&self, _alloc: Global, _name: &str) -> io::Result<NoFile> {
-        Err(Error::from(ErrorKind::NotFound))
     }
 }

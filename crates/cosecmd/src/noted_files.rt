@@ -5,9 +5,9 @@ ghost use Rattle.std.specs.Prelude.{None};
 use crate::cause::cause;
 use crate::files::NamedFiles;
 use crate::hints::{First, form_of, is_no_key, is_published, is_secret};
-use crate::host_file::HostFile;
+use crate::host_file::{HostFiles, NamelessFile};
 use crate::key_hints::fault_of_keys;
-use crate::new_file::{NewFile, NewFiles};
+use crate::new_file::NewFiles;
 use std::alloc::Global;
 use std::fs::File;
 use std::io;
@@ -110,21 +110,42 @@ impl<'r> NamedFiles for NotedFiles<'r> {
     }
 }
 
-/// A new file, of which is said why it can't be written or kept.
+/// The new files of the process, of which standard error says why they can't be made, written or kept.
+#[derive(Drop)]
+pub struct NotedNewFiles<'r> {
+    rt: &'r HostRuntime,
+    files: HostFiles,
+}
+
+impl<'r> NotedNewFiles<'r> {
+    /// Before any file is made.
+    pub fn new(rt: &'r HostRuntime) -> NotedNewFiles<'r> {
+        NotedNewFiles {
+            rt,
+            files: HostFiles::new(*rt),
+        }
+    }
+}
+
+/// A new file while it is written.
 #[derive(Drop)]
 pub struct NotedNew<'r> {
     rt: &'r HostRuntime,
-    file: HostFile,
+    file: NamelessFile,
 }
 
-impl<'r> NewFiles for NotedFiles<'r> {
+impl<'r> NewFiles for NotedNewFiles<'r> {
     type New = NotedNew<'r>;
 
-    ghost is_taken = { λ _ _. None };
+    ghost use Rattle.std.specs.Prelude.{false};
 
-    fn exists(&self, name: &str) -> io::Result<bool> {
-        let found = self.rt.exists(name);
-        match &found {
+    ghost made = { λ noted. ⟦<HostFiles as NewFiles>⟧.made noted.files };
+
+    ghost is_known = { false };
+
+    fn look(&mut self, name: &str) -> io::Result<bool> {
+        let looked = self.files.look(name);
+        match &looked {
             Ok(true) => say_cause(
                 self.rt,
                 "payload-to",
@@ -133,17 +154,36 @@ impl<'r> NewFiles for NotedFiles<'r> {
             Ok(false) => {},
             Err(error) => say_cause(self.rt, "payload-to", error),
         }
-        found
+        looked
     }
 
-    fn create(&self, alloc: Global, name: &str) -> io::Result<NotedNew<'r>> {
-        match self.rt.create(alloc, name) {
+    fn create(&mut self, alloc: Global, name: &str) -> io::Result<NotedNew<'r>> {
+        match self.files.create(alloc, name) {
             Ok(file) => Ok(NotedNew { rt: self.rt, file }),
             Err(error) => {
                 say_cause(self.rt, "payload-to", &error);
                 Err(error)
             },
         }
+    }
+
+    fn keep(&mut self, file: &mut NotedNew<'r>) -> io::Result<()> {
+        let kept = self.files.keep(&mut file.file);
+        if let Err(error) = &kept {
+            say_cause(self.rt, "payload-to", error);
+        }
+        kept
+    }
+
+    fn discard(&mut self) -> io::Result<()> {
+        let gone = self.files.discard();
+        if let Err(error) = &gone {
+            let cause = cause(error.kind());
+            let _ = eprintln!(self.rt;
+                "cosecmd: the new file of --payload-to can't be removed: {cause}"
+            );
+        }
+        gone
     }
 }
 
@@ -160,29 +200,6 @@ impl Write for NotedNew<'_> {
 
     fn flush(&mut self) -> io::Result<()> {
         self.file.flush()
-    }
-}
-
-impl NewFile for NotedNew<'_> {
-    ghost standing = { λ new. new.file.standing };
-
-    fn keep(&mut self) -> io::Result<()> {
-        let kept = self.file.keep();
-        if let Err(error) = &kept {
-            say_cause(self.rt, "payload-to", error);
-        }
-        kept
-    }
-
-    fn discard(&mut self) -> io::Result<()> {
-        let gone = self.file.discard();
-        if let Err(error) = &gone {
-            let cause = cause(error.kind());
-            let _ = eprintln!(self.rt;
-                "cosecmd: the new file of --payload-to can't be removed: {cause}"
-            );
-        }
-        gone
     }
 }
 

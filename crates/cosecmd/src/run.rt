@@ -1,17 +1,18 @@
 //! A run of the program: its arguments, and then its job.
 
-ghost use Rattle.std.specs.Prelude.{◌≡◌, ◌≢◌, ◌≤◌, ℕ, true, false, List, Option, Some, None, codes, length, map};
+ghost use Rattle.std.specs.Prelude.{◌≡◌, ◌≢◌, ◌≤◌, ◌<◌, ℕ, true, false, List, Option, Some, None, codes, length, map};
 ghost use Rattle.clap.specs.Matches.{subcommand_name_of};
 ghost use Rattle.clap.specs.Simple.{subcommand_rows_of};
 ghost use Rattle.cose_text.specs.TextInput.{reader_of};
-ghost use Rattle.cosecmd.specs.CommandLine.{Answers, FailsOn, PrintsEach, is_of_sequence, matches_print};
+ghost use Rattle.cosecmd.specs.CommandLine.{Answers, FailsOn, IsAsked, PrintsEach, is_of_sequence, matches_print};
 ghost use Rattle.cosecmd.specs.Options.{part_of_file};
 ghost use Rattle.cosecmd.specs.Payload.{detached_in};
-ghost use Rattle.cosecmd.specs.PayloadTo.{ReadsNothingBefore, new_file_for, new_file_of};
+ghost use Rattle.cosecmd.specs.NewFile.{content_of};
+ghost use Rattle.cosecmd.specs.PayloadTo.{EndsWithFile, KeepsPayload, ReadsNothingBefore, Settles, kept_under, new_file_for, new_file_of, payload_under};
 ghost use Rattle.cosecmd.specs.Printed.{EndsWith, Fails, Output, answered_under, keys_said, shown, verified_under};
 ghost use Rattle.cosecmd.specs.Replies.{FailsFor, PrintsFor};
 ghost use Rattle.cosecmd.specs.Sequence.{FailsInSequence, verified_sequence};
-ghost use Rattle.cosecmd.specs.Under.{job_under, owned_under};
+ghost use Rattle.cosecmd.specs.Under.{Under, job_under, owned_under};
 ghost use Rattle.cosecmd.specs.Arguments.{admitted_each_for, admitted_for, asked_for, is_sequence, made_for, makes, payload_for};
 
 use crate::answer::payload_to::answer_with_payload_to;
@@ -98,10 +99,10 @@ fn answer_with_file<F: NamedFiles, R: Read, W: Write>(
 /// The job of the command `verify`, where the payload is in the message, and is kept in a new file of this name. Not inlined, as
 /// `answer_with_file`.
 #[inline(never)]
-fn answer_keep<F: NewFiles, R: Read, W: Write>(
+fn answer_keep<N: NewFiles, R: Read, W: Write>(
     alloc: Global,
-    files: &F,
     checks: &OwnedChecks,
+    files: &mut N,
     name: &str,
     input: &mut R,
     output: &mut W,
@@ -113,8 +114,12 @@ fn answer_keep<F: NewFiles, R: Read, W: Write>(
     ensures fails { (bytes : List ℕ) → R.remaining input.old ≡ Some bytes → result ≡ 2 →
         Fails (verified_under (owned_under checks.now) None bytes) (W.contents output.old)
         (W.contents output.new) }
-    // Where the name exists, nothing of the input is read.
-    ensures taken { F.is_taken files.now name.now ≡ Some true →
+    ensures settled { Settles name.now (N.made files.old) (N.made files.new) result }
+    ensures payload { (bytes : List ℕ) → R.remaining input.old ≡ Some bytes →
+        N.is_known ≡ true → result ≡ 0 →
+        content_of (N.made files.new) ≡ Some (payload_under (owned_under checks.now) bytes) }
+    // Where no file is made, nothing of the input is read.
+    ensures unmade { (N.made files.new).file ≡ (N.made files.old).file →
         (input.new ≡ input.old) × (result ≡ 2) }
 {
     let checks = checks.borrowed();
@@ -200,9 +205,10 @@ fn answer_make<R: Read, W: Write>(alloc: Global, words: &Make, input: &mut R, ou
 }
 
 /// Does what the arguments ask for, and returns how the run ends.
-fn answer_request<F: NamedFiles + NewFiles, R: Read, W: Write>(
+fn answer_request<F: NamedFiles, N: NewFiles, R: Read, W: Write>(
     alloc: Global,
     files: &F,
+    new_files: &mut N,
     request: &Request,
     input: &mut R,
     output: &mut W,
@@ -222,9 +228,18 @@ fn answer_request<F: NamedFiles + NewFiles, R: Read, W: Write>(
         makes request.entry.now ≡ false → is_sequence request.entry.now ≡ false → result ≡ 2 →
         Fails (asked_for request.entry.now payload bytes) (W.contents output.old)
         (W.contents output.new) }
-    // Where the name of a new file exists, nothing of the input is read.
-    ensures taken { (name : List ℕ) → new_file_for request.entry.now ≡ Some name →
-        F.is_taken files.now name ≡ Some true → (input.new ≡ input.old) × (result ≡ 2) }
+    // What becomes of the new file that the arguments name; where they name none, none is made.
+    ensures settled { (name : List ℕ) → new_file_for request.entry.now ≡ Some name →
+        Settles name (N.made new_files.old) (N.made new_files.new) result }
+    ensures unnamed { new_file_for request.entry.now ≡ None → new_files.new ≡ new_files.old }
+    ensures payload { (under : Under) (bytes : List ℕ) →
+        kept_under request.entry.now ≡ Some under → R.remaining input.old ≡ Some bytes →
+        N.is_known ≡ true → result ≡ 0 →
+        content_of (N.made new_files.new) ≡ Some (payload_under under bytes) }
+    // Where it isn't made, nothing of the input is read.
+    ensures unmade { (name : List ℕ) → new_file_for request.entry.now ≡ Some name →
+        (N.made new_files.new).file ≡ (N.made new_files.old).file →
+        (input.new ≡ input.old) × (result ≡ 2) }
     ensures sequence { (bytes : List ℕ) → R.remaining input.old ≡ Some bytes →
         is_sequence request.entry.now ≡ true → result ≡ 2 →
         FailsInSequence (asked_for request.entry.now None) bytes (W.contents output.old)
@@ -255,7 +270,9 @@ fn answer_request<F: NamedFiles + NewFiles, R: Read, W: Write>(
                 }
             }
         }
-        Request::Keep { checks, name } => answer_keep(alloc, files, checks, name, input, output),
+        Request::Keep { checks, name } => {
+            answer_keep(alloc, checks, new_files, name, input, output)
+        }
         Request::MessageSequence(checks) => answer_messages(alloc, checks, input, output),
         Request::Cwt(words) => answer_cwt(alloc, words, input, output),
         Request::TokenSequence(words) => answer_tokens(alloc, words, input, output),
@@ -280,7 +297,7 @@ pub fn run<'a, R: Read, W: Write>(
         (W.contents output.old) (W.contents output.new) }
 {
     let mut text = TextInput::new(input);
-    run_with_files(alloc, words, &NoFiles, &mut text, output)
+    run_with_files(alloc, words, &NoFiles, &mut NoFiles, &mut text, output)
 }
 
 /// Runs the program: `words` are the arguments of the command line, the first of them the program's name. The message,
@@ -292,14 +309,19 @@ pub fn run<'a, R: Read, W: Write>(
 /// that is admitted (and for help and the version), 1 for a message or a token that is refused, and 2 where there is no
 /// answer and no whole message: the command line is wrong, a file of the keys or of the payload can't be read, the keys are
 /// refused, a request for memory is refused, or the input or the output fails.
-pub fn run_with_files<'a, F: NamedFiles + NewFiles, R: Read, W: Write>(
+pub fn run_with_files<'a, F: NamedFiles, N: NewFiles, R: Read, W: Write>(
     alloc: Global,
     words: &'a [&'a str],
     files: &F,
+    new_files: &mut N,
     input: &mut TextInput<R>,
     output: &mut W,
 ) -> u8
     ensures status { result ≤ 2 }
+    // Whatever the input is, the status is 0 or 1 only where the arguments ask for help or the version, or where a request was
+    // read from what clap finds in them.
+    ensures asked { result < 2 →
+        IsAsked (F.content files.now) (map (λ word. word.now) words.entry.now) }
     // Unless there is a fault, it prints help or the version, which a word of the arguments asks for, or the output for a request
     // that it reads from the options that clap finds in them. So only then the status is 0 or 1.
     ensures printed { (bytes : List ℕ) → R.remaining (reader_of input.old) ≡ Some bytes →
@@ -310,16 +332,25 @@ pub fn run_with_files<'a, F: NamedFiles + NewFiles, R: Read, W: Write>(
     ensures fails { (bytes : List ℕ) → R.remaining (reader_of input.old) ≡ Some bytes → result ≡ 2 →
         FailsOn (F.content files.now) (map (λ word. word.now) words.entry.now) bytes
         (W.contents output.old) (W.contents output.new) }
-    // Where the arguments name a new file whose name exists, nothing of the input is read.
-    ensures unread { ReadsNothingBefore (F.is_taken files.now)
-        (map (λ word. word.now) words.entry.now) (reader_of input.old)
+    // Where the arguments name a new file, it is kept after an accepting answer, and after any other it has no name, unless the
+    // system doesn't remove it. No other file is made.
+    ensures new_file { EndsWithFile (map (λ word. word.now) words.entry.now)
+        (N.made new_files.old) (N.made new_files.new) result }
+    // The file that is kept holds exactly the payload, where what is written to files is known.
+    ensures payload { (bytes : List ℕ) → R.remaining (reader_of input.old) ≡ Some bytes →
+        N.is_known ≡ true →
+        KeepsPayload (F.content files.now) (map (λ word. word.now) words.entry.now) bytes
+        (N.made new_files.new) result }
+    // Where it isn't made, as where its name exists, nothing of the input is read.
+    ensures unread { ReadsNothingBefore (map (λ word. word.now) words.entry.now)
+        (N.made new_files.old) (N.made new_files.new) (reader_of input.old)
         (reader_of input.new) result }
 {
     match parse(alloc, words) {
         Ok(Parsed::Matches(matches)) => match request_of(alloc, files, &matches) {
             Ok(request) => {
                 input.read_as(input_form_of(&matches));
-                answer_request(alloc, files, &request, input, output)
+                answer_request(alloc, files, new_files, &request, input, output)
             }
             Err(fault) => print_fault(alloc, fault, output).code(),
         },

@@ -1,17 +1,17 @@
 //! The job `verify` with a new file that the payload of an authentic message is kept in.
 
-ghost use Rattle.std.specs.Prelude.{◌≡◌, ◌≢◌, ◌≤◌, ◌⊎◌, ◌||◌, ℕ, true, List, Some, None, IfErr, IfOk, IsErr, length};
-ghost use Rattle.std.specs.Io.KnownBytes.{Appends, Keeps};
+ghost use Rattle.std.specs.Prelude.{◌≡◌, ◌≢◌, ◌≤◌, ◌⊎◌, ◌||◌, ℕ, true, List, [], Some, None, IfErr, IfOk, IsErr, length};
+ghost use Rattle.std.specs.Io.KnownBytes.{Appends};
 ghost use Rattle.cose_map.specs.KeyTable.{keys as usable};
 ghost use Rattle.cose_msg.specs.Verifier.{setting_of};
 ghost use Rattle.cosecmd.specs.Faults.{fails_by_file, fails_by_input};
 ghost use Rattle.cosecmd.specs.Limits.{AreSizesUnder};
-ghost use Rattle.cosecmd.specs.NewFile.{IsRemoved};
+ghost use Rattle.cosecmd.specs.NewFile.{IsFirstFile, IsRemoved, IsSettled, MadeFile, Stands, content_of, settled};
 ghost use Rattle.cosecmd.specs.PayloadTo.{IsOfNewFile, PutsPayload, WritesFileFault, payload_in, payload_under};
 ghost use Rattle.cosecmd.specs.Printed.{Output, Says, verified_for};
 ghost use Rattle.cosecmd.specs.Replies.{FailsFor, IsVerdictOfInput, PrintsFor, RepliesTo, vouching_by};
 ghost use Rattle.cosecmd.specs.Under.{job_under};
-ghost use Rattle.cosecmd.specs.declared.new_file.Standing.TheVariants.{Gone, Kept};
+ghost use Rattle.cosecmd.specs.declared.new_file.Standing.TheVariants.{Gone, Kept, Stuck};
 
 use crate::answer::verdict::{CHUNK, program_context, reply_of, whole_verdict};
 use crate::fault::Fault;
@@ -19,7 +19,7 @@ use crate::job::Checks;
 use crate::limits::{
     LARGE_HEADER, LARGE_KEYS, LARGE_NESTING, Limits, SMALL_HEADER, SMALL_KEYS, SMALL_NESTING,
 };
-use crate::new_file::{NewFile, NewFiles};
+use crate::new_file::NewFiles;
 use crate::print::{print_fault, print_reply};
 use crate::reply::{Reply, Status};
 use crate::vouch::Vouch;
@@ -137,74 +137,78 @@ fn reply_written<N: Write, R: Read>(
 }
 
 /// Gives the file its own name. Where that fails, it is removed.
-fn keep<N: NewFile>(file: &mut N) -> Result<(), Fault>
-    ensures kept { IfOk result (λ _. N.standing file.new ≡ Kept) }
-    ensures bytes { IfOk result (λ _. Keeps (N.contents file.old) (N.contents file.new)) }
-    ensures removed { IfErr result (λ _. IsRemoved (N.standing file.new)) }
+fn keep<N: NewFiles>(files: &mut N, file: &mut N::New) -> Result<(), Fault>
+    ensures kept { IfOk result (λ _. N.made files.new
+        ≡ settled Kept (N.New.contents file.old) (N.made files.old)) }
+    ensures removed { IfErr result (λ _. IsRemoved (N.made files.old) (N.made files.new)) }
 {
-    match file.keep() {
+    match files.keep(file) {
         Ok(()) => Ok(()),
         Err(error) => {
-            let _ = file.discard();
+            let _ = files.discard();
             Err(Fault::file("payload-to", &error))
         }
     }
 }
 
 /// Removes the file.
-fn discard<N: NewFile>(file: &mut N) -> Result<(), Fault>
-    ensures gone { IfOk result (λ _. N.standing file.new ≡ Gone) }
-    ensures removed { IsRemoved (N.standing file.new) }
+fn discard<N: NewFiles>(files: &mut N) -> Result<(), Fault>
+    ensures gone { IfOk result (λ _. N.made files.new ≡ settled Gone None (N.made files.old)) }
+    ensures removed { IsRemoved (N.made files.old) (N.made files.new) }
 {
-    match file.discard() {
+    match files.discard() {
         Ok(()) => Ok(()),
         Err(error) => Err(Fault::file("payload-to", &error)),
     }
 }
 
 /// Keeps the file where its message is authentic, and removes it where it is refused.
-fn settle<N: NewFile>(reply: Reply, file: &mut N) -> Result<Reply, Fault>
+fn settle<N: NewFiles>(reply: Reply, files: &mut N, file: &mut N::New) -> Result<Reply, Fault>
     ensures same { (said : Output) → Says said reply → IfOk result (Says said) }
-    ensures kept { IfOk result (λ said. said.status ≡ Status.Done →
-        (N.standing file.new ≡ Kept) × Keeps (N.contents file.old) (N.contents file.new)) }
+    ensures kept { IfOk result (λ said. said.status ≡ Status.Done → N.made files.new
+        ≡ settled Kept (N.New.contents file.old) (N.made files.old)) }
     ensures gone { IfOk result (λ said. said.status ≢ Status.Done →
-        N.standing file.new ≡ Gone) }
-    ensures removed { IfErr result (λ _. IsRemoved (N.standing file.new)) }
+        N.made files.new ≡ settled Gone None (N.made files.old)) }
+    ensures removed { IfErr result (λ _. IsRemoved (N.made files.old) (N.made files.new)) }
 {
     match reply.status {
-        Status::Done => keep(file)?,
-        Status::Refused | Status::Fault => discard(file)?,
+        Status::Done => keep(files, file)?,
+        Status::Refused | Status::Fault => discard(files)?,
     }
     Ok(reply)
 }
 
 /// The same, where there is a fault perhaps: then the file is removed.
-fn settle_reply<N: NewFile>(reply: Result<Reply, Fault>, file: &mut N) -> Result<Reply, Fault>
+fn settle_reply<N: NewFiles>(
+    reply: Result<Reply, Fault>,
+    files: &mut N,
+    file: &mut N::New,
+) -> Result<Reply, Fault>
     ensures same { (said : Output) → IfOk reply (Says said) → IfOk result (Says said) }
-    ensures kept { IfOk result (λ said. said.status ≡ Status.Done →
-        (N.standing file.new ≡ Kept) × Keeps (N.contents file.old) (N.contents file.new)) }
+    ensures kept { IfOk result (λ said. said.status ≡ Status.Done → N.made files.new
+        ≡ settled Kept (N.New.contents file.old) (N.made files.old)) }
     ensures gone { IfOk result (λ said. said.status ≢ Status.Done →
-        N.standing file.new ≡ Gone) }
-    ensures removed { IfErr result (λ _. IsRemoved (N.standing file.new)) }
+        N.made files.new ≡ settled Gone None (N.made files.old)) }
+    ensures removed { IfErr result (λ _. IsRemoved (N.made files.old) (N.made files.new)) }
     ensures fault { IfErr reply (λ _. IsErr result) }
 {
     match reply {
-        Ok(reply) => settle(reply, file),
+        Ok(reply) => settle(reply, files, file),
         Err(fault) => {
-            let _ = discard(file);
+            let _ = discard(files);
             Err(fault)
         }
     }
 }
 
 /// Removes the file where a run ends with a fault.
-fn withdraw<N: NewFile>(status: Status, file: &mut N)
-    ensures stays { status ≢ Status.Fault → file.new ≡ file.old }
-    ensures removed { status ≡ Status.Fault → IsRemoved (N.standing file.new) }
+fn withdraw<N: NewFiles>(status: Status, files: &mut N)
+    ensures stays { status ≢ Status.Fault → files.new ≡ files.old }
+    ensures removed { status ≡ Status.Fault → IsRemoved (N.made files.old) (N.made files.new) }
 {
     match status {
         Status::Fault => {
-            let _ = discard(file);
+            let _ = discard(files);
         }
         Status::Done | Status::Refused => {}
     }
@@ -212,10 +216,11 @@ fn withdraw<N: NewFile>(status: Status, file: &mut N)
 
 /// Does the job `verify` with a new file, to which the payload is written while the message is read. The file is kept only
 /// after the authentic verdict, where no byte follows the message; in all else it is as [`answer`](crate::answer::answer).
-pub fn answer_to_new_file<N: NewFile, R: Read, W: Write>(
+pub fn answer_to_new_file<N: NewFiles, R: Read, W: Write>(
     alloc: Global,
     checks: &Checks,
-    file: &mut N,
+    files: &mut N,
+    file: &mut N::New,
     input: &mut R,
     output: &mut W,
 ) -> u8
@@ -227,27 +232,33 @@ pub fn answer_to_new_file<N: NewFile, R: Read, W: Write>(
     ensures fails { FailsFor (R.remaining input.old) (verified_for checks.now None)
         (W.contents output.old) (W.contents output.new) result }
     // Where it says authentic, the file is kept, and exactly the payload was written to it.
-    ensures kept { result ≡ 0 → N.standing file.new ≡ Kept }
-    ensures payload { (bytes : List ℕ) → R.remaining input.old ≡ Some bytes → result ≡ 0 →
-        Appends (N.contents file.old) (N.contents file.new)
+    ensures kept { result ≡ 0 → N.made files.new
+        ≡ settled Kept (content_of (N.made files.new)) (N.made files.old) }
+    ensures payload { (made : MadeFile) (bytes : List ℕ) → (N.made files.old).file ≡ Some made →
+        R.remaining input.old ≡ Some bytes → result ≡ 0 →
+        Appends (N.New.contents file.old) (content_of (N.made files.new))
         (payload_under (job_under checks.now) bytes) }
     // After a refusal the file is gone, and after a fault too, unless the system doesn't remove it.
-    ensures refused { result ≡ 1 → N.standing file.new ≡ Gone }
-    ensures fault { result ≡ 2 → IsRemoved (N.standing file.new) }
+    ensures refused { result ≡ 1 → N.made files.new ≡ settled Gone None (N.made files.old) }
+    ensures fault { result ≡ 2 → IsRemoved (N.made files.old) (N.made files.new) }
+    ensures settled { IsSettled (N.made files.old) (N.made files.new) }
 {
     let written = reply_written(alloc, checks, file, input);
-    let reply = settle_reply(written, file);
+    let reply = settle_reply(written, files, file);
     let status = print_reply(alloc, reply, output);
-    withdraw(status, file);
+    withdraw(status, files);
     status.code()
 }
 
 /// A new file that is to have this name, where nothing has it yet.
-fn new_file<F: NewFiles>(alloc: Global, files: &F, name: &str) -> Result<F::New, Fault>
-    ensures taken { F.is_taken files.now name.now ≡ Some true → IsErr result }
+fn new_file<N: NewFiles>(alloc: Global, files: &mut N, name: &str) -> Result<N::New, Fault>
+    ensures made { IfOk result (λ _. IsFirstFile name.now (N.made files.old) (N.made files.new)) }
+    ensures empty { N.is_known ≡ true → IfOk result (λ file. N.New.contents file ≡ Some []) }
+    ensures unmade { IfErr result (λ _. (N.made files.new).file ≡ (N.made files.old).file) }
+    ensures taken { (N.made files.new).is_taken ≡ Some true → IsErr result }
     ensures fault { IfErr result IsOfNewFile }
 {
-    match files.exists(name) {
+    match files.look(name) {
         Ok(true) => Err(Fault::File("payload-to")),
         Ok(false) => files
             .create(alloc, name)
@@ -258,10 +269,10 @@ fn new_file<F: NewFiles>(alloc: Global, files: &F, name: &str) -> Result<F::New,
 
 /// Does the job `verify`, and keeps the payload of an authentic message in a new file of this name. A name that exists is a
 /// fault, before the input is read. In all else it is as [`answer_to_new_file`].
-pub fn answer_with_payload_to<F: NewFiles, R: Read, W: Write>(
+pub fn answer_with_payload_to<N: NewFiles, R: Read, W: Write>(
     alloc: Global,
     checks: &Checks,
-    files: &F,
+    files: &mut N,
     name: &str,
     input: &mut R,
     output: &mut W,
@@ -272,8 +283,20 @@ pub fn answer_with_payload_to<F: NewFiles, R: Read, W: Write>(
         (W.contents output.old) (W.contents output.new) result }
     ensures fails { FailsFor (R.remaining input.old) (verified_for checks.now None)
         (W.contents output.old) (W.contents output.new) result }
-    // Where the name exists, there is a fault, and nothing of the input is read.
-    ensures taken { F.is_taken files.now name.now ≡ Some true → (result ≡ 2)
+    // Where it says authentic, the file of this name is kept, and holds exactly the payload.
+    ensures kept { result ≡ 0 → Stands name.now Kept (N.made files.new) }
+    ensures payload { (bytes : List ℕ) → R.remaining input.old ≡ Some bytes →
+        N.is_known ≡ true → result ≡ 0 →
+        content_of (N.made files.new) ≡ Some (payload_under (job_under checks.now) bytes) }
+    // After a refusal the file is gone, and after a fault too, unless the system doesn't remove it, or none was made.
+    ensures refused { result ≡ 1 → Stands name.now Gone (N.made files.new) }
+    ensures fault { result ≡ 2 → ((N.made files.new).file ≡ (N.made files.old).file)
+        ⊎ (Stands name.now Gone (N.made files.new) ⊎ Stands name.now Stuck (N.made files.new)) }
+    // Where the name exists, no file is made.
+    ensures taken { (N.made files.new).is_taken ≡ Some true →
+        (N.made files.new).file ≡ (N.made files.old).file }
+    // Where no file is made, there is a fault, and nothing of the input is read.
+    ensures unmade { (N.made files.new).file ≡ (N.made files.old).file → (result ≡ 2)
         × (input.new ≡ input.old)
         × WritesFileFault (W.contents output.old) (W.contents output.new) }
 {
@@ -281,5 +304,5 @@ pub fn answer_with_payload_to<F: NewFiles, R: Read, W: Write>(
         Ok(file) => file,
         Err(fault) => return print_fault(alloc, fault, output).code(),
     };
-    answer_to_new_file(alloc, checks, &mut file, input, output)
+    answer_to_new_file(alloc, checks, files, &mut file, input, output)
 }

@@ -1,4 +1,4 @@
-use Rattle.std.proofs.Common.{◌∙◌}
+use Rattle.std.proofs.Common.{Some, ap, ◌∙◌}
 use Rattle.std.proofs.lemmas.Result.{IfOk-weaker}
 use Rattle.cosecmd.specs.Printed.{verified_under}
 use Rattle.cosecmd.proofs.CommandLines.{payload_asks}
@@ -24,3 +24,6 @@ pub returns-clause-payload : goal.returns-clause-payload
 returns-clause-payload g c =
     let content = g.F.NamedFiles.content c.args.files.now in
     IfOk-weaker c.verify_or_keep.result _ _ (λ request verifies. verifies.payload_is content ∙ c.in_ok-payload.ensures.value content) c.verify_or_keep.ensures.asks
+
+pub returns-clause-kept : goal.returns-clause-kept
+returns-clause-kept g c = IfOk-weaker c.verify_or_keep.result _ _ (λ request verifies name under named said. verifies.kept name named ∙ ap Some (c.in_ok-checks.ensures under said)) c.verify_or_keep.ensures.asks

@@ -2,7 +2,8 @@ use Rattle.std.proofs.Common.{◌≡◌, ◌∙◌, None, Some, ap, codes, refl}
 use Rattle.std.proofs.lemmas.Result.{IfOk-weaker}
 use Rattle.cosecmd.specs.CommandLine.{cwt_prints, has_sequence, keys_prints, make_prints}
 use Rattle.cosecmd.specs.Options.{options_of}
-use Rattle.cosecmd.proofs.CommandLines.{command_asked, command_met, keys_asks, make_asks, payload_met}
+use Rattle.cosecmd.proofs.CommandLines.{checks_met, command_asked, command_met, keys_asks, make_asks, payload_met}
+use Rattle.cosecmd.proofs.KeptRequests.{keeps_none, names_none}
 use Rattle.cosecmd.proofs.arguments.request_of.Goals as goal
 
 pub returns-in-Some-subcommand_matches-2-clause-asks : goal.returns-in-Some-subcommand_matches-2-clause-asks
@@ -78,3 +79,25 @@ returns-in_ok-make_of-in-Some-subcommand_matches-5-clause-payload g c =
     let content = g.F.NamedFiles.content c.args.files.now in
     let met = c.in-Some-subcommand_matches-5 in
     payload_met content c.args.matches.now (codes "make") (options_of met.make.now) (Some None) (met.ensures.found.0 refl) met.ensures.rows refl
+
+pub returns-in-Some-clause-kept : goal.returns-in-Some-clause-kept
+returns-in-Some-clause-kept g c = λ name under named said. names_none name _ named
+
+pub returns-in-Some-subcommand_matches-clause-kept : goal.returns-in-Some-subcommand_matches-clause-kept
+returns-in-Some-subcommand_matches-clause-kept g c =
+    let content = g.F.NamedFiles.content c.args.files.now in
+    let met = c.in-Some-subcommand_matches in
+    IfOk-weaker c.verify_request.result _ _ (λ request kept name under named said.
+    kept name under named (checks_met content c.args.matches.now (codes "verify") (options_of met.verify.now) under (met.ensures.found.0 refl) met.ensures.rows said)) c.verify_request.ensures.kept
+
+pub returns-in-Some-subcommand_matches-2-clause-kept : goal.returns-in-Some-subcommand_matches-2-clause-kept
+returns-in-Some-subcommand_matches-2-clause-kept g c = IfOk-weaker c.cwt_request.result _ _ (λ request none. keeps_none _ request none) c.cwt_request.ensures.keeps
+
+pub returns-in-Some-subcommand_matches-3-clause-kept : goal.returns-in-Some-subcommand_matches-3-clause-kept
+returns-in-Some-subcommand_matches-3-clause-kept g c = IfOk-weaker c.digest_request.result _ _ (λ request none. keeps_none _ request none) c.digest_request.ensures.keeps
+
+pub returns-in-Some-subcommand_matches-4-clause-kept : goal.returns-in-Some-subcommand_matches-4-clause-kept
+returns-in-Some-subcommand_matches-4-clause-kept g c = λ name under named said. names_none name _ named
+
+pub returns-in_ok-make_of-in-Some-subcommand_matches-5-clause-kept : goal.returns-in_ok-make_of-in-Some-subcommand_matches-5-clause-kept
+returns-in_ok-make_of-in-Some-subcommand_matches-5-clause-kept g c = λ name under named said. names_none name _ named

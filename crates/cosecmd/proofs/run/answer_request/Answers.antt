@@ -1,9 +1,11 @@
 use Rattle.std.proofs.Common.{None, Option, Some, List, ℕ, ap, ◌∙◌}
 use Rattle.cosecmd.specs.Payload.{detached_in}
+use Rattle.cosecmd.specs.PayloadTo.{payload_under}
 use Rattle.cosecmd.specs.Printed.{answered_under}
 use Rattle.cosecmd.specs.Under.{Under, owned_under}
 use Rattle.cosecmd.proofs.Asked.{ends_with, fails_with, file_detached, message_is_no_make, message_request_words, message_words, payload_of_request, same_detached, show_words}
 use Rattle.cosecmd.proofs.AskedSequences.{fails_as, message_sequence_words, token_sequence_words}
+use Rattle.cosecmd.proofs.KeptRequests.{kept_checks, settles_name}
 use Rattle.cosecmd.proofs.run.answer_request.Goals as goal
 
 pub returns-in-Show-clause-printed : goal.returns-in-Show-clause-printed
@@ -73,3 +75,13 @@ returns-in-MessageSequence-clause-sequence g c = λ bytes e is two. fails_as _ _
 
 pub returns-in-TokenSequence-clause-sequence : goal.returns-in-TokenSequence-clause-sequence
 returns-in-TokenSequence-clause-sequence g c = λ bytes e is two. fails_as _ _ bytes _ _ (λ input. token_sequence_words c.args.request.now c.in-TokenSequence.words None input c.in-TokenSequence.is) (c.answer_tokens.ensures.fails bytes e two)
+
+pub returns-in-Keep-clause-settled : goal.returns-in-Keep-clause-settled
+returns-in-Keep-clause-settled g c = λ name named. settles_name c.args.request.now c.in-Keep.checks c.in-Keep.name name _ _ _ c.in-Keep.is named c.answer_keep.ensures.settled
+
+pub returns-in-Keep-clause-payload : goal.returns-in-Keep-clause-payload
+returns-in-Keep-clause-payload g c = λ under bytes kept e known zero.
+    c.answer_keep.ensures.payload bytes e known zero ∙ ap (λ (u : Under). Some (payload_under u bytes)) (kept_checks c.args.request.now c.in-Keep.checks c.in-Keep.name under c.in-Keep.is kept)
+
+pub returns-in-Keep-clause-unmade : goal.returns-in-Keep-clause-unmade
+returns-in-Keep-clause-unmade g c = λ name named same. c.answer_keep.ensures.unmade same

@@ -1,4 +1,4 @@
-use Rattle.std.proofs.Common.{◌≡◌, ◌∙◌, ℕ, List, ap, inl, inr, rules}
+use Rattle.std.proofs.Common.{◌≡◌, ◌∙◌, ℕ, List, ap, inl, inr, refl, rules}
 use Rattle.cose_text.specs.TextInput.{reader_of}
 use Rattle.cosecmd.specs.CommandLine.{AsksFor, begins_as_answer}
 use Rattle.cosecmd.specs.InputForm.{input_bytes}
@@ -6,9 +6,23 @@ use Rattle.cosecmd.specs.declared.arguments.Parsed.TheVariants.{Matches, Text}
 use Rattle.cosecmd.proofs.Asked.{ends_with, fails_with, not_made}
 use Rattle.cosecmd.proofs.AskedSequences.{found_fails, not_of_sequence}
 use Rattle.cosecmd.proofs.CommandLines.{found_in, text_read}
+use Rattle.cosecmd.proofs.KeptRequests.{settles_named}
 use Rattle.cosecmd.proofs.Replies.{asked_where_well, ends_with_text, some_line}
 use Rattle.cosecmd.proofs.TextRequests.{read_of}
 use Rattle.cosecmd.proofs.run.run_with_files.Goals as goal
+
+pub returns-in-Ok-clause-asked : goal.returns-in-Ok-clause-asked
+returns-in-Ok-clause-asked g c = λ well.
+    let met = c.in-Ok-Matches in
+    let is : met.field-0 ≡ Matches met.matches = search rules in
+    inr (met.matches, found_in _ met.field-0 met.matches is met.ensures, c.in-Ok.request, record { payload = c.in-Ok.ensures.payload; making = c.in-Ok.ensures.making; sequence = c.in-Ok.ensures.sequence })
+
+pub returns-in-Ok-Text-clause-asked : goal.returns-in-Ok-Text-clause-asked
+returns-in-Ok-Text-clause-asked g c = λ well.
+    let met = c.in-Ok-Text in
+    let is : met.field-0 ≡ Text met.reply = search rules in
+    let read = text_read _ met.field-0 met.reply is met.ensures in
+    inl (asked_where_well _ met.reply.status c.print.result read.0 c.print.ensures.status read.2 (rw (← c.code-in-Ok-Text.ensures) well))
 
 pub returns-in-Ok-clause-printed : goal.returns-in-Ok-clause-printed
 returns-in-Ok-clause-printed g c = λ bytes e.
@@ -47,6 +61,29 @@ returns-in-Ok-clause-fails g c = λ bytes e two.
       },
     ))
 
+pub returns-in-Ok-clause-new_file : goal.returns-in-Ok-clause-new_file
+returns-in-Ok-clause-new_file g c =
+    let met = c.in-Ok-Matches in
+    let is : met.field-0 ≡ Matches met.matches = search rules in
+    inr (
+      met.matches,
+      found_in _ met.field-0 met.matches is met.ensures,
+      settles_named c.in-Ok.request _ _ _ _ c.in-Ok.ensures.keeping c.answer_request.ensures.settled (λ none. ap g.N.NewFiles.made (c.answer_request.ensures.unnamed none)),
+    )
+
+pub returns-in-Ok-clause-payload : goal.returns-in-Ok-clause-payload
+returns-in-Ok-clause-payload g c = λ bytes e is_known.
+    let met = c.in-Ok-Matches in
+    let is : met.field-0 ≡ Matches met.matches = search rules in
+    let read = input_bytes met.matches bytes in
+    let known = read_of g.R.Read.remaining c.input_form_of.result _ _ _ _ bytes c.read_as.ensures.next c.read_as.ensures.reader c.input_form_of.ensures e in
+    inr (
+      met.matches,
+      found_in _ met.field-0 met.matches is met.ensures,
+      λ name under named said zero.
+          c.answer_request.ensures.payload under read (c.in-Ok.ensures.kept name under (c.in-Ok.ensures.keeping ∙ named) said) known is_known zero,
+    )
+
 pub returns-in-Ok-clause-unread : goal.returns-in-Ok-clause-unread
 returns-in-Ok-clause-unread g c =
     let met = c.in-Ok-Matches in
@@ -54,9 +91,9 @@ returns-in-Ok-clause-unread g c =
     inr (
       met.matches,
       found_in _ met.field-0 met.matches is met.ensures,
-      λ name some taken.
-          let kept = c.answer_request.ensures.taken name (c.in-Ok.ensures.keeping ∙ some) taken in
-          (ap reader_of kept.0 ∙ c.read_as.ensures.reader, kept.1),
+      λ name some same.
+          let unmade = c.answer_request.ensures.unmade name (c.in-Ok.ensures.keeping ∙ some) same in
+          (ap reader_of unmade.0 ∙ c.read_as.ensures.reader, unmade.1),
     )
 
 pub returns-in-Ok-Text-clause-printed : goal.returns-in-Ok-Text-clause-printed
@@ -76,3 +113,17 @@ returns-in-Ok-Text-clause-fails g c = λ bytes e two.
 
 pub returns-in-Ok-Matches-clause-fails : goal.returns-in-Ok-Matches-clause-fails
 returns-in-Ok-Matches-clause-fails g c = λ bytes e two. inl (some_line _ _ _ c.print_fault.ensures.line)
+
+pub returns-in-Ok-Text-clause-new_file : goal.returns-in-Ok-Text-clause-new_file
+returns-in-Ok-Text-clause-new_file g c =
+    let met = c.in-Ok-Text in
+    let is : met.field-0 ≡ Text met.reply = search rules in
+    let read = text_read _ met.field-0 met.reply is met.ensures in
+    rw c.code-in-Ok-Text.ensures (inl (refl, asked_where_well _ met.reply.status c.print.result read.0 c.print.ensures.status read.2))
+
+pub returns-in-Ok-Text-clause-payload : goal.returns-in-Ok-Text-clause-payload
+returns-in-Ok-Text-clause-payload g c = λ bytes e is_known.
+    let met = c.in-Ok-Text in
+    let is : met.field-0 ≡ Text met.reply = search rules in
+    let read = text_read _ met.field-0 met.reply is met.ensures in
+    rw c.code-in-Ok-Text.ensures (inl (asked_where_well _ met.reply.status c.print.result read.0 c.print.ensures.status read.2))
