@@ -94,6 +94,85 @@ static void claims(void)
     is("a text string of no bytes", audience.present, 0);
 }
 
+/* Terms and requirements of another size, of numbers that are none, and with NULL. */
+static void stated(void)
+{
+    static const uint8_t by_alg[] = {0xa3, 0x01, 0x04, 0x03, 0x05, 0x20, 0x44, 'J', 'e', 'f', 'e'};
+    static const uint8_t iss[] = {0xa2, 0x01, 0x61, 'a', 0x04, 0x02};
+    struct cose_message_verdict verdict;
+    struct cose_signature_input input;
+    struct cose_claims_set found;
+    struct cose_terms terms = {.size = sizeof(struct cose_terms), .keys = by_alg, .keys_length = sizeof by_alg};
+    struct cose_requirements requirements = {.size = sizeof(struct cose_requirements), .now = 1};
+    cose_authenticate(&terms, mac0, sizeof mac0, &verdict, &input);
+    is("terms: a message", verdict.status, COSE_AUTHENTIC);
+    for (uint32_t size = 0; size < 2 * sizeof terms; size++) {
+        terms.size = size;
+        cose_authenticate(&terms, mac0, sizeof mac0, &verdict, &input);
+        is("terms: their size", verdict.status, size == sizeof terms ? COSE_AUTHENTIC : COSE_BAD_ARGUMENT);
+    }
+    terms.size = sizeof terms;
+    for (int permitted = 0; permitted < 256; permitted++) {
+        terms.permitted = (uint8_t)permitted;
+        cose_authenticate(&terms, mac0, sizeof mac0, &verdict, &input);
+        is("terms: what is permitted", verdict.status, permitted < 4 ? COSE_AUTHENTIC : COSE_BAD_ARGUMENT);
+    }
+    terms.permitted = 0;
+    for (int kind = 0; kind < 256; kind++) {
+        terms.kind = (uint8_t)kind;
+        cose_authenticate(&terms, mac0, sizeof mac0, &verdict, &input);
+        is("terms: the kind", verdict.status == COSE_BAD_ARGUMENT,
+           kind != COSE_TAGGED && kind != COSE_MAC0 && kind != COSE_SIGN1);
+    }
+    terms.kind = COSE_TAGGED;
+    terms.keys = NULL;
+    cose_authenticate(&terms, mac0, sizeof mac0, &verdict, &input);
+    is("terms: NULL for keys", verdict.status, COSE_BAD_ARGUMENT);
+    terms.keys_length = 0;
+    cose_authenticate(&terms, mac0, sizeof mac0, &verdict, &input);
+    is("terms: no keys", verdict.status, COSE_KEYS_REFUSED);
+    terms.keys = keys;
+    terms.keys_length = sizeof keys;
+    cose_authenticate(&terms, mac0, sizeof mac0, &verdict, &input);
+    is("terms: a key without alg", verdict.reason, COSE_REASON_NO_KEY);
+    terms.aad_length = 1;
+    cose_admit(&terms, &requirements, mac0, sizeof mac0, &found);
+    is("terms: NULL for data", found.status, COSE_BAD_ARGUMENT);
+    cose_admit_claims(&requirements, iss, sizeof iss, &found);
+    is("requirements: claims", found.status, COSE_AUTHENTIC);
+    for (uint32_t size = 0; size < 2 * sizeof requirements; size++) {
+        requirements.size = size;
+        cose_admit_claims(&requirements, iss, sizeof iss, &found);
+        is("requirements: their size", found.status, size == sizeof requirements ? COSE_AUTHENTIC : COSE_BAD_ARGUMENT);
+    }
+    requirements.size = sizeof requirements;
+    requirements.now = 0;
+    cose_admit_claims(&requirements, iss, sizeof iss, &found);
+    is("requirements: no time", found.status, COSE_BAD_ARGUMENT);
+    requirements.now = 1;
+    requirements.present = 128;
+    cose_admit_claims(&requirements, iss, sizeof iss, &found);
+    is("requirements: a claim that isn't", found.status, COSE_BAD_ARGUMENT);
+    requirements.present = 0;
+    requirements.permitted = 2;
+    cose_admit_claims(&requirements, iss, sizeof iss, &found);
+    is("requirements: a flag that isn't", found.status, COSE_BAD_ARGUMENT);
+    requirements.permitted = 0;
+    requirements.iss_length = 1;
+    cose_admit_claims(&requirements, iss, sizeof iss, &found);
+    is("requirements: NULL for a text", found.status, COSE_BAD_ARGUMENT);
+    requirements.iss = (const uint8_t *)"\xff";
+    cose_admit_claims(&requirements, iss, sizeof iss, &found);
+    is("requirements: a text that isn't UTF-8", found.status, COSE_BAD_ARGUMENT);
+    requirements.iss = (const uint8_t *)"b";
+    cose_admit_claims(&requirements, iss, sizeof iss, &found);
+    is("requirements: unmet", found.status, COSE_UNMET);
+    is("requirements: which", found.reason, COSE_UNMET_ISSUER);
+    is("requirements: where", found.place, 2);
+    cose_admit_claims(&requirements, iss + 4, 1, &found);
+    is("requirements: no claims", found.status, COSE_CLAIMS_REFUSED);
+}
+
 /* A block without keys. */
 static void closed(struct cose_verifier *verifier)
 {
@@ -269,9 +348,9 @@ static void wiped(void)
 static void names(void)
 {
     is("a reason's name", strcmp(cose_reason_name(COSE_REASON_ATTACHED), "Attached"), 0);
-    is("a status's name", strcmp(cose_status_name(COSE_BAD_ARGUMENT), "BadArgument"), 0);
+    is("a status's name", strcmp(cose_status_name(COSE_UNMET), "Unmet"), 0);
     is("no reason", cose_reason_name(COSE_REASON_ATTACHED + 1) == NULL && cose_reason_name(255) == NULL, 1);
-    is("no status", cose_status_name(COSE_BAD_ARGUMENT + 1) == NULL && cose_status_name(255) == NULL, 1);
+    is("no status", cose_status_name(COSE_UNMET + 1) == NULL && cose_status_name(255) == NULL, 1);
 }
 
 static void tables(void)
@@ -351,6 +430,7 @@ int main(void)
 {
     one_call();
     claims();
+    stated();
     blocks();
     reopened();
     large_reopened();

@@ -137,6 +137,33 @@ def structs():
     return list(ordered.values())
 
 
+SIZES = {"u8": 1, "bool": 1, "u32": 4, "i32": 4, "u64": 8, "i64": 8, "usize": 8, "*mut u8": 8}
+
+
+def layouts():
+    """By the rules of C for 64 bits: the size and the alignment of each struct, and its last field with where that is."""
+    found = {}
+
+    def layout(kind):
+        array = re.fullmatch(r"\[(\w+); (\d+)\]", kind)
+        if array:
+            size, align = layout(array[1])[:2]
+            return size * int(array[2]), align
+        if kind == "&[u8]":
+            return 16, 8
+        return found[kind] if kind in found else (SIZES[kind], SIZES[kind])
+
+    for struct in structs():
+        end, most = 0, 1
+        for name, kind in struct.fields:
+            size, align, *_ = layout(kind)
+            start = -(-end // align) * align
+            last = (f"{name}_length", start + 8) if kind == "&[u8]" else (name, start)
+            end, most = start + size, max(most, align)
+        found[struct.name] = -(-end // most) * most, most, *last
+    return found
+
+
 def exports():
     """The exported functions, in the order of their files; those of the large size have their struct's kind, `CoseLargeVerifier`."""
     pattern = r"((?:^///[^\n]*\n)+)#\[unsafe\(no_mangle\)\]\npub (?:unsafe )?extern \"C\" fn (\w+)(?:<[^>]*>)?\(([^)]*)\)(?: -> (\w+))?"

@@ -28,6 +28,7 @@ static struct cose_message_shape shape;
 static struct cose_key_set key_set;
 static struct cose_claims_set claims;
 static struct cose_range range;
+static struct cose_item item;
 static struct cose_status status;
 static struct cose_fed fed;
 static struct cose_made made;
@@ -108,12 +109,33 @@ static void write_all(void)
     cose_make(&maker, 5, one_key.bytes, one_key.length, NULL, 0, NULL, 0, deep_claims.length, room, sizeof room, &made);
     put(&token, room, made.length);
     put(&token, deep_claims.bytes, deep_claims.length);
-    cose_make_piece(&maker, deep_claims.bytes, deep_claims.length);
+    made.length = cose_make_piece(&maker, deep_claims.bytes, deep_claims.length);
     cose_make_end(&maker, room, sizeof room, &made);
     put(&token, room, made.length);
 }
 
 static const struct cose_policy policy = {0, 0, 1, (const uint8_t *)"b", 1};
+
+/* Terms that permit one_key, which names no algorithm, and those of 64 keys. */
+static struct cose_terms terms, terms_of_keys;
+static const struct cose_requirements requirements = {
+    .size = sizeof(struct cose_requirements),
+    .now = 1,
+    .aud = (const uint8_t *)"b",
+    .aud_length = 1,
+    .permitted = COSE_WITHOUT_EXP,
+};
+
+static void state(void)
+{
+    terms.size = sizeof terms;
+    terms.permitted = COSE_SHORT_MAC + COSE_WITHOUT_ALG;
+    terms_of_keys = terms;
+    terms.keys = one_key.bytes;
+    terms.keys_length = one_key.length;
+    terms_of_keys.keys = keys.bytes;
+    terms_of_keys.keys_length = keys.length;
+}
 
 #define OF(written) (written).bytes, (written).length
 
@@ -157,6 +179,34 @@ static void next_audience(void)
 {
     cose_next_audience(OF(deep_claims), range.at - 1, &range);
 }
+static void claim(void)
+{
+    cose_claim(OF(deep_claims), 0x17, &item);
+}
+static void claim_named(void)
+{
+    cose_claim_named(OF(deep_claims), (const uint8_t *)"s", 1, &item);
+}
+static void item_at(void)
+{
+    cose_item_at(OF(deep_claims), 0, &item);
+}
+static void parameter(void)
+{
+    cose_parameter(COSE_TAGGED, OF(message), 1, 0x17, &item);
+}
+static void parameter_named(void)
+{
+    cose_parameter_named(COSE_TAGGED, OF(message), 0, (const uint8_t *)"s", 1, &item);
+}
+static void header(void)
+{
+    cose_header(&verifier, 1, 0x17, room, sizeof room, &item);
+}
+static void header_named(void)
+{
+    cose_header_named(&verifier, 0, (const uint8_t *)"s", 1, room, sizeof room, &item);
+}
 static void begin(void)
 {
     cose_begin(block);
@@ -179,7 +229,7 @@ static void feed_head(void)
 }
 static void feed_payload(void)
 {
-    cose_feed_payload(&verifier, OF(payload));
+    number = cose_feed_payload(&verifier, OF(payload));
 }
 static void feed_tag(void)
 {
@@ -191,7 +241,7 @@ static void end(void)
 }
 static void sign_input(void)
 {
-    cose_sign_input(&verifier, &input);
+    number = cose_sign_input(&verifier, &input);
 }
 static void decide(void)
 {
@@ -235,7 +285,7 @@ static void large_feed_head(void)
 }
 static void large_feed_payload(void)
 {
-    cose_large_feed_payload(&large, OF(payload));
+    number = cose_large_feed_payload(&large, OF(payload));
 }
 static void large_end(void)
 {
@@ -243,7 +293,7 @@ static void large_end(void)
 }
 static void large_sign_input(void)
 {
-    cose_large_sign_input(&large, &input);
+    number = cose_large_sign_input(&large, &input);
 }
 static void large_decide_for(void)
 {
@@ -290,7 +340,7 @@ static void make(void)
 }
 static void make_piece(void)
 {
-    cose_make_piece(&maker, OF(payload));
+    number = cose_make_piece(&maker, OF(payload));
 }
 static void make_end(void)
 {
@@ -304,9 +354,62 @@ static void large_beside(void)
 {
     cose_large_verify_detached(OF(one_key), NULL, 0, COSE_TAGGED, OF(detached), OF(payload), &verdict, &input);
 }
+static void large_parameter(void)
+{
+    cose_large_parameter(COSE_TAGGED, OF(deep_message), 1, 0x17, &item);
+}
+static void large_parameter_named(void)
+{
+    cose_large_parameter_named(COSE_TAGGED, OF(deep_message), 0, (const uint8_t *)"s", 1, &item);
+}
+static void large_header(void)
+{
+    cose_large_header(&large, 1, 0x17, room, sizeof room, &item);
+}
+static void large_header_named(void)
+{
+    cose_large_header_named(&large, 0, (const uint8_t *)"s", 1, room, sizeof room, &item);
+}
 static void large_cwt(void)
 {
     cose_large_verify_cwt(OF(one_key), NULL, 0, &policy, OF(token), &claims);
+}
+
+static void authenticate(void)
+{
+    cose_authenticate(&terms, OF(message), &verdict, &input);
+}
+static void authenticate_keys(void)
+{
+    cose_authenticate(&terms_of_keys, OF(message), &verdict, &input);
+}
+static void authenticate_beside(void)
+{
+    cose_authenticate_detached(&terms, OF(detached), OF(payload), &verdict, &input);
+}
+static void admit(void)
+{
+    cose_admit(&terms, &requirements, OF(token), &claims);
+}
+static void admit_claims(void)
+{
+    cose_admit_claims(&requirements, OF(deep_claims), &claims);
+}
+static void large_admit_claims(void)
+{
+    cose_large_admit_claims(&requirements, OF(deep_claims), &claims);
+}
+static void large_authenticate(void)
+{
+    cose_large_authenticate(&terms, OF(deep_message), &verdict, &input);
+}
+static void large_authenticate_beside(void)
+{
+    cose_large_authenticate_detached(&terms, OF(detached), OF(payload), &verdict, &input);
+}
+static void large_admit(void)
+{
+    cose_large_admit(&terms, &requirements, OF(token), &claims);
 }
 
 enum { KIB = 1024, SMALL = 16 * KIB, TABLE = 24 * KIB, LARGE = 160 * KIB };
@@ -329,12 +432,19 @@ static const struct {
     {"large_claims", large_claims, SMALL, &claims.status, COSE_AUTHENTIC},
     {"audience", audience, SMALL, &range.present, 1},
     {"next_audience", next_audience, SMALL, &range.present, 1},
+    {"claim", claim, SMALL, &item.present, 1},
+    {"claim_named", claim_named, SMALL, &item.present, 0},
+    {"item_at", item_at, SMALL, &item.present, 1},
+    {"parameter", parameter, SMALL, &item.present, 1},
+    {"parameter_named", parameter_named, SMALL, &item.present, 0},
     {"begin", begin, SMALL, NULL, 0},
     {"open", open_it, SMALL, &status.status, COSE_MORE},
     {"feed", feed, SMALL, &fed.status.status, COSE_REFUSED},
     {"the numbers", numbers, SMALL, NULL, 0},
     {"end", end, SMALL, &status.status, COSE_REFUSED},
     {"sign_input", sign_input, SMALL, NULL, 0},
+    {"header", header, SMALL, &item.present, 1},
+    {"header_named", header_named, SMALL, &item.present, 0},
     {"verdict", decide, SMALL, &verdict.reason, COSE_REASON_BAD_AUTH},
     {"verdict_for", decide_for, SMALL, &verdict.reason, COSE_REASON_BAD_AUTH},
     {"reset", reset, SMALL, NULL, 0},
@@ -348,6 +458,8 @@ static const struct {
     {"the large numbers", large_numbers, SMALL, NULL, 0},
     {"large_end", large_end, SMALL, &status.status, COSE_REFUSED},
     {"large_sign_input", large_sign_input, SMALL, NULL, 0},
+    {"large_header", large_header, SMALL, &item.present, 1},
+    {"large_header_named", large_header_named, SMALL, &item.present, 0},
     {"large_verdict", large_decide, SMALL, &verdict.reason, COSE_REASON_BAD_AUTH},
     {"large_verdict_for", large_decide_for, SMALL, &verdict.reason, COSE_REASON_BAD_AUTH},
     {"large_reset", large_reset, SMALL, NULL, 0},
@@ -365,7 +477,18 @@ static const struct {
     {"make_end", make_end, SMALL, &made.status, COSE_COMPLETE},
     {"large_verify", large_verify, LARGE, &verdict.reason, COSE_REASON_BAD_AUTH},
     {"large_verify_detached", large_beside, LARGE, &verdict.reason, COSE_REASON_BAD_AUTH},
+    {"large_parameter", large_parameter, LARGE, &item.present, 1},
+    {"large_parameter_named", large_parameter_named, LARGE, &item.present, 0},
     {"large_verify_cwt", large_cwt, LARGE, &claims.status, COSE_AUTHENTIC},
+    {"authenticate", authenticate, SMALL, &verdict.reason, COSE_REASON_BAD_AUTH},
+    {"authenticate, 64 keys", authenticate_keys, SMALL, &verdict.reason, COSE_REASON_AMBIGUOUS_KEY},
+    {"authenticate_detached", authenticate_beside, SMALL, &verdict.reason, COSE_REASON_BAD_AUTH},
+    {"admit", admit, SMALL, &claims.status, COSE_AUTHENTIC},
+    {"admit_claims", admit_claims, SMALL, &claims.status, COSE_AUTHENTIC},
+    {"large_admit_claims", large_admit_claims, SMALL, &claims.status, COSE_AUTHENTIC},
+    {"large_authenticate", large_authenticate, LARGE, &verdict.reason, COSE_REASON_BAD_AUTH},
+    {"large_authenticate_detached", large_authenticate_beside, LARGE, &verdict.reason, COSE_REASON_BAD_AUTH},
+    {"large_admit", large_admit, LARGE, &claims.status, COSE_AUTHENTIC},
 };
 
 static const char *running = "none";
@@ -411,6 +534,7 @@ int main(void)
     if (memory == MAP_FAILED || sigaltstack(&other, NULL) != 0 || sigaction(SIGSEGV, &action, NULL) != 0)
         return 2;
     write_all();
+    state();
     for (size_t index = 0; index < sizeof calls / sizeof *calls; index++) {
         running = calls[index].name;
         if (!called(memory, most, calls[index].stack, calls[index].call))

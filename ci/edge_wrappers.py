@@ -21,13 +21,19 @@ class Parameter:
     def __init__(self, name, kind):
         self.name, self.kind = {"wanted": "kind", "at": "block"}.get(name, name), kind
         self.is_slice, self.is_room = kind == "&[u8]", kind == "&mut [u8]"
-        self.is_kind, self.is_policy = name == "wanted", kind == "&CosePolicy"
+        self.is_kind = name == "wanted"
+        # a struct that is only read, with slices among its fields
+        self.is_stated = kind.startswith("&Cose") and "&[u8]" in self.fields().values()
         self.is_out = kind.startswith("&mut Cose") and self.fields().get("at") != "*mut u8"
 
     def fields(self):
         """The types of the fields of its struct, by their names."""
         found = re.search(r"Cose\w+", self.kind)
         return dict(next(it.fields for it in source.structs() if it.name == found[0])) if found else {}
+
+    def slices(self):
+        """The names of its struct's slices."""
+        return [name for name, kind in self.fields().items() if kind == "&[u8]"]
 
     def declared(self, in_wrapper):
         """Its declarations, of a slice two."""
@@ -49,15 +55,15 @@ class Parameter:
 
     def tests(self):
         """What is true where it is NULL with a length."""
-        if self.is_policy:
-            return [f"cose_is_null_({self.name}->audience, {self.name}->audience_length)"]
+        if self.is_stated:
+            return [f"cose_is_null_({self.name}->{field}, {self.name}->{field}_length)" for field in self.slices()]
         return [f"cose_is_null_({self.name}, {self.length})"] if self.is_slice or self.is_room else []
 
     def passed(self):
         """What the library gets."""
         if self.is_slice or self.is_room:
             return [f"cose_{'room' if self.is_room else 'slice'}_({self.name})", self.length]
-        return ["cose_kind_(kind)"] if self.is_kind else ["&cose_policy_"] if self.is_policy else [self.name]
+        return ["cose_kind_(kind)"] if self.is_kind else [f"&cose_{self.name}_"] if self.is_stated else [self.name]
 
     def nothing(self):
         """What it gets in a call with nothing."""
@@ -107,15 +113,13 @@ def wrapper(export):
     """The function that takes NULL, of an export with a slice."""
     parameters = [Parameter(*it) for it in export.parameters]
     lines = [declaration(export, export.name.replace("_edge", "", 1), parameters, True), "{"]
-    policy = next((it.name for it in parameters if it.is_policy), None)
-    if policy:
-        lines.append(f"    struct cose_policy cose_policy_ = *{policy};")
+    stated = [it for it in parameters if it.is_stated]
+    lines += [f"    {it.declared(True)[0].split(' *')[0].replace('const ', '')} cose_{it.name}_ = *{it.name};" for it in stated]
     tests = [it for each in parameters for it in each.tests()]
     condition = f"    if ({' || '.join(tests)}) {{"
     lines.append(condition if len(condition) <= WIDTH and len(tests) < 4 else "    if (" + " ||\n        ".join(tests) + ") {")
     lines += [*answer_to_null(export, parameters), "    }"]
-    if policy:
-        lines.append(f"    cose_policy_.audience = cose_slice_({policy}->audience);")
+    lines += [f"    cose_{it.name}_.{field} = cose_slice_({it.name}->{field});" for it in stated for field in it.slices()]
     passed = ", ".join(it for each in parameters for it in each.passed())
     return "\n".join([*lines, wrapped(f"{'return ' if export.result else ''}{export.name}({passed});", "    "), "}"])
 

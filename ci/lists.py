@@ -188,7 +188,7 @@ PLACES = {
         Places("reason", in_capitals, "include/cose.h"),
     ],
     "option": [
-        # (the second reading opens no file; ci/sign1 tries the options of digest, verify and cwt)
+        # (the second reading opens no file; tests/test_sign1.py tries the options of digest, verify and cwt)
         Places("option", of_option, "crates/cosecmd/src/commands.rt docs/COMMANDS.md"),
         Places(
             "option",
@@ -196,7 +196,7 @@ PLACES = {
             "ci/second_program.py",
             "key-file keys-file payload-file payload-length payload-to",
         ),
-        Places("option", of_option, "ci/sign1", "alg key-file kid length detached diagnostic with-payload for-message"),
+        Places("option", of_option, "tests/test_sign1.py", "alg key-file kid length detached diagnostic with-payload for-message"),
     ],
     "export": [
         Places("export", of_name, "include/cose.h bindings/rust/src/raw.rs"),
@@ -204,18 +204,18 @@ PLACES = {
         # (what a layer doesn't offer; in JavaScript also what it calls by a name that it composes)
         Places("call", of_call, "bindings/rust/src/[!r]*.rs"),
         Places("call", of_call, "bindings/python/src/cose/[!_]*.py", "message_number next_audience verdict_for version"),
-        Places("call", of_call, "bindings/go/*.[gh]*", "next_audience verdict_for version"),
+        Places("call", of_call, "bindings/go/*.[gh]*", "item_at next_audience verdict_for version"),
         Places(
             "call",
             of_call,
-            "bindings/js/cose.js",
-            "message_number next_audience verdict_for version maker_size maker_align table_size table_align verifier_size "
-            "verifier_align table_verify table_verify_cwt verify_detached",
+            "bindings/js/[ct]*.js",
+            "item_at message_number next_audience verdict_for version maker_size maker_align parameter_named table_size "
+            "table_align verifier_size verifier_align table_verify table_verify_cwt verify_detached",
         ),
     ],
 }
 # where three algorithms for signatures are named and not all: those that a JWK can name (RFC 7518), and those that a version brought
-SOME = ("CHANGELOG.md", "ci/field", "examples/cose_key", "web/keys.js", "bindings/python/src/cose/key_files.py")
+SOME = ("CHANGELOG.md", "tests/test_field.py", "examples/cose_key", "web/keys.js", "bindings/python/src/cose/key_forms.py")
 
 
 def faults_of(places, pattern):

@@ -35,7 +35,24 @@
 #if UINTPTR_MAX > 0xffffffff
 #define COSE_SLOT_(pointer) pointer
 #else
-#define COSE_SLOT_(pointer) union { pointer; uint64_t slot_; }
+#define COSE_JOINED_(name, line) name##line
+#define COSE_NUMBERED_(line) COSE_JOINED_(slot_, line)
+#define COSE_SLOT_(pointer) union { pointer; uint64_t COSE_NUMBERED_(__LINE__); }
+#endif
+
+/* What a call returns decides what its caller does next. */
+#ifdef __GNUC__
+#define COSE_MUST_USE_ __attribute__((warn_unused_result))
+#else
+#define COSE_MUST_USE_
+#endif
+
+#if defined(__cplusplus) && __cplusplus >= 201103L
+#define COSE_ASSERT_(fact, text) static_assert(fact, text)
+#elif !defined(__cplusplus) && defined(__STDC_VERSION__) && __STDC_VERSION__ >= 201112L
+#define COSE_ASSERT_(fact, text) _Static_assert(fact, text)
+#else
+#define COSE_ASSERT_(fact, text) extern const uint8_t cose_asserts_nothing_
 #endif
 
 #ifdef __cplusplus
@@ -47,13 +64,16 @@ extern "C" {
 __attribute__((weak)) extern const uint8_t cose_lengths_have_64_bits;
 const uint8_t cose_lengths_have_64_bits = 1;
 
-/* One file of a program may define COSE_NO_SHA512 before this header. The function that SHA-384 and SHA-512 need is left out then, and
- * where a message gets to it nothing goes on: each key has to name an algorithm with SHA-256. */
+/* One file of a program may define COSE_NO_SHA512 before this header. The function that SHA-384 and SHA-512 need is left out then: a
+ * message or a cose_make that gets to it never ends, and no reason refuses it. A COSE_Mac0 gets there by naming the algorithm 6 or 7
+ * (RFC 9053 section 3.1) under a symmetric key that names none, or that one, and a COSE_Sign1 by a key on P-384 or P-521. So where
+ * messages come from strangers, call cose_needs_sha512 once for each verifier that is opened, and use it only after 0. */
 #ifdef COSE_NO_SHA512
+static volatile uint8_t cose_probes_;
 extern void cose_sha512_compress(void);
 void cose_sha512_compress(void)
 {
-    for (;;)
+    while (cose_probes_ == 0)
         ;
 }
 #endif
@@ -73,7 +93,8 @@ enum cose_status_number {
     COSE_BAD_AUDIENCE = 9,   /**< the audience of the policy isn't UTF-8 */
     COSE_CLOSED = 10,        /**< the block has no keys: it wasn't opened, or its keys were refused */
     COSE_STOPPED = 11,       /**< never comes from these functions */
-    COSE_BAD_ARGUMENT = 12   /**< a number among the arguments is none that the function knows, or a pointer is NULL and its length isn't 0 */
+    COSE_BAD_ARGUMENT = 12,  /**< a number among the arguments is none that the function knows, or a pointer is NULL and its length isn't 0 */
+    COSE_UNMET = 13          /**< the token's message is authentic, and a requirement isn't met: reason is an enum cose_unmet, place in the payload */
 };
 
 /** The reason of a refusal: docs/REASONS.md says where each comes from. */
@@ -185,10 +206,104 @@ struct cose_policy {
     uint64_t audience_length;
 };
 
+/** What is permitted although it is unsafe, where struct cose_terms states no algorithm. */
+enum cose_permitted_keys {
+    COSE_SHORT_MAC = 1,      /**< keys for HMAC 256/64, whose tag one guess in 2^64 meets */
+    COSE_WITHOUT_ALG = 2     /**< keys that name no algorithm: the sender chooses among those of the key's type. A secret that names none
+                                  could be used with HMAC 256/64, so it is taken only with COSE_SHORT_MAC too */
+};
+
+/** What a caller states of messages. A struct of zeros but for the size and the keys is the safe one: of a key set, keys for HMAC 256/64
+ * and keys that name no algorithm are then left out. Zero it first: memset, or `= {.size = sizeof(struct cose_terms), ..}`. */
+struct cose_terms {
+    uint32_t size;           /**< sizeof(struct cose_terms); with another number nothing is verified (COSE_BAD_ARGUMENT) */
+    uint8_t kind;            /**< the kind that is wanted, of enum cose_kind_number */
+    uint8_t permitted;       /**< enum cose_permitted_keys, added up */
+    uint64_t least_secret;   /**< the fewest bytes of a secret: a key with a shorter one is left out */
+    uint64_t payload_limit;  /**< the most bytes of a payload; 0: as many as any may have */
+    COSE_SLOT_(const uint8_t *keys); /**< a COSE_Key or a COSE_KeySet */
+    uint64_t keys_length;
+    COSE_SLOT_(const uint8_t *aad); /**< externally supplied data (RFC 9052 section 4.3) */
+    uint64_t aad_length;
+    int32_t algorithms[16];  /**< the algorithms that are allowed: where one is stated, a key has to name one of them as its own */
+    int64_t understood[16];  /**< the labels, before the first 0, that are understood in crit in addition to those of RFC 9052 */
+};
+
+/** The claims that have to be present. */
+enum cose_present_claims {
+    COSE_ISS = 1,
+    COSE_SUB = 2,
+    COSE_AUD = 4,
+    COSE_EXP = 8,
+    COSE_NBF = 16,
+    COSE_IAT = 32,
+    COSE_CTI = 64
+};
+
+/** What is permitted of tokens. */
+enum cose_permitted_tokens {
+    COSE_WITHOUT_EXP = 1     /**< a token without exp, which never expires */
+};
+
+/** What a caller requires of tokens. A struct of zeros but for the size and the current time requires exp alone. */
+struct cose_requirements {
+    uint32_t size;           /**< sizeof(struct cose_requirements); with another number no token is admitted (COSE_BAD_ARGUMENT) */
+    uint32_t leeway;         /**< by how many seconds the clocks of issuer and caller may differ */
+    int64_t now;             /**< the current time, in seconds since 1970; with 0 no token is admitted (COSE_BAD_ARGUMENT) */
+    uint64_t lifetime;       /**< the longest lifetime in seconds: exp is at most as much after iat and after now. 0: any */
+    uint64_t age;            /**< the greatest age in seconds: iat is at most as much before now, and not after it. 0: any */
+    COSE_SLOT_(const uint8_t *iss); /**< the issuer, in UTF-8; of length 0: any */
+    uint64_t iss_length;
+    COSE_SLOT_(const uint8_t *sub); /**< the subject, in UTF-8; of length 0: any */
+    uint64_t sub_length;
+    COSE_SLOT_(const uint8_t *aud); /**< an audience that has to be named, in UTF-8; of length 0: any, or none */
+    uint64_t aud_length;
+    uint8_t present;         /**< enum cose_present_claims, added up; exp has to be present without it too */
+    uint8_t permitted;       /**< enum cose_permitted_tokens */
+};
+
+/** The requirement that isn't met, where a status is COSE_UNMET: of several the first, in this order. */
+enum cose_unmet {
+    COSE_UNMET_ISS = 1,      /**< to COSE_UNMET_CTI: the claim isn't there; place is 0 */
+    COSE_UNMET_SUB = 2,
+    COSE_UNMET_AUD = 3,
+    COSE_UNMET_EXP = 4,
+    COSE_UNMET_NBF = 5,
+    COSE_UNMET_IAT = 6,
+    COSE_UNMET_CTI = 7,
+    COSE_UNMET_ISSUER = 8,   /**< iss is another, or isn't there */
+    COSE_UNMET_SUBJECT = 9,  /**< sub is another, or isn't there */
+    COSE_UNMET_AUDIENCE = 10, /**< aud doesn't name the audience, or isn't there */
+    COSE_UNMET_LIFETIME = 11, /**< the token lasts too long, or exp isn't there */
+    COSE_UNMET_AGE = 12,     /**< iat is too long ago, or isn't there */
+    COSE_UNMET_ISSUED = 13   /**< iat is in the future */
+};
+
 /** A range of the payload. Where present is 0 there is none, and the others are 0. */
 struct cose_range {
     uint64_t at, length;
     uint8_t present;
+};
+
+/** The major type of a data item, and what number is of it (RFC 8949 section 3.1). */
+enum cose_major {
+    COSE_UNSIGNED = 0, /**< the integer */
+    COSE_NEGATIVE = 1, /**< the integer is -1 - number */
+    COSE_BYTES = 2,    /**< how many bytes the string has, from content_at on */
+    COSE_TEXT = 3,     /**< the same of a text string */
+    COSE_ARRAY = 4,    /**< how many items it has: cose_item_at gives the first at content_at, and each other at the end of the one before */
+    COSE_MAP = 5,      /**< how many pairs it has: label, value, label, value .. in the same way */
+    COSE_TAG = 6,      /**< the number of the tag, of the item at content_at */
+    COSE_SIMPLE = 7    /**< of length 1 or 2 a simple value: 20 false, 21 true, 22 null, 23 undefined; of 3, 5 or 9 the bits of a float */
+};
+
+/** A data item of a payload (RFC 8949 section 3). Where present is 0 there is none, and the others are 0. */
+struct cose_item {
+    uint64_t at, length;     /**< all its bytes */
+    uint64_t content_at;     /**< where its head ends */
+    uint64_t number;         /**< the argument of its head */
+    uint8_t present;
+    uint8_t major;           /**< enum cose_major */
 };
 
 /** A date, in seconds since 1970: number, or -1 - number where negative is 1. Where present is 0 there is none. */
@@ -245,6 +360,28 @@ struct cose_made {
     uint64_t length;
 };
 
+/* Where a compiler lays the structs out as the library doesn't, no program compiles. */
+/* made by ci/edge_tables: layouts */
+COSE_ASSERT_(sizeof(struct cose_policy) == 32 && offsetof(struct cose_policy, audience_length) == 24, "struct cose_policy");
+COSE_ASSERT_(sizeof(struct cose_range) == 24 && offsetof(struct cose_range, present) == 16, "struct cose_range");
+COSE_ASSERT_(sizeof(struct cose_date) == 16 && offsetof(struct cose_date, negative) == 9, "struct cose_date");
+COSE_ASSERT_(sizeof(struct cose_claims_set) == 264 && offsetof(struct cose_claims_set, cnf_y_sign) == 257, "struct cose_claims_set");
+COSE_ASSERT_(sizeof(struct cose_large_verifier) == 8 && offsetof(struct cose_large_verifier, at) == 0, "struct cose_large_verifier");
+COSE_ASSERT_(sizeof(struct cose_maker) == 8 && offsetof(struct cose_maker, at) == 0, "struct cose_maker");
+COSE_ASSERT_(sizeof(struct cose_table) == 8 && offsetof(struct cose_table, at) == 0, "struct cose_table");
+COSE_ASSERT_(sizeof(struct cose_verifier) == 8 && offsetof(struct cose_verifier, at) == 0, "struct cose_verifier");
+COSE_ASSERT_(sizeof(struct cose_signature_input) == 368 && offsetof(struct cose_signature_input, signature) == 236, "struct cose_signature_input");
+COSE_ASSERT_(sizeof(struct cose_item) == 40 && offsetof(struct cose_item, major) == 33, "struct cose_item");
+COSE_ASSERT_(sizeof(struct cose_key_set) == 24 && offsetof(struct cose_key_set, usable) == 16, "struct cose_key_set");
+COSE_ASSERT_(sizeof(struct cose_made) == 16 && offsetof(struct cose_made, length) == 8, "struct cose_made");
+COSE_ASSERT_(sizeof(struct cose_status) == 16 && offsetof(struct cose_status, place) == 8, "struct cose_status");
+COSE_ASSERT_(sizeof(struct cose_message_verdict) == 40 && offsetof(struct cose_message_verdict, taken) == 32, "struct cose_message_verdict");
+COSE_ASSERT_(sizeof(struct cose_requirements) == 88 && offsetof(struct cose_requirements, permitted) == 81, "struct cose_requirements");
+COSE_ASSERT_(sizeof(struct cose_message_shape) == 40 && offsetof(struct cose_message_shape, taken) == 32, "struct cose_message_shape");
+COSE_ASSERT_(sizeof(struct cose_terms) == 248 && offsetof(struct cose_terms, understood) == 120, "struct cose_terms");
+COSE_ASSERT_(sizeof(struct cose_fed) == 40 && offsetof(struct cose_fed, payload_length) == 32, "struct cose_fed");
+/* end of what ci/edge_tables makes */
+
 /*
  * The library's functions. One with a pointer and a length is exported as cose_edge_NAME, and takes no NULL: the functions below take one
  * with length 0.
@@ -299,7 +436,7 @@ static inline const char *cose_status_name(uint8_t status)
 {
     static const char *const names[] = {
         "More", "Authentic", "Signed", "Refused", "KeysRefused", "AadTooLong", "PayloadNext", "Complete", "ClaimsRefused", "BadAudience",
-        "Closed", "Stopped", "BadArgument"
+        "Closed", "Stopped", "BadArgument", "Unmet"
     };
     return status < sizeof names / sizeof *names ? names[status] : NULL;
 }
@@ -420,6 +557,194 @@ static inline void cose_read_keys(const uint8_t *keys, size_t keys_length, struc
     cose_edge_read_keys(cose_slice_(keys), keys_length, key_set);
 }
 
+/* ---- One call over memory, under terms and requirements. */
+
+void cose_edge_authenticate(const struct cose_terms *terms, const uint8_t *message, uint64_t message_length,
+    struct cose_message_verdict *verdict, struct cose_signature_input *input);
+
+/** Verifies a message as cose_verify does, under a struct of terms, whose defaults are safe. A key that the terms leave out fits no
+ * message, and makes none ambiguous. */
+static inline void cose_authenticate(const struct cose_terms *terms, const uint8_t *message, size_t message_length,
+    struct cose_message_verdict *verdict, struct cose_signature_input *input)
+{
+    struct cose_terms cose_terms_ = *terms;
+    if (cose_is_null_(terms->keys, terms->keys_length) ||
+        cose_is_null_(terms->aad, terms->aad_length) ||
+        cose_is_null_(message, message_length)) {
+        memset(verdict, 0, sizeof *verdict);
+        verdict->status = COSE_BAD_ARGUMENT;
+        return;
+    }
+    cose_terms_.keys = cose_slice_(terms->keys);
+    cose_terms_.aad = cose_slice_(terms->aad);
+    cose_edge_authenticate(&cose_terms_, cose_slice_(message), message_length, verdict, input);
+}
+
+void cose_edge_large_authenticate(const struct cose_terms *terms, const uint8_t *message, uint64_t message_length,
+    struct cose_message_verdict *verdict, struct cose_signature_input *input);
+
+/** The same for headers of 65,535 bytes, where headers and claims nest 16 deep: a call needs some 140 KB of stack. */
+static inline void cose_large_authenticate(const struct cose_terms *terms, const uint8_t *message, size_t message_length,
+    struct cose_message_verdict *verdict, struct cose_signature_input *input)
+{
+    struct cose_terms cose_terms_ = *terms;
+    if (cose_is_null_(terms->keys, terms->keys_length) ||
+        cose_is_null_(terms->aad, terms->aad_length) ||
+        cose_is_null_(message, message_length)) {
+        memset(verdict, 0, sizeof *verdict);
+        verdict->status = COSE_BAD_ARGUMENT;
+        return;
+    }
+    cose_terms_.keys = cose_slice_(terms->keys);
+    cose_terms_.aad = cose_slice_(terms->aad);
+    cose_edge_large_authenticate(&cose_terms_, cose_slice_(message), message_length, verdict, input);
+}
+
+void cose_edge_authenticate_detached(const struct cose_terms *terms, const uint8_t *message, uint64_t message_length,
+    const uint8_t *payload, uint64_t payload_length, struct cose_message_verdict *verdict, struct cose_signature_input *input);
+
+/** The same for a message whose payload is detached, as cose_verify_detached verifies it. */
+static inline void cose_authenticate_detached(const struct cose_terms *terms, const uint8_t *message, size_t message_length,
+    const uint8_t *payload, size_t payload_length, struct cose_message_verdict *verdict, struct cose_signature_input *input)
+{
+    struct cose_terms cose_terms_ = *terms;
+    if (cose_is_null_(terms->keys, terms->keys_length) ||
+        cose_is_null_(terms->aad, terms->aad_length) ||
+        cose_is_null_(message, message_length) ||
+        cose_is_null_(payload, payload_length)) {
+        memset(verdict, 0, sizeof *verdict);
+        verdict->status = COSE_BAD_ARGUMENT;
+        return;
+    }
+    cose_terms_.keys = cose_slice_(terms->keys);
+    cose_terms_.aad = cose_slice_(terms->aad);
+    cose_edge_authenticate_detached(&cose_terms_, cose_slice_(message), message_length, cose_slice_(payload), payload_length, verdict,
+        input);
+}
+
+void cose_edge_large_authenticate_detached(const struct cose_terms *terms, const uint8_t *message, uint64_t message_length,
+    const uint8_t *payload, uint64_t payload_length, struct cose_message_verdict *verdict, struct cose_signature_input *input);
+
+/** The same for headers of 65,535 bytes, where headers and claims nest 16 deep: a call needs some 140 KB of stack. */
+static inline void cose_large_authenticate_detached(const struct cose_terms *terms, const uint8_t *message, size_t message_length,
+    const uint8_t *payload, size_t payload_length, struct cose_message_verdict *verdict, struct cose_signature_input *input)
+{
+    struct cose_terms cose_terms_ = *terms;
+    if (cose_is_null_(terms->keys, terms->keys_length) ||
+        cose_is_null_(terms->aad, terms->aad_length) ||
+        cose_is_null_(message, message_length) ||
+        cose_is_null_(payload, payload_length)) {
+        memset(verdict, 0, sizeof *verdict);
+        verdict->status = COSE_BAD_ARGUMENT;
+        return;
+    }
+    cose_terms_.keys = cose_slice_(terms->keys);
+    cose_terms_.aad = cose_slice_(terms->aad);
+    cose_edge_large_authenticate_detached(&cose_terms_, cose_slice_(message), message_length, cose_slice_(payload), payload_length,
+        verdict, input);
+}
+
+void cose_edge_admit(const struct cose_terms *terms, const struct cose_requirements *requirements, const uint8_t *token,
+    uint64_t token_length, struct cose_claims_set *claims);
+
+/** Verifies a token as cose_verify_cwt does, under terms, and reads its claims where they meet the requirements; otherwise the status is
+ * COSE_UNMET. Without COSE_WITHOUT_EXP a token has to expire. A token may be of either kind: kind says which, if only one is wanted.
+ * Of a signed token the status is COSE_SIGNED, and there are no claims: pass it to cose_authenticate, verify its signature, and if it is
+ * good pass the payload to cose_admit_claims. */
+static inline void cose_admit(const struct cose_terms *terms, const struct cose_requirements *requirements, const uint8_t *token,
+    size_t token_length, struct cose_claims_set *claims)
+{
+    struct cose_terms cose_terms_ = *terms;
+    struct cose_requirements cose_requirements_ = *requirements;
+    if (cose_is_null_(terms->keys, terms->keys_length) ||
+        cose_is_null_(terms->aad, terms->aad_length) ||
+        cose_is_null_(requirements->iss, requirements->iss_length) ||
+        cose_is_null_(requirements->sub, requirements->sub_length) ||
+        cose_is_null_(requirements->aud, requirements->aud_length) ||
+        cose_is_null_(token, token_length)) {
+        memset(claims, 0, sizeof *claims);
+        claims->status = COSE_BAD_ARGUMENT;
+        return;
+    }
+    cose_terms_.keys = cose_slice_(terms->keys);
+    cose_terms_.aad = cose_slice_(terms->aad);
+    cose_requirements_.iss = cose_slice_(requirements->iss);
+    cose_requirements_.sub = cose_slice_(requirements->sub);
+    cose_requirements_.aud = cose_slice_(requirements->aud);
+    cose_edge_admit(&cose_terms_, &cose_requirements_, cose_slice_(token), token_length, claims);
+}
+
+void cose_edge_large_admit(const struct cose_terms *terms, const struct cose_requirements *requirements, const uint8_t *token,
+    uint64_t token_length, struct cose_claims_set *claims);
+
+/** The same for headers of 65,535 bytes, where headers and claims nest 16 deep: a call needs some 140 KB of stack. */
+static inline void cose_large_admit(const struct cose_terms *terms, const struct cose_requirements *requirements, const uint8_t *token,
+    size_t token_length, struct cose_claims_set *claims)
+{
+    struct cose_terms cose_terms_ = *terms;
+    struct cose_requirements cose_requirements_ = *requirements;
+    if (cose_is_null_(terms->keys, terms->keys_length) ||
+        cose_is_null_(terms->aad, terms->aad_length) ||
+        cose_is_null_(requirements->iss, requirements->iss_length) ||
+        cose_is_null_(requirements->sub, requirements->sub_length) ||
+        cose_is_null_(requirements->aud, requirements->aud_length) ||
+        cose_is_null_(token, token_length)) {
+        memset(claims, 0, sizeof *claims);
+        claims->status = COSE_BAD_ARGUMENT;
+        return;
+    }
+    cose_terms_.keys = cose_slice_(terms->keys);
+    cose_terms_.aad = cose_slice_(terms->aad);
+    cose_requirements_.iss = cose_slice_(requirements->iss);
+    cose_requirements_.sub = cose_slice_(requirements->sub);
+    cose_requirements_.aud = cose_slice_(requirements->aud);
+    cose_edge_large_admit(&cose_terms_, &cose_requirements_, cose_slice_(token), token_length, claims);
+}
+
+void cose_edge_admit_claims(const struct cose_requirements *requirements, const uint8_t *payload, uint64_t payload_length,
+    struct cose_claims_set *claims);
+
+/** Reads the claims of a payload that is known to be authentic, where they meet the requirements. */
+static inline void cose_admit_claims(const struct cose_requirements *requirements, const uint8_t *payload, size_t payload_length,
+    struct cose_claims_set *claims)
+{
+    struct cose_requirements cose_requirements_ = *requirements;
+    if (cose_is_null_(requirements->iss, requirements->iss_length) ||
+        cose_is_null_(requirements->sub, requirements->sub_length) ||
+        cose_is_null_(requirements->aud, requirements->aud_length) ||
+        cose_is_null_(payload, payload_length)) {
+        memset(claims, 0, sizeof *claims);
+        claims->status = COSE_BAD_ARGUMENT;
+        return;
+    }
+    cose_requirements_.iss = cose_slice_(requirements->iss);
+    cose_requirements_.sub = cose_slice_(requirements->sub);
+    cose_requirements_.aud = cose_slice_(requirements->aud);
+    cose_edge_admit_claims(&cose_requirements_, cose_slice_(payload), payload_length, claims);
+}
+
+void cose_edge_large_admit_claims(const struct cose_requirements *requirements, const uint8_t *payload, uint64_t payload_length,
+    struct cose_claims_set *claims);
+
+/** The same for claims that nest 16 deep. */
+static inline void cose_large_admit_claims(const struct cose_requirements *requirements, const uint8_t *payload, size_t payload_length,
+    struct cose_claims_set *claims)
+{
+    struct cose_requirements cose_requirements_ = *requirements;
+    if (cose_is_null_(requirements->iss, requirements->iss_length) ||
+        cose_is_null_(requirements->sub, requirements->sub_length) ||
+        cose_is_null_(requirements->aud, requirements->aud_length) ||
+        cose_is_null_(payload, payload_length)) {
+        memset(claims, 0, sizeof *claims);
+        claims->status = COSE_BAD_ARGUMENT;
+        return;
+    }
+    cose_requirements_.iss = cose_slice_(requirements->iss);
+    cose_requirements_.sub = cose_slice_(requirements->sub);
+    cose_requirements_.aud = cose_slice_(requirements->aud);
+    cose_edge_large_admit_claims(&cose_requirements_, cose_slice_(payload), payload_length, claims);
+}
+
 /* ---- Tokens. */
 
 void cose_edge_verify_cwt(const uint8_t *keys, uint64_t keys_length, const uint8_t *aad, uint64_t aad_length,
@@ -524,6 +849,121 @@ static inline void cose_next_audience(const uint8_t *payload, size_t payload_len
     cose_edge_next_audience(cose_slice_(payload), payload_length, place, audience);
 }
 
+void cose_edge_claim(const uint8_t *payload, uint64_t payload_length, int64_t label, struct cose_item *item);
+
+/** The claim of a label that is an integer, if the payload is a claims set that has it (RFC 8392 sections 3 and 9.1): an item of the
+ * payload. As of cose_large_claims, claims nest at most 16 deep. */
+static inline void cose_claim(const uint8_t *payload, size_t payload_length, int64_t label, struct cose_item *item)
+{
+    if (cose_is_null_(payload, payload_length)) {
+        memset(item, 0, sizeof *item);
+        return;
+    }
+    cose_edge_claim(cose_slice_(payload), payload_length, label, item);
+}
+
+void cose_edge_claim_named(const uint8_t *payload, uint64_t payload_length, const uint8_t *name, uint64_t name_length,
+    struct cose_item *item);
+
+/** The same of a label that is a text string, in UTF-8. */
+static inline void cose_claim_named(const uint8_t *payload, size_t payload_length, const uint8_t *name, size_t name_length,
+    struct cose_item *item)
+{
+    if (cose_is_null_(payload, payload_length) || cose_is_null_(name, name_length)) {
+        memset(item, 0, sizeof *item);
+        return;
+    }
+    cose_edge_claim_named(cose_slice_(payload), payload_length, cose_slice_(name), name_length, item);
+}
+
+void cose_edge_item_at(const uint8_t *payload, uint64_t payload_length, uint64_t place, struct cose_item *item);
+
+/** The item at a place of the payload, where that has one, of a nesting of at most 32. The items of an array, a map or a tag follow one
+ * another (RFC 8949 section 3.1): the first is where the head ends, and the next one where the one before it ends. */
+static inline void cose_item_at(const uint8_t *payload, size_t payload_length, uint64_t place, struct cose_item *item)
+{
+    if (cose_is_null_(payload, payload_length)) {
+        memset(item, 0, sizeof *item);
+        return;
+    }
+    cose_edge_item_at(cose_slice_(payload), payload_length, place, item);
+}
+
+/* ---- Header parameters of a message that is known to be authentic. Those of the unprotected bucket are not authentic: anyone may have
+ * changed them. */
+
+/** Labels of header parameters (RFC 9052 section 3.1; of certificates RFC 9360 section 2). */
+enum cose_label {
+    COSE_LABEL_ALG = 1,
+    COSE_LABEL_CRIT = 2,
+    COSE_LABEL_CONTENT_TYPE = 3,
+    COSE_LABEL_KID = 4,
+    COSE_LABEL_IV = 5,
+    COSE_LABEL_PARTIAL_IV = 6,
+    COSE_LABEL_X5BAG = 32,
+    COSE_LABEL_X5CHAIN = 33,
+    COSE_LABEL_X5T = 34,
+    COSE_LABEL_X5U = 35
+};
+
+void cose_edge_parameter(uint8_t kind, const uint8_t *message, uint64_t message_length, uint32_t is_protected, int64_t label,
+    struct cose_item *item);
+
+/** The parameter of a label that is an integer, of the protected bucket, or where is_protected is 0 of the unprotected one, if it has one:
+ * an item at its place in the message. */
+static inline void cose_parameter(enum cose_kind_number kind, const uint8_t *message, size_t message_length, uint32_t is_protected,
+    int64_t label, struct cose_item *item)
+{
+    if (cose_is_null_(message, message_length)) {
+        memset(item, 0, sizeof *item);
+        return;
+    }
+    cose_edge_parameter(cose_kind_(kind), cose_slice_(message), message_length, is_protected, label, item);
+}
+
+void cose_edge_large_parameter(uint8_t kind, const uint8_t *message, uint64_t message_length, uint32_t is_protected, int64_t label,
+    struct cose_item *item);
+
+/** The same for headers of 65,535 bytes that nest 16 deep. */
+static inline void cose_large_parameter(enum cose_kind_number kind, const uint8_t *message, size_t message_length, uint32_t is_protected,
+    int64_t label, struct cose_item *item)
+{
+    if (cose_is_null_(message, message_length)) {
+        memset(item, 0, sizeof *item);
+        return;
+    }
+    cose_edge_large_parameter(cose_kind_(kind), cose_slice_(message), message_length, is_protected, label, item);
+}
+
+void cose_edge_parameter_named(uint8_t kind, const uint8_t *message, uint64_t message_length, uint32_t is_protected, const uint8_t *name,
+    uint64_t name_length, struct cose_item *item);
+
+/** The parameter of a label that is a text string, in UTF-8, of either bucket. */
+static inline void cose_parameter_named(enum cose_kind_number kind, const uint8_t *message, size_t message_length, uint32_t is_protected,
+    const uint8_t *name, size_t name_length, struct cose_item *item)
+{
+    if (cose_is_null_(message, message_length) || cose_is_null_(name, name_length)) {
+        memset(item, 0, sizeof *item);
+        return;
+    }
+    cose_edge_parameter_named(cose_kind_(kind), cose_slice_(message), message_length, is_protected, cose_slice_(name), name_length, item);
+}
+
+void cose_edge_large_parameter_named(uint8_t kind, const uint8_t *message, uint64_t message_length, uint32_t is_protected,
+    const uint8_t *name, uint64_t name_length, struct cose_item *item);
+
+/** The same for headers of 65,535 bytes that nest 16 deep. */
+static inline void cose_large_parameter_named(enum cose_kind_number kind, const uint8_t *message, size_t message_length,
+    uint32_t is_protected, const uint8_t *name, size_t name_length, struct cose_item *item)
+{
+    if (cose_is_null_(message, message_length) || cose_is_null_(name, name_length)) {
+        memset(item, 0, sizeof *item);
+        return;
+    }
+    cose_edge_large_parameter_named(cose_kind_(kind), cose_slice_(message), message_length, is_protected, cose_slice_(name), name_length,
+        item);
+}
+
 /* ---- A verifier in the caller's memory, which is fed. */
 
 /** How many bytes its block has. */
@@ -583,9 +1023,11 @@ uint64_t cose_wanted(struct cose_verifier *verifier);
 /** How many bytes of a detached payload are wanted. */
 uint64_t cose_payload_wanted(struct cose_verifier *verifier);
 
+COSE_MUST_USE_
 uint64_t cose_edge_feed_payload(struct cose_verifier *verifier, const uint8_t *piece, uint64_t piece_length);
 
 /** Takes the next bytes of a detached payload, and returns how many it used. */
+COSE_MUST_USE_
 static inline uint64_t cose_feed_payload(struct cose_verifier *verifier, const uint8_t *piece, size_t piece_length)
 {
     if (cose_is_null_(piece, piece_length)) {
@@ -598,6 +1040,7 @@ static inline uint64_t cose_feed_payload(struct cose_verifier *verifier, const u
 void cose_end(struct cose_verifier *verifier, struct cose_status *status);
 
 /** What the signature of a message that is complete is verified with: 1 where it has one, and otherwise 0. */
+COSE_MUST_USE_
 uint8_t cose_sign_input(struct cose_verifier *verifier, struct cose_signature_input *input);
 
 /** The verdict on a message that is complete. 1 says that the signature of cose_sign_input is good, as EVP_PKEY_verify returns; any other
@@ -619,6 +1062,66 @@ uint64_t cose_taken(struct cose_verifier *verifier);
 
 /** How many bytes of it are held, and 256 for the running hash. */
 uint64_t cose_held(struct cose_verifier *verifier);
+
+void cose_edge_header(struct cose_verifier *verifier, uint32_t is_protected, int64_t label, uint8_t *into, uint64_t into_room,
+    struct cose_item *item);
+
+/** The parameter of a label that is an integer, of the protected bucket of the message so far, or where is_protected is 0 of the
+ * unprotected one, once that was found good: an item at its place in the message, of which as many bytes are copied as there is room
+ * for. Nothing of it is authentic before the verdict, nor of the unprotected bucket after it. */
+static inline void cose_header(struct cose_verifier *verifier, uint32_t is_protected, int64_t label, uint8_t *into, size_t into_room,
+    struct cose_item *item)
+{
+    if (cose_is_null_(into, into_room)) {
+        memset(item, 0, sizeof *item);
+        return;
+    }
+    cose_edge_header(verifier, is_protected, label, cose_room_(into), into_room, item);
+}
+
+void cose_edge_header_named(struct cose_verifier *verifier, uint32_t is_protected, const uint8_t *name, uint64_t name_length,
+    uint8_t *into, uint64_t into_room, struct cose_item *item);
+
+/** The same of a label that is a text string, in UTF-8. */
+static inline void cose_header_named(struct cose_verifier *verifier, uint32_t is_protected, const uint8_t *name, size_t name_length,
+    uint8_t *into, size_t into_room, struct cose_item *item)
+{
+    if (cose_is_null_(name, name_length) || cose_is_null_(into, into_room)) {
+        memset(item, 0, sizeof *item);
+        return;
+    }
+    cose_edge_header_named(verifier, is_protected, cose_slice_(name), name_length, cose_room_(into), into_room, item);
+}
+
+#if UINTPTR_MAX <= 0xffffffff && defined COSE_NO_SHA512
+/** Whether a message under the keys of a verifier may get to the function that is left out: 0 where each that names such an algorithm is
+ * refused before it is hashed. The verifier is fed the headers of one of each algorithm, without the key's identifier, and is reset. */
+COSE_MUST_USE_
+static inline int cose_needs_sha512(struct cose_verifier *verifier)
+{
+    /* 6 and 7 of a COSE_Mac0, and -35, -36, -51 and -52 of a COSE_Sign1 */
+    static const uint8_t headers[][8] = {
+        {0xd1, 0x84, 0x43, 0xa1, 0x01, 0x06, 0xa0},
+        {0xd1, 0x84, 0x43, 0xa1, 0x01, 0x07, 0xa0},
+        {0xd2, 0x84, 0x44, 0xa1, 0x01, 0x38, 0x22, 0xa0},
+        {0xd2, 0x84, 0x44, 0xa1, 0x01, 0x38, 0x23, 0xa0},
+        {0xd2, 0x84, 0x44, 0xa1, 0x01, 0x38, 0x32, 0xa0},
+        {0xd2, 0x84, 0x44, 0xa1, 0x01, 0x38, 0x33, 0xa0},
+    };
+    struct cose_fed fed;
+    uint8_t needs = 0;
+    cose_probes_ = 1;
+    for (size_t each = 0; each < sizeof headers / sizeof *headers; each++) {
+        cose_reset(verifier);
+        cose_feed(verifier, headers[each], each < 2 ? 7 : 8, &fed);
+        /* without an identifier more than one key may fit, of which a message may name one */
+        needs |= fed.status.status != COSE_REFUSED || fed.status.reason == COSE_REASON_AMBIGUOUS_KEY;
+    }
+    cose_reset(verifier);
+    cose_probes_ = 0;
+    return needs;
+}
+#endif
 
 /* ---- The same for headers of 65,535 bytes that nest 16 deep. */
 
@@ -679,9 +1182,11 @@ uint64_t cose_large_wanted(struct cose_large_verifier *verifier);
 /** How many bytes of a detached payload are wanted. */
 uint64_t cose_large_payload_wanted(struct cose_large_verifier *verifier);
 
+COSE_MUST_USE_
 uint64_t cose_edge_large_feed_payload(struct cose_large_verifier *verifier, const uint8_t *piece, uint64_t piece_length);
 
 /** Takes the next bytes of a detached payload, and returns how many it used. */
+COSE_MUST_USE_
 static inline uint64_t cose_large_feed_payload(struct cose_large_verifier *verifier, const uint8_t *piece, size_t piece_length)
 {
     if (cose_is_null_(piece, piece_length)) {
@@ -694,6 +1199,7 @@ static inline uint64_t cose_large_feed_payload(struct cose_large_verifier *verif
 void cose_large_end(struct cose_large_verifier *verifier, struct cose_status *status);
 
 /** What the signature of a message that is complete is verified with: 1 where it has one, and otherwise 0. */
+COSE_MUST_USE_
 uint8_t cose_large_sign_input(struct cose_large_verifier *verifier, struct cose_signature_input *input);
 
 /** The verdict on a message that is complete. 1 says that the signature of cose_sign_input is good, as EVP_PKEY_verify returns; any other
@@ -716,6 +1222,36 @@ uint64_t cose_large_taken(struct cose_large_verifier *verifier);
 
 /** How many bytes of it are held, and 256 for the running hash. */
 uint64_t cose_large_held(struct cose_large_verifier *verifier);
+
+void cose_edge_large_header(struct cose_large_verifier *verifier, uint32_t is_protected, int64_t label, uint8_t *into, uint64_t into_room,
+    struct cose_item *item);
+
+/** The parameter of a label that is an integer, of the protected bucket of the message so far, or where is_protected is 0 of the
+ * unprotected one, once that was found good: an item at its place in the message, of which as many bytes are copied as there is room
+ * for. Nothing of it is authentic before the verdict, nor of the unprotected bucket after it. */
+static inline void cose_large_header(struct cose_large_verifier *verifier, uint32_t is_protected, int64_t label, uint8_t *into,
+    size_t into_room, struct cose_item *item)
+{
+    if (cose_is_null_(into, into_room)) {
+        memset(item, 0, sizeof *item);
+        return;
+    }
+    cose_edge_large_header(verifier, is_protected, label, cose_room_(into), into_room, item);
+}
+
+void cose_edge_large_header_named(struct cose_large_verifier *verifier, uint32_t is_protected, const uint8_t *name, uint64_t name_length,
+    uint8_t *into, uint64_t into_room, struct cose_item *item);
+
+/** The same of a label that is a text string, in UTF-8. */
+static inline void cose_large_header_named(struct cose_large_verifier *verifier, uint32_t is_protected, const uint8_t *name,
+    size_t name_length, uint8_t *into, size_t into_room, struct cose_item *item)
+{
+    if (cose_is_null_(name, name_length) || cose_is_null_(into, into_room)) {
+        memset(item, 0, sizeof *item);
+        return;
+    }
+    cose_edge_large_header_named(verifier, is_protected, cose_slice_(name), name_length, cose_room_(into), into_room, item);
+}
 
 /* ---- A table of keys in the caller's memory. */
 
@@ -808,9 +1344,11 @@ static inline void cose_make(struct cose_maker *maker, int32_t alg, const uint8_
         cose_room_(head), head_room, made);
 }
 
+COSE_MUST_USE_
 uint64_t cose_edge_make_piece(struct cose_maker *maker, const uint8_t *piece, uint64_t piece_length);
 
 /** Hashes the next bytes of the payload, and returns how many it used. */
+COSE_MUST_USE_
 static inline uint64_t cose_make_piece(struct cose_maker *maker, const uint8_t *piece, size_t piece_length)
 {
     if (cose_is_null_(piece, piece_length)) {
@@ -835,6 +1373,7 @@ static inline void cose_make_end(struct cose_maker *maker, uint8_t *tail, size_t
 /* ---- Blocks of all kinds. */
 
 /** 1 where the library has this header's version, and its blocks fit into the bytes and the alignment above; otherwise 0. */
+COSE_MUST_USE_
 static inline int cose_fits(void)
 {
     return cose_version() == COSE_VERSION &&

@@ -69,13 +69,13 @@ gives_at_any_place payload (Err status) claims at count g = g
 -- ---- a token
 
 -- The status of an answer does not depend on where the payload is.
-any_place : (status : Kind → ℕ) (at : ℕ) (answer : Answer) → status_in (verdict_numbers status at answer) ≡ status_in (verdict_numbers status 0 answer)
+pub any_place : (status : Kind → ℕ) (at : ℕ) (answer : Answer) → status_in (verdict_numbers status at answer) ≡ status_in (verdict_numbers status 0 answer)
 any_place status at (decided (Authentic kind alg payload taken)) = refl
 any_place status at (decided (Refused refusal)) = refl
 any_place status at (complete whole) = refl
 any_place status at (shaped kind payload auth taken) = refl
 
-authentic_is_accepted : (v : CoseVerdict) → v.status ≡ 1 → is_accepted v ≡ true
+pub authentic_is_accepted : (v : CoseVerdict) → v.status ≡ 1 → is_accepted v ≡ true
 authentic_is_accepted v one = rw one refl
 
 pub gives_token : (room nesting : ℕ) (setting : Setting) (policy : Result PolicyValue CoseStatus) (token : List ℕ) (v : CoseVerdict) (claims : CoseClaims) →

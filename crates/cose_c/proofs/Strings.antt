@@ -182,12 +182,12 @@ module _ (tree : ClaimsAreOfTree) (ends : ChildrenEndInside) (depth : ℕ) (payl
   abbrev whole : Placed
   whole = record { bytes = payload; place = 0 }
 
-  value_part : (name : LabelValue) (v : Placed) → value_of name claims.pairs ≡ Some v → Part whole v
+  pub value_part : (name : LabelValue) (v : Placed) → value_of name claims.pairs ≡ Some v → Part whole v
   value_part name v is =
       let same : children_of whole ≡ items_of claims.pairs = sym (tree depth whole claims shallow read).are_children in
       found_value (Part whole) name claims.pairs (subst (AllByRecursion (Part whole)) same (children_part whole)) v is
 
-  value_ends : (name : LabelValue) (v : Placed) → value_of name claims.pairs ≡ Some v → end_of v ≤ length payload
+  pub value_ends : (name : LabelValue) (v : Placed) → value_of name claims.pairs ≡ Some v → end_of v ≤ length payload
   value_ends name v is =
       let same : children_of whole ≡ items_of claims.pairs = sym (tree depth whole claims shallow read).are_children in
       let by : EndsBy (end_of whole) v = found_value (EndsBy (end_of whole)) name claims.pairs (subst (AllByRecursion (EndsBy (end_of whole))) same (ends whole)) v is in
@@ -264,10 +264,10 @@ module _ (tree : ClaimsAreOfTree) (ends : ChildrenEndInside) (depth : ℕ) (payl
 
 -- The item that the bytes from a place on begin with is a part of the payload, which ends within it.
 module _ (payload : List ℕ) (place count : ℕ) (item : Placed) (here : place ≤ length payload) (is : item ≡ record { bytes = take count (drop place payload); place = place }) where
-  part_here : Part (record { bytes = payload; place = 0 }) item
+  pub part_here : Part (record { bytes = payload; place = 0 }) item
   part_here = record { offset = place; count = count; at = ap (λ (p : Placed). p.place) is ∙ omega arith; cut = ap (λ (p : Placed). p.bytes) is }
 
-  ends_here : end_of item ≤ length payload
+  pub ends_here : end_of item ≤ length payload
   ends_here =
       let at : item.place ≡ place = ap (λ (p : Placed). p.place) is in
       let count_of : length item.bytes ≡ length (take count (drop place payload)) = ap (λ (p : Placed). length p.bytes) is in

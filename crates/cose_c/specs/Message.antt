@@ -1,5 +1,5 @@
 -- The result of one call over memory.
-use Rattle.std.specs.Prelude.{◌≡◌, ℕ, ◌+◌, ◌≤◌, Bool, List, [], length, take, drop, Option, None, Result, Ok, Err, ◌==◌, ◌||◌}
+use Rattle.std.specs.Prelude.{◌≡◌, ℕ, ◌+◌, ◌≤◌, Bool, List, [], length, take, drop, Option, None, Result, Ok, Err, ◌==◌, ◌&&◌, ◌||◌}
 use Rattle.cose_msg.specs.Message.{Setting, given, message as reading, verdict_of}
 use Rattle.cose_msg.specs.Shown.{SignInput, sign_input_in}
 use Rattle.cose_msg.specs.Task.{rules_of, to_verify}
@@ -17,6 +17,10 @@ pub record Covers (bytes content : List ℕ) (at count : ℕ) : Type 0 where
 -- The message is authentic (1), or it is where its signature is good (2).
 abbrev pub is_accepted : CoseVerdict → Bool
 is_accepted verdict = (verdict.status == 1) || (verdict.status == 2)
+
+-- A limit on the headers refuses the message: TooDeep (5) or PastRoom (6).
+abbrev pub is_past_limits : CoseVerdict → Bool
+is_past_limits verdict = verdict.status == 3 && (verdict.reason == 5 || verdict.reason == 6)
 
 -- ---- in a setting
 

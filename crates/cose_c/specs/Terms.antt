@@ -1,5 +1,5 @@
 -- What the arguments of a call say of a message.
-use Rattle.std.specs.Prelude.{ℕ, ◌-◌, ◌^◌, true, List, [], length, Option, Some, None, Result, Ok, Err, nat_lt, ◌==◌, if◌then◌else◌}
+use Rattle.std.specs.Prelude.{ℕ, ◌-◌, ◌^◌, true, List, [], length, Option, Some, None, Result, Ok, Err, nat_lt, ◌==◌, if◌then◌else◌, false}
 use Rattle.cose_map.specs.declared.key_set.KeySet.{KeySet}
 use Rattle.cose_map.specs.Key.Value.{KeyValue}
 use Rattle.cose_map.specs.KeySet.View.{keys as usable}
@@ -35,6 +35,7 @@ setting_under keys aad wanted = record {
   understood = [];
   payload_limit = 2 ^ 56 - 1;
   source = attached;
+  elsewhere = false;
 }
 
 -- Nor is one under a key set that is refused (4).

@@ -64,7 +64,7 @@ pub struct CosePolicy<'p> {
 }
 
 /// The bytes as a text string, if they are UTF-8.
-fn utf8(bytes: &[u8]) -> Option<&str>
+pub(crate) fn utf8(bytes: &[u8]) -> Option<&str>
     ensures { option_map text_value result ≡ if_utf8 bytes.now }
 {
     std::str::from_utf8(bytes).ok()
@@ -102,7 +102,11 @@ fn policy_of<'p>(policy: &CosePolicy<'_>, name: &'p Option<&'p str>) -> Policy<'
 }
 
 /// The claims of a payload, if they are admitted.
-fn admitted<'t>(payload: &'t [u8], depth: usize, policy: &Policy<'_>) -> Result<Claims<'t>, Refusal>
+pub(crate) fn admitted<'t>(
+    payload: &'t [u8],
+    depth: usize,
+    policy: &Policy<'_>,
+) -> Result<Claims<'t>, Refusal>
     requires { depth ≤ 32 }
     ensures { seen_by claims_value result
         ≡ admitted_claims depth (policy_value policy.entry.now) payload.entry.now }
@@ -382,7 +386,7 @@ fn point_confirmed(claims: &Claims<'_>) -> Point
 }
 
 /// The claims that are admitted.
-fn claims_for_c(claims: &Claims<'_>, payload: &[u8]) -> CoseClaims
+pub(crate) fn claims_for_c(claims: &Claims<'_>, payload: &[u8]) -> CoseClaims
     ensures { (depth : ℕ) → depth ≤ 32
         → claims_of depth (record { bytes = payload.now; place = 0 }) ≡ Ok (claims_value claims.now)
         → GivesClaims payload.now (claims_value claims.now) result }
@@ -453,14 +457,14 @@ fn claims_under(payload: &[u8], depth: usize, policy: &CosePolicy<'_>) -> CoseCl
 }
 
 /// The bytes from a place on, and the first bytes: as many as there are.
-fn bytes_from(bytes: &[u8], at: u64) -> &[u8]
+pub(crate) fn bytes_from(bytes: &[u8], at: u64) -> &[u8]
     ensures { result.now ≡ drop at bytes.now }
 {
     let at = (at as usize).min(bytes.len());
     &bytes[at..]
 }
 
-fn bytes_before(bytes: &[u8], count: u64) -> &[u8]
+pub(crate) fn bytes_before(bytes: &[u8], count: u64) -> &[u8]
     ensures { result.now ≡ take count bytes.now }
 {
     if count < bytes.len() as u64 {
@@ -470,7 +474,7 @@ fn bytes_before(bytes: &[u8], count: u64) -> &[u8]
 }
 
 /// The status of a message that isn't authentic.
-fn status_of(verdict: CoseVerdict) -> CoseStatus
+pub(crate) fn status_of(verdict: CoseVerdict) -> CoseStatus
     ensures { result ≡ status_in verdict }
 {
     CoseStatus {
@@ -481,7 +485,7 @@ fn status_of(verdict: CoseVerdict) -> CoseStatus
 }
 
 /// The same claims of a payload that is at this place.
-fn placed_claims(claims: CoseClaims, at: u64, length: u64) -> CoseClaims
+pub(crate) fn placed_claims(claims: CoseClaims, at: u64, length: u64) -> CoseClaims
     ensures { result ≡ record claims { payload_at = at; payload_length = length } }
 {
     let mut placed = claims;
@@ -636,7 +640,7 @@ pub extern "C" fn cose_edge_audience(payload: &[u8], index: u64, audience: &mut 
 
 /// The item that bytes begin with, of a nesting of at most 32. The first byte is at place `at`.
 #[tactic(auto, using(cose_head::proofs::Whole::spelled_is_one_item))]
-fn first_item(bytes: &[u8], at: u64) -> Option<ItemRef<'_>>
+pub(crate) fn first_item(bytes: &[u8], at: u64) -> Option<ItemRef<'_>>
     requires { at + length bytes.now < 2 ^ 64 }
     ensures item { option_map placed result ≡ first_in (record { bytes = bytes.now; place = at }) }
 {

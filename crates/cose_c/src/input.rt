@@ -35,7 +35,7 @@ pub struct CoseSignInput {
 }
 
 /// Copies as many bytes as there is room for, and returns how many.
-fn copy(from: &[u8], into: &mut [u8]) -> u64
+pub(crate) fn copy(from: &[u8], into: &mut [u8]) -> u64
     ensures gives { Gives from.now into.new (length into.old) result }
 {
     let count = from.len().min(into.len());

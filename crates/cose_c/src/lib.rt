@@ -5,16 +5,23 @@
 //! `cose_NAME` that takes a null pointer too.
 #![tactic(auto)]
 
+mod admit;
+mod authenticate;
 mod claims;
 mod cose_claims;
 mod deciding;
 mod held;
 mod input;
+mod item;
 mod key_set;
 mod make;
 mod message;
 mod numbers;
+mod parameter;
+mod permitted;
+mod required;
 mod shape;
+mod stated;
 mod stream;
 mod table;
 mod terms;

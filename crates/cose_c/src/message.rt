@@ -8,7 +8,7 @@ ghost use Rattle.cose_msg.specs.Message.{given};
 ghost use Rattle.cose_msg.specs.Task.{to_verify};
 ghost use Rattle.cose_msg.specs.Verifier.{is_detached, setting_in};
 ghost use Rattle.cose_c.specs.Input.{GivesAll};
-ghost use Rattle.cose_c.specs.Message.{Covers, beside, input_read, input_given, is_accepted, payload_read, payload_given, verdict_given, verdict_read};
+ghost use Rattle.cose_c.specs.Message.{Covers, beside, input_read, input_given, is_accepted, is_past_limits, payload_read, payload_given, verdict_given, verdict_read};
 ghost use Rattle.cose_c.specs.Numbers.{one_message, unless_signed, verdict_numbers};
 ghost use Rattle.cose_c.specs.Terms.{setting_given};
 
@@ -133,9 +133,17 @@ pub extern "C" fn cose_edge_verify(
     };
 }
 
-/// The same for headers of 65,535 bytes that nest 16 deep.
-#[unsafe(no_mangle)]
-pub extern "C" fn cose_edge_large_verify(
+/// Whether a message is refused for a limit on its headers: that of their room, or of their nesting.
+fn is_past_limits(verdict: &CoseVerdict) -> bool
+    ensures { result ≡ is_past_limits verdict.now }
+{
+    let too_deep = verdict.reason == Reason::TooDeep.number();
+    verdict.status == REFUSED && (too_deep || verdict.reason == Reason::PastRoom.number())
+}
+
+/// [`cose_edge_verify`] for headers of 65,535 bytes that nest 16 deep, by a verifier that has room for them.
+#[inline(never)]
+fn verify_large(
     keys: &[u8],
     aad: &[u8],
     wanted: u8,
@@ -160,6 +168,35 @@ pub extern "C" fn cose_edge_large_verify(
         }
         Err(status) => no_message(status),
     };
+}
+
+/// [`cose_edge_verify`] for headers of 65,535 bytes that nest 16 deep. A message is verified within the smaller limits first, for which
+/// no room of the larger ones has to be made, and again where one of them refuses it.
+#[unsafe(no_mangle)]
+pub extern "C" fn cose_edge_large_verify(
+    keys: &[u8],
+    aad: &[u8],
+    wanted: u8,
+    message: &[u8],
+    verdict: &mut CoseVerdict,
+    input: &mut CoseSignInput,
+)
+    ensures verdict { verdict.new
+        ≡ verdict_given 65535 16 (setting_given (keys_of keys.now) aad.now wanted)
+        verdict.new.payload_at message.now }
+    ensures payload { is_accepted verdict.new ≡ true → Covers message.now
+        (payload_given 65535 16 (setting_given (keys_of keys.now) aad.now wanted) message.now)
+        verdict.new.payload_at verdict.new.payload_length }
+    ensures input { verdict.new.status ≡ 2 → GivesAll
+        (input_given 65535 16 (setting_given (keys_of keys.now) aad.now wanted) message.now)
+        input.new }
+{
+    // The law of messages that the proof cites.
+    deciding_goes_last();
+    cose_edge_verify(keys, aad, wanted, message, verdict, input);
+    if is_past_limits(verdict) {
+        verify_large(keys, aad, wanted, message, verdict, input);
+    }
 }
 
 /// The verdict on all bytes of a message whose payload is detached, by a verifier that has taken none of both.
@@ -229,9 +266,9 @@ pub extern "C" fn cose_edge_verify_detached(
     };
 }
 
-/// The same for headers of 65,535 bytes that nest 16 deep.
-#[unsafe(no_mangle)]
-pub extern "C" fn cose_edge_large_verify_detached(
+/// [`cose_edge_verify_detached`] for headers of 65,535 bytes that nest 16 deep, by a verifier that has room for them.
+#[inline(never)]
+fn verify_large_detached(
     keys: &[u8],
     aad: &[u8],
     wanted: u8,
@@ -257,4 +294,30 @@ pub extern "C" fn cose_edge_large_verify_detached(
         }
         Err(status) => no_message(status),
     };
+}
+
+/// [`cose_edge_verify_detached`] for headers of 65,535 bytes that nest 16 deep, within the smaller limits first too.
+#[unsafe(no_mangle)]
+pub extern "C" fn cose_edge_large_verify_detached(
+    keys: &[u8],
+    aad: &[u8],
+    wanted: u8,
+    message: &[u8],
+    payload: &[u8],
+    verdict: &mut CoseVerdict,
+    input: &mut CoseSignInput,
+)
+    ensures verdict { verdict.new ≡ verdict_given 65535 16
+        (beside payload.now (setting_given (keys_of keys.now) aad.now wanted)) 0 message.now }
+    ensures input { verdict.new.status ≡ 2 → GivesAll
+        (input_given 65535 16
+        (beside payload.now (setting_given (keys_of keys.now) aad.now wanted)) message.now)
+        input.new }
+{
+    // The law of messages that the proof cites.
+    deciding_goes_last();
+    cose_edge_verify_detached(keys, aad, wanted, message, payload, verdict, input);
+    if is_past_limits(verdict) {
+        verify_large_detached(keys, aad, wanted, message, payload, verdict, input);
+    }
 }

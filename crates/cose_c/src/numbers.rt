@@ -45,6 +45,9 @@ pub(crate) const STOPPED: u8 = 11;
 /// A number among the arguments is none that the function knows.
 pub(crate) const BAD_ARGUMENT: u8 = 12;
 
+/// The message is authentic and its claims are admitted, and a requirement isn't met.
+pub(crate) const UNMET: u8 = 13;
+
 /// The version of the library: its major number times 65,536, its minor one times 256, and its patch.
 const VERSION: u32 = 512;
 

@@ -15,7 +15,7 @@ use crate::terms::{HEADER, NESTING, context};
 use cose_msg::{Inspected, Keys, Nothing, Reason, Refusal, SliceIntake, Verifier, inspect};
 
 /// A key set without a usable key, which is enough for a message that is only inspected: the empty map.
-const NO_KEYS: &[u8] = &[0xa0];
+pub(crate) const NO_KEYS: &[u8] = &[0xa0];
 
 /// The shape of a message (RFC 9052 sections 4.2 and 6.2).
 #[repr(C)]

@@ -6,9 +6,9 @@ ghost use Rattle.cose_msg.specs.declared.verdict.Verdict.{Verdict};
 ghost use Rattle.cose_msg.specs.Answer.{decided};
 ghost use Rattle.cose_msg.specs.Feed.{Uses};
 ghost use Rattle.cose_msg.specs.Message.{Setting, verdict_of};
-ghost use Rattle.cose_msg.specs.Shown.{sign_input_in};
+ghost use Rattle.cose_msg.specs.Shown.{sign_input_for};
 ghost use Rattle.cose_msg.specs.Status.{is_complete, status_of_answer};
-ghost use Rattle.cose_msg.specs.Task.{Task, given_to, rules_of, to_verify};
+ghost use Rattle.cose_msg.specs.Task.{asks, Task, given_to, rules_of, to_verify};
 ghost use Rattle.cose_c.specs.Deciding.{deciding};
 ghost use Rattle.cose_c.specs.Input.{GivesAll, has_point};
 ghost use Rattle.cose_c.specs.Numbers.{always_authentic, no_message, verdict_numbers};
@@ -256,7 +256,7 @@ pub(crate) fn sign_input<'k, const H: usize, const D: usize>(
     // By definition, of the bytes so far.
     ensures reads { (task : Task) (taken payload : List ℕ) → HasRead task taken payload content.now
         → signed_by content.now
-        ≡ sign_input_in task.setting.aad (reading_of H D task taken).answer }
+        ≡ sign_input_for (asks task) task.setting.aad (reading_of H D task taken).answer }
 {
     match content {
         Some(verifier) => give_input(verifier, input),

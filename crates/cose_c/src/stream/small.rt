@@ -1,25 +1,32 @@
 //! A verifier in a block, for callers in C: header buckets of at most 1,024 bytes, nested at most 8 deep.
 
-ghost use Rattle.std.specs.Prelude.{◌≡◌, ◌≢◌, ◌≤◌, ◌+◌, ℕ, true, false, List, [], ◌++◌, Some, Ok, length, min, take, if◌then◌else◌};
+ghost use Rattle.std.specs.Prelude.{◌≡◌, ◌≢◌, ◌==◌, not, ◌≤◌, ◌+◌, ℕ, true, false, List, [], ◌++◌, Some, Ok, length, min, take, if◌then◌else◌};
 ghost use Rattle.cose_map.specs.KeySet.{keys_of};
+ghost use Rattle.cose_map.specs.Label.{number};
 ghost use Rattle.cose_msg.specs.declared.verdict.Verdict.{Verdict};
 ghost use Rattle.cose_msg.specs.Answer.{decided};
 ghost use Rattle.cose_msg.specs.Feed.{Uses};
 ghost use Rattle.cose_msg.specs.Message.{Setting, verdict_of};
-ghost use Rattle.cose_msg.specs.Shown.{sign_input_in};
+ghost use Rattle.cose_msg.specs.Shown.{sign_input_for};
 ghost use Rattle.cose_msg.specs.Status.{is_complete, status_of_answer};
-ghost use Rattle.cose_msg.specs.Task.{Task, given_to, rules_of, to_verify};
+ghost use Rattle.cose_msg.specs.Task.{asks, Task, given_to, rules_of, to_verify};
 ghost use Rattle.cose_c.specs.Deciding.{deciding};
 ghost use Rattle.cose_c.specs.Input.{GivesAll, has_point};
+ghost use Rattle.cose_c.specs.Item.{item_numbers};
 ghost use Rattle.cose_c.specs.Numbers.{always_authentic, no_message, plain_status, verdict_numbers};
+ghost use Rattle.cose_c.specs.Parameter.{GivesItem, bucket_in, parameter_by, parameter_in, parameter_named_by};
 ghost use Rattle.cose_c.specs.Stream.{HasRead, IsAnew, IsOpened, Keeps, answer_kept_by, block_status, detached_given, following, has_verdict, held_by, nothing_fed, opening_status, payload_fed, payload_wanted_by, reading_of, says_good, signed_by, status_after, status_numbers, taken_by, task_by, wanted_by, wants_any, wants_more};
 ghost use Rattle.cose_c.specs.Terms.{setting_given};
 
+use crate::claims::utf8;
 use crate::held::verifier::CoseVerifier;
 use crate::input::CoseSignInput;
+use crate::item::{CoseItem, no_item};
 use crate::numbers::{BAD_ARGUMENT, CoseStatus, CoseVerdict, no_message, plain_status};
+use crate::parameter::parameter_taken;
 use crate::stream;
 use crate::stream::CoseFed;
+use cose_map::Label;
 
 /// Opens a block: gives it the key set and the external data of the messages to come, and the kinds that are wanted (0, 17 or 18). The
 /// status is `MORE`, or says why it isn't opened; then it has no keys, whatever it was before.
@@ -168,7 +175,7 @@ pub extern "C" fn cose_sign_input(verifier: &mut CoseVerifier, input: &mut CoseS
     ensures reads { (task : Task) (taken payload : List ℕ)
         → HasRead task taken payload verifier.old.value.content
         → signed_by verifier.old.value.content
-        ≡ sign_input_in task.setting.aad (reading_of 1024 8 task taken).answer }
+        ≡ sign_input_for (asks task) task.setting.aad (reading_of 1024 8 task taken).answer }
     ensures same { verifier.new.value.content ≡ verifier.old.value.content }
     ensures same_message { verifier.new.value.message ≡ verifier.old.value.message }
 {
@@ -308,4 +315,60 @@ pub extern "C" fn cose_held(verifier: &mut CoseVerifier) -> u64
     ensures same { verifier.new.value.content ≡ verifier.old.value.content }
 {
     stream::held(&verifier.lend().content)
+}
+
+/// The parameter of a label that is an integer, of the protected bucket of the message so far, or where `is_protected` is 0 of the
+/// unprotected one, once that was found good: an item at its place in the message, of which as many bytes are copied as there is room for.
+#[unsafe(no_mangle)]
+pub extern "C" fn cose_edge_header(
+    verifier: &mut CoseVerifier,
+    is_protected: u32,
+    label: i64,
+    into: &mut [u8],
+    item: &mut CoseItem,
+)
+    ensures value { item.new
+        ≡ item_numbers
+        (parameter_by (not (is_protected == 0)) (number label) verifier.old.value.content) }
+    ensures copied { GivesItem
+        (parameter_by (not (is_protected == 0)) (number label) verifier.old.value.content)
+        into.new (length into.old) }
+    // By definition, of the bytes so far.
+    ensures reads { (task : Task) (taken payload : List ℕ)
+        → HasRead task taken payload verifier.old.value.content
+        → parameter_by (not (is_protected == 0)) (number label) verifier.old.value.content
+        ≡ parameter_in (number label)
+        (bucket_in (not (is_protected == 0)) (reading_of 1024 8 task taken).so_far) }
+    ensures same { verifier.new.value.content ≡ verifier.old.value.content }
+    ensures same_message { verifier.new.value.message ≡ verifier.old.value.message }
+{
+    let label = Label::Int(i128::from(label));
+    *item = parameter_taken(&verifier.lend().content, is_protected != 0, &label, into);
+}
+
+/// The same of a label that is a text string, in UTF-8.
+#[unsafe(no_mangle)]
+pub extern "C" fn cose_edge_header_named(
+    verifier: &mut CoseVerifier,
+    is_protected: u32,
+    name: &[u8],
+    into: &mut [u8],
+    item: &mut CoseItem,
+)
+    ensures value { item.new
+        ≡ item_numbers
+        (parameter_named_by (not (is_protected == 0)) name.now verifier.old.value.content) }
+    ensures copied { GivesItem
+        (parameter_named_by (not (is_protected == 0)) name.now verifier.old.value.content)
+        into.new (length into.old) }
+    ensures same { verifier.new.value.content ≡ verifier.old.value.content }
+    ensures same_message { verifier.new.value.message ≡ verifier.old.value.message }
+{
+    *item = match utf8(name) {
+        Some(name) => {
+            let label = Label::Text(name);
+            parameter_taken(&verifier.lend().content, is_protected != 0, &label, into)
+        }
+        None => no_item(),
+    };
 }

@@ -1,0 +1,224 @@
+//! The keys of a set that a caller permits: by their algorithm, and by the length of a secret.
+
+ghost use Rattle.std.specs.Prelude.{◌≡◌, option_map};
+ghost use Rattle.cose_head.specs.ItemRef.{placed};
+ghost use Rattle.cose_map.specs.Choice.{chosen};
+ghost use Rattle.cose_map.specs.Choice.View.{found_value, question};
+ghost use Rattle.cose_map.specs.Key.View.{key_value, material_value};
+ghost use Rattle.cose_map.specs.KeySet.{keys_of, usable};
+ghost use Rattle.cose_map.specs.Label.View.{label_value};
+ghost use Rattle.cose_map.specs.Map.View.{seen_by};
+ghost use Rattle.cose_map.specs.Restrictions.{allows_material, is_among};
+ghost use Rattle.std.specs.Prelude.{[], filter, filter_map, ◌∷◌};
+ghost use Rattle.cose_head.specs.Placed.{children_of};
+ghost use Rattle.std.specs.List.{list_any};
+ghost use Rattle.std.specs.Ordering.{int_eq};
+ghost use Rattle.cose_c.specs.Permitted as spec;
+ghost use Rattle.cose_c.specs.PermittedView.{keys_permitted, permission_value};
+
+use cose_head::{ItemRef, Items, Reason, Refusal};
+use cose_map::{Key, KeyMeaning, KeySet, KeyTable, Keys, Label, Material, Query};
+
+/// The number of HMAC 256/64 (RFC 9053 section 3.1), whose tag has 64 bits.
+const SHORT_MAC: i128 = 4;
+
+/// How deep a key set nests.
+const NESTING: usize = 8;
+
+/// Which keys a caller permits.
+#[derive(Clone, Copy)]
+pub(crate) struct Permission<'k> {
+    /// The numbers of the algorithms one of which a key has to name; zeros name none, and with zeros alone none is stated.
+    pub(crate) algorithms: &'k [i32],
+    /// The least number of bytes of a secret.
+    pub(crate) least_secret: u64,
+    /// Whether, with no algorithms stated, keys for HMAC 256/64 are permitted.
+    pub(crate) short_mac: bool,
+    /// Whether, with no algorithms stated, keys that name no algorithm are permitted.
+    pub(crate) without_alg: bool,
+}
+
+/// Whether an algorithm is stated.
+fn is_stated(algorithms: &[i32]) -> bool
+    ensures { result ≡ spec.is_stated algorithms.now }
+{
+    algorithms.iter().any(|number| *number != 0)
+}
+
+/// Whether a number is among these.
+fn is_among_these(algorithms: &[i32], own: i128) -> bool
+    ensures { result ≡ list_any (int_eq own) algorithms.now }
+{
+    'algorithms: for number in algorithms {
+        if own == i128::from(*number) {
+            return true;
+        }
+    }
+    false
+}
+
+/// Whether the algorithm that a key names is one of these.
+fn is_one_of(algorithms: &[i32], own: Option<Label<'_>>) -> bool
+    ensures { result ≡ is_among algorithms.now (option_map label_value own.entry) }
+{
+    match own {
+        Some(Label::Int(own)) => is_among_these(algorithms, own),
+        _ => false,
+    }
+}
+
+impl Permission<'_> {
+    /// Whether a key that names this algorithm is permitted, where none is stated.
+    fn permits_named(&self, own: Label<'_>) -> bool
+        ensures { result ≡ spec.permits_named (permission_value self.entry.now) (label_value own.entry) }
+    {
+        match own {
+            Label::Int(number) => number != SHORT_MAC || self.short_mac,
+            Label::Text(_) => true,
+        }
+    }
+
+    /// Whether a key that names no algorithm is permitted, where none is stated. A secret could be used with HMAC 256/64 too.
+    fn permits_unnamed(&self, material: &Material<'_>) -> bool
+        ensures { result ≡ spec.permits_unnamed (permission_value self.entry.now) (material_value material.now) }
+    {
+        match material {
+            Material::Symmetric(_) => self.without_alg && self.short_mac,
+            Material::Ec { .. } => self.without_alg,
+        }
+    }
+
+    /// Whether the algorithm of a key is permitted.
+    fn permits_algorithm(&self, key: &Key<'_>) -> bool
+        ensures { result ≡ spec.permits_algorithm (permission_value self.entry.now) (key_value key.now) }
+    {
+        if is_stated(self.algorithms) {
+            return is_one_of(self.algorithms, key.alg);
+        }
+        match key.alg {
+            Some(own) => self.permits_named(own),
+            None => self.permits_unnamed(&key.material),
+        }
+    }
+
+    /// Whether a secret is long enough. Points have the length of their curve.
+    fn permits_material(&self, material: &Material<'_>) -> bool
+        ensures { result ≡ allows_material self.entry.now.least_secret (material_value material.now) }
+    {
+        match material {
+            Material::Symmetric(secret) => self.least_secret <= secret.len() as u64,
+            Material::Ec { .. } => true,
+        }
+    }
+
+    /// Whether a key is permitted.
+    fn permits(&self, key: &Key<'_>) -> bool
+        ensures { result ≡ spec.permits (permission_value self.entry.now) (key_value key.now) }
+    {
+        self.permits_algorithm(key) && self.permits_material(&key.material)
+    }
+
+    /// Whether a key was found that isn't permitted.
+    fn forbids(&self, found: &Result<(Key<'_>, i128), Reason>) -> bool
+        ensures { result ≡ spec.forbids (permission_value self.entry.now) (found_value found.now) }
+    {
+        match found {
+            Ok((key, _)) => !self.permits(key),
+            Err(_) => false,
+        }
+    }
+}
+
+/// The keys of a set that are permitted, each of which is read again at each look, as those of a key set are.
+#[derive(Clone, Copy)]
+pub(crate) struct PermittedKeys<'k> {
+    set: ItemRef<'k>,
+    permission: Permission<'k>,
+}
+
+/// What is found where there are no keys: why none fits. It is never inlined: a reader of keys is on the stack then, and no table.
+#[inline(never)]
+fn found_in_none<'k>(query: &Query) -> Result<(Key<'k>, i128), Reason>
+    ensures { found_value result ≡ chosen (question query.now) [] }
+{
+    KeyTable::<1>::new().find(query)
+}
+
+/// What is found among some keys and others, by what is found among each.
+#[inline(never)]
+fn found_among_both<'k>(
+    before: Result<(Key<'k>, i128), Reason>,
+    after: Result<(Key<'k>, i128), Reason>,
+) -> Result<(Key<'k>, i128), Reason>
+    ensures { found_value result ≡ spec.both (found_value before.entry) (found_value after.entry) }
+{
+    match (before, after) {
+        (Ok(_), Ok(_)) => Err(Reason::AmbiguousKey),
+        (Ok(_), Err(Reason::AmbiguousKey)) => after,
+        (Ok(_), Err(_)) => before,
+        (Err(Reason::AmbiguousKey), _) => before,
+        (Err(_), _) => after,
+    }
+}
+
+impl<'k> PermittedKeys<'k> {
+    /// Reads a key set (RFC 9052 section 7). It is refused as `KeySet::read` refuses it.
+    pub(crate) fn read(
+        bytes: &'k [u8],
+        permission: Permission<'k>,
+    ) -> Result<PermittedKeys<'k>, Refusal>
+        ensures { seen_by keys_permitted result
+            ≡ spec.permitted_in (permission_value permission.entry) (keys_of bytes.entry.now) }
+    {
+        KeySet::read(bytes)?;
+        let set = ItemRef::read(bytes, 0, NESTING)?;
+        Ok(PermittedKeys { set, permission })
+    }
+
+    /// What is found in an item that should be a key.
+    fn find_in(&self, item: ItemRef<'k>, query: &Query) -> Result<(Key<'k>, i128), Reason>
+        ensures { found_value result ≡ chosen (question query.now)
+            (filter (spec.permits (permission_value self.entry.now.permission))
+            (filter_map usable (placed item.entry ∷ []))) }
+    {
+        let Some(set) = KeySet::of_key(item) else {
+            return found_in_none(query);
+        };
+        let found = set.find(query);
+        if self.permission.forbids(&found) {
+            return found_in_none(query);
+        }
+        found
+    }
+
+    /// What is found among the elements of an array.
+    fn find_among(&self, array: &ItemRef<'k>, query: &Query) -> Result<(Key<'k>, i128), Reason>
+        ensures { found_value result ≡ chosen (question query.now)
+            (filter (spec.permits (permission_value self.entry.now.permission))
+            (filter_map usable (children_of (placed array.entry.now)))) }
+    {
+        let mut found = found_in_none(query);
+        'elements: for element in Items::of(array) {
+            found = found_among_both(found, self.find_in(element, query));
+        }
+        found
+    }
+}
+
+impl KeyMeaning for PermittedKeys<'_> {
+    ghost use Rattle.cose_c.specs.PermittedView.{keys_permitted};
+
+    ghost usable = { keys_permitted };
+}
+
+impl<'k> Keys<'k> for PermittedKeys<'k> {
+    fn find(&self, query: &Query) -> Result<(Key<'k>, i128), Reason> {
+        if self.set.is_array() {
+            return self.find_among(&self.set, query);
+        }
+        if self.set.is_map() {
+            return self.find_in(self.set, query);
+        }
+        found_in_none(query)
+    }
+}
