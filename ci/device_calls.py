@@ -1,9 +1,9 @@
 """A device in an emulator in the place of the shared library: the program for the device, and what stands for ctypes.CDLL.
 
 The calls are those of the table of the package for Python. A request is a length (u32), the call's number (u16) and its arguments: a
-number as u64; bytes as a length (u32) and the bytes; the length of a room (u32); a block as the number of its slot (u32); a policy as
-now (i64), leeway (u32), whether there is an audience (u8), and the audience as bytes. An answer is a length (u32), what the call
-returned (u64), and then each room and each struct that it filled, at multiples of 8.
+number as u64; bytes as a length (u32) and the bytes; the length of a room (u32); a block as the number of its slot (u32); a struct that
+the call only reads as its fields, one after the other, a number in its own size, and a pointer with its length as bytes. An answer is
+a length (u32), what the call returned (u64), and then each room and each struct that it filled, at multiples of 8.
 """
 import collections
 import ctypes
@@ -57,12 +57,47 @@ def kinds_of(library, arguments):
             word = "memory"
         elif kind is ctypes.POINTER(library.HandleStruct):
             word = "block"
-        elif kind is ctypes.POINTER(library.PolicyStruct):
-            word = "policy"
+        elif kind in (ctypes.POINTER(it) for it in stated_structs(library)):
+            word = "stated"
         else:
             word = "filled" if hasattr(kind, "contents") else "number"
         found.append((word, kind))
     return found
+
+
+def stated_structs(library):
+    """The structs that calls only read, with their names in C."""
+    return {
+        library.PolicyStruct: "struct cose_policy",
+        library.TermsStruct: "struct cose_terms",
+        library.RequirementsStruct: "struct cose_requirements",
+    }
+
+
+def stated_fields(struct):
+    """The fields of such a struct: each name with its type, and how many numbers it is; bytes have none, and their length comes with them."""
+    left = list(struct._fields_)
+    while left:
+        name, kind = left.pop(0)
+        if kind is ctypes.c_char_p:
+            left.pop(0)
+            yield name, kind, 0
+        else:
+            yield (name, kind._type_, kind._length_) if hasattr(kind, "_length_") else (name, kind, 1)
+
+
+def c_name(kind):
+    """A type of numbers in C."""
+    return f"{'int' if kind(-1).value < 0 else 'uint'}{8 * ctypes.sizeof(kind)}_t"
+
+
+def read_fields(it, struct):
+    """The lines of C that read the fields of such a struct."""
+    for name, kind, count in stated_fields(struct):
+        if not count:
+            yield f"{it}.{name} = bytes(&{it}.{name}_length);"
+        for at in range(count):
+            yield f"{it}.{name}{f'[{at}]' if count > 1 else ''} = ({c_name(kind)})number({ctypes.sizeof(kind)});"
 
 
 def struct_of(name):
@@ -71,7 +106,7 @@ def struct_of(name):
     return f"struct cose_{'large_' if '_large_' in name else ''}{kind}"
 
 
-def argument(name, at, word, kind):
+def argument(library, name, at, word, kind):
     """The lines of C that read an argument, and what is passed."""
     it = f"a{at}"
     if word == "number":
@@ -87,13 +122,7 @@ def argument(name, at, word, kind):
         return [f"uint64_t {it}_slot = number(4);", f"{struct_of(name)} {it} = {{.at = block_at({it}_slot)}};"], f"&{it}"
     if word == "filled":
         return [f"void *{it} = filled({ctypes.sizeof(kind._type_)});"], it
-    return [
-        f"struct cose_policy {it} = {{0}};",
-        f"{it}.now = (int64_t)number(8);",
-        f"{it}.leeway = (uint32_t)number(4);",
-        f"{it}.has_audience = (uint8_t)number(1);",
-        f"{it}.audience = bytes(&{it}.audience_length);",
-    ], f"&{it}"
+    return [f"{stated_structs(library)[kind._type_]} {it} = {{0}};", *read_fields(it, kind._type_)], f"&{it}"
 
 
 def cases(library):
@@ -105,7 +134,7 @@ def cases(library):
             lines.append("size_t used = 0;")
         passed = []
         for at, (word, kind) in enumerate(kinds_of(library, arguments)):
-            before, text = argument(name, at, word, kind)
+            before, text = argument(library, name, at, word, kind)
             lines += before
             passed.append(text)
         call = f"{name}({', '.join(passed)});"
@@ -192,8 +221,8 @@ class Call:
                 body += struct.pack("<I", device.slot(value, large, True))
             elif word == "block":
                 body += struct.pack("<I", device.slot(value._obj.at, large, False))
-            elif word == "policy":
-                body += packed_policy(value._obj)
+            elif word == "stated":
+                body += packed(value._obj)
             else:
                 body += struct.pack("<Q", int(value) % 2**64)
         device.calls += 1
@@ -203,7 +232,22 @@ class Call:
         return None if self.restype is None else self.restype(result).value
 
 
-def packed_policy(policy):
-    """A policy as a request has it."""
-    audience = ctypes.string_at(policy.audience, policy.audience_length) if policy.audience_length else b""
-    return struct.pack("<qIBI", policy.now, policy.leeway, policy.has_audience, len(audience)) + audience
+def packed(stated):
+    """A struct that is only read, as a request has it."""
+    body = b""
+    for name, kind, count in stated_fields(type(stated)):
+        value = getattr(stated, name)
+        if not count:
+            length = getattr(stated, f"{name}_length")
+            # (a field of bytes ends at their first zero)
+            content = ctypes.string_at(bytes_at(stated, name), length) if length else b""
+            body += struct.pack("<I", length) + content
+        else:
+            numbers = value if count > 1 else [value]
+            body += b"".join(int(it).to_bytes(ctypes.sizeof(kind), "little", signed=it < 0) for it in numbers)
+    return body
+
+
+def bytes_at(stated, name):
+    """Where the bytes of a field are."""
+    return ctypes.c_void_p.from_buffer(stated, getattr(type(stated), name).offset).value

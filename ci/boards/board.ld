@@ -6,7 +6,8 @@ MEMORY
 }
 SECTIONS
 {
-    .text : { KEEP(*(.vectors)) *(.text .text.* .rodata .rodata.* .srodata .srodata.*) . = ALIGN(8); } >flash
+    /* constants come last: a C library may have functions that ask for no alignment */
+    .text : { KEEP(*(.vectors)) *(.text .text.*) *(.rodata .rodata.* .srodata .srodata.*) . = ALIGN(8); } >flash
     .ARM.exidx : { *(.ARM.exidx*) } >flash
     . = ALIGN(8);
     data_from_ = LOADADDR(.data);

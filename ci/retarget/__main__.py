@@ -2,7 +2,7 @@
 
 usage: python3 -m retarget TARGET speed|size [--poison] < in.ll > out.ll
        python3 -m retarget --options TARGET speed|size
-       python3 -m retarget --rounds speed|size
+       python3 -m retarget --rounds TARGET
        python3 -m retarget --stack speed|size OBJECT
 
 The input is the text of a module for x86_64-unknown-linux-gnu, not optimized yet. The second form prints the options with which
@@ -44,8 +44,8 @@ def main(arguments):
         case ["--options", target, way] if target in TARGETS and way in LEVELS:
             print(" ".join(clang_options(target, way)))
             return 0
-        case ["--rounds", way] if way in LEVELS:
-            print(ROUNDS[way])
+        case ["--rounds", target] if target in TARGETS:
+            print(ROUNDS if TARGETS[target].is_processor else 1)
             return 0
         case ["--stack", way, path] if way in LEVELS:
             return report(path, way)

@@ -1,4 +1,5 @@
-"""Which functions are inlined where a module is built for size: only what is named here, and what the compiler finds to be smaller so.
+"""Which functions are inlined: where a module is built for size only what is named here, and what the compiler finds to be smaller so;
+where it is built for speed some more than the compiler finds.
 
 The attributes of the module are made for speed. They say nothing about what a function does, so any choice is right; these are chosen by
 what the functions take of flash and of the stack.
@@ -23,6 +24,24 @@ INLINED = {
     "core::array::DefaultsElements::at",
     "core::slice::edits::slice+T::rotate_left",
 }
+# what is inlined too where a module is built for speed: sets of labels are made where they stay, and what the search for the key keeps
+# shares its place on the stack with what is done before it and after it
+SHARED = {
+    "cose_map::key::Key::read",
+    "cose_map::key_set::KeySet::find",
+    "cose_map::key_set::KeySetKeys::find",
+    "cose_map::key_set::usable",
+    "cose_map::map::ahead::read_ahead",
+    "cose_map::map::labels::Labels::none",
+    "cose_map::map::labels::keys::Keys::none",
+    "cose_map::map::labels::others::Others::none",
+    "cose_map::map::lookup::Lookup::new",
+    "cose_map::map::unordered::Unordered::none",
+    "cose_map::map::unordered::Unordered::push",
+    "cose_msg::reader::choice::key_for",
+    "core::array::ArrayDefault::default",
+    "core::array::DefaultsElements::at",
+}
 # what is long, since there are no vectors
 OUT_OF_LINE = {
     "core::cmp::bytes::read_u64_be",
@@ -30,6 +49,10 @@ OUT_OF_LINE = {
 }
 # what has a value as large as a store on its stack: it is not made smaller at the cost of copies
 HOLDING = {
+    "cose_c::message::cose_edge_verify",
+    "cose_c::message::cose_edge_verify_detached",
+    "cose_c::message::verify_large",
+    "cose_c::message::verify_large_detached",
     "cose_c::table::begin",
     "cose_mac::hasher::Hasher::finish",
     "cose_map::bucket::both::least_of_elements_in_any_order",
@@ -46,6 +69,7 @@ SIZES = {
     "plain out of line": "noinline optsize",
     "small": "minsize optsize",
     "inlined": "alwaysinline optsize",
+    "shared": "alwaysinline",
     "out of line": "minsize noinline optsize",
 }
 
@@ -53,9 +77,10 @@ SIZES = {
 class Inlining:
     """The attributes of the functions of one module."""
 
-    def __init__(self, text):
+    def __init__(self, text, way="size"):
         """Takes note of the groups of attributes of the functions: what the module says of inlining, and what else."""
         self.groups, self.numbers, self.seen = {}, {}, set()
+        self.is_for_speed = way == "speed"
         groups = {found["group"]: found["list"].split() for found in map(forms.ATTRIBUTES.fullmatch, text.splitlines()) if found}
         self.next = 1 + max(map(int, groups), default=0)
         for number, words in groups.items():
@@ -63,9 +88,11 @@ class Inlining:
             self.groups[number] = about, [it for it in words if it not in ABOUT]
 
     def kind(self, name, group):
-        """How a function is compiled."""
+        """How a function is compiled; None where as the module says."""
         plain = name.lstrip("@").strip('"').split("::<")[0]
         self.seen.add(plain)
+        if self.is_for_speed:
+            return "shared" if plain in SHARED else None
         if plain in INLINED:
             return "inlined"
         if plain in OUT_OF_LINE:
@@ -80,6 +107,8 @@ class Inlining:
     def group(self, name, group):
         """The number of the group of attributes of a function."""
         key = self.kind(name, group), group
+        if key[0] is None:
+            return group
         if key not in self.numbers:
             self.numbers[key] = str(self.next)
             self.next += 1
@@ -96,4 +125,5 @@ class Inlining:
 
     def missing(self):
         """The functions that are named above and aren't there."""
-        return sorted((INLINED | OUT_OF_LINE | HOLDING) - self.seen)
+        named = SHARED if self.is_for_speed else INLINED | OUT_OF_LINE | HOLDING
+        return sorted(named - self.seen)

@@ -10,7 +10,7 @@
 
 For a processor the module also gets a constant with the address of a symbol that the header for all targets defines, and no other; and
 a function that not every program needs gets a name and is weak, so that a program may define its own, which isn't that large. Built for
-size, inlining.py says of each function how it is inlined.
+size, inlining.py says of each function how it is inlined, and for speed of some.
 """
 import collections
 import re
@@ -68,7 +68,7 @@ class Rewriter:
                 text = text.replace(f"{name}(", f"{its}(")
         lines = text.splitlines()
         self.constants = {found["name"] for found in map(forms.CONSTANT.fullmatch, lines) if found}
-        self.inlining = Inlining(text) if self.way == "size" else None
+        self.inlining = Inlining(text, self.way) if self.way == "size" or self.target.is_processor else None
         written = []
         inside = False
         for line in lines:

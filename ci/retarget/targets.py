@@ -25,8 +25,8 @@ TARGETS = {
 }
 PROCESSORS = tuple(name for name, target in TARGETS.items() if target.is_processor)
 LEVELS = {"speed": "-O3", "size": "-Os"}
-# how often the module is optimized: the second time takes copies away that the first one leaves
-ROUNDS = {"speed": 1, "size": 2}
+# how often the module is optimized for a processor: the second time takes copies away that the first one leaves
+ROUNDS = 2
 # what rattle passes for each of its targets
 OPTIONS = (
     *("-ffreestanding", "-ffunction-sections", "-fdata-sections", "-Wno-override-module"),

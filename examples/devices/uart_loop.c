@@ -96,7 +96,7 @@ int main(void)
     }
     cose_begin(block);
     cose_open(&verifier, key, sizeof key, NULL, 0, COSE_MAC0, &status);
-    if (status.status != COSE_MORE) {
+    if (status.status != COSE_MORE || cose_needs_sha512(&verifier)) {
         print("the key is refused\n");
         return 1;
     }

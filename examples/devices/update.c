@@ -91,7 +91,7 @@ int main(void)
         return 1;
     cose_begin(block);
     cose_open(&verifier, key, sizeof key, NULL, 0, COSE_MAC0, &status);
-    if (status.status != COSE_MORE)
+    if (status.status != COSE_MORE || cose_needs_sha512(&verifier))
         return 1;
     for (;;) {
         length = 0;

@@ -26,9 +26,8 @@ class Header(unittest.TestCase):
             self.assertNotIn("size_t", body)
             pointers = [line for line in body.splitlines() if "*" in line]
             self.assertFalse([line for line in pointers if not re.fullmatch(r" +COSE_SLOT_\((?:const )?\w+ \*\w+\); *", line)])
-            # the slots of a struct would have one name
-            self.assertLessEqual(len(pointers), 1)
-        self.assertIn("#define COSE_SLOT_(pointer) union { pointer; uint64_t slot_; }\n", TEXT)
+        # (slots on one line would have one name, which no compiler takes)
+        self.assertIn("#define COSE_SLOT_(pointer) union { pointer; uint64_t COSE_NUMBERED_(__LINE__); }\n", TEXT)
 
     def test_symbols(self):
         self.assertIn(f"const uint8_t {WANTED[1:]} = 1;\n", SYMBOLS)

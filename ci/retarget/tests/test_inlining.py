@@ -2,7 +2,7 @@
 import re
 import unittest
 
-from retarget.inlining import HOLDING, INLINED, OUT_OF_LINE, Inlining
+from retarget.inlining import HOLDING, INLINED, OUT_OF_LINE, SHARED, Inlining
 
 from . import CONSTANT, HEAD, TAIL
 from .test_rules import rewritten
@@ -25,6 +25,9 @@ class Inlined(unittest.TestCase):
     def test_speed(self):
         self.assertEqual(attributes("@f", 0, way="speed"), "nounwind")
         self.assertEqual(attributes("@f", 2, way="speed"), "alwaysinline nounwind")
+        self.assertEqual(attributes("@f", 3, way="speed"), "noinline nounwind")
+        for name in SHARED:
+            self.assertEqual(attributes(f'@"{name}::<=8>"', 0, way="speed"), "alwaysinline nounwind")
 
     def test_others(self):
         for group in 0, 2, 4:
@@ -49,11 +52,12 @@ class Inlined(unittest.TestCase):
         self.assertEqual(attributes('@"cose_c::open"', 0), "minsize optsize nounwind")
 
     def test_missing(self):
-        inlining = Inlining(GROUPS)
-        for name in INLINED | OUT_OF_LINE | HOLDING:
-            self.assertIn(name, inlining.missing())
-            inlining.kind(f'@"{name}"', "0")
-        self.assertEqual(inlining.missing(), [])
+        for way, names in ("size", INLINED | OUT_OF_LINE | HOLDING), ("speed", SHARED):
+            inlining = Inlining(GROUPS, way)
+            for name in names:
+                self.assertIn(name, inlining.missing())
+                inlining.kind(f'@"{name}"', "0")
+            self.assertEqual(inlining.missing(), [])
 
 
 if __name__ == "__main__":
